@@ -1,0 +1,3 @@
+pub mod Range
+pub mod Row
+pub mod Same
