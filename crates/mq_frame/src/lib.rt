@@ -4,6 +4,7 @@
 #![tactic(auto)]
 
 mod decode;
+mod encode;
 mod error;
 mod fields;
 mod flow;
@@ -16,6 +17,7 @@ mod request_parts;
 mod usage;
 
 pub use decode::{DecodeFault, decode_reply, decode_request};
+pub use encode::{encode_reply, encode_request};
 pub use error::Memory;
 pub use flow::{Failed, FromRead, Sink, Source, ToWrite};
 pub use host::Host;
