@@ -6,6 +6,7 @@
 mod decode;
 mod encode;
 mod error;
+mod feed;
 mod fields;
 mod flow;
 mod host;
@@ -20,6 +21,7 @@ mod usage;
 pub use decode::{DecodeFault, decode_reply, decode_request};
 pub use encode::{encode_reply, encode_request};
 pub use error::Memory;
+pub use feed::{FrameFault, FrameFeed, REPLY_LIMIT, REQUEST_LIMIT};
 pub use flow::{Failed, FromRead, Sink, Source, ToWrite};
 pub use host::Host;
 pub use login::Login;
