@@ -10,6 +10,7 @@ mod feed;
 mod fields;
 mod flow;
 mod host;
+pub mod laws;
 mod login;
 mod message;
 mod page;
