@@ -1,2 +1,4 @@
 mod PieceLaws
 mod AuthLaws
+mod TimeLaws
+mod GrammarLaws

@@ -4,6 +4,7 @@ use Rattle.std.specs.Prelude.{◌≢◌, Option, Some, None}
 use Rattle.std.specs.List.{All, slice_split, onto_first}
 use Rattle.std.proofs.lemmas.Bool.{false_from_ne_true, cases_Bool}
 use Rattle.std.proofs.lemmas.List.{get_or-take, get_or-drop, length-drop, get_or_default, length-take-le, take-append-drop, drop_more, drop-drop}
+use Rattle.std.proofs.lemmas.List.Elements.{All-head, All-tail}
 use Rattle.std.proofs.lemmas.List.Splits.{slice_split_at, slice_split_none, length-slice_split}
 use Rattle.bstr.specs.Find.{NoneBefore, NoneAfter, Nowhere, Passes, is_byte}
 use Rattle.mq_line.specs.Pieces.{pieces, joined, Lacks}
@@ -22,7 +23,8 @@ none_after c bytes k lt none i d small =
     let same : get_or (drop (k + 1) bytes) i d ≡ get_or bytes (k + 1 + i) 0 = get_or-drop (k + 1) bytes i d ∙ get_or_default bytes (k + 1 + i) d 0 inside in
     rw same (false_from_ne_true _ (none (k + 1 + i) (omega arith) inside))
 
-split_around : (bytes : List ℕ) (k : ℕ) → k < length bytes → bytes ≡ take k bytes ++ get_or bytes k 0 ∷ drop (k + 1) bytes
+-- a text around its byte at place k
+pub split_around : (bytes : List ℕ) (k : ℕ) → k < length bytes → bytes ≡ take k bytes ++ get_or bytes k 0 ∷ drop (k + 1) bytes
 split_around bytes k lt = sym (take-append-drop k bytes) ∙ ap (λ (l : List ℕ). take k bytes ++ l) (drop_more bytes k 0 lt)
 
 -- the first byte c ends the first piece
@@ -54,3 +56,17 @@ last_piece c bytes k h =
     ap (λ (l : List ℕ). slice_split (λ b. eqb b c) l) (split_around bytes k h.0.high)
     ∙ pieces-append c (take k bytes) (get_or bytes k 0) (drop (k + 1) bytes) h.1
     ∙ ap (λ (l : List (List ℕ)). pieces c (take k bytes) ++ l) last
+
+-- there is a piece
+pub some_piece : (c : ℕ) (bytes : List ℕ) → (first : List ℕ) × (more : List (List ℕ)) × (pieces c bytes ≡ first ∷ more)
+some_piece c [] = ([], [], refl)
+some_piece c (x ∷ bytes) = elim (cases_Bool (eqb x c)) [
+    | inl t ↦ ([], pieces c bytes, rw t refl)
+    | inr f ↦ (let p = some_piece c bytes in (x ∷ p.0, p.1, rw (f, p.2) refl))
+  ]
+
+-- bytes other than c stay in front of the first piece
+pub pieces-front : (c : ℕ) (w : List ℕ) (b : ℕ) (bs first : List ℕ) (more : List (List ℕ)) → All (λ x. eqb x c ≡ false) w → eqb b c ≡ false → pieces c bs ≡ first ∷ more → pieces c (w ++ b ∷ bs) ≡ (w ++ b ∷ first) ∷ more
+pieces-front c [] b bs first more none e p = rw (e, p) refl
+pieces-front c (x ∷ w) b bs first more none e p =
+    rw (All-head (λ b. eqb b c ≡ false) x w none, pieces-front c w b bs first more (All-tail (λ b. eqb b c ≡ false) x w none) e p) refl

@@ -9,5 +9,5 @@ mod results;
 
 pub use faults::{FeedFault, LineFault, Memory};
 pub use parameters::{AuthResult, auth_of, message_of};
-pub use reading::Line;
+pub use reading::{Line, read_line};
 pub use results::Decision;
