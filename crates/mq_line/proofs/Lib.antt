@@ -1,4 +1,5 @@
 mod PieceLaws
 mod AuthLaws
 mod TimeLaws
+mod ResultLaws
 mod GrammarLaws

@@ -10,4 +10,4 @@ mod results;
 pub use faults::{FeedFault, LineFault, Memory};
 pub use parameters::{AuthResult, auth_of, message_of};
 pub use reading::{Line, read_line};
-pub use results::Decision;
+pub use results::{Decision, write_registration, write_result};
