@@ -1,5 +1,6 @@
 mod PieceLaws
 mod AuthLaws
 mod TimeLaws
+mod SearchLaws
 mod ResultLaws
 mod GrammarLaws

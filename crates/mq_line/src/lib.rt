@@ -2,12 +2,14 @@
 #![tactic(auto)]
 
 mod faults;
+mod feed;
 mod fields;
 mod parameters;
 mod reading;
 mod results;
 
 pub use faults::{FeedFault, LineFault, Memory};
+pub use feed::LineFeed;
 pub use parameters::{AuthResult, auth_of, message_of};
 pub use reading::{Line, read_line};
 pub use results::{Decision, write_registration, write_result};
