@@ -1,18 +1,18 @@
 -- What fields mean, and which fault they have.
-use Rattle.std.proofs.Common.{◌≡◌, ℕ, Bool, true, false, not, ◌||◌, cond, eqb, List, [], ◌∷◌, ◌++◌, length, map, refl, sym, ap, ◌∙◌, arith, inl, inr}
-use Rattle.std.specs.Prelude.{◌≢◌, ◌⊎◌, codes, Option, Some, None, Result, Ok, Err, MatchResult, IsOkAnd, if◌then◌else◌}
+use Rattle.std.proofs.Common.{◌≡◌, ℕ, Bool, true, false, not, ◌||◌, cond, eqb, List, [], ◌∷◌, ◌++◌, length, map, refl, sym, ap, ◌∙◌, subst, arith, inl, inr}
+use Rattle.std.specs.Prelude.{◌≢◌, ◌⊎◌, codes, Option, Some, None, Result, Ok, Err, MatchResult, IsOkAnd, is_none, if◌then◌else◌}
 use Rattle.std.specs.Option.{option_map}
 use Rattle.std.specs.Borrow.{Bor}
 use Rattle.std.specs.List.{AllByRecursion, list_any}
 use Rattle.std.specs.Str.{bytes_eq}
-use Rattle.std.proofs.lemmas.Bool.{or_parts, eqb-false, ne_eqb, false_from_ne_true, cases_Bool}
+use Rattle.std.proofs.lemmas.Bool.{or_parts, eqb-false, ne_eqb, false_from_ne_true, not-false, true≢false}
 use Rattle.std.proofs.lemmas.List.Splits.{join_with_byte-slice_split}
 use Rattle.std.proofs.lemmas.Slice.Eq.{bytes_eq-Decides}
 use Rattle.mq_line.specs.Pieces.{pieces, fields, fields_left, joined}
 use Rattle.mq_line.specs.Grammar.{Meaning, ConfigLine, ReadyLine, ReportLine, FilterLine, OtherLine, IsStamp, stamp_fault, config_fault, report_fault, filter_fault, first_fault, seconds_of, Means, meaning}
 use Rattle.mq_line.specs.declared.reading.Line.{Line}
 use Rattle.mq_line.specs.declared.faults.LineFault.{LineFault}
-use Rattle.mq_line.specs.declared.faults.LineFault.TheVariants.{Version, Time, EmptyField}
+use Rattle.mq_line.specs.declared.faults.LineFault.TheVariants.{Short, Version, Time, EmptyField}
 use Rattle.mq_line.proofs.PieceLaws.{some_piece}
 
 -- a config line that has a value
@@ -121,3 +121,85 @@ answers_meaning fs (Err e) h m means = let clash : None ≡ Some e = sym (no_fau
 pub answers_fault : (fs : List (List ℕ)) (r : Result Line LineFault) → MatchResult r (λ v. Means fs (meaning v)) (λ e. first_fault fs ≡ Some e) → (e : LineFault) → first_fault fs ≡ Some e → r ≡ Err e
 answers_fault fs (Ok v) h e has = let clash : None ≡ Some e = sym (no_fault fs (meaning v) h) ∙ has in cc
 answers_fault fs (Err d) h e has = let same : Some d ≡ Some e = sym h ∙ has in cc
+
+chosen : {X : Type 0} (b : Bool) (x y z : X) → (if b then x else y) ≡ z → ((b ≡ true) × (x ≡ z)) ⊎ ((b ≡ false) × (y ≡ z))
+chosen true x y z e = inl (refl, e)
+chosen false x y z e = inr (refl, e)
+
+clash : (e : LineFault) → Some e ≡ None → ⊥
+clash e h = cc
+
+equals : (a b : List ℕ) → bytes_eq a b ≡ true → a ≡ b
+equals a b e = (bytes_eq-Decides a b).0 e
+
+unlike : (a b : List ℕ) → bytes_eq a b ≡ false → a ≢ b
+unlike a b e same = true≢false (sym ((bytes_eq-Decides a b).1 same) ∙ e)
+
+some_moment : (o : Option ℕ) → is_none o ≡ false → (seconds : ℕ) × (o ≡ Some seconds)
+some_moment None h = absurd (true≢false h)
+some_moment (Some n) h = (n, refl)
+
+some_stamp : (version time : List ℕ) (names : List (List ℕ)) → stamp_fault version time names ≡ None → (seconds : ℕ) × IsStamp version time names seconds
+some_stamp version time names h = elim (chosen (not (bytes_eq version (codes "0.7"))) _ _ _ h) [
+    | inl v ↦ absurd (clash Version v.1)
+    | inr v ↦ (elim (chosen (is_none (seconds_of time)) _ _ _ v.1) [
+      | inl t ↦ absurd (clash Time t.1)
+      | inr t ↦ (elim (chosen (list_any is_empty names) _ _ _ t.1) [
+        | inl n ↦ absurd (clash EmptyField n.1)
+        | inr n ↦
+            (let m = some_moment (seconds_of time) t.0 in (m.0, record {
+              protocol = equals version (codes "0.7") (not-false _ v.0);
+              moment = m.1;
+              named = all_named names n.0;
+            }))
+      ])
+    ])
+  ]
+
+some_config : (more : List (List ℕ)) → config_fault more ≡ None → (m : Meaning) × Means (codes "config" ∷ more) m
+some_config [] h = absurd (clash Short h)
+some_config (second ∷ []) h = elim (chosen (bytes_eq second (codes "ready")) _ _ _ h) [
+    | inl r ↦ (ReadyLine, ap (λ (w : List ℕ). codes "config" ∷ w ∷ []) (equals second (codes "ready") r.0))
+    | inr r ↦ absurd (clash Short r.1)
+  ]
+some_config (key ∷ first ∷ more) h = (ConfigLine key (joined (first ∷ more)), (first, more, refl, refl))
+
+some_report : (more : List (List ℕ)) → report_fault more ≡ None → (m : Meaning) × Means (codes "report" ∷ more) m
+some_report [] h = absurd (clash Short h)
+some_report (a ∷ []) h = absurd (clash Short h)
+some_report (a ∷ b ∷ []) h = absurd (clash Short h)
+some_report (a ∷ b ∷ c ∷ []) h = absurd (clash Short h)
+some_report (a ∷ b ∷ c ∷ d ∷ []) h = absurd (clash Short h)
+some_report (version ∷ time ∷ subsystem ∷ event ∷ session ∷ more) h =
+    let s = some_stamp version time (subsystem ∷ event ∷ session ∷ []) h in
+    (ReportLine s.0 subsystem event session (joined more), (version, time, more, refl, s.1, refl))
+
+some_filter : (more : List (List ℕ)) → filter_fault more ≡ None → (m : Meaning) × Means (codes "filter" ∷ more) m
+some_filter [] h = absurd (clash Short h)
+some_filter (a ∷ []) h = absurd (clash Short h)
+some_filter (a ∷ b ∷ []) h = absurd (clash Short h)
+some_filter (a ∷ b ∷ c ∷ []) h = absurd (clash Short h)
+some_filter (a ∷ b ∷ c ∷ d ∷ []) h = absurd (clash Short h)
+some_filter (a ∷ b ∷ c ∷ d ∷ e ∷ []) h = absurd (clash Short h)
+some_filter (version ∷ time ∷ subsystem ∷ phase ∷ session ∷ token ∷ more) h =
+    let s = some_stamp version time (subsystem ∷ phase ∷ session ∷ token ∷ []) h in
+    (FilterLine s.0 subsystem phase session token (joined more), (version, time, more, refl, s.1, refl))
+
+some_fields : (first : List ℕ) (more : List (List ℕ)) → first_fault (first ∷ more) ≡ None → (m : Meaning) × Means (first ∷ more) m
+some_fields first more h = elim (chosen (bytes_eq first (codes "config")) _ _ _ h) [
+    | inl a ↦ (let m = some_config more a.1 in (m.0, subst (λ (w : List ℕ). Means (w ∷ more) m.0) (sym (equals first (codes "config") a.0)) m.1))
+    | inr a ↦ (elim (chosen (bytes_eq first (codes "report")) _ _ _ a.1) [
+      | inl b ↦ (let m = some_report more b.1 in (m.0, subst (λ (w : List ℕ). Means (w ∷ more) m.0) (sym (equals first (codes "report") b.0)) m.1))
+      | inr b ↦ (elim (chosen (bytes_eq first (codes "filter")) _ _ _ b.1) [
+        | inl c ↦ (let m = some_filter more c.1 in (m.0, subst (λ (w : List ℕ). Means (w ∷ more) m.0) (sym (equals first (codes "filter") c.0)) m.1))
+        | inr c ↦ (OtherLine, (first, more, refl, unlike first _ a.0, unlike first _ b.0, unlike first _ c.0))
+      ])
+    ])
+  ]
+
+-- what has no fault means something
+pub some_meaning : (line : List ℕ) → first_fault (fields line) ≡ None → (m : Meaning) × Means (fields line) m
+some_meaning line h =
+    let p = some_piece 124 line in
+    let m = some_fields p.0 p.1 (ap first_fault (sym p.2) ∙ h) in
+    (m.0, subst (λ (fs : List (List ℕ)). Means fs m.0) (sym p.2) m.1)

@@ -1,10 +1,10 @@
 -- A text cut at its bytes c.
 use Rattle.std.proofs.Common.{◌≡◌, ℕ, ◌+◌, ◌<◌, ◌≤◌, zero, suc, Bool, true, false, eqb, List, [], ◌∷◌, ◌++◌, length, get_or, take, drop, refl, sym, ap, ◌∙◌, arith, inl, inr}
 use Rattle.std.specs.Prelude.{◌≢◌, Option, Some, None}
-use Rattle.std.specs.List.{All, slice_split, onto_first}
-use Rattle.std.proofs.lemmas.Bool.{false_from_ne_true, cases_Bool}
+use Rattle.std.specs.List.{All, AllByRecursion, slice_split, onto_first}
+use Rattle.std.proofs.lemmas.Bool.{false_from_ne_true, cases_Bool, eqb-false, ne_eqb}
 use Rattle.std.proofs.lemmas.List.{get_or-take, get_or-drop, length-drop, get_or_default, length-take-le, take-append-drop, drop_more, drop-drop}
-use Rattle.std.proofs.lemmas.List.Elements.{All-head, All-tail}
+use Rattle.std.proofs.lemmas.List.Elements.{All-head, All-tail, All-nil, All-cons}
 use Rattle.std.proofs.lemmas.List.Splits.{slice_split_at, slice_split_none, length-slice_split}
 use Rattle.bstr.specs.Find.{NoneBefore, NoneAfter, Nowhere, Passes, is_byte}
 use Rattle.mq_line.specs.Pieces.{pieces, joined, Lacks}
@@ -66,7 +66,22 @@ some_piece c (x ∷ bytes) = elim (cases_Bool (eqb x c)) [
   ]
 
 -- bytes other than c stay in front of the first piece
-pub pieces-front : (c : ℕ) (w : List ℕ) (b : ℕ) (bs first : List ℕ) (more : List (List ℕ)) → All (λ x. eqb x c ≡ false) w → eqb b c ≡ false → pieces c bs ≡ first ∷ more → pieces c (w ++ b ∷ bs) ≡ (w ++ b ∷ first) ∷ more
-pieces-front c [] b bs first more none e p = rw (e, p) refl
-pieces-front c (x ∷ w) b bs first more none e p =
-    rw (All-head (λ b. eqb b c ≡ false) x w none, pieces-front c w b bs first more (All-tail (λ b. eqb b c ≡ false) x w none) e p) refl
+pub pieces-front : (c : ℕ) (w bs first : List ℕ) (more : List (List ℕ)) → All (λ x. eqb x c ≡ false) w → pieces c bs ≡ first ∷ more → pieces c (w ++ bs) ≡ (w ++ first) ∷ more
+pieces-front c [] bs first more none p = p
+pieces-front c (x ∷ w) bs first more none p =
+    rw (All-head (λ b. eqb b c ≡ false) x w none, pieces-front c w bs first more (All-tail (λ b. eqb b c ≡ false) x w none) p) refl
+
+pub lacks-tests : (c : ℕ) (bytes : List ℕ) → Lacks c bytes → All (λ b. eqb b c ≡ false) bytes
+lacks-tests c bytes none i d lt = ne_eqb _ _ (none i d lt)
+
+onto_first-lacks : (c x : ℕ) (ps : List (List ℕ)) → x ≢ c → AllByRecursion (Lacks c) ps → AllByRecursion (Lacks c) (onto_first x ps)
+onto_first-lacks c x [] ne h = (All-cons (λ b. b ≢ c) x [] ne (All-nil (λ b. b ≢ c)), tt)
+onto_first-lacks c x (p ∷ ps) ne h = (All-cons (λ b. b ≢ c) x p ne h.0, h.1)
+
+-- no piece has the byte c
+pub pieces-lack : (c : ℕ) (bytes : List ℕ) → AllByRecursion (Lacks c) (pieces c bytes)
+pieces-lack c [] = (All-nil (λ b. b ≢ c), tt)
+pieces-lack c (x ∷ bytes) = elim (cases_Bool (eqb x c)) [
+    | inl t ↦ rw t (All-nil (λ b. b ≢ c), pieces-lack c bytes)
+    | inr f ↦ rw f (onto_first-lacks c x (pieces c bytes) (eqb-false _ _ f) (pieces-lack c bytes))
+  ]

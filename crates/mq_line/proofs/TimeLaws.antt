@@ -72,7 +72,7 @@ longer w f b (inr long) = false_from_ne_true _ (λ e.
 pub at_other : (w : List ℕ) (b : ℕ) (bs : List ℕ) → list_all is_ascii_digit w ≡ true → eqb b 46 ≡ false → (is_ascii_digit b ≡ false) ⊎ (18 ≤ length w) → seconds_of (w ++ b ∷ bs) ≡ None
 at_other w b bs h e k =
     let p = some_piece 46 bs in
-    ap seconds_around (pieces-front 46 w b bs p.0 p.1 (digits_lack_points w h) e p.2) ∙ not_number_around (w ++ b ∷ p.0) p.1 (longer w p.0 b k)
+    ap seconds_around (pieces-front 46 w (b ∷ bs) (b ∷ p.0) p.1 (digits_lack_points w h) (rw (e, p.2) refl)) ∙ not_number_around (w ++ b ∷ p.0) p.1 (longer w p.0 b k)
 
 digit_range : (b : ℕ) → is_ascii_digit b ≡ true → (48 ≤ b) × (b ≤ 57)
 digit_range b h = let p = and_parts _ _ h in (leb-true _ _ p.0, leb-true _ _ p.1)
