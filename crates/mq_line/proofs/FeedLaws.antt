@@ -1,20 +1,33 @@
 -- What a feed gives, by the bytes that it holds.
-use Rattle.std.proofs.Common.{◌≡◌, ℕ, ◌+◌, ◌-◌, ◌<◌, ◌≤◌, List, [], ◌∷◌, ◌++◌, length, get_or, take, drop, refl, sym, ap, ◌∙◌, subst, arith, append_assoc}
+use Rattle.std.proofs.Common.{◌≡◌, ℕ, ◌+◌, ◌-◌, ◌<◌, ◌≤◌, List, [], ◌∷◌, ◌++◌, length, get_or, take, drop, refl, sym, ap, ◌∙◌, subst, arith, append_assoc, append-nil, inl}
 use Rattle.std.specs.Prelude.{Option, Some, None, slice_get}
 use Rattle.std.proofs.lemmas.List.{take_rest, drop-drop, length-append, get_or_at, get_or_append_left}
-use Rattle.mq_line.specs.Text.{IsLine, IsTooLong, Holds, lines}
-use Rattle.mq_line.proofs.TextLaws.{next-of, lines-line, lines-open}
+use Rattle.mq_line.specs.Text.{IsLine, IsTooLong, Holds, lines, left}
+use Rattle.mq_line.proofs.TextLaws.{next-of, lines-line, lines-open, holds-taken, splits-only}
 
 -- what is held, as the code cuts it off
 pub held_is : (items all held : List ℕ) (place : ℕ) → all ≡ items → drop place items ≡ held → take (length all - place) (drop place all) ≡ held
 held_is items all held place same is = take_rest all place ∙ ap (drop place) same ∙ is
 
 -- a line and its LF leave, and the rest stays
-pub left_behind : (items held front : List ℕ) (place n : ℕ) → front ≡ held → drop place items ≡ held → front ≡ take n front ++ 10 ∷ drop (n + 1) front → held ≡ (take n front ++ 10 ∷ []) ++ drop (place + n + 1) items
-left_behind items held front place n same is cut =
-    let behind : drop (n + 1) front ≡ drop (place + n + 1) items =
-        ap (drop (n + 1)) (same ∙ sym is) ∙ drop-drop (n + 1) place items ∙ ap (λ (m : ℕ). drop m items) (omega arith) in
-    sym same ∙ cut ∙ sym (append_assoc (take n front) (10 ∷ []) (drop (n + 1) front)) ∙ ap (λ (l : List ℕ). (take n front ++ 10 ∷ []) ++ l) behind
+pub rest_stays : (items held front : List ℕ) (place n : ℕ) → front ≡ held → drop place items ≡ held → drop (n + 1) front ≡ drop (place + n + 1) items
+rest_stays items held front place n same is =
+    ap (drop (n + 1)) (same ∙ sym is) ∙ drop-drop (n + 1) place items ∙ ap (λ (m : ℕ). drop m items) (omega arith)
+
+pub line_leaves : (held line rest left : List ℕ) → IsLine line → held ≡ line ++ 10 ∷ rest → rest ≡ left → (held ≡ (line ++ 10 ∷ []) ++ left) × ((text : List ℕ) (taken : List (List ℕ)) → Holds text taken held → Holds text (taken ++ line ∷ []) left)
+line_leaves held line rest left is cut same =
+    let here : held ≡ line ++ 10 ∷ left = cut ∙ ap (λ (l : List ℕ). line ++ 10 ∷ l) same in
+    (
+      here ∙ sym (append_assoc line (10 ∷ []) left),
+      λ text taken h. holds-taken text taken line left is (subst (Holds text taken) here h),
+    )
+
+pub none_leaves : (held left : List ℕ) → held ≡ left → (text : List ℕ) (taken : List (List ℕ)) → Holds text taken held → Holds text (taken ++ []) left
+none_leaves held left same text taken h =
+    subst (λ (ls : List (List ℕ)). Holds text ls left) (sym (append-nil taken)) (subst (Holds text taken) same h)
+
+pub all_taken : (text held : List ℕ) (taken : List (List ℕ)) → IsLine held → Holds text taken held → (lines text ≡ taken) × (left text ≡ held)
+all_taken text held taken is h = splits-only text taken held h (inl is)
 
 pub line_next : (text held line rest : List ℕ) (taken : List (List ℕ)) → IsLine line → held ≡ line ++ 10 ∷ rest → Holds text taken held → Some line ≡ slice_get (lines text) (length taken)
 line_next text held line rest taken is cut h = sym (next-of text taken held (line ∷ lines rest) h (ap lines cut ∙ (lines-line line rest is).0))

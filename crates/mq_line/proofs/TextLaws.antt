@@ -1,7 +1,7 @@
 -- The lines of a text, and what a feed of it holds.
 use Rattle.std.proofs.Common.{◌≡◌, ℕ, ◌+◌, ◌<◌, ◌≤◌, Bool, true, false, cond, eqb, ltb, List, [], ◌∷◌, ◌++◌, length, refl, sym, ap, ◌∙◌, subst, arith, inl, inr, append_assoc, append-nil}
 use Rattle.std.specs.Prelude.{◌⊎◌, Option, Some, None, slice_get}
-use Rattle.std.specs.List.{AllByRecursion, concat, join_with_byte, flat_map}
+use Rattle.std.specs.List.{AllByRecursion, concat, join_with_byte}
 use Rattle.std.proofs.lemmas.Bool.{cases_lt, lt-ltb, le-ltb}
 use Rattle.std.proofs.lemmas.List.{length-append}
 use Rattle.std.proofs.lemmas.List.Splits.{slice_split_at, slice_split_none, join_with_byte-slice_split, length-slice_split}
@@ -61,8 +61,8 @@ holds-fed text taken held piece h = record {
 }
 
 text_of-push : (taken : List (List ℕ)) (line : List ℕ) → text_of (taken ++ line ∷ []) ≡ text_of taken ++ (line ++ 10 ∷ [])
-text_of-push [] line = append-nil (line ++ 10 ∷ [])
-text_of-push (l ∷ taken) line = ap (λ (t : List ℕ). (l ++ 10 ∷ []) ++ t) (text_of-push taken line) ∙ sym (append_assoc (l ++ 10 ∷ []) (text_of taken) (line ++ 10 ∷ []))
+text_of-push [] line = refl
+text_of-push (l ∷ taken) line = ap (λ (t : List ℕ). l ++ 10 ∷ t) (text_of-push taken line) ∙ sym (append_assoc l (10 ∷ text_of taken) (line ++ 10 ∷ []))
 
 each-push : (taken : List (List ℕ)) (line : List ℕ) → AllByRecursion IsLine taken → IsLine line → AllByRecursion IsLine (taken ++ line ∷ [])
 each-push [] line h is = (is, tt)
@@ -82,7 +82,7 @@ pub holds-lines : (text : List ℕ) (taken : List (List ℕ)) (held : List ℕ) 
 holds-lines text [] held h = (ap lines h.whole, ap left h.whole)
 holds-lines text (line ∷ taken) held h =
     let tail : List ℕ = text_of taken ++ held in
-    let front : text ≡ line ++ 10 ∷ tail = h.whole ∙ append_assoc (line ++ 10 ∷ []) (text_of taken) held ∙ append_assoc line (10 ∷ []) tail in
+    let front : text ≡ line ++ 10 ∷ tail = h.whole ∙ append_assoc line (10 ∷ text_of taken) held in
     let here = lines-line line tail h.each.0 in
     let there = holds-lines tail taken held (record { whole = refl; each = h.each.1 }) in
     (
@@ -125,7 +125,7 @@ among p (q ∷ ps) h = elim (cases_lt 65536 (length p)) [
         let there = among q ps h.1 in
         rw t (
           record {
-            whole = ap (λ (l : List ℕ). p ++ 10 ∷ l) there.0.whole ∙ sym (append_assoc p (10 ∷ []) (text_of (lines_among (q ∷ ps)) ++ left_among (q ∷ ps))) ∙ sym (append_assoc (p ++ 10 ∷ []) (text_of (lines_among (q ∷ ps))) (left_among (q ∷ ps)));
+            whole = ap (λ (l : List ℕ). p ++ 10 ∷ l) there.0.whole ∙ sym (append_assoc p (10 ∷ text_of (lines_among (q ∷ ps))) (left_among (q ∷ ps)));
             each = (record { one = h.0; short = short }, there.0.each);
           },
           there.1,

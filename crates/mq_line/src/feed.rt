@@ -1,9 +1,9 @@
 //! A text that comes in pieces, and its lines.
-ghost use Rattle.std.specs.Prelude.{◌≡◌, ◌++◌, ◌∷◌, ◌↔◌, ◌≢◌, [], Ok, Err, ℕ, List, length, slice_get, OnOk, OnErr, IfOk, IfErr, IfSome, IsErrOf, IsOk, MatchOption};
+ghost use Rattle.std.specs.Prelude.{◌≡◌, ◌++◌, ◌∷◌, ◌↔◌, ◌≢◌, [], Ok, Err, ℕ, List, length, slice_get, OnOk, OnErr, IfOk, IfErr, IfSome, IfNone, IsErrOf, IsOk, MatchOption};
 ghost use Rattle.std.specs.Option.{option_copied};
 ghost use Rattle.std.specs.Borrow.{sem};
 ghost use Rattle.std.specs.Io.BufRead.{Rests};
-ghost use Rattle.mq_line.specs.Text.{IsLine, IsTooLong, Holds, lines, bytes_taken};
+ghost use Rattle.mq_line.specs.Text.{IsLine, IsTooLong, Holds, Leaves, lines, left};
 ghost use Rattle.mq_line.specs.Search.{IsSearched, IsFront};
 ghost use Rattle.mq_line.specs.contracts.feed.LineFeed.{the_row};
 
@@ -76,6 +76,8 @@ impl LineFeed {
 
     pub fn feed(&mut self, piece: &[u8]) -> Result<(), Memory>
         ensures ok { OnOk result (self.new ≡ self.old ++ piece.now) }
+        ensures fed { OnOk result ((text : List ℕ) (taken : List (List ℕ)) →
+            Holds text taken self.old → Holds (text ++ piece.now) taken self.new) }
         ensures err { OnErr result (self.new ≡ self.old) }
     {
         self.bytes.extend_from_slice(piece)?;
@@ -91,12 +93,16 @@ impl LineFeed {
         ensures front { IfOk result (λ next. MatchOption next (IsLine self.old)
             (λ line. IsLine line.now × (rest : List ℕ) × (self.old ≡ line.now ++ 10 ∷ rest))) }
 
+        // With no line to give, all lines of the text were taken.
+        ensures all_taken { IfOk result (λ next. IfNone next ((text : List ℕ) (taken : List (List ℕ)) →
+            Holds text taken self.old → (lines text ≡ taken) × (left text ≡ self.old))) }
+
         // The one fault comes exactly where what stands in front is too long for a line.
         ensures too_long { (result ≡ Err FeedFault.TooLong) ↔ IsTooLong self.old }
         ensures fault { IfErr result (λ fault. fault ≡ FeedFault.TooLong) }
 
         // What is given is taken, its LF included, and else nothing is.
-        ensures* left { sem 𝓛 (Rests the_row self.entry (λ held. self.old ≡ bytes_taken result ++ held)) }
+        ensures* left { sem 𝓛 (Rests the_row self.entry (Leaves self.old result)) }
     {
         let held = &self.bytes[self.taken..];
         match front_of(held, self.searched) {
