@@ -1,8 +1,9 @@
 -- What a feed gives, by the bytes that it holds.
-use Rattle.std.proofs.Common.{◌≡◌, ℕ, ◌+◌, ◌-◌, ◌<◌, ◌≤◌, List, [], ◌∷◌, ◌++◌, length, get_or, take, drop, refl, sym, ap, ◌∙◌, subst, arith, append_assoc, append-nil, inl}
+use Rattle.std.proofs.Common.{◌≡◌, eqb, true, ℕ, ◌+◌, ◌-◌, ◌<◌, ◌≤◌, List, [], ◌∷◌, ◌++◌, length, get_or, take, drop, refl, sym, ap, ◌∙◌, subst, arith, append_assoc, append-nil, inl, inr}
 use Rattle.std.specs.Prelude.{Option, Some, None, slice_get}
+use Rattle.std.proofs.lemmas.Bool.{eqb-true}
 use Rattle.std.proofs.lemmas.List.{take_rest, drop-drop, length-append, get_or_at, get_or_append_left}
-use Rattle.mq_line.specs.Text.{IsLine, IsTooLong, Holds, lines, left}
+use Rattle.mq_line.specs.Text.{IsLine, IsTooLong, Holds, HasNoLine, lines, left}
 use Rattle.mq_line.proofs.TextLaws.{next-of, lines-line, lines-open, holds-taken, splits-only}
 
 -- what is held, as the code cuts it off
@@ -26,8 +27,12 @@ pub none_leaves : (held left : List ℕ) → held ≡ left → (text : List ℕ)
 none_leaves held left same text taken h =
     subst (λ (ls : List (List ℕ)). Holds text ls left) (sym (append-nil taken)) (subst (Holds text taken) same h)
 
-pub all_taken : (text held : List ℕ) (taken : List (List ℕ)) → IsLine held → Holds text taken held → (lines text ≡ taken) × (left text ≡ held)
-all_taken text held taken is h = splits-only text taken held h (inl is)
+-- no line is left in what may become one, nor in what is too long for one
+pub open_has_no_line : (held : List ℕ) → IsLine held → HasNoLine held
+open_has_no_line held is text taken h = splits-only text taken held h (inl is)
+
+pub long_has_no_line : (held : List ℕ) → IsTooLong held → HasNoLine held
+long_has_no_line held is text taken h = splits-only text taken held h (inr is)
 
 pub line_next : (text held line rest : List ℕ) (taken : List (List ℕ)) → IsLine line → held ≡ line ++ 10 ∷ rest → Holds text taken held → Some line ≡ slice_get (lines text) (length taken)
 line_next text held line rest taken is cut h = sym (next-of text taken held (line ∷ lines rest) h (ap lines cut ∙ (lines-line line rest is).0))
@@ -48,3 +53,8 @@ line_not_long held line rest is cut long =
 
 pub line_some : (held line rest : List ℕ) → held ≡ line ++ 10 ∷ rest → held ≡ [] → ⊥
 line_some held line rest cut none = absurd (omega (arith, length-append line (10 ∷ rest), ap length cut, ap length none))
+
+pub nothing_has_no_line : (front held : List ℕ) → front ≡ held → eqb (length front) 0 ≡ true → HasNoLine held
+nothing_has_no_line front held same none =
+    let empty : length held ≡ 0 = ap length (sym same) ∙ eqb-true _ _ none in
+    open_has_no_line held (record { one = λ i d lt. absurd (omega arith); short = omega arith })

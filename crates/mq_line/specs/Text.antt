@@ -48,6 +48,10 @@ pub record Holds (text : List ℕ) (taken : List (List ℕ)) (held : List ℕ) :
   pub whole : text ≡ text_of taken ++ held
   pub each : AllByRecursion IsLine taken
 
+-- whatever text was fed, all its lines were taken: what is held is what follows them
+abbrev pub HasNoLine : List ℕ → Type 0
+HasNoLine held = (text : List ℕ) (taken : List (List ℕ)) → Holds text taken held → (lines text ≡ taken) × (left text ≡ held)
+
 -- the line that a feed gives, or none
 abbrev pub given : Result (Option (Bor (List ℕ))) FeedFault → List (List ℕ)
 given (Ok (Some line)) = line.now ∷ []

@@ -1,9 +1,9 @@
 //! A text that comes in pieces, and its lines.
-ghost use Rattle.std.specs.Prelude.{◌≡◌, ◌++◌, ◌∷◌, ◌↔◌, ◌≢◌, [], Ok, Err, ℕ, List, length, slice_get, OnOk, OnErr, IfOk, IfErr, IfSome, IfNone, IsErrOf, IsOk, MatchOption};
+ghost use Rattle.std.specs.Prelude.{◌≡◌, ◌++◌, ◌∷◌, ◌↔◌, ◌≢◌, [], Ok, Err, ℕ, List, length, slice_get, OnOk, OnErr, IfOk, IfErr, IfSome, IfNone, MatchOption, MatchResult};
 ghost use Rattle.std.specs.Option.{option_copied};
 ghost use Rattle.std.specs.Borrow.{sem};
 ghost use Rattle.std.specs.Io.BufRead.{Rests};
-ghost use Rattle.mq_line.specs.Text.{IsLine, IsTooLong, Holds, Leaves, lines, left};
+ghost use Rattle.mq_line.specs.Text.{IsLine, IsTooLong, Holds, Leaves, HasNoLine, lines};
 ghost use Rattle.mq_line.specs.Search.{IsSearched, IsFront};
 ghost use Rattle.mq_line.specs.contracts.feed.LineFeed.{the_row};
 
@@ -93,9 +93,8 @@ impl LineFeed {
         ensures front { IfOk result (λ next. MatchOption next (IsLine self.old)
             (λ line. IsLine line.now × (rest : List ℕ) × (self.old ≡ line.now ++ 10 ∷ rest))) }
 
-        // With no line to give, all lines of the text were taken.
-        ensures all_taken { IfOk result (λ next. IfNone next ((text : List ℕ) (taken : List (List ℕ)) →
-            Holds text taken self.old → (lines text ≡ taken) × (left text ≡ self.old))) }
+        // Where no line is given, there is none left.
+        ensures none_left { MatchResult result (λ next. IfNone next (HasNoLine self.old)) (λ fault. HasNoLine self.old) }
 
         // The one fault comes exactly where what stands in front is too long for a line.
         ensures too_long { (result ≡ Err FeedFault.TooLong) ↔ IsTooLong self.old }
@@ -125,6 +124,7 @@ impl LineFeed {
     pub fn finish(&self) -> Result<(), FeedFault>
         ensures ok { (result ≡ Ok tt) ↔ (self.now ≡ []) }
         ensures too_long { (result ≡ Err FeedFault.TooLong) ↔ IsTooLong self.now }
+        ensures all_taken { OnOk result (HasNoLine self.now) }
         ensures cut_line { result ≡ Err FeedFault.CutLine → (self.now ≢ []) × ¬ IsTooLong self.now }
     {
         let held = &self.bytes[self.taken..];

@@ -1,6 +1,6 @@
 use Rattle.std.proofs.Common.{refl, sym, ◌∙◌, subst}
-use Rattle.mq_line.specs.Text.{IsLine}
-use Rattle.mq_line.proofs.FeedLaws.{held_is, rest_stays, line_leaves, none_leaves, line_next, none_next, all_taken, open_not_long, line_not_long}
+use Rattle.mq_line.specs.Text.{IsLine, IsTooLong}
+use Rattle.mq_line.proofs.FeedLaws.{held_is, rest_stays, line_leaves, none_leaves, line_next, none_next, open_has_no_line, long_has_no_line, open_not_long, line_not_long}
 use Rattle.mq_line.proofs.feed.LineFeed.next_line.Goals as goal
 
 pub returns-in-Whole : goal.returns-in-Whole
@@ -13,7 +13,7 @@ returns-in-Whole c =
       record {
         next = λ text taken holds. line_next text _ _ _ taken here.0 cut holds;
         front = (here.0, _, cut);
-        all_taken = tt;
+        none_left = tt;
         too_long = (λ e. cc, λ long. absurd (line_not_long _ _ _ here.0 cut long));
         fault = tt;
         left = tt;
@@ -28,9 +28,24 @@ returns-in-Open c =
       record {
         next = λ text taken holds. none_next text _ taken is holds;
         front = is;
-        all_taken = λ text taken holds. all_taken text _ taken is holds;
+        none_left = open_has_no_line _ is;
         too_long = (λ e. cc, λ long. absurd (open_not_long _ is long));
         fault = tt;
+        left = tt;
+      },
+    )
+
+pub returns-in-Endless : goal.returns-in-Endless
+returns-in-Endless c =
+    let same = held_is _ _ _ c.self.inside.taken c.deref.ensures.value c.self.view_is in
+    let is : IsTooLong c.args.self.now = subst IsTooLong same c.in-Endless.ensures.0 in (
+      (refl, λ _. tt, record { bytes = sym c.self.view_is; holds = none_leaves _ _ (sym c.self.view_is) }),
+      record {
+        next = λ text taken holds. tt;
+        front = tt;
+        none_left = long_has_no_line _ is;
+        too_long = (λ e. is, λ long. refl);
+        fault = refl;
         left = tt;
       },
     )
