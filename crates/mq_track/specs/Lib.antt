@@ -1,0 +1,5 @@
+pub mod Events
+pub mod Told
+pub mod Sessions
+pub mod State
+pub mod Inside
