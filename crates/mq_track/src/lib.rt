@@ -8,11 +8,10 @@ mod closing;
 mod event;
 mod fault;
 mod sessions;
-
 mod standing;
-
+mod tracker;
 
 pub use closing::{CloseEnd, Closing};
 pub use fault::TrackFault;
 pub use standing::Standing;
-
+pub use tracker::Tracker;

@@ -41,7 +41,7 @@ impl Model for Sessions {
 
 impl Sessions {
     ghost use Rattle.std.specs.Prelude.{◌≡◌, [], Some, None, OnOk, OnErr, is_some};
-    ghost use Rattle.std.specs.Option.{option_copied};
+    ghost use Rattle.std.specs.Option.{option_copied, option_map};
     ghost use Rattle.mq_track.specs.State.{known, Learns, nothing};
     ghost use Rattle.mq_track.specs.Inside.{known_in, kept};
 
@@ -59,6 +59,16 @@ impl Sessions {
         ensures { known self.now session.now ≡ known_in (option_copied result) }
     {
         self.records.get(session)
+    }
+
+    /// The open transaction of a session.
+    pub(crate) fn transaction(&self, session: &[u8]) -> Option<&Transaction>
+        ensures { (known self.now session.now).transaction ≡ option_map kept (option_copied result) }
+    {
+        match self.get(session) {
+            Some(record) => record.transaction.as_ref(),
+            None => None,
+        }
     }
 
     /// Notes a login. An `Err` changes nothing.
