@@ -1,1 +1,3 @@
 mod Records
+pub mod Lookback
+pub mod Moves
