@@ -34,7 +34,7 @@ impl Tracker {
     ghost use Rattle.mq_track.specs.Events.{event, Passed, Began, Ended, Left};
     ghost use Rattle.mq_track.specs.Told.{told};
     ghost use Rattle.mq_track.specs.Sessions.{closing, fault, position, is_exhausted};
-    ghost use Rattle.mq_track.specs.State.{StandsAt, shown, known};
+    ghost use Rattle.mq_track.specs.State.{StandsAt, IsNumbered, shown};
     ghost use Rattle.mq_track.specs.Steps.{closing_in, brought, Steps, needs_memory};
 
     /// A tracker that accepted no line yet.
@@ -74,9 +74,10 @@ impl Tracker {
         self.take(event)
     }
 
-    /// How a session stands.
+    /// How a session stands after the accepted lines. Names of sessions compare byte for byte.
     pub fn standing(&self, session: &[u8]) -> Standing<'_>
-        ensures { (past : List Meaning) → StandsAt self.now past → shown result ≡ position past session.now }
+        ensures numbered { IsNumbered result }
+        ensures position { (past : List Meaning) → StandsAt self.now past → shown result ≡ position past session.now }
     {
         let Some(record) = self.sessions.get(session) else {
             return Standing::Anonymous;
