@@ -1,12 +1,12 @@
 -- What one more line makes of login and open transaction of a session.
-use Rattle.std.proofs.Common.{◌≡◌, ℕ, ◌+◌, List, [], ◌∷◌, Bool, true, false, refl, sym, ap, ◌∙◌, subst, arith}
+use Rattle.std.proofs.Common.{◌≡◌, ℕ, List, [], ◌∷◌, Bool, true, false, refl, ◌∙◌}
 use Rattle.std.specs.Prelude.{◌&&◌, ◌||◌, Option, None, Some, if◌then◌else◌}
 use Rattle.std.specs.List.{list_any}
 use Rattle.std.specs.Option.{option_or, option_and_then}
 use Rattle.std.specs.Str.{bytes_eq}
 use Rattle.mq_line.specs.Grammar.{Meaning}
 use Rattle.mq_track.specs.Events.{Event, Passed, Began, Ended, Left, Nothing, event}
-use Rattle.mq_track.specs.Sessions.{Transaction, since, leaves, begins, ends, is_named, last_name, last_begin, login, open_transaction, begin_count, opened_by, is_begin, session_of}
+use Rattle.mq_track.specs.Sessions.{Transaction, since, leaves, begins, ends, is_named, last_name, last_begin, login, open_transaction, begin_count, opened_by, session_of}
 use Rattle.mq_track.specs.Steps.{left_open}
 
 -- ---- login

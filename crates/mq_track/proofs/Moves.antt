@@ -1,19 +1,16 @@
 -- A tracker that stands at a past, after one more line.
-use Rattle.std.proofs.Common.{◌≡◌, ℕ, ◌+◌, List, [], ◌∷◌, Bool, true, false, refl, sym, ap, ◌∙◌, subst}
-use Rattle.std.specs.Prelude.{Option, None, Some, Result, Ok, Err, OnOk, MatchResult, MatchBool, if◌then◌else◌}
+use Rattle.std.proofs.Common.{◌≡◌, ℕ, ◌+◌, List, ◌∷◌, Bool, true, false, refl, sym, ap, ◌∙◌, subst}
+use Rattle.std.specs.Prelude.{Option, Some, Result, Ok, Err, OnOk, MatchResult, MatchBool}
 use Rattle.mq_track.specs.declared.fault.TrackFault.{TrackFault}
 use Rattle.mq_track.specs.declared.fault.TrackFault.TheVariants.{Exhausted}
-use Rattle.std.specs.Option.{option_and_then}
 use Rattle.std.specs.Str.{bytes_eq}
-use Rattle.std.specs.Cmp.Lexicographic.{bytes_decides, nat_list_eq_equiv}
+use Rattle.std.specs.Cmp.Lexicographic.{bytes_decides}
 use Rattle.mq_line.specs.Grammar.{Meaning}
 use Rattle.mq_track.specs.Events.{Event, Passed, Began, Ended, Left, Nothing, event}
-use Rattle.mq_track.specs.Sessions.{Transaction, login, open_transaction, begin_count, session_of, closing, closing_of}
-use Rattle.mq_track.specs.State.{State, StandsAt, Known, known, nothing, Learns}
-use Rattle.mq_track.specs.Steps.{Steps, Sets, brought, closing_in, closed_by, left_open}
+use Rattle.mq_track.specs.Sessions.{login, open_transaction, begin_count, session_of}
+use Rattle.mq_track.specs.State.{State, StandsAt, Known, known, Learns}
+use Rattle.mq_track.specs.Steps.{Steps, brought}
 use Rattle.mq_track.specs.declared.closing.Closing.{Closing}
-use Rattle.mq_track.specs.declared.closing.CloseEnd.{CloseEnd}
-use Rattle.mq_track.specs.declared.closing.CloseEnd.TheVariants.{Drop}
 use Rattle.mq_track.proofs.Lookback.{login-more, open-more, login_after, open_after, login-apart, open-apart}
 
 -- what the past gives for s
@@ -100,35 +97,6 @@ stands_by Nothing old new past line is stands steps = record {
 -- a step of the tracker is one more line of the past
 pub stands_on : (old new : State) (past : List Meaning) (line : Meaning) → StandsAt old past → Steps old new (event line) → StandsAt new (line ∷ past)
 stands_on old new past line stands steps = stands_by (event line) old new past line refl stands steps
-
--- ---- closings
-
-no_closing : (o : Option Transaction) → ◌≡◌ {A = Option Closing} None (option_and_then (λ t. None) o)
-no_closing None = refl
-no_closing (Some t) = refl
-
-begin_closes : (s message : List ℕ) (at : ℕ) (o : Option Transaction) → option_and_then (closed_by None Drop) o ≡ option_and_then (closing_of s (Began s message at)) o
-begin_closes s message at None = refl
-begin_closes s message at (Some t) = rw (same_bytes s) refl
-
-end_closes : (s : List ℕ) (message : Option (List ℕ)) (end : CloseEnd) (o : Option Transaction) → option_and_then (closed_by message end) o ≡ option_and_then (closing_of s (Ended s message end)) o
-end_closes s message end None = refl
-end_closes s message end (Some t) = rw (same_bytes s) refl
-
-leave_closes : (s : List ℕ) (o : Option Transaction) → option_and_then (closed_by None Drop) o ≡ option_and_then (closing_of s (Left s)) o
-leave_closes s None = refl
-leave_closes s (Some t) = rw (same_bytes s) refl
-
-brought_by : (e : Event) (old : State) (past : List Meaning) (line : Meaning) → event line ≡ e → StandsAt old past → brought old e ≡ closing past line
-brought_by (Passed s name) old past line is stands = rw is (no_closing (open_transaction past s))
-brought_by (Began s message at) old past line is stands = rw (is, given_open old past s stands) (begin_closes s message at (open_transaction past s))
-brought_by (Ended s message end) old past line is stands = rw (is, given_open old past s stands) (end_closes s message end (open_transaction past s))
-brought_by (Left s) old past line is stands = rw (is, given_open old past s stands) (leave_closes s (open_transaction past s))
-brought_by Nothing old past line is stands = rw is refl
-
--- the closing that a step brings is that of the past
-pub brought_is : (old : State) (past : List Meaning) (line : Meaning) → StandsAt old past → brought old (event line) ≡ closing past line
-brought_is old past line stands = brought_by (event line) old past line refl stands
 
 -- ---- a step that may be refused
 

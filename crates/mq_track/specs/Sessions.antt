@@ -1,13 +1,13 @@
 -- Login and open transaction of a session, found by looking back over the accepted lines, the newest of which comes first.
-use Rattle.std.specs.Prelude.{ℕ, ◌+◌, List, [], ◌∷◌, Bool, true, false, ◌&&◌, ◌||◌, nat_le, is_some, if◌then◌else◌, Option, None, Some}
+use Rattle.std.specs.Prelude.{ℕ, ◌+◌, List, [], ◌∷◌, Bool, true, false, ◌&&◌, ◌||◌, nat_le, if◌then◌else◌, Option, None, Some}
 use Rattle.std.specs.List.{list_any}
-use Rattle.std.specs.Option.{option_or, option_map, option_and_then}
+use Rattle.std.specs.Option.{option_or, option_and_then}
 use Rattle.std.specs.Str.{bytes_eq}
 use Rattle.mq_line.specs.Grammar.{Meaning}
 use Rattle.mq_track.specs.Events.{Event, Passed, Began, Ended, Left, Nothing, event, unreadable}
 use Rattle.mq_track.specs.declared.closing.Closing.{Closing}
 use Rattle.mq_track.specs.declared.closing.CloseEnd.{CloseEnd}
-use Rattle.mq_track.specs.declared.closing.CloseEnd.TheVariants.{Commit, Drop}
+use Rattle.mq_track.specs.declared.closing.CloseEnd.TheVariants.{Drop}
 use Rattle.mq_track.specs.declared.fault.TrackFault.{TrackFault}
 use Rattle.mq_track.specs.declared.fault.TrackFault.TheVariants.{Exhausted}
 
