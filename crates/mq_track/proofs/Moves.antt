@@ -30,7 +30,7 @@ learned : (old new : State) (past : List Meaning) (line : Meaning) (s : List ℕ
 learned old new past line s what stands learns of here q = either (bytes_eq s q) (known new.sessions q ≡ given (line ∷ past) q)
     (λ y. let e : known new.sessions q ≡ what = rw y at (learns q) in subst (λ (l : List ℕ). known new.sessions q ≡ given (line ∷ past) l) ((bytes_decides s q).0 y) (e ∙ here))
     (λ n. let e : known new.sessions q ≡ known old.sessions q = rw n at (learns q) in
-        e ∙ (stands.sessions q ∙ (ap (λ l. record { login = l; transaction = open_transaction past q }) (sym (login-apart line past s q of n)) ∙ ap (λ o. record { login = login (line ∷ past) q; transaction = o }) (sym (open-apart line past s q of n)))))
+    e ∙ (stands.sessions q ∙ (ap (λ l. record { login = l; transaction = open_transaction past q }) (sym (login-apart line past s q of n)) ∙ ap (λ o. record { login = login (line ∷ past) q; transaction = o }) (sym (open-apart line past s q of n)))))
 
 -- how many tx-begins there are after an event
 abbrev count_after : Event → ℕ → ℕ
@@ -52,8 +52,8 @@ given-more : (e : Event) (line : Meaning) (past : List Meaning) (s : List ℕ) �
 given-more e line past s is =
     ap (λ l. record { login = l; transaction = open_transaction (line ∷ past) s }) (login-more line past s ∙ ap (λ v. login_after s v (login past s)) is)
     ∙ ap (λ t. record { login = login_after s e (login past s); transaction = t })
-        (open-more line past s ∙ (ap (λ n. open_after s n (event line) (open_transaction past s)) (count-more e line past is)
-        ∙ ap (λ v. open_after s (count_after e (begin_count past)) v (open_transaction past s)) is))
+    (open-more line past s ∙ (ap (λ n. open_after s n (event line) (open_transaction past s)) (count-more e line past is)
+    ∙ ap (λ v. open_after s (count_after e (begin_count past)) v (open_transaction past s)) is))
 
 -- the session of the event itself
 here : (e : Event) (old : State) (past : List Meaning) (line : Meaning) (s : List ℕ) (what : Known) → event line ≡ e → what ≡ given_after past e s → what ≡ given (line ∷ past) s
@@ -70,29 +70,29 @@ of_session e line s is of = rw is of
 
 stands_by : (e : Event) (old new : State) (past : List Meaning) (line : Meaning) → event line ≡ e → StandsAt old past → Steps old new e → StandsAt new (line ∷ past)
 stands_by (Passed s name) old new past line is stands steps = record {
-    sessions = learned old new past line s _ stands steps.0 (of_session (Passed s name) line s is refl)
-        (here (Passed s name) old past line s _ is (rw (same_bytes s, given_open old past s stands) refl));
-    begins = steps.1 ∙ (stands.begins ∙ sym (count-more (Passed s name) line past is));
-  }
+  sessions = learned old new past line s _ stands steps.0 (of_session (Passed s name) line s is refl)
+      (here (Passed s name) old past line s _ is (rw (same_bytes s, given_open old past s stands) refl));
+  begins = steps.1 ∙ (stands.begins ∙ sym (count-more (Passed s name) line past is));
+}
 stands_by (Began s message at) old new past line is stands steps = record {
-    sessions = learned old new past line s _ stands steps.0 (of_session (Began s message at) line s is refl)
-        (here (Began s message at) old past line s _ is (rw (same_bytes s, given_login old past s stands, stands.begins) refl));
-    begins = steps.1 ∙ (ap (λ n. n + 1) stands.begins ∙ sym (count-more (Began s message at) line past is));
-  }
+  sessions = learned old new past line s _ stands steps.0 (of_session (Began s message at) line s is refl)
+      (here (Began s message at) old past line s _ is (rw (same_bytes s, given_login old past s stands, stands.begins) refl));
+  begins = steps.1 ∙ (ap (λ n. n + 1) stands.begins ∙ sym (count-more (Began s message at) line past is));
+}
 stands_by (Ended s message end) old new past line is stands steps = record {
-    sessions = learned old new past line s _ stands steps.0 (of_session (Ended s message end) line s is refl)
-        (here (Ended s message end) old past line s _ is (rw (same_bytes s, given_login old past s stands, given_open old past s stands) refl));
-    begins = steps.1 ∙ (stands.begins ∙ sym (count-more (Ended s message end) line past is));
-  }
+  sessions = learned old new past line s _ stands steps.0 (of_session (Ended s message end) line s is refl)
+      (here (Ended s message end) old past line s _ is (rw (same_bytes s, given_login old past s stands, given_open old past s stands) refl));
+  begins = steps.1 ∙ (stands.begins ∙ sym (count-more (Ended s message end) line past is));
+}
 stands_by (Left s) old new past line is stands steps = record {
-    sessions = learned old new past line s _ stands steps.0 (of_session (Left s) line s is refl)
-        (here (Left s) old past line s _ is (rw (same_bytes s) refl));
-    begins = steps.1 ∙ (stands.begins ∙ sym (count-more (Left s) line past is));
-  }
+  sessions = learned old new past line s _ stands steps.0 (of_session (Left s) line s is refl)
+      (here (Left s) old past line s _ is (rw (same_bytes s) refl));
+  begins = steps.1 ∙ (stands.begins ∙ sym (count-more (Left s) line past is));
+}
 stands_by Nothing old new past line is stands steps = record {
-    sessions = λ q. ap (λ (t : State). known t.sessions q) steps ∙ (stands.sessions q ∙ sym (given-more Nothing line past q is));
-    begins = ap (λ (t : State). t.begins) steps ∙ (stands.begins ∙ sym (count-more Nothing line past is));
-  }
+  sessions = λ q. ap (λ (t : State). known t.sessions q) steps ∙ (stands.sessions q ∙ sym (given-more Nothing line past q is));
+  begins = ap (λ (t : State). t.begins) steps ∙ (stands.begins ∙ sym (count-more Nothing line past is));
+}
 
 -- a step of the tracker is one more line of the past
 pub stands_on : (old new : State) (past : List Meaning) (line : Meaning) → StandsAt old past → Steps old new (event line) → StandsAt new (line ∷ past)

@@ -76,13 +76,13 @@ pub one_session : (past : List Meaning) (s r : List ℕ) (t u : Transaction) →
 one_session [] s r t u h k same = absurd (none-some t h)
 one_session (line ∷ past) s r t u h k same = elim (came_in line past s t h) [
   | inl new ↦ elim (came_in line past r u k) [
-      | inl other ↦ (let e : Some s ≡ Some r = sym new.of ∙ other.of in cc)
-      | inr was ↦ (let n = new.number in let c = counted line past new.begins in let b = numbered past r u was in absurd (omega (arith, n, c, b, same)))
-    ]
+    | inl other ↦ (let e : Some s ≡ Some r = sym new.of ∙ other.of in cc)
+    | inr was ↦ (let n = new.number in let c = counted line past new.begins in let b = numbered past r u was in absurd (omega (arith, n, c, b, same)))
+  ]
   | inr was ↦ elim (came_in line past r u k) [
-      | inl new ↦ (let n = new.number in let c = counted line past new.begins in let b = numbered past s t was in absurd (omega (arith, n, c, b, same)))
-      | inr other ↦ one_session past s r t u was other same
-    ]
+    | inl new ↦ (let n = new.number in let c = counted line past new.begins in let b = numbered past s t was in absurd (omega (arith, n, c, b, same)))
+    | inr other ↦ one_session past s r t u was other same
+  ]
 ]
 
 -- a number that was given, and that no open transaction has
@@ -92,12 +92,12 @@ record IsOver (past : List Meaning) (n : ℕ) : Type 0 where
 
 over_stays : (line : Meaning) (past : List Meaning) (n : ℕ) → IsOver past n → IsOver (line ∷ past) n
 over_stays line past n over = record {
-    given = let g = grows line past in let o = over.given in omega (arith, g, o);
-    nowhere = λ s t h same. elim (came_in line past s t h) [
-      | inl new ↦ (let k = new.number in let c = counted line past new.begins in let o = over.given in absurd (omega (arith, k, c, o, same)))
-      | inr was ↦ over.nowhere s t was same
-    ];
-  }
+  given = let g = grows line past in let o = over.given in omega (arith, g, o);
+  nowhere = λ s t h same. elim (came_in line past s t h) [
+    | inl new ↦ (let k = new.number in let c = counted line past new.begins in let o = over.given in absurd (omega (arith, k, c, o, same)))
+    | inr was ↦ over.nowhere s t was same
+  ];
+}
 
 over_later : (later past : List Meaning) (n : ℕ) → IsOver past n → IsOver (later ++ past) n
 over_later [] past n over = over
@@ -155,7 +155,7 @@ over_now line past n c =
         | inr was ↦ (let e : q ≡ c.s = one_session past q c.s t c.o was c.was (same ∙ k) in
             let there : open_transaction (line ∷ past) c.s ≡ Some t = subst (λ (l : List ℕ). open_transaction (line ∷ past) l ≡ Some t) e h in
             let after : open_after c.s (begin_count (line ∷ past)) (event line) (Some c.o) ≡ Some t =
-                subst (λ (x : Option Transaction). open_after c.s (begin_count (line ∷ past)) (event line) x ≡ Some t) c.was (sym (open-more line past c.s) ∙ there) in
+            subst (λ (x : Option Transaction). open_after c.s (begin_count (line ∷ past)) (event line) x ≡ Some t) c.was (sym (open-more line past c.s) ∙ there) in
             late t c.s (gone (event line) c.s (begin_count (line ∷ past)) c.o t c.ends_it after) same)
       ];
     }

@@ -55,7 +55,7 @@ pub learned : (m n : Records) (w : Option Session) (key s : List ℕ) (sessions 
     → UpdatesBy (λ x y. slice_cmp nat_cmp x.items y.items) (key_cmp key) m n w → Learns sessions (map entry n.entries) s what
 learned m n w key s sessions what is same e h = subst (λ (l : List (List ℕ × Known)). Learns l (map entry n.entries) s what) is
     (subst (λ (t : List ℕ). Learns (map entry m.entries) (map entry n.entries) t what) same
-        (λ q. learns m n key w h q ∙ ap (λ k. if bytes_eq key q then k else known (map entry m.entries) q) e))
+    (λ q. learns m n key w h q ∙ ap (λ k. if bytes_eq key q then k else known (map entry m.entries) q) e))
 
 -- a record with another login
 pub named : (m : Records) (s name : List ℕ) (sessions : List (List ℕ × Known)) (v : Vec ℕ Global) (old : Session) → map entry m.entries ≡ sessions → v.items ≡ name → Some old ≡ get_by (key_cmp s) m

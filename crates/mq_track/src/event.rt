@@ -12,7 +12,10 @@ use mq_line::{AuthResult, Line, auth_of, message_of};
 #[derive(Clone, Copy)]
 pub(crate) enum Event<'a> {
     /// A login passed.
-    Passed { session: &'a [u8], name: &'a [u8] },
+    Passed {
+        session: &'a [u8],
+        name: &'a [u8],
+    },
     /// A transaction began.
     Began {
         session: &'a [u8],
@@ -26,7 +29,9 @@ pub(crate) enum Event<'a> {
         end: CloseEnd,
     },
     /// The session left.
-    Left { session: &'a [u8] },
+    Left {
+        session: &'a [u8],
+    },
     Nothing,
 }
 

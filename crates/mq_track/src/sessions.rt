@@ -93,7 +93,11 @@ impl Sessions {
     }
 
     /// Notes a transaction that began. An `Err` changes nothing.
-    pub(crate) fn begin(&mut self, session: &[u8], transaction: Transaction) -> Result<(), AllocError>
+    pub(crate) fn begin(
+        &mut self,
+        session: &[u8],
+        transaction: Transaction,
+    ) -> Result<(), AllocError>
         ensures ok { OnOk result (Learns self.old self.new session.now
             (record { login = (known self.old session.now).login; transaction = Some (kept transaction) })) }
         ensures err { OnErr result (self.new ≡ self.old) }

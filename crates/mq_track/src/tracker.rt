@@ -101,8 +101,8 @@ impl Tracker {
         ensures ok { MatchBool (is_exhausted self.old.begins (told event.entry))
             (result ≡ Err TrackFault.Exhausted)
             (MatchResult result
-                (λ c. (c ≡ brought self.old (told event.entry)) × Steps self.old self.new (told event.entry))
-                (λ f. (f ≡ TrackFault.Memory) × IsTrue (needs_memory (told event.entry)))) }
+            (λ c. (c ≡ brought self.old (told event.entry)) × Steps self.old self.new (told event.entry))
+            (λ f. (f ≡ TrackFault.Memory) × IsTrue (needs_memory (told event.entry)))) }
         ensures err { OnErr result (self.new ≡ self.old) }
     {
         match event {
@@ -185,3 +185,6 @@ impl Tracker {
         closing
     }
 }
+
+#[cfg(test)]
+mod tests;
