@@ -17,6 +17,8 @@ mod page;
 mod range;
 mod reply_parts;
 mod request_parts;
+#[cfg(test)]
+mod tests;
 mod usage;
 
 pub use decode::{DecodeFault, decode_reply, decode_request};
