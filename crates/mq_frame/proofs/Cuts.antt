@@ -1,6 +1,6 @@
 -- However a stream is cut into pieces, its frames are the same.
 use Rattle.std.proofs.Common.{◌≡◌, ℕ, ◌+◌, ◌*◌, ◌/◌, ◌%◌, ◌<◌, ◌≤◌, Bool, true, false, List, [], ◌∷◌, ◌++◌, length, take, drop, get_or, refl, sym, ap, subst, ◌∙◌, append_assoc, append-nil, arith, inl, inr}
-use Rattle.std.specs.Prelude.{◌⊎◌, nat_lt, ◌==◌, if◌then◌else◌}
+use Rattle.std.specs.Prelude.{Some, Ok, ◌⊎◌, nat_lt, ◌==◌, if◌then◌else◌}
 use Rattle.std.specs.Int.{w16, to_be_bytes, from_be_bytes}
 use Rattle.std.specs.List.{All, flat_map}
 use Rattle.std.proofs.lemmas.Bool.{cases_lt, ltb-false, ltb-true, le-ltb, lt-ltb}
@@ -10,7 +10,7 @@ use Rattle.std.proofs.lemmas.List.Elements.{All-nil, All-cons, All-head, All-tai
 use Rattle.std.proofs.lemmas.Nat.{be_bytes_2, from_be_bytes-to_be_bytes_2}
 use Rattle.mq_frame.specs.Range.{IsWithin}
 use Rattle.mq_frame.specs.Spelling.{in_2_bytes, frame}
-use Rattle.mq_frame.specs.Feed.{Front, Nothing, Cut, EmptyHead, LongHead, Whole, front, front_behind, BeginsWith, HasNoFrame, Frames, Move, Fed, Gave, Moves, fed, given}
+use Rattle.mq_frame.specs.Feed.{Front, Nothing, Cut, EmptyHead, LongHead, Whole, front, front_behind, next_answer, left_by_next, BeginsWith, HasNoFrame, Frames, Move, Fed, Gave, Moves, fed, given}
 use Rattle.mq_frame.proofs.FieldLaws.{IsBytes, IsBytes-drop, IsBytes-tail}
 
 either : (b : Bool) → (b ≡ true) ⊎ (b ≡ false)
@@ -245,3 +245,10 @@ pub long_head : (limit size : ℕ) (after : List ℕ) → limit < size → size 
 long_head limit size after lt small =
     let value : 256 * (size / 256 % 256) + size % 256 ≡ size = head_value size (omega (arith, small)) in
     rw value (long_to limit size after lt)
+
+pub gives_whole : (bytes body : List ℕ) (at : Front) → next_answer at ≡ Ok (Some body) → at ≡ Whole body (left_by_next at bytes)
+gives_whole bytes body Nothing e = absurd cc
+gives_whole bytes body Cut e = absurd cc
+gives_whole bytes body EmptyHead e = absurd cc
+gives_whole bytes body LongHead e = absurd cc
+gives_whole bytes body (Whole a b) e = let p : a ≡ body = cc in ap (λ (l : List ℕ). Whole l b) p

@@ -1,11 +1,11 @@
 //! Laws of the link's format. Each is the contract of a function that does nothing.
-ghost use Rattle.std.specs.Prelude.{◌≡◌, ◌↔◌, ℕ, ◌+◌, ◌<◌, ◌≤◌, List, [], ◌∷◌, ◌++◌, length, true, Some, All, ◌⊎◌};
+ghost use Rattle.std.specs.Prelude.{◌≡◌, ◌↔◌, ℕ, ◌+◌, ◌<◌, ◌≤◌, List, [], ◌∷◌, ◌++◌, length, true, Some, Ok, All, ◌⊎◌};
 ghost use Rattle.std.specs.List.{flat_map};
 ghost use Rattle.mq_frame.specs.Range.{IsWithin, IsRequest, IsReply};
 ghost use Rattle.mq_frame.specs.Same.{same_id, same_request};
 ghost use Rattle.mq_frame.specs.Spelling.{in_2_bytes, request_body, reply_body, SpellsRequest, SpellsReply, frame};
 ghost use Rattle.mq_frame.specs.Reading.{request_at, reply_at};
-ghost use Rattle.mq_frame.specs.Feed.{Nothing, Cut, EmptyHead, LongHead, Whole, front, BeginsWith, HasNoFrame, Frames, Move, Moves, fed, given};
+ghost use Rattle.mq_frame.specs.Feed.{Front, Nothing, Cut, EmptyHead, LongHead, Whole, front, next_answer, left_by_next, BeginsWith, HasNoFrame, Frames, Move, Moves, fed, given};
 ghost use Rattle.mq_frame.specs.declared.message.Id.{Id};
 ghost use Rattle.mq_frame.specs.declared.message.Request.{Request};
 ghost use Rattle.mq_frame.specs.declared.message.Reply.{Reply};
@@ -76,6 +76,9 @@ pub fn frames_stay()
     ensures whole { (limit : ℕ) (bytes more body after : List ℕ) → front limit bytes ≡ Whole body after → front limit (bytes ++ more) ≡ Whole body (after ++ more) }
     ensures empty { (limit : ℕ) (bytes more : List ℕ) → front limit bytes ≡ EmptyHead → front limit (bytes ++ more) ≡ EmptyHead }
     ensures long { (limit : ℕ) (bytes more : List ℕ) → front limit bytes ≡ LongHead → front limit (bytes ++ more) ≡ LongHead }
+
+    // A body that a call for the next one gives stood in a whole frame, and what is left stood behind it.
+    ensures gives { (bytes body : List ℕ) (at : Front) → next_answer at ≡ Ok (Some body) → at ≡ Whole body (left_by_next at bytes) }
 
     ensures more { (limit : ℕ) (bytes more : List ℕ) (bodies : List (List ℕ)) (rest : List ℕ) → BeginsWith limit bytes bodies rest → BeginsWith limit (bytes ++ more) bodies (rest ++ more) }
     ensures one_more { (limit : ℕ) (bytes : List ℕ) (bodies : List (List ℕ)) (rest body after : List ℕ) → BeginsWith limit bytes bodies rest → front limit rest ≡ Whole body after

@@ -1,4 +1,4 @@
-use Rattle.mq_frame.proofs.Cuts.{whole_stays, empty_stays, long_stays, more_begins, one_more, has_none, same_frames}
+use Rattle.mq_frame.proofs.Cuts.{whole_stays, empty_stays, long_stays, more_begins, one_more, has_none, same_frames, gives_whole}
 use Rattle.mq_frame.proofs.laws.frames_stay.Goals as goal
 
 pub returns-clause-whole : goal.returns-clause-whole
@@ -21,3 +21,6 @@ returns-clause-none c = has_none
 
 pub returns-clause-one_list : goal.returns-clause-one_list
 returns-clause-one_list c = same_frames
+
+pub returns-clause-gives : goal.returns-clause-gives
+returns-clause-gives c = gives_whole
