@@ -17,8 +17,7 @@ rest_stays items held front place n same is =
 
 pub line_leaves : (held line rest left : List ℕ) → IsLine line → held ≡ line ++ 10 ∷ rest → rest ≡ left → (held ≡ (line ++ 10 ∷ []) ++ left) × ((text : List ℕ) (taken : List (List ℕ)) → Holds text taken held → Holds text (taken ++ line ∷ []) left)
 line_leaves held line rest left is cut same =
-    let here : held ≡ line ++ 10 ∷ left = cut ∙ ap (λ (l : List ℕ). line ++ 10 ∷ l) same in
-    (
+    let here : held ≡ line ++ 10 ∷ left = cut ∙ ap (λ (l : List ℕ). line ++ 10 ∷ l) same in (
       here ∙ sym (append_assoc line (10 ∷ []) left),
       λ text taken h. holds-taken text taken line left is (subst (Holds text taken) here h),
     )
