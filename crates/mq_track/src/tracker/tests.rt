@@ -307,3 +307,41 @@ fn texts_of_faults(rt: HostRuntime) -> Result<(), Fail> {
     }
     Ok(())
 }
+
+// Where an allocation fails, as `rt try --test --fail-alloc N` has it, the line can be given again.
+#[test]
+fn a_refused_growth_changes_nothing(rt: HostRuntime) {
+    let mut tracker = Tracker::new(rt.alloc());
+    for (text, brings) in [
+        (
+            b"report|0.7|10.0|smtp-in|link-auth|s|pass|a".as_slice(),
+            None,
+        ),
+        (b"report|0.7|11.0|smtp-in|tx-begin|s|m1".as_slice(), None),
+        (b"report|0.7|12.0|smtp-in|tx-begin|t|m2".as_slice(), None),
+        (
+            b"report|0.7|13.0|smtp-in|tx-begin|s|m3".as_slice(),
+            closing(1, CloseEnd::Drop),
+        ),
+        (
+            b"report|0.7|14.0|smtp-in|link-auth|s|pass|b".as_slice(),
+            None,
+        ),
+        (
+            b"report|0.7|15.0|smtp-in|tx-commit|s|m3|1".as_slice(),
+            closing(3, CloseEnd::Commit),
+        ),
+        (
+            b"report|0.7|16.0|smtp-in|link-disconnect|t".as_slice(),
+            closing(2, CloseEnd::Drop),
+        ),
+    ] {
+        let answer = match take(&rt, &mut tracker, text) {
+            Err(TrackFault::Memory) => take(&rt, &mut tracker, text),
+            answer => answer,
+        };
+        assert_eq!(rt; answer, Ok(brings), "at {text:?}");
+    }
+    assert_eq!(rt; tracker.standing(b"s"), Standing::Login { name: b"b" });
+    assert_eq!(rt; tracker.standing(b"t"), Standing::Anonymous);
+}
