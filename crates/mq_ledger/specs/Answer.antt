@@ -1,7 +1,7 @@
 -- What a ledger answers, and the history that its answers make.
 --
 -- `day` gives the day of a moment, and `default` the limit of a login that has none.
-use Rattle.std.specs.Prelude.{ℕ, ◌+◌, List, [], ◌∷◌, ◌++◌, map, find, fold, not, nat_lt, if◌then◌else◌, Option, Some, None}
+use Rattle.std.specs.Prelude.{ℕ, ◌+◌, List, [], ◌∷◌, ◌++◌, map, find, fold, not, nat_lt, if◌then◌else◌, Option, Some, None, is_some}
 use Rattle.mq_frame.specs.declared.message.Id.{Id}
 use Rattle.mq_frame.specs.declared.message.Request.{Request}
 use Rattle.mq_frame.specs.declared.message.Request.TheVariants.{Reserve, Settle, Release, Limit, Usage, List as ListRequest}
@@ -75,6 +75,14 @@ reply_to day default H r (Some id) = reply_by day default H r id (stored H id)
 -- the reply to a request, over a history
 abbrev pub reply : (ℕ → ℕ) → ℕ → List Entry → Request → Reply
 reply day default H r = reply_to day default H r (id_of r)
+
+-- H after an arrival: a request whose number isn't in H stands behind it, with its answer
+abbrev pub taken_by : (ℕ → ℕ) → ℕ → List Entry → Request → Option Id → List Entry
+taken_by day default H r None = H
+taken_by day default H r (Some id) = if is_some (stored H id) then H else appended day default H r
+
+abbrev pub taken : (ℕ → ℕ) → ℕ → List Entry → Request → List Entry
+taken day default H r = taken_by day default H r (id_of r)
 
 -- the history of arrivals
 abbrev pub history_of : (ℕ → ℕ) → ℕ → List Request → List Entry

@@ -5,6 +5,7 @@
 
 mod contract;
 mod entry;
+pub mod laws;
 mod zone;
 
 pub use contract::{Ledger, LedgerFault};

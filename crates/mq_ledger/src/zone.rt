@@ -1,6 +1,6 @@
-ghost use Rattle.std.specs.Prelude.{◌≡◌, ◌≤◌, ◌<◌, ◌+◌, ◌*◌, ◌↔◌, IsOk, IfOk};
+ghost use Rattle.std.specs.Prelude.{◌≡◌, ◌+◌, ◌*◌, ◌↔◌, ◌≤ℤ◌, ◌<ℤ◌, pos, IsOk, IfOk};
 ghost use Rattle.mq_frame.specs.Range.{IsMoment, IsDay};
-ghost use Rattle.mq_ledger.specs.Day.{IsOffset, day_of};
+ghost use Rattle.mq_ledger.specs.Day.{IsOffset, clock, day_of};
 
 use jiff::Timestamp;
 use jiff::tz::Offset;
@@ -48,5 +48,21 @@ impl Zone {
         ensures in_range { IsOffset result }
     {
         self.minutes
+    }
+
+    /// The ledger day of a moment: the day number since 1970-01-01 of the date that a clock in the
+    /// zone shows. `at` is seconds since 1970-01-01T00:00:00Z.
+    pub fn day(&self, at: u64) -> u32
+        requires { IsMoment at }
+        ensures value { result ≡ day_of self.now at }
+        ensures floor { (pos (86400 * result) ≤ℤ clock self.now at)
+            × (clock self.now at <ℤ pos (86400 * (result + 1))) }
+        ensures in_range { IsDay result }
+    {
+        let instant = Timestamp::constant(at as i64, 0);
+        let offset = Offset::from_seconds(self.minutes * 60).unwrap();
+        let date = offset.to_datetime(instant).date();
+        let since = date.duration_since(Offset::UTC.to_datetime(Timestamp::UNIX_EPOCH).date());
+        (since.as_hours() / 24) as u32
     }
 }
