@@ -5,7 +5,12 @@
 
 mod contract;
 mod entry;
+mod cap;
+mod first_over;
 pub mod laws;
+mod listing;
+mod standing;
+mod totals;
 mod zone;
 
 pub use contract::{Ledger, LedgerFault};
