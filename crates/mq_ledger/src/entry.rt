@@ -1,0 +1,8 @@
+use mq_frame::{Reply, Request};
+
+/// A numbered request and its reply.
+#[derive(Debug, Drop)]
+pub struct Entry {
+    pub request: Request,
+    pub reply: Reply,
+}
