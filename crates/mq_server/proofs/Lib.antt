@@ -1,0 +1,4 @@
+pub mod Deliveries
+pub mod Exits
+pub mod Heads
+pub mod Running

@@ -1,0 +1,5 @@
+pub mod Connection
+pub mod Delivery
+pub mod Exits
+pub mod Steps
+pub mod Text
