@@ -2,3 +2,4 @@ pub mod Deliveries
 pub mod Exits
 pub mod Heads
 pub mod Running
+pub mod Turns

@@ -1,4 +1,5 @@
 pub mod Connection
+pub mod Connections
 pub mod Delivery
 pub mod Exits
 pub mod Steps

@@ -6,9 +6,11 @@
 
 mod answer;
 mod connection;
+mod connections;
 mod fault;
 mod input;
 mod output;
 
 pub use connection::{Served, serve};
+pub use connections::{ConnectionEnd, serve_all};
 pub use fault::ServeFault;
