@@ -8,3 +8,4 @@ pub mod Pages
 pub mod PageFacts
 pub mod Ranges
 pub mod Clocks
+pub mod Books

@@ -1,8 +1,9 @@
 -- The first day with more used is the least of all days.
-use Rattle.std.proofs.Common.{◌≡◌, ℕ, ◌+◌, ◌<◌, ◌≤◌, List, [], ◌∷◌, true, false, Some, None, Option, refl, ◌∙◌, ap, sym, subst, inl, inr, arith}
+use Rattle.std.proofs.Common.{◌≡◌, ℕ, ◌+◌, ◌<◌, ◌≤◌, List, [], ◌∷◌, ◌++◌, append-nil, true, false, Some, None, Option, refl, ◌∙◌, ap, sym, subst, inl, inr, arith}
 use Rattle.std.specs.Prelude.{nat_lt, nat_le, sum_by, filter, ◌&&◌, ◌==◌, ◌⊎◌, if◌then◌else◌}
 use Rattle.std.specs.List.{AllByRecursion}
 use Rattle.std.proofs.lemmas.Bool.Decides.{nat_tests}
+use Rattle.std.proofs.lemmas.List.Elements.{filter_map-append}
 use Rattle.mq_frame.specs.declared.message.Request.{Request}
 use Rattle.mq_frame.specs.declared.message.Request.TheVariants.{Reserve, Settle, Release, Limit, Usage, List as ListRequest}
 use Rattle.mq_frame.specs.declared.message.Reply.{Reply}
@@ -143,3 +144,36 @@ same_least day H l from c (Some d) (Some e) h g = elim (le_or_lt d e) [
 
 pub least_is_over : (day : ℕ → ℕ) (H : List Entry) (l : List ℕ) (from c : ℕ) (o : Option ℕ) → IsLeastOver day H l from c o → o ≡ over day H l from c
 least_is_over day H l from c o h = same_least day H l from c o (over day H l from c) h (over_least day H l from c _ refl)
+
+-- From day to day.
+
+lesser_swap : (n m : ℕ) (o : Option ℕ) → lesser n (Some (lesser m o)) ≡ lesser m (Some (lesser n o))
+lesser_swap n m None = grind (arith, nat_tests)
+lesser_swap n m (Some k) = grind (arith, nat_tests)
+
+least_push : (ns : List ℕ) (m : ℕ) → least (ns ++ m ∷ []) ≡ Some (lesser m (least ns))
+least_push [] m = refl
+least_push (n ∷ ns) m = ap (λ o. Some (lesser n o)) (least_push ns m) ∙ ap Some (lesser_swap n m (least ns))
+
+-- the least of the days with one more entry
+pub next_other : (day : ℕ → ℕ) (H : List Entry) (l : List ℕ) (from : ℕ) (e : Entry) → day_from day l from e.request e.reply ≡ None → least (days_from day (H ++ e ∷ []) l from) ≡ least (days_from day H l from)
+next_other day H l from e h = ap least (filter_map-append (λ (x : Entry). day_from day l from x.request x.reply) H (e ∷ []) ∙ rw h (append-nil (days_from day H l from)))
+
+pub next_more : (day : ℕ → ℕ) (H : List Entry) (l : List ℕ) (from : ℕ) (e : Entry) (d : ℕ) → day_from day l from e.request e.reply ≡ Some d → least (days_from day (H ++ e ∷ []) l from) ≡ Some (lesser d (least (days_from day H l from)))
+next_more day H l from e d h = ap least (filter_map-append (λ (x : Entry). day_from day l from x.request x.reply) H (e ∷ []) ∙ rw h refl) ∙ least_push (days_from day H l from) d
+
+-- before the next of the login's days nothing is used, and where there is none nothing is
+pub nothing_before : (day : ℕ → ℕ) (H : List Entry) (l : List ℕ) (from d : ℕ) → least (days_from day H l from) ≡ Some d → (e : ℕ) → from ≤ e → e < d → used day H l e ≡ 0
+nothing_before day H l from d h e le before = elim (zero_or_more (used day H l e)) [
+  | inl none ↦ none
+  | inr some ↦ absurd (omega (arith, least_le _ d h e (used_among day H l from e le some)))
+]
+
+pub nothing_on : (day : ℕ → ℕ) (H : List Entry) (l : List ℕ) (from : ℕ) → least (days_from day H l from) ≡ None → (e : ℕ) → from ≤ e → used day H l e ≡ 0
+nothing_on day H l from h e le = elim (zero_or_more (used day H l e)) [
+  | inl none ↦ none
+  | inr some ↦ absurd (least_none _ h e (used_among day H l from e le some))
+]
+
+pub next_after : (day : ℕ → ℕ) (H : List Entry) (l : List ℕ) (from d : ℕ) → least (days_from day H l from) ≡ Some d → from ≤ d
+next_after day H l from d h = days_after day H l from d (least_in _ d h)

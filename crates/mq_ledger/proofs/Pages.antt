@@ -1,6 +1,6 @@
 -- The logins of a day in byte order, and their pages.
-use Rattle.std.proofs.Common.{◌≡◌, ℕ, zero, suc, ◌+◌, ◌-◌, ◌<◌, ◌≤◌, List, [], ◌∷◌, ◌++◌, length, take, Bool, true, false, Some, None, Option, refl, ◌∙◌, ap, sym, subst, inl, inr, arith, append_assoc, append-nil, map}
-use Rattle.std.specs.Prelude.{fold, filter, ◌==◌, ◌&&◌, ◌⊎◌, if◌then◌else◌, slice_get, nat_eq, All, Contains}
+use Rattle.std.proofs.Common.{◌≡◌, ℕ, zero, suc, ◌+◌, ◌-◌, ◌<◌, ◌≤◌, List, [], ◌∷◌, ◌++◌, length, take, Bool, true, false, Some, None, Option, refl, ◌∙◌, ap, sym, subst, inl, inr, arith, append_assoc, append-nil}
+use Rattle.std.specs.Prelude.{map, fold, filter, ◌==◌, ◌&&◌, ◌⊎◌, if◌then◌else◌, slice_get, nat_eq, All, Contains}
 use Rattle.std.specs.List.{AllByRecursion, filter_map, list_any}
 use Rattle.std.specs.Ordering.{nat_cmp, is_lt, eq_by_cmp, ordering_reverse}
 use Rattle.std.specs.Cmp.{IsTotalOrder}
@@ -12,8 +12,9 @@ use Rattle.std.proofs.lemmas.List.{length-take}
 use Rattle.std.proofs.lemmas.List.Elements.{filter-append, filter_map-append, recursion_from_All, All-from_recursion}
 use Rattle.std.proofs.lemmas.List.Sums.{fold_push}
 use Rattle.mq_frame.specs.Same.{same_text}
+use Rattle.mq_frame.specs.declared.usage.UsageRow.{UsageRow}
 use Rattle.mq_ledger.specs.declared.entry.Entry.{Entry}
-use Rattle.mq_ledger.specs.Page.{below, login_on, logins_on, put, ascending, logins_above, page, IsAscending, is_login, has_reserve, IsPage}
+use Rattle.mq_ledger.specs.Page.{below, login_on, logins_on, put, nearer, ascending, logins_above, page, IsAscending, is_login, has_reserve, IsPage}
 use Rattle.mq_ledger.proofs.Basics.{either, option_cases, some_none, some_is, le_or_lt, text_is, text_itself, In, all_of, all_at, in_filter, filter_in, in_filter_map, filter_map_in}
 
 -- Byte order.
@@ -111,11 +112,7 @@ put_ascending (m ∷ ms) l up = elim (either (below l m)) [
 ]
 
 -- the first of them, with one more login
-abbrev pub nearer : Option (List ℕ) → List ℕ → Option (List ℕ)
-nearer None l = Some l
-nearer (Some m) l = if below l m then Some l else Some m
-
-pub head_put : (ms : List (List ℕ)) (l : List ℕ) → slice_get (put ms l) 0 ≡ nearer (slice_get ms 0) l
+pub head_put : (ms : List (List ℕ)) (l : List ℕ) → slice_get (put ms l) 0 ≡ Some (nearer (slice_get ms 0) l)
 head_put [] l = refl
 head_put (m ∷ ms) l = elim (either (below l m)) [
   | inl t ↦ rw t refl
@@ -219,15 +216,54 @@ above_push_by day H d after e (Some l) h =
       | inr g ↦ rw g (ap ascending (append-nil (filter (below after) (logins_on day H d))))
     ]
 
-abbrev pub nearer_by : List ℕ → Option (List ℕ) → Option (List ℕ) → Option (List ℕ)
-nearer_by after found None = found
-nearer_by after found (Some l) = if below after l then nearer found l else found
+-- the first login above `after`, with one more entry
+pub head_push_none : (day : ℕ → ℕ) (H : List Entry) (d : ℕ) (after : List ℕ) (e : Entry) → login_on day d e.request e.reply ≡ None → slice_get (logins_above day (H ++ e ∷ []) d after) 0 ≡ slice_get (logins_above day H d after) 0
+head_push_none day H d after e h = ap (λ (ls : List (List ℕ)). slice_get ls 0) (above_push_by day H d after e None h)
 
-head_above_by : (after : List ℕ) (ms : List (List ℕ)) (o : Option (List ℕ)) → slice_get (put_above after ms o) 0 ≡ nearer_by after (slice_get ms 0) o
-head_above_by after ms None = refl
-head_above_by after ms (Some l) = elim (either (below after l)) [ inl t ↦ rw t (head_put ms l) | inr f ↦ rw f refl ]
+pub head_push_not_above : (day : ℕ → ℕ) (H : List Entry) (d : ℕ) (after : List ℕ) (e : Entry) (l : List ℕ) → login_on day d e.request e.reply ≡ Some l → below after l ≡ false → slice_get (logins_above day (H ++ e ∷ []) d after) 0 ≡ slice_get (logins_above day H d after) 0
+head_push_not_above day H d after e l h f = ap (λ (ls : List (List ℕ)). slice_get ls 0) (above_push_by day H d after e (Some l) h ∙ rw f refl)
 
-pub head_above_push : (day : ℕ → ℕ) (H : List Entry) (d : ℕ) (after : List ℕ) (e : Entry) → slice_get (logins_above day (H ++ e ∷ []) d after) 0 ≡ nearer_by after (slice_get (logins_above day H d after) 0) (login_on day d e.request e.reply)
-head_above_push day H d after e =
-    let o : Option (List ℕ) = login_on day d e.request e.reply in
-    ap (λ (ls : List (List ℕ)). slice_get ls 0) (above_push_by day H d after e o refl) ∙ head_above_by after (logins_above day H d after) o
+pub head_push_above : (day : ℕ → ℕ) (H : List Entry) (d : ℕ) (after : List ℕ) (e : Entry) (l : List ℕ) → login_on day d e.request e.reply ≡ Some l → below after l ≡ true → slice_get (logins_above day (H ++ e ∷ []) d after) 0 ≡ Some (nearer (slice_get (logins_above day H d after) 0) l)
+head_push_above day H d after e l h t = ap (λ (ls : List (List ℕ)). slice_get ls 0) (above_push_by day H d after e (Some l) h ∙ rw t refl) ∙ head_put (logins_above day H d after) l
+
+-- From login to login.
+
+no_head : (ls : List (List ℕ)) → slice_get ls 0 ≡ None → ls ≡ []
+no_head [] h = refl
+no_head (l ∷ ls) h = absurd (some_none l h)
+
+above_next : (day : ℕ → ℕ) (H : List Entry) (d : ℕ) (after l : List ℕ) (ls : List (List ℕ)) → logins_above day H d after ≡ ls → slice_get ls 0 ≡ Some l → logins_above day H d after ≡ l ∷ logins_above day H d l
+above_next day H d after l [] e h = absurd (some_none l (sym h))
+above_next day H d after l (m ∷ ms) e h =
+    let same : m ≡ l = some_is m l h in
+    let first : logins_above day H d after ≡ l ∷ ms = e ∙ ap (λ (x : List ℕ). x ∷ ms) same in
+    first ∙ ap (λ (xs : List (List ℕ)). l ∷ xs) (sym (above_first day H d after l ms first))
+
+-- the rows of the first n logins above `after`
+abbrev pub rows_of : (List ℕ → UsageRow) → (ℕ → ℕ) → List Entry → ℕ → ℕ → List ℕ → List UsageRow
+rows_of f day H d n after = map f (take n (logins_above day H d after))
+
+pub rows_end : (f : List ℕ → UsageRow) (day : ℕ → ℕ) (H : List Entry) (d n : ℕ) (after : List ℕ) (out all : List UsageRow) → out ++ rows_of f day H d n after ≡ all → slice_get (logins_above day H d after) 0 ≡ None → out ≡ all
+rows_end f day H d n after out all h none =
+    let nothing : rows_of f day H d n after ≡ [] = ap (λ (ls : List (List ℕ)). map f (take n ls)) (no_head _ none) ∙ nothing_of n in
+    sym (append-nil out) ∙ ap (λ (rs : List UsageRow). out ++ rs) (sym nothing) ∙ h
+  where
+    nothing_of : (n : ℕ) → map f (take n []) ≡ []
+    nothing_of zero = refl
+    nothing_of (suc n) = refl
+
+pub rows_more : (f : List ℕ → UsageRow) (day : ℕ → ℕ) (H : List Entry) (d i : ℕ) (after l : List ℕ) (out all : List UsageRow) → i < 100 → out ++ rows_of f day H d (100 - i) after ≡ all → slice_get (logins_above day H d after) 0 ≡ Some l → (out ++ f l ∷ []) ++ rows_of f day H d (100 - (i + 1)) l ≡ all
+rows_more f day H d i after l out all lt h some =
+    let k : 100 - i ≡ suc (100 - (i + 1)) = omega arith in
+    let one : rows_of f day H d (100 - i) after ≡ f l ∷ rows_of f day H d (100 - (i + 1)) l =
+      ap (λ n. rows_of f day H d n after) k ∙ ap (λ (ls : List (List ℕ)). map f (take (suc (100 - (i + 1))) ls)) (above_next day H d after l _ refl some) in
+    append_assoc out (f l ∷ []) (rows_of f day H d (100 - (i + 1)) l) ∙ ap (λ (rs : List UsageRow). out ++ rs) (sym one) ∙ h
+
+pub rows_all : (f : List ℕ → UsageRow) (day : ℕ → ℕ) (H : List Entry) (d i : ℕ) (after : List ℕ) (out all : List UsageRow) → 100 ≡ i → out ++ rows_of f day H d (100 - i) after ≡ all → out ≡ all
+rows_all f day H d i after out all e h =
+    let k : 100 - i ≡ 0 = omega arith in
+    sym (append-nil out) ∙ sym (ap (λ n. out ++ rows_of f day H d n after) k) ∙ h
+
+pub rows_page : (f : List ℕ → UsageRow) (day : ℕ → ℕ) (H : List Entry) (d : ℕ) (after : List ℕ) → rows_of f day H d 100 after ≡ map f (page day H d after)
+unfolding page
+rows_page f day H d after = refl

@@ -62,6 +62,11 @@ build day default rs = fold (appended day default) [] rs
 abbrev pub stored : List Entry → Id → Option Entry
 stored H id = find (λ e. has_id id e.request) H
 
+-- the entry with the number of a request, where it has one
+abbrev pub stored_by : List Entry → Option Id → Option Entry
+stored_by H None = None
+stored_by H (Some id) = stored H id
+
 -- the stored reply where the request is the same, Conflict where it differs, and the answer where
 -- its number isn't in H
 abbrev pub reply_by : (ℕ → ℕ) → ℕ → List Entry → Request → Id → Option Entry → Reply

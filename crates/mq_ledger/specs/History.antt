@@ -2,7 +2,7 @@
 --
 -- A history is a list of entries, oldest first: numbered requests, each with its reply. `day` gives
 -- the day of a moment.
-use Rattle.std.specs.Prelude.{ℕ, ◌+◌, List, map, find, sum_by, Bool, true, false, ◌==◌, ◌&&◌, not, if◌then◌else◌, Option, Some, None}
+use Rattle.std.specs.Prelude.{◌≡◌, ℕ, ◌+◌, List, map, find, sum_by, Bool, true, false, ◌==◌, ◌&&◌, not, if◌then◌else◌, Option, Some, None}
 use Rattle.std.specs.List.{list_any}
 use Rattle.mq_frame.specs.declared.message.Id.{Id}
 use Rattle.mq_frame.specs.declared.message.Request.{Request}
@@ -63,6 +63,11 @@ closes _ = false
 -- an entry of the transaction was replied Settled or Released
 abbrev pub closed : List Entry → Transaction → Bool
 closed H t = list_any (λ e. is_of t e.request && closes e.reply) H
+
+-- the transaction is open to requests of that moment and login
+pub record IsOpenTo (at : ℕ) (login : List ℕ) (H : List Entry) (t : Transaction) : Type 0 where
+  pub agreed : agrees at login (named H t) ≡ true
+  pub open_still : closed H t ≡ false
 
 -- the count of a granted reserve
 abbrev pub granted : Request → Reply → ℕ

@@ -34,6 +34,11 @@ put (m ∷ ms) l = if below l m then l ∷ m ∷ ms else (if below m l then m �
 abbrev pub ascending : List (List ℕ) → List (List ℕ)
 ascending ls = fold put [] ls
 
+-- the login, or one that was found before it where that is no later
+abbrev pub nearer : Option (List ℕ) → List ℕ → List ℕ
+nearer None l = l
+nearer (Some m) l = if below l m then l else m
+
 -- the logins above `after` that have a granted reserve on that day, in byte order
 unfoldable pub logins_above : (ℕ → ℕ) → List Entry → ℕ → List ℕ → List (List ℕ)
 logins_above day H d after = ascending (filter (below after) (logins_on day H d))

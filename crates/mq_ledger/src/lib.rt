@@ -5,9 +5,16 @@
 
 mod contract;
 mod entry;
+mod cap;
+mod first_over;
 pub mod laws;
+mod listing;
+mod plain;
+mod standing;
+mod totals;
 mod zone;
 
 pub use contract::{Ledger, LedgerFault};
 pub use entry::Entry;
+pub use plain::PlainLedger;
 pub use zone::{BadOffset, Zone};
