@@ -1,3 +1,5 @@
 pub mod Arguments
 pub mod Connections
+pub mod Keys
 pub mod Output
+pub mod Settings

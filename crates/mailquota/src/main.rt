@@ -4,6 +4,7 @@
 mod arguments;
 mod connections;
 mod output;
+mod settings;
 
 use arguments::{Arguments, ArgumentsFault};
 use std::process::ExitCode;
