@@ -1,7 +1,8 @@
 -- What settings mean, read off the table that the text spells.
-use Rattle.std.specs.Prelude.{◌≡◌, ℕ, ℤ, pos, negsuc, nat_le, int_le, ◌&&◌, ◌⊎◌, List, [], ◌∷◌, codes, bytes_eq, Option, None, Some, Result, Ok, Err, MatchOption, MatchResult, IsOkAnd, if◌then◌else◌}
+use Rattle.std.specs.Prelude.{◌≡◌, ℕ, ℤ, pos, negsuc, nat_le, int_le, ◌&&◌, ◌⊎◌, List, [], ◌∷◌, codes, bytes_eq, Option, None, Some, Result, Ok, Err, MatchOption, MatchResult, IsOkAnd, String, string_bytes, if◌then◌else◌}
 use Rattle.std.specs.Borrow.{Bor}
 use Rattle.std.specs.Str.{IsUtf8}
+use Rattle.std.specs.declared.alloc.Global.{Global}
 use Rattle.std.specs.Net.Grammar.{IsSocketText}
 use Rattle.std.specs.declared.net.SocketAddr.{SocketAddr}
 use Rattle.toml.specs.Data.{Data, Members, get_member, as_integer, as_str}
@@ -12,13 +13,23 @@ use Rattle.mq_frame.specs.Range.{IsHost}
 use Rattle.mailquota.specs.Keys.{key_name, filter_keys, server_keys, IsLeastUnknown, HasOnly}
 use Rattle.mailquota.specs.declared.settings.key.Key.{Key}
 use Rattle.mailquota.specs.declared.settings.key.Key.TheVariants.{Host, Server, Tries, Listen, Store, Default, Offset, Timeout, Log}
+use Rattle.mailquota.specs.declared.settings.value.Place.{Place}
+use Rattle.mailquota.specs.declared.settings.value.Place.TheVariants as place
+use Rattle.mailquota.specs.declared.settings.FilterSettings.{FilterSettings}
+use Rattle.mailquota.specs.declared.settings.ServerSettings.{ServerSettings}
 use Rattle.mailquota.specs.declared.settings.fault.SettingsFault.{SettingsFault}
-use Rattle.mailquota.specs.declared.settings.fault.SettingsFault.TheVariants.{Missing, Bad}
+use Rattle.mailquota.specs.declared.settings.fault.SettingsFault.TheVariants.{Text, Unknown, Missing, Bad, Memory}
 
 -- the text is UTF-8 and spells this table
 pub record Spells (text : List ℕ) (table : Members) : Type 0 where
   pub utf8 : IsUtf8 text
   pub document : parse_document text ≡ Some table
+
+-- why no table of these keys alone is read; want of memory may come before any other cause
+pub data IsTableRefusal (keys : List Key) (text : List ℕ) : SettingsFault → Type 0 where
+  memory : IsTableRefusal keys text Memory
+  no_table : ((table : Members) → ¬ Spells text table) → IsTableRefusal keys text Text
+  unknown_name : (table : Members) (name : String Global) → Spells text table → IsLeastUnknown keys table (string_bytes name) → IsTableRefusal keys text (Unknown name)
 
 -- ---- what the entry of one key gives: a value, or why there is none
 
@@ -92,3 +103,73 @@ level_of (Some entry) = level_in (as_str entry)
 
 abbrev pub level_at : Members → Result LevelFilter SettingsFault
 level_at table = level_of (get_member (key_name Log) table)
+
+-- milliseconds, up to a minute, or two seconds where the key is absent
+abbrev pub timeout_at : Members → Result ℕ SettingsFault
+timeout_at table = count_at Timeout 1 60000 (Ok 2000) table
+
+-- how often a request is sent, up to 10 times, or 3 times where the key is absent
+abbrev pub tries_at : Members → Result ℕ SettingsFault
+tries_at table = count_at Tries 1 10 (Ok 3) table
+
+-- the limit of a login that has none of its own
+abbrev pub default_at : Members → Result ℕ SettingsFault
+default_at table = count_at Default 0 1000000 (Err (Missing Default)) table
+
+-- where the ledger is kept
+abbrev pub store_named : List ℕ → Result Place SettingsFault
+store_named name = if bytes_eq name (codes "memory") then Ok place.Memory else Err (Bad Store)
+
+abbrev pub store_in : Option (List ℕ) → Result Place SettingsFault
+store_in None = Err (Bad Store)
+store_in (Some name) = store_named name
+
+abbrev pub store_of : Option Data → Result Place SettingsFault
+store_of None = Err (Missing Store)
+store_of (Some entry) = store_in (as_str entry)
+
+abbrev pub store_at : Members → Result Place SettingsFault
+store_at table = store_of (get_member (key_name Store) table)
+
+-- ---- the settings of a file
+
+-- one check fails, or passes and a later one fails
+abbrev pub FailsOr : {V : Type 0} → (Result V SettingsFault → Type 0) → (SettingsFault → Type 0) → SettingsFault → Type 0
+FailsOr {V} Reads Later e = Reads (Err e) ⊎ ((v : V) × Reads (Ok v) × Later e)
+
+-- the filter's settings are those of the table
+pub record IsFilterSettings (table : Members) (settings : FilterSettings) : Type 0 where
+  pub names : HasOnly filter_keys table
+  pub host : IsHostAt table (Ok settings.host)
+  pub server : IsAddressAt Server table (Ok settings.server)
+  pub tries : tries_at table ≡ Ok settings.tries
+  pub timeout : timeout_at table ≡ Ok settings.timeout
+  pub log : level_at table ≡ Ok settings.log
+
+-- the first of the filter's keys that gives no value
+abbrev pub IsFilterFault : Members → SettingsFault → Type 0
+IsFilterFault table e =
+    FailsOr (IsHostAt table) (FailsOr (IsAddressAt Server table) (FailsOr (λ r. tries_at table ≡ r) (FailsOr (λ r. timeout_at table ≡ r) (λ f. level_at table ≡ Err f)))) e
+
+-- why the filter's settings are refused
+abbrev pub IsFilterRefusal : List ℕ → SettingsFault → Type 0
+IsFilterRefusal text e = IsTableRefusal filter_keys text e ⊎ ((table : Members) × Spells text table × HasOnly filter_keys table × IsFilterFault table e)
+
+-- the server's settings are those of the table
+pub record IsServerSettings (table : Members) (settings : ServerSettings) : Type 0 where
+  pub names : HasOnly server_keys table
+  pub listen : IsAddressAt Listen table (Ok settings.listen)
+  pub store : store_at table ≡ Ok settings.store
+  pub default : default_at table ≡ Ok settings.default
+  pub offset : offset_at table ≡ Ok settings.offset
+  pub timeout : timeout_at table ≡ Ok settings.timeout
+  pub log : level_at table ≡ Ok settings.log
+
+-- the first of the server's keys that gives no value
+abbrev pub IsServerFault : Members → SettingsFault → Type 0
+IsServerFault table e =
+    FailsOr (IsAddressAt Listen table) (FailsOr (λ r. store_at table ≡ r) (FailsOr (λ r. default_at table ≡ r) (FailsOr (λ r. offset_at table ≡ r) (FailsOr (λ r. timeout_at table ≡ r) (λ f. level_at table ≡ Err f))))) e
+
+-- why the server's settings are refused
+abbrev pub IsServerRefusal : List ℕ → SettingsFault → Type 0
+IsServerRefusal text e = IsTableRefusal server_keys text e ⊎ ((table : Members) × Spells text table × HasOnly server_keys table × IsServerFault table e)

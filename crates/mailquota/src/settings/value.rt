@@ -2,7 +2,7 @@
 ghost use Rattle.std.specs.Prelude.{◌≡◌, ◌↔◌, ◌≤ℤ◌, pos, negsuc, Ok, Err, None, Some, ◌≢◌, IfOk, IfErr, IsTrue, ok_or};
 ghost use Rattle.toml.specs.View.{table_view};
 ghost use Rattle.mq_frame.specs.Range.{IsHost, IsHostByte};
-ghost use Rattle.mailquota.specs.Settings.{IsTextAt, IsHostAt, IsAddressAt, count_at, count_in, offset_in, offset_at, level_named, level_at};
+ghost use Rattle.mailquota.specs.Settings.{IsTextAt, IsHostAt, IsAddressAt, count_at, count_in, offset_in, offset_at, level_named, level_at, store_named, store_at};
 
 use crate::settings::fault::SettingsFault;
 use crate::settings::key::Key;
@@ -133,5 +133,35 @@ pub fn read_level(table: &Table) -> Result<LevelFilter, SettingsFault>
     match value.as_str().and_then(level_named) {
         Some(level) => Ok(level),
         None => Err(SettingsFault::Bad(Key::Log)),
+    }
+}
+
+/// Where the ledger is kept.
+#[derive(Clone, Copy, Debug, PartialEq, Eq)]
+pub enum Place {
+    /// In the memory of the server, for as long as it runs.
+    Memory,
+}
+
+/// The place of that name.
+fn place_named(name: &str) -> Result<Place, SettingsFault>
+    ensures { result ≡ store_named name.now }
+{
+    if name == "memory" {
+        return Ok(Place::Memory);
+    }
+    Err(SettingsFault::Bad(Key::Store))
+}
+
+/// Where the ledger is kept, which has to be said.
+pub fn read_place(table: &Table) -> Result<Place, SettingsFault>
+    ensures { result ≡ store_at (table_view table.now) }
+{
+    match value_at(table, Key::Store) {
+        None => Err(SettingsFault::Missing(Key::Store)),
+        Some(value) => match value.as_str() {
+            Some(name) => place_named(name),
+            None => Err(SettingsFault::Bad(Key::Store)),
+        },
     }
 }
