@@ -2,4 +2,5 @@ pub mod Arguments
 pub mod Connections
 pub mod Keys
 pub mod Output
+pub mod Printed
 pub mod Settings

@@ -4,6 +4,7 @@
 mod arguments;
 mod connections;
 mod output;
+mod printed;
 mod settings;
 
 use arguments::{Arguments, ArgumentsFault};
