@@ -1,0 +1,45 @@
+#!/usr/bin/env python3
+"""The ledger of ledger.py answers the worked examples of docs/LEDGER.md."""
+from ledger import replay
+
+I = lambda n: "01610000000000000001" + f"{n:08x}"
+T = "0000000100000000000151800175"
+U = "000705017500000001"
+ONE, TWO, THREE = "002101" + I(1) + T + "00000001", "002101" + I(2) + T + "00000002", "002101" + I(3) + T + "00000001"
+FOUR = ["001381" + I(1) + "00000001", "001381" + I(2) + "00000003", "001782" + I(3) + "0000000300000003"]
+
+EXAMPLES = {
+    "one reserve": ([[ONE]], [["001381" + I(1) + "00000001"]]),
+    "repeats over two connections": (
+        [[ONE] * 3, [ONE, U]],
+        [[FOUR[0]] * 3, [FOUR[0], "00138b017500000001000000000000000100000003"]],
+    ),
+    "other content under a used number": (
+        [[ONE, "002101" + I(1) + T + "00000002", U]],
+        [[FOUR[0], "000f8a" + I(1), "00138b017500000001000000000000000100000003"]],
+    ),
+    "three reserves at the cap": ([[ONE, TWO, THREE]], [FOUR]),
+    "release, then an old number again": (
+        [[ONE, TWO, THREE, "001d03" + I(4) + T, THREE, "002101" + I(5) + "00000002" + T[8:] + "00000001"]],
+        [FOUR + ["001384" + I(4) + "00000003", FOUR[2], "001381" + I(5) + "00000001"]],
+    ),
+    "reserve twice, settle once": (
+        [[ONE, "002101" + I(2) + T + "00000001", "002102" + I(3) + T + "00000001", U, "002102" + I(4) + T + "00000001"]],
+        [[
+            FOUR[0], "001381" + I(2) + "00000002", "001383" + I(3) + "00000001",
+            "00138b017500000001000000010000000000000003", "000f87" + I(4),
+        ]],
+    ),
+    "limits over later days": (
+        [[
+            ONE, TWO, THREE, "001904" + I(4) + "00000001000000020175", "001904" + I(5) + "00000001000000030175",
+            "001904" + I(6) + "00000000000000020175",
+        ]],
+        [FOUR + ["001786" + I(4) + "0000000100000003", "000f85" + I(5), "001786" + I(6) + "0000000100000003"]],
+    ),
+}
+
+for name, (asked, wanted) in EXAMPLES.items():
+    output, errors, status = replay([bytes.fromhex("".join(c)) for c in asked], 0, 3)
+    assert (output, errors, status) == ("".join("".join(c) + "\n" for c in wanted), "", 0), name
+print(f"{len(EXAMPLES)} examples, none differs")

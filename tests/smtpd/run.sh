@@ -1,0 +1,76 @@
+#!/bin/bash
+# A real smtpd with two listeners as two hosts, and one quota server: shows what is asked and answered by SMTP.
+#
+# usage: run.sh PROGRAM [SCRIPT [WORDS..]]
+#
+# Wants root, debootstrap, openssl, ip and python3, and once Debian's mirror: OpenSMTPD 7.6 speaks protocol 0.7, and
+# what older suites have doesn't. It is kept in SMTPD_ROOT (/var/tmp/mailquota-smtpd). Nothing outside that folder
+# is changed, no address but the loopback of a network namespace of its own is used, and all processes end with it.
+set -euo pipefail
+
+here=$(cd "$(dirname "$0")" && pwd)
+program=$(realpath "$1")
+script=${2:-$here/ask.py}
+shift $(($# < 2 ? $# : 2))
+root=${SMTPD_ROOT:-/var/tmp/mailquota-smtpd}
+mirror=$(cat /etc/apt/sources.list /etc/apt/sources.list.d/* 2>/dev/null | grep -v '^#' |
+    grep -oE 'https?://[^ ]+/debian/?' | head -n 1 || true)
+
+if [ "$(id -u)" -ne 0 ]; then
+    echo 'run.sh: smtpd wants root' >&2
+    exit 1
+fi
+if [ ! -x "$root/usr/sbin/smtpd" ]; then
+    rm -rf "$root"
+    debootstrap --variant=minbase --include=opensmtpd,ca-certificates trixie "$root" "${mirror:-http://deb.debian.org/debian}" >&2
+fi
+
+etc=$root/etc/mailquota
+mkdir -p "$etc"
+printf '#!/bin/sh\nexit 101\n' >"$root/usr/sbin/policy-rc.d"
+chmod +x "$root/usr/sbin/policy-rc.d"
+: >"$root/etc/resolv.conf"
+echo quota.test >"$root/etc/mailname"
+install -m 755 "$program" "$root/usr/libexec/opensmtpd/mailquota"
+[ -f "$etc/key.pem" ] || openssl req -x509 -newkey rsa:2048 -nodes -days 3650 -subj /CN=quota.test \
+    -keyout "$etc/key.pem" -out "$etc/cert.pem" 2>/dev/null
+chmod 600 "$etc/key.pem"
+: >"$etc/credentials"
+for login in u01 u02 u03 u04 u05 u06 u07 u08; do
+    printf '%s %s\n' "$login" "$(openssl passwd -6 secret)" >>"$etc/credentials"
+done
+chown root:opensmtpd "$etc/credentials" 2>/dev/null || chmod 644 "$etc/credentials"
+chmod 644 "$etc/credentials"
+for host in 1 2; do
+    cat >"$etc/filter$host.toml" <<FILTER
+host = "mx$host.quota.test"
+server = "127.0.0.1:7025"
+tries = 2
+timeout = 1000
+FILTER
+done
+cat >"$etc/server.toml" <<'SERVER'
+listen = "127.0.0.1:7025"
+store = "memory"
+default = 3
+offset = 0
+timeout = 500
+SERVER
+cat >"$etc/smtpd.conf" <<'CONF'
+pki quota.test cert "/etc/mailquota/cert.pem"
+pki quota.test key "/etc/mailquota/key.pem"
+table credentials file:/etc/mailquota/credentials
+filter quota1 proc-exec "/usr/libexec/opensmtpd/mailquota filter --config /etc/mailquota/filter1.toml"
+filter quota2 proc-exec "/usr/libexec/opensmtpd/mailquota filter --config /etc/mailquota/filter2.toml"
+listen on 127.0.0.1 port 2501 tls pki quota.test auth-optional <credentials> filter quota1
+listen on 127.0.0.1 port 2502 tls pki quota.test auth-optional <credentials> filter quota2
+action "sink" mda "cat >/dev/null" virtual { "@" = nobody }
+match from any for any action "sink"
+CONF
+
+export SMTPD_ROOT=$root
+exec unshare --mount --net --pid --fork --kill-child --mount-proc bash -c '
+    ip link set lo up
+    mount --bind /proc "$SMTPD_ROOT/proc"
+    mount --bind /dev "$SMTPD_ROOT/dev"
+    exec python3 "$@"' smtpd "$script" "$@"
