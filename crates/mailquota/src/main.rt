@@ -6,6 +6,8 @@ mod connections;
 mod output;
 mod printed;
 mod settings;
+#[cfg(test)]
+mod tests;
 
 use arguments::{Arguments, ArgumentsFault};
 use std::process::ExitCode;

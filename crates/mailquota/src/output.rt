@@ -39,7 +39,11 @@ pub fn write_whole<W: Write>(output: &mut W, bytes: &[u8]) -> Result<(), OutputF
 }
 
 /// Writes the bytes as one line of hexadecimal in lower case.
-fn write_hex_line<W: Write>(alloc: Global, output: &mut W, bytes: &[u8]) -> Result<(), OutputFault>
+pub fn write_hex_line<W: Write>(
+    alloc: Global,
+    output: &mut W,
+    bytes: &[u8],
+) -> Result<(), OutputFault>
     ensures whole { OnOk result (Appends (W.contents output.old) (W.contents output.new) (hex_line bytes.now)) }
     ensures front { AppendsFront (W.contents output.old) (W.contents output.new) (hex_line bytes.now) }
 {
