@@ -1,0 +1,4 @@
+pub mod Fronts
+pub mod LineSteps
+pub mod SettingsFaults
+pub mod TableNames

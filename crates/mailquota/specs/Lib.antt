@@ -1,0 +1,6 @@
+pub mod Arguments
+pub mod Connections
+pub mod Keys
+pub mod Output
+pub mod Printed
+pub mod Settings
