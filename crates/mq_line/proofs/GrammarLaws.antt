@@ -141,27 +141,30 @@ some_moment (Some n) h = (n, refl)
 
 some_stamp : (version time : List ℕ) (names : List (List ℕ)) → stamp_fault version time names ≡ None → (seconds : ℕ) × IsStamp version time names seconds
 some_stamp version time names h = elim (chosen (not (bytes_eq version (codes "0.7"))) _ _ _ h) [
-    | inl v ↦ absurd (clash Version v.1)
-    | inr v ↦ (elim (chosen (is_none (seconds_of time)) _ _ _ v.1) [
-      | inl t ↦ absurd (clash Time t.1)
-      | inr t ↦ (elim (chosen (list_any is_empty names) _ _ _ t.1) [
-        | inl n ↦ absurd (clash EmptyField n.1)
-        | inr n ↦
-            (let m = some_moment (seconds_of time) t.0 in (m.0, record {
+  | inl v ↦ absurd (clash Version v.1)
+  | inr v ↦ (elim (chosen (is_none (seconds_of time)) _ _ _ v.1) [
+    | inl t ↦ absurd (clash Time t.1)
+    | inr t ↦ (elim (chosen (list_any is_empty names) _ _ _ t.1) [
+      | inl n ↦ absurd (clash EmptyField n.1)
+      | inr n ↦
+          (let m = some_moment (seconds_of time) t.0 in (
+            m.0,
+            record {
               protocol = equals version (codes "0.7") (not-false _ v.0);
               moment = m.1;
               named = all_named names n.0;
-            }))
-      ])
+            },
+          ))
     ])
-  ]
+  ])
+]
 
 some_config : (more : List (List ℕ)) → config_fault more ≡ None → (m : Meaning) × Means (codes "config" ∷ more) m
 some_config [] h = absurd (clash Short h)
 some_config (second ∷ []) h = elim (chosen (bytes_eq second (codes "ready")) _ _ _ h) [
-    | inl r ↦ (ReadyLine, ap (λ (w : List ℕ). codes "config" ∷ w ∷ []) (equals second (codes "ready") r.0))
-    | inr r ↦ absurd (clash Short r.1)
-  ]
+  | inl r ↦ (ReadyLine, ap (λ (w : List ℕ). codes "config" ∷ w ∷ []) (equals second (codes "ready") r.0))
+  | inr r ↦ absurd (clash Short r.1)
+]
 some_config (key ∷ first ∷ more) h = (ConfigLine key (joined (first ∷ more)), (first, more, refl, refl))
 
 some_report : (more : List (List ℕ)) → report_fault more ≡ None → (m : Meaning) × Means (codes "report" ∷ more) m
@@ -187,15 +190,15 @@ some_filter (version ∷ time ∷ subsystem ∷ phase ∷ session ∷ token ∷ 
 
 some_fields : (first : List ℕ) (more : List (List ℕ)) → first_fault (first ∷ more) ≡ None → (m : Meaning) × Means (first ∷ more) m
 some_fields first more h = elim (chosen (bytes_eq first (codes "config")) _ _ _ h) [
-    | inl a ↦ (let m = some_config more a.1 in (m.0, subst (λ (w : List ℕ). Means (w ∷ more) m.0) (sym (equals first (codes "config") a.0)) m.1))
-    | inr a ↦ (elim (chosen (bytes_eq first (codes "report")) _ _ _ a.1) [
-      | inl b ↦ (let m = some_report more b.1 in (m.0, subst (λ (w : List ℕ). Means (w ∷ more) m.0) (sym (equals first (codes "report") b.0)) m.1))
-      | inr b ↦ (elim (chosen (bytes_eq first (codes "filter")) _ _ _ b.1) [
-        | inl c ↦ (let m = some_filter more c.1 in (m.0, subst (λ (w : List ℕ). Means (w ∷ more) m.0) (sym (equals first (codes "filter") c.0)) m.1))
-        | inr c ↦ (OtherLine, (first, more, refl, unlike first _ a.0, unlike first _ b.0, unlike first _ c.0))
-      ])
+  | inl a ↦ (let m = some_config more a.1 in (m.0, subst (λ (w : List ℕ). Means (w ∷ more) m.0) (sym (equals first (codes "config") a.0)) m.1))
+  | inr a ↦ (elim (chosen (bytes_eq first (codes "report")) _ _ _ a.1) [
+    | inl b ↦ (let m = some_report more b.1 in (m.0, subst (λ (w : List ℕ). Means (w ∷ more) m.0) (sym (equals first (codes "report") b.0)) m.1))
+    | inr b ↦ (elim (chosen (bytes_eq first (codes "filter")) _ _ _ b.1) [
+      | inl c ↦ (let m = some_filter more c.1 in (m.0, subst (λ (w : List ℕ). Means (w ∷ more) m.0) (sym (equals first (codes "filter") c.0)) m.1))
+      | inr c ↦ (OtherLine, (first, more, refl, unlike first _ a.0, unlike first _ b.0, unlike first _ c.0))
     ])
-  ]
+  ])
+]
 
 -- what has no fault means something
 pub some_meaning : (line : List ℕ) → first_fault (fields line) ≡ None → (m : Meaning) × Means (fields line) m

@@ -45,13 +45,13 @@ onto_first-append x (p ∷ ps) qs some = refl
 pub pieces-append : (c : ℕ) (front : List ℕ) (y : ℕ) (back : List ℕ) → eqb y c ≡ true → pieces c (front ++ y ∷ back) ≡ pieces c front ++ pieces c back
 pieces-append c [] y back e = rw e refl
 pieces-append c (x ∷ front) y back e = elim (cases_Bool (eqb x c)) [
-    | inl t ↦ rw (t, pieces-append c front y back e) refl
-    | inr f ↦ rw (f, pieces-append c front y back e) (onto_first-append x (pieces c front) (pieces c back) (omega (arith, length-slice_split (λ b. eqb b c) front)))
-  ]
+  | inl t ↦ rw (t, pieces-append c front y back e) refl
+  | inr f ↦ rw (f, pieces-append c front y back e) (onto_first-append x (pieces c front) (pieces c back) (omega (arith, length-slice_split (λ b. eqb b c) front)))
+]
 
 -- what stands behind the last byte c is the last piece
 pub last_piece : (c : ℕ) (bytes : List ℕ) (k : ℕ) → NoneAfter (Passes (is_byte c) bytes) 0 (length bytes) k × Passes (is_byte c) bytes k → pieces c bytes ≡ pieces c (take k bytes) ++ drop (k + 1) bytes ∷ []
-last_piece c bytes k h = 
+last_piece c bytes k h =
     let last : pieces c (drop (k + 1) bytes) ≡ drop (k + 1) bytes ∷ [] = slice_split_none (λ b. eqb b c) (drop (k + 1) bytes) (none_after c bytes k (omega (arith, h.0.high)) h.0.after) in
     ap (λ (l : List ℕ). slice_split (λ b. eqb b c) l) (split_around bytes k h.0.high)
     ∙ pieces-append c (take k bytes) (get_or bytes k 0) (drop (k + 1) bytes) h.1
@@ -61,9 +61,9 @@ last_piece c bytes k h =
 pub some_piece : (c : ℕ) (bytes : List ℕ) → (first : List ℕ) × (more : List (List ℕ)) × (pieces c bytes ≡ first ∷ more)
 some_piece c [] = ([], [], refl)
 some_piece c (x ∷ bytes) = elim (cases_Bool (eqb x c)) [
-    | inl t ↦ ([], pieces c bytes, rw t refl)
-    | inr f ↦ (let p = some_piece c bytes in (x ∷ p.0, p.1, rw (f, p.2) refl))
-  ]
+  | inl t ↦ ([], pieces c bytes, rw t refl)
+  | inr f ↦ (let p = some_piece c bytes in (x ∷ p.0, p.1, rw (f, p.2) refl))
+]
 
 -- bytes other than c stay in front of the first piece
 pub pieces-front : (c : ℕ) (w bs first : List ℕ) (more : List (List ℕ)) → All (λ x. eqb x c ≡ false) w → pieces c bs ≡ first ∷ more → pieces c (w ++ bs) ≡ (w ++ first) ∷ more
@@ -82,6 +82,6 @@ onto_first-lacks c x (p ∷ ps) ne h = (All-cons (λ b. b ≢ c) x p ne h.0, h.1
 pub pieces-lack : (c : ℕ) (bytes : List ℕ) → AllByRecursion (Lacks c) (pieces c bytes)
 pieces-lack c [] = (All-nil (λ b. b ≢ c), tt)
 pieces-lack c (x ∷ bytes) = elim (cases_Bool (eqb x c)) [
-    | inl t ↦ rw t (All-nil (λ b. b ≢ c), pieces-lack c bytes)
-    | inr f ↦ rw f (onto_first-lacks c x (pieces c bytes) (eqb-false _ _ f) (pieces-lack c bytes))
-  ]
+  | inl t ↦ rw t (All-nil (λ b. b ≢ c), pieces-lack c bytes)
+  | inr f ↦ rw f (onto_first-lacks c x (pieces c bytes) (eqb-false _ _ f) (pieces-lack c bytes))
+]

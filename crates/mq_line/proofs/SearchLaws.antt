@@ -39,8 +39,7 @@ line_found held searched end place s is found =
     let le : end ≤ length held = omega arith in
     let n : length (unsearched held searched end) ≡ end - searched = length-unsearched held searched end le in
     let inside : place < end - searched = omega (arith, found.0.high) in
-    let lf : get_or held (searched + place) 0 ≡ 10 = sym (byte_of held searched end place inside) ∙ eqb-true _ _ found.1 in
-    (
+    let lf : get_or held (searched + place) 0 ≡ 10 = sym (byte_of held searched end place inside) ∙ eqb-true _ _ found.1 in (
       record {
         one = nowhere_lacks held searched end place le (omega arith) (omega (arith, s.inside, s.enough)) s.none found.0.before;
         short = omega (arith, length-take-le (searched + place) held (omega arith));
@@ -61,8 +60,7 @@ searched_all held searched end s is none =
 pub endless : (held : List ℕ) (searched end : ℕ) → IsSearched held searched → end ≡ min (length held) 65537 → Nowhere (Passes (is_byte 10) (unsearched held searched end)) 0 (length (unsearched held searched end)) → 65536 < end → IsTooLong held × IsSearched held 65537
 endless held searched end s is none long =
     let full : end ≡ 65537 = omega arith in
-    let lacks : Lacks 10 (take 65537 held) = subst (λ (m : ℕ). Lacks 10 (take m held)) full (searched_all held searched end s is none) in
-    (
+    let lacks : Lacks 10 (take 65537 held) = subst (λ (m : ℕ). Lacks 10 (take m held)) full (searched_all held searched end s is none) in (
       record {
         front = take 65537 held;
         rest = drop 65537 held;

@@ -1,6 +1,6 @@
 -- The lines of a text that comes in pieces.
 use Rattle.std.specs.Prelude.{◌≡◌, ◌<◌, ◌≤◌, ℕ, List, [], ◌∷◌, ◌++◌, length, nat_lt, if◌then◌else◌, Option, None, Some, Result, Ok, Err}
-use Rattle.std.specs.List.{AllByRecursion, flat_map, join_with_byte}
+use Rattle.std.specs.List.{AllByRecursion, join_with_byte}
 use Rattle.std.specs.Borrow.{Bor}
 use Rattle.mq_line.specs.Pieces.{pieces, Lacks}
 use Rattle.mq_line.specs.declared.faults.FeedFault.{FeedFault}
@@ -20,7 +20,8 @@ pub record IsTooLong (bytes : List ℕ) : Type 0 where
 
 -- lines, with an LF after each
 abbrev pub text_of : List (List ℕ) → List ℕ
-text_of ls = flat_map (λ line. line ++ 10 ∷ []) ls
+text_of [] = []
+text_of (line ∷ ls) = line ++ 10 ∷ text_of ls
 
 -- the pieces that stand before an LF, up to one that is too long
 abbrev pub lines_among : List (List ℕ) → List (List ℕ)
@@ -47,11 +48,20 @@ pub record Holds (text : List ℕ) (taken : List (List ℕ)) (held : List ℕ) :
   pub whole : text ≡ text_of taken ++ held
   pub each : AllByRecursion IsLine taken
 
--- the bytes that leave a feed with what it gives: a line and its LF, or none
-abbrev pub bytes_taken : Result (Option (Bor (List ℕ))) FeedFault → List ℕ
-bytes_taken (Ok (Some line)) = line.now ++ 10 ∷ []
-bytes_taken (Ok None) = []
-bytes_taken (Err e) = []
+-- whatever text was fed, all its lines were taken: what is held is what follows them
+abbrev pub HasNoLine : List ℕ → Type 0
+HasNoLine held = (text : List ℕ) (taken : List (List ℕ)) → Holds text taken held → (lines text ≡ taken) × (left text ≡ held)
+
+-- the line that a feed gives, or none
+abbrev pub given : Result (Option (Bor (List ℕ))) FeedFault → List (List ℕ)
+given (Ok (Some line)) = line.now ∷ []
+given (Ok None) = []
+given (Err e) = []
+
+-- giving it takes the line and its LF from what was held, and else nothing
+pub record Leaves (old : List ℕ) (answer : Result (Option (Bor (List ℕ))) FeedFault) (held : List ℕ) : Type 0 where
+  pub bytes : old ≡ text_of (given answer) ++ held
+  pub holds : (text : List ℕ) (taken : List (List ℕ)) → Holds text taken old → Holds text (taken ++ given answer) held
 
 -- the lines that come where pieces are fed to what is held already, and all lines are taken after each piece
 abbrev pub lines_by_piece : List ℕ → List (List ℕ) → List (List ℕ)

@@ -6,7 +6,7 @@ ghost use Rattle.mq_line.specs.Parameters.{result_of as result_lem, auth_at_end 
 
 use crate::fields::{first_field, last_field, rest_of};
 
-/// The result of an authentication, as link-auth reports it.
+/// The result of an authentication, as a link-auth report has it.
 #[derive(Clone, Copy, Debug, PartialEq, Eq)]
 pub enum AuthResult {
     Pass,
@@ -14,6 +14,7 @@ pub enum AuthResult {
     Error,
 }
 
+/// The result that a word stands for.
 fn result_of(word: &[u8]) -> Option<AuthResult>
     ensures { result ≡ result_lem word.now }
 {
@@ -36,6 +37,11 @@ fn auth_at_end<'a>(params: &'a [u8]) -> Option<(AuthResult, &'a [u8])>
     }
 }
 
+/// The result and the user name in the parameters of a link-auth, which may stand in either order.
+///
+/// The result is the first field where that is `pass`, `fail` or `error`, and then the rest is the name.
+/// Else it is the last field where that is one of these, and the name is what stands before its bar. The
+/// name may be empty and may have bars in it. With neither, there is no answer.
 pub fn auth_of<'a>(params: &'a [u8]) -> Option<(AuthResult, &'a [u8])>
     ensures { option_map (λ found. (found.0, found.1.now)) result ≡ auth params.now }
 {
@@ -46,6 +52,7 @@ pub fn auth_of<'a>(params: &'a [u8]) -> Option<(AuthResult, &'a [u8])>
     }
 }
 
+/// The message id in the parameters of a report on a transaction: the first field, where it isn't empty.
 pub fn message_of<'a>(params: &'a [u8]) -> Option<&'a [u8]>
     ensures { option_copied result ≡ message params.now }
 {

@@ -8,36 +8,45 @@ ghost use Rattle.mq_line.specs.Grammar.{Meaning, meaning, Means, Reads, is_numbe
 use crate::faults::LineFault;
 use crate::fields::{first_field, next_field, rest_of};
 
-/// A line of smtpd, taken apart. The parts are slices of the line.
+/// A line of smtpd, taken apart. Its parts are slices of the line, byte for byte.
 #[derive(Clone, Copy, Debug, PartialEq, Eq)]
 pub enum Line<'a> {
+    /// `config|KEY|VALUE`: the value may have bars in it.
     Config {
         key: &'a [u8],
         value: &'a [u8],
     },
+    /// `config|ready`: smtpd waits for the registration.
     Ready,
+    /// `report|0.7|TIME|SUBSYSTEM|EVENT|SESSION|PARAMS`, where no parameters may follow.
     Report {
+        /// Whole seconds since 1970-01-01T00:00:00Z: below 10 to the power of 18.
         seconds: u64,
         subsystem: &'a [u8],
         event: &'a [u8],
         session: &'a [u8],
+        /// The fields behind the session, with the bars between them.
         params: &'a [u8],
     },
+    /// `filter|0.7|TIME|SUBSYSTEM|PHASE|SESSION|TOKEN|REST`, where nothing may follow the token.
     Filter {
+        /// As in a report.
         seconds: u64,
         subsystem: &'a [u8],
         phase: &'a [u8],
         session: &'a [u8],
         token: &'a [u8],
+        /// The fields behind the token, with the bars between them.
         rest: &'a [u8],
     },
+    /// A line that begins with another word, or with none.
     Other,
 }
 
-/// The most digits of the seconds of a time: such a number fits a `u64`.
+/// The most digits before the point of a time. Such a number fits a `u64`.
 const MAX_SECOND_DIGITS: usize = 18;
 
-/// The most digits behind the point of a time.
+/// The most digits behind the point.
 const MAX_FRACTION_DIGITS: usize = 9;
 
 fn are_digits(bytes: &[u8]) -> bool
@@ -46,6 +55,7 @@ fn are_digits(bytes: &[u8]) -> bool
     bytes.iter().all(|byte| byte.is_ascii_digit())
 }
 
+/// Whether these may stand behind the point of a time.
 fn is_fraction(digits: &[u8]) -> bool
     ensures { result ≡ is_number 9 digits.now }
 {
@@ -55,7 +65,7 @@ fn is_fraction(digits: &[u8]) -> bool
     are_digits(digits)
 }
 
-/// The seconds of a time such as `1576146008.006099`.
+/// The seconds of a time such as `1576146008.006099`. The part behind the point isn't used.
 fn seconds_of(time: &[u8]) -> Option<u64>
     ensures { result ≡ seconds_lem time.now }
 {
@@ -82,8 +92,8 @@ fn has_empty(names: &[&[u8]]) -> bool
     names.iter().any(|name| name.is_empty())
 }
 
-/// The seconds of the time that stands in a report or filter line beside this version and these
-/// fields, which may not be empty.
+/// The seconds of a report or filter line with this version, this time and these names, none of which
+/// may be empty.
 fn read_stamp(version: &[u8], time: &[u8], names: &[&[u8]]) -> Result<u64, LineFault>
     ensures { MatchResult result
         (λ seconds. IsStamp version.now time.now (map (λ name. name.now) names.now) seconds)
@@ -172,13 +182,17 @@ fn read_fields<'a>(line: &'a [u8]) -> Result<Line<'a>, LineFault>
     }
 }
 
-/// Takes a line apart, which stands without its LF.
+/// Takes apart a line of smtpd, which stands without its LF.
+///
+/// A line that begins with `config`, `report` or `filter` and has too few fields is `Short`. A report or
+/// filter line is then refused for its `Version`, its `Time` or an `EmptyField`, the first that applies. Any
+/// other line is read.
 pub fn read_line<'a>(line: &'a [u8]) -> Result<Line<'a>, LineFault>
-    // What is answered is what the line says.
+    // What is answered is what the line means.
     ensures found { IfOk result (λ v. Reads line.now (meaning v)) }
-    // What the line says is answered.
+    // What the line means is answered.
     ensures only { (m : Meaning) → Reads line.now m → IsOkAnd result (λ v. meaning v ≡ m) }
-    // Where it says nothing, the first of its faults is.
+    // The fault is the first that the line has, and is answered wherever it has one.
     ensures fault { IfErr result (λ e. fault_lem line.now ≡ Some e) }
     ensures refused { (e : LineFault) → fault_lem line.now ≡ Some e → result ≡ Err e }
 {

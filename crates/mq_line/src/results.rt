@@ -1,17 +1,21 @@
-//! What a filter writes.
+//! What a filter writes to smtpd.
 ghost use Rattle.std.specs.Prelude.{◌≡◌, ◌++◌, OnOk, OnErr, vec_len, take};
 ghost use Rattle.mq_line.specs.Results.{registration, answer as answer_lem, result_text};
 
 use crate::faults::Memory;
 
-/// What smtpd is to do with a request.
+/// What smtpd is to do with a request of a filter line.
 #[derive(Clone, Copy, Debug, PartialEq, Eq)]
 pub enum Decision {
+    /// Let it through.
     Proceed,
+    /// Refuse it for good: 550, rejected for policy reasons (RFC 5321).
     RejectLimit,
+    /// Refuse it for now: 451, aborted by a local error (RFC 5321).
     RejectService,
 }
 
+/// The field of a result line that says so.
 fn answer_of(decision: Decision) -> &'static [u8]
     ensures { result.now ≡ answer_lem decision }
 {
@@ -22,6 +26,7 @@ fn answer_of(decision: Decision) -> &'static [u8]
     }
 }
 
+/// The six reports and the one request that a quota filter asks for.
 const REGISTRATION: &[u8] = b"register|report|smtp-in|link-auth
 register|report|smtp-in|link-disconnect
 register|report|smtp-in|tx-begin
@@ -32,7 +37,8 @@ register|filter|smtp-in|rcpt-to
 register|ready
 ";
 
-/// Appends the registration.
+/// Appends the registration, the first that a filter writes, after `config|ready`. With `Memory` nothing is
+/// appended.
 pub fn write_registration(out: &mut Vec<u8>) -> Result<(), Memory>
     ensures ok { OnOk result (out.new.items ≡ out.old.items ++ registration) }
     ensures err { OnErr result (out.new.items ≡ out.old.items) }
@@ -41,7 +47,7 @@ pub fn write_registration(out: &mut Vec<u8>) -> Result<(), Memory>
     Ok(())
 }
 
-/// Appends the result, or a part of it where memory runs out.
+/// Appends a result line, or a front of it where memory runs out.
 fn push_result(
     out: &mut Vec<u8>,
     session: &[u8],
@@ -61,6 +67,8 @@ fn push_result(
     Ok(())
 }
 
+/// Appends the answer to the filter line with this session and this token, `filter-result` in protocol 0.7.
+/// With `Memory` nothing is appended.
 pub fn write_result(
     session: &[u8],
     token: &[u8],
