@@ -27,7 +27,9 @@ pub(crate) fn last_field<'a>(text: &'a [u8]) -> (&'a [u8], &'a [u8])
 }
 
 /// The next field of what is left of a line, and what is left behind it. `Short` where nothing is left.
-pub(crate) fn next_field<'a>(left: Option<&'a [u8]>) -> Result<(&'a [u8], Option<&'a [u8]>), LineFault>
+pub(crate) fn next_field<'a>(
+    left: Option<&'a [u8]>,
+) -> Result<(&'a [u8], Option<&'a [u8]>), LineFault>
     ensures { MatchResult result (λ r. fields_left left.entry ≡ r.0.now ∷ fields_left r.1)
         (λ fault. (fault ≡ Short) × (fields_left left.entry ≡ [])) }
 {
