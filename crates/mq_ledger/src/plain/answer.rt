@@ -74,13 +74,7 @@ impl PlainLedger {
         }
     }
 
-    fn answer_release(
-        &self,
-        id: &Id,
-        txn: u32,
-        at: u64,
-        login: &Login,
-    ) -> Result<Reply, AllocError>
+    fn answer_release(&self, id: &Id, txn: u32, at: u64, login: &Login) -> Result<Reply, AllocError>
         ensures { IfOk result (λ a. a ≡ answer (day_of self.now.zone) self.now.default self.now.history
             (Request.Release id.now txn at login.now)) }
     {

@@ -29,12 +29,12 @@ returns-in_ok-clone c = elim (option_cases c.in_ok-refused.field-0) [
   | inl none ↦ (let id = c.args.id.now in
       let same : c.in_ok-clone.field-0 ≡ id = (let e = c.in_ok-clone.ensures.cases in λ i. record { host = e.0 i; run = e.1.0 i; seq = e.1.1 i }) in
       rw (← c.self.view_is) (answered _ id c.in_ok-clone.field-0 c.args.txn c.args.at c.args.login.now c.args.count c.used-used.result c.cap-cap.result _ _
-        (λ i. Full i c.used-used.result c.cap-cap.result)
-        (rw (none, c.deref.ensures.value) at c.in_ok-refused.ensures)
-        same
-        (rw (c.deref-2.ensures.value, c.day-day.ensures.value) at c.used-used.ensures)
-        (rw (c.deref-3.ensures.value, c.day-day.ensures.value) at c.cap-cap.ensures)
-        (full_answer id c.used-used.result c.cap-cap.result c.args.count c.if-cap-used.true)))
+      (λ i. Full i c.used-used.result c.cap-cap.result)
+      (rw (none, c.deref.ensures.value) at c.in_ok-refused.ensures)
+      same
+      (rw (c.deref-2.ensures.value, c.day-day.ensures.value) at c.used-used.ensures)
+      (rw (c.deref-3.ensures.value, c.day-day.ensures.value) at c.cap-cap.ensures)
+      (full_answer id c.used-used.result c.cap-cap.result c.args.count c.if-cap-used.true)))
 ]
 
 pub returns-in_ok-clone-2 : goal.returns-in_ok-clone-2
@@ -43,10 +43,10 @@ returns-in_ok-clone-2 c = elim (option_cases c.in_ok-refused.field-0) [
   | inl none ↦ (let id = c.args.id.now in
       let same : c.in_ok-clone-2.field-0 ≡ id = (let e = c.in_ok-clone-2.ensures.cases in λ i. record { host = e.0 i; run = e.1.0 i; seq = e.1.1 i }) in
       rw (← c.self.view_is) (answered _ id c.in_ok-clone-2.field-0 c.args.txn c.args.at c.args.login.now c.args.count c.used-used.result c.cap-cap.result _ _
-        (λ i. Granted i (c.used-used.result + c.args.count))
-        (rw (none, c.deref.ensures.value) at c.in_ok-refused.ensures)
-        same
-        (rw (c.deref-2.ensures.value, c.day-day.ensures.value) at c.used-used.ensures)
-        (rw (c.deref-3.ensures.value, c.day-day.ensures.value) at c.cap-cap.ensures)
-        (granted_answer id c.used-used.result c.cap-cap.result c.args.count c.if-cap-used.false)))
+      (λ i. Granted i (c.used-used.result + c.args.count))
+      (rw (none, c.deref.ensures.value) at c.in_ok-refused.ensures)
+      same
+      (rw (c.deref-2.ensures.value, c.day-day.ensures.value) at c.used-used.ensures)
+      (rw (c.deref-3.ensures.value, c.day-day.ensures.value) at c.cap-cap.ensures)
+      (granted_answer id c.used-used.result c.cap-cap.result c.args.count c.if-cap-used.false)))
 ]
