@@ -9,6 +9,7 @@ mod connection;
 mod connections;
 mod fault;
 mod input;
+pub mod laws;
 mod output;
 
 pub use connection::{Served, serve};
