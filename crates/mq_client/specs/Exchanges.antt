@@ -97,8 +97,8 @@ decisions (x ∷ group) = if is_some (decided_by x.mark) then decisions group + 
 -- From the front of a queue, each request is tried, and the next one only where a reply decides. So far
 -- the exchanges are these, and these requests are left.
 pub data SendsSome (n : ℕ) (queue : List Request) : List Exchange → List Request → Type 0 where
-  none : SendsSome n queue [] queue
-  more : (request : Request) (left : List Request) (group tries : List Exchange) (reply : Reply)
+  NoneYet : SendsSome n queue [] queue
+  OneMore : (request : Request) (left : List Request) (group tries : List Exchange) (reply : Reply)
       → SendsSome n queue group (request ∷ left) → AreTries n request tries (Some reply) → SendsSome n queue (tries ++ group) left
 
 -- no reply decides the request: all its tries fail, or a growth for its frame is refused
@@ -108,9 +108,14 @@ IsUndecided n request (x ∷ tries) = AreTries n request (x ∷ tries) None
 
 -- sent from the front of the queue until it is empty, or until no reply decides a request, which stays first
 pub data Sends (n : ℕ) (queue : List Request) : List Exchange → List Request → Type 0 where
-  all : (group : List Exchange) → SendsSome n queue group [] → Sends n queue group []
-  some : (request : Request) (left : List Request) (group tries : List Exchange)
+  SendsAll : (group : List Exchange) → SendsSome n queue group [] → Sends n queue group []
+  StopsAt : (request : Request) (left : List Request) (group tries : List Exchange)
       → SendsSome n queue group (request ∷ left) → IsUndecided n request tries → Sends n queue (tries ++ group) (request ∷ left)
+
+-- the exchanges of a request that one call sent: whether a reply decided it
+abbrev pub IsSent : ℕ → Request → List Exchange → Bool → Type 0
+IsSent n request tries true = (reply : Reply) × AreTries n request tries (Some reply)
+IsSent n request tries false = IsUndecided n request tries
 
 -- an exchange as the link tells it
 abbrev pub told_of : Exchange → Told

@@ -43,10 +43,11 @@ abbrev pub answer_of : List Exchange → Asked
 answer_of [] = asked.Unavailable
 answer_of (x ∷ group) = answer_by (decided_by x.mark)
 
--- how many recipients an answer lets through
-abbrev pub granted_by : Asked → ℕ
-granted_by asked.Granted = 1
-granted_by _ = 0
+-- an ask that was answered Granted lets one recipient through
+abbrev pub let_through : Asked → Held → Held
+let_through asked.Granted h = record { login = h.login; at = h.at; granted = h.granted + 1 }
+let_through asked.Full h = h
+let_through asked.Unavailable h = h
 
 -- a transaction: never asked for, live, or ended, by which end and under which number. With it stand its
 -- login and moment, and how many of its recipients were let through
@@ -69,10 +70,10 @@ held_by Never = None
 held_by (Live h) = Some h
 held_by (Ended end seq h) = None
 
--- a transaction after an ask with exchanges: its first one gives login and moment
-abbrev pub held_more : ℕ → List ℕ → ℕ → Option Held → Held
-held_more at login more None = record { login = login; at = at; granted = more }
-held_more at login more (Some h) = record { login = h.login; at = h.at; granted = h.granted + more }
+-- a transaction from its first exchange on: the first ask gives login and moment
+abbrev pub opened : ℕ → List ℕ → Option Held → Held
+opened at login None = record { login = login; at = at; granted = 0 }
+opened at login (Some h) = h
 
 abbrev pub id_of : Source → ℕ → Id
 id_of s seq = record { host = s.host; run = s.run; seq = seq }
@@ -100,13 +101,13 @@ with_asked txn (Some h) live = live
 
 abbrev pub without : ℕ → List ℕ → List ℕ
 without txn [] = []
-without txn (t ∷ live) = if txn == t then without txn live else t ∷ without txn live
+without txn (t ∷ live) = if t == txn then without txn live else t ∷ without txn live
 
 -- an ask with no exchange changes nothing
 abbrev pub after_ask : ℕ → ℕ → List ℕ → List Exchange → View → View
 after_ask txn at login [] v = v
 after_ask txn at login (x ∷ group) v = record {
-    standing = set txn (Live (held_more at login (granted_by (answer_of (x ∷ group))) (held_by (v.standing txn)))) v.standing;
+    standing = set txn (Live (let_through (answer_of (x ∷ group)) (opened at login (held_by (v.standing txn))))) v.standing;
     numbers = v.numbers + 1;
     waiting = v.waiting;
     live = with_asked txn (held_by (v.standing txn)) v.live;

@@ -5,8 +5,10 @@ use Rattle.std.specs.Option.{option_map}
 use Rattle.mq_frame.specs.Same.{same_request}
 use Rattle.mq_frame.specs.declared.message.Request.{Request}
 use Rattle.mq_client.specs.Exchanges.{Exchange, decided_by}
-use Rattle.mq_client.specs.Past.{Source, Action, Ask, Close, Drain, Step, Standing, Never, Live, Ended, answer_of, granted_by, closing_of}
+use Rattle.mq_client.specs.Past.{Source, Action, Ask, Close, Drain, Step, Standing, Never, Live, Ended, answer_of, closing_of}
 use Rattle.mq_client.specs.declared.closing.CloseEnd.{CloseEnd}
+use Rattle.mq_client.specs.declared.held.Asked.{Asked}
+use Rattle.mq_client.specs.declared.held.Asked.TheVariants as asked
 use Rattle.mq_client.specs.declared.held.Held.{Held}
 
 abbrev pub has_exchange : List Exchange → Bool
@@ -39,9 +41,14 @@ named_first [] = None
 named_first (x ∷ []) = named_by x.action
 named_first (x ∷ y ∷ P) = named_first (y ∷ P)
 
+abbrev pub is_granted : Asked → Bool
+is_granted asked.Granted = true
+is_granted asked.Full = false
+is_granted asked.Unavailable = false
+
 -- how many of some asks were answered Granted
 abbrev pub count_granted : List Step → ℕ
-count_granted P = count_by (λ x. granted_by (answer_of x.group) == 1) P
+count_granted P = count_by (λ x. is_granted (answer_of x.group)) P
 
 -- a transaction is live where such asks of it are there: the first gives login and moment
 abbrev pub live_in : List Step → ℕ → Option Held

@@ -4,11 +4,18 @@
 //! `docs/CLIENT.md` has the rules.
 #![tactic(auto)]
 
+mod client;
 mod closing;
+mod faults;
 mod held;
 mod link;
+mod script;
+mod tries;
 mod wire;
 
+pub use client::Client;
 pub use closing::{CloseEnd, Closing};
+pub use faults::Memory;
 pub use held::{Asked, Held};
 pub use link::{Bytes, Link, LinkFault, Outcome, Told};
+pub use script::ScriptLink;

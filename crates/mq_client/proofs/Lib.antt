@@ -1,0 +1,5 @@
+pub mod Telling
+pub mod Sending
+pub mod Counting
+pub mod Making
+pub mod Keeping
