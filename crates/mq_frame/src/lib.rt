@@ -3,11 +3,21 @@
 //! `docs/FRAMES.md` has the format.
 #![tactic(auto)]
 
+mod decode;
+mod error;
+mod fields;
+mod flow;
 mod host;
 mod login;
 mod message;
+mod page;
+mod reply_parts;
+mod request_parts;
 mod usage;
 
+pub use decode::{DecodeFault, decode_reply, decode_request};
+pub use error::Memory;
+pub use flow::{Failed, FromRead, Sink, Source, ToWrite};
 pub use host::Host;
 pub use login::Login;
 pub use message::{Id, Reply, Request};

@@ -1,0 +1,11 @@
+-- What an id and a row in a body stand for.
+use Rattle.mq_frame.specs.declared.fields.IdParts.{IdParts}
+use Rattle.mq_frame.specs.declared.page.RowParts.{RowParts}
+use Rattle.mq_frame.specs.declared.message.Id.{Id}
+use Rattle.mq_frame.specs.declared.usage.UsageRow.{UsageRow}
+
+abbrev pub shown_id : IdParts → Id
+shown_id x = record { host = x.host.now; run = x.run; seq = x.seq }
+
+abbrev pub shown_row : RowParts → UsageRow
+shown_row x = record { login = x.login.now; settled = x.settled; reserved = x.reserved; cap = x.cap }

@@ -1,0 +1,79 @@
+-- The link's format: how each request and reply is spelled as the body of a frame.
+use Rattle.std.specs.Prelude.{◌≡◌, ℕ, List, [], ◌∷◌, ◌++◌, length}
+use Rattle.std.specs.List.{flat_map}
+use Rattle.std.specs.Int.{w16, w32, w64, to_be_bytes}
+use Rattle.mq_frame.specs.Range.{IsRequest, IsReply}
+use Rattle.mq_frame.specs.declared.message.Id.{Id}
+use Rattle.mq_frame.specs.declared.message.Request.{Request}
+use Rattle.mq_frame.specs.declared.message.Request.TheVariants.{Reserve, Settle, Release, Limit, Usage, List as ListRequest}
+use Rattle.mq_frame.specs.declared.message.Reply.{Reply}
+use Rattle.mq_frame.specs.declared.message.Reply.TheVariants.{Granted, Full, Settled, Released, LimitSet, Over, Closed, Mismatch, TooMany, Conflict, Usage as UsageReply, List as ListReply, Retry, Bad}
+use Rattle.mq_frame.specs.declared.usage.UsageRow.{UsageRow}
+
+-- a number in 2, 4 or 8 bytes, the highest first
+abbrev pub in_2_bytes : ℕ → List ℕ
+in_2_bytes n = to_be_bytes w16 n
+
+abbrev pub in_4_bytes : ℕ → List ℕ
+in_4_bytes n = to_be_bytes w32 n
+
+abbrev pub in_8_bytes : ℕ → List ℕ
+in_8_bytes n = to_be_bytes w64 n
+
+-- a text behind one byte of its length
+abbrev pub with_length : List ℕ → List ℕ
+with_length text = length text ∷ text
+
+abbrev pub id_bytes : Id → List ℕ
+id_bytes id = with_length id.host ++ (in_8_bytes id.run ++ in_4_bytes id.seq)
+
+-- id, txn, at and login, which three kinds of requests begin with
+abbrev pub transaction_bytes : Id → ℕ → ℕ → List ℕ → List ℕ
+transaction_bytes id txn at login = id_bytes id ++ (in_4_bytes txn ++ (in_8_bytes at ++ with_length login))
+
+abbrev pub row_bytes : UsageRow → List ℕ
+row_bytes row = with_length row.login ++ (in_4_bytes row.settled ++ (in_4_bytes row.reserved ++ in_4_bytes row.cap))
+
+-- the rows of a page behind one byte of their count
+abbrev pub page_bytes : List UsageRow → List ℕ
+page_bytes rows = length rows ∷ flat_map row_bytes rows
+
+-- the kind of a request in one byte, and then its fields
+abbrev pub request_body : Request → List ℕ
+request_body (Reserve id txn at login count) = 0x01 ∷ (transaction_bytes id txn at login ++ in_4_bytes count)
+request_body (Settle id txn at login count) = 0x02 ∷ (transaction_bytes id txn at login ++ in_4_bytes count)
+request_body (Release id txn at login) = 0x03 ∷ transaction_bytes id txn at login
+request_body (Limit id from_day cap login) = 0x04 ∷ (id_bytes id ++ (in_4_bytes from_day ++ (in_4_bytes cap ++ with_length login)))
+request_body (Usage login day) = 0x05 ∷ (with_length login ++ in_4_bytes day)
+request_body (ListRequest day after) = 0x06 ∷ (in_4_bytes day ++ with_length after)
+
+-- the kind of a reply in one byte, and then its fields
+abbrev pub reply_body : Reply → List ℕ
+reply_body (Granted id used) = 0x81 ∷ (id_bytes id ++ in_4_bytes used)
+reply_body (Full id used cap) = 0x82 ∷ (id_bytes id ++ (in_4_bytes used ++ in_4_bytes cap))
+reply_body (Settled id count) = 0x83 ∷ (id_bytes id ++ in_4_bytes count)
+reply_body (Released id held) = 0x84 ∷ (id_bytes id ++ in_4_bytes held)
+reply_body (LimitSet id) = 0x85 ∷ id_bytes id
+reply_body (Over id day used) = 0x86 ∷ (id_bytes id ++ (in_4_bytes day ++ in_4_bytes used))
+reply_body (Closed id) = 0x87 ∷ id_bytes id
+reply_body (Mismatch id) = 0x88 ∷ id_bytes id
+reply_body (TooMany id held) = 0x89 ∷ (id_bytes id ++ in_4_bytes held)
+reply_body (Conflict id) = 0x8a ∷ id_bytes id
+reply_body (UsageReply login day settled reserved cap) = 0x8b ∷ (with_length login ++ (in_4_bytes day ++ (in_4_bytes settled ++ (in_4_bytes reserved ++ in_4_bytes cap))))
+reply_body (ListReply day rows) = 0x8c ∷ (in_4_bytes day ++ page_bytes rows)
+reply_body Retry = 0x8d ∷ []
+reply_body Bad = 0x8e ∷ []
+
+-- the body is the spelling of the request, whose fields are in range
+pub record SpellsRequest (body : List ℕ) (request : Request) : Type 0 where
+  pub bytes : body ≡ request_body request
+  pub in_range : IsRequest request
+
+-- the body is the spelling of the reply, whose fields are in range
+pub record SpellsReply (body : List ℕ) (reply : Reply) : Type 0 where
+  pub bytes : body ≡ reply_body reply
+  pub in_range : IsReply reply
+
+-- a frame: the length of its body in 2 bytes, and the body
+abbrev pub frame : List ℕ → List ℕ
+frame body = in_2_bytes (length body) ++ body

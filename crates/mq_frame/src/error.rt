@@ -1,0 +1,13 @@
+use std::alloc::AllocError;
+use thiserror::Error;
+
+/// A growth was refused for want of memory.
+#[derive(Clone, Copy, Debug, PartialEq, Eq, Error)]
+#[error("out of memory")]
+pub struct Memory;
+
+impl From<AllocError> for Memory {
+    fn from(_refused: AllocError) -> Memory {
+        Memory
+    }
+}

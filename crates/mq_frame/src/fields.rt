@@ -1,0 +1,98 @@
+//! The fields of a body, each read from the front.
+ghost use Rattle.std.specs.Prelude.{◌≡◌, length, ◌==◌, if◌then◌else◌};
+ghost use Rattle.std.specs.List.{list_all};
+ghost use Rattle.std.specs.Int.{w32, w64};
+ghost use Rattle.mq_frame.specs.Shown.{shown_id};
+ghost use Rattle.mq_frame.specs.Reading.{Reads, number_at, text_at, is_host_byte, host, id};
+
+/// An id in a body.
+#[derive(Clone, Copy)]
+pub struct IdParts<'a> {
+    pub host: &'a [u8],
+    pub run: u64,
+    pub seq: u32,
+}
+
+/// A number from `low` to `high` in four bytes, the highest first.
+pub fn u32_at(bytes: &[u8], low: u32, high: u32) -> Option<(u32, &[u8])>
+    ensures { Reads (λ x. (x.0, x.1.now)) result (number_at w32 low high bytes.now) }
+{
+    if bytes.len() < 4 {
+        return None;
+    }
+    let (front, rest) = bytes.split_at(4);
+    let number = u32::from_be_bytes([front[0], front[1], front[2], front[3]]);
+    if low <= number && number <= high {
+        Some((number, rest))
+    } else {
+        None
+    }
+}
+
+/// A number from `low` to `high` in eight bytes, the highest first.
+pub fn u64_at(bytes: &[u8], low: u64, high: u64) -> Option<(u64, &[u8])>
+    ensures { Reads (λ x. (x.0, x.1.now)) result (number_at w64 low high bytes.now) }
+{
+    if bytes.len() < 8 {
+        return None;
+    }
+    let (front, rest) = bytes.split_at(8);
+    let number = u64::from_be_bytes([
+        front[0], front[1], front[2], front[3], front[4], front[5], front[6], front[7],
+    ]);
+    if low <= number && number <= high {
+        Some((number, rest))
+    } else {
+        None
+    }
+}
+
+/// A text of `low` to `high` bytes behind its length.
+pub fn text_at(bytes: &[u8], low: u8, high: u8) -> Option<(&[u8], &[u8])>
+    ensures { Reads (λ x. (x.0.now, x.1.now)) result (text_at low high bytes.now) }
+{
+    match bytes {
+        [] => None,
+        [length, rest @ ..] => {
+            if low <= *length && *length <= high && *length as usize <= rest.len() {
+                Some(rest.split_at(*length as usize))
+            } else {
+                None
+            }
+        }
+    }
+}
+
+/// Whether each byte may stand in a host's name.
+pub fn are_host_bytes(bytes: &[u8]) -> bool
+    ensures { result ≡ list_all is_host_byte bytes.now }
+{
+    bytes.iter().all(|b| matches!(*b, b'0'..=b'9' | b'A'..=b'Z' | b'a'..=b'z' | b'-'..=b'.'))
+}
+
+pub fn host_at(bytes: &[u8]) -> Option<(&[u8], &[u8])>
+    ensures { Reads (λ x. (x.0.now, x.1.now)) result (host.read bytes.now) }
+{
+    let (text, rest) = text_at(bytes, 1, 64)?;
+    if are_host_bytes(text) {
+        Some((text, rest))
+    } else {
+        None
+    }
+}
+
+pub fn id_at(bytes: &[u8]) -> Option<(IdParts<'_>, &[u8])>
+    ensures { Reads (λ x. (shown_id x.0, x.1.now)) result (id.read bytes.now) }
+{
+    let (host, rest) = host_at(bytes)?;
+    let (run, rest) = u64_at(rest, 1, 281_474_976_710_655)?;
+    let (seq, rest) = u32_at(rest, 1, 4_294_967_295)?;
+    Some((IdParts { host, run, seq }, rest))
+}
+
+/// Whether nothing is left.
+pub fn finished(rest: &[u8]) -> Option<()>
+    ensures { Reads (λ x. x) result (if length rest.now == 0 then Some tt else None) }
+{
+    if rest.is_empty() { Some(()) } else { None }
+}

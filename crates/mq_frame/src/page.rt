@@ -1,0 +1,65 @@
+//! The rows of a page in a body.
+ghost use Rattle.mq_frame.specs.Reading.{Reads, row, page};
+ghost use Rattle.mq_frame.specs.Shown.{shown_row};
+ghost use Rattle.mq_frame.specs.Parts.{shown_page};
+
+use crate::fields::{text_at, u32_at};
+
+/// A row of a page in a body.
+#[derive(Clone, Copy)]
+pub struct RowParts<'a> {
+    pub login: &'a [u8],
+    pub settled: u32,
+    pub reserved: u32,
+    pub cap: u32,
+}
+
+/// The rows of a page in a body, read once and found whole.
+#[derive(Clone, Copy)]
+pub struct PageParts<'a> {
+    pub count: u8,
+    pub bytes: &'a [u8],
+}
+
+/// The most rows of a page.
+const ROW_LIMIT: u8 = 100;
+
+pub fn row_at(bytes: &[u8]) -> Option<(RowParts<'_>, &[u8])>
+    ensures { Reads (λ x. (shown_row x.0, x.1.now)) result (row.read bytes.now) }
+{
+    let (login, rest) = text_at(bytes, 1, 255)?;
+    let (settled, rest) = u32_at(rest, 0, 1_000_000)?;
+    let (reserved, rest) = u32_at(rest, 0, 1_000_000)?;
+    let (cap, rest) = u32_at(rest, 0, 1_000_000)?;
+    Some((
+        RowParts {
+            login,
+            settled,
+            reserved,
+            cap,
+        },
+        rest,
+    ))
+}
+
+/// Reads each row, so that a page with a bad one is refused before any of them is copied.
+pub fn page_at(bytes: &[u8]) -> Option<(PageParts<'_>, &[u8])>
+    ensures { Reads (λ x. (shown_page x.0, x.1.now)) result (page.read bytes.now) }
+{
+    let (count, rows) = bytes.split_first()?;
+    if *count > ROW_LIMIT {
+        return None;
+    }
+    let mut rest = rows;
+    for done in 0..*count {
+        let (_, after) = row_at(rest)?;
+        rest = after;
+    }
+    Some((
+        PageParts {
+            count: *count,
+            bytes: rows,
+        },
+        rest,
+    ))
+}
