@@ -1,0 +1,4 @@
+pub mod Pieces
+pub mod Grammar
+pub mod Parameters
+pub mod Results

@@ -1,0 +1,54 @@
+//! The parameters of reports.
+ghost use Rattle.std.specs.Prelude.{◌≡◌, Option};
+ghost use Rattle.std.specs.Option.{option_map, option_copied};
+ghost use Rattle.mq_line.specs.Pieces.{fields};
+ghost use Rattle.mq_line.specs.Parameters.{result_of as result_lem, auth_at_end as end_lem, auth, message};
+
+use crate::fields::{Fields, first_field, last_field};
+
+/// The result of an authentication, as link-auth reports it.
+#[derive(Clone, Copy, Debug, PartialEq, Eq)]
+pub enum AuthResult {
+    Pass,
+    Fail,
+    Error,
+}
+
+fn result_of(word: &[u8]) -> Option<AuthResult>
+    ensures { result ≡ result_lem word.now }
+{
+    match word {
+        b"pass" => Some(AuthResult::Pass),
+        b"fail" => Some(AuthResult::Fail),
+        b"error" => Some(AuthResult::Error),
+        _ => None,
+    }
+}
+
+/// The result and the user name where the result stands last.
+fn auth_at_end<'a>(params: &'a [u8]) -> Option<(AuthResult, &'a [u8])>
+    ensures { option_map (λ found. (found.0, found.1.now)) result ≡ end_lem (fields params.now) }
+{
+    let (name, last) = last_field(params);
+    match result_of(last) {
+        Some(outcome) => Some((outcome, name)),
+        None => None,
+    }
+}
+
+pub fn auth_of<'a>(params: &'a [u8]) -> Option<(AuthResult, &'a [u8])>
+    ensures { option_map (λ found. (found.0, found.1.now)) result ≡ auth params.now }
+{
+    let (first, left) = first_field(params);
+    match result_of(first) {
+        Some(outcome) => Some((outcome, Fields { left }.rest())),
+        None => auth_at_end(params),
+    }
+}
+
+pub fn message_of<'a>(params: &'a [u8]) -> Option<&'a [u8]>
+    ensures { option_copied result ≡ message params.now }
+{
+    let (id, _) = first_field(params);
+    if id.is_empty() { None } else { Some(id) }
+}
