@@ -6,7 +6,7 @@ use Rattle.mq_frame.specs.declared.message.Request.{Request}
 use Rattle.mq_frame.specs.declared.message.Reply.{Reply}
 use Rattle.mq_client.specs.Exchanges.{Exchange, AreFailed, AreTries, IsUndecided, SendsSome, NoneYet, OneMore, Sends, SendsAll, StopsAt, decided_by, decisions}
 use Rattle.mq_client.specs.Past.{Source, Action, Ask, Close, Drain, Step, Standing, Live, Ended, View, view, held_by, held_for, opened, let_through, answer_of, answer_by, reserve_of, closing_of, with_asked, without, set, refuses, PlaysFrom, Plays, State, find, StandsAt, Makes}
-use Rattle.mq_client.specs.declared.closing.CloseEnd.{CloseEnd}
+use Rattle.mq_track.specs.declared.closing.CloseEnd.{CloseEnd}
 use Rattle.mq_client.specs.declared.held.Asked.{Asked}
 use Rattle.mq_client.specs.declared.held.Held.{Held}
 use Rattle.mq_client.proofs.Counting.{counted, length_closed}

@@ -6,7 +6,8 @@ use Rattle.mq_frame.specs.declared.message.Request.{Request}
 use Rattle.mq_frame.specs.declared.message.Request.TheVariants.{Reserve, Settle, Release}
 use Rattle.mq_frame.specs.declared.message.Reply.{Reply}
 use Rattle.mq_frame.specs.declared.message.Reply.TheVariants.{Granted, Full, Settled, Released, Closed, Mismatch, TooMany, Conflict}
-use Rattle.mq_client.specs.Wire.{request_frame, SpellsReply}
+use Rattle.mq_frame.specs.Spelling.{SpellsReply}
+use Rattle.mq_client.specs.Wire.{request_frame}
 use Rattle.mq_client.specs.declared.link.Outcome.{Outcome}
 use Rattle.mq_client.specs.declared.link.Outcome.TheVariants.{Answered, Faulted}
 use Rattle.mq_client.specs.declared.link.Told.{Told}
@@ -59,16 +60,11 @@ abbrev pub Brings : Outcome → Reply → Type 0
 Brings (Answered body) reply = SpellsReply body reply
 Brings (Faulted fault) reply = ⊥
 
--- a body came
-abbrev pub IsAnswered : Outcome → Type 0
-IsAnswered (Answered body) = Unit {0}
-IsAnswered (Faulted fault) = ⊥
-
 -- what an exchange of the request that ended so may be marked: it fails only where nothing came that
 -- decides, or a growth was refused
 abbrev pub IsMarked : Request → Outcome → Mark → Type 0
 IsMarked request outcome Fails = (reply : Reply) → Brings outcome reply → decides request reply ≡ false
-IsMarked request outcome Refused = IsAnswered outcome
+IsMarked request outcome Refused = (reply : Reply) × Brings outcome reply
 IsMarked request outcome (Decides reply) = Brings outcome reply × (decides request reply ≡ true)
 
 -- an exchange of the request that fails, or that the reply decides

@@ -10,8 +10,8 @@ use Rattle.mq_frame.specs.declared.message.Request.TheVariants.{Reserve, Settle,
 use Rattle.mq_frame.specs.declared.message.Reply.{Reply}
 use Rattle.mq_frame.specs.declared.message.Reply.TheVariants as reply
 use Rattle.mq_client.specs.Exchanges.{Exchange, AreTries, Sends, decided_by, decisions}
-use Rattle.mq_client.specs.declared.closing.CloseEnd.{CloseEnd}
-use Rattle.mq_client.specs.declared.closing.CloseEnd.TheVariants as ending
+use Rattle.mq_track.specs.declared.closing.CloseEnd.{CloseEnd}
+use Rattle.mq_track.specs.declared.closing.CloseEnd.TheVariants as ending
 use Rattle.mq_client.specs.declared.held.Asked.{Asked}
 use Rattle.mq_client.specs.declared.held.Asked.TheVariants as asked
 use Rattle.mq_client.specs.declared.held.Held.{Held}

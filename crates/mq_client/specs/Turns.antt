@@ -3,7 +3,7 @@ use Rattle.std.specs.Prelude.{◌≡◌, ℕ, ◌+◌, ◌*◌, ◌≤◌, List,
 use Rattle.mq_frame.specs.declared.message.Request.{Request}
 use Rattle.mq_client.specs.Exchanges.{Exchange, decided_by, decisions, IsMarked}
 use Rattle.mq_client.specs.Past.{Source, Action, Ask, Close, Drain, View, reserve_of, closing_of, refuses, held_by, held_for}
-use Rattle.mq_client.specs.declared.closing.CloseEnd.{CloseEnd}
+use Rattle.mq_track.specs.declared.closing.CloseEnd.{CloseEnd}
 use Rattle.mq_client.specs.declared.held.Held.{Held}
 
 -- how many exchanges failed since the last one that decided

@@ -5,7 +5,6 @@ ghost use Rattle.mq_client.specs.Link.{Tells};
 ghost use Rattle.mq_client.specs.Exchanges.{Exchange, told_all};
 ghost use Rattle.mq_client.specs.Past.{Step, Ask, Close, Drain, StandsAt, Makes, view, answer_of};
 
-use crate::closing::Closing;
 use crate::faults::Memory;
 use crate::held::{Asked, Held, answer_to, closing_request, count, hold, refuses, release, reserve_request};
 use crate::link::Link;
@@ -13,6 +12,7 @@ use crate::tries::{send_all, try_all};
 use crate::wire::encode_request;
 use log::Log;
 use mq_frame::{Host, Request};
+use mq_track::Closing;
 use std::alloc::Global;
 use std::collections::{BTreeMap, VecDeque};
 use std::marker::Model;

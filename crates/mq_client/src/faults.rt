@@ -18,3 +18,9 @@ impl<T: Drop> From<AllocFailed<T>> for Memory {
         Memory
     }
 }
+
+impl From<mq_frame::Memory> for Memory {
+    fn from(_refused: mq_frame::Memory) -> Memory {
+        Memory
+    }
+}

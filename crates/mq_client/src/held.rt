@@ -5,8 +5,8 @@ ghost use Rattle.mq_client.specs.Past.{find, is_other as is_other_lem, refuses a
 ghost use Rattle.mq_client.specs.Held.{IsHeld};
 ghost use Rattle.mq_client.specs.declared.held.Held.{Held};
 
-use crate::closing::CloseEnd;
 use mq_frame::{Host, Id, Login, Reply, Request};
+use mq_track::CloseEnd;
 use std::alloc::{AllocError, Global};
 use std::collections::BTreeMap;
 

@@ -5,7 +5,6 @@
 #![tactic(auto)]
 
 mod client;
-mod closing;
 mod faults;
 mod held;
 mod link;
@@ -14,7 +13,6 @@ mod tries;
 mod wire;
 
 pub use client::Client;
-pub use closing::{CloseEnd, Closing};
 pub use faults::Memory;
 pub use held::{Asked, Held};
 pub use link::{Bytes, Link, LinkFault, Outcome, Told};

@@ -8,9 +8,9 @@ ghost use Rattle.mq_client.specs.Exchanges.{Exchange, IsTry, AreTries, IsSent, S
 ghost use Rattle.mq_frame.specs.declared.message.Request.{Request};
 
 use crate::link::Link;
-use crate::wire::{decode_reply, encode_request};
+use crate::wire::encode_request;
 use log::{Log, warn};
-use mq_frame::{Id, Reply, Request};
+use mq_frame::{DecodeFault, Id, Reply, Request, decode_reply};
 use std::alloc::Global;
 use std::collections::VecDeque;
 
@@ -77,7 +77,10 @@ fn try_once<L: Link>(
                 None
             }
         }
-        Err(_) => None,
+        // It spells no reply.
+        Err(DecodeFault::Bad) => None,
+        // A growth was refused.
+        Err(DecodeFault::Memory) => None,
     }
 }
 
