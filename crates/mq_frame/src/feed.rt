@@ -1,0 +1,123 @@
+//! The frames of a stream, in whatever pieces it comes.
+ghost use Rattle.std.specs.Prelude.{◌≡◌, ◌↔◌, [], ◌++◌, OnOk, OnErr, IsOk, Ok, Err, MatchResult};
+ghost use Rattle.std.specs.Option.{option_copied};
+ghost use Rattle.std.specs.Borrow.{sem};
+ghost use Rattle.std.specs.Io.BufRead.{Rests};
+ghost use Rattle.mq_frame.specs.Feed.{front, next_answer, left_by_next, finish_answer};
+ghost use Rattle.mq_frame.specs.contracts.feed.FrameFeed.{the_row};
+
+use crate::error::Memory;
+use std::alloc::Global;
+use std::marker::Model;
+use thiserror::Error;
+
+/// The longest body of a request that a server takes.
+pub const REQUEST_LIMIT: u16 = 512;
+
+/// The longest body of a reply that a client takes.
+pub const REPLY_LIMIT: u16 = 65_535;
+
+/// Why a stream has no further frame.
+#[derive(Clone, Copy, Debug, PartialEq, Eq, Error)]
+pub enum FrameFault {
+    /// A head says a length above the limit.
+    #[error("frame too long")]
+    TooLong,
+    /// A head says the length 0.
+    #[error("frame without a body")]
+    Empty,
+    /// The stream ends inside a frame, or before a whole frame was taken.
+    #[error("stream ends inside a frame")]
+    CutFrame,
+}
+
+/// Takes a stream in pieces, and gives the bodies of its frames.
+///
+/// A frame is two bytes, the length of its body with the high byte first, and then the body
+/// (`docs/FRAMES.md`). How the stream is cut into pieces changes nothing.
+#[derive(Drop)]
+pub struct FrameFeed {
+    limit: u16,
+    bytes: Vec<u8>,
+    taken: usize,
+}
+
+impl Model for FrameFeed {
+    ghost use Rattle.std.specs.Prelude.{drop, ◌≤◌, length};
+    ghost use Rattle.mq_frame.specs.Feed.{Feed};
+
+    ghost Value = { Feed };
+
+    ghost view = { λ feed. record { limit = feed.limit; rest = drop feed.taken feed.bytes.items } };
+
+    ghost invariant = { λ feed. feed.taken ≤ length feed.bytes.items };
+}
+
+impl FrameFeed {
+    /// A feed that was fed nothing. `limit` is the length of the longest body that it gives:
+    /// `REQUEST_LIMIT` or `REPLY_LIMIT`.
+    pub fn new(alloc: Global, limit: u16) -> FrameFeed
+        ensures { result ≡ record { limit = limit; rest = [] } }
+    {
+        FrameFeed {
+            limit,
+            bytes: Vec::new(alloc),
+            taken: 0,
+        }
+    }
+
+    /// Adds a piece of the stream. After an `Err` the feed is as before.
+    pub fn feed(&mut self, piece: &[u8]) -> Result<(), Memory>
+        ensures ok { OnOk result (self.new ≡ record { limit = self.old.limit; rest = self.old.rest ++ piece.now }) }
+        ensures err { OnErr result (self.new ≡ self.old) }
+    {
+        self.bytes.extend_from_slice(piece)?;
+        Ok(())
+    }
+
+    /// Takes the next frame and gives its body, `None` where no whole frame is there yet.
+    ///
+    /// At a head of length 0 it is `Empty`, and at one above the limit `TooLong`, as soon as both
+    /// bytes of the head are there; the feed is then as before, and answers that again.
+    pub fn next_body(&mut self) -> Result<Option<&[u8]>, FrameFault>
+        ensures* after { sem 𝓛 (Rests the_row self.entry (λ feed. feed ≡ record { limit = self.old.limit; rest = left_by_next (front self.old.limit self.old.rest) self.old.rest })) }
+        ensures answer { MatchResult result
+            (λ body. Ok (option_copied body) ≡ next_answer (front self.old.limit self.old.rest))
+            (λ fault. Err fault ≡ next_answer (front self.old.limit self.old.rest)) }
+    {
+        let limit = self.limit as usize;
+        match &self.bytes[self.taken..] {
+            [high, low, rest @ ..] => {
+                let length = 256 * (*high as usize) + *low as usize;
+                if length == 0 {
+                    return Err(FrameFault::Empty);
+                }
+                if limit < length {
+                    return Err(FrameFault::TooLong);
+                }
+                if rest.len() < length {
+                    return Ok(None);
+                }
+                self.taken = self.taken + 2 + length;
+                Ok(Some(&rest[..length]))
+            }
+            _ => Ok(None),
+        }
+    }
+
+    /// Whether the stream may end here: `Ok` where each byte that was fed was taken with its
+    /// frame. `Empty` and `TooLong` come where `next_body` would answer them.
+    pub fn finish(&self) -> Result<(), FrameFault>
+        ensures answer { result ≡ finish_answer (front self.now.limit self.now.rest) }
+        ensures all_taken { IsOk result ↔ (self.now.rest ≡ []) }
+    {
+        match &self.bytes[self.taken..] {
+            [] => Ok(()),
+            [0, 0, ..] => Err(FrameFault::Empty),
+            [high, low, ..] if self.limit < u16::from_be_bytes([*high, *low]) => {
+                Err(FrameFault::TooLong)
+            }
+            _ => Err(FrameFault::CutFrame),
+        }
+    }
+}

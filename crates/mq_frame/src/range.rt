@@ -1,0 +1,159 @@
+//! Whether the fields of a value are in the ranges of the link's format.
+ghost use Rattle.std.specs.Prelude.{◌↔◌, IsTrue};
+ghost use Rattle.mq_frame.specs.Range.{IsWithin, IsHost, IsLogin, IsAfter, IsOrdinal, IsMoment, IsDay, IsCount, IsAmount, IsId, IsRow, IsPage, IsRequest, IsReply};
+
+use crate::fields::are_host_bytes;
+use crate::host::Host;
+use crate::login::Login;
+use crate::message::{Id, Reply, Request};
+use crate::usage::{UsageRow, UsageRows};
+
+fn is_within(low: u64, high: u64, number: u64) -> bool
+    ensures { IsTrue result ↔ IsWithin low high number }
+{
+    low <= number && number <= high
+}
+
+fn is_host(host: &Host) -> bool
+    ensures { IsTrue result ↔ IsHost host.now }
+{
+    let bytes = host.as_slice();
+    1 <= bytes.len() && bytes.len() <= 64 && are_host_bytes(bytes)
+}
+
+fn is_login(login: &Login) -> bool
+    ensures { IsTrue result ↔ IsLogin login.now }
+{
+    let bytes = login.as_slice();
+    1 <= bytes.len() && bytes.len() <= 255
+}
+
+fn is_after(after: &Login) -> bool
+    ensures { IsTrue result ↔ IsAfter after.now }
+{
+    after.as_slice().len() <= 255
+}
+
+fn is_ordinal(number: u32) -> bool
+    ensures { IsTrue result ↔ IsOrdinal number }
+{
+    1 <= number
+}
+
+fn is_moment(at: u64) -> bool
+    ensures { IsTrue result ↔ IsMoment at }
+{
+    86_400 <= at && at <= 32_503_680_000
+}
+
+fn is_day(day: u32) -> bool
+    ensures { IsTrue result ↔ IsDay day }
+{
+    day <= 376_200
+}
+
+fn is_count(count: u32) -> bool
+    ensures { IsTrue result ↔ IsCount count }
+{
+    1 <= count && count <= 1000
+}
+
+fn is_amount(amount: u32) -> bool
+    ensures { IsTrue result ↔ IsAmount amount }
+{
+    amount <= 1_000_000
+}
+
+fn is_id(id: &Id) -> bool
+    ensures { IsTrue result ↔ IsId id.now }
+{
+    is_host(&id.host) && is_within(1, 281_474_976_710_655, id.run) && is_ordinal(id.seq)
+}
+
+fn is_row(row: &UsageRow) -> bool
+    ensures { IsTrue result ↔ IsRow row.now }
+{
+    is_login(&row.login)
+        && is_amount(row.settled)
+        && is_amount(row.reserved)
+        && is_amount(row.cap)
+}
+
+fn is_page(rows: &UsageRows) -> bool
+    ensures { IsTrue result ↔ IsPage rows.now }
+{
+    let rows = rows.as_slice();
+    rows.len() <= 100 && rows.iter().all(is_row)
+}
+
+/// Whether each field of the request is in the range that the link's format gives it.
+pub fn is_request(request: &Request) -> bool
+    ensures { IsTrue result ↔ IsRequest request.now }
+{
+    match request {
+        Request::Reserve {
+            id,
+            txn,
+            at,
+            login,
+            count,
+        }
+        | Request::Settle {
+            id,
+            txn,
+            at,
+            login,
+            count,
+        } => {
+            is_id(id)
+                && is_ordinal(*txn)
+                && is_moment(*at)
+                && is_login(login)
+                && is_count(*count)
+        }
+        Request::Release { id, txn, at, login } => {
+            is_id(id) && is_ordinal(*txn) && is_moment(*at) && is_login(login)
+        }
+        Request::Limit {
+            id,
+            from_day,
+            cap,
+            login,
+        } => is_id(id) && is_day(*from_day) && is_amount(*cap) && is_login(login),
+        Request::Usage { login, day } => is_login(login) && is_day(*day),
+        Request::List { day, after } => is_day(*day) && is_after(after),
+    }
+}
+
+/// Whether each field of the reply is in the range that the link's format gives it.
+pub fn is_reply(reply: &Reply) -> bool
+    ensures { IsTrue result ↔ IsReply reply.now }
+{
+    match reply {
+        Reply::Granted { id, used } => is_id(id) && is_amount(*used),
+        Reply::Full { id, used, cap } => is_id(id) && is_amount(*used) && is_amount(*cap),
+        Reply::Settled { id, count } => is_id(id) && is_count(*count),
+        Reply::Released { id, held } => is_id(id) && is_amount(*held),
+        Reply::LimitSet { id } => is_id(id),
+        Reply::Over { id, day, used } => is_id(id) && is_day(*day) && is_amount(*used),
+        Reply::Closed { id } => is_id(id),
+        Reply::Mismatch { id } => is_id(id),
+        Reply::TooMany { id, held } => is_id(id) && is_amount(*held),
+        Reply::Conflict { id } => is_id(id),
+        Reply::Usage {
+            login,
+            day,
+            settled,
+            reserved,
+            cap,
+        } => {
+            is_login(login)
+                && is_day(*day)
+                && is_amount(*settled)
+                && is_amount(*reserved)
+                && is_amount(*cap)
+        }
+        Reply::List { day, rows } => is_day(*day) && is_page(rows),
+        Reply::Retry | Reply::Bad => true,
+    }
+}
