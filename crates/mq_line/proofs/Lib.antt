@@ -1,2 +1,7 @@
 mod PieceLaws
 mod AuthLaws
+mod TimeLaws
+mod SearchLaws
+mod TextLaws
+mod ResultLaws
+mod GrammarLaws

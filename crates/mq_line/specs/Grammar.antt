@@ -1,7 +1,8 @@
 -- What a line of smtpd says, and which fault it has where it says nothing.
-use Rattle.std.specs.Prelude.{◌≡◌, ◌≢◌, ◌&&◌, ℕ, List, [], ◌∷◌, length, codes, not, nat_lt, nat_le, is_none, if◌then◌else◌, Bool, Option, None, Some}
-use Rattle.std.specs.List.{list_any}
-use Rattle.std.specs.Str.{bytes_eq, all_ascii_digits}
+use Rattle.std.specs.Prelude.{◌≡◌, ◌≢◌, ◌==◌, ◌&&◌, ℕ, List, [], ◌∷◌, length, codes, not, nat_lt, nat_le, is_none, if◌then◌else◌, Bool, Option, None, Some}
+use Rattle.std.specs.List.{AllByRecursion, list_any, list_all}
+use Rattle.std.specs.Str.{bytes_eq}
+use Rattle.std.specs.Char.{is_ascii_digit}
 use Rattle.std.specs.Str.Parse.{digits_value}
 use Rattle.mq_line.specs.Pieces.{pieces, fields, joined}
 use Rattle.mq_line.specs.declared.reading.Line.{Line}
@@ -27,7 +28,7 @@ meaning Other = OtherLine
 
 -- one decimal digit or more, and at most so many
 abbrev pub is_number : ℕ → List ℕ → Bool
-is_number most digits = nat_lt 0 (length digits) && (nat_le (length digits) most && all_ascii_digits digits)
+is_number most digits = nat_lt 0 (length digits) && (nat_le (length digits) most && list_all is_ascii_digit digits)
 
 -- the number before the point, of 1 to 18 digits, where 1 to 9 digits follow it
 abbrev pub seconds_around : List (List ℕ) → Option ℕ
@@ -38,17 +39,23 @@ seconds_around _ = None
 abbrev pub seconds_of : List ℕ → Option ℕ
 seconds_of time = seconds_around (pieces 46 time)
 
+-- a version, a time and the fields that may not be empty are right
+pub record IsStamp (version time : List ℕ) (names : List (List ℕ)) (seconds : ℕ) : Type 0 where
+  pub protocol : version ≡ codes "0.7"
+  pub moment : seconds_of time ≡ Some seconds
+  pub named : AllByRecursion (λ name. name ≢ []) names
+
 -- what the fields of a line mean
 abbrev pub Means : List (List ℕ) → Meaning → Type 0
 Means fs (ConfigLine key value) = (first : List ℕ) × (more : List (List ℕ))
     × (fs ≡ codes "config" ∷ key ∷ first ∷ more) × (value ≡ joined (first ∷ more))
 Means fs ReadyLine = fs ≡ codes "config" ∷ codes "ready" ∷ []
-Means fs (ReportLine seconds subsystem event session params) = (time : List ℕ) × (more : List (List ℕ))
-    × (fs ≡ codes "report" ∷ codes "0.7" ∷ time ∷ subsystem ∷ event ∷ session ∷ more)
-    × (seconds_of time ≡ Some seconds) × (subsystem ≢ []) × (event ≢ []) × (session ≢ []) × (params ≡ joined more)
-Means fs (FilterLine seconds subsystem phase session token rest) = (time : List ℕ) × (more : List (List ℕ))
-    × (fs ≡ codes "filter" ∷ codes "0.7" ∷ time ∷ subsystem ∷ phase ∷ session ∷ token ∷ more)
-    × (seconds_of time ≡ Some seconds) × (subsystem ≢ []) × (phase ≢ []) × (session ≢ []) × (token ≢ []) × (rest ≡ joined more)
+Means fs (ReportLine seconds subsystem event session params) = (version time : List ℕ) × (more : List (List ℕ))
+    × (fs ≡ codes "report" ∷ version ∷ time ∷ subsystem ∷ event ∷ session ∷ more)
+    × IsStamp version time (subsystem ∷ event ∷ session ∷ []) seconds × (params ≡ joined more)
+Means fs (FilterLine seconds subsystem phase session token rest) = (version time : List ℕ) × (more : List (List ℕ))
+    × (fs ≡ codes "filter" ∷ version ∷ time ∷ subsystem ∷ phase ∷ session ∷ token ∷ more)
+    × IsStamp version time (subsystem ∷ phase ∷ session ∷ token ∷ []) seconds × (rest ≡ joined more)
 Means fs OtherLine = (first : List ℕ) × (more : List (List ℕ))
     × (fs ≡ first ∷ more) × (first ≢ codes "config") × (first ≢ codes "report") × (first ≢ codes "filter")
 
@@ -61,7 +68,7 @@ abbrev pub stamp_fault : List ℕ → List ℕ → List (List ℕ) → Option Li
 stamp_fault version time names =
     if not (bytes_eq version (codes "0.7")) then Some Version
     else (if is_none (seconds_of time) then Some Time
-    else (if list_any (λ name. bytes_eq name []) names then Some EmptyField else None))
+    else (if list_any (λ name. length name == 0) names then Some EmptyField else None))
 
 -- the fault of the fields after `config`
 abbrev pub config_fault : List (List ℕ) → Option LineFault

@@ -2,3 +2,5 @@ pub mod Pieces
 pub mod Grammar
 pub mod Parameters
 pub mod Results
+pub mod Text
+pub mod Search

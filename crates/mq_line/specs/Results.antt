@@ -1,13 +1,13 @@
 -- What a filter writes to smtpd.
 use Rattle.std.specs.Prelude.{ℕ, List, [], ◌∷◌, ◌++◌, codes}
-use Rattle.std.specs.List.{flat_map}
 use Rattle.mq_line.specs.Pieces.{joined}
+use Rattle.mq_line.specs.Text.{text_of}
 use Rattle.mq_line.specs.declared.results.Decision.{Decision}
 use Rattle.mq_line.specs.declared.results.Decision.TheVariants.{Proceed, RejectLimit, RejectService}
 
 -- the reports and the requests that the filter asks for
 abbrev pub registration : List ℕ
-registration = flat_map (λ l. l ++ 10 ∷ []) (
+registration = text_of (
     codes "register|report|smtp-in|link-auth"
     ∷ codes "register|report|smtp-in|link-disconnect"
     ∷ codes "register|report|smtp-in|tx-begin"

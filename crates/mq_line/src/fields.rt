@@ -26,33 +26,25 @@ pub fn last_field<'a>(text: &'a [u8]) -> (&'a [u8], &'a [u8])
     }
 }
 
-/// The fields of a line that weren't taken yet.
-#[derive(Clone, Copy)]
-pub struct Fields<'a> {
-    pub left: Option<&'a [u8]>,
+/// The next field of what is left of a line, and what is left behind it. `Short` where nothing is left.
+pub fn next_field<'a>(
+    left: Option<&'a [u8]>,
+) -> Result<(&'a [u8], Option<&'a [u8]>), LineFault>
+    ensures { MatchResult result (λ r. fields_left left.entry ≡ r.0.now ∷ fields_left r.1)
+        (λ fault. (fault ≡ Short) × (fields_left left.entry ≡ [])) }
+{
+    match left {
+        Some(text) => Ok(first_field(text)),
+        None => Err(LineFault::Short),
+    }
 }
 
-impl<'a> Fields<'a> {
-    /// Takes the next field.
-    pub fn take(&mut self) -> Result<&'a [u8], LineFault>
-        ensures { MatchResult result (λ field. fields_left self.old.left ≡ field.now ∷ fields_left self.new.left)
-            (λ fault. (fault ≡ Short) × (fields_left self.old.left ≡ [])) }
-    {
-        let Some(text) = self.left else {
-            return Err(LineFault::Short);
-        };
-        let (field, left) = first_field(text);
-        self.left = left;
-        Ok(field)
-    }
-
-    /// All that is left, with the bars in it.
-    pub fn rest(self) -> &'a [u8]
-        ensures { result.now ≡ joined (fields_left self.entry.left) }
-    {
-        match self.left {
-            Some(rest) => rest,
-            None => b"",
-        }
+/// What is left of a line, with the bars in it: nothing behind its last field.
+pub fn rest_of<'a>(left: Option<&'a [u8]>) -> &'a [u8]
+    ensures { result.now ≡ joined (fields_left left.entry) }
+{
+    match left {
+        Some(rest) => rest,
+        None => b"",
     }
 }

@@ -2,12 +2,16 @@
 #![tactic(auto)]
 
 mod faults;
+mod feed;
 mod fields;
+mod laws;
 mod parameters;
 mod reading;
 mod results;
 
 pub use faults::{FeedFault, LineFault, Memory};
+pub use feed::LineFeed;
+pub use laws::{any_cutting, feeding, one_meaning, one_splitting};
 pub use parameters::{AuthResult, auth_of, message_of};
-pub use reading::Line;
-pub use results::Decision;
+pub use reading::{Line, read_line};
+pub use results::{Decision, write_registration, write_result};

@@ -4,7 +4,7 @@ ghost use Rattle.std.specs.Option.{option_map, option_copied};
 ghost use Rattle.mq_line.specs.Pieces.{fields};
 ghost use Rattle.mq_line.specs.Parameters.{result_of as result_lem, auth_at_end as end_lem, auth, message};
 
-use crate::fields::{Fields, first_field, last_field};
+use crate::fields::{first_field, last_field, rest_of};
 
 /// The result of an authentication, as link-auth reports it.
 #[derive(Clone, Copy, Debug, PartialEq, Eq)]
@@ -41,7 +41,7 @@ pub fn auth_of<'a>(params: &'a [u8]) -> Option<(AuthResult, &'a [u8])>
 {
     let (first, left) = first_field(params);
     match result_of(first) {
-        Some(outcome) => Some((outcome, Fields { left }.rest())),
+        Some(outcome) => Some((outcome, rest_of(left))),
         None => auth_at_end(params),
     }
 }

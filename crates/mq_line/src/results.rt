@@ -1,6 +1,6 @@
 //! What a filter writes.
-ghost use Rattle.std.specs.Prelude.{◌≡◌, ◌++◌, OnOk, OnErr};
-ghost use Rattle.mq_line.specs.Results.{registration, result_text};
+ghost use Rattle.std.specs.Prelude.{◌≡◌, ◌++◌, OnOk, OnErr, vec_len, take};
+ghost use Rattle.mq_line.specs.Results.{registration, answer as answer_lem, result_text};
 
 use crate::faults::Memory;
 
@@ -10,4 +10,72 @@ pub enum Decision {
     Proceed,
     RejectLimit,
     RejectService,
+}
+
+fn answer_of(decision: Decision) -> &'static [u8]
+    ensures { result.now ≡ answer_lem decision }
+{
+    match decision {
+        Decision::Proceed => b"proceed",
+        Decision::RejectLimit => b"reject|550 daily recipient limit reached",
+        Decision::RejectService => b"reject|451 quota service unavailable",
+    }
+}
+
+const REGISTRATION: &[u8] = b"register|report|smtp-in|link-auth
+register|report|smtp-in|link-disconnect
+register|report|smtp-in|tx-begin
+register|report|smtp-in|tx-commit
+register|report|smtp-in|tx-rollback
+register|report|smtp-in|tx-reset
+register|filter|smtp-in|rcpt-to
+register|ready
+";
+
+/// Appends the registration.
+pub fn write_registration(out: &mut Vec<u8>) -> Result<(), Memory>
+    ensures ok { OnOk result (out.new.items ≡ out.old.items ++ registration) }
+    ensures err { OnErr result (out.new.items ≡ out.old.items) }
+{
+    out.extend_from_slice(REGISTRATION)?;
+    Ok(())
+}
+
+/// Appends the result, or a part of it where memory runs out.
+fn push_result(
+    out: &mut Vec<u8>,
+    session: &[u8],
+    token: &[u8],
+    decision: Decision,
+) -> Result<(), Memory>
+    ensures ok { OnOk result (out.new.items ≡ out.old.items ++ result_text session.now token.now decision) }
+    ensures front { take (vec_len out.old) out.new.items ≡ out.old.items }
+{
+    out.extend_from_slice(b"filter-result|")?;
+    out.extend_from_slice(session)?;
+    out.extend_from_slice(b"|")?;
+    out.extend_from_slice(token)?;
+    out.extend_from_slice(b"|")?;
+    out.extend_from_slice(answer_of(decision))?;
+    out.extend_from_slice(b"\n")?;
+    Ok(())
+}
+
+pub fn write_result(
+    session: &[u8],
+    token: &[u8],
+    decision: Decision,
+    out: &mut Vec<u8>,
+) -> Result<(), Memory>
+    ensures ok { OnOk result (out.new.items ≡ out.old.items ++ result_text session.now token.now decision) }
+    ensures err { OnErr result (out.new.items ≡ out.old.items) }
+{
+    let before = out.len();
+    match push_result(out, session, token, decision) {
+        Ok(()) => Ok(()),
+        Err(refused) => {
+            out.truncate(before);
+            Err(refused)
+        }
+    }
 }

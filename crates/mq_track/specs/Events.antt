@@ -1,7 +1,7 @@
 -- What a line tells of sessions, and which fault it has where it can't be told.
 use Rattle.std.specs.Prelude.{ℕ, List, codes, Bool, ◌||◌, is_none, if◌then◌else◌, Option, None, Some}
 use Rattle.std.specs.Str.{bytes_eq}
-use Rattle.mq_line.specs.Grammar.{Meaning, ConfigLine, ReadyLine, ReportLine, FilterLine, OtherLine}
+use Rattle.mq_line.specs.Grammar.{Meaning, ReportLine}
 use Rattle.mq_line.specs.Parameters.{auth, message}
 use Rattle.mq_line.specs.declared.parameters.AuthResult.{AuthResult}
 use Rattle.mq_line.specs.declared.parameters.AuthResult.TheVariants.{Pass, Fail, Error}

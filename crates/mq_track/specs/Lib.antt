@@ -4,3 +4,4 @@ pub mod Sessions
 pub mod State
 pub mod Steps
 pub mod Inside
+pub mod Laws

@@ -1,13 +1,13 @@
 -- Login and open transaction of a session, found by looking back over the accepted lines, the newest of which comes first.
-use Rattle.std.specs.Prelude.{ℕ, ◌+◌, List, [], ◌∷◌, Bool, true, false, ◌&&◌, ◌||◌, nat_le, is_some, if◌then◌else◌, Option, None, Some, count_by}
+use Rattle.std.specs.Prelude.{ℕ, ◌+◌, List, [], ◌∷◌, Bool, true, false, ◌&&◌, ◌||◌, nat_le, if◌then◌else◌, Option, None, Some}
 use Rattle.std.specs.List.{list_any}
-use Rattle.std.specs.Option.{option_or, option_map, option_and_then}
+use Rattle.std.specs.Option.{option_or, option_and_then}
 use Rattle.std.specs.Str.{bytes_eq}
 use Rattle.mq_line.specs.Grammar.{Meaning}
 use Rattle.mq_track.specs.Events.{Event, Passed, Began, Ended, Left, Nothing, event, unreadable}
 use Rattle.mq_track.specs.declared.closing.Closing.{Closing}
 use Rattle.mq_track.specs.declared.closing.CloseEnd.{CloseEnd}
-use Rattle.mq_track.specs.declared.closing.CloseEnd.TheVariants.{Commit, Drop}
+use Rattle.mq_track.specs.declared.closing.CloseEnd.TheVariants.{Drop}
 use Rattle.mq_track.specs.declared.fault.TrackFault.{TrackFault}
 use Rattle.mq_track.specs.declared.fault.TrackFault.TheVariants.{Exhausted}
 
@@ -70,7 +70,8 @@ pub record Transaction : Type 0 where
 
 -- how many tx-begins there are, over all sessions
 abbrev pub begin_count : List Meaning → ℕ
-begin_count past = count_by (λ line. is_begin (event line)) past
+begin_count [] = 0
+begin_count (line ∷ past) = if is_begin (event line) then begin_count past + 1 else begin_count past
 
 -- the transaction that an event begins in s, under this number
 abbrev pub opened_by : List ℕ → ℕ → Event → Option Transaction
@@ -113,13 +114,13 @@ closing past line = option_and_then (λ s. option_and_then (closing_of s (event 
 
 -- ---- faults
 
--- a tx-begin has no number left
-abbrev pub exhausts : List Meaning → Meaning → Bool
-exhausts past line = is_begin (event line) && nat_le 4294967295 (begin_count past)
+-- a tx-begin has no number left after so many of them
+abbrev pub is_exhausted : ℕ → Event → Bool
+is_exhausted count e = is_begin e && nat_le 4294967295 count
 
 -- the first fault of a line after the past
 abbrev pub fault : List Meaning → Meaning → Option TrackFault
-fault past line = option_or (unreadable line) (if exhausts past line then Some Exhausted else None)
+fault past line = option_or (unreadable line) (if is_exhausted (begin_count past) (event line) then Some Exhausted else None)
 
 -- ---- standing
 

@@ -1,5 +1,5 @@
 -- A tracker as its callers see it: what is known of each session, and how many transactions began.
-use Rattle.std.specs.Prelude.{◌≡◌, ℕ, List, Option, None, Some, unwrap_or, if◌then◌else◌}
+use Rattle.std.specs.Prelude.{◌≡◌, ◌<◌, ℕ, List, Option, None, unwrap_or, if◌then◌else◌}
 use Rattle.std.specs.Map.{lookup}
 use Rattle.std.specs.Str.{bytes_eq}
 use Rattle.mq_line.specs.Grammar.{Meaning}
@@ -38,3 +38,8 @@ abbrev pub shown : Standing → Position
 shown standing.Anonymous = Unknown
 shown (standing.Login name) = LoggedIn name.now
 shown (standing.Open name txn at) = Sending name.now txn at
+
+-- numbers of transactions begin at 1
+abbrev pub IsNumbered : Standing → Type 0
+IsNumbered (standing.Open name txn at) = 0 < txn
+IsNumbered _ = Unit {0}

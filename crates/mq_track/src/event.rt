@@ -1,4 +1,4 @@
-ghost use Rattle.std.specs.Prelude.{◌≡◌, List, ℕ, MatchResult, Some, None};
+ghost use Rattle.std.specs.Prelude.{◌≡◌, ◌≢◌, List, ℕ, MatchResult, IfErr, Some, None};
 ghost use Rattle.mq_line.specs.Grammar.{meaning};
 ghost use Rattle.mq_line.specs.Parameters.{message};
 ghost use Rattle.mq_track.specs.Events.{event, unreadable, report_event, report_fault, end_event};
@@ -32,9 +32,10 @@ pub(crate) enum Event<'a> {
 
 /// What a line tells.
 pub(crate) fn event_of<'a>(line: &Line<'a>) -> Result<Event<'a>, TrackFault>
-    ensures { MatchResult result
+    ensures told { MatchResult result
         (λ e. (unreadable (meaning line.now) ≡ None) × (told e ≡ event (meaning line.now)))
         (λ f. unreadable (meaning line.now) ≡ Some f) }
+    ensures no_memory { IfErr result (λ f. f ≢ TrackFault.Memory) }
 {
     let Line::Report {
         seconds,
@@ -59,9 +60,10 @@ fn report_event<'a>(
     session: &'a [u8],
     params: &'a [u8],
 ) -> Result<Event<'a>, TrackFault>
-    ensures { MatchResult result
+    ensures told { MatchResult result
         (λ e. (report_fault name.now params.now ≡ None) × (told e ≡ report_event seconds name.now session.now params.now))
         (λ f. report_fault name.now params.now ≡ Some f) }
+    ensures no_memory { IfErr result (λ f. f ≢ TrackFault.Memory) }
 {
     if name == b"link-auth".as_slice() {
         return match auth_of(params) {

@@ -7,6 +7,7 @@
 mod closing;
 mod event;
 mod fault;
+pub mod laws;
 mod sessions;
 mod standing;
 mod tracker;

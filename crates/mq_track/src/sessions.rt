@@ -1,4 +1,4 @@
-ghost use Rattle.std.specs.Prelude.{◌≡◌, [], ℕ, Some, None, OnOk, OnErr, is_some, IsTrue, ◌||◌};
+ghost use Rattle.std.specs.Prelude.{◌≡◌, [], ℕ, Some, None, OnOk, OnErr, is_some, IsTrue, ◌||◌, ◌<◌};
 ghost use Rattle.std.specs.Option.{option_copied};
 
 use std::alloc::{AllocError, Global};
@@ -11,6 +11,7 @@ pub(crate) struct Transaction {
     pub(crate) txn: u32,
     pub(crate) message: Vec<u8>,
     pub(crate) at: u64,
+    ghost numbered: { 0 < txn },
 }
 
 /// What is known of a session: a login, an open transaction, or both.

@@ -29,12 +29,12 @@ impl Model for Tracker {
 
 impl Tracker {
     ghost use Rattle.std.specs.Option.{option_copied};
-    ghost use Rattle.std.specs.Prelude.{◌≡◌, ◌<◌, ◌≤◌, List, ℕ, [], ◌∷◌, Err, Some, None, IfOk, IfErr, IfSome, OnOk, OnErr, MatchResult, IsTrue};
+    ghost use Rattle.std.specs.Prelude.{◌≡◌, ◌<◌, ◌≤◌, List, ℕ, [], ◌∷◌, Err, Some, None, IfOk, IfErr, IfSome, OnOk, OnErr, MatchBool, MatchResult, IsTrue};
     ghost use Rattle.mq_line.specs.Grammar.{Meaning, meaning};
     ghost use Rattle.mq_track.specs.Events.{event, Passed, Began, Ended, Left};
     ghost use Rattle.mq_track.specs.Told.{told};
-    ghost use Rattle.mq_track.specs.Sessions.{closing, fault, position, is_begin};
-    ghost use Rattle.mq_track.specs.State.{StandsAt, shown, known};
+    ghost use Rattle.mq_track.specs.Sessions.{closing, fault, position, is_exhausted};
+    ghost use Rattle.mq_track.specs.State.{StandsAt, IsNumbered, shown};
     ghost use Rattle.mq_track.specs.Steps.{closing_in, brought, Steps, needs_memory};
 
     /// A tracker that accepted no line yet.
@@ -52,6 +52,76 @@ impl Tracker {
             alloc,
             sessions: Sessions::new(alloc),
             begins,
+        }
+    }
+
+    /// Takes the next line, and answers the closing of a transaction that it brings.
+    ///
+    /// Only reports of the subsystem smtp-in count, of link-auth, link-disconnect, tx-begin,
+    /// tx-commit, tx-rollback and tx-reset. Every other line is accepted and changes nothing. After
+    /// a fault the tracker is unchanged: that line isn't accepted. `Memory` comes only at a login
+    /// that passed and at a tx-begin.
+    pub fn apply(&mut self, line: &Line<'_>) -> Result<Option<Closing>, TrackFault>
+        ensures refused { (past : List Meaning) → StandsAt self.old past →
+            IfSome (fault past (meaning line.now)) (λ f. result ≡ Err f) }
+        ensures accepted { (past : List Meaning) → StandsAt self.old past → fault past (meaning line.now) ≡ None →
+            MatchResult result (λ c. c ≡ closing past (meaning line.now)) (λ f. f ≡ TrackFault.Memory) }
+        ensures stands { OnOk result ((past : List Meaning) → StandsAt self.old past → StandsAt self.new (meaning line.now ∷ past)) }
+        ensures memory { result ≡ Err TrackFault.Memory → IsTrue (needs_memory (event (meaning line.now))) }
+        ensures unchanged { OnErr result (self.new ≡ self.old) }
+    {
+        let event = event_of(line)?;
+        self.take(event)
+    }
+
+    /// How a session stands after the accepted lines. Names of sessions compare byte for byte.
+    pub fn standing(&self, session: &[u8]) -> Standing<'_>
+        ensures numbered { IsNumbered result }
+        ensures position { (past : List Meaning) → StandsAt self.now past → shown result ≡ position past session.now }
+    {
+        let Some(record) = self.sessions.get(session) else {
+            return Standing::Anonymous;
+        };
+        let Some(name) = &record.login else {
+            return Standing::Anonymous;
+        };
+        let name = name.as_slice();
+        match &record.transaction {
+            Some(open) => Standing::Open {
+                name,
+                txn: open.txn,
+                at: open.at,
+            },
+            None => Standing::Login { name },
+        }
+    }
+
+    /// Takes what a line tells.
+    fn take(&mut self, event: Event<'_>) -> Result<Option<Closing>, TrackFault>
+        ensures ok { MatchBool (is_exhausted self.old.begins (told event.entry))
+            (result ≡ Err TrackFault.Exhausted)
+            (MatchResult result
+                (λ c. (c ≡ brought self.old (told event.entry)) × Steps self.old self.new (told event.entry))
+                (λ f. (f ≡ TrackFault.Memory) × IsTrue (needs_memory (told event.entry)))) }
+        ensures err { OnErr result (self.new ≡ self.old) }
+    {
+        match event {
+            Event::Passed { session, name } => {
+                self.sessions.log_in(session, name)?;
+                Ok(None)
+            }
+            Event::Began {
+                session,
+                message,
+                at,
+            } => self.begin(session, message, at),
+            Event::Ended {
+                session,
+                message,
+                end,
+            } => Ok(self.end(session, message, end)),
+            Event::Left { session } => Ok(self.leave(session)),
+            Event::Nothing => Ok(None),
         }
     }
 

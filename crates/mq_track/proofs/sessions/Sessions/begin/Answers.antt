@@ -1,4 +1,4 @@
-use Rattle.std.proofs.Common.{◌≡◌, rules, refl}
+use Rattle.std.proofs.Common.{rules, refl}
 use Rattle.mq_track.proofs.Records.{learned, begun, begun_first}
 use Rattle.mq_track.proofs.sessions.Sessions.begin.Goals as goal
 

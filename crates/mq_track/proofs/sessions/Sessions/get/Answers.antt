@@ -1,5 +1,3 @@
-use Rattle.std.proofs.Common.{◌∙◌, ap, rules}
-use Rattle.mq_track.specs.Inside.{known_in}
 use Rattle.mq_track.proofs.Records.{known-entry}
 use Rattle.mq_track.proofs.sessions.Sessions.get.Goals as goal
 

@@ -1,5 +1,5 @@
-use Rattle.std.proofs.Common.{◌≡◌, ◌∙◌, ap, sym, rules, refl, List, ℕ}
-use Rattle.mq_track.proofs.Records.{known-entry, learned, named, named_first}
+use Rattle.std.proofs.Common.{rules, refl}
+use Rattle.mq_track.proofs.Records.{learned, named, named_first}
 use Rattle.mq_track.proofs.sessions.Sessions.log_in.Goals as goal
 
 pub returns-in-Some-clause-ok : goal.returns-in-Some-clause-ok

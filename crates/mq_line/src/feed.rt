@@ -1,0 +1,108 @@
+//! A text that comes in pieces, and its lines.
+ghost use Rattle.std.specs.Prelude.{◌≡◌, ◌++◌, ◌∷◌, ◌↔◌, [], ℕ, List, length, slice_get, OnOk, OnErr, IfOk, IfErr, IfSome, IsErrOf, IsOk, MatchOption};
+ghost use Rattle.std.specs.Option.{option_copied};
+ghost use Rattle.std.specs.Borrow.{sem};
+ghost use Rattle.std.specs.Io.BufRead.{Rests};
+ghost use Rattle.mq_line.specs.Text.{IsLine, IsTooLong, Holds, lines, bytes_taken};
+ghost use Rattle.mq_line.specs.Search.{IsSearched, IsFront};
+ghost use Rattle.mq_line.specs.contracts.feed.LineFeed.{the_row};
+
+use crate::faults::{FeedFault, Memory};
+use bstr::ByteSlice;
+use std::alloc::Global;
+use std::marker::Model;
+
+/// The most bytes of a line, its LF not counted.
+pub const MAX_LINE: usize = 65_536;
+
+/// What stands in front of the bytes that a feed holds.
+#[derive(Clone, Copy)]
+enum Front {
+    /// A line of so many bytes, and its LF.
+    Whole(usize),
+    /// Bytes that may become a line.
+    Open,
+    /// More bytes than a line has, without an LF.
+    Endless,
+}
+
+/// What stands in front of `held`, of which the first bytes were searched and have no LF.
+fn front_of(held: &[u8], searched: usize) -> Front
+    requires { IsSearched held.now searched }
+    ensures { IsFront held.now result }
+{
+    let end = held.len().min(MAX_LINE + 1);
+    let unsearched = &held[searched..end];
+    match unsearched.find_byte(b'\n') {
+        Some(place) => Front::Whole(searched + place),
+        None if end > MAX_LINE => Front::Endless,
+        None => Front::Open,
+    }
+}
+
+/// Takes the pieces of a text and gives its lines.
+#[derive(Drop)]
+pub struct LineFeed {
+    // All that was fed.
+    bytes: Vec<u8>,
+    // How much of it was taken.
+    taken: usize,
+    // How many bytes of the rest have been searched for an LF, in vain.
+    searched: usize,
+}
+
+impl Model for LineFeed {
+    ghost use Rattle.std.specs.Prelude.{ℕ, List, drop, length, ◌≤◌};
+    ghost use Rattle.mq_line.specs.Search.{IsSearched};
+
+    // The bytes that were fed and not taken.
+    ghost Value = { List ℕ };
+
+    ghost view = { λ f. drop f.taken f.bytes.items };
+
+    ghost invariant = { λ f. (f.taken ≤ length f.bytes.items) × IsSearched (drop f.taken f.bytes.items) f.searched };
+}
+
+impl LineFeed {
+    pub fn new(alloc: Global) -> LineFeed
+        ensures { result ≡ [] }
+    {
+        LineFeed {
+            bytes: Vec::new(alloc),
+            taken: 0,
+            searched: 0,
+        }
+    }
+
+    pub fn feed(&mut self, piece: &[u8]) -> Result<(), Memory>
+        ensures ok { OnOk result (self.new ≡ self.old ++ piece.now) }
+        ensures err { OnErr result (self.new ≡ self.old) }
+    {
+        self.bytes.extend_from_slice(piece)?;
+        Ok(())
+    }
+
+    pub fn next_line(&mut self) -> Result<Option<&[u8]>, FeedFault>
+        ensures front { IfOk result (λ next. MatchOption next (IsLine self.old)
+            (λ line. IsLine line.now × (rest : List ℕ) × (self.old ≡ line.now ++ 10 ∷ rest))) }
+        ensures too_long { IfErr result (λ fault. (fault ≡ FeedFault.TooLong) × IsTooLong self.old) }
+        ensures* left { sem 𝓛 (Rests the_row self.entry (λ held. self.old ≡ bytes_taken result ++ held)) }
+    {
+        let held = &self.bytes[self.taken..];
+        match front_of(held, self.searched) {
+            Front::Whole(length) => {
+                self.taken = self.taken + length + 1;
+                self.searched = 0;
+                Ok(Some(&held[..length]))
+            }
+            Front::Open => {
+                self.searched = held.len();
+                Ok(None)
+            }
+            Front::Endless => {
+                self.searched = MAX_LINE + 1;
+                Err(FeedFault::TooLong)
+            }
+        }
+    }
+}
