@@ -3,5 +3,6 @@ mod AuthLaws
 mod TimeLaws
 mod SearchLaws
 mod TextLaws
+mod FeedLaws
 mod ResultLaws
 mod GrammarLaws

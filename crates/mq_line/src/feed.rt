@@ -1,5 +1,5 @@
 //! A text that comes in pieces, and its lines.
-ghost use Rattle.std.specs.Prelude.{◌≡◌, ◌++◌, ◌∷◌, ◌↔◌, [], ℕ, List, length, slice_get, OnOk, OnErr, IfOk, IfErr, IfSome, IsErrOf, IsOk, MatchOption};
+ghost use Rattle.std.specs.Prelude.{◌≡◌, ◌++◌, ◌∷◌, ◌↔◌, ◌≢◌, [], Ok, Err, ℕ, List, length, slice_get, OnOk, OnErr, IfOk, IfErr, IfSome, IsErrOf, IsOk, MatchOption};
 ghost use Rattle.std.specs.Option.{option_copied};
 ghost use Rattle.std.specs.Borrow.{sem};
 ghost use Rattle.std.specs.Io.BufRead.{Rests};
@@ -83,9 +83,19 @@ impl LineFeed {
     }
 
     pub fn next_line(&mut self) -> Result<Option<&[u8]>, FeedFault>
+        // Of the text that was fed, the line behind those that were taken, where there is one.
+        ensures next { (text : List ℕ) (taken : List (List ℕ)) → Holds text taken self.old →
+            IfOk result (λ next. option_copied next ≡ slice_get (lines text) (length taken)) }
+
+        // What is given stands in front, with its LF. Where nothing is given, a line may yet come.
         ensures front { IfOk result (λ next. MatchOption next (IsLine self.old)
             (λ line. IsLine line.now × (rest : List ℕ) × (self.old ≡ line.now ++ 10 ∷ rest))) }
-        ensures too_long { IfErr result (λ fault. (fault ≡ FeedFault.TooLong) × IsTooLong self.old) }
+
+        // The one fault comes exactly where what stands in front is too long for a line.
+        ensures too_long { (result ≡ Err FeedFault.TooLong) ↔ IsTooLong self.old }
+        ensures fault { IfErr result (λ fault. fault ≡ FeedFault.TooLong) }
+
+        // What is given is taken, its LF included, and else nothing is.
         ensures* left { sem 𝓛 (Rests the_row self.entry (λ held. self.old ≡ bytes_taken result ++ held)) }
     {
         let held = &self.bytes[self.taken..];
@@ -103,6 +113,22 @@ impl LineFeed {
                 self.searched = MAX_LINE + 1;
                 Err(FeedFault::TooLong)
             }
+        }
+    }
+
+    pub fn finish(&self) -> Result<(), FeedFault>
+        ensures ok { (result ≡ Ok tt) ↔ (self.now ≡ []) }
+        ensures too_long { (result ≡ Err FeedFault.TooLong) ↔ IsTooLong self.now }
+        ensures cut_line { result ≡ Err FeedFault.CutLine → (self.now ≢ []) × ¬ IsTooLong self.now }
+    {
+        let held = &self.bytes[self.taken..];
+        if held.is_empty() {
+            return Ok(());
+        }
+        match front_of(held, self.searched) {
+            Front::Endless => Err(FeedFault::TooLong),
+            Front::Whole(_) => Err(FeedFault::CutLine),
+            Front::Open => Err(FeedFault::CutLine),
         }
     }
 }
