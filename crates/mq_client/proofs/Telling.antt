@@ -3,9 +3,8 @@ use Rattle.std.proofs.Common.{◌≡◌, ℕ, ◌+◌, ◌-◌, ◌<◌, ◌≤�
 use Rattle.mq_frame.specs.Spelling.{SpellsReply}
 use Rattle.mq_frame.specs.declared.message.Request.{Request}
 use Rattle.mq_frame.specs.declared.message.Reply.{Reply}
-use Rattle.mq_client.specs.Wire.{request_frame}
 use Rattle.mq_client.specs.Link.{Tells}
-use Rattle.mq_client.specs.Exchanges.{Exchange, Fails, Brings, IsMarked, decides, told_of, told_all}
+use Rattle.mq_client.specs.Exchanges.{Exchange, Fails, Brings, IsMarked, decides, request_frame, told_of, told_all}
 use Rattle.mq_client.specs.declared.link.Outcome.{Outcome}
 use Rattle.mq_client.specs.declared.link.Outcome.TheVariants.{Answered}
 use Rattle.mq_client.specs.declared.link.Told.{Told}

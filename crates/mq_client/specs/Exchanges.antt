@@ -6,8 +6,7 @@ use Rattle.mq_frame.specs.declared.message.Request.{Request}
 use Rattle.mq_frame.specs.declared.message.Request.TheVariants.{Reserve, Settle, Release}
 use Rattle.mq_frame.specs.declared.message.Reply.{Reply}
 use Rattle.mq_frame.specs.declared.message.Reply.TheVariants.{Granted, Full, Settled, Released, Closed, Mismatch, TooMany, Conflict}
-use Rattle.mq_frame.specs.Spelling.{SpellsReply}
-use Rattle.mq_client.specs.Wire.{request_frame}
+use Rattle.mq_frame.specs.Spelling.{SpellsReply, request_body, frame}
 use Rattle.mq_client.specs.declared.link.Outcome.{Outcome}
 use Rattle.mq_client.specs.declared.link.Outcome.TheVariants.{Answered, Faulted}
 use Rattle.mq_client.specs.declared.link.Told.{Told}
@@ -112,6 +111,10 @@ pub data Sends (n : ℕ) (queue : List Request) : List Exchange → List Request
 abbrev pub IsSent : ℕ → Request → List Exchange → Bool → Type 0
 IsSent n request tries true = (reply : Reply) × AreTries n request tries (Some reply)
 IsSent n request tries false = IsUndecided n request tries
+
+-- the frame of a request
+abbrev pub request_frame : Request → List ℕ
+request_frame request = frame (request_body request)
 
 -- an exchange as the link tells it
 abbrev pub told_of : Exchange → Told

@@ -1,4 +1,3 @@
-pub mod Wire
 pub mod Link
 pub mod Exchanges
 pub mod Past

@@ -10,7 +10,6 @@ mod held;
 mod link;
 mod script;
 mod tries;
-mod wire;
 
 pub use client::Client;
 pub use faults::Memory;

@@ -3,14 +3,12 @@ ghost use Rattle.std.specs.Prelude.{◌≡◌, ◌<◌, ◌≤◌, ◌∷◌, []
 ghost use Rattle.std.specs.List.{AllByRecursion};
 ghost use Rattle.mq_frame.specs.Range.{IsRequest};
 ghost use Rattle.mq_client.specs.Link.{Tells};
-ghost use Rattle.mq_client.specs.Wire.{request_frame};
-ghost use Rattle.mq_client.specs.Exchanges.{Exchange, IsTry, AreTries, IsSent, Sends, told_of, told_all, answers_reserve as answers_reserve_lem, answers_closing as answers_closing_lem, decides as decides_lem};
+ghost use Rattle.mq_client.specs.Exchanges.{Exchange, IsTry, AreTries, IsSent, Sends, request_frame, told_of, told_all, answers_reserve as answers_reserve_lem, answers_closing as answers_closing_lem, decides as decides_lem};
 ghost use Rattle.mq_frame.specs.declared.message.Request.{Request};
 
 use crate::link::Link;
-use crate::wire::encode_request;
 use log::{Log, warn};
-use mq_frame::{DecodeFault, Id, Reply, Request, decode_reply};
+use mq_frame::{DecodeFault, Id, Reply, Request, decode_reply, encode_request};
 use std::alloc::Global;
 use std::collections::VecDeque;
 
