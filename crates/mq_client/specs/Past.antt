@@ -9,12 +9,13 @@ use Rattle.mq_frame.specs.declared.message.Request.{Request}
 use Rattle.mq_frame.specs.declared.message.Request.TheVariants.{Reserve, Settle, Release}
 use Rattle.mq_frame.specs.declared.message.Reply.{Reply}
 use Rattle.mq_frame.specs.declared.message.Reply.TheVariants as reply
-use Rattle.mq_client.specs.Exchanges.{Exchange, AreTries, Sends, decided_by, decisions}
+use Rattle.mq_client.specs.Exchanges.{Exchange, AreTries, Sends, decided_by, decisions, told_all}
 use Rattle.mq_track.specs.declared.closing.CloseEnd.{CloseEnd}
 use Rattle.mq_track.specs.declared.closing.CloseEnd.TheVariants as ending
 use Rattle.mq_client.specs.declared.held.Asked.{Asked}
 use Rattle.mq_client.specs.declared.held.Asked.TheVariants as asked
 use Rattle.mq_client.specs.declared.held.Held.{Held}
+use Rattle.mq_client.specs.declared.link.Told.{Told}
 
 -- who asks: a host, and a run of its filter
 pub record Source : Type 0 where
@@ -202,6 +203,23 @@ pub record Makes (old new : State) (x : Step) : Type 0 where
   pub tries : new.tries ≡ old.tries
   pub plays : (P : List Step) → StandsAt old P → Plays old.source old.tries P x
   pub stands : (P : List Step) → StandsAt old P → StandsAt new (x ∷ P)
+
+-- each of some steps could come next when it came, after the past
+abbrev pub ArePlayed : Source → (tries : ℕ) → (past steps : List Step) → Type 0
+ArePlayed s tries P [] = Unit {0}
+ArePlayed s tries P (x ∷ steps) = Plays s tries (steps ++ P) x × ArePlayed s tries P steps
+
+-- the same of some steps, of which the newest comes first
+pub record MakesAll (old new : State) (steps : List Step) : Type 0 where
+  pub source : new.source ≡ old.source
+  pub tries : new.tries ≡ old.tries
+  pub plays : (P : List Step) → StandsAt old P → ArePlayed old.source old.tries P steps
+  pub stands : (P : List Step) → StandsAt old P → StandsAt new (steps ++ P)
+
+-- the exchanges of some steps as the link tells them, the oldest first
+abbrev pub told_steps : List Step → List Told
+told_steps [] = []
+told_steps (x ∷ steps) = told_steps steps ++ told_all x.group
 
 -- few are live or waiting, and each live transaction has a number left for its closing
 pub record IsBounded (v : View) : Type 0 where

@@ -6,13 +6,15 @@
 
 mod client;
 mod faults;
+mod filter;
 mod held;
 mod link;
 mod script;
 mod tries;
 
 pub use client::Client;
-pub use faults::Memory;
+pub use faults::{FilterFault, Memory};
+pub use filter::Ended;
 pub use held::{Asked, Held};
 pub use link::{Bytes, Link, LinkFault, Outcome, Told};
 pub use script::ScriptLink;

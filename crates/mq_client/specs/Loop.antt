@@ -1,0 +1,46 @@
+-- The loop over lines: where it stands, and what each of its parts does.
+use Rattle.std.specs.Prelude.{◌≡◌, ◌⊎◌, ℕ, List, [], ◌∷◌, ◌++◌, Bool, true, false, Option, None, Some}
+use Rattle.std.specs.Io.KnownBytes.{Appends}
+use Rattle.mq_line.specs.Text.{Holds}
+use Rattle.mq_track.specs.State.{StandsAt as TracksAt}
+use Rattle.mq_client.specs.Link.{Tells}
+use Rattle.mq_client.specs.Exchanges.{told_all}
+use Rattle.mq_client.specs.Past.{Step, State, Makes, MakesAll, told_steps}
+use Rattle.mq_client.specs.Filter.{answer_count}
+use Rattle.mq_client.specs.Run.{Stage, Waiting, Running, Reaches, HasText, Origin}
+use Rattle.mq_client.specs.declared.filter.Filter.{Filter}
+use Rattle.mq_client.specs.declared.link.Told.{Told}
+
+-- the filter has come to the stage
+abbrev pub IsAt : Filter → Stage → Type 0
+IsAt f Waiting = (f.is_ready ≡ false) × TracksAt f.tracker [] × (f.answers ≡ 0)
+IsAt f (Running L) = (f.is_ready ≡ true) × TracksAt f.tracker L × (f.answers ≡ answer_count L)
+
+-- a client made one step, or none
+abbrev pub MakesOne : State → State → Option Step → Type 0
+MakesOne old new None = new ≡ old
+MakesOne old new (Some x) = Makes old new x
+
+abbrev pub told_one : Option Step → List Told
+told_one None = []
+told_one (Some x) = told_all x.group
+
+-- what was done for a line: a step, or none, and a text
+pub record Does (sink sink' : Option (List ℕ)) (told told' : Option (List Told)) (client client' : State) (step : Option Step) (text : List ℕ) : Type 0 where
+  pub written : Appends sink sink' text
+  pub exchanged : Tells told told' (told_one step)
+  pub made : MakesOne client client' step
+
+-- so far these bytes came, of which the last aren't handled yet
+pub record SoFar (o : Origin) (bytes left : List ℕ) (f : Filter) (sink : Option (List ℕ)) (told : Option (List Told)) (client : State) : Type 0 where
+  pub lines : List (List ℕ)
+  pub stage : Stage
+  pub steps : List Step
+  pub text : List ℕ
+  pub whole : Holds bytes lines left
+  pub reaches : Reaches lines stage
+  pub is_at : IsAt f stage
+  pub has_text : HasText stage steps text
+  pub written : Appends o.sink sink text
+  pub exchanged : Tells o.told told (told_steps steps)
+  pub made : MakesAll o.client client steps
