@@ -3,3 +3,4 @@ pub mod Sending
 pub mod Counting
 pub mod Making
 pub mod Keeping
+pub mod Looping

@@ -1,13 +1,18 @@
 -- The loop over lines: where it stands, and what each of its parts does.
 use Rattle.std.specs.Prelude.{◌≡◌, ◌⊎◌, ℕ, List, [], ◌∷◌, ◌++◌, Bool, true, false, Option, None, Some}
 use Rattle.std.specs.Io.KnownBytes.{Appends}
+use Rattle.mq_line.specs.Grammar.{Meaning}
+use Rattle.mq_line.specs.Results.{result_text}
 use Rattle.mq_line.specs.Text.{Holds}
+use Rattle.mq_line.specs.declared.results.Decision.{Decision}
 use Rattle.mq_track.specs.State.{StandsAt as TracksAt}
 use Rattle.mq_client.specs.Link.{Tells}
 use Rattle.mq_client.specs.Exchanges.{told_all}
 use Rattle.mq_client.specs.Past.{Step, State, Makes, MakesAll, told_steps}
-use Rattle.mq_client.specs.Filter.{answer_count}
+use Rattle.mq_client.specs.Filter.{query, Answers, answer_count}
 use Rattle.mq_client.specs.Run.{Stage, Waiting, Running, Reaches, HasText, Origin}
+use Rattle.mq_client.specs.declared.faults.FilterFault.{FilterFault}
+use Rattle.mq_client.specs.declared.faults.FilterFault.TheVariants as fault
 use Rattle.mq_client.specs.declared.filter.Filter.{Filter}
 use Rattle.mq_client.specs.declared.link.Told.{Told}
 
@@ -44,3 +49,13 @@ pub record SoFar (o : Origin) (bytes left : List ℕ) (f : Filter) (sink : Optio
   pub written : Appends o.sink sink text
   pub exchanged : Tells o.told told (told_steps steps)
   pub made : MakesAll o.client client steps
+
+-- what a request of smtpd makes and is answered by
+abbrev pub Replies : List Meaning → (subsystem phase session token : List ℕ) → Option Step → List ℕ → Type 0
+Replies L subsystem phase session token step text = (d : Decision) × Answers (query L subsystem phase session) step d × (text ≡ result_text session token d)
+
+-- the faults that may cut a line's work short
+abbrev pub IsCut : FilterFault → (write_failed : Bool) → Type 0
+IsCut fault.Write write_failed = write_failed ≡ true
+IsCut fault.Memory write_failed = Unit {0}
+IsCut f write_failed = ⊥

@@ -4,11 +4,13 @@
 //! `docs/CLIENT.md` has the rules.
 #![tactic(auto)]
 
+mod answer;
 mod client;
 mod faults;
 mod filter;
 mod held;
 mod link;
+mod put;
 mod script;
 mod tries;
 
