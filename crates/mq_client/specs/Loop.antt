@@ -1,18 +1,23 @@
 -- The loop over lines: where it stands, and what each of its parts does.
 use Rattle.std.specs.Prelude.{◌≡◌, ◌⊎◌, ℕ, List, [], ◌∷◌, ◌++◌, Bool, true, false, Option, None, Some}
 use Rattle.std.specs.Io.KnownBytes.{Appends}
-use Rattle.mq_line.specs.Grammar.{Meaning}
+use Rattle.mq_line.specs.Grammar.{Meaning, ReadyLine, Reads}
 use Rattle.mq_line.specs.Results.{result_text}
-use Rattle.mq_line.specs.Text.{Holds}
+use Rattle.mq_line.specs.Text.{IsLine, Holds}
 use Rattle.mq_line.specs.declared.results.Decision.{Decision}
+use Rattle.mq_track.specs.Sessions.{fault as track_fault}
 use Rattle.mq_track.specs.State.{StandsAt as TracksAt}
+use Rattle.mq_track.specs.declared.fault.TrackFault.{TrackFault}
+use Rattle.mq_track.specs.declared.fault.TrackFault.TheVariants as track
 use Rattle.mq_client.specs.Link.{Tells}
 use Rattle.mq_client.specs.Exchanges.{told_all}
 use Rattle.mq_client.specs.Past.{Step, State, Makes, MakesAll, told_steps}
 use Rattle.mq_client.specs.Filter.{query, Answers, answer_count}
-use Rattle.mq_client.specs.Run.{Stage, Waiting, Running, Reaches, HasText, Origin}
+use Rattle.mq_client.specs.Run.{Stage, Waiting, Running, Reaches, HasText, Origin, StopsAt, is_early, is_stamped}
 use Rattle.mq_client.specs.declared.faults.FilterFault.{FilterFault}
 use Rattle.mq_client.specs.declared.faults.FilterFault.TheVariants as fault
+use Rattle.mq_client.specs.declared.filter.Early.{Early}
+use Rattle.mq_client.specs.declared.filter.Early.TheVariants as early
 use Rattle.mq_client.specs.declared.filter.Filter.{Filter}
 use Rattle.mq_client.specs.declared.link.Told.{Told}
 
@@ -59,3 +64,32 @@ abbrev pub IsCut : FilterFault → (write_failed : Bool) → Type 0
 IsCut fault.Write write_failed = write_failed ≡ true
 IsCut fault.Memory write_failed = Unit {0}
 IsCut f write_failed = ⊥
+
+-- what a line before `config|ready` is
+abbrev pub IsSorted : Meaning → Early → Type 0
+IsSorted m early.Passed = is_early m ≡ true
+IsSorted m early.Ready = m ≡ ReadyLine
+IsSorted m early.TooEarly = is_stamped m ≡ true
+
+-- a fault of the tracker as the filter's
+abbrev pub filter_fault : TrackFault → FilterFault
+filter_fault track.Auth = fault.Track track.Auth
+filter_fault track.Message = fault.Track track.Message
+filter_fault track.Exhausted = fault.Track track.Exhausted
+filter_fault track.Memory = fault.Memory
+
+-- why a line isn't noted
+abbrev pub IsRefused : FilterFault → List Meaning → Meaning → Type 0
+IsRefused (fault.Track f) L m = track_fault L m ≡ Some f
+IsRefused fault.Memory L m = Unit {0}
+IsRefused f L m = ⊥
+
+-- a line that says m was handled: the filter has come further
+abbrev pub Carries : Meaning → (f f' : Filter) (sink sink' : Option (List ℕ)) (told told' : Option (List Told)) (client client' : State) → Type 0
+Carries m f f' sink sink' told told' client client' = (o : Origin) (bytes line rest : List ℕ) → IsLine line → Reads line m
+    → SoFar o bytes (line ++ 10 ∷ rest) f sink told client → SoFar o bytes rest f' sink' told' client'
+
+-- the filter stopped at a line that says m
+abbrev pub Halts : Meaning → FilterFault → Filter → (sink sink' : Option (List ℕ)) (write_failed : Bool) (told told' : Option (List Told)) (client client' : State) → Type 0
+Halts m fault f sink sink' write_failed told told' client client' = (o : Origin) (bytes line rest : List ℕ) (source : Option (List ℕ)) (read_failed : Bool) → IsLine line → Reads line m
+    → SoFar o bytes (line ++ 10 ∷ rest) f sink told client → StopsAt o bytes source sink' read_failed write_failed told' client' fault
