@@ -15,13 +15,14 @@ use Rattle.mq_track.specs.Sessions.{closing}
 use Rattle.mq_track.specs.State.{StandsAt, State as State'}
 use Rattle.mq_track.specs.declared.fault.TrackFault.{TrackFault}
 use Rattle.mq_client.specs.Link.{Tells}
-use Rattle.mq_client.specs.Exchanges.{told_all}
-use Rattle.mq_client.specs.Past.{Source, Step, State, Plays, MakesAll, told_steps}
+use Rattle.mq_client.specs.Exchanges.{Exchange, told_all}
+use Rattle.mq_client.specs.Past.{Source, Drain, Step, State, StandsAt as PastStandsAt, view, Plays, Makes, MakesAll, told_steps}
 use Rattle.mq_client.specs.Filter.{Takes, Closes, push, is_filter, answer_count}
-use Rattle.mq_client.specs.Run.{IsEarly, is_early, IsReady, Stage, Waiting, Running, Origin, StandsFirst, IsFound, MayGo, IsInHand, StopsAt}
+use Rattle.mq_client.specs.Run.{IsEarly, is_early, IsReady, Stage, Waiting, Running, Origin, StandsFirst, EndsWith, IsFound, MayGo, IsInHand, StopsAt}
 use Rattle.mq_client.specs.Loop.{Does, MakesOne, told_one, IsAt, SoFar, Carries, IsCut, IsRefused, Replies}
 use Rattle.mq_client.specs.declared.faults.FilterFault.{FilterFault}
 use Rattle.mq_client.specs.declared.faults.FilterFault.TheVariants as at
+use Rattle.mq_client.specs.declared.filter.Ended.{Ended}
 use Rattle.mq_client.specs.declared.filter.Filter.{Filter}
 use Rattle.mq_client.specs.declared.link.Told.{Told}
 use Rattle.mq_client.proofs.Telling.{Tells-none, Tells-trans}
@@ -255,3 +256,28 @@ refused_stops at.CutLine f stage bytes line rest m source read_failed write_fail
 refused_stops at.TooLong f stage bytes line rest m source read_failed write_failed h a one reads refused = let (L, is, tracks, counted) = at_running f stage h a in absurd (refused L tracks)
 refused_stops at.Read f stage bytes line rest m source read_failed write_failed h a one reads refused = let (L, is, tracks, counted) = at_running f stage h a in absurd (refused L tracks)
 refused_stops at.Write f stage bytes line rest m source read_failed write_failed h a one reads refused = let (L, is, tracks, counted) = at_running f stage h a in absurd (refused L tracks)
+
+-- ---- the end
+
+-- what waits is sent once more
+pub ends : (o : Origin) (bytes held : List ℕ) (f : Filter) (sink : Option (List ℕ)) (told told' : Option (List Told)) (client client' : State) (group : List Exchange) (e : Ended)
+    → SoFar o bytes held f sink told client → f.is_ready ≡ true → held ≡ []
+    → Tells told told' (told_all group) → Makes client client' (record { action = Drain; group = group })
+    → e.answers ≡ f.answers → ((P : List Step) → PastStandsAt client' P → e.left ≡ length (view client'.source P).waiting)
+    → EndsWith o bytes sink told' client' e
+ends o bytes held f sink told told' client client' group e s h none tells makes answers left =
+    let (L, is, tracks, counted) = at_running f s.stage h s.is_at in
+    let (results, filters, whole) = rw is at s.has_text in
+    let H : List ℕ → Type 0 = λ l. Holds bytes s.lines l in
+    let A : List ℕ → Type 0 = λ t. Appends o.sink sink t in
+    record {
+      lines = s.lines; after_ready = L; steps = s.steps; results = results; group = group;
+      whole = subst H none s.whole;
+      ready = rw is at s.reaches;
+      filters = filters;
+      written = subst A whole s.written;
+      exchanged = told_push o.told told told' s.steps (Some (record { action = Drain; group = group })) s.exchanged tells;
+      made = makes_push o.client client client' s.steps (Some (record { action = Drain; group = group })) s.made makes;
+      answers = answers ∙ counted;
+      left = left;
+    }

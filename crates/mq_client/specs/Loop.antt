@@ -93,3 +93,12 @@ Carries m f f' sink sink' told told' client client' = (o : Origin) (bytes line r
 abbrev pub Halts : Meaning → FilterFault → Filter → (sink sink' : Option (List ℕ)) (write_failed : Bool) (told told' : Option (List Told)) (client client' : State) → Type 0
 Halts m fault f sink sink' write_failed told told' client client' = (o : Origin) (bytes line rest : List ℕ) (source : Option (List ℕ)) (read_failed : Bool) → IsLine line → Reads line m
     → SoFar o bytes (line ++ 10 ∷ rest) f sink told client → StopsAt o bytes source sink' read_failed write_failed told' client' fault
+
+-- some of the bytes that are held were handled
+abbrev pub CarriesHeld : (held held' : List ℕ) (f f' : Filter) (sink sink' : Option (List ℕ)) (told told' : Option (List Told)) (client client' : State) → Type 0
+CarriesHeld held held' f f' sink sink' told told' client client' = (o : Origin) (bytes : List ℕ) → SoFar o bytes held f sink told client → SoFar o bytes held' f' sink' told' client'
+
+-- the filter stopped among the bytes that are held
+abbrev pub HaltsHeld : (held : List ℕ) → FilterFault → Filter → (sink sink' : Option (List ℕ)) (write_failed : Bool) (told told' : Option (List Told)) (client client' : State) → Type 0
+HaltsHeld held fault f sink sink' write_failed told told' client client' = (o : Origin) (bytes : List ℕ) (source : Option (List ℕ)) (read_failed : Bool)
+    → SoFar o bytes held f sink told client → StopsAt o bytes source sink' read_failed write_failed told' client' fault

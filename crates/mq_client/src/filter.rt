@@ -10,8 +10,8 @@ ghost use Rattle.mq_client.specs.Link.{Tells};
 ghost use Rattle.mq_client.specs.Past.{Step, State};
 ghost use Rattle.mq_client.specs.Filter.{Closes};
 ghost use Rattle.mq_client.specs.declared.link.Told.{Told};
-ghost use Rattle.mq_client.specs.Run.{Origin, is_stamped, is_early};
-ghost use Rattle.mq_client.specs.Loop.{MakesOne, told_one, IsCut, IsSorted, IsRefused, filter_fault, Carries, Halts};
+ghost use Rattle.mq_client.specs.Run.{Origin, EndsWith, StopsAt};
+ghost use Rattle.mq_client.specs.Loop.{MakesOne, told_one, IsCut, IsSorted, IsRefused, filter_fault, Carries, Halts, CarriesHeld, HaltsHeld, SoFar};
 
 use crate::answer::{Inquiry, answer};
 use crate::client::Client;
@@ -20,7 +20,7 @@ use crate::link::Link;
 use crate::put::put;
 use log::Log;
 use mq_frame::{Failed, Sink};
-use mq_line::{Line, write_registration};
+use mq_line::{Line, LineFeed, read_line, write_registration};
 use mq_track::{Closing, TrackFault, Tracker};
 use std::alloc::Global;
 
@@ -196,4 +196,93 @@ fn take<R: Log, W: Sink, K: Link>(
         Ok(()) => Ok(()),
         Err(fault) => Err(fault),
     }
+}
+
+/// Handles one line, which stands without its LF.
+fn handle<R: Log, W: Sink, K: Link>(
+    rt: &R,
+    alloc: Global,
+    filter: &mut Filter,
+    bytes: &[u8],
+    output: &mut W,
+    link: &mut K,
+    client: &mut Client,
+) -> Result<(), FilterFault>
+    requires line { IsLine bytes.now }
+    requires count { filter.old.answers < 2 ^ 63 }
+    ensures ok { OnOk result ((rest : List ℕ) → CarriesHeld (bytes.now ++ 10 ∷ rest) rest filter.old filter.new (W.contents output.old) (W.contents output.new) (K.told link.old) (K.told link.new) client.old client.new) }
+    ensures count { OnOk result (filter.new.answers ≤ filter.old.answers + 1) }
+    ensures fault { IfErr result (λ f. (rest : List ℕ) → HaltsHeld (bytes.now ++ 10 ∷ rest) f filter.old (W.contents output.old) (W.contents output.new) (W.has_failed output.new) (K.told link.old) (K.told link.new) client.old client.new) }
+{
+    let line = match read_line(bytes) {
+        Ok(line) => line,
+        Err(fault) => return Err(FilterFault::Line(fault)),
+    };
+    if filter.is_ready {
+        match take(rt, alloc, filter, &line, output, link, client) {
+            Ok(()) => Ok(()),
+            Err(fault) => Err(fault),
+        }
+    } else {
+        match wait(alloc, filter, &line, output) {
+            Ok(()) => Ok(()),
+            Err(fault) => Err(fault),
+        }
+    }
+}
+
+/// Handles each whole line that the feed holds.
+fn take_lines<R: Log, W: Sink, K: Link>(
+    rt: &R,
+    alloc: Global,
+    feed: &mut LineFeed,
+    filter: &mut Filter,
+    output: &mut W,
+    link: &mut K,
+    client: &mut Client,
+) -> Result<(), FilterFault>
+    requires { filter.old.answers + length feed.old < 2 ^ 63 }
+    ensures ok { OnOk result (CarriesHeld feed.old feed.new filter.old filter.new (W.contents output.old) (W.contents output.new) (K.told link.old) (K.told link.new) client.old client.new) }
+    ensures left { OnOk result (IsLine feed.new) }
+    ensures count { OnOk result (filter.new.answers + length feed.new ≤ filter.old.answers + length feed.old) }
+    ensures fault { IfErr result (λ f. HaltsHeld feed.old f filter.old (W.contents output.old) (W.contents output.new) (W.has_failed output.new) (K.told link.old) (K.told link.new) client.old client.new) }
+{
+    'lines: loop {
+        match feed.next_line() {
+            Ok(Some(line)) => match handle(rt, alloc, filter, line, output, link, client) {
+                Ok(()) => {}
+                Err(fault) => return Err(fault),
+            },
+            Ok(None) => return Ok(()),
+            Err(_) => return Err(FilterFault::TooLong),
+        }
+    }
+}
+
+/// Ends a run at the end of its input: what waits is sent once more.
+fn finish<R: Log, K: Link>(
+    rt: &R,
+    feed: &LineFeed,
+    filter: &Filter,
+    link: &mut K,
+    client: &mut Client,
+) -> Result<Ended, FilterFault>
+    requires { IsLine feed.now }
+    ensures ok { IfOk result (λ e. (o : Origin) (bytes : List ℕ) (sink : Option (List ℕ)) →
+        SoFar o bytes feed.now filter.now sink (K.told link.old) client.old → EndsWith o bytes sink (K.told link.new) client.new e) }
+    ensures fault { IfErr result (λ f. (o : Origin) (bytes : List ℕ) (source sink : Option (List ℕ)) (read_failed write_failed : Bool) → IsAtEnd source →
+        SoFar o bytes feed.now filter.now sink (K.told link.old) client.old → StopsAt o bytes source sink read_failed write_failed (K.told link.new) client.new f) }
+{
+    match feed.finish() {
+        Ok(()) => {}
+        Err(_) => return Err(FilterFault::CutLine),
+    }
+    if !filter.is_ready {
+        return Err(FilterFault::EndedEarly);
+    }
+    let left = client.drain(rt, link);
+    Ok(Ended {
+        answers: filter.answers,
+        left,
+    })
 }
