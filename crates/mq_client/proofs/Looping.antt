@@ -1,9 +1,9 @@
 -- Lines handled one after another.
-use Rattle.std.proofs.Common.{◌≡◌, ℕ, ◌+◌, ◌<◌, ◌≤◌, Bool, true, false, List, [], ◌∷◌, ◌++◌, length, refl, sym, ap, ◌∙◌, subst, append_assoc, append-nil, arith, cond, inl, inr, ◌⊎◌, Option, None, Some}
+use Rattle.std.proofs.Common.{◌≡◌, ℕ, ◌+◌, ◌<◌, ◌≤◌, Bool, true, false, List, [], ◌∷◌, ◌++◌, length, refl, sym, ap, ◌∙◌, subst, append_assoc, append-nil, arith, rules, cond, inl, inr, ◌⊎◌, Option, None, Some}
 use Rattle.std.specs.Prelude.{Result, Ok, Err, IfSome}
 use Rattle.std.specs.Borrow.{Bor}
 use Rattle.std.specs.List.{AllByRecursion}
-use Rattle.std.specs.Io.KnownBytes.{Appends}
+use Rattle.std.specs.Io.KnownBytes.{Appends, Consumes}
 use Rattle.std.proofs.KnownBytes.{Appends-trans}
 use Rattle.std.proofs.lemmas.List.Sums.{sum_by-cons}
 use Rattle.mq_line.specs.Grammar.{Meaning, ReadyLine, FilterLine, Reads, meaning}
@@ -281,3 +281,33 @@ ends o bytes held f sink told told' client client' group e s h none tells makes 
       answers = answers ∙ counted;
       left = left;
     }
+
+-- ---- bytes that come
+
+no_line : IsLine []
+no_line = record { one = search rules; short = omega arith }
+
+-- nothing was read yet
+pub so_far_start : (sink : Option (List ℕ)) (told : Option (List Told)) (client : State) (f : Filter) (held : List ℕ) → held ≡ [] → f.is_ready ≡ false → StandsAt f.tracker [] → f.answers ≡ 0
+    → SoFar (record { sink = sink; told = told; client = client }) [] held f sink told client
+so_far_start sink told client f held none h tracks zero = record {
+  lines = []; stage = Waiting; steps = []; text = [];
+  whole = rw none (record { whole = refl; each = tt }); reaches = tt; is_at = (h, tracks, zero); has_text = (refl, refl);
+  written = Appends-none sink; exchanged = Tells-none told; made = makes_none client;
+}
+
+-- a piece came
+pub so_far_fed : (o : Origin) (bytes held held' piece : List ℕ) (f : Filter) (sink : Option (List ℕ)) (told : Option (List Told)) (client : State) → held' ≡ held ++ piece
+    → SoFar o bytes held f sink told client → SoFar o (bytes ++ piece) held' f sink told client
+so_far_fed o bytes held held' piece f sink told client e s = record {
+  lines = s.lines; stage = s.stage; steps = s.steps; text = s.text;
+  whole = rw e (record { whole = ap (λ (l : List ℕ). l ++ piece) s.whole.whole ∙ append_assoc (text_of s.lines) held piece; each = s.whole.each });
+  reaches = s.reaches; is_at = s.is_at; has_text = s.has_text; written = s.written; exchanged = s.exchanged; made = s.made;
+}
+
+pub is_line_none : (held : List ℕ) → held ≡ [] → IsLine held
+is_line_none held e = rw e no_line
+
+pub Consumes-none : (o : Option (List ℕ)) → Consumes o o []
+Consumes-none None = tt
+Consumes-none (Some xs) = refl

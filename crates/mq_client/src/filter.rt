@@ -19,10 +19,16 @@ use crate::faults::FilterFault;
 use crate::link::Link;
 use crate::put::put;
 use log::Log;
-use mq_frame::{Failed, Sink};
+use mq_frame::{Failed, Sink, Source};
 use mq_line::{Line, LineFeed, read_line, write_registration};
 use mq_track::{Closing, TrackFault, Tracker};
 use std::alloc::Global;
+
+/// The most bytes of one read.
+const PIECE: usize = 4096;
+
+/// The most reads of one run.
+const READS: u64 = 1_099_511_627_776;
 
 /// How a run of the filter ended.
 #[derive(Clone, Copy, Debug, PartialEq, Eq)]
@@ -285,4 +291,55 @@ fn finish<R: Log, K: Link>(
         answers: filter.answers,
         left,
     })
+}
+
+/// Reads what smtpd writes, answers each of its requests, and asks the quota server through `client`
+/// before a recipient is let through.
+///
+/// Lines are those of smtpd-filters(7), protocol 0.7. At `config|ready` the registration is written.
+/// Reads take at most 4,096 bytes, and every whole line is handled, its answer written and flushed,
+/// before the next read. At the end of the input what waits is sent once more. After
+/// 1,099,511,627,776 reads it answers `Read`.
+pub fn run_filter<R: Log, S: Source, W: Sink, K: Link>(
+    rt: &R,
+    alloc: Global,
+    input: &mut S,
+    output: &mut W,
+    link: &mut K,
+    client: &mut Client,
+) -> Result<Ended, FilterFault>
+    ensures ok { IfOk result (λ e. (bytes : List ℕ) × Consumes (S.remaining input.old) (S.remaining input.new) bytes × IsAtEnd (S.remaining input.new)
+        × EndsWith (record { sink = W.contents output.old; told = K.told link.old; client = client.old }) bytes (W.contents output.new) (K.told link.new) client.new e) }
+    ensures fault { IfErr result (λ f. (bytes : List ℕ) × Consumes (S.remaining input.old) (S.remaining input.new) bytes
+        × StopsAt (record { sink = W.contents output.old; told = K.told link.old; client = client.old }) bytes (S.remaining input.new) (W.contents output.new)
+            (S.has_failed input.new) (W.has_failed output.new) (K.told link.new) client.new f) }
+{
+    let mut feed = LineFeed::new(alloc);
+    let mut filter = Filter {
+        tracker: Tracker::new(alloc),
+        is_ready: false,
+        answers: 0,
+    };
+    let mut piece = [0u8; PIECE];
+    for _read in 0..READS {
+        let count = match input.read(&mut piece) {
+            Ok(count) => count,
+            Err(Failed) => return Err(FilterFault::Read),
+        };
+        if count == 0 {
+            match finish(rt, &feed, &filter, link, client) {
+                Ok(ended) => return Ok(ended),
+                Err(fault) => return Err(fault),
+            }
+        }
+        match feed.feed(&piece[..count]) {
+            Ok(()) => {}
+            Err(_) => return Err(FilterFault::Memory),
+        }
+        match take_lines(rt, alloc, &mut feed, &mut filter, output, link, client) {
+            Ok(()) => {}
+            Err(fault) => return Err(fault),
+        }
+    }
+    Err(FilterFault::Read)
 }

@@ -16,7 +16,7 @@ mod tries;
 
 pub use client::Client;
 pub use faults::{FilterFault, Memory};
-pub use filter::Ended;
+pub use filter::{Ended, run_filter};
 pub use held::{Asked, Held};
 pub use link::{Bytes, Link, LinkFault, Outcome, Told};
 pub use script::ScriptLink;
