@@ -1,15 +1,16 @@
 //! Requests and replies as frames.
 #![tactic(auto, using(std::proofs::Common::append_assoc))]
+
 ghost use Rattle.std.specs.Prelude.{◌≡◌, ◌≤◌, [], ◌∷◌, ◌++◌, length, OnOk, OnErr};
 ghost use Rattle.std.specs.List.{flat_map};
 ghost use Rattle.mq_frame.specs.Range.{IsId, IsOrdinal, IsMoment, IsLogin, IsRow, IsPage, IsRequest, IsReply};
 ghost use Rattle.mq_frame.specs.Spelling.{in_4_bytes, in_8_bytes, with_length, id_bytes, transaction_bytes, row_bytes, page_bytes, request_body, reply_body, frame};
 
+use crate::error::Memory;
 use crate::host::Host;
 use crate::login::Login;
 use crate::message::{Id, Reply, Request};
 use crate::usage::{UsageRow, UsageRows};
-use crate::error::Memory;
 use std::alloc::{AllocError, Global};
 
 /// The bytes of the longest body of a request.

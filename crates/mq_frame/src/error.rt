@@ -11,3 +11,8 @@ impl From<AllocError> for Memory {
         Memory
     }
 }
+
+/// The device failed, or had failed before.
+#[derive(Clone, Copy, Debug, PartialEq, Eq, Error)]
+#[error("the device failed")]
+pub struct Failed;

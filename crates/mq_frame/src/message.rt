@@ -141,7 +141,7 @@ impl Id {
     pub fn is_same(&self, other: &Id) -> bool
         ensures { result ≡ same_id self.now other.now }
     {
-        *self == *other
+        self.host == other.host && self.run == other.run && self.seq == other.seq
     }
 }
 

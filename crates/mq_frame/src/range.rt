@@ -73,10 +73,7 @@ fn is_id(id: &Id) -> bool
 fn is_row(row: &UsageRow) -> bool
     ensures { IsTrue result ↔ IsRow row.now }
 {
-    is_login(&row.login)
-        && is_amount(row.settled)
-        && is_amount(row.reserved)
-        && is_amount(row.cap)
+    is_login(&row.login) && is_amount(row.settled) && is_amount(row.reserved) && is_amount(row.cap)
 }
 
 fn is_page(rows: &UsageRows) -> bool
@@ -105,11 +102,7 @@ pub fn is_request(request: &Request) -> bool
             login,
             count,
         } => {
-            is_id(id)
-                && is_ordinal(*txn)
-                && is_moment(*at)
-                && is_login(login)
-                && is_count(*count)
+            is_id(id) && is_ordinal(*txn) && is_moment(*at) && is_login(login) && is_count(*count)
         }
         Request::Release { id, txn, at, login } => {
             is_id(id) && is_ordinal(*txn) && is_moment(*at) && is_login(login)

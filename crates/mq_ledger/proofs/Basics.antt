@@ -1,0 +1,144 @@
+-- Tests, texts, lists and sums.
+use Rattle.std.proofs.Common.{◌≡◌, ℕ, ◌+◌, ◌<◌, ◌≤◌, List, [], ◌∷◌, ◌++◌, Bool, true, false, refl, ◌∙◌, ap, sym, inl, inr, arith}
+use Rattle.std.specs.Prelude.{sum_by, filter, ◌&&◌, ◌||◌, ◌==◌, ◌⊎◌, Option, Some, None, if◌then◌else◌}
+use Rattle.std.specs.List.{AllByRecursion, filter_map, list_any}
+use Rattle.std.specs.Cmp.Lexicographic.{bytes_decides}
+use Rattle.std.proofs.lemmas.Bool.Decides.{Decides-eqb}
+use Rattle.std.proofs.lemmas.List.Sums.{sum_by-cons}
+use Rattle.mq_frame.specs.Same.{same_text}
+
+pub either : (b : Bool) → (b ≡ true) ⊎ (b ≡ false)
+either true = inl refl
+either false = inr refl
+
+pub first_so : (a b : Bool) → (a && b) ≡ true → a ≡ true
+first_so true b h = refl
+first_so false b h = h
+
+pub second_so : (a b : Bool) → (a && b) ≡ true → b ≡ true
+second_so true b h = h
+second_so false b h = cc
+
+pub both_so : (a b : Bool) → a ≡ true → b ≡ true → (a && b) ≡ true
+both_so a b h g = rw (h, g) refl
+
+pub option_cases : {A : Type 0} (o : Option A) → (o ≡ None) ⊎ ((x : A) × (o ≡ Some x))
+option_cases None = inl refl
+option_cases (Some x) = inr (x, refl)
+
+pub some_none : {A : Type 0} (x : A) → Some x ≡ None → ⊥
+some_none x h = cc
+
+pub some_is : {A : Type 0} (x y : A) → Some x ≡ Some y → x ≡ y
+some_is x y h = cc
+
+pub le_or_lt : (a b : ℕ) → (a ≤ b) ⊎ (b < a)
+le_or_lt a b = grind arith
+
+pub zero_or_more : (n : ℕ) → (n ≡ 0) ⊎ (0 < n)
+zero_or_more n = grind arith
+
+-- Texts.
+
+pub text_is : (a b : List ℕ) → same_text a b ≡ true → a ≡ b
+text_is a b h = (bytes_decides a b).0 h
+
+pub text_itself : (a : List ℕ) → same_text a a ≡ true
+text_itself a = (bytes_decides a a).1 refl
+
+pub number_is : (m n : ℕ) → (m == n) ≡ true → m ≡ n
+number_is m n h = (Decides-eqb m n).0 h
+
+pub number_itself : (n : ℕ) → (n == n) ≡ true
+number_itself n = (Decides-eqb n n).1 refl
+
+-- Members of a list.
+
+abbrev pub In : {X : Type 0} → X → List X → Type 0
+In x [] = ⊥
+In x (y ∷ ys) = (y ≡ x) ⊎ In x ys
+
+pub all_of : {X : Type 0} (P : X → Type 0) (xs : List X) → ((x : X) → In x xs → P x) → AllByRecursion P xs
+all_of P [] h = tt
+all_of P (x ∷ xs) h = (h x (inl refl), all_of P xs (λ y i. h y (inr i)))
+
+pub all_at : {X : Type 0} (P : X → Type 0) (xs : List X) (x : X) → AllByRecursion P xs → In x xs → P x
+all_at P [] x all i = absurd i
+all_at P (y ∷ xs) x all (inl e) = rw (← e) all.0
+all_at P (y ∷ xs) x all (inr i) = all_at P xs x all.1 i
+
+pub all_push : {X : Type 0} (P : X → Type 0) (xs : List X) (x : X) → AllByRecursion P xs → P x → AllByRecursion P (xs ++ x ∷ [])
+all_push P [] x all h = (h, tt)
+all_push P (y ∷ xs) x all h = (all.0, all_push P xs x all.1 h)
+
+pub always : {X : Type 0} (xs : List X) → AllByRecursion (λ (_ : X). Unit {0}) xs
+always [] = tt
+always (x ∷ xs) = (tt, always xs)
+
+-- what a filter keeps
+pub in_filter : {X : Type 0} (p : X → Bool) (xs : List X) (x : X) → In x xs → p x ≡ true → In x (filter p xs)
+in_filter p [] x i h = i
+in_filter p (y ∷ xs) x (inl e) h = (let t : p y ≡ true = ap p e ∙ h in rw t (inl e))
+in_filter p (y ∷ xs) x (inr i) h = elim (either (p y)) [ inl t ↦ rw t (inr (in_filter p xs x i h)) | inr f ↦ rw f (in_filter p xs x i h) ]
+
+pub record Kept {X : Type 0} (p : X → Bool) (xs : List X) (x : X) : Type 0 where
+  pub among : In x xs
+  pub passes : p x ≡ true
+
+pub filter_in : {X : Type 0} (p : X → Bool) (xs : List X) (x : X) → In x (filter p xs) → Kept p xs x
+filter_in p [] x i = absurd i
+filter_in p (y ∷ xs) x i = elim (either (p y)) [
+  | inl t ↦ (let j : (y ≡ x) ⊎ In x (filter p xs) = rw t at i in elim j [
+    | inl e ↦ record { among = inl e; passes = ap p (sym e) ∙ t }
+    | inr k ↦ (let r = filter_in p xs x k in record { among = inr r.among; passes = r.passes })
+  ])
+  | inr f ↦ (let r = filter_in p xs x (rw f at i) in record { among = inr r.among; passes = r.passes })
+]
+
+pub record MadeOf {X Y : Type 0} (f : X → Option Y) (xs : List X) (y : Y) : Type 0 where
+  pub source : X
+  pub among : In source xs
+  pub gives : f source ≡ Some y
+
+pub in_filter_map : {X Y : Type 0} (f : X → Option Y) (xs : List X) (x : X) (y : Y) → In x xs → f x ≡ Some y → In y (filter_map f xs)
+in_filter_map f [] x y i h = i
+in_filter_map f (z ∷ xs) x y (inl e) h = (let t : f z ≡ Some y = ap f e ∙ h in rw t (inl refl))
+in_filter_map f (z ∷ xs) x y (inr i) h = elim (option_cases (f z)) [
+  | inl n ↦ rw n (in_filter_map f xs x y i h)
+  | inr s ↦ rw s.1 (inr (in_filter_map f xs x y i h))
+]
+
+pub filter_map_in : {X Y : Type 0} (f : X → Option Y) (xs : List X) (y : Y) → In y (filter_map f xs) → MadeOf f xs y
+filter_map_in f [] y i = absurd i
+filter_map_in f (z ∷ xs) y i = elim (option_cases (f z)) [
+  | inl n ↦ (let r = filter_map_in f xs y (rw n at i) in record { source = r.source; among = inr r.among; gives = r.gives })
+  | inr s ↦ (let j : (s.0 ≡ y) ⊎ In y (filter_map f xs) = rw s.1 at i in elim j [
+    | inl e ↦ record { source = z; among = inl refl; gives = s.1 ∙ ap Some e }
+    | inr k ↦ (let r = filter_map_in f xs y k in record { source = r.source; among = inr r.among; gives = r.gives })
+  ])
+]
+
+-- Sums.
+
+pub sums_le : {X : Type 0} (P : X → Type 0) (f g : X → ℕ) → ((x : X) → P x → f x ≤ g x) → (xs : List X) → AllByRecursion P xs → sum_by f xs ≤ sum_by g xs
+sums_le P f g h [] all = omega arith
+sums_le P f g h (x ∷ xs) all = omega (arith, sum_by-cons f x xs, sum_by-cons g x xs, h x all.0, sums_le P f g h xs all.1)
+
+pub two_sums_le : {X : Type 0} (P : X → Type 0) (f g k : X → ℕ) → ((x : X) → P x → f x + g x ≤ k x) → (xs : List X) → AllByRecursion P xs → sum_by f xs + sum_by g xs ≤ sum_by k xs
+two_sums_le P f g k h [] all = omega arith
+two_sums_le P f g k h (x ∷ xs) all = omega (arith, sum_by-cons f x xs, sum_by-cons g x xs, sum_by-cons k x xs, h x all.0, two_sums_le P f g k h xs all.1)
+
+-- a sum that isn't nothing has a part that isn't
+pub record Part {X : Type 0} (f : X → ℕ) (xs : List X) : Type 0 where
+  pub at : X
+  pub among : In at xs
+  pub some : 0 < f at
+
+pub some_part : {X : Type 0} (f : X → ℕ) (xs : List X) → 0 < sum_by f xs → Part f xs
+some_part f [] h = absurd (omega arith)
+some_part f (x ∷ xs) h = elim (zero_or_more (f x)) [
+  | inr some ↦ record { at = x; among = inl refl; some = some }
+  | inl none ↦ (let rest : 0 < sum_by f xs = omega (arith, sum_by-cons f x xs) in
+      let r = some_part f xs rest in
+      record { at = r.at; among = inr r.among; some = r.some })
+]

@@ -1,0 +1,85 @@
+-- What the answers of a ledger with a legal history need.
+use Rattle.std.proofs.Common.{◌≡◌, ℕ, ◌+◌, ◌<◌, ◌≤◌, List, [], ◌∷◌, ◌++◌, true, false, Some, None, Option, refl, ◌∙◌, ap, sym, subst, arith}
+use Rattle.std.specs.Prelude.{nat_lt, is_some, All}
+use Rattle.std.proofs.lemmas.Bool.Decides.{nat_tests}
+use Rattle.std.proofs.lemmas.List.Elements.{All-push, All-map}
+use Rattle.mq_frame.specs.declared.message.Id.{Id}
+use Rattle.mq_frame.specs.declared.message.Request.{Request}
+use Rattle.mq_frame.specs.declared.message.Reply.{Reply}
+use Rattle.mq_frame.specs.declared.message.Reply.TheVariants.{Granted, Full}
+use Rattle.mq_frame.specs.Range.{IsRequest, IsReply, IsAmount}
+use Rattle.mq_ledger.specs.declared.entry.Entry.{Entry}
+use Rattle.mq_ledger.specs.Answer.{if_open, granted_or_full, answer, appended, stored_by, reply, reply_to, reply_by, taken, taken_by, history_of}
+use Rattle.mq_ledger.specs.Arrivals.{id_of}
+use Rattle.mq_ledger.specs.Day.{IsOffset, day_of}
+use Rattle.mq_ledger.specs.History.{requests, transaction, granted_in, used, IsOpenTo}
+use Rattle.mq_ledger.specs.Legal.{Book, IsLegal, IsLegalBook}
+use Rattle.mq_ledger.proofs.Clocks.{offset_days}
+use Rattle.mq_ledger.proofs.Numbers.{legal_build, legal_more}
+use Rattle.mq_ledger.proofs.Transactions.{entry}
+use Rattle.mq_ledger.proofs.Ranges.{IsRanged, legal_ranged, used_fits, held_fits, reply_range}
+
+pub book_ranged : (b : Book) → IsLegalBook b → IsRanged (day_of b.zone) b.default b.history
+book_ranged b h = legal_ranged (day_of b.zone) b.default b.history h.default (offset_days b.zone h.zone) h.legal
+
+pub book_used : (b : Book) → IsLegalBook b → (l : List ℕ) (d : ℕ) → used (day_of b.zone) b.history l d ≤ 1000000
+book_used b h l d = used_fits (day_of b.zone) b.default b.history (book_ranged b h) l d
+
+pub book_held : (b : Book) → IsLegalBook b → (id : Id) (txn at : ℕ) (login : List ℕ) → IsOpenTo at login b.history (transaction id txn) → granted_in b.history (transaction id txn) ≤ 1000000
+book_held b h id txn at login o = held_fits (day_of b.zone) b.default b.history (book_ranged b h) id txn at login o.agreed o.open_still
+
+-- an open transaction gets the answer itself
+pub open_answer : (H : List Entry) (id : Id) (txn at : ℕ) (login : List ℕ) (a : Reply) → IsOpenTo at login H (transaction id txn) → if_open H id txn at login a ≡ a
+open_answer H id txn at login a o = rw (o.agreed, o.open_still) refl
+
+pub full_answer : (id : Id) (n limit count : ℕ) → limit < n + count → granted_or_full id n limit count ≡ Full id n limit
+full_answer id n limit count h = (let t : nat_lt limit (n + count) ≡ true = grind (arith, nat_tests) in rw t refl)
+
+pub granted_answer : (id : Id) (n limit count : ℕ) → n + count ≤ limit → granted_or_full id n limit count ≡ Granted id (n + count)
+granted_answer id n limit count h = (let f : nat_lt limit (n + count) ≡ false = grind (arith, nat_tests) in rw f refl)
+
+-- Arrivals.
+
+pub reply_fresh : (day : ℕ → ℕ) (default : ℕ) (H : List Entry) (r : Request) (o : Option Id) → id_of r ≡ o → stored_by H o ≡ None → reply day default H r ≡ answer day default H r
+reply_fresh day default H r None e h = ap (reply_to day default H r) e
+reply_fresh day default H r (Some id) e h = ap (reply_to day default H r) e ∙ ap (reply_by day default H r id) h
+
+pub taken_stored : (day : ℕ → ℕ) (default : ℕ) (H : List Entry) (r : Request) (o : Option Id) → is_some (stored_by H o) ≡ true → taken_by day default H r o ≡ H
+taken_stored day default H r None h = refl
+taken_stored day default H r (Some id) h = rw h refl
+
+pub taken_unnumbered : (day : ℕ → ℕ) (default : ℕ) (H : List Entry) (r : Request) (o : Option Id) → is_some o ≡ false → taken_by day default H r o ≡ H
+taken_unnumbered day default H r None h = refl
+taken_unnumbered day default H r (Some id) h = cc
+
+pub taken_fresh : (day : ℕ → ℕ) (default : ℕ) (H : List Entry) (r : Request) (o : Option Id) → is_some o ≡ true → stored_by H o ≡ None → taken_by day default H r o ≡ appended day default H r
+taken_fresh day default H r None t h = cc
+taken_fresh day default H r (Some id) t h = rw h refl
+
+pub legal_taken : (day : ℕ → ℕ) (default : ℕ) (H : List Entry) (r : Request) → IsLegal day default H → IsRequest r → IsLegal day default (taken day default H r)
+legal_taken day default H r legal h =
+    let all : All IsRequest (requests H ++ r ∷ []) = All-push IsRequest (requests H) r (All-map IsRequest (λ e. e.request) H legal.range) h in
+    subst (IsLegal day default) (legal_more day default H r legal) (legal_build day default (requests H ++ r ∷ []) all)
+
+-- a book after an arrival
+pub book_taken : (b c : Book) (r : Request) → IsLegalBook b → IsRequest r → c.zone ≡ b.zone → c.default ≡ b.default → c.history ≡ taken (day_of b.zone) b.default b.history r → IsLegalBook c
+book_taken b c r h range same_zone same_default after =
+    let legal = legal_taken (day_of b.zone) b.default b.history r h.legal range in
+    record {
+      zone = subst IsOffset (sym same_zone) h.zone;
+      default = subst IsAmount (sym same_default) h.default;
+      legal = rw (same_zone, same_default, after) legal;
+    }
+
+pub book_reply : (b : Book) (r : Request) (a : Reply) → IsLegalBook b → IsRequest r → a ≡ reply (day_of b.zone) b.default b.history r → IsReply a
+book_reply b r a h range is = subst IsReply (sym is) (reply_range (day_of b.zone) b.default b.history r h.default (offset_days b.zone h.zone) h.legal range)
+
+pub book_history : (b : Book) (r : Request) (K : List Entry) → IsLegalBook b → K ≡ taken (day_of b.zone) b.default b.history r → K ≡ history_of (day_of b.zone) b.default (requests b.history ++ r ∷ [])
+book_history b r K h is = is ∙ sym (legal_more (day_of b.zone) b.default b.history r h.legal)
+
+pub book_appended : (b : Book) (r : Request) (a : Reply) → stored_by b.history (id_of r) ≡ None → is_some (id_of r) ≡ true → a ≡ answer (day_of b.zone) b.default b.history r → b.history ++ entry r a ∷ [] ≡ taken (day_of b.zone) b.default b.history r
+book_appended b r a fresh numbered is =
+    ap (λ x. b.history ++ entry r x ∷ []) is ∙ sym (taken_fresh (day_of b.zone) b.default b.history r (id_of r) numbered fresh)
+
+pub book_fresh_reply : (b : Book) (r : Request) (a : Reply) → stored_by b.history (id_of r) ≡ None → a ≡ answer (day_of b.zone) b.default b.history r → a ≡ reply (day_of b.zone) b.default b.history r
+book_fresh_reply b r a fresh is = is ∙ sym (reply_fresh (day_of b.zone) b.default b.history r (id_of r) refl fresh)

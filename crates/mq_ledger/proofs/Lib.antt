@@ -1,0 +1,11 @@
+pub mod Basics
+pub mod LimitFacts
+pub mod Overs
+pub mod Transactions
+pub mod Within
+pub mod Numbers
+pub mod Pages
+pub mod PageFacts
+pub mod Ranges
+pub mod Clocks
+pub mod Books

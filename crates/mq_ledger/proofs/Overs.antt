@@ -1,0 +1,179 @@
+-- The first day with more used is the least of all days.
+use Rattle.std.proofs.Common.{◌≡◌, ℕ, ◌+◌, ◌<◌, ◌≤◌, List, [], ◌∷◌, ◌++◌, append-nil, true, false, Some, None, Option, refl, ◌∙◌, ap, sym, subst, inl, inr, arith}
+use Rattle.std.specs.Prelude.{nat_lt, nat_le, sum_by, filter, ◌&&◌, ◌==◌, ◌⊎◌, if◌then◌else◌}
+use Rattle.std.specs.List.{AllByRecursion}
+use Rattle.std.proofs.lemmas.Bool.Decides.{nat_tests}
+use Rattle.std.proofs.lemmas.List.Elements.{filter_map-append}
+use Rattle.mq_frame.specs.declared.message.Request.{Request}
+use Rattle.mq_frame.specs.declared.message.Request.TheVariants.{Reserve, Settle, Release, Limit, Usage, List as ListRequest}
+use Rattle.mq_frame.specs.declared.message.Reply.{Reply}
+use Rattle.mq_frame.specs.declared.message.Reply.TheVariants.{Granted, Settled}
+use Rattle.mq_frame.specs.Same.{same_text}
+use Rattle.mq_ledger.specs.declared.entry.Entry.{Entry}
+use Rattle.mq_ledger.specs.History.{concerns, granted, counted, is_open, reserved_of, settled_of, reserved, settled, used}
+use Rattle.mq_ledger.specs.Over.{day_from, days_from, lesser, least, over, IsLeastOver}
+use Rattle.mq_ledger.proofs.Basics.{either, first_so, second_so, option_cases, some_none, some_is, le_or_lt, zero_or_more, number_is, In, all_of, all_at, in_filter, filter_in, in_filter_map, filter_map_in, MadeOf, Part, some_part}
+
+-- The least of a list.
+
+lesser_le : (n : ℕ) (o : Option ℕ) → lesser n o ≤ n
+lesser_le n None = omega arith
+lesser_le n (Some m) = grind (arith, nat_tests)
+
+lesser_le_some : (n m : ℕ) → lesser n (Some m) ≤ m
+lesser_le_some n m = grind (arith, nat_tests)
+
+lesser_is : (n m : ℕ) → (lesser n (Some m) ≡ n) ⊎ (lesser n (Some m) ≡ m)
+lesser_is n m = elim (either (nat_lt m n)) [ inl t ↦ rw t (inr refl) | inr f ↦ rw f (inl refl) ]
+
+pub least_none : (ns : List ℕ) → least ns ≡ None → (n : ℕ) → In n ns → ⊥
+least_none [] h n i = i
+least_none (x ∷ ns) h n i = some_none _ h
+
+pub least_le : (ns : List ℕ) (m : ℕ) → least ns ≡ Some m → (n : ℕ) → In n ns → m ≤ n
+least_le [] m h n i = absurd i
+least_le (x ∷ ns) m h n (inl e) = let s = some_is _ _ h in omega (arith, s, e, lesser_le x (least ns))
+least_le (x ∷ ns) m h n (inr i) = elim (option_cases (least ns)) [
+  | inl none ↦ absurd (least_none ns none n i)
+  | inr p ↦ (let s : lesser x (Some p.0) ≡ m = rw p.1 at (some_is _ _ h) in omega (arith, s, lesser_le_some x p.0, least_le ns p.0 p.1 n i))
+]
+
+pub least_in : (ns : List ℕ) (m : ℕ) → least ns ≡ Some m → In m ns
+least_in [] m h = absurd (some_none m (sym h))
+least_in (x ∷ ns) m h = elim (option_cases (least ns)) [
+  | inl none ↦ (let s : x ≡ m = rw none at (some_is _ _ h) in inl s)
+  | inr p ↦ (let s : lesser x (Some p.0) ≡ m = rw p.1 at (some_is _ _ h) in elim (lesser_is x p.0) [
+    | inl e ↦ inl (sym e ∙ s)
+    | inr e ↦ (let q : p.0 ≡ m = sym e ∙ s in let P : ℕ → Type 0 = λ k. In k ns in inr (subst P q (least_in ns p.0 p.1)))
+  ])
+]
+
+-- Days on which something is used.
+
+day_gives : (day : ℕ → ℕ) (l login : List ℕ) (from d at : ℕ) → from ≤ d → (same_text l login && (day at == d)) ≡ true → (if same_text l login && nat_le from (day at) then Some (day at) else None) ≡ Some d
+day_gives day l login from d at le h =
+    let s = first_so (same_text l login) (day at == d) h in
+    let e = number_is (day at) d (second_so (same_text l login) (day at == d) h) in
+    rw (s, e) (grind (arith, nat_tests))
+
+-- an entry that adds to what is used on a day has that day
+adds_reserved : (day : ℕ → ℕ) (H : List Entry) (l : List ℕ) (from d : ℕ) (r : Request) (a : Reply) → from ≤ d → concerns day l d r ≡ true → 0 < granted r a → day_from day l from r a ≡ Some d
+adds_reserved day H l from d (Reserve id txn at login count) (Granted id' n) le h some = day_gives day l login from d at le h
+adds_reserved day H l from d r a le h some = absurd (omega arith)
+
+adds_settled : (day : ℕ → ℕ) (l : List ℕ) (from d : ℕ) (r : Request) (a : Reply) → from ≤ d → concerns day l d r ≡ true → 0 < counted r a → day_from day l from r a ≡ Some d
+adds_settled day l from d (Settle id txn at login count) (Settled id' n) le h some = day_gives day l login from d at le h
+adds_settled day l from d r a le h some = absurd (omega arith)
+
+of_reserved : (day : ℕ → ℕ) (H : List Entry) (l : List ℕ) (from d : ℕ) (e : Entry) → from ≤ d → 0 < reserved_of day H l d e → day_from day l from e.request e.reply ≡ Some d
+of_reserved day H l from d e le some = elim (either (concerns day l d e.request && is_open H e.request)) [
+  | inr f ↦ (let none : reserved_of day H l d e ≡ 0 = rw f refl in absurd (omega (arith, none, some)))
+  | inl t ↦ (let is : reserved_of day H l d e ≡ granted e.request e.reply = rw t refl in
+      adds_reserved day H l from d e.request e.reply le (first_so (concerns day l d e.request) (is_open H e.request) t) (omega (arith, is, some)))
+]
+
+of_settled : (day : ℕ → ℕ) (l : List ℕ) (from d : ℕ) (e : Entry) → from ≤ d → 0 < settled_of day l d e → day_from day l from e.request e.reply ≡ Some d
+of_settled day l from d e le some = elim (either (concerns day l d e.request)) [
+  | inr f ↦ (let none : settled_of day l d e ≡ 0 = rw f refl in absurd (omega (arith, none, some)))
+  | inl t ↦ (let is : settled_of day l d e ≡ counted e.request e.reply = rw t refl in
+      adds_settled day l from d e.request e.reply le t (omega (arith, is, some)))
+]
+
+-- a day on which something is used is among the login's days
+pub used_among : (day : ℕ → ℕ) (H : List Entry) (l : List ℕ) (from d : ℕ) → from ≤ d → 0 < used day H l d → In d (days_from day H l from)
+used_among day H l from d le some = elim (zero_or_more (reserved day H l d)) [
+  | inr more ↦ (let p = some_part (reserved_of day H l d) H more in
+      in_filter_map (λ e. day_from day l from e.request e.reply) H p.at d p.among (of_reserved day H l from d p.at le p.some))
+  | inl none ↦ (let p = some_part (settled_of day l d) H (omega (arith, none, some)) in
+      in_filter_map (λ e. day_from day l from e.request e.reply) H p.at d p.among (of_settled day l from d p.at le p.some))
+]
+
+day_from_le : (day : ℕ → ℕ) (l login : List ℕ) (from d at : ℕ) → (if same_text l login && nat_le from (day at) then Some (day at) else None) ≡ Some d → from ≤ d
+day_from_le day l login from d at h = elim (either (same_text l login && nat_le from (day at))) [
+  | inl t ↦ (let le = second_so (same_text l login) (nat_le from (day at)) t in
+      let e : Some (day at) ≡ Some d = rw t at h in
+      let s = some_is _ _ e in
+      grind (arith, nat_tests))
+  | inr f ↦ (let e : None ≡ Some d = rw f at h in absurd (some_none d (sym e)))
+]
+
+of_day : (day : ℕ → ℕ) (l : List ℕ) (from d : ℕ) (r : Request) (a : Reply) → day_from day l from r a ≡ Some d → from ≤ d
+of_day day l from d (Reserve id txn at login count) (Granted id' n) h = day_from_le day l login from d at h
+of_day day l from d (Settle id txn at login count) (Settled id' n) h = day_from_le day l login from d at h
+of_day day l from d r a h = absurd (some_none d (sym h))
+
+-- the login's days from a day on are not before it
+pub days_after : (day : ℕ → ℕ) (H : List Entry) (l : List ℕ) (from d : ℕ) → In d (days_from day H l from) → from ≤ d
+days_after day H l from d i =
+    let m = filter_map_in (λ e. day_from day l from e.request e.reply) H d i in
+    of_day day l from d m.source.request m.source.reply m.gives
+
+-- The least of them is the least of all.
+
+over_among : (day : ℕ → ℕ) (H : List Entry) (l : List ℕ) (from c d : ℕ) → from ≤ d → c < used day H l d → In d (filter (λ d. nat_lt c (used day H l d)) (days_from day H l from))
+over_among day H l from c d le more =
+    in_filter (λ d. nat_lt c (used day H l d)) (days_from day H l from) d (used_among day H l from d le (omega arith)) (grind (arith, nat_tests, more))
+
+pub over_least : (day : ℕ → ℕ) (H : List Entry) (l : List ℕ) (from c : ℕ) (o : Option ℕ) → over day H l from c ≡ o → IsLeastOver day H l from c o
+over_least day H l from c None h = λ d le. elim (le_or_lt (used day H l d) c) [
+  | inl ok ↦ ok
+  | inr more ↦ absurd (least_none _ h d (over_among day H l from c d le more))
+]
+over_least day H l from c (Some d) h =
+    let kept = filter_in (λ d. nat_lt c (used day H l d)) (days_from day H l from) d (least_in _ d h) in
+    let more : nat_lt c (used day H l d) ≡ true = kept.passes in
+    (days_after day H l from d kept.among,
+     grind (arith, nat_tests, more),
+     λ e le before. elim (le_or_lt (used day H l e) c) [
+       | inl ok ↦ ok
+       | inr over' ↦ absurd (omega (arith, least_le _ d h e (over_among day H l from c e le over')))
+     ])
+
+-- and it is the only one
+same_least : (day : ℕ → ℕ) (H : List Entry) (l : List ℕ) (from c : ℕ) (o p : Option ℕ) → IsLeastOver day H l from c o → IsLeastOver day H l from c p → o ≡ p
+same_least day H l from c None None h g = refl
+same_least day H l from c None (Some d) h g = absurd (omega (arith, h d g.0, g.1))
+same_least day H l from c (Some d) None h g = absurd (omega (arith, g d h.0, h.1))
+same_least day H l from c (Some d) (Some e) h g = elim (le_or_lt d e) [
+  | inr less ↦ absurd (omega (arith, h.2 e g.0 less, g.1))
+  | inl le ↦ elim (le_or_lt e d) [
+    | inr less ↦ absurd (omega (arith, g.2 d h.0 less, h.1))
+    | inl ge ↦ (let same : d ≡ e = omega arith in ap Some same)
+  ]
+]
+
+pub least_is_over : (day : ℕ → ℕ) (H : List Entry) (l : List ℕ) (from c : ℕ) (o : Option ℕ) → IsLeastOver day H l from c o → o ≡ over day H l from c
+least_is_over day H l from c o h = same_least day H l from c o (over day H l from c) h (over_least day H l from c _ refl)
+
+-- From day to day.
+
+lesser_swap : (n m : ℕ) (o : Option ℕ) → lesser n (Some (lesser m o)) ≡ lesser m (Some (lesser n o))
+lesser_swap n m None = grind (arith, nat_tests)
+lesser_swap n m (Some k) = grind (arith, nat_tests)
+
+least_push : (ns : List ℕ) (m : ℕ) → least (ns ++ m ∷ []) ≡ Some (lesser m (least ns))
+least_push [] m = refl
+least_push (n ∷ ns) m = ap (λ o. Some (lesser n o)) (least_push ns m) ∙ ap Some (lesser_swap n m (least ns))
+
+-- the least of the days with one more entry
+pub next_other : (day : ℕ → ℕ) (H : List Entry) (l : List ℕ) (from : ℕ) (e : Entry) → day_from day l from e.request e.reply ≡ None → least (days_from day (H ++ e ∷ []) l from) ≡ least (days_from day H l from)
+next_other day H l from e h = ap least (filter_map-append (λ (x : Entry). day_from day l from x.request x.reply) H (e ∷ []) ∙ rw h (append-nil (days_from day H l from)))
+
+pub next_more : (day : ℕ → ℕ) (H : List Entry) (l : List ℕ) (from : ℕ) (e : Entry) (d : ℕ) → day_from day l from e.request e.reply ≡ Some d → least (days_from day (H ++ e ∷ []) l from) ≡ Some (lesser d (least (days_from day H l from)))
+next_more day H l from e d h = ap least (filter_map-append (λ (x : Entry). day_from day l from x.request x.reply) H (e ∷ []) ∙ rw h refl) ∙ least_push (days_from day H l from) d
+
+-- before the next of the login's days nothing is used, and where there is none nothing is
+pub nothing_before : (day : ℕ → ℕ) (H : List Entry) (l : List ℕ) (from d : ℕ) → least (days_from day H l from) ≡ Some d → (e : ℕ) → from ≤ e → e < d → used day H l e ≡ 0
+nothing_before day H l from d h e le before = elim (zero_or_more (used day H l e)) [
+  | inl none ↦ none
+  | inr some ↦ absurd (omega (arith, least_le _ d h e (used_among day H l from e le some)))
+]
+
+pub nothing_on : (day : ℕ → ℕ) (H : List Entry) (l : List ℕ) (from : ℕ) → least (days_from day H l from) ≡ None → (e : ℕ) → from ≤ e → used day H l e ≡ 0
+nothing_on day H l from h e le = elim (zero_or_more (used day H l e)) [
+  | inl none ↦ none
+  | inr some ↦ absurd (least_none _ h e (used_among day H l from e le some))
+]
+
+pub next_after : (day : ℕ → ℕ) (H : List Entry) (l : List ℕ) (from d : ℕ) → least (days_from day H l from) ≡ Some d → from ≤ d
+next_after day H l from d h = days_after day H l from d (least_in _ d h)

@@ -1,0 +1,170 @@
+-- A page is the first hundred logins, and nothing else is.
+use Rattle.std.proofs.Common.{◌≡◌, ℕ, zero, suc, ◌+◌, ◌<◌, ◌≤◌, List, [], ◌∷◌, ◌++◌, length, length-append, get_or, take, Bool, true, false, Some, None, Option, refl, ◌∙◌, ap, sym, subst, inl, inr, arith}
+use Rattle.std.specs.Prelude.{◌⊎◌, All, Contains, if◌then◌else◌}
+use Rattle.std.specs.List.{AllByRecursion, list_any}
+use Rattle.std.proofs.lemmas.List.{length-take}
+use Rattle.std.proofs.lemmas.List.Elements.{recursion_from_All, All-from_recursion}
+use Rattle.mq_frame.specs.Same.{same_text}
+use Rattle.mq_ledger.specs.declared.entry.Entry.{Entry}
+use Rattle.mq_ledger.specs.Page.{below, login_on, logins_on, logins_above, page, IsAscending, is_login, has_reserve, IsPage}
+use Rattle.mq_ledger.proofs.Basics.{either, le_or_lt, text_is, text_itself, some_is, In, all_of, all_at, all_push, in_filter_map, filter_map_in}
+use Rattle.mq_ledger.proofs.Pages.{below_trans, not_below_itself, same_ascending, above_ascending, IsAbove, above_in, in_above}
+
+-- Members by place.
+
+contains_in : (ls : List (List ℕ)) (l : List ℕ) → Contains ls l → In l ls
+contains_in [] l (k, lt, is) = absurd (omega arith)
+contains_in (x ∷ ls) l (zero, lt, is) = inl is
+contains_in (x ∷ ls) l (suc k, lt, is) = inr (contains_in ls l (k, omega arith, is))
+
+in_contains : (ls : List (List ℕ)) (l : List ℕ) → In l ls → Contains ls l
+in_contains [] l i = absurd i
+in_contains (x ∷ ls) l (inl e) = (0, omega arith, e)
+in_contains (x ∷ ls) l (inr i) = (let c = in_contains ls l i in (suc c.0, omega (arith, c.1), c.2))
+
+-- The front of ascending logins.
+
+in_take : (n : ℕ) (ls : List (List ℕ)) (l : List ℕ) → In l (take n ls) → In l ls
+in_take zero ls l i = absurd i
+in_take (suc n) [] l i = i
+in_take (suc n) (x ∷ ls) l (inl e) = inl e
+in_take (suc n) (x ∷ ls) l (inr i) = inr (in_take n ls l i)
+
+take_ascending : (n : ℕ) (ls : List (List ℕ)) → IsAscending ls → IsAscending (take n ls)
+take_ascending zero ls up = tt
+take_ascending (suc n) [] up = up
+take_ascending (suc n) (x ∷ ls) up = (all_of (λ m. below x m ≡ true) (take n ls) (λ m i. all_at (λ m. below x m ≡ true) ls m up.0 (in_take n ls m i)), take_ascending n ls up.1)
+
+-- a login is in the front, or behind all of a full one
+abbrev IsPlaced : ℕ → List (List ℕ) → List ℕ → Type 0
+IsPlaced n front l = In l front ⊎ ((length front ≡ n) × AllByRecursion (λ m. below m l ≡ true) front)
+
+placed_more : (n : ℕ) (x l : List ℕ) (front : List (List ℕ)) → below x l ≡ true → IsPlaced n front l → IsPlaced (suc n) (x ∷ front) l
+placed_more n x l front h (inl i) = inl (inr i)
+placed_more n x l front h (inr p) = inr (omega (arith, p.0), (h, p.1))
+
+placed : (n : ℕ) (ls : List (List ℕ)) (l : List ℕ) → IsAscending ls → In l ls → IsPlaced n (take n ls) l
+placed zero ls l up i = inr (refl, tt)
+placed (suc n) [] l up i = absurd i
+placed (suc n) (x ∷ ls) l up (inl e) = inl (inl e)
+placed (suc n) (x ∷ ls) l up (inr i) = placed_more n x l (take n ls) (all_at (λ m. below x m ≡ true) ls l up.0 i) (placed n ls l up.1 i)
+
+-- A login with a granted reserve.
+
+is_login_so : (l : List ℕ) (o : Option (List ℕ)) → is_login l o ≡ true → o ≡ Some l
+is_login_so l None h = cc
+is_login_so l (Some m) h = ap Some (sym (text_is l m h))
+
+record Found {X : Type 0} (p : X → Bool) (xs : List X) : Type 0 where
+  at : X
+  among : In at xs
+  passes : p at ≡ true
+
+any_found : {X : Type 0} (p : X → Bool) (xs : List X) → list_any p xs ≡ true → Found p xs
+any_found p [] h = cc
+any_found p (x ∷ xs) h = elim (either (p x)) [
+  | inl t ↦ record { at = x; among = inl refl; passes = t }
+  | inr f ↦ (let r = any_found p xs (rw f at h) in record { at = r.at; among = inr r.among; passes = r.passes })
+]
+
+found_any : {X : Type 0} (p : X → Bool) (xs : List X) (x : X) → In x xs → p x ≡ true → list_any p xs ≡ true
+found_any p [] x i h = absurd i
+found_any p (y ∷ xs) x (inl e) h = (let t : p y ≡ true = ap p e ∙ h in rw t refl)
+found_any p (y ∷ xs) x (inr i) h = elim (either (p y)) [ inl t ↦ rw t refl | inr f ↦ rw f (found_any p xs x i h) ]
+
+pub reserve_in : (day : ℕ → ℕ) (H : List Entry) (d : ℕ) (l : List ℕ) → has_reserve day H d l ≡ true → In l (logins_on day H d)
+reserve_in day H d l h =
+    let f = any_found (λ (e : Entry). is_login l (login_on day d e.request e.reply)) H h in
+    in_filter_map (λ e. login_on day d e.request e.reply) H f.at l f.among (is_login_so l (login_on day d f.at.request f.at.reply) f.passes)
+
+in_reserve : (day : ℕ → ℕ) (H : List Entry) (d : ℕ) (l : List ℕ) → In l (logins_on day H d) → has_reserve day H d l ≡ true
+in_reserve day H d l i =
+    let m = filter_map_in (λ (e : Entry). login_on day d e.request e.reply) H l i in
+    found_any (λ e. is_login l (login_on day d e.request e.reply)) H m.source m.among (ap (is_login l) m.gives ∙ text_itself l)
+
+-- The page.
+
+pub in_page : (day : ℕ → ℕ) (H : List Entry) (d : ℕ) (after l : List ℕ) → In l (page day H d after) → IsAbove day H d after l
+unfolding page
+in_page day H d after l i = in_above day H d after l (in_take 100 (logins_above day H d after) l i)
+
+pub page_few : (day : ℕ → ℕ) (H : List Entry) (d : ℕ) (after : List ℕ) → length (page day H d after) ≤ 100
+unfolding page
+page_few day H d after = omega (arith, length-take 100 (logins_above day H d after))
+
+page_ascending : (day : ℕ → ℕ) (H : List Entry) (d : ℕ) (after : List ℕ) → IsAscending (page day H d after)
+unfolding page
+page_ascending day H d after = take_ascending 100 (logins_above day H d after) (above_ascending day H d after)
+
+page_placed : (day : ℕ → ℕ) (H : List Entry) (d : ℕ) (after l : List ℕ) → IsAbove day H d after l → IsPlaced 100 (page day H d after) l
+unfolding page
+page_placed day H d after l h = placed 100 (logins_above day H d after) l (above_ascending day H d after) (above_in day H d after l h)
+
+pub page_is : (day : ℕ → ℕ) (H : List Entry) (d : ℕ) (after : List ℕ) → IsPage day H d after (page day H d after)
+page_is day H d after =
+    let ls : List (List ℕ) = page day H d after in
+    record {
+      ascending = page_ascending day H d after;
+      above = All-from_recursion (λ l. below after l ≡ true) ls (all_of (λ l. below after l ≡ true) ls (λ l i. (in_page day H d after l i).above));
+      there = All-from_recursion (λ l. has_reserve day H d l ≡ true) ls (all_of (λ l. has_reserve day H d l ≡ true) ls (λ l i. in_reserve day H d l (in_page day H d after l i).there));
+      few = page_few day H d after;
+      first = λ l above there. elim (page_placed day H d after l (record { above = above; there = reserve_in day H d l there })) [
+        | inl i ↦ inl (in_contains ls l i)
+        | inr p ↦ inr (p.0, All-from_recursion (λ m. below m l ≡ true) ls p.1)
+      ];
+    }
+
+-- Nothing else is a page.
+
+-- ascending logins among ascending ones are no more of them
+part_le : (xs zs : List (List ℕ)) → IsAscending xs → IsAscending zs → ((z : List ℕ) → In z zs → In z xs) → length zs ≤ length xs
+part_le xs [] up up' h = omega arith
+part_le [] (z ∷ zs) up up' h = absurd (h z (inl refl))
+part_le (x ∷ xs) (z ∷ zs) up up' h =
+    let behind : (w : List ℕ) → In w zs → In w xs = λ w i. elim (h w (inr i)) [
+      | inr j ↦ j
+      | inl e ↦ absurd (before_first w e i (h z (inl refl)))
+    ] in
+    omega (arith, part_le xs zs up.1 up'.1 behind)
+  where
+    -- x isn't behind z, which is x or behind it
+    before_first : (w : List ℕ) → x ≡ w → In w zs → (x ≡ z) ⊎ In z xs → ⊥
+    before_first w e i (inl same) = not_below_itself x (let P : List ℕ → Type 0 = λ v. below v x ≡ true in subst P (sym same) (let Q : List ℕ → Type 0 = λ v. below z v ≡ true in subst Q (sym e) (all_at (λ m. below z m ≡ true) zs w up'.0 i)))
+    before_first w e i (inr j) = not_below_itself x (below_trans x z x (all_at (λ m. below x m ≡ true) xs z up.0 j) (let Q : List ℕ → Type 0 = λ v. below z v ≡ true in subst Q (sym e) (all_at (λ m. below z m ≡ true) zs w up'.0 i)))
+
+in_push : (ms : List (List ℕ)) (l x : List ℕ) → In x (ms ++ l ∷ []) → In x ms ⊎ (l ≡ x)
+in_push [] l x (inl e) = inr e
+in_push [] l x (inr i) = absurd i
+in_push (m ∷ ms) l x (inl e) = inl (inl e)
+in_push (m ∷ ms) l x (inr i) = elim (in_push ms l x i) [ inl j ↦ inl (inr j) | inr e ↦ inr e ]
+
+push_ascending : (ms : List (List ℕ)) (l : List ℕ) → IsAscending ms → AllByRecursion (λ m. below m l ≡ true) ms → IsAscending (ms ++ l ∷ [])
+push_ascending [] l up all = (tt, tt)
+push_ascending (m ∷ ms) l up all = (all_push (λ x. below m x ≡ true) ms l up.0 all.0, push_ascending ms l up.1 all.1)
+
+-- each login of a page is on every other page of that day and login
+page_part : (day : ℕ → ℕ) (H : List Entry) (d : ℕ) (after : List ℕ) (xs ys : List (List ℕ)) → IsPage day H d after xs → IsPage day H d after ys → (x : List ℕ) → In x xs → In x ys
+page_part day H d after xs ys p q x i =
+    let all_above = recursion_from_All (λ l. below after l ≡ true) in
+    let all_there = recursion_from_All (λ l. has_reserve day H d l ≡ true) in
+    elim (q.first x (all_at (λ l. below after l ≡ true) xs x (all_above xs p.above) i) (all_at (λ l. has_reserve day H d l ≡ true) xs x (all_there xs p.there) i)) [
+      | inl c ↦ contains_in ys x c
+      | inr full ↦ (let behind : AllByRecursion (λ m. below m x ≡ true) ys = recursion_from_All (λ m. below m x ≡ true) ys full.1 in
+          let among : (y : List ℕ) → In y ys → In y xs = λ y j.
+            elim (p.first y (all_at (λ l. below after l ≡ true) ys y (all_above ys q.above) j) (all_at (λ l. has_reserve day H d l ≡ true) ys y (all_there ys q.there) j)) [
+              | inl c ↦ contains_in xs y c
+              | inr full' ↦ absurd (not_below_itself x (below_trans x y x
+                  (all_at (λ m. below m y ≡ true) xs x (recursion_from_All (λ m. below m y ≡ true) xs full'.1) i)
+                  (all_at (λ m. below m x ≡ true) ys y behind j)))
+            ] in
+          let more : length (ys ++ x ∷ []) ≤ length xs = part_le xs (ys ++ x ∷ []) p.ascending (push_ascending ys x q.ascending behind) (λ z k. elim (in_push ys x z k) [
+            | inl j ↦ among z j
+            | inr e ↦ (let P : List ℕ → Type 0 = λ w. In w xs in subst P e i)
+          ]) in
+          absurd (omega (arith, more, length-append ys (x ∷ []), p.few, full.0)))
+    ]
+
+pub is_page : (day : ℕ → ℕ) (H : List Entry) (d : ℕ) (after : List ℕ) (ls : List (List ℕ)) → IsPage day H d after ls → ls ≡ page day H d after
+is_page day H d after ls p =
+    let q = page_is day H d after in
+    same_ascending ls (page day H d after) p.ascending q.ascending (page_part day H d after ls (page day H d after) p q) (page_part day H d after (page day H d after) ls q p)

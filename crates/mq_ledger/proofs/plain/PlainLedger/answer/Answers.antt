@@ -1,0 +1,4 @@
+use Rattle.mq_ledger.proofs.plain.PlainLedger.answer.Goals as goal
+
+pub returns-in-Reserve : goal.returns-in-Reserve
+returns-in-Reserve c = rw c.in-Reserve.is c.answer_reserve.ensures

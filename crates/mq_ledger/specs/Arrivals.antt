@@ -1,0 +1,37 @@
+-- Numbered requests, and the first arrival of each number.
+use Rattle.std.specs.Prelude.{List, [], ◌∷◌, ◌++◌, fold, Bool, false, if◌then◌else◌, Option, Some, None, is_some}
+use Rattle.std.specs.List.{list_any}
+use Rattle.mq_frame.specs.declared.message.Id.{Id}
+use Rattle.mq_frame.specs.declared.message.Request.{Request}
+use Rattle.mq_frame.specs.declared.message.Request.TheVariants.{Reserve, Settle, Release, Limit, Usage, List as ListRequest}
+use Rattle.mq_frame.specs.Same.{same_id}
+
+-- the number of a request: usage and list have none
+abbrev pub id_of : Request → Option Id
+id_of (Reserve id txn at login count) = Some id
+id_of (Settle id txn at login count) = Some id
+id_of (Release id txn at login) = Some id
+id_of (Limit id from_day cap login) = Some id
+id_of (Usage login day) = None
+id_of (ListRequest day after) = None
+
+abbrev pub is_numbered : Request → Bool
+is_numbered r = is_some (id_of r)
+
+-- the number is there and is that one
+abbrev pub is_id : Id → Option Id → Bool
+is_id id None = false
+is_id id (Some other) = same_id id other
+
+-- the request has that number
+abbrev pub has_id : Id → Request → Bool
+has_id id r = is_id id (id_of r)
+
+-- those kept, with the request behind them where it is numbered and none of them has its number
+abbrev pub kept_with : List Request → Request → Option Id → List Request
+kept_with kept r None = kept
+kept_with kept r (Some id) = if list_any (has_id id) kept then kept else kept ++ r ∷ []
+
+-- the numbered requests, without each whose number an earlier one has
+abbrev pub first : List Request → List Request
+first arrivals = fold (λ kept r. kept_with kept r (id_of r)) [] arrivals

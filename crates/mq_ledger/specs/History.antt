@@ -1,0 +1,119 @@
+-- What a history says of transactions, and of what a login has used on a day.
+--
+-- A history is a list of entries, oldest first: numbered requests, each with its reply. `day` gives
+-- the day of a moment.
+use Rattle.std.specs.Prelude.{◌≡◌, ℕ, ◌+◌, List, map, find, sum_by, Bool, true, false, ◌==◌, ◌&&◌, not, if◌then◌else◌, Option, Some, None}
+use Rattle.std.specs.List.{list_any}
+use Rattle.mq_frame.specs.declared.message.Id.{Id}
+use Rattle.mq_frame.specs.declared.message.Request.{Request}
+use Rattle.mq_frame.specs.declared.message.Request.TheVariants.{Reserve, Settle, Release, Limit, Usage, List as ListRequest}
+use Rattle.mq_frame.specs.declared.message.Reply.{Reply}
+use Rattle.mq_frame.specs.declared.message.Reply.TheVariants.{Granted, Settled, Released}
+use Rattle.mq_frame.specs.Same.{same_text}
+use Rattle.mq_ledger.specs.declared.entry.Entry.{Entry}
+
+abbrev pub requests : List Entry → List Request
+requests H = map (λ e. e.request) H
+
+-- a transaction is named by its host, its run and its number there
+pub record Transaction : Type 0 where
+  pub host : List ℕ
+  pub run : ℕ
+  pub txn : ℕ
+
+abbrev pub transaction : Id → ℕ → Transaction
+transaction id txn = record { host = id.host; run = id.run; txn = txn }
+
+abbrev pub same_transaction : Transaction → Transaction → Bool
+same_transaction t u = same_text t.host u.host && ((t.run == u.run) && (t.txn == u.txn))
+
+-- the request is a reserve, settle or release of the transaction
+abbrev pub is_of : Transaction → Request → Bool
+is_of t (Reserve id txn at login count) = same_transaction t (transaction id txn)
+is_of t (Settle id txn at login count) = same_transaction t (transaction id txn)
+is_of t (Release id txn at login) = same_transaction t (transaction id txn)
+is_of t (Limit id from_day cap login) = false
+is_of t (Usage login day) = false
+is_of t (ListRequest day after) = false
+
+-- the request is a reserve, settle or release of that moment and login
+abbrev pub is_at : ℕ → List ℕ → Request → Bool
+is_at at login (Reserve id txn at' login' count) = (at == at') && same_text login login'
+is_at at login (Settle id txn at' login' count) = (at == at') && same_text login login'
+is_at at login (Release id txn at' login') = (at == at') && same_text login login'
+is_at at login (Limit id from_day cap login') = false
+is_at at login (Usage login' day) = false
+is_at at login (ListRequest day after) = false
+
+-- the first entry of the transaction, whatever its reply: it gives the login and the moment
+abbrev pub named : List Entry → Transaction → Option Entry
+named H t = find (λ e. is_of t e.request) H
+
+-- no entry named another login or moment
+abbrev pub agrees : ℕ → List ℕ → Option Entry → Bool
+agrees at login None = true
+agrees at login (Some e) = is_at at login e.request
+
+-- Settled or Released
+abbrev pub closes : Reply → Bool
+closes (Settled id count) = true
+closes (Released id held) = true
+closes _ = false
+
+-- an entry of the transaction was replied Settled or Released
+abbrev pub closed : List Entry → Transaction → Bool
+closed H t = list_any (λ e. is_of t e.request && closes e.reply) H
+
+-- the transaction is open to requests of that moment and login
+pub record IsOpenTo (at : ℕ) (login : List ℕ) (H : List Entry) (t : Transaction) : Type 0 where
+  pub agreed : agrees at login (named H t) ≡ true
+  pub open_still : closed H t ≡ false
+
+-- the count of a granted reserve
+abbrev pub granted : Request → Reply → ℕ
+granted (Reserve id txn at login count) (Granted id' used) = count
+granted _ _ = 0
+
+-- the count of a settled settle
+abbrev pub counted : Request → Reply → ℕ
+counted (Settle id txn at login count) (Settled id' count') = count
+counted _ _ = 0
+
+-- the sum of counts of the transaction's granted reserves
+abbrev pub granted_in : List Entry → Transaction → ℕ
+granted_in H t = sum_by (λ e. if is_of t e.request then granted e.request e.reply else 0) H
+
+-- the same, and nothing once the transaction is closed
+abbrev pub held : List Entry → Transaction → ℕ
+held H t = if closed H t then 0 else granted_in H t
+
+-- the request is a reserve or settle of that login and day
+abbrev pub concerns : (ℕ → ℕ) → List ℕ → ℕ → Request → Bool
+concerns day l d (Reserve id txn at login count) = same_text l login && (day at == d)
+concerns day l d (Settle id txn at login count) = same_text l login && (day at == d)
+concerns day l d _ = false
+
+-- the request is a reserve whose transaction isn't closed in H
+abbrev pub is_open : List Entry → Request → Bool
+is_open H (Reserve id txn at login count) = not (closed H (transaction id txn))
+is_open H _ = false
+
+-- what the entry reserves of that login and day, as H stands
+abbrev pub reserved_of : (ℕ → ℕ) → List Entry → List ℕ → ℕ → Entry → ℕ
+reserved_of day H l d e = if concerns day l d e.request && is_open H e.request then granted e.request e.reply else 0
+
+-- what the entry settles of that login and day
+abbrev pub settled_of : (ℕ → ℕ) → List ℕ → ℕ → Entry → ℕ
+settled_of day l d e = if concerns day l d e.request then counted e.request e.reply else 0
+
+-- the sum of counts of the granted reserves of that login and day whose transactions aren't closed in H
+abbrev pub reserved : (ℕ → ℕ) → List Entry → List ℕ → ℕ → ℕ
+reserved day H l d = sum_by (reserved_of day H l d) H
+
+-- the sum of counts of the settled settles of that login and day
+abbrev pub settled : (ℕ → ℕ) → List Entry → List ℕ → ℕ → ℕ
+settled day H l d = sum_by (settled_of day l d) H
+
+-- what the login has used on that day
+abbrev pub used : (ℕ → ℕ) → List Entry → List ℕ → ℕ → ℕ
+used day H l d = reserved day H l d + settled day H l d

@@ -1,0 +1,184 @@
+//! The answers of a plain ledger to requests whose number it doesn't have.
+ghost use Rattle.std.specs.Prelude.{◌≡◌, IfOk};
+ghost use Rattle.mq_frame.specs.Range.{IsRequest};
+ghost use Rattle.mq_ledger.specs.Answer.{answer};
+ghost use Rattle.mq_ledger.specs.Day.{day_of};
+
+use crate::cap::cap;
+use crate::first_over::over;
+use crate::listing::{page, row};
+use crate::plain::PlainLedger;
+use crate::standing::{granted_in, refusal};
+use crate::totals::used;
+use mq_frame::{Id, Login, Reply, Request, UsageRow, UsageRows};
+use std::alloc::AllocError;
+
+impl PlainLedger {
+    fn answer_reserve(
+        &self,
+        id: &Id,
+        txn: u32,
+        at: u64,
+        login: &Login,
+        count: u32,
+    ) -> Result<Reply, AllocError>
+        requires { IsRequest (Request.Reserve id.now txn at login.now count) }
+        ensures { IfOk result (λ a. a ≡ answer (day_of self.now.zone) self.now.default self.now.history
+            (Request.Reserve id.now txn at login.now count)) }
+    {
+        if let Some(refused) = refusal(&self.entries, id, txn, at, login)? {
+            return Ok(refused);
+        }
+        let day = self.zone.day(at);
+        let used = used(&self.entries, self.zone, login, day);
+        let cap = cap(&self.entries, self.default, login, day);
+        if cap < used + count {
+            Ok(Reply::Full {
+                id: id.clone()?,
+                used,
+                cap,
+            })
+        } else {
+            Ok(Reply::Granted {
+                id: id.clone()?,
+                used: used + count,
+            })
+        }
+    }
+
+    fn answer_settle(
+        &self,
+        id: &Id,
+        txn: u32,
+        at: u64,
+        login: &Login,
+        count: u32,
+    ) -> Result<Reply, AllocError>
+        ensures { IfOk result (λ a. a ≡ answer (day_of self.now.zone) self.now.default self.now.history
+            (Request.Settle id.now txn at login.now count)) }
+    {
+        if let Some(refused) = refusal(&self.entries, id, txn, at, login)? {
+            return Ok(refused);
+        }
+        let held = granted_in(&self.entries, id, txn);
+        if held < count {
+            Ok(Reply::TooMany {
+                id: id.clone()?,
+                held,
+            })
+        } else {
+            Ok(Reply::Settled {
+                id: id.clone()?,
+                count,
+            })
+        }
+    }
+
+    fn answer_release(
+        &self,
+        id: &Id,
+        txn: u32,
+        at: u64,
+        login: &Login,
+    ) -> Result<Reply, AllocError>
+        ensures { IfOk result (λ a. a ≡ answer (day_of self.now.zone) self.now.default self.now.history
+            (Request.Release id.now txn at login.now)) }
+    {
+        if let Some(refused) = refusal(&self.entries, id, txn, at, login)? {
+            return Ok(refused);
+        }
+        Ok(Reply::Released {
+            id: id.clone()?,
+            held: granted_in(&self.entries, id, txn),
+        })
+    }
+
+    fn answer_limit(
+        &self,
+        id: &Id,
+        from_day: u32,
+        asked: u32,
+        login: &Login,
+    ) -> Result<Reply, AllocError>
+        ensures { IfOk result (λ a. a ≡ answer (day_of self.now.zone) self.now.default self.now.history
+            (Request.Limit id.now from_day asked login.now)) }
+    {
+        match over(&self.entries, self.zone, login, from_day, asked) {
+            None => Ok(Reply::LimitSet { id: id.clone()? }),
+            Some(day) => Ok(Reply::Over {
+                id: id.clone()?,
+                day,
+                used: used(&self.entries, self.zone, login, day),
+            }),
+        }
+    }
+
+    fn answer_usage(&self, login: &Login, day: u32) -> Result<Reply, AllocError>
+        ensures { IfOk result (λ a. a ≡ answer (day_of self.now.zone) self.now.default self.now.history
+            (Request.Usage login.now day)) }
+    {
+        let UsageRow {
+            login,
+            settled,
+            reserved,
+            cap,
+        } = row(&self.entries, self.zone, self.default, login, day)?;
+        Ok(Reply::Usage {
+            login,
+            day,
+            settled,
+            reserved,
+            cap,
+        })
+    }
+
+    fn answer_list(&self, day: u32, after: &Login) -> Result<Reply, AllocError>
+        ensures { IfOk result (λ a. a ≡ answer (day_of self.now.zone) self.now.default self.now.history
+            (Request.List day after.now)) }
+    {
+        let rows = page(
+            self.alloc,
+            &self.entries,
+            self.zone,
+            self.default,
+            day,
+            after.as_slice(),
+        )?;
+        Ok(Reply::List {
+            day,
+            rows: UsageRows::new(rows),
+        })
+    }
+
+    /// The answer over the history, to a request whose number isn't in it.
+    pub(super) fn answer(&self, request: &Request) -> Result<Reply, AllocError>
+        requires { IsRequest request.now }
+        ensures { IfOk result (λ a. a ≡ answer (day_of self.now.zone) self.now.default self.now.history request.now) }
+    {
+        match request {
+            Request::Reserve {
+                id,
+                txn,
+                at,
+                login,
+                count,
+            } => self.answer_reserve(id, *txn, *at, login, *count),
+            Request::Settle {
+                id,
+                txn,
+                at,
+                login,
+                count,
+            } => self.answer_settle(id, *txn, *at, login, *count),
+            Request::Release { id, txn, at, login } => self.answer_release(id, *txn, *at, login),
+            Request::Limit {
+                id,
+                from_day,
+                cap,
+                login,
+            } => self.answer_limit(id, *from_day, *cap, login),
+            Request::Usage { login, day } => self.answer_usage(login, *day),
+            Request::List { day, after } => self.answer_list(*day, after),
+        }
+    }
+}

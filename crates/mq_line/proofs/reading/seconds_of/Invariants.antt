@@ -1,0 +1,12 @@
+use Rattle.std.proofs.Common.{◌≡◌, ◌≤◌, true, take}
+use Rattle.std.specs.List.{list_all}
+use Rattle.std.specs.Char.{is_ascii_digit}
+use Rattle.std.specs.Str.Parse.{digits_value}
+use Rattle.mq_line.proofs.reading.seconds_of.Given as goal
+
+abbrev pub invariant-loop-place : goal.invariant-loop-place
+invariant-loop-place l = record {
+  few : l.place ≤ 18;
+  digits : list_all is_ascii_digit (take l.place l.time) ≡ true;
+  value : l.seconds ≡ digits_value 10 (take l.place l.time);
+}

@@ -1,0 +1,6 @@
+pub mod Pieces
+pub mod Grammar
+pub mod Parameters
+pub mod Results
+pub mod Text
+pub mod Search

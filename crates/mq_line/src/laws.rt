@@ -1,0 +1,35 @@
+//! Laws of the definitions in `specs/`. These functions compute nothing: the contract of each is the law.
+ghost use Rattle.std.specs.Prelude.{◌≡◌, ◌++◌, ◌⊎◌, [], ℕ, List, None};
+ghost use Rattle.std.specs.List.{concat};
+ghost use Rattle.mq_line.specs.Grammar.{Meaning, Reads, fault};
+ghost use Rattle.mq_line.specs.Text.{IsLine, IsTooLong, Holds, lines, left, lines_by_piece, left_by_piece};
+
+/// No line has two meanings, and a line has a meaning exactly where it has no fault.
+pub fn one_meaning()
+    ensures unique { (line : List ℕ) (m n : Meaning) → Reads line m → Reads line n → m ≡ n }
+    ensures no_fault { (line : List ℕ) (m : Meaning) → Reads line m → fault line ≡ None }
+    ensures total { (line : List ℕ) → fault line ≡ None → (m : Meaning) × Reads line m }
+{}
+
+/// A text is its lines, an LF after each, and what follows them: bytes that may become a line, or too
+/// many for one. No other lines are.
+pub fn one_splitting()
+    ensures whole { (text : List ℕ) → Holds text (lines text) (left text) }
+    ensures end { (text : List ℕ) → IsLine (left text) ⊎ IsTooLong (left text) }
+    ensures unique { (text : List ℕ) (ls : List (List ℕ)) (rest : List ℕ) →
+        Holds text ls rest → IsLine rest ⊎ IsTooLong rest → (lines text ≡ ls) × (left text ≡ rest) }
+{}
+
+/// Later bytes change no line that is there, so a text has the same lines however it is cut.
+pub fn any_cutting()
+    // The lines of a text are those that were taken and those of what is held.
+    ensures held { (text : List ℕ) (taken : List (List ℕ)) (held : List ℕ) →
+        Holds text taken held → (lines text ≡ taken ++ lines held) × (left text ≡ left held) }
+    ensures more { (text more : List ℕ) →
+        (lines (text ++ more) ≡ lines text ++ lines (left text ++ more)) × (left (text ++ more) ≡ left (left text ++ more)) }
+    // What is too long stays so, whatever comes.
+    ensures too_long { (held more : List ℕ) → IsTooLong held → IsTooLong (held ++ more) }
+    // Lines that are taken after each piece are those of the whole text.
+    ensures pieces { (pieces : List (List ℕ)) →
+        (lines_by_piece [] pieces ≡ lines (concat pieces)) × (left_by_piece [] pieces ≡ left (concat pieces)) }
+{}

@@ -1,0 +1,62 @@
+//! The parameters of reports.
+ghost use Rattle.std.specs.Prelude.{◌≡◌, Option};
+ghost use Rattle.std.specs.Option.{option_map, option_copied};
+ghost use Rattle.mq_line.specs.Pieces.{fields};
+ghost use Rattle.mq_line.specs.Parameters.{result_of as result_lem, auth_at_end as end_lem, auth, message};
+
+use crate::fields::{first_field, last_field, rest_of};
+
+/// The result of an authentication, as a link-auth report has it.
+#[derive(Clone, Copy, Debug, PartialEq, Eq)]
+pub enum AuthResult {
+    Pass,
+    Fail,
+    Error,
+}
+
+/// The result that a word stands for.
+fn result_of(word: &[u8]) -> Option<AuthResult>
+    ensures { result ≡ result_lem word.now }
+{
+    match word {
+        b"pass" => Some(AuthResult::Pass),
+        b"fail" => Some(AuthResult::Fail),
+        b"error" => Some(AuthResult::Error),
+        _ => None,
+    }
+}
+
+/// The result and the user name where the result stands last.
+fn auth_at_end<'a>(params: &'a [u8]) -> Option<(AuthResult, &'a [u8])>
+    ensures { option_map (λ found. (found.0, found.1.now)) result ≡ end_lem (fields params.now) }
+{
+    let (name, last) = last_field(params);
+    match result_of(last) {
+        Some(outcome) => Some((outcome, name)),
+        None => None,
+    }
+}
+
+/// The result and the user name in the parameters of a link-auth, which may have them in either order:
+/// a release of smtpd writes the one or the other.
+///
+/// The result is the first field where that is `pass`, `fail` or `error`, and then the rest is the name.
+/// Else it is the last field where that is one of these, and the name is what stands before its bar. The
+/// name may be empty and may have bars in it. With neither, there is no answer.
+pub fn auth_of<'a>(params: &'a [u8]) -> Option<(AuthResult, &'a [u8])>
+    ensures { option_map (λ found. (found.0, found.1.now)) result ≡ auth params.now }
+{
+    let (first, left) = first_field(params);
+    match result_of(first) {
+        Some(outcome) => Some((outcome, rest_of(left))),
+        None => auth_at_end(params),
+    }
+}
+
+/// The message id in the parameters of a report on a transaction: the first field, where it isn't empty.
+pub fn message_of<'a>(params: &'a [u8]) -> Option<&'a [u8]>
+    ensures { option_copied result ≡ message params.now }
+{
+    let (id, _) = first_field(params);
+    if id.is_empty() { None } else { Some(id) }
+}

@@ -1,0 +1,89 @@
+//! What a filter writes to smtpd.
+ghost use Rattle.std.specs.Prelude.{◌≡◌, ◌++◌, OnOk, OnErr, vec_len, take};
+ghost use Rattle.mq_line.specs.Results.{registration, answer as answer_lem, result_text};
+
+use crate::faults::Memory;
+
+/// What smtpd is to do with a request of a filter line.
+#[derive(Clone, Copy, Debug, PartialEq, Eq)]
+pub enum Decision {
+    /// Let it through.
+    Proceed,
+    /// Refuse it for good: 550, rejected for policy reasons (RFC 5321).
+    RejectLimit,
+    /// Refuse it for now: 451, aborted by a local error (RFC 5321).
+    RejectService,
+}
+
+/// The field of a result line that says so.
+fn answer_of(decision: Decision) -> &'static [u8]
+    ensures { result.now ≡ answer_lem decision }
+{
+    match decision {
+        Decision::Proceed => b"proceed",
+        Decision::RejectLimit => b"reject|550 daily recipient limit reached",
+        Decision::RejectService => b"reject|451 quota service unavailable",
+    }
+}
+
+/// The six reports and the one request that a quota filter asks for.
+const REGISTRATION: &[u8] = b"register|report|smtp-in|link-auth
+register|report|smtp-in|link-disconnect
+register|report|smtp-in|tx-begin
+register|report|smtp-in|tx-commit
+register|report|smtp-in|tx-rollback
+register|report|smtp-in|tx-reset
+register|filter|smtp-in|rcpt-to
+register|ready
+";
+
+/// Appends the registration, the first that a filter writes, after `config|ready`. With `Memory` nothing is
+/// appended.
+pub fn write_registration(out: &mut Vec<u8>) -> Result<(), Memory>
+    ensures ok { OnOk result (out.new.items ≡ out.old.items ++ registration) }
+    ensures err { OnErr result (out.new.items ≡ out.old.items) }
+{
+    out.extend_from_slice(REGISTRATION)?;
+    Ok(())
+}
+
+/// Appends a result line, or a front of it where memory runs out.
+fn push_result(
+    out: &mut Vec<u8>,
+    session: &[u8],
+    token: &[u8],
+    decision: Decision,
+) -> Result<(), Memory>
+    ensures ok { OnOk result (out.new.items ≡ out.old.items ++ result_text session.now token.now decision) }
+    ensures front { take (vec_len out.old) out.new.items ≡ out.old.items }
+{
+    out.extend_from_slice(b"filter-result|")?;
+    out.extend_from_slice(session)?;
+    out.extend_from_slice(b"|")?;
+    out.extend_from_slice(token)?;
+    out.extend_from_slice(b"|")?;
+    out.extend_from_slice(answer_of(decision))?;
+    out.extend_from_slice(b"\n")?;
+    Ok(())
+}
+
+/// Appends the answer to the filter line with this session and this token, `filter-result` in protocol 0.7.
+/// With `Memory` nothing is appended.
+pub fn write_result(
+    session: &[u8],
+    token: &[u8],
+    decision: Decision,
+    out: &mut Vec<u8>,
+) -> Result<(), Memory>
+    ensures ok { OnOk result (out.new.items ≡ out.old.items ++ result_text session.now token.now decision) }
+    ensures err { OnErr result (out.new.items ≡ out.old.items) }
+{
+    let before = out.len();
+    match push_result(out, session, token, decision) {
+        Ok(()) => Ok(()),
+        Err(refused) => {
+            out.truncate(before);
+            Err(refused)
+        }
+    }
+}

@@ -1,0 +1,175 @@
+-- What stands at the front of the bytes that a feed holds.
+use Rattle.std.proofs.Common.{◌≡◌, ℕ, ◌+◌, ◌*◌, ◌<◌, ◌≤◌, Bool, true, false, List, [], ◌∷◌, ◌++◌, length, take, drop, refl, sym, ap, subst, ◌∙◌, arith, inl, inr, Option, Some, None, Result, Ok, Err, length-drop}
+use Rattle.std.specs.Prelude.{◌⊎◌, nat_lt, ◌==◌}
+use Rattle.std.proofs.lemmas.Bool.Decides.{nat_tests}
+use Rattle.std.proofs.lemmas.List.{take-append-le, drop-append-le, length-append}
+use Rattle.mq_frame.specs.declared.feed.FrameFault.{FrameFault}
+use Rattle.mq_frame.specs.Feed.{Feed, Front, Nothing, Cut, EmptyHead, LongHead, Whole, front, front_behind, next_answer, left_by_next, BeginsWith}
+use Rattle.mq_server.specs.Text.{IsBad, IsPartial, next}
+
+either : (b : Bool) → (b ≡ true) ⊎ (b ≡ false)
+either true = inl refl
+either false = inr refl
+
+whole_is : (a b c d : List ℕ) → Whole a b ≡ Whole c d → (a ≡ c) × (b ≡ d)
+whole_is a b c d e = (cc, cc)
+
+nothing_whole : (a b : List ℕ) → Nothing ≡ Whole a b → ⊥
+nothing_whole a b e = cc
+
+cut_whole : (a b : List ℕ) → Cut ≡ Whole a b → ⊥
+cut_whole a b e = cc
+
+empty_whole : (a b : List ℕ) → EmptyHead ≡ Whole a b → ⊥
+empty_whole a b e = cc
+
+long_whole : (a b : List ℕ) → LongHead ≡ Whole a b → ⊥
+long_whole a b e = cc
+
+-- the four cases of a head
+short_behind : (limit n : ℕ) (bytes : List ℕ) → IsPartial (front_behind limit n bytes) → length bytes < limit
+short_behind limit n bytes e =
+    elim (either (n == 0)) [
+      | inl t ↦ absurd (rw t at e)
+      | inr f ↦ elim (either (nat_lt limit n)) [
+        | inl t ↦ absurd (rw (f, t) at e)
+        | inr g ↦ elim (either (nat_lt (length bytes) n)) [
+          | inl t ↦ grind (arith, nat_tests)
+          | inr h ↦ absurd (rw (f, g, h) at e)
+        ]
+      ]
+    ]
+
+-- less than a frame is held where none is whole
+pub partial_short : (limit : ℕ) (bytes : List ℕ) → IsPartial (front limit bytes) → length bytes < limit + 2
+partial_short limit [] e = omega arith
+partial_short limit (a ∷ []) e = omega arith
+partial_short limit (a ∷ b ∷ bytes) e = omega (arith, short_behind limit (256 * a + b) bytes e)
+
+left_behind : (limit n : ℕ) (bytes body after : List ℕ) → front_behind limit n bytes ≡ Whole body after → length after ≤ length bytes
+left_behind limit n bytes body after e =
+    elim (either (n == 0)) [
+      | inl t ↦ absurd (empty_whole _ _ (rw t at e))
+      | inr f ↦ elim (either (nat_lt limit n)) [
+        | inl t ↦ absurd (long_whole _ _ (rw (f, t) at e))
+        | inr g ↦ elim (either (nat_lt (length bytes) n)) [
+          | inl t ↦ absurd (cut_whole _ _ (rw (f, g, t) at e))
+          | inr h ↦ omega (arith, ap length (whole_is (take n bytes) (drop n bytes) body after (rw (f, g, h) at e)).1, length-drop n bytes)
+        ]
+      ]
+    ]
+
+-- fewer bytes are left behind a frame
+pub left_short : (limit : ℕ) (bytes body after : List ℕ) → front limit bytes ≡ Whole body after → length after < length bytes
+left_short limit [] body after e = absurd (nothing_whole _ _ e)
+left_short limit (a ∷ []) body after e = absurd (cut_whole _ _ e)
+left_short limit (a ∷ b ∷ bytes) body after e = omega (arith, left_behind limit (256 * a + b) bytes body after e)
+
+-- ---- bytes that come later
+
+whole_behind : (limit n : ℕ) (bytes more body after : List ℕ) → front_behind limit n bytes ≡ Whole body after → front_behind limit n (bytes ++ more) ≡ Whole body (after ++ more)
+whole_behind limit n bytes more body after e =
+    elim (either (n == 0)) [
+      | inl t ↦ absurd (empty_whole _ _ (rw t at e))
+      | inr f ↦ elim (either (nat_lt limit n)) [
+        | inl t ↦ absurd (long_whole _ _ (rw (f, t) at e))
+        | inr g ↦ elim (either (nat_lt (length bytes) n)) [
+          | inl t ↦ absurd (cut_whole _ _ (rw (f, g, t) at e))
+          | inr h ↦
+              (let p = whole_is (take n bytes) (drop n bytes) body after (rw (f, g, h) at e) in
+              let le : n ≤ length bytes = grind (arith, nat_tests) in
+              let enough : nat_lt (length (bytes ++ more)) n ≡ false = grind (arith, nat_tests, length-append bytes more) in
+              rw (f, g, enough, take-append-le, drop-append-le, p.0, p.1) refl)
+        ]
+      ]
+    ]
+
+-- a frame that stands stays
+pub whole_more : (limit : ℕ) (bytes more body after : List ℕ) → front limit bytes ≡ Whole body after → front limit (bytes ++ more) ≡ Whole body (after ++ more)
+whole_more limit [] more body after e = absurd (nothing_whole _ _ e)
+whole_more limit (a ∷ []) more body after e = absurd (cut_whole _ _ e)
+whole_more limit (a ∷ b ∷ bytes) more body after e = whole_behind limit (256 * a + b) bytes more body after e
+
+pub frames_more : (limit : ℕ) (bytes more : List ℕ) (bodies : List (List ℕ)) (rest : List ℕ) → BeginsWith limit bytes bodies rest → BeginsWith limit (bytes ++ more) bodies (rest ++ more)
+frames_more limit bytes more [] rest e = ap (λ (l : List ℕ). l ++ more) e
+frames_more limit bytes more (body ∷ bodies) rest h = (h.0 ++ more, whole_more limit bytes more body h.0 h.1, frames_more limit h.0 more bodies rest h.2)
+
+-- one frame more
+pub frames_push : (limit : ℕ) (bytes held body after : List ℕ) (bodies : List (List ℕ)) → BeginsWith limit bytes bodies held → front limit held ≡ Whole body after → BeginsWith limit bytes (bodies ++ body ∷ []) after
+frames_push limit bytes held body after [] h e = (after, ap (front limit) h ∙ e, refl)
+frames_push limit bytes held body after (x ∷ bodies) h e = (h.0, h.1, frames_push limit h.0 held body after bodies h.2 e)
+
+-- ---- what a call for the next body says of the front
+
+abbrev answered : Option (List ℕ) → Result (Option (List ℕ)) FrameFault
+answered o = Ok o
+
+none_some : (body : List ℕ) → answered None ≡ Ok (Some body) → ⊥
+none_some body e = cc
+
+ok_err : (o : Option (List ℕ)) (x : FrameFault) → answered o ≡ Err x → ⊥
+ok_err o x e = cc
+
+some_is : (a b : List ℕ) → answered (Some a) ≡ Ok (Some b) → a ≡ b
+some_is a b e = cc
+
+gave_some : (bytes body : List ℕ) (g : Front) → Ok (Some body) ≡ next_answer g → g ≡ Whole body (left_by_next g bytes)
+gave_some bytes body Nothing e = absurd (none_some body (sym e))
+gave_some bytes body Cut e = absurd (none_some body (sym e))
+gave_some bytes body EmptyHead e = absurd (ok_err _ _ e)
+gave_some bytes body LongHead e = absurd (ok_err _ _ e)
+gave_some bytes body (Whole a b) e = ap (λ (l : List ℕ). Whole l b) (some_is a body (sym e))
+
+-- none is given where no frame is whole, and then nothing is taken
+gave_none : (bytes : List ℕ) (g : Front) → answered None ≡ next_answer g → IsPartial g × (left_by_next g bytes ≡ bytes)
+gave_none bytes Nothing e = (tt, refl)
+gave_none bytes Cut e = (tt, refl)
+gave_none bytes EmptyHead e = absurd (ok_err _ _ e)
+gave_none bytes LongHead e = absurd (ok_err _ _ e)
+gave_none bytes (Whole a b) e = absurd (none_some a e)
+
+gave_err : (x : FrameFault) (g : Front) → Err x ≡ next_answer g → IsBad g
+gave_err x Nothing e = absurd (ok_err _ _ (sym e))
+gave_err x Cut e = absurd (ok_err _ _ (sym e))
+gave_err x EmptyHead e = tt
+gave_err x LongHead e = tt
+gave_err x (Whole a b) e = absurd (ok_err _ _ (sym e))
+
+-- ---- the same of a feed of requests
+
+abbrev pub Answers : Feed → Result (Option (List ℕ)) FrameFault → Type 0
+Answers feed r = r ≡ next_answer (front feed.limit feed.rest)
+
+-- what such a call leaves
+abbrev pub Left : Feed → Feed → Type 0
+Left old new = new ≡ record { limit = old.limit; rest = left_by_next (front old.limit old.rest) old.rest }
+
+abbrev of_requests : List ℕ → Feed
+of_requests bytes = record { limit = 512; rest = bytes }
+
+is_of : (feed : Feed) → feed.limit ≡ 512 → feed ≡ of_requests feed.rest
+is_of feed e = λ i. record { limit = e i; rest = feed.rest }
+
+pub same_limit : (old new : Feed) → old.limit ≡ 512 → Left old new → new.limit ≡ 512
+same_limit old new e left = ap (λ (f : Feed). f.limit) left ∙ e
+
+pub bad_head : (feed : Feed) (x : FrameFault) → feed.limit ≡ 512 → Answers feed (Err x) → IsBad (next feed.rest)
+bad_head feed x e a = let P : Feed → Type 0 = λ f. Answers f (Err x) in gave_err x (next feed.rest) (subst P (is_of feed e) a)
+
+pub no_frame : (feed : Feed) → feed.limit ≡ 512 → Answers feed (Ok None) → IsPartial (next feed.rest)
+no_frame feed e a = let P : Feed → Type 0 = λ f. Answers f (Ok None) in (gave_none feed.rest (next feed.rest) (subst P (is_of feed e) a)).0
+
+pub no_frame_left : (old new : Feed) → old.limit ≡ 512 → Answers old (Ok None) → Left old new → new.rest ≡ old.rest
+no_frame_left old new e a left =
+    let P : Feed → Type 0 = λ f. Answers f (Ok None) in
+    let Q : Feed → Type 0 = λ f. Left f new in
+    ap (λ (f : Feed). f.rest) (subst Q (is_of old e) left) ∙ (gave_none old.rest (next old.rest) (subst P (is_of old e) a)).1
+
+pub a_frame : (old new : Feed) (body : List ℕ) → old.limit ≡ 512 → Answers old (Ok (Some body)) → Left old new → next old.rest ≡ Whole body new.rest
+a_frame old new body e a left =
+    let P : Feed → Type 0 = λ f. Answers f (Ok (Some body)) in
+    let Q : Feed → Type 0 = λ f. Left f new in
+    gave_some old.rest body (next old.rest) (subst P (is_of old e) a) ∙ ap (λ (f : Feed). Whole body f.rest) (sym (subst Q (is_of old e) left))
+
+pub front_of : (feed : Feed) (bytes : List ℕ) → feed.limit ≡ 512 → feed.rest ≡ bytes → front feed.limit feed.rest ≡ next bytes
+front_of feed bytes e f = ap (λ (n : ℕ). front n feed.rest) e ∙ ap next f

@@ -1,0 +1,5 @@
+pub mod Deliveries
+pub mod Exits
+pub mod Heads
+pub mod Running
+pub mod Turns

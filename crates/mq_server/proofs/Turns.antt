@@ -1,0 +1,101 @@
+-- One connection more is served.
+use Rattle.std.proofs.Common.{◌≡◌, ℕ, zero, suc, ◌+◌, ◌<◌, List, [], ◌∷◌, ◌++◌, length, map, get_or, set, refl, sym, ap, subst, ◌∙◌, arith, Option, Result}
+use Rattle.std.specs.List.{AllZip}
+use Rattle.std.proofs.lemmas.List.{map-set, get_or-map, length-map}
+use Rattle.mq_frame.specs.declared.message.Reply.{Reply}
+use Rattle.mq_ledger.specs.declared.entry.Entry.{Entry}
+use Rattle.mq_ledger.specs.Legal.{Book}
+use Rattle.mq_server.specs.declared.connection.Served.{Served}
+use Rattle.mq_server.specs.declared.fault.ServeFault.{ServeFault}
+use Rattle.mq_server.specs.Delivery.{Delivery, answer_to, history_after}
+use Rattle.mq_server.specs.Connection.{Wire, Serves}
+use Rattle.mq_server.specs.Connections.{wires, AreServed}
+use Rattle.mq_server.proofs.Deliveries.{Follows, answer_more, history_more}
+
+abbrev wire : Option (List ℕ) → Option (List ℕ) → Wire
+wire left holds = record { remaining = left; contents = holds }
+
+length-wires : (lefts held : List (Option (List ℕ))) → length lefts ≡ length held → length (wires lefts held) ≡ length lefts
+length-wires [] held e = refl
+length-wires (left ∷ lefts) [] e = absurd (omega arith)
+length-wires (left ∷ lefts) (holds ∷ held) e = ap suc (length-wires lefts held (omega arith))
+
+wires-set : (lefts held : List (Option (List ℕ))) (i : ℕ) (left holds : Option (List ℕ)) → length lefts ≡ length held → wires (set lefts i left) (set held i holds) ≡ set (wires lefts held) i (wire left holds)
+wires-set [] held i left holds e = refl
+wires-set (x ∷ lefts) [] i left holds e = absurd (omega arith)
+wires-set (x ∷ lefts) (y ∷ held) zero left holds e = refl
+wires-set (x ∷ lefts) (y ∷ held) (suc i) left holds e = ap (λ (q : List Wire). wire x y ∷ q) (wires-set lefts held i left holds (omega arith))
+
+wire_at : (lefts held : List (Option (List ℕ))) (i : ℕ) (left holds : Option (List ℕ)) → length lefts ≡ length held → i < length lefts → left ≡ get_or lefts i left → holds ≡ get_or held i holds
+    → wire left holds ≡ get_or (wires lefts held) i (wire left holds)
+wire_at [] held i left holds e h p q = absurd (omega arith)
+wire_at (x ∷ lefts) [] i left holds e h p q = absurd (omega arith)
+wire_at (x ∷ lefts) (y ∷ held) zero left holds e h p q = λ j. wire (p j) (q j)
+wire_at (x ∷ lefts) (y ∷ held) (suc i) left holds e h p q = wire_at lefts held i left holds (omega arith) (omega arith) p q
+
+-- ---- the relation
+
+abbrev from : Book → List Delivery → List Delivery → Delivery → Reply
+from b seen ds d = answer_to b (seen ++ ds) d
+
+served_here : (b : Book) (earlier seen came : List Delivery) (old new x w : Wire) (result : Result Served ServeFault) → seen ≡ earlier → w ≡ x → Serves (from b seen) came w new result → Serves (from b earlier) came x new result
+served_here b earlier seen came old new x w result e f s =
+    let P : List Delivery → Type 0 = λ q. Serves (from b q) came w new result in
+    let Q : Wire → Type 0 = λ v. Serves (from b earlier) came v new result in
+    subst Q f (subst P e s)
+
+served_push : (b : Book) (earlier seen came : List Delivery) (olds news : List Wire) (results : List (Result Served ServeFault)) (w new : Wire) (result : Result Served ServeFault)
+    → AreServed b earlier olds news results seen → length results < length news → w ≡ get_or news (length results) w → Serves (from b seen) came w new result
+    → AreServed b earlier olds (set news (length results) new) (results ++ result ∷ []) (seen ++ came)
+served_push b earlier seen came olds [] [] w new result (all, same) h at s = absurd (omega (arith, h))
+served_push b earlier seen came olds (x ∷ news) [] w new result (all, same) h at s =
+    let P : List Wire → Type 0 = λ q. AreServed b earlier q (new ∷ news) (result ∷ []) (seen ++ came) in
+    subst P same (came, served_here b earlier seen came x new x w result all at s, (ap (λ (q : List Delivery). q ++ came) all, refl))
+served_push b earlier seen came [] news (q ∷ results) w new result told h at s = absurd told
+served_push b earlier seen came (o ∷ olds) [] (q ∷ results) w new result told h at s = absurd told
+served_push b earlier seen came (o ∷ olds) (x ∷ news) (q ∷ results) w new result (first, served, told) h at s =
+    (first, served, served_push b (earlier ++ first) seen came olds news results w new result told (omega arith) at s)
+
+-- what a connection did is the same, said of the ledger that the first one found
+serves_from : (b k : Book) (seen came : List Delivery) (old new : Wire) (result : Result Served ServeFault) → Follows b k seen → Serves (answer_to k) came old new result → Serves (from b seen) came old new result
+serves_from b k seen came old new result f s =
+    let P : (List Delivery → Delivery → Reply) → Type 0 = λ a. Serves a came old new result in
+    let same : answer_to k ≡ from b seen = λ i ds d. answer_more b k seen ds d f i in
+    subst P same s
+
+module _ {S W : Type 0} (left : S → Option (List ℕ)) (held : W → Option (List ℕ)) where
+  abbrev pub All : Book → List Wire → List S → List W → List (Result Served ServeFault) → List Entry → Type 0
+  All b olds inputs outputs results history =
+      (seen : List Delivery) × AreServed b [] olds (wires (map left inputs) (map held outputs)) results seen × (history ≡ history_after b seen)
+
+  pub turn : (b k : Book) (olds : List Wire) (inputs : List S) (outputs : List W) (i : ℕ) (input input' : S) (output output' : W) (results all : List (Result Served ServeFault)) (result : Result Served ServeFault) (seen : List Delivery) (history : List Entry)
+      → length inputs ≡ length outputs → i < length inputs → length results ≡ i → input ≡ get_or inputs i input → output ≡ get_or outputs i output
+      → AreServed b [] olds (wires (map left inputs) (map held outputs)) results seen → Follows b k seen
+      → (came : List Delivery) × Serves (answer_to k) came (wire (left input) (held output)) (wire (left input') (held output')) result × (history ≡ history_after k came)
+      → results ++ result ∷ [] ≡ all → All b olds (set inputs i input') (set outputs i output') all history
+  turn b k olds inputs outputs i input input' output output' results all result seen history pairs here counted from_input from_output told f (came, served, stored) named =
+      let lefts = map left inputs in
+      let holds = map held outputs in
+      let same : length lefts ≡ length holds = omega (arith, length-map inputs left, length-map outputs held) in
+      let p : left input ≡ get_or lefts i (left input) = ap left from_input ∙ sym (get_or-map left inputs i input (left input) here) in
+      let q : held output ≡ get_or holds i (held output) = ap held from_output ∙ sym (get_or-map held outputs i output (held output) (omega arith)) in
+      let at : wire (left input) (held output) ≡ get_or (wires lefts holds) i (wire (left input) (held output)) = wire_at lefts holds i (left input) (held output) same (omega (arith, length-map inputs left)) p q in
+      let after : set (wires lefts holds) i (wire (left input') (held output')) ≡ wires (map left (set inputs i input')) (map held (set outputs i output')) =
+      sym (wires-set lefts holds i (left input') (held output') same) ∙ ap (λ (l : List (Option (List ℕ))). wires l (set holds i (held output'))) (sym (map-set left inputs i input')) ∙ ap (wires (map left (set inputs i input'))) (sym (map-set held outputs i output')) in
+      let P : ℕ → Type 0 = λ n. wire (left input) (held output) ≡ get_or (wires lefts holds) n (wire (left input) (held output)) in
+      let Q : ℕ → Type 0 = λ n. AreServed b [] olds (set (wires lefts holds) n (wire (left input') (held output'))) (results ++ result ∷ []) (seen ++ came) in
+      let R : List Wire → Type 0 = λ ws. AreServed b [] olds ws (results ++ result ∷ []) (seen ++ came) in
+      let N : List (Result Served ServeFault) → Type 0 = λ rs. AreServed b [] olds (wires (map left (set inputs i input')) (map held (set outputs i output'))) rs (seen ++ came) in
+      let one = served_push b [] seen came olds (wires lefts holds) results (wire (left input) (held output)) (wire (left input') (held output')) result told (omega (arith, length-wires lefts holds same, length-map inputs left)) (subst P (sym counted) at) (serves_from b k seen came _ _ result f served) in (
+        seen ++ came,
+        subst N named (subst R after (subst Q counted one)),
+        stored ∙ history_more b k seen came f,
+      )
+
+-- ---- what holds of each end and its source or sink
+
+pub zip_push : {A B : Type 0} (P : A → B → Type 0) (xs : List A) (ys : List B) (x : A) (y : B) → AllZip P xs ys → P x y → AllZip P (xs ++ x ∷ []) (ys ++ y ∷ [])
+zip_push P [] [] x y all p = (p, tt)
+zip_push P [] (b ∷ ys) x y all p = absurd all
+zip_push P (a ∷ xs) [] x y all p = absurd all
+zip_push P (a ∷ xs) (b ∷ ys) x y all p = (all.0, zip_push P xs ys x y all.1 p)

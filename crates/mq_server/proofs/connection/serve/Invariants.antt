@@ -1,0 +1,26 @@
+use Rattle.std.proofs.Common.{◌≡◌, ℕ, ◌+◌, ◌-◌, ◌*◌, ◌<◌, length}
+use Rattle.mq_server.specs.Connection.{Wire}
+use Rattle.mq_server.proofs.Running.{SoFar}
+use Rattle.mq_server.proofs.connection.serve.Given as goal
+
+abbrev pub invariant-frames : goal.invariant-frames
+invariant-frames g l =
+    let book = g.L.Ledger.book in
+    let kept = g.L.Ledger.has_kept in
+    let sound = g.L.Ledger.is_sound in
+    record {
+      limit : l.feed.limit ≡ 512;
+      under : l.answered < 10000;
+      ahead : length l.feed.rest < 4610;
+      same_zone : (book l.ledger).zone ≡ (book l.fn.ledger).zone;
+      same_default : (book l.ledger).default ≡ (book l.fn.ledger).default;
+      was_kept : kept l.ledger → kept l.fn.ledger;
+      stays_sound : kept l.ledger → sound l.fn.ledger → sound l.ledger;
+      so_far : kept l.ledger → sound l.fn.ledger → SoFar (book l.fn.ledger)
+          (record { remaining = g.S.Source.remaining l.fn.input; contents = g.W.Sink.contents l.fn.output })
+          (record { remaining = g.S.Source.remaining l.input; contents = g.W.Sink.contents l.output })
+          l.feed.rest l.answered (book l.ledger).history;
+    }
+
+abbrev pub decreases-frames : goal.decreases-frames
+decreases-frames g l = (10000 - l.answered) * 1000 + (514 - length l.feed.rest)

@@ -1,0 +1,54 @@
+use Rattle.std.proofs.Common.{◌≡◌, ℕ, ◌+◌, ◌<◌, List, [], ◌∷◌, ◌++◌, length, map, take, get_or, set, refl, sym, ap, subst, ◌∙◌, arith, Ok, Err, true, Result}
+use Rattle.std.proofs.lemmas.Result.{err_from_is_err_and}
+use Rattle.std.proofs.lemmas.List.{take_more_set, map-append, length-map, length-append, length-set}
+use Rattle.mq_server.specs.declared.connections.ConnectionEnd.{ConnectionEnd as End}
+use Rattle.mq_server.specs.declared.connection.Served.{Served}
+use Rattle.mq_server.specs.declared.fault.ServeFault.{ServeFault}
+use Rattle.mq_server.specs.declared.fault.ServeFault.TheVariants.{Store}
+use Rattle.mq_server.specs.Connections.{result_of}
+use Rattle.mq_server.proofs.Deliveries.{Follows}
+use Rattle.mq_server.proofs.Turns.{All, turn, zip_push}
+use Rattle.mq_server.proofs.connections.serve_all.Goals as goal
+
+pub returns-in_err-end-clause-store : goal.returns-in_err-end-clause-store
+returns-in_err-end-clause-store g c = λ kept sound _.
+    let i = c.loop-i.invariant in
+    let before = c.serve.ensures.kept kept in
+    let (seen, told, stored) = i.so_far before sound in
+    let f : Follows (g.L.Ledger.book c.args.ledger.now) (g.L.Ledger.book c.loop-i.ledger) seen = record { zone = i.same_zone; default = i.same_default; legal = g.met.L.Ledger.sound_is_legal c.loop-i.ledger (i.stays_sound before sound); history = stored } in
+    let counted : length (map result_of c.loop-i.ends.items) ≡ c.loop-i.i = length-map c.loop-i.ends.items result_of ∙ sym c.loop-i.ends.ok.0 ∙ i.counted in
+    let served = c.serve.ensures.serves kept (i.stays_sound before sound) in
+    let failed : c.serve.result ≡ Err Store = c.in_err-end.ensures.store.1 in
+    let (all, told', stored') = turn g.S.Source.remaining g.W.Sink.contents (g.L.Ledger.book c.args.ledger.now) (g.L.Ledger.book c.loop-i.ledger) _ c.loop-i.inputs c.loop-i.outputs c.loop-i.i (get_or c.loop-i.inputs c.loop-i.i c.index-inputs-i.result) c.serve.new.input (get_or c.loop-i.outputs c.loop-i.i c.index-outputs-i.result) c.serve.new.output (map result_of c.loop-i.ends.items) _ c.serve.result seen _ i.pairs (omega (arith, c.loop-i-test.true)) counted (ap (get_or c.loop-i.inputs c.loop-i.i) c.index-inputs-i.is) (ap (get_or c.loop-i.outputs c.loop-i.i) c.index-outputs-i.is) told f served (ap (λ (r : Result Served ServeFault). map result_of c.loop-i.ends.items ++ r ∷ []) failed) in
+    (c.loop-i.ends.items, all, told', stored')
+
+pub loop-i-preserved : goal.loop-i-preserved
+loop-i-preserved g c =
+    let i = c.loop-i.invariant in
+    let here : c.loop-i.i < length c.loop-i.inputs = omega (arith, c.loop-i-test.true) in
+    let there : c.loop-i.i < length c.loop-i.outputs = omega (arith, here, i.pairs) in
+    let end : End = c.in_ok-end.end in
+    let grown : c.push.new.self.items ≡ c.loop-i.ends.items ++ end ∷ [] = rw c.unwrap.ensures at c.push.ensures.items in
+    let ended : result_of end ≡ c.serve.result = c.in_ok-end.ensures.ok in
+    let inputs : take (c.loop-i.i + 1) (set c.loop-i.inputs c.loop-i.i c.serve.new.input) ≡ take c.loop-i.i c.loop-i.inputs ++ c.serve.new.input ∷ [] = take_more_set c.loop-i.inputs c.loop-i.i c.serve.new.input here in
+    let outputs : take (c.loop-i.i + 1) (set c.loop-i.outputs c.loop-i.i c.serve.new.output) ≡ take c.loop-i.i c.loop-i.outputs ++ c.serve.new.output ∷ [] = take_more_set c.loop-i.outputs c.loop-i.i c.serve.new.output there in
+    record {
+      room = omega (arith, i.room, c.push.ensures.capacity);
+      counted = c.push.new.self.ok.0 ∙ ap length grown ∙ omega (arith, length-append c.loop-i.ends.items (end ∷ []), c.loop-i.ends.ok.0, i.counted);
+      pairs = omega (arith, i.pairs, length-set c.loop-i.inputs c.loop-i.i c.serve.new.input, length-set c.loop-i.outputs c.loop-i.i c.serve.new.output);
+      reads = rw (grown, inputs) (zip_push _ c.loop-i.ends.items (take c.loop-i.i c.loop-i.inputs) end c.serve.new.input i.reads (λ e. c.serve.ensures.read (sym ended ∙ ap result_of e)));
+      writes = rw (grown, outputs) (zip_push _ c.loop-i.ends.items (take c.loop-i.i c.loop-i.outputs) end c.serve.new.output i.writes (λ e. c.serve.ensures.write (sym ended ∙ ap result_of e)));
+      same_zone = c.serve.ensures.same_zone ∙ i.same_zone;
+      same_default = c.serve.ensures.same_default ∙ i.same_default;
+      was_kept = λ k. i.was_kept (c.serve.ensures.kept k);
+      stays_sound = λ k s. c.serve.ensures.sound k (i.stays_sound (c.serve.ensures.kept k) s);
+      so_far = λ kept sound.
+          let before = c.serve.ensures.kept kept in
+          let (seen, told, stored) = i.so_far before sound in
+          let f : Follows (g.L.Ledger.book c.args.ledger.now) (g.L.Ledger.book c.loop-i.ledger) seen = record { zone = i.same_zone; default = i.same_default; legal = g.met.L.Ledger.sound_is_legal c.loop-i.ledger (i.stays_sound before sound); history = stored } in
+          let counted : length (map result_of c.loop-i.ends.items) ≡ c.loop-i.i = length-map c.loop-i.ends.items result_of ∙ sym c.loop-i.ends.ok.0 ∙ i.counted in
+          let served = c.serve.ensures.serves kept (i.stays_sound before sound) in
+          let names : map result_of c.loop-i.ends.items ++ c.serve.result ∷ [] ≡ map result_of c.push.new.self.items =
+          ap (λ (r : Result Served ServeFault). map result_of c.loop-i.ends.items ++ r ∷ []) (sym ended) ∙ sym (map-append result_of c.loop-i.ends.items (end ∷ [])) ∙ ap (map result_of) (sym grown) in
+          turn g.S.Source.remaining g.W.Sink.contents (g.L.Ledger.book c.args.ledger.now) (g.L.Ledger.book c.loop-i.ledger) _ c.loop-i.inputs c.loop-i.outputs c.loop-i.i (get_or c.loop-i.inputs c.loop-i.i c.index-inputs-i.result) c.serve.new.input (get_or c.loop-i.outputs c.loop-i.i c.index-outputs-i.result) c.serve.new.output (map result_of c.loop-i.ends.items) _ c.serve.result seen _ i.pairs here counted (ap (get_or c.loop-i.inputs c.loop-i.i) c.index-inputs-i.is) (ap (get_or c.loop-i.outputs c.loop-i.i) c.index-outputs-i.is) told f served names;
+    }

@@ -1,0 +1,28 @@
+use Rattle.std.proofs.Common.{◌≡◌, ℕ, ◌≤◌, true, List, [], length, map, take, vec_len, vec_capacity}
+use Rattle.std.specs.List.{AllZip}
+use Rattle.mq_server.specs.declared.connections.ConnectionEnd.TheVariants as ends
+use Rattle.mq_server.specs.Connections.{wires, result_of, AreServed}
+use Rattle.mq_server.specs.Delivery.{Delivery, history_after}
+use Rattle.mq_server.proofs.connections.serve_all.Given as goal
+
+abbrev pub invariant-loop-i : goal.invariant-loop-i
+invariant-loop-i g l =
+    let book = g.L.Ledger.book in
+    let kept = g.L.Ledger.has_kept in
+    let sound = g.L.Ledger.is_sound in
+    let left = g.S.Source.remaining in
+    let held = g.W.Sink.contents in
+    record {
+      room : length l.fn.inputs ≤ vec_capacity l.ends;
+      counted : vec_len l.ends ≡ l.i;
+      pairs : length l.inputs ≡ length l.outputs;
+      reads : AllZip (λ end input. end ≡ ends.Read → g.S.Source.has_failed input ≡ true) l.ends.items (take l.i l.inputs);
+      writes : AllZip (λ end output. end ≡ ends.Write → g.W.Sink.has_failed output ≡ true) l.ends.items (take l.i l.outputs);
+      same_zone : (book l.ledger).zone ≡ (book l.fn.ledger).zone;
+      same_default : (book l.ledger).default ≡ (book l.fn.ledger).default;
+      was_kept : kept l.ledger → kept l.fn.ledger;
+      stays_sound : kept l.ledger → sound l.fn.ledger → sound l.ledger;
+      so_far : kept l.ledger → sound l.fn.ledger → (seen : List Delivery)
+          × AreServed (book l.fn.ledger) [] (wires (map left l.fn.inputs) (map held l.fn.outputs)) (wires (map left l.inputs) (map held l.outputs)) (map result_of l.ends.items) seen
+          × ((book l.ledger).history ≡ history_after (book l.fn.ledger) seen);
+    }

@@ -1,0 +1,38 @@
+-- What the serving of one connection reads and writes.
+use Rattle.std.specs.Prelude.{◌≡◌, ℕ, ◌+◌, ◌<◌, List, length, Option, Result, Ok, Err}
+use Rattle.std.specs.Io.KnownBytes.{Appends, Consumes}
+use Rattle.mq_frame.specs.declared.feed.TheConstants.{REQUEST_LIMIT}
+use Rattle.mq_frame.specs.declared.message.Reply.{Reply}
+use Rattle.mq_frame.specs.Feed.{Front}
+use Rattle.mq_server.specs.declared.connection.Served.{Served}
+use Rattle.mq_server.specs.declared.fault.ServeFault.{ServeFault}
+use Rattle.mq_server.specs.declared.fault.ServeFault.TheVariants.{Read, Write, Memory, Store}
+use Rattle.mq_server.specs.declared.input.TheConstants.{PIECE}
+use Rattle.mq_server.specs.Delivery.{Delivery, asked}
+use Rattle.mq_server.specs.Text.{Asks, IsEnd, next, served}
+use Rattle.mq_server.specs.Exits.{LeavesAtRead, LeavesAtWrite, LeavesAtMemory, LeavesAtStore}
+
+-- the bytes that a source has left and those that a sink holds, each where it is known
+pub record Wire : Type 0 where
+  pub remaining : Option (List ℕ)
+  pub contents : Option (List ℕ)
+
+-- the text that was written when the serving ended so, with this behind the frames of the deliveries
+abbrev pub Leaves : (List Delivery → Delivery → Reply) → List Delivery → Front → List ℕ → Option (List ℕ) → Result Served ServeFault → Type 0
+Leaves answer came behind text left (Ok e) = (text ≡ served answer came e) × IsEnd e (length came) behind left
+Leaves answer came behind text left (Err Read) = LeavesAtRead answer came behind text
+Leaves answer came behind text left (Err Write) = LeavesAtWrite answer came behind text
+Leaves answer came behind text left (Err Memory) = LeavesAtMemory answer came text
+Leaves answer came behind text left (Err Store) = LeavesAtStore answer came behind text
+
+-- A connection was served: bytes were read, which begin with the frames of these deliveries; a text was written;
+-- and no more was read ahead than the rest of a frame and a piece.
+pub record Serves (answer : List Delivery → Delivery → Reply) (came : List Delivery) (old new : Wire) (result : Result Served ServeFault) : Type 0 where
+  pub read : List ℕ
+  pub rest : List ℕ
+  pub text : List ℕ
+  pub consumed : Consumes old.remaining new.remaining read
+  pub written : Appends old.contents new.contents text
+  pub asks : Asks read (asked came) rest
+  pub ahead : length rest < REQUEST_LIMIT + 2 + PIECE
+  pub leaves : Leaves answer came (next rest) text new.remaining result

@@ -1,0 +1,40 @@
+-- Requests as they come to a ledger, and what each is answered.
+use Rattle.std.specs.Prelude.{List, [], ◌∷◌, ◌++◌, Bool, true, false, map, filter, if◌then◌else◌}
+use Rattle.mq_frame.specs.declared.message.Request.{Request}
+use Rattle.mq_frame.specs.declared.message.Reply.{Reply}
+use Rattle.mq_frame.specs.declared.message.Reply.TheVariants.{Retry}
+use Rattle.mq_ledger.specs.declared.entry.Entry.{Entry}
+use Rattle.mq_ledger.specs.Answer.{reply, history_of}
+use Rattle.mq_ledger.specs.Day.{day_of}
+use Rattle.mq_ledger.specs.History.{requests}
+use Rattle.mq_ledger.specs.Legal.{Book}
+
+-- a request that came to a ledger, and whether the ledger took it: one for which it had no memory counts as lost
+pub record Delivery : Type 0 where
+  pub request : Request
+  pub taken : Bool
+
+-- the requests of deliveries
+abbrev pub asked : List Delivery → List Request
+asked ds = map (λ d. d.request) ds
+
+-- the arrivals: the requests that the ledger took
+abbrev pub arrivals : List Delivery → List Request
+arrivals ds = asked (filter (λ d. d.taken) ds)
+
+-- the history of a ledger that meant this book before these deliveries
+abbrev pub history_after : Book → List Delivery → List Entry
+history_after b ds = history_of (day_of b.zone) b.default (requests b.history ++ arrivals ds)
+
+-- the answer to a delivery that comes after earlier ones: the ledger's reply over the history after those, or
+-- Retry where it is lost
+abbrev pub answer_to : Book → List Delivery → Delivery → Reply
+answer_to b earlier d = if d.taken then reply (day_of b.zone) b.default (history_after b earlier) d.request else Retry
+
+-- the answers to deliveries, each after the ones before it, all after earlier ones
+abbrev pub answers_after : (List Delivery → Delivery → Reply) → List Delivery → List Delivery → List Reply
+answers_after answer earlier [] = []
+answers_after answer earlier (d ∷ ds) = answer earlier d ∷ answers_after answer (earlier ++ d ∷ []) ds
+
+abbrev pub answers : (List Delivery → Delivery → Reply) → List Delivery → List Reply
+answers answer ds = answers_after answer [] ds

@@ -1,0 +1,43 @@
+//! Putting a request to a ledger.
+ghost use Rattle.std.specs.Prelude.{◌≡◌, ◌⊎◌, IfOk, IfErr, IfSome};
+ghost use Rattle.mq_frame.specs.Range.{IsReply};
+ghost use Rattle.mq_server.specs.Steps.{Takes};
+
+use crate::fault::ServeFault;
+use mq_frame::{DecodeFault, Reply, decode_request};
+use mq_ledger::{Ledger, LedgerFault};
+use std::alloc::Global;
+
+/// The answer to a frame's body: the ledger's reply to the request that it spells, `Retry` where
+/// the ledger had no memory for it, and none where it spells no request.
+///
+/// `Memory` where the request had no room, before it came to the ledger; `Store` where the ledger's
+/// store failed. After either the ledger means what it meant before.
+pub fn take<L: Ledger>(
+    alloc: Global,
+    body: &[u8],
+    ledger: &mut L,
+) -> Result<Option<Reply>, ServeFault>
+    // Of any ledger, sound or not.
+    ensures in_range { IfOk result (λ answer. IfSome answer IsReply) }
+    ensures faults { IfErr result (λ fault. (fault ≡ ServeFault.Memory) ⊎ (fault ≡ ServeFault.Store)) }
+    ensures same_zone { (L.book ledger.new).zone ≡ (L.book ledger.old).zone }
+    ensures same_default { (L.book ledger.new).default ≡ (L.book ledger.old).default }
+    ensures kept { L.has_kept ledger.new → L.has_kept ledger.old }
+
+    // Of a sound one that has kept its premise.
+    ensures sound { L.has_kept ledger.new → L.is_sound ledger.old → L.is_sound ledger.new }
+    ensures takes { L.has_kept ledger.new → L.is_sound ledger.old →
+        Takes (L.book ledger.old) body.now result (L.book ledger.new).history }
+{
+    let request = match decode_request(alloc, body) {
+        Ok(request) => request,
+        Err(DecodeFault::Bad) => return Ok(None),
+        Err(DecodeFault::Memory) => return Err(ServeFault::Memory),
+    };
+    match ledger.apply(&request) {
+        Ok(reply) => Ok(Some(reply)),
+        Err(LedgerFault::Memory) => Ok(Some(Reply::Retry)),
+        Err(LedgerFault::Store) => Err(ServeFault::Store),
+    }
+}

@@ -1,0 +1,95 @@
+//! One connection: each whole frame is answered before the next read.
+ghost use Rattle.std.specs.Prelude.{◌≡◌, true, List, Err};
+ghost use Rattle.mq_server.specs.Connection.{Serves};
+ghost use Rattle.mq_server.specs.Delivery.{Delivery, history_after, answer_to};
+ghost use Rattle.mq_server.specs.Steps.{end_at};
+ghost use Rattle.mq_frame.specs.Feed.{front};
+
+use crate::answer::take;
+use crate::fault::ServeFault;
+use crate::input::refill;
+use crate::output::{refuse, send};
+use mq_frame::{FrameFeed, REQUEST_LIMIT, Sink, Source};
+use mq_ledger::Ledger;
+use std::alloc::Global;
+
+/// How a connection ended.
+#[derive(Clone, Copy, Debug, PartialEq, Eq)]
+pub enum Served {
+    /// The input ended behind whole frames, or was empty.
+    Ended,
+    /// 10,000 frames were answered; nothing more is read.
+    Enough,
+    /// What is no request came, and was answered by `Bad`.
+    BadFrame,
+    /// The input ended inside a frame.
+    CutFrame,
+}
+
+/// The most frames that are answered on a connection.
+pub const ENOUGH: u32 = 10_000;
+
+/// How a connection ends whose input ended.
+fn input_end(feed: &FrameFeed) -> Served
+    ensures { result ≡ end_at (front feed.now.limit feed.now.rest) }
+{
+    match feed.finish() {
+        Ok(()) => Served::Ended,
+        Err(_) => Served::CutFrame,
+    }
+}
+
+/// Serves one connection to its end.
+///
+/// Each whole frame is answered, and its answer flushed, before the next read. The body of a
+/// request goes to the ledger, and the ledger's reply is written; `Retry` where the ledger had no
+/// memory for it. A body that is no request, an empty one and one above 512 bytes is answered by
+/// `Bad`, which ends the connection; so does the 10,000th answer.
+///
+/// After `Read`, `Memory` and `Store` the answers to all frames before went out, and nothing else;
+/// after `Write` a part of the next answer too. The ledger has each request that it answered: where
+/// an answer had no room, or could not be written, the request is in the ledger all the same.
+pub fn serve<S: Source, W: Sink, L: Ledger>(
+    alloc: Global,
+    input: &mut S,
+    output: &mut W,
+    ledger: &mut L,
+) -> Result<Served, ServeFault>
+    // Of any ledger, sound or not.
+    ensures read { result ≡ Err ServeFault.Read → S.has_failed input.new ≡ true }
+    ensures write { result ≡ Err ServeFault.Write → W.has_failed output.new ≡ true }
+    ensures same_zone { (L.book ledger.new).zone ≡ (L.book ledger.old).zone }
+    ensures same_default { (L.book ledger.new).default ≡ (L.book ledger.old).default }
+    ensures kept { L.has_kept ledger.new → L.has_kept ledger.old }
+
+    // Of a sound one that has kept its premise.
+    ensures sound { L.has_kept ledger.new → L.is_sound ledger.old → L.is_sound ledger.new }
+    ensures serves { L.has_kept ledger.new → L.is_sound ledger.old → (came : List Delivery)
+        × Serves (answer_to (L.book ledger.old)) came
+        (record { remaining = S.remaining input.old; contents = W.contents output.old })
+        (record { remaining = S.remaining input.new; contents = W.contents output.new }) result
+        × ((L.book ledger.new).history ≡ history_after (L.book ledger.old) came) }
+{
+    let mut feed = FrameFeed::new(alloc, REQUEST_LIMIT);
+    let mut answered = 0;
+    'frames: loop {
+        match feed.next_body() {
+            Err(_) => return refuse(alloc, output),
+            Ok(None) => {
+                if !refill(input, &mut feed)? {
+                    return Ok(input_end(&feed));
+                }
+            }
+            Ok(Some(body)) => {
+                match take(alloc, body, ledger)? {
+                    None => return refuse(alloc, output),
+                    Some(reply) => send(alloc, &reply, output)?,
+                }
+                answered += 1;
+                if answered == ENOUGH {
+                    return Ok(Served::Enough);
+                }
+            }
+        }
+    }
+}

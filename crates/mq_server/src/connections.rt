@@ -1,0 +1,86 @@
+//! Several connections, one after another.
+ghost use Rattle.std.specs.Prelude.{◌≡◌, ◌⊎◌, [], ◌∷◌, ◌++◌, true, length, map, List, Err, IfOk, IfErr, OnErr};
+ghost use Rattle.std.specs.List.{AllZip};
+ghost use Rattle.mq_server.specs.declared.connections.ConnectionEnd.{ConnectionEnd as AnEnd};
+ghost use Rattle.mq_server.specs.Connections.{wires, result_of, AreServed};
+ghost use Rattle.mq_server.specs.Delivery.{Delivery, history_after};
+
+use crate::connection::{Served, serve};
+use crate::fault::ServeFault;
+use mq_frame::{Sink, Source};
+use mq_ledger::Ledger;
+use std::alloc::Global;
+
+/// How one of several connections ended.
+#[derive(Clone, Copy, Debug, PartialEq, Eq)]
+pub enum ConnectionEnd {
+    /// It was served.
+    Served(Served),
+    /// A read failed.
+    Read,
+    /// A write or a flush failed.
+    Write,
+    /// A growth was refused.
+    Memory,
+}
+
+/// The end of a connection, or `Store` where no further one can be served.
+fn end_of(serving: Result<Served, ServeFault>) -> Result<ConnectionEnd, ServeFault>
+    ensures ok { IfOk result (λ end. result_of end ≡ serving) }
+    ensures store { IfErr result (λ fault. (fault ≡ ServeFault.Store) × (serving ≡ Err ServeFault.Store)) }
+{
+    match serving {
+        Ok(served) => Ok(ConnectionEnd::Served(served)),
+        Err(ServeFault::Read) => Ok(ConnectionEnd::Read),
+        Err(ServeFault::Write) => Ok(ConnectionEnd::Write),
+        Err(ServeFault::Memory) => Ok(ConnectionEnd::Memory),
+        Err(ServeFault::Store) => Err(ServeFault::Store),
+    }
+}
+
+/// Serves each input with its output in turn, and says how each ended.
+///
+/// The next pair is served after any end but `Store`, which ends the whole call. Room for the ends
+/// is made first: where that growth is refused it is `Memory`, and nothing was served.
+pub fn serve_all<S: Source, W: Sink, L: Ledger>(
+    alloc: Global,
+    inputs: &mut [S],
+    outputs: &mut [W],
+    ledger: &mut L,
+) -> Result<Vec<ConnectionEnd>, ServeFault>
+    requires { length inputs.old ≡ length outputs.old }
+
+    // Of any ledger, sound or not.
+    ensures faults { IfErr result (λ fault. (fault ≡ ServeFault.Memory) ⊎ (fault ≡ ServeFault.Store)) }
+    ensures all { IfOk result (λ ends. length ends.items ≡ length inputs.old) }
+    ensures memory { result ≡ Err ServeFault.Memory →
+        (inputs.new ≡ inputs.old) × (outputs.new ≡ outputs.old) × (ledger.new ≡ ledger.old) }
+    ensures read { IfOk result (λ ends. AllZip (λ end input.
+        end ≡ ConnectionEnd.Read → S.has_failed input ≡ true) ends.items inputs.new) }
+    ensures write { IfOk result (λ ends. AllZip (λ end output.
+        end ≡ ConnectionEnd.Write → W.has_failed output ≡ true) ends.items outputs.new) }
+    ensures same_zone { (L.book ledger.new).zone ≡ (L.book ledger.old).zone }
+    ensures same_default { (L.book ledger.new).default ≡ (L.book ledger.old).default }
+    ensures kept { L.has_kept ledger.new → L.has_kept ledger.old }
+
+    // Of a sound one that has kept its premise.
+    ensures sound { L.has_kept ledger.new → L.is_sound ledger.old → L.is_sound ledger.new }
+    ensures served { L.has_kept ledger.new → L.is_sound ledger.old → IfOk result (λ ends. (seen : List Delivery)
+        × AreServed (L.book ledger.old) []
+        (wires (map S.remaining inputs.old) (map W.contents outputs.old))
+        (wires (map S.remaining inputs.new) (map W.contents outputs.new)) (map result_of ends.items) seen
+        × ((L.book ledger.new).history ≡ history_after (L.book ledger.old) seen)) }
+    ensures store { L.has_kept ledger.new → L.is_sound ledger.old → result ≡ Err ServeFault.Store →
+        (ends : List AnEnd) × (seen : List Delivery)
+        × AreServed (L.book ledger.old) []
+        (wires (map S.remaining inputs.old) (map W.contents outputs.old))
+        (wires (map S.remaining inputs.new) (map W.contents outputs.new)) (map result_of ends ++ Err ServeFault.Store ∷ []) seen
+        × ((L.book ledger.new).history ≡ history_after (L.book ledger.old) seen) }
+{
+    let mut ends = Vec::with_capacity(alloc, inputs.len())?;
+    for i in 0..inputs.len() {
+        let end = end_of(serve(alloc, &mut inputs[i], &mut outputs[i], ledger))?;
+        ends.push(end).unwrap();
+    }
+    Ok(ends)
+}

@@ -1,0 +1,4 @@
+mod Records
+pub mod Lookback
+pub mod Moves
+pub mod Numbers

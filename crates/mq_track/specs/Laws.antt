@@ -1,0 +1,27 @@
+-- What holds of sessions and transactions after any lines.
+use Rattle.std.specs.Prelude.{◌≡◌, ◌≢◌, ◌<◌, ◌≤◌, ℕ, List, ◌∷◌, ◌++◌, Some}
+use Rattle.mq_line.specs.Grammar.{Meaning}
+use Rattle.mq_track.specs.Events.{event}
+use Rattle.mq_track.specs.Sessions.{Transaction, login, open_transaction, begin_count, session_of, closing}
+use Rattle.mq_track.specs.declared.closing.Closing.{Closing}
+
+-- a line that isn't of the session s leaves its login
+abbrev pub LoginsAreApart : Type 0
+LoginsAreApart = (line : Meaning) (past : List Meaning) (s : List ℕ) → session_of (event line) ≢ Some s → login (line ∷ past) s ≡ login past s
+
+-- and its open transaction
+abbrev pub TransactionsAreApart : Type 0
+TransactionsAreApart = (line : Meaning) (past : List Meaning) (s : List ℕ) → session_of (event line) ≢ Some s → open_transaction (line ∷ past) s ≡ open_transaction past s
+
+-- an open transaction has one of the numbers from 1 to the count of tx-begins
+abbrev pub AreNumbered : Type 0
+AreNumbered = (past : List Meaning) (s : List ℕ) (t : Transaction) → open_transaction past s ≡ Some t → (0 < t.txn) × (t.txn ≤ begin_count past)
+
+-- no two sessions have a transaction of one number open
+abbrev pub HaveOneSession : Type 0
+HaveOneSession = (past : List Meaning) (s r : List ℕ) (t u : Transaction) → open_transaction past s ≡ Some t → open_transaction past r ≡ Some u → t.txn ≡ u.txn → s ≡ r
+
+-- once a line closed a transaction, whatever lines follow, none that is open has its number
+abbrev pub StayClosed : Type 0
+StayClosed = (past : List Meaning) (line : Meaning) (closed : Closing) → closing past line ≡ Some closed
+    → (later : List Meaning) (s : List ℕ) (t : Transaction) → open_transaction (later ++ line ∷ past) s ≡ Some t → t.txn ≢ closed.txn

@@ -1,0 +1,12 @@
+-- What an event in the code tells, by the bytes of its parts.
+use Rattle.std.specs.Option.{option_map}
+use Rattle.mq_track.specs.Events.{Event, Passed, Began, Ended, Left, Nothing}
+use Rattle.mq_track.specs.declared.event.Event.{Event as CodeEvent}
+use Rattle.mq_track.specs.declared.event.Event.TheVariants as code
+
+abbrev pub told : CodeEvent → Event
+told (code.Passed session name) = Passed session.now name.now
+told (code.Began session message at) = Began session.now message.now at
+told (code.Ended session message end) = Ended session.now (option_map (λ m. m.now) message) end
+told (code.Left session) = Left session.now
+told code.Nothing = Nothing

@@ -1,0 +1,16 @@
+/// How a transaction ended.
+#[derive(Clone, Copy, Debug, PartialEq, Eq)]
+pub enum CloseEnd {
+    /// smtpd took the message.
+    Commit,
+    /// It was rolled back or reset, its session left, or another began in its place.
+    Drop,
+}
+
+/// The end of a transaction that was open.
+#[derive(Clone, Copy, Debug, PartialEq, Eq)]
+pub struct Closing {
+    /// The transaction's number, from 1 on.
+    pub txn: u32,
+    pub end: CloseEnd,
+}

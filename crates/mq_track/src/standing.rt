@@ -1,0 +1,11 @@
+/// How a session stands.
+#[derive(Clone, Copy, Debug, PartialEq, Eq)]
+pub enum Standing<'a> {
+    /// It has no login. An open transaction of such a session isn't shown.
+    Anonymous,
+    /// It has a login and no open transaction.
+    Login { name: &'a [u8] },
+    /// It has both. `txn` counts the transactions of all sessions, and `at` is the whole seconds
+    /// of the time at which this one began.
+    Open { name: &'a [u8], txn: u32, at: u64 },
+}
