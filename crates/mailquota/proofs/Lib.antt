@@ -1,4 +1,6 @@
+pub mod EndSteps
 pub mod Fronts
 pub mod LineSteps
+pub mod ReplaySteps
 pub mod SettingsFaults
 pub mod TableNames

@@ -3,4 +3,5 @@ pub mod Connections
 pub mod Keys
 pub mod Output
 pub mod Printed
+pub mod Replay
 pub mod Settings

@@ -5,6 +5,7 @@ mod arguments;
 mod connections;
 mod output;
 mod printed;
+mod replay;
 mod settings;
 #[cfg(test)]
 mod tests;

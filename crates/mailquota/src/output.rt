@@ -1,8 +1,9 @@
 //! Writing to standard output.
-ghost use Rattle.std.specs.Prelude.{◌≡◌, ◌++◌, OnOk};
+ghost use Rattle.std.specs.Prelude.{◌≡◌, ◌++◌, map, OnOk};
 ghost use Rattle.std.specs.Io.KnownBytes.{Appends};
-ghost use Rattle.mailquota.specs.Output.{AppendsFront, hex_line};
+ghost use Rattle.mailquota.specs.Output.{AppendsFront, hex_line, hex_lines};
 
+use mq_frame::ToWrite;
 use std::alloc::{AllocError, Global};
 use std::io::Write;
 use thiserror::Error;
@@ -50,4 +51,21 @@ pub fn write_hex_line<W: Write>(
     let digits = hex::encode(alloc, bytes)?;
     write_whole(output, digits.as_bytes())?;
     write_whole(output, b"\n")
+}
+
+/// Writes a line of hexadecimal for each connection, in order.
+pub fn write_hex_lines<W: Write>(
+    alloc: Global,
+    output: &mut W,
+    written: Vec<ToWrite<Vec<u8>>>,
+) -> Result<(), OutputFault>
+    ensures whole { OnOk result (Appends (W.contents output.old) (W.contents output.new)
+        (hex_lines (map (λ s. s.inner.items) written.items))) }
+    ensures front { AppendsFront (W.contents output.old) (W.contents output.new)
+        (hex_lines (map (λ s. s.inner.items) written.items)) }
+{
+    for sink in written {
+        write_hex_line(alloc, output, sink.into_inner().as_slice())?;
+    }
+    Ok(())
 }
