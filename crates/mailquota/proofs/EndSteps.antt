@@ -24,3 +24,8 @@ no_fault_more all i end below here good so_far =
 
 pub no_fault : (all : List ConnectionEnd) (i : ℕ) → length all ≤ i → faults_from (i + 1) (drop i all) ≡ faults_of all → None ≡ slice_get (faults_of all) 0
 no_fault all i done so_far = sym (ap (λ faults. slice_get faults 0) (sym so_far ∙ ap (faults_from (i + 1)) (drop_all i all done)))
+
+-- a list whose first place is empty
+pub nothing_first : (faults : List (ℕ × Ending)) → slice_get faults 0 ≡ None → faults ≡ []
+nothing_first [] h = refl
+nothing_first (f ∷ fs) h = cc

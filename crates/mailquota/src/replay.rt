@@ -1,5 +1,5 @@
 //! `replay`: frames in hexadecimal, answered over a new ledger.
-ghost use Rattle.std.specs.Prelude.{◌≡◌, Ok, Err, None, Some, [], map, IfOk, IfErr};
+ghost use Rattle.std.specs.Prelude.{◌≡◌, Ok, Err, None, Some, Result as AResult, [], map, IfOk, IfErr};
 ghost use Rattle.std.specs.Io.KnownBytes.{Keeps};
 ghost use Rattle.std.specs.List.{slice_get};
 ghost use Rattle.mq_frame.specs.Range.{IsAmount};
@@ -102,4 +102,64 @@ fn serve_connections(
         &mut ledger,
     )?;
     Ok(Answered { written, ends })
+}
+
+/// Answers the connections of a text over a new ledger, a line of hexadecimal for each.
+fn replay<W: Write>(
+    alloc: Global,
+    text: &[u8],
+    default: u32,
+    zone: Zone,
+    output: &mut W,
+) -> Result<(), ReplayFault>
+    requires { IsAmount default }
+    ensures { Replays zone default text.now (W.contents output.old) (W.contents output.new) result }
+{
+    let connections = match read_connections(alloc, text) {
+        Ok(connections) => connections,
+        Err(fault) => return Err(ReplayFault::Text(fault)),
+    };
+    let Answered { written, ends } =
+        match serve_connections(alloc, connections.as_slice(), default, zone) {
+            Ok(answered) => answered,
+            Err(fault) => return Err(ReplayFault::Serve(fault)),
+        };
+    if let Err(fault) = write_hex_lines(alloc, output, written) {
+        return Err(ReplayFault::Output(fault));
+    }
+    if output.flush().is_err() {
+        return Err(ReplayFault::Output(OutputFault::Write));
+    }
+    match first_fault(ends.as_slice()) {
+        None => Ok(()),
+        Some((number, ending)) => Err(ReplayFault::Connection(number, ending)),
+    }
+}
+
+/// Answers the connections of a text over a new ledger, a line of hexadecimal for each, and says
+/// on `errors` why it isn't done.
+///
+/// `default` is the limit of a login that has none of its own, 0 to 1,000,000 recipients a day.
+/// The result is the exit status: 0, or 1 where the text is refused, a connection doesn't end as
+/// it should, or the output fails.
+pub fn run_replay<W: Write, E: Write>(
+    alloc: Global,
+    text: &[u8],
+    default: u32,
+    zone: Zone,
+    output: &mut W,
+    errors: &mut E,
+) -> u8
+    requires { IsAmount default }
+    ensures replays { (outcome : AResult (Unit {0}) AReplayFault) × (result ≡ status_of outcome)
+        × Replays zone default text.now (W.contents output.old) (W.contents output.new) outcome }
+    ensures quiet { result ≡ 0 → errors.new ≡ errors.old }
+{
+    match replay(alloc, text, default, zone, output) {
+        Ok(()) => 0,
+        Err(fault) => {
+            let _ = writeln!(errors, "mailquota: {fault}");
+            1
+        }
+    }
 }
