@@ -4,3 +4,7 @@ pub mod Counting
 pub mod Making
 pub mod Keeping
 pub mod Looping
+pub mod Bounding
+pub mod Turning
+pub mod ReadingOff
+pub mod WaitingOff

@@ -1,10 +1,11 @@
 -- The next exchange of a step.
 use Rattle.std.specs.Prelude.{◌≡◌, ℕ, ◌+◌, ◌*◌, ◌≤◌, List, [], ◌∷◌, ◌++◌, length, Bool, nat_le, if◌then◌else◌, Option, None, Some, is_some, slice_get}
 use Rattle.mq_frame.specs.declared.message.Request.{Request}
-use Rattle.mq_client.specs.Exchanges.{Exchange, decided_by, decisions, IsMarked}
+use Rattle.mq_client.specs.Exchanges.{Mark, Exchange, decided_by, decisions, IsMarked}
 use Rattle.mq_client.specs.Past.{Source, Action, Ask, Close, Drain, View, reserve_of, closing_of, refuses, held_by, held_for}
 use Rattle.mq_track.specs.declared.closing.CloseEnd.{CloseEnd}
 use Rattle.mq_client.specs.declared.held.Held.{Held}
+use Rattle.mq_client.specs.declared.link.Outcome.{Outcome}
 
 -- how many exchanges failed since the last one that decided
 abbrev pub failures : List Exchange → ℕ
@@ -30,3 +31,12 @@ next s tries v action group = next_of tries (queue_of s v (held_for v action) ac
 abbrev pub ComeInTurn : (tries : ℕ) → List Request → List Exchange → Type 0
 ComeInTurn tries queue [] = Unit {0}
 ComeInTurn tries queue (x ∷ group) = (next_of tries queue group ≡ Some x.request) × IsMarked x.request x.outcome x.mark × ComeInTurn tries queue group
+
+-- how an exchange ended, and whether it decided
+pub record Ending : Type 0 where
+  pub outcome : Outcome
+  pub mark : Mark
+
+abbrev pub outcomes : List Exchange → List Ending
+outcomes [] = []
+outcomes (x ∷ group) = record { outcome = x.outcome; mark = x.mark } ∷ outcomes group
