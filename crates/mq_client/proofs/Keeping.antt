@@ -1,0 +1,75 @@
+-- What stays so of a client over its steps.
+use Rattle.std.proofs.Common.{◌≡◌, ℕ, ◌+◌, ◌-◌, ◌<◌, ◌≤◌, ◌==◌, ◌||◌, nat_le, nat_lt, Bool, false, true, List, [], ◌∷◌, ◌++◌, length, refl, sym, ap, ◌∙◌, subst, arith, Option, None, Some, is_some, if◌then◌else◌}
+use Rattle.std.specs.List.{AllByRecursion}
+use Rattle.std.proofs.lemmas.Bool.{eqb-true, leb-false, ltb-false}
+use Rattle.mq_frame.specs.Range.{IsOrdinal, IsMoment, IsLogin, IsRequest}
+use Rattle.mq_frame.specs.declared.message.Request.{Request}
+use Rattle.mq_client.specs.Past.{find, opened, let_through, refuses, is_other, lacks_numbers}
+use Rattle.mq_client.specs.Held.{IsHeld, AllHeld}
+use Rattle.mq_client.specs.declared.held.Asked.{Asked}
+use Rattle.mq_client.specs.declared.held.Asked.TheVariants as asked
+use Rattle.mq_client.specs.declared.held.Held.{Held}
+
+held_where : (old new : List (ℕ × Held)) (txn t : ℕ) (o : Option Held) (h : Held) (b : Bool) → (txn == t) ≡ b → find new t ≡ (if b then o else find old t) → AllHeld old → ((k : Held) → o ≡ Some k → IsHeld txn k) → find new t ≡ Some h → IsHeld t h
+held_where old new txn t o h true e n all here f = subst (λ (k : ℕ). IsHeld k h) (eqb-true txn t e) (here h (sym n ∙ f))
+held_where old new txn t o h false e n all here f = all t h (sym n ∙ f)
+
+-- one transaction is written
+pub AllHeld-set : (old new : List (ℕ × Held)) (txn : ℕ) (o : Option Held) → ((t : ℕ) → find new t ≡ (if txn == t then o else find old t)) → AllHeld old → ((k : Held) → o ≡ Some k → IsHeld txn k) → AllHeld new
+AllHeld-set old new txn o n all here = λ t h f. held_where old new txn t o h (txn == t) refl (n t) all here f
+
+some_is : (h k : Held) → Some h ≡ Some k → h ≡ k
+some_is h k e = cc
+
+none_some : (k : Held) → None ≡ Some k → ⊥
+none_some k e = cc
+
+pub opened_in_range : (held : List (ℕ × Held)) (txn at : ℕ) (login : List ℕ) (o : Option Held) → find held txn ≡ o → AllHeld held → IsOrdinal txn → IsMoment at → IsLogin login → IsHeld txn (opened at login o)
+opened_in_range held txn at login None e all n m l = record { number = n; at = m; login = l; granted = omega arith }
+opened_in_range held txn at login (Some h) e all n m l = all txn h e
+
+pub let_in_range : (txn : ℕ) (answer : Asked) (h : Held) → h.granted < 1000 → IsHeld txn h → IsHeld txn (let_through answer h)
+let_in_range txn asked.Granted h few i = record { number = i.number; at = i.at; login = i.login; granted = omega (arith, few) }
+let_in_range txn asked.Full h few i = i
+let_in_range txn asked.Unavailable h few i = i
+
+-- a transaction after an ask
+pub asked_in_range : (held new : List (ℕ × Held)) (txn at : ℕ) (login : List ℕ) (answer : Asked) → (opened at login (find held txn)).granted < 1000
+    → ((t : ℕ) → find new t ≡ (if txn == t then Some (let_through answer (opened at login (find held txn))) else find held t))
+    → AllHeld held → IsOrdinal txn → IsMoment at → IsLogin login → AllHeld new
+asked_in_range held new txn at login answer few n all i m l =
+    AllHeld-set held new txn _ n all (λ k e. subst (IsHeld txn) (some_is _ k e) (let_in_range txn answer _ few (opened_in_range held txn at login (find held txn) refl all i m l)))
+
+pub closed_in_range : (held new : List (ℕ × Held)) (txn : ℕ) → ((t : ℕ) → find new t ≡ (if txn == t then None else find held t)) → AllHeld held → AllHeld new
+closed_in_range held new txn n all = AllHeld-set held new txn None n all (λ k e. absurd (none_some k e))
+
+or_false : (a b : Bool) → (a || b) ≡ false → (a ≡ false) × (b ≡ false)
+or_false true b e = absurd (let no : ⊥ = cc in no)
+or_false false b e = (refl, e)
+
+-- an ask that isn't refused has room
+pub record HasRoom (o : Option Held) (live used waiting : ℕ) : Type 0 where
+  pub places : (new : ℕ) → new ≡ (if is_some o then live else live + 1) → new + waiting ≤ 4096
+  pub numbers : (new : ℕ) → new ≡ (if is_some o then live else live + 1) → used + 1 + new ≤ 4294967295
+  pub few : (at : ℕ) (login : List ℕ) → (opened at login o).granted < 1000
+
+pub has_room : (o : Option Held) (live numbers waiting at : ℕ) (login : List ℕ) → refuses o live numbers waiting at login ≡ false → live + waiting ≤ 4096 → numbers + live ≤ 4294967295 → HasRoom o live numbers waiting
+has_room None live numbers waiting at login e places limit =
+    let (a, b) = or_false (nat_le 4096 (live + waiting)) _ e in
+    record {
+      places = λ new f. omega (arith, f, leb-false 4096 (live + waiting) a);
+      numbers = λ new f. omega (arith, f, ltb-false (4294967295 - numbers) (1 + (live + 1)) b);
+      few = λ at' login'. omega arith;
+    }
+has_room (Some h) live numbers waiting at login e places limit =
+    let (a, b) = or_false (is_other h at login) _ e in
+    let (c, d) = or_false (nat_le 1000 h.granted) _ b in
+    record {
+      places = λ new f. omega (arith, f, places);
+      numbers = λ new f. omega (arith, f, ltb-false (4294967295 - numbers) (1 + live) d);
+      few = λ at' login'. omega (arith, leb-false 1000 h.granted c);
+    }
+
+pub in_range_push : (xs : List Request) (x : Request) → AllByRecursion IsRequest xs → IsRequest x → AllByRecursion IsRequest (xs ++ x ∷ [])
+in_range_push [] x all i = (i, tt)
+in_range_push (y ∷ xs) x all i = (all.0, in_range_push xs x all.1 i)

@@ -1,0 +1,9 @@
+pub mod Telling
+pub mod Sending
+pub mod Counting
+pub mod Making
+pub mod Keeping
+pub mod Looping
+pub mod Bounding
+pub mod Turning
+pub mod ReadingOff

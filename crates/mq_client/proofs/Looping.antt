@@ -1,0 +1,313 @@
+-- Lines handled one after another.
+use Rattle.std.proofs.Common.{◌≡◌, ℕ, ◌+◌, ◌<◌, ◌≤◌, Bool, true, false, List, [], ◌∷◌, ◌++◌, length, refl, sym, ap, ◌∙◌, subst, append_assoc, append-nil, arith, rules, cond, inl, inr, ◌⊎◌, Option, None, Some}
+use Rattle.std.specs.Prelude.{Result, Ok, Err, IfSome}
+use Rattle.std.specs.Borrow.{Bor}
+use Rattle.std.specs.List.{AllByRecursion}
+use Rattle.std.specs.Io.KnownBytes.{Appends, Consumes}
+use Rattle.std.proofs.KnownBytes.{Appends-trans}
+use Rattle.std.proofs.lemmas.List.Sums.{sum_by-cons}
+use Rattle.mq_line.specs.Grammar.{Meaning, ReadyLine, FilterLine, Reads, meaning}
+use Rattle.mq_line.specs.Results.{registration}
+use Rattle.mq_line.specs.Text.{IsLine, Holds, text_of}
+use Rattle.mq_line.specs.declared.reading.Line.{Line}
+use Rattle.mq_line.specs.declared.reading.Line.TheVariants as line
+use Rattle.mq_track.specs.Sessions.{closing}
+use Rattle.mq_track.specs.State.{StandsAt, State as State'}
+use Rattle.mq_track.specs.declared.fault.TrackFault.{TrackFault}
+use Rattle.mq_client.specs.Link.{Tells}
+use Rattle.mq_client.specs.Exchanges.{Exchange, told_all}
+use Rattle.mq_client.specs.Past.{Source, Drain, Step, State, StandsAt as PastStandsAt, view, Plays, Makes, MakesAll, told_steps}
+use Rattle.mq_client.specs.Filter.{Takes, Closes, push, is_filter, answer_count}
+use Rattle.mq_client.specs.Run.{IsEarly, is_early, IsReady, Stage, Waiting, Running, Origin, StandsFirst, EndsWith, IsFound, MayGo, IsInHand, StopsAt}
+use Rattle.mq_client.specs.Loop.{Does, MakesOne, told_one, IsAt, SoFar, Carries, IsCut, IsRefused, Replies}
+use Rattle.mq_client.specs.declared.faults.FilterFault.{FilterFault}
+use Rattle.mq_client.specs.declared.faults.FilterFault.TheVariants as at
+use Rattle.mq_client.specs.declared.filter.Ended.{Ended}
+use Rattle.mq_client.specs.declared.filter.Filter.{Filter}
+use Rattle.mq_client.specs.declared.link.Told.{Told}
+use Rattle.mq_client.proofs.Telling.{Tells-none, Tells-trans}
+
+pub Appends-none : (o : Option (List ℕ)) → Appends o o []
+Appends-none None = tt
+Appends-none (Some xs) = sym (append-nil xs)
+
+-- nothing was done
+pub Does-nothing : {T : Type 0} (told : T → Option (List Told)) (sink : Option (List ℕ)) (old new : T) (client client' : State) → new ≡ old → client' ≡ client → Does sink sink (told old) (told new) client client' None []
+Does-nothing told sink old new client client' e f = record {
+  written = Appends-none sink;
+  exchanged = subst (λ x. Tells (told old) (told x) []) (sym e) (Tells-none (told old));
+  made = f;
+}
+
+-- a line that was accepted has no fault
+pub accepted : {X : Type 0} (o : Option TrackFault) (x : X) → IfSome o (λ f. ◌≡◌ {A = Result X TrackFault} (Ok x) (Err f)) → o ≡ None
+accepted None x h = refl
+accepted (Some f) x h = let no : ⊥ = cc (h) in absurd no
+
+-- ---- steps that add up
+
+pub makes_none : (c : State) → MakesAll c c []
+makes_none c = record { source = refl; tries = refl; plays = λ P st. tt; stands = λ P st. st }
+
+pub makes_push : (a b c : State) (steps : List Step) (step : Option Step) → MakesAll a b steps → MakesOne b c step → MakesAll a c (push step steps)
+makes_push a b c steps None m e = let F : State → Type 0 = λ x. MakesAll a x steps in subst F (sym e) m
+makes_push a b c steps (Some x) m n = record {
+  source = n.source ∙ m.source;
+  tries = n.tries ∙ m.tries;
+  plays = λ P st.
+    let F : Source → Type 0 = λ s. Plays s b.tries (steps ++ P) x in
+    let G : ℕ → Type 0 = λ k. Plays a.source k (steps ++ P) x in
+    (subst G m.tries (subst F m.source (n.plays (steps ++ P) (m.stands P st))), m.plays P st);
+  stands = λ P st. n.stands (steps ++ P) (m.stands P st);
+}
+
+pub told_push : (a b c : Option (List Told)) (steps : List Step) (step : Option Step) → Tells a b (told_steps steps) → Tells b c (told_one step) → Tells a c (told_steps (push step steps))
+told_push a b c steps None h i =
+    let F : List Told → Type 0 = λ l. Tells a c l in
+    subst F (append-nil (told_steps steps)) (Tells-trans a b c (told_steps steps) [] h i)
+told_push a b c steps (Some x) h i = Tells-trans a b c (told_steps steps) (told_all x.group) h i
+
+-- ---- lines that add up
+
+text_of-push : (taken : List (List ℕ)) (line : List ℕ) → text_of (taken ++ line ∷ []) ≡ text_of taken ++ (line ++ 10 ∷ [])
+text_of-push [] line = append-nil (line ++ 10 ∷ [])
+text_of-push (l ∷ taken) line = ap (λ (t : List ℕ). (l ++ 10 ∷ []) ++ t) (text_of-push taken line) ∙ sym (append_assoc (l ++ 10 ∷ []) (text_of taken) (line ++ 10 ∷ []))
+
+each-push : (P : List ℕ → Type 0) (xs : List (List ℕ)) (x : List ℕ) → AllByRecursion P xs → P x → AllByRecursion P (xs ++ x ∷ [])
+each-push P [] x all h = (h, tt)
+each-push P (y ∷ xs) x all h = (all.0, each-push P xs x all.1 h)
+
+-- a line is taken from what is held
+pub holds_taken : (text : List ℕ) (taken : List (List ℕ)) (line rest : List ℕ) → IsLine line → Holds text taken (line ++ 10 ∷ rest) → Holds text (taken ++ line ∷ []) rest
+holds_taken text taken line rest one h = record {
+  whole = h.whole
+    ∙ ap (λ (l : List ℕ). text_of taken ++ l) (sym (append_assoc line (10 ∷ []) rest))
+    ∙ sym (append_assoc (text_of taken) (line ++ 10 ∷ []) rest)
+    ∙ ap (λ (l : List ℕ). l ++ rest) (sym (text_of-push taken line));
+  each = each-push IsLine taken line h.each one;
+}
+
+early_more : (lines : List (List ℕ)) (line : List ℕ) → AllByRecursion IsEarly lines → IsEarly line → AllByRecursion IsEarly (lines ++ line ∷ [])
+early_more lines line all h = each-push IsEarly lines line all h
+
+ready_new : (lines : List (List ℕ)) (line : List ℕ) → AllByRecursion IsEarly lines → Reads line ReadyLine → IsReady (lines ++ line ∷ []) []
+ready_new lines line all h = record { before = lines; ready = line; after = []; whole = refl; early = all; reads_ready = h; read = refl }
+
+ready_more : (lines : List (List ℕ)) (line : List ℕ) (L : List Meaning) (m : Meaning) → IsReady lines L → Reads line m → IsReady (lines ++ line ∷ []) (m ∷ L)
+ready_more lines line L m r h = record {
+  before = r.before; ready = r.ready; after = r.after ++ line ∷ [];
+  whole = ap (λ l. l ++ line ∷ []) r.whole ∙ append_assoc r.before (r.ready ∷ r.after) (line ∷ []);
+  early = r.early; reads_ready = r.reads_ready; read = (r.after, line, refl, h, r.read);
+}
+
+-- ---- where the filter stands
+
+pub at_waiting : (f : Filter) (stage : Stage) → f.is_ready ≡ false → IsAt f stage → stage ≡ Waiting
+at_waiting f Waiting h a = refl
+at_waiting f (Running L) h a = let no : ⊥ = cc (h, a.0) in absurd no
+
+pub at_running : (f : Filter) (stage : Stage) → f.is_ready ≡ true → IsAt f stage → (L : List Meaning) × (stage ≡ Running L) × StandsAt f.tracker L × (f.answers ≡ answer_count L)
+at_running f Waiting h a = let no : ⊥ = cc (h, a.0) in absurd no
+at_running f (Running L) h a = (L, refl, a.1, a.2)
+
+-- a line before `config|ready` is passed over
+pub carries_early : (m : Meaning) (f : Filter) (sink : Option (List ℕ)) (told : Option (List Told)) (client : State) → f.is_ready ≡ false → is_early m ≡ true → Carries m f f sink sink told told client client
+carries_early m f sink told client h e = λ o bytes line rest one reads s.
+    let is = at_waiting f s.stage h s.is_at in
+    record {
+      lines = s.lines ++ line ∷ []; stage = s.stage; steps = s.steps; text = s.text;
+      whole = holds_taken bytes s.lines line rest one s.whole;
+      reaches = rw is (early_more s.lines line (rw is at s.reaches) (m, reads, e));
+      is_at = s.is_at; has_text = s.has_text; written = s.written; exchanged = s.exchanged; made = s.made;
+    }
+
+-- `config|ready` is answered by the registration
+pub carries_ready : (m : Meaning) (f f' : Filter) (sink sink' : Option (List ℕ)) (told : Option (List Told)) (client : State) → f.is_ready ≡ false → m ≡ ReadyLine → Appends sink sink' registration
+    → f'.is_ready ≡ true → f'.tracker ≡ f.tracker → f'.answers ≡ f.answers → Carries m f f' sink sink' told told client client
+carries_ready m f f' sink sink' told client h e app now tracker answers = λ o bytes line rest one reads s.
+    let is = at_waiting f s.stage h s.is_at in
+    let (never, tracks, none) = rw is at s.is_at in
+    let (no_step, no_text) = rw is at s.has_text in
+    record {
+      lines = s.lines ++ line ∷ []; stage = Running []; steps = s.steps; text = s.text ++ registration;
+      whole = holds_taken bytes s.lines line rest one s.whole;
+      reaches = ready_new s.lines line (rw is at s.reaches) (rw e at reads);
+      is_at = (now, rw tracker tracks, answers ∙ none);
+      has_text = ([], (no_step, refl), ap (λ t. t ++ registration) no_text ∙ sym (append-nil registration));
+      written = Appends-trans o.sink sink sink' s.text registration s.written app;
+      exchanged = s.exchanged; made = s.made;
+    }
+
+-- a line after `config|ready`
+pub carries_take : (m : Meaning) (f f' : Filter) (sink sink' : Option (List ℕ)) (told told' : Option (List Told)) (client client' : State) (step : Option Step) (text : List ℕ)
+    → f.is_ready ≡ true → Does sink sink' told told' client client' step text
+    → ((L : List Meaning) → StandsAt f.tracker L → Takes L m step text × StandsAt f'.tracker (m ∷ L))
+    → f'.is_ready ≡ true → ((L : List Meaning) → f.answers ≡ answer_count L → f'.answers ≡ answer_count (m ∷ L))
+    → Carries m f f' sink sink' told told' client client'
+carries_take m f f' sink sink' told told' client client' step text h does takes now count = λ o bytes line rest one reads s.
+    let (L, is, tracks, counted) = at_running f s.stage h s.is_at in
+    let (taken, tracks') = takes L tracks in
+    let (results, filters, whole) = rw is at s.has_text in
+    record {
+      lines = s.lines ++ line ∷ []; stage = Running (m ∷ L); steps = push step s.steps; text = s.text ++ text;
+      whole = holds_taken bytes s.lines line rest one s.whole;
+      reaches = ready_more s.lines line L m (rw is at s.reaches) reads;
+      is_at = (now, tracks', count L counted);
+      has_text = (results ++ text, (step, s.steps, results, text, filters, taken, refl, refl), ap (λ t. t ++ text) whole ∙ append_assoc registration results text);
+      written = Appends-trans o.sink sink sink' s.text text s.written does.written;
+      exchanged = told_push o.told told told' s.steps step s.exchanged does.exchanged;
+      made = makes_push o.client client client' s.steps step s.made does.made;
+    }
+
+-- ---- where the filter stops
+
+pub Does-still : (sink : Option (List ℕ)) (told : Option (List Told)) (client : State) → Does sink sink told told client client None []
+Does-still sink told client = record { written = Appends-none sink; exchanged = Tells-none told; made = refl }
+
+pub stops : (o : Origin) (bytes left : List ℕ) (f : Filter) (source sink sink' : Option (List ℕ)) (read_failed write_failed : Bool) (told told' : Option (List Told)) (client client' : State) (fault : FilterFault) (step : Option Step) (front rest : List ℕ)
+    → SoFar o bytes left f sink told client → Does sink sink' told told' client client' step front
+    → ((stage : Stage) → IsAt f stage → IsFound fault stage bytes left source read_failed write_failed)
+    → ((stage : Stage) → IsAt f stage → IsInHand fault stage left step (front ++ rest))
+    → StopsAt o bytes source sink' read_failed write_failed told' client' fault
+stops o bytes left f source sink sink' read_failed write_failed told told' client client' fault step front rest s does found in_hand = record {
+  lines = s.lines; left = left; stage = s.stage; steps = s.steps; text = s.text;
+  whole = s.whole; reaches = s.reaches; has_text = s.has_text;
+  found = found s.stage s.is_at;
+  step = step; front = front; rest = rest;
+  in_hand = in_hand s.stage s.is_at;
+  written = Appends-trans o.sink sink sink' s.text front s.written does.written;
+  exchanged = told_push o.told told told' s.steps step s.exchanged does.exchanged;
+  made = makes_push o.client client client' s.steps step s.made does.made;
+}
+
+-- a fault that cuts a line's work short
+pub cut_found : (fault : FilterFault) (stage : Stage) (bytes left : List ℕ) (source : Option (List ℕ)) (read_failed write_failed : Bool) → IsCut fault write_failed → IsFound fault stage bytes left source read_failed write_failed
+cut_found at.Write stage bytes left source read_failed write_failed c = c
+cut_found at.Memory stage bytes left source read_failed write_failed c = tt
+cut_found (at.Line f) stage bytes left source read_failed write_failed c = absurd c
+cut_found (at.Track f) stage bytes left source read_failed write_failed c = absurd c
+cut_found at.NotReady stage bytes left source read_failed write_failed c = absurd c
+cut_found at.EndedEarly stage bytes left source read_failed write_failed c = absurd c
+cut_found at.CutLine stage bytes left source read_failed write_failed c = absurd c
+cut_found at.TooLong stage bytes left source read_failed write_failed c = absurd c
+cut_found at.Read stage bytes left source read_failed write_failed c = absurd c
+
+pub cut_in_hand : (fault : FilterFault) (stage : Stage) (left : List ℕ) (write_failed : Bool) (step : Option Step) (next : List ℕ) → IsCut fault write_failed → MayGo stage left step next → IsInHand fault stage left step next
+cut_in_hand at.Write stage left write_failed step next c h = h
+cut_in_hand at.Memory stage left write_failed step next c h = h
+cut_in_hand (at.Line f) stage left write_failed step next c h = absurd c
+cut_in_hand (at.Track f) stage left write_failed step next c h = absurd c
+cut_in_hand at.NotReady stage left write_failed step next c h = absurd c
+cut_in_hand at.EndedEarly stage left write_failed step next c h = absurd c
+cut_in_hand at.CutLine stage left write_failed step next c h = absurd c
+cut_in_hand at.TooLong stage left write_failed step next c h = absurd c
+cut_in_hand at.Read stage left write_failed step next c h = absurd c
+
+pub first_of : (line rest : List ℕ) → IsLine line → StandsFirst line (line ++ 10 ∷ rest)
+first_of line rest one = record { is_line = one; rest = rest; whole = refl }
+
+-- ---- lines as the code has them
+
+-- a line that is no request makes the step of its closing, and nothing is written for it
+pub takes_noted : (L : List Meaning) (l : Line) (step : Option Step) → ((seconds : ℕ) (subsystem phase session token rest : Bor (List ℕ)) → l ≡ line.Filter seconds subsystem phase session token rest → ⊥) → Closes (closing L (meaning l)) step → Takes L (meaning l) step []
+takes_noted L (line.Config key value) step apart c = (c, refl)
+takes_noted L line.Ready step apart c = (c, refl)
+takes_noted L (line.Report seconds subsystem event session params) step apart c = (c, refl)
+takes_noted L (line.Filter seconds subsystem phase session token rest) step apart c = absurd (apart seconds subsystem phase session token rest refl)
+takes_noted L line.Other step apart c = (c, refl)
+
+pub count_noted : (L : List Meaning) (l : Line) → ((seconds : ℕ) (subsystem phase session token rest : Bor (List ℕ)) → l ≡ line.Filter seconds subsystem phase session token rest → ⊥) → answer_count (meaning l ∷ L) ≡ answer_count L
+count_noted L (line.Config key value) apart = refl
+count_noted L line.Ready apart = refl
+count_noted L (line.Report seconds subsystem event session params) apart = refl
+count_noted L (line.Filter seconds subsystem phase session token rest) apart = absurd (apart seconds subsystem phase session token rest refl)
+count_noted L line.Other apart = refl
+
+-- a request tells nothing of sessions
+pub tracks_filter : (t : State') (L : List Meaning) (seconds : ℕ) (subsystem phase session token rest : List ℕ) → StandsAt t L → StandsAt t (FilterLine seconds subsystem phase session token rest ∷ L)
+tracks_filter t L seconds subsystem phase session token rest st = record { sessions = st.sessions; begins = st.begins }
+
+-- one more request was answered
+pub answer_counted : (L : List Meaning) (seconds : ℕ) (subsystem phase session token rest : List ℕ) (n : ℕ) → n ≡ answer_count L → n + 1 ≡ answer_count (FilterLine seconds subsystem phase session token rest ∷ L)
+answer_counted L seconds subsystem phase session token rest n e = omega (arith, e, sum_by-cons (λ (x : Meaning). cond (is_filter x) 1 0) (FilterLine seconds subsystem phase session token rest) L)
+
+-- a request whose work was cut short
+pub may_go : (f : Filter) (stage : Stage) (line rest : List ℕ) (seconds : ℕ) (subsystem phase session token more : List ℕ) (step : Option Step) (next : List ℕ) → f.is_ready ≡ true → IsAt f stage → IsLine line
+    → Reads line (FilterLine seconds subsystem phase session token more)
+    → ((step ≡ None) × (next ≡ [])) ⊎ ((L : List Meaning) → StandsAt f.tracker L → Replies L subsystem phase session token step next)
+    → MayGo stage (line ++ 10 ∷ rest) step next
+may_go f stage line rest seconds subsystem phase session token more step next h a one reads (inl quiet) = inl quiet
+may_go f stage line rest seconds subsystem phase session token more step next h a one reads (inr replies) =
+    let (L, is, tracks, counted) = at_running f stage h a in
+    rw is (inr (line, first_of line rest one, (FilterLine seconds subsystem phase session token more, reads, replies L tracks)))
+
+-- a line that wasn't noted
+pub refused_stops : (fault : FilterFault) (f : Filter) (stage : Stage) (bytes line rest : List ℕ) (m : Meaning) (source : Option (List ℕ)) (read_failed write_failed : Bool) → f.is_ready ≡ true → IsAt f stage → IsLine line → Reads line m
+    → ((L : List Meaning) → StandsAt f.tracker L → IsRefused fault L m)
+    → IsFound fault stage bytes (line ++ 10 ∷ rest) source read_failed write_failed × IsInHand fault stage (line ++ 10 ∷ rest) None []
+refused_stops (at.Track e) f stage bytes line rest m source read_failed write_failed h a one reads refused =
+    let (L, is, tracks, counted) = at_running f stage h a in
+    ((L, m, line, is, first_of line rest one, reads, refused L tracks), (refl, refl))
+refused_stops at.Memory f stage bytes line rest m source read_failed write_failed h a one reads refused = (tt, inl (refl, refl))
+refused_stops (at.Line e) f stage bytes line rest m source read_failed write_failed h a one reads refused = let (L, is, tracks, counted) = at_running f stage h a in absurd (refused L tracks)
+refused_stops at.NotReady f stage bytes line rest m source read_failed write_failed h a one reads refused = let (L, is, tracks, counted) = at_running f stage h a in absurd (refused L tracks)
+refused_stops at.EndedEarly f stage bytes line rest m source read_failed write_failed h a one reads refused = let (L, is, tracks, counted) = at_running f stage h a in absurd (refused L tracks)
+refused_stops at.CutLine f stage bytes line rest m source read_failed write_failed h a one reads refused = let (L, is, tracks, counted) = at_running f stage h a in absurd (refused L tracks)
+refused_stops at.TooLong f stage bytes line rest m source read_failed write_failed h a one reads refused = let (L, is, tracks, counted) = at_running f stage h a in absurd (refused L tracks)
+refused_stops at.Read f stage bytes line rest m source read_failed write_failed h a one reads refused = let (L, is, tracks, counted) = at_running f stage h a in absurd (refused L tracks)
+refused_stops at.Write f stage bytes line rest m source read_failed write_failed h a one reads refused = let (L, is, tracks, counted) = at_running f stage h a in absurd (refused L tracks)
+
+-- ---- the end
+
+-- what waits is sent once more
+pub ends : (o : Origin) (bytes held : List ℕ) (f : Filter) (sink : Option (List ℕ)) (told told' : Option (List Told)) (client client' : State) (group : List Exchange) (e : Ended)
+    → SoFar o bytes held f sink told client → f.is_ready ≡ true → held ≡ []
+    → Tells told told' (told_all group) → Makes client client' (record { action = Drain; group = group })
+    → e.answers ≡ f.answers → ((P : List Step) → PastStandsAt client' P → e.left ≡ length (view client'.source P).waiting)
+    → EndsWith o bytes sink told' client' e
+ends o bytes held f sink told told' client client' group e s h none tells makes answers left =
+    let (L, is, tracks, counted) = at_running f s.stage h s.is_at in
+    let (results, filters, whole) = rw is at s.has_text in
+    let H : List ℕ → Type 0 = λ l. Holds bytes s.lines l in
+    let A : List ℕ → Type 0 = λ t. Appends o.sink sink t in
+    record {
+      lines = s.lines; after_ready = L; steps = s.steps; results = results; group = group;
+      whole = subst H none s.whole;
+      ready = rw is at s.reaches;
+      filters = filters;
+      written = subst A whole s.written;
+      exchanged = told_push o.told told told' s.steps (Some (record { action = Drain; group = group })) s.exchanged tells;
+      made = makes_push o.client client client' s.steps (Some (record { action = Drain; group = group })) s.made makes;
+      answers = answers ∙ counted;
+      left = left;
+    }
+
+-- ---- bytes that come
+
+no_line : IsLine []
+no_line = record { one = search rules; short = omega arith }
+
+-- nothing was read yet
+pub so_far_start : (sink : Option (List ℕ)) (told : Option (List Told)) (client : State) (f : Filter) (held : List ℕ) → held ≡ [] → f.is_ready ≡ false → StandsAt f.tracker [] → f.answers ≡ 0
+    → SoFar (record { sink = sink; told = told; client = client }) [] held f sink told client
+so_far_start sink told client f held none h tracks zero = record {
+  lines = []; stage = Waiting; steps = []; text = [];
+  whole = rw none (record { whole = refl; each = tt }); reaches = tt; is_at = (h, tracks, zero); has_text = (refl, refl);
+  written = Appends-none sink; exchanged = Tells-none told; made = makes_none client;
+}
+
+-- a piece came
+pub so_far_fed : (o : Origin) (bytes held held' piece : List ℕ) (f : Filter) (sink : Option (List ℕ)) (told : Option (List Told)) (client : State) → held' ≡ held ++ piece
+    → SoFar o bytes held f sink told client → SoFar o (bytes ++ piece) held' f sink told client
+so_far_fed o bytes held held' piece f sink told client e s = record {
+  lines = s.lines; stage = s.stage; steps = s.steps; text = s.text;
+  whole = rw e (record { whole = ap (λ (l : List ℕ). l ++ piece) s.whole.whole ∙ append_assoc (text_of s.lines) held piece; each = s.whole.each });
+  reaches = s.reaches; is_at = s.is_at; has_text = s.has_text; written = s.written; exchanged = s.exchanged; made = s.made;
+}
+
+pub is_line_none : (held : List ℕ) → held ≡ [] → IsLine held
+is_line_none held e = rw e no_line
+
+pub Consumes-none : (o : Option (List ℕ)) → Consumes o o []
+Consumes-none None = tt
+Consumes-none (Some xs) = refl

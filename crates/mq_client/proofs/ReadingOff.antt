@@ -1,0 +1,126 @@
+-- What a past leaves is what is read off the whole list of its steps.
+use Rattle.std.proofs.Common.{◌≡◌, ℕ, ◌+◌, ◌==◌, Bool, false, true, List, [], ◌∷◌, ◌++◌, refl, sym, ap, ◌∙◌, subst, arith, cond, Option, None, Some, is_some, if◌then◌else◌, count_by}
+use Rattle.std.specs.List.{filter_map, cons_option}
+use Rattle.std.proofs.lemmas.Bool.{eqb-true}
+use Rattle.std.proofs.lemmas.List.Sums.{sum_by-cons}
+use Rattle.mq_client.specs.Exchanges.{Exchange}
+use Rattle.mq_client.specs.Past.{Source, Action, Ask, Close, Drain, Step, Standing, Never, Live, Ended, View, view, after, after_close, held_by, opened, let_through, answer_of}
+use Rattle.mq_client.specs.Reading.{Asking, closes, since_close, asking, asks_of, first_of, is_granted, live_by, live_in, takes_number, numbers_in, ended_by, standing_or, ended_in, live_or, standing_in}
+use Rattle.mq_track.specs.declared.closing.CloseEnd.{CloseEnd}
+use Rattle.mq_client.specs.declared.held.Asked.{Asked}
+use Rattle.mq_client.specs.declared.held.Asked.TheVariants as asked
+use Rattle.mq_client.specs.declared.held.Held.{Held}
+
+-- one more ask
+abbrev one_ask : List ℕ → ℕ → Asked → Asking
+one_ask login at answer = record { login = login; at = at; answer = answer }
+
+abbrev granted_in : List Asking → ℕ
+granted_in asks = count_by (λ b. is_granted b.answer) asks
+
+granted_more : (a : Asking) (more : List Asking) → granted_in (a ∷ more) ≡ cond (is_granted a.answer) 1 0 + granted_in more
+granted_more a more = sum_by-cons (λ (b : Asking). cond (is_granted b.answer) 1 0) a more
+
+live_more : (login : List ℕ) (at : ℕ) (answer : Asked) (more : List Asking) → live_by (one_ask login at answer ∷ more) ≡ Some (let_through answer (opened at login (live_by more)))
+live_more login at asked.Granted [] = refl
+live_more login at asked.Full [] = refl
+live_more login at asked.Unavailable [] = refl
+live_more login at asked.Granted (b ∷ more) =
+    let F : ℕ → Option Held = λ n. Some (record { login = (first_of b more).login; at = (first_of b more).at; granted = n }) in
+    ap F (omega (arith, granted_more (one_ask login at asked.Granted) (b ∷ more)))
+live_more login at asked.Full (b ∷ more) =
+    let F : ℕ → Option Held = λ n. Some (record { login = (first_of b more).login; at = (first_of b more).at; granted = n }) in
+    ap F (omega (arith, granted_more (one_ask login at asked.Full) (b ∷ more)))
+live_more login at asked.Unavailable (b ∷ more) =
+    let F : ℕ → Option Held = λ n. Some (record { login = (first_of b more).login; at = (first_of b more).at; granted = n }) in
+    ap F (omega (arith, granted_more (one_ask login at asked.Unavailable) (b ∷ more)))
+
+-- ---- live transactions
+
+abbrev IsLiveRead : View → List Step → Type 0
+IsLiveRead v P = (t : ℕ) → held_by (v.standing t) ≡ live_in P t
+
+ask_live : (t txn at : ℕ) (login : List ℕ) (answer : Asked) (v : View) (P : List Step) (b : Bool) → (txn == t) ≡ b → IsLiveRead v P
+    → held_by (if b then Live (let_through answer (opened at login (held_by (v.standing txn)))) else v.standing t)
+      ≡ live_by (cons_option (if b then Some (one_ask login at answer) else None) (asks_of t P))
+ask_live t txn at login answer v P true e all =
+    let F : Option Held → Option Held = λ o. Some (let_through answer (opened at login o)) in
+    ap F (ap (λ k. held_by (v.standing k)) (eqb-true txn t e) ∙ all t) ∙ sym (live_more login at answer (asks_of t P))
+ask_live t txn at login answer v P false e all = all t
+
+abbrev asks_after : ℕ → Bool → Step → List Step → List Asking
+asks_after t b x P = filter_map (λ x. asking t x.action x.group) (if b then [] else x ∷ since_close t P)
+
+close_live : (s : Source) (t txn : ℕ) (end : CloseEnd) (group : List Exchange) (v : View) (P : List Step) (o : Option Held) (b : Bool) → held_by (v.standing txn) ≡ o → (txn == t) ≡ b → IsLiveRead v P
+    → held_by ((after_close s txn end group v o).standing t) ≡ live_by (asks_after t b (record { action = Close txn end; group = group }) P)
+close_live s t txn end group v P None true e f all = ap (λ k. held_by (v.standing k)) (sym (eqb-true txn t f)) ∙ e
+close_live s t txn end group v P None false e f all = all t
+close_live s t txn end group v P (Some h) true e f all = rw f refl
+close_live s t txn end group v P (Some h) false e f all = rw f (all t)
+
+live_step : (s : Source) (v : View) (P : List Step) (a : Action) (group : List Exchange) → IsLiveRead v P → IsLiveRead (after s v a group) (record { action = a; group = group } ∷ P)
+live_step s v P (Ask txn at login) [] all = all
+live_step s v P (Ask txn at login) (x ∷ group) all = λ t. ask_live t txn at login (answer_of (x ∷ group)) v P (txn == t) refl all
+live_step s v P (Close txn end) group all = λ t. close_live s t txn end group v P (held_by (v.standing txn)) (txn == t) refl refl all
+live_step s v P Drain group all = all
+
+pub live_read : (s : Source) (P : List Step) → IsLiveRead (view s P) P
+live_read s [] = λ t. refl
+live_read s (x ∷ P) = live_step s (view s P) P x.action x.group (live_read s P)
+
+-- ---- numbers
+
+close_numbers : (s : Source) (txn : ℕ) (end : CloseEnd) (group : List Exchange) (v : View) (n : ℕ) (o : Option Held) → v.numbers ≡ n → (after_close s txn end group v o).numbers ≡ (if is_some o then n + 1 else n)
+close_numbers s txn end group v n None e = e
+close_numbers s txn end group v n (Some h) e = ap (λ k. k + 1) e
+
+numbers_step : (s : Source) (v : View) (P : List Step) (a : Action) (group : List Exchange) → IsLiveRead v P → v.numbers ≡ numbers_in P → (after s v a group).numbers ≡ numbers_in (record { action = a; group = group } ∷ P)
+numbers_step s v P (Ask txn at login) [] all e = e
+numbers_step s v P (Ask txn at login) (x ∷ group) all e = ap (λ k. k + 1) e
+numbers_step s v P (Close txn end) group all e = close_numbers s txn end group v (numbers_in P) (held_by (v.standing txn)) e ∙ ap (λ o. if is_some o then numbers_in P + 1 else numbers_in P) (all txn)
+numbers_step s v P Drain group all e = e
+
+pub numbers_read : (s : Source) (P : List Step) → (view s P).numbers ≡ numbers_in P
+numbers_read s [] = refl
+numbers_read s (x ∷ P) = numbers_step s (view s P) P x.action x.group (live_read s P) (numbers_read s P)
+
+-- ---- each transaction
+
+abbrev IsRead : View → List Step → Type 0
+IsRead v P = (t : ℕ) → v.standing t ≡ standing_in P t
+
+ask_read : (t txn at : ℕ) (login : List ℕ) (answer : Asked) (v : View) (P : List Step) (b : Bool) → (txn == t) ≡ b → IsLiveRead v P → IsRead v P
+    → (if b then Live (let_through answer (opened at login (held_by (v.standing txn)))) else v.standing t)
+      ≡ live_or (live_by (cons_option (if b then Some (one_ask login at answer) else None) (asks_of t P))) (ended_in P t)
+ask_read t txn at login answer v P true e all read = ap (λ o. live_or o (ended_in P t)) (ask_live t txn at login answer v P true e all)
+ask_read t txn at login answer v P false e all read = read t
+
+close_read : (s : Source) (t txn : ℕ) (end : CloseEnd) (group : List Exchange) (v : View) (P : List Step) (o : Option Held) (b : Bool) → held_by (v.standing txn) ≡ o → (txn == t) ≡ b → v.numbers ≡ numbers_in P → IsLiveRead v P → IsRead v P
+    → (after_close s txn end group v o).standing t ≡ live_or (live_by (asks_after t b (record { action = Close txn end; group = group }) P)) (standing_or (ended_by t (numbers_in P + 1) (Close txn end) (live_in P t)) (ended_in P t))
+close_read s t txn end group v P None true e f n all read =
+    let absent : live_in P t ≡ None = sym (all t) ∙ ap (λ k. held_by (v.standing k)) (sym (eqb-true txn t f)) ∙ e in
+    read t ∙ rw absent refl
+close_read s t txn end group v P None false e f n all read = read t ∙ ap (live_or (live_in P t)) (sym (other_ended t (numbers_in P + 1) txn end (live_in P t) (ended_in P t) f))
+  where
+    other_ended : (t seq txn : ℕ) (end : CloseEnd) (o : Option Held) (before : Standing) → (txn == t) ≡ false → standing_or (ended_by t seq (Close txn end) o) before ≡ before
+    other_ended t seq txn end None before f = refl
+    other_ended t seq txn end (Some h) before f = rw f refl
+close_read s t txn end group v P (Some h) true e f n all read =
+    let there : live_in P t ≡ Some h = sym (all t) ∙ ap (λ k. held_by (v.standing k)) (sym (eqb-true txn t f)) ∙ e in
+    rw (f, there, f) (ap (λ k. Ended end (k + 1) h) n)
+close_read s t txn end group v P (Some h) false e f n all read =
+    rw f (read t ∙ ap (live_or (live_in P t)) (sym (other_too t (numbers_in P + 1) txn end (live_in P t) (ended_in P t) f)))
+  where
+    other_too : (t seq txn : ℕ) (end : CloseEnd) (o : Option Held) (before : Standing) → (txn == t) ≡ false → standing_or (ended_by t seq (Close txn end) o) before ≡ before
+    other_too t seq txn end None before f = refl
+    other_too t seq txn end (Some h) before f = rw f refl
+
+read_step : (s : Source) (v : View) (P : List Step) (a : Action) (group : List Exchange) → v.numbers ≡ numbers_in P → IsLiveRead v P → IsRead v P → IsRead (after s v a group) (record { action = a; group = group } ∷ P)
+read_step s v P (Ask txn at login) [] n all read = read
+read_step s v P (Ask txn at login) (x ∷ group) n all read = λ t. ask_read t txn at login (answer_of (x ∷ group)) v P (txn == t) refl all read
+read_step s v P (Close txn end) group n all read = λ t. close_read s t txn end group v P (held_by (v.standing txn)) (txn == t) refl refl n all read
+read_step s v P Drain group n all read = read
+
+pub standing_read : (s : Source) (P : List Step) → IsRead (view s P) P
+standing_read s [] = λ t. refl
+standing_read s (x ∷ P) = read_step s (view s P) P x.action x.group (numbers_read s P) (live_read s P) (standing_read s P)

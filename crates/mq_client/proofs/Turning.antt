@@ -1,0 +1,127 @@
+-- The exchanges of a step come in turn.
+use Rattle.std.proofs.Common.{◌≡◌, ℕ, zero, suc, ◌+◌, ◌<◌, ◌≤◌, Bool, false, true, List, [], ◌∷◌, ◌++◌, length, drop, map, refl, sym, ap, ◌∙◌, subst, append-nil, arith, Option, None, Some, is_some, nat_le, if◌then◌else◌, MatchBool}
+use Rattle.std.specs.Prelude.{slice_get}
+use Rattle.std.proofs.lemmas.Bool.{lt-leb}
+use Rattle.mq_frame.specs.declared.message.Request.{Request}
+use Rattle.mq_frame.specs.declared.message.Reply.{Reply}
+use Rattle.mq_client.specs.Exchanges.{Mark, Exchange, IsTry, IsMarked, AreFailed, AreTries, IsUndecided, SendsSome, NoneYet, OneMore, Sends, SendsAll, StopsAt, decided_by, decisions}
+use Rattle.mq_client.specs.Past.{Source, Action, Ask, Close, Drain, Step, View, view, held_for, reserve_of, closing_of, refuses, PlaysFrom, Plays}
+use Rattle.mq_client.specs.Turns.{failures, queue_of, next_of, ComeInTurn, Ending, outcomes}
+use Rattle.mq_client.specs.declared.held.Held.{Held}
+use Rattle.mq_client.specs.declared.link.Outcome.{Outcome}
+use Rattle.mq_client.proofs.Making.{some_left}
+
+-- the exchanges so far came in turn, and the last so many failed
+record Comes (n : ℕ) (queue : List Request) (group : List Exchange) (failed decided : ℕ) : Type 0 where
+  in_turn : ComeInTurn n queue group
+  failed_is : failures group ≡ failed
+  decided_is : decisions group ≡ decided
+
+next_is : (n : ℕ) (queue : List Request) (group : List Exchange) (q : Request) → failures group < n → slice_get queue (decisions group) ≡ Some q → next_of n queue group ≡ Some q
+next_is n queue group q h e = rw (lt-leb n (failures group) h) e
+
+marked : (q : Request) (x : Exchange) (d : Option Reply) → IsTry q x d → IsMarked x.request x.outcome x.mark
+marked q x d t = subst (λ (r : Request). IsMarked r x.outcome x.mark) (sym t.request_is) t.marked
+
+come_next : (n : ℕ) (queue : List Request) (group : List Exchange) (q : Request) (x : Exchange) (d : Option Reply) (f k : ℕ) → Comes n queue group f k → f < n → slice_get queue k ≡ Some q → IsTry q x d → ComeInTurn n queue (x ∷ group)
+come_next n queue group q x d f k c h e t =
+    (next_is n queue group q (omega (arith, h, c.failed_is)) (ap (slice_get queue) c.decided_is ∙ e) ∙ ap Some (sym t.request_is), marked q x d t, c.in_turn)
+
+come_failed : (n : ℕ) (queue : List Request) (group : List Exchange) (q : Request) (x : Exchange) (f k : ℕ) → Comes n queue group f k → f < n → slice_get queue k ≡ Some q → IsTry q x None → Comes n queue (x ∷ group) (f + 1) k
+come_failed n queue group q x f k c h e t = record {
+  in_turn = come_next n queue group q x None f k c h e t;
+  failed_is = rw t.decided_is (ap (λ i. i + 1) c.failed_is);
+  decided_is = rw t.decided_is c.decided_is;
+}
+
+come_decided : (n : ℕ) (queue : List Request) (group : List Exchange) (q : Request) (x : Exchange) (r : Reply) (f k : ℕ) → Comes n queue group f k → f < n → slice_get queue k ≡ Some q → IsTry q x (Some r) → Comes n queue (x ∷ group) 0 (k + 1)
+come_decided n queue group q x r f k c h e t = record {
+  in_turn = come_next n queue group q x (Some r) f k c h e t;
+  failed_is = rw t.decided_is refl;
+  decided_is = rw t.decided_is (ap (λ i. i + 1) c.decided_is);
+}
+
+all_failed : (n : ℕ) (queue : List Request) (done tries : List Exchange) (q : Request) (k : ℕ) → Comes n queue done 0 k → slice_get queue k ≡ Some q → AreFailed q tries → length tries ≤ n → Comes n queue (tries ++ done) (length tries) k
+all_failed n queue done [] q k c e f h = c
+all_failed n queue done (x ∷ tries) q k c e f h =
+    let more : length tries + 1 ≡ length (x ∷ tries) = omega arith in
+    let G : ℕ → Type 0 = λ i. Comes n queue (x ∷ (tries ++ done)) i k in
+    subst G more (come_failed n queue (tries ++ done) q x (length tries) k (all_failed n queue done tries q k c e f.1 (omega (arith, h))) (omega (arith, h)) e f.0)
+
+tried : (n : ℕ) (queue : List Request) (done tries : List Exchange) (q : Request) (r : Reply) (k : ℕ) → Comes n queue done 0 k → slice_get queue k ≡ Some q → AreTries n q tries (Some r) → Comes n queue (tries ++ done) 0 (k + 1)
+tried n queue done [] q r k c e t = absurd t
+tried n queue done (x ∷ tries) q r k c e t = come_decided n queue (tries ++ done) q x r (length tries) k (all_failed n queue done tries q k c e t.1 (omega (arith, t.2))) t.2 e t.0
+
+-- what stands in front after some were dropped
+front_of_drop : (k : ℕ) (queue left : List Request) (q : Request) → q ∷ left ≡ drop k queue → slice_get queue k ≡ Some q
+front_of_drop zero [] left q e = let no : ⊥ = cc in absurd no
+front_of_drop zero (x ∷ queue) left q e = ap (λ l. slice_get l 0) (sym e)
+front_of_drop (suc k) [] left q e = let no : ⊥ = cc in absurd no
+front_of_drop (suc k) (x ∷ queue) left q e = front_of_drop k queue left q e
+
+some_come : (n : ℕ) (queue : List Request) (group : List Exchange) (left : List Request) → SendsSome n queue group left → Comes n queue group 0 (decisions group)
+some_come n queue group left NoneYet = record { in_turn = tt; failed_is = refl; decided_is = refl }
+some_come n queue group left (OneMore q more done tries r s t) =
+    let c = tried n queue done tries q r (decisions done) (some_come n queue done (q ∷ more) s) (front_of_drop (decisions done) queue more q (some_left n queue done (q ∷ more) s)) t in
+    record { in_turn = c.in_turn; failed_is = c.failed_is; decided_is = refl }
+
+sends_come : (n : ℕ) (queue : List Request) (group : List Exchange) (left : List Request) → Sends n queue group left → ComeInTurn n queue group
+sends_come n queue group left (SendsAll done s) = (some_come n queue group [] s).in_turn
+sends_come n queue group left (StopsAt q more done [] s t) = (some_come n queue done (q ∷ more) s).in_turn
+sends_come n queue group left (StopsAt q more done (x ∷ tries) s t) =
+    (all_failed n queue done (x ∷ tries) q (decisions done) (some_come n queue done (q ∷ more) s) (front_of_drop (decisions done) queue more q (some_left n queue done (q ∷ more) s)) t.0 (omega (arith, t.1))).in_turn
+
+nothing_yet : (n : ℕ) (queue : List Request) → Comes n queue [] 0 0
+nothing_yet n queue = record { in_turn = tt; failed_is = refl; decided_is = refl }
+
+tries_come : (n : ℕ) (q : Request) (group : List Exchange) (decided : Option Reply) → AreTries n q group decided → ComeInTurn n (q ∷ []) group
+tries_come n q group None t =
+    let c = all_failed n (q ∷ []) [] group q 0 (nothing_yet n (q ∷ [])) refl t.0 (omega (arith, t.1)) in
+    subst (λ (l : List Exchange). ComeInTurn n (q ∷ []) l) (append-nil group) c.in_turn
+tries_come n q [] (Some r) t = absurd t
+tries_come n q (x ∷ group) (Some r) t =
+    let c = tried n (q ∷ []) [] (x ∷ group) q r 0 (nothing_yet n (q ∷ [])) refl t in
+    subst (λ (l : List Exchange). ComeInTurn n (q ∷ []) l) (append-nil (x ∷ group)) c.in_turn
+
+ask_comes : (b : Bool) (n : ℕ) (q : Request) (group : List Exchange) → MatchBool b (group ≡ []) ((decided : Option Reply) × AreTries n q group decided) → ComeInTurn n (if b then [] else q ∷ []) group
+ask_comes true n q group e = rw e tt
+ask_comes false n q group (decided, t) = tries_come n q group decided t
+
+turns_from : (s : Source) (n : ℕ) (v : View) (o : Option Held) (a : Action) (group : List Exchange) → PlaysFrom s n o (length v.live) v.numbers v.waiting a group → ComeInTurn n (queue_of s v o a) group
+turns_from s n v o (Ask txn at login) group plays = ask_comes (refuses o (length v.live) v.numbers (length v.waiting) at login) n (reserve_of s (v.numbers + 1) txn at login) group plays
+turns_from s n v None (Close txn end) group plays = rw plays tt
+turns_from s n v (Some h) (Close txn end) group (left, sends) = sends_come n _ group left sends
+turns_from s n v o Drain group (left, sends) = sends_come n v.waiting group left sends
+
+-- each exchange of a step is the next one
+pub turns : (s : Source) (n : ℕ) (P : List Step) (x : Step) → Plays s n P x → ComeInTurn n (queue_of s (view s P) (held_for (view s P) x.action) x.action) x.group
+turns s n P x plays = turns_from s n (view s P) (held_for (view s P) x.action) x.action x.group plays
+
+some_is : {A : Type 0} (x y : A) → Some x ≡ Some y → x ≡ y
+some_is x y e = cc
+
+same_exchange : (x y : Exchange) → x.request ≡ y.request → x.outcome ≡ y.outcome → x.mark ≡ y.mark → x ≡ y
+same_exchange x y e f g =
+    let A : Request → Exchange = λ q. record { request = q; outcome = x.outcome; mark = x.mark } in
+    let B : Outcome → Exchange = λ o. record { request = y.request; outcome = o; mark = x.mark } in
+    let C : Mark → Exchange = λ m. record { request = y.request; outcome = y.outcome; mark = m } in
+    ap A e ∙ ap B f ∙ ap C g
+
+cons_head : {A : Type 0} (x y : A) (xs ys : List A) → x ∷ xs ≡ y ∷ ys → x ≡ y
+cons_head x y xs ys e = cc
+
+cons_tail : {A : Type 0} (x y : A) (xs ys : List A) → x ∷ xs ≡ y ∷ ys → xs ≡ ys
+cons_tail x y xs ys e = cc
+
+-- exchanges that came in turn and ended alike are the same
+pub same_turns : (n : ℕ) (queue : List Request) (g h : List Exchange) → ComeInTurn n queue g → ComeInTurn n queue h → outcomes g ≡ outcomes h → g ≡ h
+same_turns n queue [] [] c d e = refl
+same_turns n queue [] (y ∷ h) c d e = let no : ⊥ = cc in absurd no
+same_turns n queue (x ∷ g) [] c d e = let no : ⊥ = cc in absurd no
+same_turns n queue (x ∷ g) (y ∷ h) c d e =
+    let tail = same_turns n queue g h c.2 d.2 (cons_tail _ _ _ _ e) in
+    let ending = cons_head _ _ (outcomes g) (outcomes h) e in
+    let outcome : x.outcome ≡ y.outcome = ap (λ (z : Ending). z.outcome) ending in
+    let mark : x.mark ≡ y.mark = ap (λ (z : Ending). z.mark) ending in
+    let request = some_is x.request y.request (sym c.0 ∙ ap (next_of n queue) tail ∙ d.0) in
+    ap (λ z. z ∷ g) (same_exchange x y request outcome mark) ∙ ap (λ l. y ∷ l) tail

@@ -1,0 +1,51 @@
+use Rattle.std.proofs.Common.{◌≡◌, ℕ, ◌+◌, List, [], ◌∷◌, ◌++◌, length, refl, sym, ap, ◌∙◌, subst, rules, arith, Option, None, Some}
+use Rattle.std.specs.List.{AllByRecursion}
+use Rattle.mq_frame.specs.Range.{IsRequest}
+use Rattle.mq_frame.specs.declared.message.Request.{Request}
+use Rattle.mq_client.specs.Past.{State, Close, Makes, find}
+use Rattle.mq_client.specs.Exchanges.{Sends}
+use Rattle.mq_client.specs.Inside.{state_of}
+use Rattle.mq_client.proofs.Telling.{Tells-none}
+use Rattle.mq_client.proofs.Making.{closed, closed_nothing}
+use Rattle.mq_client.proofs.Keeping.{closed_in_range, in_range_push}
+use Rattle.mq_client.proofs.client.Client.close.Goals as goal
+
+pub returns-in_default-clause-ok : goal.returns-in_default-clause-ok
+returns-in_default-clause-ok g c =
+    let i = c.self.inside in
+    let F : State → Type 0 = λ s. Makes s s (record { action = Close c.args.closing.txn c.args.closing.end; group = [] }) in
+    let absent : find i.held.entries c.args.closing.txn ≡ None = search rules in
+    ([], Tells-none _, subst F c.self.view_is (closed_nothing (state_of i) c.args.closing.txn c.args.closing.end absent))
+
+pub closing_request-requires-clause-held : goal.closing_request-requires-clause-held
+closing_request-requires-clause-held g c =
+    let there : find c.self.inside.held.entries c.args.closing.txn ≡ Some c.in-Some.known.now = search rules in
+    c.self.invariant.held c.args.closing.txn c.in-Some.known.now there
+
+pub send_all-requires : goal.send_all-requires
+send_all-requires g c = subst (AllByRecursion IsRequest) (sym c.in_ok-push_back.ensures.items) (in_range_push c.self.inside.outbox.items c.in_ok-request.request c.self.invariant.outbox c.in_ok-request.ensures.in_range)
+
+pub invariant_of-self-2 : goal.invariant_of-self-2
+invariant_of-self-2 g c =
+    let i = c.self.invariant in
+    let len = c.release.ensures.len in
+    let left = c.send_all.ensures.len in
+    let pushed = c.in_ok-push_back.ensures.len in
+    record {
+      host = i.host; run = i.run; tries = i.tries;
+      places = omega (arith, i.places, len, left, pushed);
+      numbers = omega (arith, i.numbers, len);
+      held = closed_in_range c.self.inside.held.entries c.release.new.held.entries c.args.closing.txn c.release.ensures.find i.held;
+      outbox = c.send_all.ensures.in_range;
+    }
+
+pub returns-clause-ok : goal.returns-clause-ok
+returns-clause-ok g c =
+    let (group, told, sends) = c.send_all.ensures.step in
+    let i = c.self.inside in
+    let d : State = record { source = record { host = i.host; run = i.run }; tries = i.tries; held = c.release.new.held.entries; numbers = i.numbers + 1; waiting = c.send_all.new.outbox.items } in
+    let F : State → Type 0 = λ s. Makes s d (record { action = Close c.args.closing.txn c.args.closing.end; group = group }) in
+    let there : find i.held.entries c.args.closing.txn ≡ Some c.in-Some.known.now = search rules in
+    let D : List Request → Type 0 = λ w. Sends i.tries w group c.send_all.new.outbox.items in
+    let pushed = c.in_ok-push_back.ensures.items ∙ ap (λ q. i.outbox.items ++ q ∷ []) c.in_ok-request.ensures.request in
+    (group, told, subst F c.self.view_is (closed (state_of i) d c.args.closing.txn c.args.closing.end c.in-Some.known.now group refl refl there (subst D pushed sends) c.release.ensures.find c.release.ensures.len refl))

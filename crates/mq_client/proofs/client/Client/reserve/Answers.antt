@@ -1,0 +1,51 @@
+use Rattle.std.proofs.Common.{◌≡◌, ℕ, ◌+◌, ◌==◌, List, [], length, refl, sym, ap, ◌∙◌, subst, rules, arith, true, false, Some, if◌then◌else◌}
+use Rattle.mq_client.specs.Past.{State, Ask, Makes, refuses, find, opened, let_through, answer_by}
+use Rattle.mq_client.specs.Inside.{state_of}
+use Rattle.mq_client.specs.Held.{AllHeld}
+use Rattle.mq_client.proofs.Telling.{Tells-none}
+use Rattle.mq_client.proofs.Making.{refused, asked, answer_of_tries, held_and_counted}
+use Rattle.mq_client.proofs.Keeping.{HasRoom, has_room, asked_in_range}
+use Rattle.mq_client.proofs.client.Client.reserve.Goals as goal
+
+pub returns-then-refuses-clause-ok : goal.returns-then-refuses-clause-ok
+returns-then-refuses-clause-ok g c =
+    let F : State → Type 0 = λ s. Makes s s (record { action = Ask c.args.txn c.args.at c.args.login.now; group = [] }) in
+    let i = c.self.inside in
+    let h : refuses (find i.held.entries c.args.txn) (length i.held.entries) i.numbers (length i.outbox.items) c.args.at c.args.login.now ≡ true = search rules in
+    ([], Tells-none _, refl, subst F c.self.view_is (refused (state_of i) c.args.txn c.args.at c.args.login.now h))
+
+pub invariant_of-self : goal.invariant_of-self
+invariant_of-self g c =
+    let same = c.in_err-hold.ensures.err in
+    let i = c.self.invariant in
+    record { host = i.host; run = i.run; tries = i.tries; places = rw same i.places; numbers = rw same i.numbers; held = subst AllHeld (sym same) i.held; outbox = i.outbox }
+
+pub invariant_of-self-2 : goal.invariant_of-self-2
+invariant_of-self-2 g c =
+    let i = c.self.invariant in
+    let s = c.self.inside in
+    let free : refuses (find s.held.entries c.args.txn) (length s.held.entries) s.numbers (length s.outbox.items) c.args.at c.args.login.now ≡ false = search rules in
+    let room = has_room _ _ s.numbers _ c.args.at c.args.login.now free i.places i.numbers in
+    let len = c.count.ensures.len ∙ c.in_ok-hold.ensures.len in
+    let found = held_and_counted c.args.txn c.args.at c.args.login.now c.answer_to-answer.result s.held.entries c.hold.new.held.entries c.count.new.held.entries c.in_ok-hold.ensures.find c.count.ensures.find in
+    record {
+      host = i.host; run = i.run; tries = i.tries;
+      places = room.places (length c.count.new.held.entries) len;
+      numbers = room.numbers (length c.count.new.held.entries) len;
+      held = asked_in_range s.held.entries c.count.new.held.entries c.args.txn c.args.at c.args.login.now c.answer_to-answer.result (room.few c.args.at c.args.login.now) found i.held c.requires.txn c.requires.at c.requires.login;
+      outbox = i.outbox;
+    }
+
+pub returns-clause-ok : goal.returns-clause-ok
+returns-clause-ok g c =
+    let (group, told, tries) = c.try_all-decided.ensures in
+    let i = c.self.inside in
+    let d : State = record { source = record { host = i.host; run = i.run }; tries = i.tries; held = c.count.new.held.entries; numbers = i.numbers + 1; waiting = i.outbox.items } in
+    let F : State → Type 0 = λ s. Makes s d (record { action = Ask c.args.txn c.args.at c.args.login.now; group = group }) in
+    let free : refuses (find i.held.entries c.args.txn) (length i.held.entries) i.numbers (length i.outbox.items) c.args.at c.args.login.now ≡ false = search rules in
+    let found = held_and_counted c.args.txn c.args.at c.args.login.now c.answer_to-answer.result i.held.entries c.hold.new.held.entries c.count.new.held.entries c.in_ok-hold.ensures.find c.count.ensures.find in
+    let by : (t : ℕ) → find c.count.new.held.entries t ≡ (if c.args.txn == t then Some (let_through (answer_by c.try_all-decided.result) (opened c.args.at c.args.login.now (find i.held.entries c.args.txn))) else find i.held.entries t) = rw c.answer_to-answer.ensures at found in
+    let tries_of = rw c.in_ok-request.ensures.request at tries in
+    (group, told, c.answer_to-answer.ensures ∙ sym (answer_of_tries i.tries _ group c.try_all-decided.result tries),
+      subst F c.self.view_is (asked (state_of i) d c.args.txn c.args.at c.args.login.now group c.try_all-decided.result c.self.invariant.tries.from refl refl free tries_of by
+        (c.count.ensures.len ∙ c.in_ok-hold.ensures.len) refl refl))

@@ -1,0 +1,13 @@
+use Rattle.std.proofs.Common.{◌≡◌, refl, sym, subst, Some, Option}
+use Rattle.mq_track.specs.declared.closing.Closing.{Closing}
+use Rattle.mq_client.specs.Past.{Close}
+use Rattle.mq_client.specs.Filter.{Closes}
+use Rattle.mq_client.proofs.filter.close.Goals as goal
+
+pub returns-in-Ok-clause-ok : goal.returns-in-Ok-clause-ok
+returns-in-Ok-clause-ok g c =
+    let (group, told, made) = c.in-Ok.ensures.ok in
+    let k = c.in-Some.closing in
+    let step = Some (record { action = Close k.txn k.end; group = group }) in
+    let F : Option Closing → Type 0 = λ x. Closes x step in
+    (step, told, made, subst F (sym c.in-Some.is) (group, refl))

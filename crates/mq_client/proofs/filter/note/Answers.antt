@@ -1,0 +1,16 @@
+use Rattle.std.proofs.Common.{◌≡◌, ◌∷◌, refl, sym, ap, subst, Option, None}
+use Rattle.std.proofs.lemmas.Result.{on_ok_weaker}
+use Rattle.mq_line.specs.Grammar.{meaning}
+use Rattle.mq_track.specs.Sessions.{closing as closing_lem, fault}
+use Rattle.mq_track.specs.declared.closing.Closing.{Closing}
+use Rattle.mq_client.specs.Filter.{Closes}
+use Rattle.mq_client.proofs.Looping.{accepted}
+use Rattle.mq_client.proofs.filter.note.Goals as goal
+
+pub returns-in-Ok-clause-ok : goal.returns-in-Ok-clause-ok
+returns-in-Ok-clause-ok g c =
+    let m = meaning c.args.line.now in
+    on_ok_weaker c.close.result (λ w. (w.0, w.1, w.2, λ L st.
+      let none = accepted (fault L m) c.in-Ok.closing (c.in-Ok.ensures.refused L st) in
+      let F : Option Closing → Type 0 = λ x. Closes x w.0 in
+      (subst F (c.in-Ok.ensures.accepted L st none) w.3, c.in-Ok.ensures.stands L st))) c.close.ensures.ok

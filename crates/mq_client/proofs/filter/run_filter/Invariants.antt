@@ -1,0 +1,17 @@
+use Rattle.std.proofs.Common.{◌+◌, ◌*◌, ◌≤◌, ℕ, List, length}
+use Rattle.std.specs.Io.KnownBytes.{Consumes}
+use Rattle.mq_line.specs.Text.{IsLine}
+use Rattle.mq_client.specs.Loop.{SoFar}
+use Rattle.mq_client.proofs.filter.run_filter.Given as goal
+
+-- the lines of the bytes that were read were handled, but for a cut one that is held
+abbrev pub invariant-loop-read : goal.invariant-loop-read
+invariant-loop-read g l = record {
+  bytes : List ℕ;
+  consumed : Consumes (g.S.Source.remaining l.initial.input) (g.S.Source.remaining l.input) bytes;
+  so_far : SoFar (record { sink = g.W.Sink.contents l.initial.output; told = g.K.Link.told l.initial.link; client = l.initial.client }) bytes l.feed l.filter
+      (g.W.Sink.contents l.output) (g.K.Link.told l.link) l.client;
+  held : IsLine l.feed;
+  reads : l._read ≤ length bytes;
+  count : l.filter.answers + length l.feed ≤ 4096 * l._read;
+}

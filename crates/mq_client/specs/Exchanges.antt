@@ -1,0 +1,126 @@
+-- The exchanges of one request: what each brought, and which reply decides.
+use Rattle.std.specs.Prelude.{◌≡◌, ℕ, ◌<◌, List, [], ◌∷◌, ◌++◌, length, Bool, true, false, Option, None, Some, is_some, if◌then◌else◌, ◌+◌}
+use Rattle.mq_frame.specs.Same.{same_id}
+use Rattle.mq_frame.specs.declared.message.Id.{Id}
+use Rattle.mq_frame.specs.declared.message.Request.{Request}
+use Rattle.mq_frame.specs.declared.message.Request.TheVariants.{Reserve, Settle, Release}
+use Rattle.mq_frame.specs.declared.message.Reply.{Reply}
+use Rattle.mq_frame.specs.declared.message.Reply.TheVariants.{Granted, Full, Settled, Released, Closed, Mismatch, TooMany, Conflict}
+use Rattle.mq_frame.specs.Spelling.{SpellsReply, request_body, frame}
+use Rattle.mq_client.specs.declared.link.Outcome.{Outcome}
+use Rattle.mq_client.specs.declared.link.Outcome.TheVariants.{Answered, Faulted}
+use Rattle.mq_client.specs.declared.link.Told.{Told}
+
+-- whether an exchange decides: it fails by what came, or since a growth was refused while what came
+-- was decoded, or it decides by a reply
+pub data Mark : Type 0 where
+  Fails : Mark
+  Refused : Mark
+  Decides : (reply : Reply) → Mark
+
+pub record Exchange : Type 0 where
+  pub request : Request
+  pub outcome : Outcome
+  pub mark : Mark
+
+abbrev pub decided_by : Mark → Option Reply
+decided_by Fails = None
+decided_by Refused = None
+decided_by (Decides reply) = Some reply
+
+-- the kinds that answer a reserve, with its id
+abbrev pub answers_reserve : Id → Reply → Bool
+answers_reserve id (Granted other used) = same_id id other
+answers_reserve id (Full other used cap) = same_id id other
+answers_reserve id (Closed other) = same_id id other
+answers_reserve id (Mismatch other) = same_id id other
+answers_reserve id (Conflict other) = same_id id other
+answers_reserve id _ = false
+
+-- the kinds that answer a settle or a release, with its id
+abbrev pub answers_closing : Id → Reply → Bool
+answers_closing id (Settled other count) = same_id id other
+answers_closing id (Released other held) = same_id id other
+answers_closing id (Closed other) = same_id id other
+answers_closing id (Mismatch other) = same_id id other
+answers_closing id (TooMany other held) = same_id id other
+answers_closing id (Conflict other) = same_id id other
+answers_closing id _ = false
+
+-- whether the reply decides the request
+abbrev pub decides : Request → Reply → Bool
+decides (Reserve id txn at login count) reply = answers_reserve id reply
+decides (Settle id txn at login count) reply = answers_closing id reply
+decides (Release id txn at login) reply = answers_closing id reply
+decides _ reply = false
+
+-- a body came that spells the reply
+abbrev pub Brings : Outcome → Reply → Type 0
+Brings (Answered body) reply = SpellsReply body reply
+Brings (Faulted fault) reply = ⊥
+
+-- what an exchange of the request that ended so may be marked: it fails only where nothing came that
+-- decides, or a growth was refused
+abbrev pub IsMarked : Request → Outcome → Mark → Type 0
+IsMarked request outcome Fails = (reply : Reply) → Brings outcome reply → decides request reply ≡ false
+IsMarked request outcome Refused = (reply : Reply) × Brings outcome reply
+IsMarked request outcome (Decides reply) = Brings outcome reply × (decides request reply ≡ true)
+
+-- an exchange of the request that fails, or that the reply decides
+pub record IsTry (request : Request) (x : Exchange) (decided : Option Reply) : Type 0 where
+  pub request_is : x.request ≡ request
+  pub marked : IsMarked request x.outcome x.mark
+  pub decided_is : decided_by x.mark ≡ decided
+
+-- In a group of exchanges the newest comes first.
+
+abbrev pub AreFailed : Request → List Exchange → Type 0
+AreFailed request [] = Unit {0}
+AreFailed request (x ∷ group) = IsTry request x None × AreFailed request group
+
+-- n exchanges of the request that fail, or fewer that fail and then one that the reply decides
+abbrev pub AreTries : ℕ → Request → List Exchange → Option Reply → Type 0
+AreTries n request group None = AreFailed request group × (length group ≡ n)
+AreTries n request [] (Some reply) = ⊥
+AreTries n request (x ∷ group) (Some reply) = IsTry request x (Some reply) × AreFailed request group × (length group < n)
+
+-- how many of the exchanges decide
+abbrev pub decisions : List Exchange → ℕ
+decisions [] = 0
+decisions (x ∷ group) = if is_some (decided_by x.mark) then decisions group + 1 else decisions group
+
+-- From the front of a queue, each request is tried, and the next one only where a reply decides. So far
+-- the exchanges are these, and these requests are left.
+pub data SendsSome (n : ℕ) (queue : List Request) : List Exchange → List Request → Type 0 where
+  NoneYet : SendsSome n queue [] queue
+  OneMore : (request : Request) (left : List Request) (group tries : List Exchange) (reply : Reply)
+      → SendsSome n queue group (request ∷ left) → AreTries n request tries (Some reply) → SendsSome n queue (tries ++ group) left
+
+-- no reply decides the request: all its tries fail, or a growth for its frame is refused
+abbrev pub IsUndecided : ℕ → Request → List Exchange → Type 0
+IsUndecided n request [] = Unit {0}
+IsUndecided n request (x ∷ tries) = AreTries n request (x ∷ tries) None
+
+-- sent from the front of the queue until it is empty, or until no reply decides a request, which stays first
+pub data Sends (n : ℕ) (queue : List Request) : List Exchange → List Request → Type 0 where
+  SendsAll : (group : List Exchange) → SendsSome n queue group [] → Sends n queue group []
+  StopsAt : (request : Request) (left : List Request) (group tries : List Exchange)
+      → SendsSome n queue group (request ∷ left) → IsUndecided n request tries → Sends n queue (tries ++ group) (request ∷ left)
+
+-- the exchanges of a request that one call sent: whether a reply decided it
+abbrev pub IsSent : ℕ → Request → List Exchange → Bool → Type 0
+IsSent n request tries true = (reply : Reply) × AreTries n request tries (Some reply)
+IsSent n request tries false = IsUndecided n request tries
+
+-- the frame of a request
+abbrev pub request_frame : Request → List ℕ
+request_frame request = frame (request_body request)
+
+-- an exchange as the link tells it
+abbrev pub told_of : Exchange → Told
+told_of x = record { frame = request_frame x.request; outcome = x.outcome }
+
+-- the exchanges of a group as the link tells them, the oldest first
+abbrev pub told_all : List Exchange → List Told
+told_all [] = []
+told_all (x ∷ group) = told_all group ++ told_of x ∷ []

@@ -1,0 +1,75 @@
+-- What the filter asks for and writes, by the lines that it reads. Of the lines after `config|ready`, and of
+-- steps, the newest comes first.
+use Rattle.std.specs.Prelude.{◌≡◌, ℕ, List, [], ◌∷◌, ◌++◌, length, codes, Bool, true, false, ◌&&◌, nat_le, if◌then◌else◌, Option, None, Some, count_by}
+use Rattle.std.specs.Str.{bytes_eq}
+use Rattle.mq_line.specs.Grammar.{Meaning, FilterLine}
+use Rattle.mq_line.specs.Results.{result_text}
+use Rattle.mq_line.specs.declared.results.Decision.{Decision}
+use Rattle.mq_line.specs.declared.results.Decision.TheVariants.{Proceed, RejectLimit, RejectService}
+use Rattle.mq_track.specs.Sessions.{Position, Unknown, LoggedIn, Sending, position, closing}
+use Rattle.mq_track.specs.declared.closing.Closing.{Closing}
+use Rattle.mq_client.specs.Exchanges.{Exchange}
+use Rattle.mq_client.specs.Past.{Ask, Close, Step, answer_of}
+use Rattle.mq_client.specs.declared.held.Asked.{Asked}
+use Rattle.mq_client.specs.declared.held.Asked.TheVariants as asked
+
+-- what becomes of a filter line: it passes, it is refused for want of an answer, or a recipient is asked for
+pub data Query : Type 0 where
+  Passes : Query
+  Refuses : Query
+  Asks : (txn at : ℕ) (login : List ℕ) → Query
+
+abbrev pub is_login : List ℕ → Bool
+is_login login = nat_le 1 (length login) && nat_le (length login) 255
+
+abbrev pub is_moment : ℕ → Bool
+is_moment at = nat_le 86400 at && nat_le at 32503680000
+
+-- without a login it passes; with one it asks, where login and open transaction are in range
+abbrev pub query_at : Position → Query
+query_at Unknown = Passes
+query_at (LoggedIn name) = Refuses
+query_at (Sending name txn at) = if is_login name && is_moment at then Asks txn at name else Refuses
+
+-- only recipients of the subsystem smtp-in ask
+abbrev pub query : List Meaning → (subsystem phase session : List ℕ) → Query
+query L subsystem phase session = if bytes_eq subsystem (codes "smtp-in") && bytes_eq phase (codes "rcpt-to") then query_at (position L session) else Passes
+
+abbrev pub decision_of : Asked → Decision
+decision_of asked.Granted = Proceed
+decision_of asked.Full = RejectLimit
+decision_of asked.Unavailable = RejectService
+
+-- the step that a query makes, where it makes one, and how it is answered
+abbrev pub Answers : Query → Option Step → Decision → Type 0
+Answers Passes step d = (step ≡ None) × (d ≡ Proceed)
+Answers Refuses step d = (step ≡ None) × (d ≡ RejectService)
+Answers (Asks txn at login) step d = (group : List Exchange) × (step ≡ Some (record { action = Ask txn at login; group = group })) × (d ≡ decision_of (answer_of group))
+
+-- the step that a closing makes
+abbrev pub Closes : Option Closing → Option Step → Type 0
+Closes None step = step ≡ None
+Closes (Some c) step = (group : List Exchange) × (step ≡ Some (record { action = Close c.txn c.end; group = group }))
+
+-- the step that a line makes, by the lines before it, and what is written for it
+abbrev pub Takes : List Meaning → Meaning → Option Step → List ℕ → Type 0
+Takes L (FilterLine seconds subsystem phase session token rest) step text = (d : Decision) × Answers (query L subsystem phase session) step d × (text ≡ result_text session token d)
+Takes L line step text = Closes (closing L line) step × (text ≡ [])
+
+abbrev pub push : {A : Type 0} → Option A → List A → List A
+push None xs = xs
+push (Some x) xs = x ∷ xs
+
+-- the steps that the lines make, and the results that are written for them
+abbrev pub Filters : List Meaning → List Step → List ℕ → Type 0
+Filters [] steps text = (steps ≡ []) × (text ≡ [])
+Filters (line ∷ L) steps text = (step : Option Step) × (before : List Step) × (written next : List ℕ)
+    × Filters L before written × Takes L line step next × (steps ≡ push step before) × (text ≡ written ++ next)
+
+abbrev pub is_filter : Meaning → Bool
+is_filter (FilterLine seconds subsystem phase session token rest) = true
+is_filter _ = false
+
+-- how many lines are answered
+abbrev pub answer_count : List Meaning → ℕ
+answer_count L = count_by is_filter L

@@ -1,0 +1,17 @@
+-- The ranges of what a client holds.
+use Rattle.std.specs.Prelude.{◌≡◌, ℕ, List, ◌≤◌, ◌+◌, length, Option, Some}
+use Rattle.std.specs.List.{AllByRecursion}
+use Rattle.mq_frame.specs.Range.{IsWithin, IsHost, IsRun, IsOrdinal, IsMoment, IsLogin, IsRequest}
+use Rattle.mq_client.specs.Past.{find}
+use Rattle.mq_client.specs.declared.held.Held.{Held}
+
+-- a live transaction in range: at most 1,000 of its recipients were let through
+pub record IsHeld (txn : ℕ) (h : Held) : Type 0 where
+  pub number : IsOrdinal txn
+  pub at : IsMoment h.at
+  pub login : IsLogin h.login
+  pub granted : h.granted ≤ 1000
+
+-- each of some live transactions is in range
+abbrev pub AllHeld : List (ℕ × Held) → Type 0
+AllHeld held = (txn : ℕ) (h : Held) → find held txn ≡ Some h → IsHeld txn h

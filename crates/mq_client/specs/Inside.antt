@@ -1,0 +1,25 @@
+-- What is so of every client, and what its callers see.
+use Rattle.std.specs.Prelude.{ℕ, ◌+◌, ◌≤◌, length}
+use Rattle.std.specs.List.{AllByRecursion}
+use Rattle.mq_frame.specs.Range.{IsWithin, IsHost, IsRun, IsRequest}
+use Rattle.mq_client.specs.Past.{State}
+use Rattle.mq_client.specs.Held.{AllHeld}
+use Rattle.mq_client.specs.declared.client.Client.TheInside.{Inside}
+
+abbrev pub state_of : Inside → State
+state_of c = record {
+    source = record { host = c.host; run = c.run };
+    tries = c.tries;
+    held = c.held.entries;
+    numbers = c.numbers;
+    waiting = c.outbox.items;
+  }
+
+pub record IsInside (c : Inside) : Type 0 where
+  pub host : IsHost c.host
+  pub run : IsRun c.run
+  pub tries : IsWithin 1 10 c.tries
+  pub places : length c.held.entries + length c.outbox.items ≤ 4096
+  pub numbers : c.numbers + length c.held.entries ≤ 4294967295
+  pub held : AllHeld c.held.entries
+  pub outbox : AllByRecursion IsRequest c.outbox.items

@@ -1,0 +1,10 @@
+pub mod Link
+pub mod Exchanges
+pub mod Past
+pub mod Held
+pub mod Inside
+pub mod Filter
+pub mod Run
+pub mod Loop
+pub mod Reading
+pub mod Turns

@@ -1,0 +1,17 @@
+-- The exchanges that a link tells.
+use Rattle.std.specs.Prelude.{◌≡◌, ℕ, List, ◌++◌, ⊤, Option, None, Some, Result, Ok, Err}
+use Rattle.mq_client.specs.declared.link.LinkFault.{LinkFault}
+use Rattle.mq_client.specs.declared.link.Outcome.{Outcome}
+use Rattle.mq_client.specs.declared.link.Outcome.TheVariants.{Answered, Faulted}
+use Rattle.mq_client.specs.declared.link.Told.{Told}
+
+-- how an exchange ended that answered this, with this reply body
+abbrev pub outcome_of : {X : Type 0} → Result X LinkFault → List ℕ → Outcome
+outcome_of (Ok x) body = Answered body
+outcome_of (Err fault) body = Faulted fault
+
+-- the exchanges that a link tells have grown by these, where it still tells them afterwards
+abbrev pub Tells : Option (List Told) → Option (List Told) → List Told → Type 0
+Tells (Some before) (Some after) more = after ≡ before ++ more
+Tells None (Some after) more = ⊥
+Tells before None more = ⊤

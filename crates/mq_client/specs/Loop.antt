@@ -1,0 +1,104 @@
+-- The loop over lines: where it stands, and what each of its parts does.
+use Rattle.std.specs.Prelude.{◌≡◌, ◌⊎◌, ℕ, List, [], ◌∷◌, ◌++◌, Bool, true, false, Option, None, Some}
+use Rattle.std.specs.Io.KnownBytes.{Appends}
+use Rattle.mq_line.specs.Grammar.{Meaning, ReadyLine, Reads}
+use Rattle.mq_line.specs.Results.{result_text}
+use Rattle.mq_line.specs.Text.{IsLine, Holds}
+use Rattle.mq_line.specs.declared.results.Decision.{Decision}
+use Rattle.mq_track.specs.Sessions.{fault as track_fault}
+use Rattle.mq_track.specs.State.{StandsAt as TracksAt}
+use Rattle.mq_track.specs.declared.fault.TrackFault.{TrackFault}
+use Rattle.mq_track.specs.declared.fault.TrackFault.TheVariants as track
+use Rattle.mq_client.specs.Link.{Tells}
+use Rattle.mq_client.specs.Exchanges.{told_all}
+use Rattle.mq_client.specs.Past.{Step, State, Makes, MakesAll, told_steps}
+use Rattle.mq_client.specs.Filter.{query, Answers, answer_count}
+use Rattle.mq_client.specs.Run.{Stage, Waiting, Running, Reaches, HasText, Origin, StopsAt, is_early, is_stamped}
+use Rattle.mq_client.specs.declared.faults.FilterFault.{FilterFault}
+use Rattle.mq_client.specs.declared.faults.FilterFault.TheVariants as fault
+use Rattle.mq_client.specs.declared.filter.Early.{Early}
+use Rattle.mq_client.specs.declared.filter.Early.TheVariants as early
+use Rattle.mq_client.specs.declared.filter.Filter.{Filter}
+use Rattle.mq_client.specs.declared.link.Told.{Told}
+
+-- the filter has come to the stage
+abbrev pub IsAt : Filter → Stage → Type 0
+IsAt f Waiting = (f.is_ready ≡ false) × TracksAt f.tracker [] × (f.answers ≡ 0)
+IsAt f (Running L) = (f.is_ready ≡ true) × TracksAt f.tracker L × (f.answers ≡ answer_count L)
+
+-- a client made one step, or none
+abbrev pub MakesOne : State → State → Option Step → Type 0
+MakesOne old new None = new ≡ old
+MakesOne old new (Some x) = Makes old new x
+
+abbrev pub told_one : Option Step → List Told
+told_one None = []
+told_one (Some x) = told_all x.group
+
+-- what was done for a line: a step, or none, and a text
+pub record Does (sink sink' : Option (List ℕ)) (told told' : Option (List Told)) (client client' : State) (step : Option Step) (text : List ℕ) : Type 0 where
+  pub written : Appends sink sink' text
+  pub exchanged : Tells told told' (told_one step)
+  pub made : MakesOne client client' step
+
+-- so far these bytes came, of which the last aren't handled yet
+pub record SoFar (o : Origin) (bytes left : List ℕ) (f : Filter) (sink : Option (List ℕ)) (told : Option (List Told)) (client : State) : Type 0 where
+  pub lines : List (List ℕ)
+  pub stage : Stage
+  pub steps : List Step
+  pub text : List ℕ
+  pub whole : Holds bytes lines left
+  pub reaches : Reaches lines stage
+  pub is_at : IsAt f stage
+  pub has_text : HasText stage steps text
+  pub written : Appends o.sink sink text
+  pub exchanged : Tells o.told told (told_steps steps)
+  pub made : MakesAll o.client client steps
+
+-- what a request of smtpd makes and is answered by
+abbrev pub Replies : List Meaning → (subsystem phase session token : List ℕ) → Option Step → List ℕ → Type 0
+Replies L subsystem phase session token step text = (d : Decision) × Answers (query L subsystem phase session) step d × (text ≡ result_text session token d)
+
+-- the faults that may cut a line's work short
+abbrev pub IsCut : FilterFault → (write_failed : Bool) → Type 0
+IsCut fault.Write write_failed = write_failed ≡ true
+IsCut fault.Memory write_failed = Unit {0}
+IsCut f write_failed = ⊥
+
+-- what a line before `config|ready` is
+abbrev pub IsSorted : Meaning → Early → Type 0
+IsSorted m early.Passed = is_early m ≡ true
+IsSorted m early.Ready = m ≡ ReadyLine
+IsSorted m early.TooEarly = is_stamped m ≡ true
+
+-- a fault of the tracker as the filter's
+abbrev pub filter_fault : TrackFault → FilterFault
+filter_fault track.Auth = fault.Track track.Auth
+filter_fault track.Message = fault.Track track.Message
+filter_fault track.Exhausted = fault.Track track.Exhausted
+filter_fault track.Memory = fault.Memory
+
+-- why a line isn't noted
+abbrev pub IsRefused : FilterFault → List Meaning → Meaning → Type 0
+IsRefused (fault.Track f) L m = track_fault L m ≡ Some f
+IsRefused fault.Memory L m = Unit {0}
+IsRefused f L m = ⊥
+
+-- a line that says m was handled: the filter has come further
+abbrev pub Carries : Meaning → (f f' : Filter) (sink sink' : Option (List ℕ)) (told told' : Option (List Told)) (client client' : State) → Type 0
+Carries m f f' sink sink' told told' client client' = (o : Origin) (bytes line rest : List ℕ) → IsLine line → Reads line m
+    → SoFar o bytes (line ++ 10 ∷ rest) f sink told client → SoFar o bytes rest f' sink' told' client'
+
+-- the filter stopped at a line that says m
+abbrev pub Halts : Meaning → FilterFault → Filter → (sink sink' : Option (List ℕ)) (write_failed : Bool) (told told' : Option (List Told)) (client client' : State) → Type 0
+Halts m fault f sink sink' write_failed told told' client client' = (o : Origin) (bytes line rest : List ℕ) (source : Option (List ℕ)) (read_failed : Bool) → IsLine line → Reads line m
+    → SoFar o bytes (line ++ 10 ∷ rest) f sink told client → StopsAt o bytes source sink' read_failed write_failed told' client' fault
+
+-- some of the bytes that are held were handled
+abbrev pub CarriesHeld : (held held' : List ℕ) (f f' : Filter) (sink sink' : Option (List ℕ)) (told told' : Option (List Told)) (client client' : State) → Type 0
+CarriesHeld held held' f f' sink sink' told told' client client' = (o : Origin) (bytes : List ℕ) → SoFar o bytes held f sink told client → SoFar o bytes held' f' sink' told' client'
+
+-- the filter stopped among the bytes that are held
+abbrev pub HaltsHeld : (held : List ℕ) → FilterFault → Filter → (sink sink' : Option (List ℕ)) (write_failed : Bool) (told told' : Option (List Told)) (client client' : State) → Type 0
+HaltsHeld held fault f sink sink' write_failed told told' client client' = (o : Origin) (bytes : List ℕ) (source : Option (List ℕ)) (read_failed : Bool)
+    → SoFar o bytes held f sink told client → StopsAt o bytes source sink' read_failed write_failed told' client' fault

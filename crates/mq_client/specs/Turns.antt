@@ -1,0 +1,42 @@
+-- The next exchange of a step.
+use Rattle.std.specs.Prelude.{◌≡◌, ℕ, ◌+◌, ◌*◌, ◌≤◌, List, [], ◌∷◌, ◌++◌, length, Bool, nat_le, if◌then◌else◌, Option, None, Some, is_some, slice_get}
+use Rattle.mq_frame.specs.declared.message.Request.{Request}
+use Rattle.mq_client.specs.Exchanges.{Mark, Exchange, decided_by, decisions, IsMarked}
+use Rattle.mq_client.specs.Past.{Source, Action, Ask, Close, Drain, View, reserve_of, closing_of, refuses, held_by, held_for}
+use Rattle.mq_track.specs.declared.closing.CloseEnd.{CloseEnd}
+use Rattle.mq_client.specs.declared.held.Held.{Held}
+use Rattle.mq_client.specs.declared.link.Outcome.{Outcome}
+
+-- how many exchanges failed since the last one that decided
+abbrev pub failures : List Exchange → ℕ
+failures [] = 0
+failures (x ∷ group) = if is_some (decided_by x.mark) then 0 else failures group + 1
+
+-- the requests that an action sends, in order
+abbrev pub queue_of : Source → View → Option Held → Action → List Request
+queue_of s v held (Ask txn at login) = if refuses held (length v.live) v.numbers (length v.waiting) at login then [] else reserve_of s (v.numbers + 1) txn at login ∷ []
+queue_of s v None (Close txn end) = []
+queue_of s v (Some h) (Close txn end) = v.waiting ++ closing_of s (v.numbers + 1) txn end h ∷ []
+queue_of s v held Drain = v.waiting
+
+-- the next request of a queue: the first that no exchange decided, up to so many times
+abbrev pub next_of : (tries : ℕ) → List Request → List Exchange → Option Request
+next_of tries queue group = if nat_le tries (failures group) then None else slice_get queue (decisions group)
+
+-- the request of the next exchange of an action, after its exchanges so far
+abbrev pub next : Source → (tries : ℕ) → View → Action → List Exchange → Option Request
+next s tries v action group = next_of tries (queue_of s v (held_for v action) action) group
+
+-- each exchange was the next one when it came
+abbrev pub ComeInTurn : (tries : ℕ) → List Request → List Exchange → Type 0
+ComeInTurn tries queue [] = Unit {0}
+ComeInTurn tries queue (x ∷ group) = (next_of tries queue group ≡ Some x.request) × IsMarked x.request x.outcome x.mark × ComeInTurn tries queue group
+
+-- how an exchange ended, and whether it decided
+pub record Ending : Type 0 where
+  pub outcome : Outcome
+  pub mark : Mark
+
+abbrev pub outcomes : List Exchange → List Ending
+outcomes [] = []
+outcomes (x ∷ group) = record { outcome = x.outcome; mark = x.mark } ∷ outcomes group

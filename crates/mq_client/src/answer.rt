@@ -1,0 +1,134 @@
+//! The answer to one request of smtpd.
+ghost use Rattle.std.specs.Prelude.{◌≡◌, ◌<◌, ◌++◌, ◌&&◌, ◌⊎◌, [], ℕ, List, Option, None, codes, IfOk, OnOk, OnErr, IfErr};
+ghost use Rattle.std.specs.Str.{bytes_eq};
+ghost use Rattle.mq_track.specs.Sessions.{Sending};
+ghost use Rattle.mq_track.specs.State.{StandsAt};
+ghost use Rattle.mq_line.specs.Grammar.{Meaning};
+ghost use Rattle.mq_client.specs.Link.{Tells};
+ghost use Rattle.mq_client.specs.Past.{Step};
+ghost use Rattle.mq_client.specs.Filter.{is_login, is_moment, query_at, query, decision_of as decision_lem, Answers};
+ghost use Rattle.mq_client.specs.Loop.{MakesOne, told_one, Does, Replies, IsCut};
+
+use crate::client::Client;
+use crate::faults::{FilterFault, Memory};
+use crate::held::Asked;
+use crate::link::Link;
+use crate::put::put;
+use log::Log;
+use mq_frame::{Failed, Sink};
+use mq_line::{Decision, write_result};
+use mq_track::{Standing, Tracker};
+use std::alloc::Global;
+
+/// A request of smtpd.
+#[derive(Clone, Copy)]
+pub struct Inquiry<'a> {
+    pub subsystem: &'a [u8],
+    pub phase: &'a [u8],
+    pub session: &'a [u8],
+    pub token: &'a [u8],
+}
+
+/// Whether login and moment are such that a recipient can be asked for.
+fn may_ask(name: &[u8], at: u64) -> bool
+    ensures { result ≡ (is_login name.now && is_moment at) }
+{
+    !name.is_empty() && name.len() <= 255 && at >= 86_400 && at <= 32_503_680_000
+}
+
+fn is_recipient(subsystem: &[u8], phase: &[u8]) -> bool
+    ensures { result ≡ (bytes_eq subsystem.now (codes "smtp-in") && bytes_eq phase.now (codes "rcpt-to")) }
+{
+    subsystem == b"smtp-in".as_slice() && phase == b"rcpt-to".as_slice()
+}
+
+fn decision_of(answer: Asked) -> Decision
+    ensures { result ≡ decision_lem answer }
+{
+    match answer {
+        Asked::Granted => Decision::Proceed,
+        Asked::Full => Decision::RejectLimit,
+        Asked::Unavailable => Decision::RejectService,
+    }
+}
+
+/// Asks for a recipient of the transaction that is open in a session.
+fn ask<R: Log, K: Link>(
+    rt: &R,
+    name: &[u8],
+    txn: u32,
+    at: u64,
+    link: &mut K,
+    client: &mut Client,
+) -> Result<Decision, Memory>
+    requires { 0 < txn }
+    ensures ok { IfOk result (λ d. (step : Option Step) × Tells (K.told link.old) (K.told link.new) (told_one step)
+        × MakesOne client.old client.new step × Answers (query_at (Sending name.now txn at)) step d) }
+    ensures client { OnErr result (client.new ≡ client.old) }
+    ensures link { OnErr result (link.new ≡ link.old) }
+{
+    if !may_ask(name, at) {
+        return Ok(Decision::RejectService);
+    }
+    match client.reserve(rt, link, txn, at, name) {
+        Ok(answer) => Ok(decision_of(answer)),
+        Err(refused) => Err(refused),
+    }
+}
+
+/// Decides on a request of smtpd.
+fn decide<R: Log, K: Link>(
+    rt: &R,
+    tracker: &Tracker,
+    inquiry: Inquiry<'_>,
+    link: &mut K,
+    client: &mut Client,
+) -> Result<Decision, Memory>
+    ensures ok { IfOk result (λ d. (step : Option Step) × Tells (K.told link.old) (K.told link.new) (told_one step)
+        × MakesOne client.old client.new step
+        × ((L : List Meaning) → StandsAt tracker.now L → Answers (query L inquiry.entry.subsystem.now inquiry.entry.phase.now inquiry.entry.session.now) step d)) }
+    ensures client { OnErr result (client.new ≡ client.old) }
+    ensures link { OnErr result (link.new ≡ link.old) }
+{
+    if !is_recipient(inquiry.subsystem, inquiry.phase) {
+        return Ok(Decision::Proceed);
+    }
+    match tracker.standing(inquiry.session) {
+        Standing::Anonymous => Ok(Decision::Proceed),
+        Standing::Login { .. } => Ok(Decision::RejectService),
+        Standing::Open { name, txn, at } => ask(rt, name, txn, at, link, client),
+    }
+}
+
+/// Decides on a request of smtpd, and writes the result.
+pub fn answer<R: Log, W: Sink, K: Link>(
+    rt: &R,
+    alloc: Global,
+    tracker: &Tracker,
+    inquiry: Inquiry<'_>,
+    output: &mut W,
+    link: &mut K,
+    client: &mut Client,
+) -> Result<(), FilterFault>
+    ensures ok { OnOk result ((step : Option Step) × (text : List ℕ)
+        × Does (W.contents output.old) (W.contents output.new) (K.told link.old) (K.told link.new) client.old client.new step text
+        × ((L : List Meaning) → StandsAt tracker.now L → Replies L inquiry.entry.subsystem.now inquiry.entry.phase.now inquiry.entry.session.now inquiry.entry.token.now step text)) }
+    ensures fault { IfErr result (λ f. IsCut f (W.has_failed output.new)) }
+    ensures cut { OnErr result ((step : Option Step) × (front : List ℕ) × (rest : List ℕ)
+        × Does (W.contents output.old) (W.contents output.new) (K.told link.old) (K.told link.new) client.old client.new step front
+        × (((step ≡ None) × (front ++ rest ≡ [])) ⊎ ((L : List Meaning) → StandsAt tracker.now L →
+            Replies L inquiry.entry.subsystem.now inquiry.entry.phase.now inquiry.entry.session.now inquiry.entry.token.now step (front ++ rest)))) }
+{
+    let decision = match decide(rt, tracker, inquiry, link, client) {
+        Ok(decision) => decision,
+        Err(Memory) => return Err(FilterFault::Memory),
+    };
+    let mut text = Vec::new(alloc);
+    if write_result(inquiry.session, inquiry.token, decision, &mut text).is_err() {
+        return Err(FilterFault::Memory);
+    }
+    match put(output, text.as_slice()) {
+        Ok(()) => Ok(()),
+        Err(Failed) => Err(FilterFault::Write),
+    }
+}

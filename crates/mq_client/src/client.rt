@@ -1,0 +1,154 @@
+//! Numbered requests, each sent again under its number until a reply decides it.
+ghost use Rattle.std.specs.Prelude.{◌≡◌, ◌≤◌, ◌<◌, ◌+◌, ◌^◌, ℕ, List, [], length, IfOk, OnOk, OnErr};
+ghost use Rattle.mq_frame.specs.Range.{IsHost, IsRun, IsWithin, IsOrdinal, IsMoment, IsLogin};
+ghost use Rattle.mq_client.specs.Link.{Tells};
+ghost use Rattle.mq_client.specs.Exchanges.{Exchange, told_all};
+ghost use Rattle.mq_client.specs.Past.{Step, Ask, Close, Drain, StandsAt, Makes, view, answer_of};
+
+use crate::faults::Memory;
+use crate::held::{Asked, Held, answer_to, closing_request, count, hold, refuses, release, reserve_request};
+use crate::link::Link;
+use crate::tries::{send_all, try_all};
+use log::Log;
+use mq_frame::{Host, Request, encode_request};
+use mq_track::Closing;
+use std::alloc::Global;
+use std::collections::{BTreeMap, VecDeque};
+use std::marker::Model;
+
+/// The client of one run of a host's filter.
+///
+/// It holds each transaction from its first request until its closing, numbers its requests from 1
+/// on, and keeps the closings that no reply has decided yet, in order.
+#[derive(Drop)]
+pub struct Client {
+    alloc: Global,
+    host: Host,
+    run: u64,
+    tries: u32,
+    held: BTreeMap<u32, Held>,
+    numbers: u32,
+    outbox: VecDeque<Request>,
+}
+
+impl Model for Client {
+    ghost use Rattle.mq_client.specs.Past.{State};
+
+    ghost Value = { State };
+
+    ghost use Rattle.mq_client.specs.Inside.{IsInside, state_of};
+
+    ghost view = { state_of };
+
+    ghost invariant = { IsInside };
+}
+
+impl Client {
+    /// A client of that host and run, with no transaction and no number used, that sends each
+    /// request at most `tries` times.
+    pub fn new(alloc: Global, host: &Host, run: u64, tries: u32) -> Result<Client, Memory>
+        requires host { IsHost host.now }
+        requires run { IsRun run }
+        requires tries { IsWithin 1 10 tries }
+        ensures past { IfOk result (λ client. StandsAt client []) }
+        ensures source { IfOk result (λ client. client.source ≡ record { host = host.now; run = run }) }
+        ensures tries { IfOk result (λ client. client.tries ≡ tries) }
+    {
+        Ok(Client {
+            alloc,
+            host: host.clone()?,
+            run,
+            tries,
+            held: BTreeMap::new(alloc),
+            numbers: 0,
+            outbox: VecDeque::new(alloc),
+        })
+    }
+
+    /// How many transactions are live.
+    pub fn held_count(&self) -> usize
+        ensures { (P : List Step) → StandsAt self.now P → result ≡ length (view self.now.source P).live }
+    {
+        self.held.len()
+    }
+
+    /// How many closings wait.
+    pub fn outbox_count(&self) -> usize
+        ensures { (P : List Step) → StandsAt self.now P → result ≡ length (view self.now.source P).waiting }
+    {
+        self.outbox.len()
+    }
+
+    /// Asks whether a recipient of a transaction may go through. `txn` is 1 to 4,294,967,295, `at` is
+    /// 86,400 to 32,503,680,000 and `login` has 1 to 255 bytes.
+    ///
+    /// It is `Unavailable` with no exchange where the transaction is held with another login or
+    /// moment, or has let 1,000 recipients through; where it isn't held and held transactions and
+    /// waiting closings are 4,096; and where a number would be lacking for it or for a later closing.
+    /// On `Memory` nothing has changed and no exchange was made.
+    pub fn reserve<R: Log, L: Link>(
+        &mut self,
+        rt: &R,
+        link: &mut L,
+        txn: u32,
+        at: u64,
+        login: &[u8],
+    ) -> Result<Asked, Memory>
+        requires txn { IsOrdinal txn }
+        requires at { IsMoment at }
+        requires login { IsLogin login.now }
+        ensures ok { IfOk result (λ answer. (group : List Exchange) × Tells (L.told link.old) (L.told link.new) (told_all group)
+            × (answer ≡ answer_of group) × Makes self.old self.new (record { action = Ask txn at login.now; group = group })) }
+        ensures client { OnErr result (self.new ≡ self.old) }
+        ensures link { OnErr result (link.new ≡ link.old) }
+    {
+        if refuses(&self.held, self.numbers, self.outbox.len(), txn, at, login) {
+            return Ok(Asked::Unavailable);
+        }
+        let seq = self.numbers + 1;
+        let request = reserve_request(self.alloc, &self.host, self.run, seq, txn, at, login)?;
+        let mut frame = Vec::new(self.alloc);
+        encode_request(self.alloc, &request, &mut frame)?;
+        hold(self.alloc, &mut self.held, txn, at, login)?;
+        self.numbers = seq;
+        let decided = try_all(rt, self.alloc, link, &request, frame.as_slice(), self.tries);
+        let answer = answer_to(&decided);
+        count(&mut self.held, txn, answer);
+        Ok(answer)
+    }
+
+    /// Closes a transaction, if it is held, and sends what waits. On `Memory` nothing has changed and
+    /// no exchange was made.
+    pub fn close<R: Log, L: Link>(
+        &mut self,
+        rt: &R,
+        link: &mut L,
+        closing: Closing,
+    ) -> Result<(), Memory>
+        ensures ok { OnOk result ((group : List Exchange) × Tells (L.told link.old) (L.told link.new) (told_all group)
+            × Makes self.old self.new (record { action = Close closing.txn closing.end; group = group })) }
+        ensures client { OnErr result (self.new ≡ self.old) }
+        ensures link { OnErr result (link.new ≡ link.old) }
+    {
+        let Some(known) = self.held.get(&closing.txn) else {
+            return Ok(());
+        };
+        let seq = self.numbers + 1;
+        let request = closing_request(&self.host, self.run, seq, closing.txn, closing.end, known)?;
+        self.outbox.push_back(request)?;
+        release(&mut self.held, closing.txn);
+        self.numbers = seq;
+        send_all(rt, self.alloc, link, &mut self.outbox, self.tries);
+        Ok(())
+    }
+
+    /// Sends the closings that wait, and answers how many are left.
+    pub fn drain<R: Log, L: Link>(&mut self, rt: &R, link: &mut L) -> u32
+        ensures step { (group : List Exchange) × Tells (L.told link.old) (L.told link.new) (told_all group)
+            × Makes self.old self.new (record { action = Drain; group = group }) }
+        ensures left { (P : List Step) → StandsAt self.new P → result ≡ length (view self.new.source P).waiting }
+    {
+        send_all(rt, self.alloc, link, &mut self.outbox, self.tries);
+        self.outbox.len() as u32
+    }
+}

@@ -1,0 +1,59 @@
+//! What can go wrong.
+use mq_line::LineFault;
+use mq_track::TrackFault;
+use std::alloc::{AllocError, AllocFailed};
+use thiserror::Error;
+
+/// Memory for a growth was refused.
+#[derive(Clone, Copy, Debug, PartialEq, Eq, Error)]
+#[error("out of memory")]
+pub struct Memory;
+
+impl From<AllocError> for Memory {
+    fn from(_refused: AllocError) -> Memory {
+        Memory
+    }
+}
+
+impl<T: Drop> From<AllocFailed<T>> for Memory {
+    fn from(_refused: AllocFailed<T>) -> Memory {
+        Memory
+    }
+}
+
+impl From<mq_frame::Memory> for Memory {
+    fn from(_refused: mq_frame::Memory) -> Memory {
+        Memory
+    }
+}
+
+/// Why the filter stopped.
+#[derive(Clone, Copy, Debug, PartialEq, Eq, Error)]
+pub enum FilterFault {
+    /// A line that can't be read.
+    #[error("{0}")]
+    Line(LineFault),
+    /// A report that can't be accepted; want of memory is `Memory`.
+    #[error("{0}")]
+    Track(TrackFault),
+    /// A report or a request before `config|ready`.
+    #[error("line before config ready")]
+    NotReady,
+    /// The input ended before `config|ready`.
+    #[error("input ended before config ready")]
+    EndedEarly,
+    /// The input ended inside a line.
+    #[error("input ends inside a line")]
+    CutLine,
+    /// More than 65,536 bytes without an LF.
+    #[error("line too long")]
+    TooLong,
+    /// The input failed, or 1,099,511,627,776 reads were made.
+    #[error("read failed")]
+    Read,
+    /// The output failed.
+    #[error("write failed")]
+    Write,
+    #[error("out of memory")]
+    Memory,
+}

@@ -1,0 +1,345 @@
+//! The filter: what smtpd writes is read, and each of its requests is answered.
+ghost use Rattle.std.specs.Prelude.{◌≡◌, ◌≤◌, ◌<◌, ◌+◌, ◌*◌, ◌^◌, ◌++◌, ◌∷◌, [], ℕ, List, Option, Bool, None, Some, true, false, length, IfOk, OnOk, OnErr, IfErr, MatchBool, MatchResult};
+ghost use Rattle.std.specs.Io.KnownBytes.{Appends, Consumes, IsAtEnd};
+ghost use Rattle.mq_line.specs.Grammar.{Meaning, ReadyLine, meaning};
+ghost use Rattle.mq_line.specs.Results.{registration};
+ghost use Rattle.mq_line.specs.Text.{IsLine};
+ghost use Rattle.mq_track.specs.Sessions.{closing as closing_lem};
+ghost use Rattle.mq_track.specs.State.{StandsAt as TracksAt};
+ghost use Rattle.mq_client.specs.Link.{Tells};
+ghost use Rattle.mq_client.specs.Past.{Step, State};
+ghost use Rattle.mq_client.specs.Filter.{Closes};
+ghost use Rattle.mq_client.specs.declared.link.Told.{Told};
+ghost use Rattle.mq_client.specs.Run.{Origin, EndsWith, StopsAt};
+ghost use Rattle.mq_client.specs.Loop.{MakesOne, told_one, IsCut, IsSorted, IsRefused, filter_fault, Carries, Halts, CarriesHeld, HaltsHeld, SoFar};
+
+use crate::answer::{Inquiry, answer};
+use crate::client::Client;
+use crate::faults::FilterFault;
+use crate::link::Link;
+use crate::put::put;
+use log::Log;
+use mq_frame::{Failed, Sink, Source};
+use mq_line::{Line, LineFeed, read_line, write_registration};
+use mq_track::{Closing, TrackFault, Tracker};
+use std::alloc::Global;
+
+/// The most bytes of one read.
+const PIECE: usize = 4096;
+
+/// The most reads of one run.
+const READS: u64 = 1_099_511_627_776;
+
+/// How a run of the filter ended.
+#[derive(Clone, Copy, Debug, PartialEq, Eq)]
+pub struct Ended {
+    /// How many requests of smtpd were answered.
+    pub answers: u64,
+    /// How many closings wait still.
+    pub left: u32,
+}
+
+/// Where the loop over lines stands.
+#[derive(Drop)]
+struct Filter {
+    tracker: Tracker,
+    /// `config|ready` came.
+    is_ready: bool,
+    answers: u64,
+}
+
+/// Writes the registration.
+fn register<W: Sink>(alloc: Global, output: &mut W) -> Result<(), FilterFault>
+    ensures ok { OnOk result (Appends (W.contents output.old) (W.contents output.new) registration) }
+    ensures fault { IfErr result (λ f. IsCut f (W.has_failed output.new)) }
+    ensures cut { OnErr result ((front : List ℕ) × (rest : List ℕ) × (registration ≡ front ++ rest) × Appends (W.contents output.old) (W.contents output.new) front) }
+{
+    let mut text = Vec::new(alloc);
+    if write_registration(&mut text).is_err() {
+        return Err(FilterFault::Memory);
+    }
+    match put(output, text.as_slice()) {
+        Ok(()) => Ok(()),
+        Err(Failed) => Err(FilterFault::Write),
+    }
+}
+
+/// What a line before `config|ready` is.
+enum Early {
+    /// It is passed over.
+    Passed,
+    Ready,
+    /// A report or a request.
+    TooEarly,
+}
+
+fn early_of(line: &Line<'_>) -> Early
+    ensures { IsSorted (meaning line.now) result }
+{
+    match line {
+        Line::Config { .. } | Line::Other => Early::Passed,
+        Line::Ready => Early::Ready,
+        Line::Report { .. } | Line::Filter { .. } => Early::TooEarly,
+    }
+}
+
+fn fault_of(fault: TrackFault) -> FilterFault
+    ensures { result ≡ filter_fault fault }
+{
+    match fault {
+        TrackFault::Memory => FilterFault::Memory,
+        _ => FilterFault::Track(fault),
+    }
+}
+
+/// Passes a closing on.
+fn close<R: Log, K: Link>(
+    rt: &R,
+    closing: Option<Closing>,
+    link: &mut K,
+    client: &mut Client,
+) -> Result<(), FilterFault>
+    ensures ok { OnOk result ((step : Option Step) × Tells (K.told link.old) (K.told link.new) (told_one step) × MakesOne client.old client.new step × Closes closing step) }
+    ensures memory { OnErr result (result ≡ Err FilterFault.Memory) }
+    ensures client { OnErr result (client.new ≡ client.old) }
+    ensures link { OnErr result (link.new ≡ link.old) }
+{
+    match closing {
+        None => Ok(()),
+        Some(closing) => match client.close(rt, link, closing) {
+            Ok(()) => Ok(()),
+            Err(_) => Err(FilterFault::Memory),
+        },
+    }
+}
+
+/// Notes what a line tells of its session, and passes on the closing that it brings.
+fn note<R: Log, K: Link>(
+    rt: &R,
+    tracker: &mut Tracker,
+    line: &Line<'_>,
+    link: &mut K,
+    client: &mut Client,
+) -> Result<(), FilterFault>
+    ensures ok { OnOk result ((step : Option Step) × Tells (K.told link.old) (K.told link.new) (told_one step) × MakesOne client.old client.new step
+        × ((L : List Meaning) → TracksAt tracker.old L → Closes (closing_lem L (meaning line.now)) step × TracksAt tracker.new (meaning line.now ∷ L))) }
+    ensures fault { IfErr result (λ f. (L : List Meaning) → TracksAt tracker.old L → IsRefused f L (meaning line.now)) }
+    ensures client { OnErr result (client.new ≡ client.old) }
+    ensures link { OnErr result (link.new ≡ link.old) }
+{
+    match tracker.apply(line) {
+        Ok(closing) => close(rt, closing, link, client),
+        Err(fault) => Err(fault_of(fault)),
+    }
+}
+
+/// Handles a line before `config|ready`.
+fn wait<W: Sink>(
+    alloc: Global,
+    filter: &mut Filter,
+    line: &Line<'_>,
+    output: &mut W,
+) -> Result<(), FilterFault>
+    requires { filter.old.is_ready ≡ false }
+    ensures ok { OnOk result ((told : Option (List Told)) (client : State) →
+        Carries (meaning line.now) filter.old filter.new (W.contents output.old) (W.contents output.new) told told client client) }
+    ensures count { OnOk result (filter.new.answers ≡ filter.old.answers) }
+    ensures fault { IfErr result (λ f. (told : Option (List Told)) (client : State) →
+        Halts (meaning line.now) f filter.old (W.contents output.old) (W.contents output.new) (W.has_failed output.new) told told client client) }
+{
+    match early_of(line) {
+        Early::Passed => Ok(()),
+        Early::TooEarly => Err(FilterFault::NotReady),
+        Early::Ready => match register(alloc, output) {
+            Ok(()) => {
+                filter.is_ready = true;
+                Ok(())
+            }
+            Err(fault) => Err(fault),
+        },
+    }
+}
+
+/// Handles a line after `config|ready`.
+fn take<R: Log, W: Sink, K: Link>(
+    rt: &R,
+    alloc: Global,
+    filter: &mut Filter,
+    line: &Line<'_>,
+    output: &mut W,
+    link: &mut K,
+    client: &mut Client,
+) -> Result<(), FilterFault>
+    requires ready { filter.old.is_ready ≡ true }
+    requires count { filter.old.answers < 2 ^ 63 }
+    ensures ok { OnOk result (Carries (meaning line.now) filter.old filter.new (W.contents output.old) (W.contents output.new) (K.told link.old) (K.told link.new) client.old client.new) }
+    ensures count { OnOk result (filter.new.answers ≤ filter.old.answers + 1) }
+    ensures fault { IfErr result (λ f. Halts (meaning line.now) f filter.old (W.contents output.old) (W.contents output.new) (W.has_failed output.new) (K.told link.old) (K.told link.new) client.old client.new) }
+{
+    if let Line::Filter {
+        subsystem,
+        phase,
+        session,
+        token,
+        ..
+    } = *line
+    {
+        let inquiry = Inquiry {
+            subsystem,
+            phase,
+            session,
+            token,
+        };
+        return match answer(rt, alloc, &filter.tracker, inquiry, output, link, client) {
+            Ok(()) => {
+                filter.answers += 1;
+                Ok(())
+            }
+            Err(fault) => Err(fault),
+        };
+    }
+    match note(rt, &mut filter.tracker, line, link, client) {
+        Ok(()) => Ok(()),
+        Err(fault) => Err(fault),
+    }
+}
+
+/// Handles one line, which stands without its LF.
+fn handle<R: Log, W: Sink, K: Link>(
+    rt: &R,
+    alloc: Global,
+    filter: &mut Filter,
+    bytes: &[u8],
+    output: &mut W,
+    link: &mut K,
+    client: &mut Client,
+) -> Result<(), FilterFault>
+    requires line { IsLine bytes.now }
+    requires count { filter.old.answers < 2 ^ 63 }
+    ensures ok { OnOk result ((rest : List ℕ) → CarriesHeld (bytes.now ++ 10 ∷ rest) rest filter.old filter.new (W.contents output.old) (W.contents output.new) (K.told link.old) (K.told link.new) client.old client.new) }
+    ensures count { OnOk result (filter.new.answers ≤ filter.old.answers + 1) }
+    ensures fault { IfErr result (λ f. (rest : List ℕ) → HaltsHeld (bytes.now ++ 10 ∷ rest) f filter.old (W.contents output.old) (W.contents output.new) (W.has_failed output.new) (K.told link.old) (K.told link.new) client.old client.new) }
+{
+    let line = match read_line(bytes) {
+        Ok(line) => line,
+        Err(fault) => return Err(FilterFault::Line(fault)),
+    };
+    if filter.is_ready {
+        match take(rt, alloc, filter, &line, output, link, client) {
+            Ok(()) => Ok(()),
+            Err(fault) => Err(fault),
+        }
+    } else {
+        match wait(alloc, filter, &line, output) {
+            Ok(()) => Ok(()),
+            Err(fault) => Err(fault),
+        }
+    }
+}
+
+/// Handles each whole line that the feed holds.
+fn take_lines<R: Log, W: Sink, K: Link>(
+    rt: &R,
+    alloc: Global,
+    feed: &mut LineFeed,
+    filter: &mut Filter,
+    output: &mut W,
+    link: &mut K,
+    client: &mut Client,
+) -> Result<(), FilterFault>
+    requires { filter.old.answers + length feed.old < 2 ^ 63 }
+    ensures ok { OnOk result (CarriesHeld feed.old feed.new filter.old filter.new (W.contents output.old) (W.contents output.new) (K.told link.old) (K.told link.new) client.old client.new) }
+    ensures left { OnOk result (IsLine feed.new) }
+    ensures count { OnOk result (filter.new.answers + length feed.new ≤ filter.old.answers + length feed.old) }
+    ensures fault { IfErr result (λ f. HaltsHeld feed.old f filter.old (W.contents output.old) (W.contents output.new) (W.has_failed output.new) (K.told link.old) (K.told link.new) client.old client.new) }
+{
+    'lines: loop {
+        match feed.next_line() {
+            Ok(Some(line)) => match handle(rt, alloc, filter, line, output, link, client) {
+                Ok(()) => {}
+                Err(fault) => return Err(fault),
+            },
+            Ok(None) => return Ok(()),
+            Err(_) => return Err(FilterFault::TooLong),
+        }
+    }
+}
+
+/// Ends a run at the end of its input: what waits is sent once more.
+fn finish<R: Log, K: Link>(
+    rt: &R,
+    feed: &LineFeed,
+    filter: &Filter,
+    link: &mut K,
+    client: &mut Client,
+) -> Result<Ended, FilterFault>
+    requires { IsLine feed.now }
+    ensures ok { IfOk result (λ e. (o : Origin) (bytes : List ℕ) (sink : Option (List ℕ)) →
+        SoFar o bytes feed.now filter.now sink (K.told link.old) client.old → EndsWith o bytes sink (K.told link.new) client.new e) }
+    ensures fault { IfErr result (λ f. (o : Origin) (bytes : List ℕ) (source sink : Option (List ℕ)) (read_failed write_failed : Bool) → IsAtEnd source →
+        SoFar o bytes feed.now filter.now sink (K.told link.old) client.old → StopsAt o bytes source sink read_failed write_failed (K.told link.new) client.new f) }
+{
+    match feed.finish() {
+        Ok(()) => {}
+        Err(_) => return Err(FilterFault::CutLine),
+    }
+    if !filter.is_ready {
+        return Err(FilterFault::EndedEarly);
+    }
+    let left = client.drain(rt, link);
+    Ok(Ended {
+        answers: filter.answers,
+        left,
+    })
+}
+
+/// Reads what smtpd writes, answers each of its requests, and asks the quota server through `client`
+/// before a recipient is let through.
+///
+/// Lines are those of smtpd-filters(7), protocol 0.7. At `config|ready` the registration is written.
+/// Reads take at most 4,096 bytes, and every whole line is handled, its answer written and flushed,
+/// before the next read. At the end of the input what waits is sent once more. After
+/// 1,099,511,627,776 reads it answers `Read`.
+pub fn run_filter<R: Log, S: Source, W: Sink, K: Link>(
+    rt: &R,
+    alloc: Global,
+    input: &mut S,
+    output: &mut W,
+    link: &mut K,
+    client: &mut Client,
+) -> Result<Ended, FilterFault>
+    ensures ok { IfOk result (λ e. (bytes : List ℕ) × Consumes (S.remaining input.old) (S.remaining input.new) bytes × IsAtEnd (S.remaining input.new)
+        × EndsWith (record { sink = W.contents output.old; told = K.told link.old; client = client.old }) bytes (W.contents output.new) (K.told link.new) client.new e) }
+    ensures fault { IfErr result (λ f. (bytes : List ℕ) × Consumes (S.remaining input.old) (S.remaining input.new) bytes
+        × StopsAt (record { sink = W.contents output.old; told = K.told link.old; client = client.old }) bytes (S.remaining input.new) (W.contents output.new)
+            (S.has_failed input.new) (W.has_failed output.new) (K.told link.new) client.new f) }
+{
+    let mut feed = LineFeed::new(alloc);
+    let mut filter = Filter {
+        tracker: Tracker::new(alloc),
+        is_ready: false,
+        answers: 0,
+    };
+    let mut piece = [0u8; PIECE];
+    for _read in 0..READS {
+        let count = match input.read(&mut piece) {
+            Ok(count) => count,
+            Err(Failed) => return Err(FilterFault::Read),
+        };
+        if count == 0 {
+            match finish(rt, &feed, &filter, link, client) {
+                Ok(ended) => return Ok(ended),
+                Err(fault) => return Err(fault),
+            }
+        }
+        match feed.feed(&piece[..count]) {
+            Ok(()) => {}
+            Err(_) => return Err(FilterFault::Memory),
+        }
+        match take_lines(rt, alloc, &mut feed, &mut filter, output, link, client) {
+            Ok(()) => {}
+            Err(fault) => return Err(fault),
+        }
+    }
+    Err(FilterFault::Read)
+}

@@ -1,0 +1,22 @@
+//! The client of the quota server: numbered requests, each sent again unchanged until a reply
+//! decides it, and the filter loop that asks before a recipient is let through.
+//!
+//! `docs/CLIENT.md` has the rules.
+#![tactic(auto)]
+
+mod answer;
+mod client;
+mod faults;
+mod filter;
+mod held;
+mod link;
+mod put;
+mod script;
+mod tries;
+
+pub use client::Client;
+pub use faults::{FilterFault, Memory};
+pub use filter::{Ended, run_filter};
+pub use held::{Asked, Held};
+pub use link::{Bytes, Link, LinkFault, Outcome, Told};
+pub use script::ScriptLink;

@@ -1,0 +1,81 @@
+//! A link for tests: it ends each exchange as it was told to, and keeps the frames.
+ghost use Rattle.std.specs.Prelude.{◌≡◌, ◌∷◌, ◌++◌, [], true, List, OnErr};
+ghost use Rattle.mq_client.specs.Link.{outcome_of};
+
+use crate::link::{Bytes, Link, LinkFault, Outcome, Told};
+use std::alloc::Global;
+use std::collections::VecDeque;
+
+/// Ends each exchange by the next given outcome, is down after the last, and keeps the exchanges.
+/// It tells them as long as none was lost for want of memory.
+#[derive(Drop)]
+pub struct ScriptLink {
+    alloc: Global,
+    script: VecDeque<Outcome>,
+    kept: Vec<Told>,
+    tells: bool,
+}
+
+impl ScriptLink {
+    pub fn new(alloc: Global, script: VecDeque<Outcome>) -> ScriptLink
+        ensures kept { result.kept.items ≡ [] }
+        ensures tells { result.tells ≡ true }
+    {
+        ScriptLink {
+            alloc,
+            script,
+            kept: Vec::new(alloc),
+            tells: true,
+        }
+    }
+
+    /// The exchanges so far, the oldest first.
+    pub fn kept(&self) -> &[Told]
+        ensures { result.now ≡ self.now.kept.items }
+    {
+        self.kept.as_slice()
+    }
+}
+
+/// Keeps an exchange, and answers whether it could.
+fn keep(alloc: Global, kept: &mut Vec<Told>, frame: &[u8], outcome: Outcome) -> bool
+    ensures { result ≡ true → kept.new.items ≡ kept.old.items ++ record { frame = frame.now; outcome = outcome } ∷ [] }
+{
+    let Ok(frame) = Bytes::from_slice(alloc, frame) else {
+        return false;
+    };
+    kept.push(Told { frame, outcome }).is_ok()
+}
+
+/// The next outcome. A body that can't be copied is a fault.
+fn play(
+    script: &mut VecDeque<Outcome>,
+    reply: &mut Vec<u8>,
+) -> (Outcome, Result<(), LinkFault>)
+    ensures outcome { result.0 ≡ outcome_of result.1 reply.new.items }
+    ensures empty { OnErr result.1 (reply.new.items ≡ []) }
+{
+    reply.clear();
+    match script.pop_front() {
+        Some(Outcome::Answered(body)) => match reply.extend_from_slice(body.as_slice()) {
+            Ok(()) => (Outcome::Answered(body), Ok(())),
+            Err(_) => (Outcome::Faulted(LinkFault::Memory), Err(LinkFault::Memory)),
+        },
+        Some(Outcome::Faulted(fault)) => (Outcome::Faulted(fault), Err(fault)),
+        None => (Outcome::Faulted(LinkFault::Down), Err(LinkFault::Down)),
+    }
+}
+
+impl Link for ScriptLink {
+    ghost use Rattle.std.specs.Prelude.{if◌then◌else◌, None, Some};
+
+    ghost told = { λ s. if s.tells then Some s.kept.items else None };
+
+    fn exchange(&mut self, frame: &[u8], reply: &mut Vec<u8>) -> Result<(), LinkFault> {
+        let (outcome, answer) = play(&mut self.script, reply);
+        if !keep(self.alloc, &mut self.kept, frame, outcome) {
+            self.tells = false;
+        }
+        answer
+    }
+}
