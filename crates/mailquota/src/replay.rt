@@ -119,11 +119,15 @@ fn replay<W: Write>(
         Ok(connections) => connections,
         Err(fault) => return Err(ReplayFault::Text(fault)),
     };
-    let Answered { written, ends } =
-        match serve_connections(alloc, connections.as_slice(), default, zone) {
-            Ok(answered) => answered,
-            Err(fault) => return Err(ReplayFault::Serve(fault)),
-        };
+    let Answered { written, ends } = match serve_connections(
+        alloc,
+        connections.as_slice(),
+        default,
+        zone,
+    ) {
+        Ok(answered) => answered,
+        Err(fault) => return Err(ReplayFault::Serve(fault)),
+    };
     if let Err(fault) = write_hex_lines(alloc, output, written) {
         return Err(ReplayFault::Output(fault));
     }
