@@ -312,7 +312,7 @@ pub fn run_filter<R: Log, S: Source, W: Sink, K: Link>(
         × EndsWith (record { sink = W.contents output.old; told = K.told link.old; client = client.old }) bytes (W.contents output.new) (K.told link.new) client.new e) }
     ensures fault { IfErr result (λ f. (bytes : List ℕ) × Consumes (S.remaining input.old) (S.remaining input.new) bytes
         × StopsAt (record { sink = W.contents output.old; told = K.told link.old; client = client.old }) bytes (S.remaining input.new) (W.contents output.new)
-            (S.has_failed input.new) (W.has_failed output.new) (K.told link.new) client.new f) }
+        (S.has_failed input.new) (W.has_failed output.new) (K.told link.new) client.new f) }
 {
     let mut feed = LineFeed::new(alloc);
     let mut filter = Filter {
