@@ -11,7 +11,7 @@ use Rattle.mq_line.specs.Results.{registration}
 use Rattle.mq_line.specs.Text.{IsLine, Holds, text_of}
 use Rattle.mq_line.specs.declared.reading.Line.{Line}
 use Rattle.mq_line.specs.declared.reading.Line.TheVariants as line
-use Rattle.mq_track.specs.Sessions.{closing}
+use Rattle.mq_track.specs.Sessions.{closing, fault}
 use Rattle.mq_track.specs.State.{StandsAt, State as State'}
 use Rattle.mq_track.specs.declared.fault.TrackFault.{TrackFault}
 use Rattle.mq_client.specs.Link.{Tells}
@@ -235,12 +235,12 @@ first_of line rest one = record { is_line = one; rest = rest; whole = refl }
 -- ---- lines as the code has them
 
 -- a line that is no request makes the step of its closing, and nothing is written for it
-pub takes_noted : (L : List Meaning) (l : Line) (step : Option Step) → ((seconds : ℕ) (subsystem phase session token rest : Bor (List ℕ)) → l ≡ line.Filter seconds subsystem phase session token rest → ⊥) → Closes (closing L (meaning l)) step → Takes L (meaning l) step []
-takes_noted L (line.Config key value) step apart c = (c, refl)
-takes_noted L line.Ready step apart c = (c, refl)
-takes_noted L (line.Report seconds subsystem event session params) step apart c = (c, refl)
-takes_noted L (line.Filter seconds subsystem phase session token rest) step apart c = absurd (apart seconds subsystem phase session token rest refl)
-takes_noted L line.Other step apart c = (c, refl)
+pub takes_noted : (L : List Meaning) (l : Line) (step : Option Step) → ((seconds : ℕ) (subsystem phase session token rest : Bor (List ℕ)) → l ≡ line.Filter seconds subsystem phase session token rest → ⊥) → fault L (meaning l) ≡ None → Closes (closing L (meaning l)) step → Takes L (meaning l) step []
+takes_noted L (line.Config key value) step apart none c = (none, c, refl)
+takes_noted L line.Ready step apart none c = (none, c, refl)
+takes_noted L (line.Report seconds subsystem event session params) step apart none c = (none, c, refl)
+takes_noted L (line.Filter seconds subsystem phase session token rest) step apart none c = absurd (apart seconds subsystem phase session token rest refl)
+takes_noted L line.Other step apart none c = (none, c, refl)
 
 pub count_noted : (L : List Meaning) (l : Line) → ((seconds : ℕ) (subsystem phase session token rest : Bor (List ℕ)) → l ≡ line.Filter seconds subsystem phase session token rest → ⊥) → answer_count (meaning l ∷ L) ≡ answer_count L
 count_noted L (line.Config key value) apart = refl

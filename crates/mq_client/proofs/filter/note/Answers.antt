@@ -17,5 +17,5 @@ returns-in-Ok-clause-ok g c =
       λ L st.
           let none = accepted (fault L m) c.in-Ok.closing (c.in-Ok.ensures.refused L st) in
           let F : Option Closing → Type 0 = λ x. Closes x w.0 in
-          (subst F (c.in-Ok.ensures.accepted L st none) w.3, c.in-Ok.ensures.stands L st),
+          (none, subst F (c.in-Ok.ensures.accepted L st none) w.3, c.in-Ok.ensures.stands L st),
     )) c.close.ensures.ok

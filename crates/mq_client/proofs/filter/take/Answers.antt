@@ -39,7 +39,7 @@ returns-in-Ok-note g c =
     record {
       ok = carries_take (meaning l) f (record { tracker = c.note.new.tracker; is_ready = f.is_ready; answers = f.answers }) _ _ _ _ _ _ step [] c.requires.ready
           (record { written = Appends-none _; exchanged = told; made = made })
-          (λ L st. let n = notes L st in (takes_noted L l step apart n.0, n.1)) c.requires.ready (λ L e. e ∙ sym (count_noted L l apart));
+          (λ L st. let n = notes L st in (takes_noted L l step apart n.0 n.1, n.2)) c.requires.ready (λ L e. e ∙ sym (count_noted L l apart));
       count = omega arith;
       fault = tt;
     }
