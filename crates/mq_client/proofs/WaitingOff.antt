@@ -204,11 +204,11 @@ splits_some n queue group left all (OneMore r more before tries reply s t) =
       done = p.done ++ r ∷ [];
       whole = p.whole ∙ sym (append_assoc p.done (r ∷ []) left);
       decided = all_push (λ q. is_decided_by (tries ++ before) q ≡ true) p.done r
-        (all_map (λ q. is_decided_by before q ≡ true) (λ q. is_decided_by (tries ++ before) q ≡ true) p.done (λ q e. group_append tries before q ∙ or_true (is_decided_by tries q) _ e) p.decided)
-        (group_append tries before r ∙ or_first _ (is_decided_by before r) (tries_decide n r tries reply r t ∙ request_itself r closing));
+          (all_map (λ q. is_decided_by before q ≡ true) (λ q. is_decided_by (tries ++ before) q ≡ true) p.done (λ q e. group_append tries before q ∙ or_true (is_decided_by tries q) _ e) p.decided)
+          (group_append tries before r ∙ or_first _ (is_decided_by before r) (tries_decide n r tries reply r t ∙ request_itself r closing));
       others = λ q c h.
-        let (front, last) = all_both (λ x. seq_of x < seq_of q) p.done (r ∷ []) h in
-        group_append tries before q ∙ or_false _ _ (tries_decide n r tries reply q t ∙ other_request r q c last.0) (p.others q c front);
+          let (front, last) = all_both (λ x. seq_of x < seq_of q) p.done (r ∷ []) h in
+          group_append tries before q ∙ or_false _ _ (tries_decide n r tries reply q t ∙ other_request r q c last.0) (p.others q c front);
     }
 
 splits : (n : ℕ) (queue : List Request) (group : List Exchange) (left : List Request) → AllByRecursion IsClosing queue → Sends n queue group left → Splits queue group left
@@ -260,10 +260,10 @@ waits_sent dec closings queue left n group w p =
       done = w.done ++ p.done;
       whole = parts ∙ sym (append_assoc w.done p.done left);
       decided = all_joined (λ q. (is_decided_by group q || dec q) ≡ true) w.done p.done
-        (all_map (λ q. dec q ≡ true) (λ q. (is_decided_by group q || dec q) ≡ true) w.done (λ q e. or_true (is_decided_by group q) (dec q) e) w.decided)
-        (all_map (λ q. is_decided_by group q ≡ true) (λ q. (is_decided_by group q || dec q) ≡ true) p.done (λ q e. or_first (is_decided_by group q) (dec q) e) p.decided);
+          (all_map (λ q. dec q ≡ true) (λ q. (is_decided_by group q || dec q) ≡ true) w.done (λ q e. or_true (is_decided_by group q) (dec q) e) w.decided)
+          (all_map (λ q. is_decided_by group q ≡ true) (λ q. (is_decided_by group q || dec q) ≡ true) p.done (λ q e. or_first (is_decided_by group q) (dec q) e) p.decided);
       undecided = all_two (λ q. IsClosing q × ComesAfter p.done q) (λ q. dec q ≡ false) (λ q. (is_decided_by group q || dec q) ≡ false) left (λ q a b. or_false (is_decided_by group q) (dec q) (p.others q a.0 a.1) b)
-        (all_two IsClosing (ComesAfter p.done) (λ q. IsClosing q × ComesAfter p.done q) left (λ q a b. (a, b)) (all_both IsClosing p.done left closing_parts.1).1 (comes_after p.done left ordered)) open_parts.1;
+          (all_two IsClosing (ComesAfter p.done) (λ q. IsClosing q × ComesAfter p.done q) left (λ q a b. (a, b)) (all_both IsClosing p.done left closing_parts.1).1 (comes_after p.done left ordered)) open_parts.1;
       closing = w.closing;
       ascends = w.ascends;
       below = w.below;
@@ -275,10 +275,12 @@ waits_asked : (dec : Request → Bool) (closings waiting : List Request) (n m : 
 waits_asked dec closings waiting n m group w le quiet =
     let parts = all_both IsClosing w.done waiting (subst (AllByRecursion IsClosing) w.whole w.closing) in
     record {
-      done = w.done; whole = w.whole;
+      done = w.done;
+      whole = w.whole;
       decided = all_map (λ q. dec q ≡ true) (λ q. (is_decided_by group q || dec q) ≡ true) w.done (λ q e. or_true (is_decided_by group q) (dec q) e) w.decided;
       undecided = all_two IsClosing (λ q. dec q ≡ false) (λ q. (is_decided_by group q || dec q) ≡ false) waiting (λ q c e. or_false (is_decided_by group q) (dec q) (quiet q c) e) parts.1 w.undecided;
-      closing = w.closing; ascends = w.ascends;
+      closing = w.closing;
+      ascends = w.ascends;
       below = all_map (λ q. seq_of q ≤ n) (λ q. seq_of q ≤ m) closings (λ q h. omega (arith, h, le)) w.below;
       beyond = λ q c h. or_false (is_decided_by group q) (dec q) (quiet q c) (w.beyond q c (omega (arith, h, le)));
     }
@@ -335,4 +337,4 @@ pub waiting_read : (s : Source) (n : ℕ) (P : List Step) → IsPlayed s n P →
 waiting_read s n P p =
     let w = waits s n P p in
     sym (ap (filter (λ q. not (is_decided_in P q))) w.whole ∙ filter-append (λ q. not (is_decided_in P q)) w.done (view s P).waiting
-      ∙ ap (λ l. l ++ filter (λ q. not (is_decided_in P q)) (view s P).waiting) (none_kept (is_decided_in P) w.done w.decided) ∙ all_kept (is_decided_in P) (view s P).waiting w.undecided)
+    ∙ ap (λ l. l ++ filter (λ q. not (is_decided_in P q)) (view s P).waiting) (none_kept (is_decided_in P) w.done w.decided) ∙ all_kept (is_decided_in P) (view s P).waiting w.undecided)

@@ -11,16 +11,14 @@ ghost use Rattle.mq_client.specs.Turns.{queue_of, ComeInTurn, outcomes};
 pub fn few_at_a_time()
     ensures bounded { (s : Source) (tries : ℕ) (P : List Step) → IsPlayed s tries P → IsBounded (view s P) }
     ensures exchanges { (s : Source) (tries : ℕ) (P : List Step) (x : Step) → IsPlayed s tries P → Plays s tries P x → length x.group ≤ 4096 * tries }
-{
-}
+{}
 
 /// What a past leaves is what one reads off the whole list of its steps.
 pub fn readings()
     ensures standing { (s : Source) (P : List Step) (t : ℕ) → (view s P).standing t ≡ standing_in P t }
     ensures numbers { (s : Source) (P : List Step) → (view s P).numbers ≡ numbers_in P }
     ensures waiting { (s : Source) (tries : ℕ) (P : List Step) → IsPlayed s tries P → (view s P).waiting ≡ waiting_in s P }
-{
-}
+{}
 
 /// Each exchange of a step is the next one: its request follows from what stood before the step and
 /// from how its exchanges ended so far.
@@ -29,5 +27,4 @@ pub fn in_turn()
         ComeInTurn tries (queue_of s (view s P) (held_for (view s P) x.action) x.action) x.group }
     ensures same { (tries : ℕ) (queue : List Request) (g h : List Exchange) →
         ComeInTurn tries queue g → ComeInTurn tries queue h → outcomes g ≡ outcomes h → g ≡ h }
-{
-}
+{}

@@ -13,6 +13,8 @@ mod laws;
 mod link;
 mod put;
 mod script;
+#[cfg(test)]
+mod tests;
 mod tries;
 
 pub use client::Client;
