@@ -9,4 +9,4 @@ if [ "$reply" != 001381016100000000000000010000000100000001 ]; then
     echo 'this is not the granted reply' >&2
     exit 1
 fi
-echo 'host a, run 1, request 1: reserve 1 recipient for login u (limit 3): granted, 1 used that day'
+echo 'host a, run 1, number 1: reserve 1 recipient for login u (limit 3): granted, 1 used that day'

@@ -94,7 +94,7 @@ step_length s n v (Close txn end) group None e plays all b = rw plays (omega ari
 step_length s n v (Close txn end) group (Some h) e (left, sends) all b =
     let q = closing_of s (v.numbers + 1) txn end h in
     few n (length (v.waiting ++ q ∷ [])) (length group) (sends_length n _ group left sends)
-      (omega (arith, b.places, length_closed v txn all (ap is_some e), length-append v.waiting (q ∷ [])))
+    (omega (arith, b.places, length_closed v txn all (ap is_some e), length-append v.waiting (q ∷ [])))
 step_length s n v Drain group o e (left, sends) all b = few n (length v.waiting) (length group) (sends_length n v.waiting group left sends) (omega (arith, b.places))
 
 -- in every played past, the next step

@@ -7,3 +7,4 @@ pub mod Looping
 pub mod Bounding
 pub mod Turning
 pub mod ReadingOff
+pub mod WaitingOff

@@ -11,7 +11,7 @@ use Rattle.mq_line.specs.Results.{registration}
 use Rattle.mq_line.specs.Text.{IsLine, Holds, text_of}
 use Rattle.mq_line.specs.declared.reading.Line.{Line}
 use Rattle.mq_line.specs.declared.reading.Line.TheVariants as line
-use Rattle.mq_track.specs.Sessions.{closing}
+use Rattle.mq_track.specs.Sessions.{closing, fault}
 use Rattle.mq_track.specs.State.{StandsAt, State as State'}
 use Rattle.mq_track.specs.declared.fault.TrackFault.{TrackFault}
 use Rattle.mq_client.specs.Link.{Tells}
@@ -55,9 +55,9 @@ makes_push a b c steps (Some x) m n = record {
   source = n.source ∙ m.source;
   tries = n.tries ∙ m.tries;
   plays = λ P st.
-    let F : Source → Type 0 = λ s. Plays s b.tries (steps ++ P) x in
-    let G : ℕ → Type 0 = λ k. Plays a.source k (steps ++ P) x in
-    (subst G m.tries (subst F m.source (n.plays (steps ++ P) (m.stands P st))), m.plays P st);
+      let F : Source → Type 0 = λ s. Plays s b.tries (steps ++ P) x in
+      let G : ℕ → Type 0 = λ k. Plays a.source k (steps ++ P) x in
+      (subst G m.tries (subst F m.source (n.plays (steps ++ P) (m.stands P st))), m.plays P st);
   stands = λ P st. n.stands (steps ++ P) (m.stands P st);
 }
 
@@ -81,9 +81,9 @@ each-push P (y ∷ xs) x all h = (all.0, each-push P xs x all.1 h)
 pub holds_taken : (text : List ℕ) (taken : List (List ℕ)) (line rest : List ℕ) → IsLine line → Holds text taken (line ++ 10 ∷ rest) → Holds text (taken ++ line ∷ []) rest
 holds_taken text taken line rest one h = record {
   whole = h.whole
-    ∙ ap (λ (l : List ℕ). text_of taken ++ l) (sym (append_assoc line (10 ∷ []) rest))
-    ∙ sym (append_assoc (text_of taken) (line ++ 10 ∷ []) rest)
-    ∙ ap (λ (l : List ℕ). l ++ rest) (sym (text_of-push taken line));
+      ∙ ap (λ (l : List ℕ). text_of taken ++ l) (sym (append_assoc line (10 ∷ []) rest))
+      ∙ sym (append_assoc (text_of taken) (line ++ 10 ∷ []) rest)
+      ∙ ap (λ (l : List ℕ). l ++ rest) (sym (text_of-push taken line));
   each = each-push IsLine taken line h.each one;
 }
 
@@ -95,9 +95,13 @@ ready_new lines line all h = record { before = lines; ready = line; after = []; 
 
 ready_more : (lines : List (List ℕ)) (line : List ℕ) (L : List Meaning) (m : Meaning) → IsReady lines L → Reads line m → IsReady (lines ++ line ∷ []) (m ∷ L)
 ready_more lines line L m r h = record {
-  before = r.before; ready = r.ready; after = r.after ++ line ∷ [];
+  before = r.before;
+  ready = r.ready;
+  after = r.after ++ line ∷ [];
   whole = ap (λ l. l ++ line ∷ []) r.whole ∙ append_assoc r.before (r.ready ∷ r.after) (line ∷ []);
-  early = r.early; reads_ready = r.reads_ready; read = (r.after, line, refl, h, r.read);
+  early = r.early;
+  reads_ready = r.reads_ready;
+  read = (r.after, line, refl, h, r.read);
 }
 
 -- ---- where the filter stands
@@ -115,10 +119,17 @@ pub carries_early : (m : Meaning) (f : Filter) (sink : Option (List ℕ)) (told 
 carries_early m f sink told client h e = λ o bytes line rest one reads s.
     let is = at_waiting f s.stage h s.is_at in
     record {
-      lines = s.lines ++ line ∷ []; stage = s.stage; steps = s.steps; text = s.text;
+      lines = s.lines ++ line ∷ [];
+      stage = s.stage;
+      steps = s.steps;
+      text = s.text;
       whole = holds_taken bytes s.lines line rest one s.whole;
       reaches = rw is (early_more s.lines line (rw is at s.reaches) (m, reads, e));
-      is_at = s.is_at; has_text = s.has_text; written = s.written; exchanged = s.exchanged; made = s.made;
+      is_at = s.is_at;
+      has_text = s.has_text;
+      written = s.written;
+      exchanged = s.exchanged;
+      made = s.made;
     }
 
 -- `config|ready` is answered by the registration
@@ -129,13 +140,17 @@ carries_ready m f f' sink sink' told client h e app now tracker answers = λ o b
     let (never, tracks, none) = rw is at s.is_at in
     let (no_step, no_text) = rw is at s.has_text in
     record {
-      lines = s.lines ++ line ∷ []; stage = Running []; steps = s.steps; text = s.text ++ registration;
+      lines = s.lines ++ line ∷ [];
+      stage = Running [];
+      steps = s.steps;
+      text = s.text ++ registration;
       whole = holds_taken bytes s.lines line rest one s.whole;
       reaches = ready_new s.lines line (rw is at s.reaches) (rw e at reads);
       is_at = (now, rw tracker tracks, answers ∙ none);
       has_text = ([], (no_step, refl), ap (λ t. t ++ registration) no_text ∙ sym (append-nil registration));
       written = Appends-trans o.sink sink sink' s.text registration s.written app;
-      exchanged = s.exchanged; made = s.made;
+      exchanged = s.exchanged;
+      made = s.made;
     }
 
 -- a line after `config|ready`
@@ -149,7 +164,10 @@ carries_take m f f' sink sink' told told' client client' step text h does takes 
     let (taken, tracks') = takes L tracks in
     let (results, filters, whole) = rw is at s.has_text in
     record {
-      lines = s.lines ++ line ∷ []; stage = Running (m ∷ L); steps = push step s.steps; text = s.text ++ text;
+      lines = s.lines ++ line ∷ [];
+      stage = Running (m ∷ L);
+      steps = push step s.steps;
+      text = s.text ++ text;
       whole = holds_taken bytes s.lines line rest one s.whole;
       reaches = ready_more s.lines line L m (rw is at s.reaches) reads;
       is_at = (now, tracks', count L counted);
@@ -170,10 +188,18 @@ pub stops : (o : Origin) (bytes left : List ℕ) (f : Filter) (source sink sink'
     → ((stage : Stage) → IsAt f stage → IsInHand fault stage left step (front ++ rest))
     → StopsAt o bytes source sink' read_failed write_failed told' client' fault
 stops o bytes left f source sink sink' read_failed write_failed told told' client client' fault step front rest s does found in_hand = record {
-  lines = s.lines; left = left; stage = s.stage; steps = s.steps; text = s.text;
-  whole = s.whole; reaches = s.reaches; has_text = s.has_text;
+  lines = s.lines;
+  left = left;
+  stage = s.stage;
+  steps = s.steps;
+  text = s.text;
+  whole = s.whole;
+  reaches = s.reaches;
+  has_text = s.has_text;
   found = found s.stage s.is_at;
-  step = step; front = front; rest = rest;
+  step = step;
+  front = front;
+  rest = rest;
   in_hand = in_hand s.stage s.is_at;
   written = Appends-trans o.sink sink sink' s.text front s.written does.written;
   exchanged = told_push o.told told told' s.steps step s.exchanged does.exchanged;
@@ -209,12 +235,12 @@ first_of line rest one = record { is_line = one; rest = rest; whole = refl }
 -- ---- lines as the code has them
 
 -- a line that is no request makes the step of its closing, and nothing is written for it
-pub takes_noted : (L : List Meaning) (l : Line) (step : Option Step) → ((seconds : ℕ) (subsystem phase session token rest : Bor (List ℕ)) → l ≡ line.Filter seconds subsystem phase session token rest → ⊥) → Closes (closing L (meaning l)) step → Takes L (meaning l) step []
-takes_noted L (line.Config key value) step apart c = (c, refl)
-takes_noted L line.Ready step apart c = (c, refl)
-takes_noted L (line.Report seconds subsystem event session params) step apart c = (c, refl)
-takes_noted L (line.Filter seconds subsystem phase session token rest) step apart c = absurd (apart seconds subsystem phase session token rest refl)
-takes_noted L line.Other step apart c = (c, refl)
+pub takes_noted : (L : List Meaning) (l : Line) (step : Option Step) → ((seconds : ℕ) (subsystem phase session token rest : Bor (List ℕ)) → l ≡ line.Filter seconds subsystem phase session token rest → ⊥) → fault L (meaning l) ≡ None → Closes (closing L (meaning l)) step → Takes L (meaning l) step []
+takes_noted L (line.Config key value) step apart none c = (none, c, refl)
+takes_noted L line.Ready step apart none c = (none, c, refl)
+takes_noted L (line.Report seconds subsystem event session params) step apart none c = (none, c, refl)
+takes_noted L (line.Filter seconds subsystem phase session token rest) step apart none c = absurd (apart seconds subsystem phase session token rest refl)
+takes_noted L line.Other step apart none c = (none, c, refl)
 
 pub count_noted : (L : List Meaning) (l : Line) → ((seconds : ℕ) (subsystem phase session token rest : Bor (List ℕ)) → l ≡ line.Filter seconds subsystem phase session token rest → ⊥) → answer_count (meaning l ∷ L) ≡ answer_count L
 count_noted L (line.Config key value) apart = refl
@@ -271,7 +297,11 @@ ends o bytes held f sink told told' client client' group e s h none tells makes 
     let H : List ℕ → Type 0 = λ l. Holds bytes s.lines l in
     let A : List ℕ → Type 0 = λ t. Appends o.sink sink t in
     record {
-      lines = s.lines; after_ready = L; steps = s.steps; results = results; group = group;
+      lines = s.lines;
+      after_ready = L;
+      steps = s.steps;
+      results = results;
+      group = group;
       whole = subst H none s.whole;
       ready = rw is at s.reaches;
       filters = filters;
@@ -291,18 +321,34 @@ no_line = record { one = search rules; short = omega arith }
 pub so_far_start : (sink : Option (List ℕ)) (told : Option (List Told)) (client : State) (f : Filter) (held : List ℕ) → held ≡ [] → f.is_ready ≡ false → StandsAt f.tracker [] → f.answers ≡ 0
     → SoFar (record { sink = sink; told = told; client = client }) [] held f sink told client
 so_far_start sink told client f held none h tracks zero = record {
-  lines = []; stage = Waiting; steps = []; text = [];
-  whole = rw none (record { whole = refl; each = tt }); reaches = tt; is_at = (h, tracks, zero); has_text = (refl, refl);
-  written = Appends-none sink; exchanged = Tells-none told; made = makes_none client;
+  lines = [];
+  stage = Waiting;
+  steps = [];
+  text = [];
+  whole = rw none (record { whole = refl; each = tt });
+  reaches = tt;
+  is_at = (h, tracks, zero);
+  has_text = (refl, refl);
+  written = Appends-none sink;
+  exchanged = Tells-none told;
+  made = makes_none client;
 }
 
 -- a piece came
 pub so_far_fed : (o : Origin) (bytes held held' piece : List ℕ) (f : Filter) (sink : Option (List ℕ)) (told : Option (List Told)) (client : State) → held' ≡ held ++ piece
     → SoFar o bytes held f sink told client → SoFar o (bytes ++ piece) held' f sink told client
 so_far_fed o bytes held held' piece f sink told client e s = record {
-  lines = s.lines; stage = s.stage; steps = s.steps; text = s.text;
+  lines = s.lines;
+  stage = s.stage;
+  steps = s.steps;
+  text = s.text;
   whole = rw e (record { whole = ap (λ (l : List ℕ). l ++ piece) s.whole.whole ∙ append_assoc (text_of s.lines) held piece; each = s.whole.each });
-  reaches = s.reaches; is_at = s.is_at; has_text = s.has_text; written = s.written; exchanged = s.exchanged; made = s.made;
+  reaches = s.reaches;
+  is_at = s.is_at;
+  has_text = s.has_text;
+  written = s.written;
+  exchanged = s.exchanged;
+  made = s.made;
 }
 
 pub is_line_none : (held : List ℕ) → held ≡ [] → IsLine held

@@ -140,7 +140,7 @@ closed_nothing c txn end e =
       tries = refl;
       plays = λ P st. plays_alike c.source c.tries (Close txn end) [] _ _ _ _ _ _ _ _ (st.held txn) st.live st.numbers st.waiting (subst F (sym e) refl);
       stands = λ P st. let gone : held_by ((view c.source P).standing txn) ≡ None = sym (st.held txn) ∙ e in
-        record { held = rw gone st.held; live = rw gone st.live; numbers = rw gone st.numbers; waiting = rw gone st.waiting };
+          record { held = rw gone st.held; live = rw gone st.live; numbers = rw gone st.numbers; waiting = rw gone st.waiting };
     }
 
 gone_at : (v : View) (txn : ℕ) (st : Standing) (held new : List (ℕ × Held)) (t : ℕ) (b : Bool) → held_by st ≡ None → find new t ≡ (if b then None else find held t)
@@ -159,16 +159,16 @@ closed c d txn end h group source same e sends held len numbers =
       tries = same;
       plays = λ P st. plays_alike c.source c.tries (Close txn end) group _ _ _ _ _ _ _ _ (st.held txn) st.live st.numbers st.waiting (subst F (sym e) (d.waiting, sends));
       stands = λ P st. rw source (
-        let v : View = view c.source P in
-        let was : held_by (v.standing txn) ≡ Some h = sym (st.held txn) ∙ e in
-        let queue : c.waiting ++ closing_of c.source (c.numbers + 1) txn end h ∷ [] ≡ v.waiting ++ closing_of c.source (v.numbers + 1) txn end h ∷ [] =
-              ap (λ w. w ++ closing_of c.source (c.numbers + 1) txn end h ∷ []) st.waiting ∙ ap (λ k. v.waiting ++ closing_of c.source (k + 1) txn end h ∷ []) st.numbers in
-        record {
-          held = rw was (λ t. gone_at v txn (Ended end (v.numbers + 1) h) c.held d.held t (txn == t) refl (held t) st.held);
-          live = rw was (omega (arith, len, st.live, length_closed v txn (counted c.source P) (ap is_some was)));
-          numbers = rw was (numbers ∙ ap (λ i. i + 1) st.numbers);
-          waiting = rw was (sends_left c.tries _ group d.waiting sends ∙ ap (drop (decisions group)) queue);
-        });
+          let v : View = view c.source P in
+          let was : held_by (v.standing txn) ≡ Some h = sym (st.held txn) ∙ e in
+          let queue : c.waiting ++ closing_of c.source (c.numbers + 1) txn end h ∷ [] ≡ v.waiting ++ closing_of c.source (v.numbers + 1) txn end h ∷ [] =
+          ap (λ w. w ++ closing_of c.source (c.numbers + 1) txn end h ∷ []) st.waiting ∙ ap (λ k. v.waiting ++ closing_of c.source (k + 1) txn end h ∷ []) st.numbers in
+          record {
+            held = rw was (λ t. gone_at v txn (Ended end (v.numbers + 1) h) c.held d.held t (txn == t) refl (held t) st.held);
+            live = rw was (omega (arith, len, st.live, length_closed v txn (counted c.source P) (ap is_some was)));
+            numbers = rw was (numbers ∙ ap (λ i. i + 1) st.numbers);
+            waiting = rw was (sends_left c.tries _ group d.waiting sends ∙ ap (drop (decisions group)) queue);
+          });
     }
 
 pub drained : (c d : State) (group : List Exchange) → d.source ≡ c.source → d.tries ≡ c.tries → d.held ≡ c.held → d.numbers ≡ c.numbers → Sends c.tries c.waiting group d.waiting → Makes c d (record { action = Drain; group = group })

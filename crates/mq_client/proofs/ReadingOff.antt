@@ -42,7 +42,7 @@ IsLiveRead v P = (t : ℕ) → held_by (v.standing t) ≡ live_in P t
 
 ask_live : (t txn at : ℕ) (login : List ℕ) (answer : Asked) (v : View) (P : List Step) (b : Bool) → (txn == t) ≡ b → IsLiveRead v P
     → held_by (if b then Live (let_through answer (opened at login (held_by (v.standing txn)))) else v.standing t)
-      ≡ live_by (cons_option (if b then Some (one_ask login at answer) else None) (asks_of t P))
+    ≡ live_by (cons_option (if b then Some (one_ask login at answer) else None) (asks_of t P))
 ask_live t txn at login answer v P true e all =
     let F : Option Held → Option Held = λ o. Some (let_through answer (opened at login o)) in
     ap F (ap (λ k. held_by (v.standing k)) (eqb-true txn t e) ∙ all t) ∙ sym (live_more login at answer (asks_of t P))
@@ -91,7 +91,7 @@ IsRead v P = (t : ℕ) → v.standing t ≡ standing_in P t
 
 ask_read : (t txn at : ℕ) (login : List ℕ) (answer : Asked) (v : View) (P : List Step) (b : Bool) → (txn == t) ≡ b → IsLiveRead v P → IsRead v P
     → (if b then Live (let_through answer (opened at login (held_by (v.standing txn)))) else v.standing t)
-      ≡ live_or (live_by (cons_option (if b then Some (one_ask login at answer) else None) (asks_of t P))) (ended_in P t)
+    ≡ live_or (live_by (cons_option (if b then Some (one_ask login at answer) else None) (asks_of t P))) (ended_in P t)
 ask_read t txn at login answer v P true e all read = ap (λ o. live_or o (ended_in P t)) (ask_live t txn at login answer v P true e all)
 ask_read t txn at login answer v P false e all read = read t
 

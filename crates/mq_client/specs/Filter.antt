@@ -6,7 +6,7 @@ use Rattle.mq_line.specs.Grammar.{Meaning, FilterLine}
 use Rattle.mq_line.specs.Results.{result_text}
 use Rattle.mq_line.specs.declared.results.Decision.{Decision}
 use Rattle.mq_line.specs.declared.results.Decision.TheVariants.{Proceed, RejectLimit, RejectService}
-use Rattle.mq_track.specs.Sessions.{Position, Unknown, LoggedIn, Sending, position, closing}
+use Rattle.mq_track.specs.Sessions.{Position, Unknown, LoggedIn, Sending, position, closing, fault}
 use Rattle.mq_track.specs.declared.closing.Closing.{Closing}
 use Rattle.mq_client.specs.Exchanges.{Exchange}
 use Rattle.mq_client.specs.Past.{Ask, Close, Step, answer_of}
@@ -51,10 +51,10 @@ abbrev pub Closes : Option Closing → Option Step → Type 0
 Closes None step = step ≡ None
 Closes (Some c) step = (group : List Exchange) × (step ≡ Some (record { action = Close c.txn c.end; group = group }))
 
--- the step that a line makes, by the lines before it, and what is written for it
+-- the step that a line makes, by the lines before it, and what is written for it: one that the tracker refuses makes none
 abbrev pub Takes : List Meaning → Meaning → Option Step → List ℕ → Type 0
 Takes L (FilterLine seconds subsystem phase session token rest) step text = (d : Decision) × Answers (query L subsystem phase session) step d × (text ≡ result_text session token d)
-Takes L line step text = Closes (closing L line) step × (text ≡ [])
+Takes L line step text = (fault L line ≡ None) × Closes (closing L line) step × (text ≡ [])
 
 abbrev pub push : {A : Type 0} → Option A → List A → List A
 push None xs = xs

@@ -8,12 +8,12 @@ use Rattle.mq_client.specs.declared.client.Client.TheInside.{Inside}
 
 abbrev pub state_of : Inside → State
 state_of c = record {
-    source = record { host = c.host; run = c.run };
-    tries = c.tries;
-    held = c.held.entries;
-    numbers = c.numbers;
-    waiting = c.outbox.items;
-  }
+  source = record { host = c.host; run = c.run };
+  tries = c.tries;
+  held = c.held.entries;
+  numbers = c.numbers;
+  waiting = c.outbox.items;
+}
 
 pub record IsInside (c : Inside) : Type 0 where
   pub host : IsHost c.host

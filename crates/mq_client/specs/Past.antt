@@ -108,22 +108,22 @@ without txn (t ∷ live) = if t == txn then without txn live else t ∷ without 
 abbrev pub after_ask : ℕ → ℕ → List ℕ → List Exchange → View → View
 after_ask txn at login [] v = v
 after_ask txn at login (x ∷ group) v = record {
-    standing = set txn (Live (let_through (answer_of (x ∷ group)) (opened at login (held_by (v.standing txn))))) v.standing;
-    numbers = v.numbers + 1;
-    waiting = v.waiting;
-    live = with_asked txn (held_by (v.standing txn)) v.live;
-  }
+  standing = set txn (Live (let_through (answer_of (x ∷ group)) (opened at login (held_by (v.standing txn))))) v.standing;
+  numbers = v.numbers + 1;
+  waiting = v.waiting;
+  live = with_asked txn (held_by (v.standing txn)) v.live;
+}
 
 -- the close of a live transaction takes a number, and its request joins the end of those that wait; what was
 -- decided waits no longer
 abbrev pub after_close : Source → ℕ → CloseEnd → List Exchange → View → Option Held → View
 after_close s txn end group v None = v
 after_close s txn end group v (Some h) = record {
-    standing = set txn (Ended end (v.numbers + 1) h) v.standing;
-    numbers = v.numbers + 1;
-    waiting = drop (decisions group) (v.waiting ++ closing_of s (v.numbers + 1) txn end h ∷ []);
-    live = without txn v.live;
-  }
+  standing = set txn (Ended end (v.numbers + 1) h) v.standing;
+  numbers = v.numbers + 1;
+  waiting = drop (decisions group) (v.waiting ++ closing_of s (v.numbers + 1) txn end h ∷ []);
+  live = without txn v.live;
+}
 
 abbrev pub after : Source → View → Action → List Exchange → View
 after s v (Ask txn at login) group = after_ask txn at login group v
@@ -155,8 +155,8 @@ refuses None live numbers waiting at login = nat_le 4096 (live + waiting) || lac
 abbrev pub PlaysFrom : Source → (tries : ℕ) → Option Held → (live numbers : ℕ) → List Request → Action → List Exchange → Type 0
 PlaysFrom s tries held live numbers waiting (Ask txn at login) group =
     MatchBool (refuses held live numbers (length waiting) at login)
-      (group ≡ [])
-      ((decided : Option Reply) × AreTries tries (reserve_of s (numbers + 1) txn at login) group decided)
+    (group ≡ [])
+    ((decided : Option Reply) × AreTries tries (reserve_of s (numbers + 1) txn at login) group decided)
 PlaysFrom s tries None live numbers waiting (Close txn end) group = group ≡ []
 PlaysFrom s tries (Some h) live numbers waiting (Close txn end) group =
     (left : List Request) × Sends tries (waiting ++ closing_of s (numbers + 1) txn end h ∷ []) group left

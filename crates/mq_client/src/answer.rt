@@ -117,7 +117,7 @@ pub fn answer<R: Log, W: Sink, K: Link>(
     ensures cut { OnErr result ((step : Option Step) × (front : List ℕ) × (rest : List ℕ)
         × Does (W.contents output.old) (W.contents output.new) (K.told link.old) (K.told link.new) client.old client.new step front
         × (((step ≡ None) × (front ++ rest ≡ [])) ⊎ ((L : List Meaning) → StandsAt tracker.now L →
-            Replies L inquiry.entry.subsystem.now inquiry.entry.phase.now inquiry.entry.session.now inquiry.entry.token.now step (front ++ rest)))) }
+        Replies L inquiry.entry.subsystem.now inquiry.entry.phase.now inquiry.entry.session.now inquiry.entry.token.now step (front ++ rest)))) }
 {
     let decision = match decide(rt, tracker, inquiry, link, client) {
         Ok(decision) => decision,

@@ -6,7 +6,9 @@ ghost use Rattle.mq_client.specs.Exchanges.{Exchange, told_all};
 ghost use Rattle.mq_client.specs.Past.{Step, Ask, Close, Drain, StandsAt, Makes, view, answer_of};
 
 use crate::faults::Memory;
-use crate::held::{Asked, Held, answer_to, closing_request, count, hold, refuses, release, reserve_request};
+use crate::held::{
+    Asked, Held, answer_to, closing_request, count, hold, refuses, release, reserve_request,
+};
 use crate::link::Link;
 use crate::tries::{send_all, try_all};
 use log::Log;

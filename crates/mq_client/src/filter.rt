@@ -4,7 +4,7 @@ ghost use Rattle.std.specs.Io.KnownBytes.{Appends, Consumes, IsAtEnd};
 ghost use Rattle.mq_line.specs.Grammar.{Meaning, ReadyLine, meaning};
 ghost use Rattle.mq_line.specs.Results.{registration};
 ghost use Rattle.mq_line.specs.Text.{IsLine};
-ghost use Rattle.mq_track.specs.Sessions.{closing as closing_lem};
+ghost use Rattle.mq_track.specs.Sessions.{closing as closing_lem, fault as fault_lem};
 ghost use Rattle.mq_track.specs.State.{StandsAt as TracksAt};
 ghost use Rattle.mq_client.specs.Link.{Tells};
 ghost use Rattle.mq_client.specs.Past.{Step, State};
@@ -122,7 +122,8 @@ fn note<R: Log, K: Link>(
     client: &mut Client,
 ) -> Result<(), FilterFault>
     ensures ok { OnOk result ((step : Option Step) × Tells (K.told link.old) (K.told link.new) (told_one step) × MakesOne client.old client.new step
-        × ((L : List Meaning) → TracksAt tracker.old L → Closes (closing_lem L (meaning line.now)) step × TracksAt tracker.new (meaning line.now ∷ L))) }
+        × ((L : List Meaning) → TracksAt tracker.old L → (fault_lem L (meaning line.now) ≡ None)
+        × Closes (closing_lem L (meaning line.now)) step × TracksAt tracker.new (meaning line.now ∷ L))) }
     ensures fault { IfErr result (λ f. (L : List Meaning) → TracksAt tracker.old L → IsRefused f L (meaning line.now)) }
     ensures client { OnErr result (client.new ≡ client.old) }
     ensures link { OnErr result (link.new ≡ link.old) }
@@ -312,7 +313,7 @@ pub fn run_filter<R: Log, S: Source, W: Sink, K: Link>(
         × EndsWith (record { sink = W.contents output.old; told = K.told link.old; client = client.old }) bytes (W.contents output.new) (K.told link.new) client.new e) }
     ensures fault { IfErr result (λ f. (bytes : List ℕ) × Consumes (S.remaining input.old) (S.remaining input.new) bytes
         × StopsAt (record { sink = W.contents output.old; told = K.told link.old; client = client.old }) bytes (S.remaining input.new) (W.contents output.new)
-            (S.has_failed input.new) (W.has_failed output.new) (K.told link.new) client.new f) }
+        (S.has_failed input.new) (W.has_failed output.new) (K.told link.new) client.new f) }
 {
     let mut feed = LineFeed::new(alloc);
     let mut filter = Filter {

@@ -62,7 +62,9 @@ pub fn refuses(
     let live = held.len();
     let unused = (u32::MAX - numbers) as usize;
     match held.get(&txn) {
-        Some(known) => is_other(known, at, login) || known.granted >= RECIPIENTS || unused < 1 + live,
+        Some(known) => is_other(known, at, login)
+            || known.granted >= RECIPIENTS
+            || unused < 1 + live,
         None => live + waiting >= PLACES || unused < 2 + live,
     }
 }

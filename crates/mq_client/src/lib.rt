@@ -9,14 +9,18 @@ mod client;
 mod faults;
 mod filter;
 mod held;
+mod laws;
 mod link;
 mod put;
 mod script;
+#[cfg(test)]
+mod tests;
 mod tries;
 
 pub use client::Client;
 pub use faults::{FilterFault, Memory};
 pub use filter::{Ended, run_filter};
 pub use held::{Asked, Held};
+pub use laws::{few_at_a_time, in_turn, readings};
 pub use link::{Bytes, Link, LinkFault, Outcome, Told};
 pub use script::ScriptLink;

@@ -48,10 +48,7 @@ fn keep(alloc: Global, kept: &mut Vec<Told>, frame: &[u8], outcome: Outcome) -> 
 }
 
 /// The next outcome. A body that can't be copied is a fault.
-fn play(
-    script: &mut VecDeque<Outcome>,
-    reply: &mut Vec<u8>,
-) -> (Outcome, Result<(), LinkFault>)
+fn play(script: &mut VecDeque<Outcome>, reply: &mut Vec<u8>) -> (Outcome, Result<(), LinkFault>)
     ensures outcome { result.0 ≡ outcome_of result.1 reply.new.items }
     ensures empty { OnErr result.1 (reply.new.items ≡ []) }
 {

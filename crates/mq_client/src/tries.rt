@@ -141,13 +141,7 @@ fn warn_refused<R: Log>(rt: &R, reply: &Reply) {
 
 /// Sends a closing up to so many times, and answers whether a reply decided it. A refused growth for
 /// its frame is a failed try.
-fn send<R: Log, L: Link>(
-    rt: &R,
-    alloc: Global,
-    link: &mut L,
-    request: &Request,
-    tries: u32,
-) -> bool
+fn send<R: Log, L: Link>(rt: &R, alloc: Global, link: &mut L, request: &Request, tries: u32) -> bool
     requires { IsRequest request.now }
     ensures { (group : List Exchange) × Tells (L.told link.old) (L.told link.new) (told_all group) × IsSent tries request.now group result }
 {

@@ -1,6 +1,6 @@
 -- What a feed gives, by the bytes that it holds.
-use Rattle.std.proofs.Common.{◌≡◌, eqb, true, ℕ, ◌+◌, ◌-◌, ◌<◌, ◌≤◌, List, [], ◌∷◌, ◌++◌, length, get_or, take, drop, refl, sym, ap, ◌∙◌, subst, arith, append_assoc, append-nil, inl, inr}
-use Rattle.std.specs.Prelude.{Option, Some, None, slice_get}
+use Rattle.std.proofs.Common.{◌≡◌, eqb, true, ℕ, ◌+◌, ◌-◌, ◌<◌, List, [], ◌∷◌, ◌++◌, length, get_or, take, drop, refl, sym, ap, ◌∙◌, subst, arith, append_assoc, append-nil, inl, inr}
+use Rattle.std.specs.Prelude.{Some, None, slice_get}
 use Rattle.std.proofs.lemmas.Bool.{eqb-true}
 use Rattle.std.proofs.lemmas.List.{take_rest, drop-drop, length-append, get_or_at, get_or_append_left}
 use Rattle.mq_line.specs.Text.{IsLine, IsTooLong, Holds, HasNoLine, lines, left}

@@ -1,13 +1,13 @@
 -- A text cut at its bytes c.
-use Rattle.std.proofs.Common.{◌≡◌, ℕ, ◌+◌, ◌<◌, ◌≤◌, zero, suc, Bool, true, false, eqb, List, [], ◌∷◌, ◌++◌, length, get_or, take, drop, refl, sym, ap, ◌∙◌, arith, inl, inr}
-use Rattle.std.specs.Prelude.{◌≢◌, Option, Some, None}
+use Rattle.std.proofs.Common.{◌≡◌, ℕ, ◌+◌, ◌<◌, ◌≤◌, true, false, eqb, List, [], ◌∷◌, ◌++◌, length, get_or, take, drop, refl, sym, ap, ◌∙◌, arith, inl, inr}
+use Rattle.std.specs.Prelude.{◌≢◌}
 use Rattle.std.specs.List.{All, AllByRecursion, slice_split, onto_first}
 use Rattle.std.proofs.lemmas.Bool.{false_from_ne_true, cases_Bool, eqb-false, ne_eqb}
-use Rattle.std.proofs.lemmas.List.{get_or-take, get_or-drop, length-drop, get_or_default, length-take-le, take-append-drop, drop_more, drop-drop}
+use Rattle.std.proofs.lemmas.List.{get_or-take, get_or-drop, length-drop, get_or_default, length-take-le, take-append-drop, drop_more}
 use Rattle.std.proofs.lemmas.List.Elements.{All-head, All-tail, All-nil, All-cons}
 use Rattle.std.proofs.lemmas.List.Splits.{slice_split_at, slice_split_none, length-slice_split}
 use Rattle.bstr.specs.Find.{NoneBefore, NoneAfter, Nowhere, Passes, is_byte}
-use Rattle.mq_line.specs.Pieces.{pieces, joined, Lacks}
+use Rattle.mq_line.specs.Pieces.{pieces, Lacks}
 
 -- what stands before place k, where the byte doesn't
 none_before : (c : ℕ) (bytes : List ℕ) (k : ℕ) → k ≤ length bytes → Nowhere (Passes (is_byte c) bytes) 0 k → All (λ b. eqb b c ≡ false) (take k bytes)

@@ -1,10 +1,10 @@
 -- The seconds of a time, byte after byte.
-use Rattle.std.proofs.Common.{◌≡◌, ℕ, ◌+◌, ◌-◌, ◌*◌, ◌^◌, ◌<◌, ◌≤◌, Bool, true, false, ◌&&◌, cond, eqb, List, [], ◌∷◌, ◌++◌, length, get_or, take, drop, refl, sym, ap, ◌∙◌, arith, inl, inr, length-append}
-use Rattle.std.specs.Prelude.{◌⊎◌, Option, Some, None}
-use Rattle.std.specs.List.{All, list_all, slice_split, onto_first, join_with_byte}
+use Rattle.std.proofs.Common.{◌≡◌, ℕ, ◌+◌, ◌-◌, ◌*◌, ◌^◌, ◌<◌, ◌≤◌, Bool, true, false, cond, eqb, List, [], ◌∷◌, ◌++◌, length, get_or, take, drop, refl, sym, ap, ◌∙◌, arith, inl, inr, length-append}
+use Rattle.std.specs.Prelude.{◌⊎◌, Some, None}
+use Rattle.std.specs.List.{All, list_all, join_with_byte}
 use Rattle.std.specs.Char.{is_ascii_digit, digit_value}
 use Rattle.std.specs.Str.Parse.{AllDigits, digits_value}
-use Rattle.std.proofs.lemmas.Bool.{false_from_ne_true, cases_Bool, eqb-true, leb-true, lt-ltb, le-leb, false≢true, and_left, and_right, and_parts, and_from}
+use Rattle.std.proofs.lemmas.Bool.{false_from_ne_true, eqb-true, leb-true, lt-ltb, le-leb, false≢true, and_left, and_right, and_parts, and_from}
 use Rattle.std.proofs.lemmas.List.{length-take-le, take_all, take_rest}
 use Rattle.std.proofs.lemmas.List.Folds.{list_all_at, list_all_more, list_all-append}
 use Rattle.std.proofs.lemmas.List.Splits.{slice_split_at, slice_split_none, join_with_byte-slice_split}

@@ -1,5 +1,5 @@
 -- A text cut at a byte.
-use Rattle.std.specs.Prelude.{◌≡◌, ◌≢◌, ◌==◌, ℕ, List, [], Option, None, Some}
+use Rattle.std.specs.Prelude.{◌≢◌, ◌==◌, ℕ, List, [], Option, None, Some}
 use Rattle.std.specs.Borrow.{Bor}
 use Rattle.std.specs.List.{All, slice_split, join_with_byte}
 

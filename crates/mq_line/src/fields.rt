@@ -7,7 +7,7 @@ use crate::faults::LineFault;
 use bstr::ByteSlice;
 
 /// The first field, and what stands behind its bar where it has one.
-pub fn first_field<'a>(text: &'a [u8]) -> (&'a [u8], Option<&'a [u8]>)
+pub(crate) fn first_field<'a>(text: &'a [u8]) -> (&'a [u8], Option<&'a [u8]>)
     ensures { fields text.now ≡ result.0.now ∷ fields_left result.1 }
 {
     match text.find_byte(b'|') {
@@ -17,7 +17,7 @@ pub fn first_field<'a>(text: &'a [u8]) -> (&'a [u8], Option<&'a [u8]>)
 }
 
 /// What stands before the last bar, if anything does, and the last field.
-pub fn last_field<'a>(text: &'a [u8]) -> (&'a [u8], &'a [u8])
+pub(crate) fn last_field<'a>(text: &'a [u8]) -> (&'a [u8], &'a [u8])
     ensures { (others : List (List ℕ)) × (fields text.now ≡ others ++ result.1.now ∷ []) × (result.0.now ≡ joined others) }
 {
     match text.rfind_byte(b'|') {
@@ -27,7 +27,9 @@ pub fn last_field<'a>(text: &'a [u8]) -> (&'a [u8], &'a [u8])
 }
 
 /// The next field of what is left of a line, and what is left behind it. `Short` where nothing is left.
-pub fn next_field<'a>(left: Option<&'a [u8]>) -> Result<(&'a [u8], Option<&'a [u8]>), LineFault>
+pub(crate) fn next_field<'a>(
+    left: Option<&'a [u8]>,
+) -> Result<(&'a [u8], Option<&'a [u8]>), LineFault>
     ensures { MatchResult result (λ r. fields_left left.entry ≡ r.0.now ∷ fields_left r.1)
         (λ fault. (fault ≡ Short) × (fields_left left.entry ≡ [])) }
 {
@@ -38,7 +40,7 @@ pub fn next_field<'a>(left: Option<&'a [u8]>) -> Result<(&'a [u8], Option<&'a [u
 }
 
 /// What is left of a line, with the bars in it: nothing behind its last field.
-pub fn rest_of<'a>(left: Option<&'a [u8]>) -> &'a [u8]
+pub(crate) fn rest_of<'a>(left: Option<&'a [u8]>) -> &'a [u8]
     ensures { result.now ≡ joined (fields_left left.entry) }
 {
     match left {

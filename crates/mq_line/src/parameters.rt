@@ -37,8 +37,7 @@ fn auth_at_end<'a>(params: &'a [u8]) -> Option<(AuthResult, &'a [u8])>
     }
 }
 
-/// The result and the user name in the parameters of a link-auth, which may have them in either order:
-/// a release of smtpd writes the one or the other.
+/// The result and the user name in the parameters of a link-auth, which may stand in either order.
 ///
 /// The result is the first field where that is `pass`, `fail` or `error`, and then the rest is the name.
 /// Else it is the last field where that is one of these, and the name is what stands before its bar. The

@@ -1,5 +1,5 @@
 //! What a filter writes to smtpd.
-ghost use Rattle.std.specs.Prelude.{◌≡◌, ◌++◌, OnOk, OnErr, vec_len, take};
+ghost use Rattle.std.specs.Prelude.{◌≡◌, ◌+◌, ◌<◌, ◌++◌, OnOk, OnErr, length, vec_capacity, vec_len, take};
 ghost use Rattle.mq_line.specs.Results.{registration, answer as answer_lem, result_text};
 
 use crate::faults::Memory;
@@ -42,12 +42,15 @@ register|ready
 pub fn write_registration(out: &mut Vec<u8>) -> Result<(), Memory>
     ensures ok { OnOk result (out.new.items ≡ out.old.items ++ registration) }
     ensures err { OnErr result (out.new.items ≡ out.old.items) }
+    // Memory is answered only where the vector had to grow.
+    ensures full { OnErr result (vec_capacity out.old < vec_len out.old + length registration) }
 {
     out.extend_from_slice(REGISTRATION)?;
     Ok(())
 }
 
 /// Appends a result line, or a front of it where memory runs out.
+#[tactic(auto, using(crate::proofs::ResultLaws::result_length))]
 fn push_result(
     out: &mut Vec<u8>,
     session: &[u8],
@@ -56,6 +59,7 @@ fn push_result(
 ) -> Result<(), Memory>
     ensures ok { OnOk result (out.new.items ≡ out.old.items ++ result_text session.now token.now decision) }
     ensures front { take (vec_len out.old) out.new.items ≡ out.old.items }
+    ensures full { OnErr result (vec_capacity out.old < vec_len out.old + length (result_text session.now token.now decision)) }
 {
     out.extend_from_slice(b"filter-result|")?;
     out.extend_from_slice(session)?;
@@ -77,6 +81,8 @@ pub fn write_result(
 ) -> Result<(), Memory>
     ensures ok { OnOk result (out.new.items ≡ out.old.items ++ result_text session.now token.now decision) }
     ensures err { OnErr result (out.new.items ≡ out.old.items) }
+    // Memory is answered only where the vector had to grow.
+    ensures full { OnErr result (vec_capacity out.old < vec_len out.old + length (result_text session.now token.now decision)) }
 {
     let before = out.len();
     match push_result(out, session, token, decision) {

@@ -10,10 +10,10 @@ use Rattle.mq_frame.specs.declared.message.Reply.TheVariants.{Retry}
 use Rattle.mq_ledger.specs.declared.entry.Entry.{Entry}
 use Rattle.mq_ledger.specs.Legal.{Book, IsLegalBook}
 use Rattle.mq_ledger.specs.History.{requests}
-use Rattle.mq_ledger.specs.Answer.{build, reply, history_of, appended, answer}
+use Rattle.mq_ledger.specs.Answer.{build, reply, history_of, appended, answer, replies_after}
 use Rattle.mq_ledger.specs.Arrivals.{first}
 use Rattle.mq_ledger.specs.Day.{day_of}
-use Rattle.mq_server.specs.Delivery.{Delivery, asked, arrivals, history_after, answer_to, answers_after, answers}
+use Rattle.mq_server.specs.Delivery.{Delivery, asked, arrivals, history_after, answer_to, answers_after, answers, taken_answers_after, taken_answers}
 
 abbrev pub taken : Request → Delivery
 taken r = record { request = r; taken = true }
@@ -98,3 +98,27 @@ answers_after_push answer earlier (x ∷ ds) d =
 -- one answer more
 pub answers_push : (answer : List Delivery → Delivery → Reply) (ds : List Delivery) (d : Delivery) → answers answer (ds ++ d ∷ []) ≡ answers answer ds ++ answer ds d ∷ []
 answers_push answer ds d = answers_after_push answer [] ds d
+
+-- ---- the answers to arrivals
+
+abbrev made : Request → Bool → Delivery
+made r t = record { request = r; taken = t }
+
+replies_step : (b : Book) (earlier ds : List Delivery) (r : Request) (t : Bool)
+    → taken_answers_after (answer_to b) (earlier ++ made r t ∷ []) ds ≡ replies_after (day_of b.zone) b.default (requests b.history ++ arrivals (earlier ++ made r t ∷ [])) (arrivals ds)
+    → taken_answers_after (answer_to b) earlier (made r t ∷ ds) ≡ replies_after (day_of b.zone) b.default (requests b.history ++ arrivals earlier) (arrivals (made r t ∷ ds))
+replies_step b earlier ds r true h =
+    let more : requests b.history ++ arrivals (earlier ++ taken r ∷ []) ≡ (requests b.history ++ arrivals earlier) ++ r ∷ [] =
+    ap (λ (q : List Request). requests b.history ++ q) (arrivals-append earlier (taken r ∷ [])) ∙ sym (append_assoc (requests b.history) (arrivals earlier) (r ∷ [])) in
+    ap (λ (q : List Reply). reply (day_of b.zone) b.default (history_after b earlier) r ∷ q) (h ∙ ap (λ (q : List Request). replies_after (day_of b.zone) b.default q (arrivals ds)) more)
+replies_step b earlier ds r false h =
+    let more : requests b.history ++ arrivals (earlier ++ lost r ∷ []) ≡ requests b.history ++ arrivals earlier =
+    ap (λ (q : List Request). requests b.history ++ q) (arrivals-append earlier (lost r ∷ []) ∙ append-nil (arrivals earlier)) in
+    h ∙ ap (λ (q : List Request). replies_after (day_of b.zone) b.default q (arrivals ds)) more
+
+replies_of : (b : Book) (earlier ds : List Delivery) → taken_answers_after (answer_to b) earlier ds ≡ replies_after (day_of b.zone) b.default (requests b.history ++ arrivals earlier) (arrivals ds)
+replies_of b earlier [] = refl
+replies_of b earlier (d ∷ ds) = replies_step b earlier ds d.request d.taken (replies_of b (earlier ++ d ∷ []) ds)
+
+pub replies_of_all : (b : Book) (came : List Delivery) → taken_answers (answer_to b) came ≡ replies_after (day_of b.zone) b.default (requests b.history) (arrivals came)
+replies_of_all b came = replies_of b [] came ∙ ap (λ (q : List Request). replies_after (day_of b.zone) b.default q (arrivals came)) (append-nil (requests b.history))

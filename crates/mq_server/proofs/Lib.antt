@@ -1,3 +1,4 @@
+pub mod Cutting
 pub mod Deliveries
 pub mod Exits
 pub mod Heads

@@ -38,3 +38,13 @@ answers_after answer earlier (d ∷ ds) = answer earlier d ∷ answers_after ans
 
 abbrev pub answers : (List Delivery → Delivery → Reply) → List Delivery → List Reply
 answers answer ds = answers_after answer [] ds
+
+-- the answers to the deliveries that the ledger took
+abbrev pub taken_answers_after : (List Delivery → Delivery → Reply) → List Delivery → List Delivery → List Reply
+taken_answers_after answer earlier [] = []
+taken_answers_after answer earlier (d ∷ ds) =
+    if d.taken then answer earlier d ∷ taken_answers_after answer (earlier ++ d ∷ []) ds
+    else taken_answers_after answer (earlier ++ d ∷ []) ds
+
+abbrev pub taken_answers : (List Delivery → Delivery → Reply) → List Delivery → List Reply
+taken_answers answer ds = taken_answers_after answer [] ds

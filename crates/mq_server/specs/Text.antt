@@ -66,8 +66,14 @@ farewell Enough = []
 abbrev pub served : (List Delivery → Delivery → Reply) → List Delivery → Served → List ℕ
 served answer came e = frames_of (answers answer came ++ farewell e)
 
--- these deliveries are those of a whole input, and the connection ends so
+-- The deliveries are those of this whole input, and the connection ends so.
 pub record IsServed (input : List ℕ) (came : List Delivery) (e : Served) : Type 0 where
   pub rest : List ℕ
   pub asks : Asks input (asked came) rest
   pub ends : IsEnd e (length came) (next rest) (Some [])
+
+-- as far as both go, the ledger lost the same of them
+abbrev pub LosesAlike : List Delivery → List Delivery → Type 0
+LosesAlike [] others = Unit {0}
+LosesAlike (d ∷ ds) [] = Unit {0}
+LosesAlike (d ∷ ds) (other ∷ others) = (d.taken ≡ other.taken) × LosesAlike ds others

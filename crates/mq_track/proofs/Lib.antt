@@ -2,3 +2,4 @@ mod Records
 pub mod Lookback
 pub mod Moves
 pub mod Numbers
+pub mod Vanishing

@@ -1,9 +1,10 @@
 -- What holds of sessions and transactions after any lines.
-use Rattle.std.specs.Prelude.{◌≡◌, ◌≢◌, ◌<◌, ◌≤◌, ℕ, List, ◌∷◌, ◌++◌, Some}
+use Rattle.std.specs.Prelude.{◌≡◌, ◌≢◌, ◌<◌, ◌≤◌, ℕ, List, ◌∷◌, ◌++◌, Some, ◌⊎◌}
 use Rattle.mq_line.specs.Grammar.{Meaning}
 use Rattle.mq_track.specs.Events.{event}
 use Rattle.mq_track.specs.Sessions.{Transaction, login, open_transaction, begin_count, session_of, closing}
 use Rattle.mq_track.specs.declared.closing.Closing.{Closing}
+use Rattle.mq_track.specs.declared.closing.CloseEnd.{CloseEnd}
 
 -- a line that isn't of the session s leaves its login
 abbrev pub LoginsAreApart : Type 0
@@ -25,3 +26,8 @@ HaveOneSession = (past : List Meaning) (s r : List ℕ) (t u : Transaction) → 
 abbrev pub StayClosed : Type 0
 StayClosed = (past : List Meaning) (line : Meaning) (closed : Closing) → closing past line ≡ Some closed
     → (later : List Meaning) (s : List ℕ) (t : Transaction) → open_transaction (later ++ line ∷ past) s ≡ Some t → t.txn ≢ closed.txn
+
+-- an open transaction stays open, or the line closes it
+abbrev pub NoneVanishes : Type 0
+NoneVanishes = (past : List Meaning) (line : Meaning) (s : List ℕ) (t : Transaction) → open_transaction past s ≡ Some t
+    → (open_transaction (line ∷ past) s ≡ Some t) ⊎ ((end : CloseEnd) × (closing past line ≡ Some (record { txn = t.txn; end = end })))

@@ -1,6 +1,6 @@
 //! What holds of sessions and transactions after any accepted lines. Each function states a law in
 //! its contract and does nothing.
-ghost use Rattle.mq_track.specs.Laws.{LoginsAreApart, TransactionsAreApart, AreNumbered, HaveOneSession, StayClosed};
+ghost use Rattle.mq_track.specs.Laws.{LoginsAreApart, TransactionsAreApart, AreNumbered, HaveOneSession, StayClosed, NoneVanishes};
 
 /// Two sessions never disturb each other: a line that isn't of a session changes neither its login
 /// nor its open transaction.
@@ -19,4 +19,9 @@ pub fn open_numbers_differ()
 /// No later transaction has the number of a closed one: it is never opened again.
 pub fn closed_stays_closed()
     ensures { StayClosed }
+{}
+
+/// No transaction is forgotten: one that is open stays open, or the line brings its closing.
+pub fn none_vanishes()
+    ensures { NoneVanishes }
 {}

@@ -10,6 +10,10 @@ returns-in-Err-clause-cut g c =
 pub returns-then-is_err-clause-cut : goal.returns-then-is_err-clause-cut
 returns-then-is_err-clause-cut g c =
     let (step, told, made, answers) = c.in-Ok.ensures.ok in
-    let i = c.args.inquiry in
-    (step, [], result_text i.session.now i.token.now c.in-Ok.decision, record { written = Appends-none _; exchanged = told; made = made },
-      inr (λ L st. (c.in-Ok.decision, answers L st, refl)))
+    let i = c.args.inquiry in (
+      step,
+      [],
+      result_text i.session.now i.token.now c.in-Ok.decision,
+      record { written = Appends-none _; exchanged = told; made = made },
+      inr (λ L st. (c.in-Ok.decision, answers L st, refl)),
+    )

@@ -10,7 +10,12 @@ use Rattle.mq_client.proofs.filter.note.Goals as goal
 pub returns-in-Ok-clause-ok : goal.returns-in-Ok-clause-ok
 returns-in-Ok-clause-ok g c =
     let m = meaning c.args.line.now in
-    on_ok_weaker c.close.result (λ w. (w.0, w.1, w.2, λ L st.
-      let none = accepted (fault L m) c.in-Ok.closing (c.in-Ok.ensures.refused L st) in
-      let F : Option Closing → Type 0 = λ x. Closes x w.0 in
-      (subst F (c.in-Ok.ensures.accepted L st none) w.3, c.in-Ok.ensures.stands L st))) c.close.ensures.ok
+    on_ok_weaker c.close.result (λ w. (
+      w.0,
+      w.1,
+      w.2,
+      λ L st.
+          let none = accepted (fault L m) c.in-Ok.closing (c.in-Ok.ensures.refused L st) in
+          let F : Option Closing → Type 0 = λ x. Closes x w.0 in
+          (none, subst F (c.in-Ok.ensures.accepted L st none) w.3, c.in-Ok.ensures.stands L st),
+    )) c.close.ensures.ok

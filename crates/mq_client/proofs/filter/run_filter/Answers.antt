@@ -8,7 +8,8 @@ use Rattle.mq_client.proofs.filter.run_filter.Goals as goal
 
 pub loop-read-init : goal.loop-read-init
 loop-read-init g c = record {
-  bytes = []; consumed = Consumes-none _;
+  bytes = [];
+  consumed = Consumes-none _;
   so_far = so_far_start _ _ c.args.client.now _ c.new-feed.result c.new-feed.ensures refl c.new.ensures refl;
   held = is_line_none _ c.new-feed.ensures;
   reads = omega arith;
@@ -17,29 +18,35 @@ loop-read-init g c = record {
 
 pub returns-in-Err-clause-fault : goal.returns-in-Err-clause-fault
 returns-in-Err-clause-fault g c =
-    let i = c.loop-read.invariant in
-    (i.bytes, Consumes-kept _ _ _ _ i.consumed c.in-Err.ensures.bytes,
+    let i = c.loop-read.invariant in (
+      i.bytes,
+      Consumes-kept _ _ _ _ i.consumed c.in-Err.ensures.bytes,
       stops _ i.bytes c.loop-read.feed c.loop-read.filter _ _ _ _ _ _ _ _ _ at.Read None [] [] i.so_far (Does-still _ _ _)
-        (λ stage a. (i.held, inl (c.in-Err.ensures.failed)))
-        (λ stage a. (refl, refl)))
+          (λ stage a. (i.held, inl (c.in-Err.ensures.failed)))
+          (λ stage a. (refl, refl)),
+    )
 
 pub returns-in-Err-feed-clause-fault : goal.returns-in-Err-feed-clause-fault
 returns-in-Err-feed-clause-fault g c =
     let i = c.loop-read.invariant in
-    let piece = take c.in-Ok.count c.read.new.piece in
-    (i.bytes ++ piece, Consumes-trans _ _ _ _ _ i.consumed c.in-Ok.ensures.bytes.0,
+    let piece = take c.in-Ok.count c.read.new.piece in (
+      i.bytes ++ piece,
+      Consumes-trans _ _ _ _ _ i.consumed c.in-Ok.ensures.bytes.0,
       stops _ (i.bytes ++ piece) (c.loop-read.feed ++ piece) c.loop-read.filter _ _ _ _ _ _ _ _ _ at.Memory None [] []
-        (so_far_fed _ i.bytes c.loop-read.feed (c.loop-read.feed ++ piece) piece c.loop-read.filter _ _ _ refl i.so_far) (Does-still _ _ _)
-        (λ stage a. tt)
-        (λ stage a. inl (refl, refl)))
+          (so_far_fed _ i.bytes c.loop-read.feed (c.loop-read.feed ++ piece) piece c.loop-read.filter _ _ _ refl i.so_far) (Does-still _ _ _)
+          (λ stage a. tt)
+          (λ stage a. inl (refl, refl)),
+    )
 
 pub returns-in-Err-take_lines-clause-fault : goal.returns-in-Err-take_lines-clause-fault
 returns-in-Err-take_lines-clause-fault g c =
     let i = c.loop-read.invariant in
     let piece = take c.in-Ok.count c.read.new.piece in
-    let fed : c.feed-in-loop-read.new.self ≡ c.loop-read.feed ++ piece = search rules in
-    (i.bytes ++ piece, Consumes-trans _ _ _ _ _ i.consumed c.in-Ok.ensures.bytes.0,
-      c.in-Err-take_lines.ensures.fault _ (i.bytes ++ piece) _ _ (so_far_fed _ i.bytes c.loop-read.feed c.feed-in-loop-read.new.self piece c.loop-read.filter _ _ _ fed i.so_far))
+    let fed : c.feed-in-loop-read.new.self ≡ c.loop-read.feed ++ piece = search rules in (
+      i.bytes ++ piece,
+      Consumes-trans _ _ _ _ _ i.consumed c.in-Ok.ensures.bytes.0,
+      c.in-Err-take_lines.ensures.fault _ (i.bytes ++ piece) _ _ (so_far_fed _ i.bytes c.loop-read.feed c.feed-in-loop-read.new.self piece c.loop-read.filter _ _ _ fed i.so_far),
+    )
 
 pub loop-read-preserved : goal.loop-read-preserved
 loop-read-preserved g c =
@@ -65,8 +72,10 @@ loop-read-preserved g c =
 pub returns-clause-fault : goal.returns-clause-fault
 returns-clause-fault g c =
     let i = c.loop-read.invariant in
-    let all : 1099511627776 ≤ length i.bytes = omega (arith, i.reads) in
-    (i.bytes, i.consumed,
+    let all : 1099511627776 ≤ length i.bytes = omega (arith, i.reads) in (
+      i.bytes,
+      i.consumed,
       stops _ i.bytes c.loop-read.feed c.loop-read.filter _ _ _ _ _ _ _ _ _ at.Read None [] [] i.so_far (Does-still _ _ _)
-        (λ stage a. (i.held, inr all))
-        (λ stage a. (refl, refl)))
+          (λ stage a. (i.held, inr all))
+          (λ stage a. (refl, refl)),
+    )

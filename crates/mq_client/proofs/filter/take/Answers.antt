@@ -16,7 +16,7 @@ returns-in-Ok-clause-ok g c =
     let m = FilterLine q.seconds q.subsystem.now q.phase.now q.session.now q.token.now q.rest.now in
     let f = c.args.filter.now in
     rw (ap meaning q.is) (carries_take m f (record { tracker = f.tracker; is_ready = f.is_ready; answers = f.answers + 1 }) _ _ _ _ _ _ step text c.requires.ready does
-      (λ L st. (replies L st, tracks_filter f.tracker L q.seconds _ _ _ _ _ st)) c.requires.ready (λ L e. answer_counted L q.seconds q.subsystem.now q.phase.now q.session.now q.token.now q.rest.now f.answers e))
+    (λ L st. (replies L st, tracks_filter f.tracker L q.seconds _ _ _ _ _ st)) c.requires.ready (λ L e. answer_counted L q.seconds q.subsystem.now q.phase.now q.session.now q.token.now q.rest.now f.answers e))
 
 pub returns-in-Err-clause-fault : goal.returns-in-Err-clause-fault
 returns-in-Err-clause-fault g c =
@@ -25,10 +25,10 @@ returns-in-Err-clause-fault g c =
     let f = c.args.filter.now in
     let fault = c.in-Err.fault in
     λ o bytes line rest source read_failed one reads s.
-      stops o bytes (line ++ 10 ∷ rest) f source _ _ read_failed _ _ _ _ _ fault step front more s does
-        (λ stage a. cut_found fault stage bytes _ source read_failed _ c.in-Err.ensures.fault)
-        (λ stage a. cut_in_hand fault stage _ _ step _ c.in-Err.ensures.fault
-          (may_go f stage line rest q.seconds _ _ _ _ _ step _ c.requires.ready a one (rw (ap meaning q.is) at reads) acts))
+    stops o bytes (line ++ 10 ∷ rest) f source _ _ read_failed _ _ _ _ _ fault step front more s does
+    (λ stage a. cut_found fault stage bytes _ source read_failed _ c.in-Err.ensures.fault)
+    (λ stage a. cut_in_hand fault stage _ _ step _ c.in-Err.ensures.fault
+    (may_go f stage line rest q.seconds _ _ _ _ _ step _ c.requires.ready a one (rw (ap meaning q.is) at reads) acts))
 
 pub returns-in-Ok-note : goal.returns-in-Ok-note
 returns-in-Ok-note g c =
@@ -38,8 +38,8 @@ returns-in-Ok-note g c =
     let apart = c.in_default.not-Filter in
     record {
       ok = carries_take (meaning l) f (record { tracker = c.note.new.tracker; is_ready = f.is_ready; answers = f.answers }) _ _ _ _ _ _ step [] c.requires.ready
-        (record { written = Appends-none _; exchanged = told; made = made })
-        (λ L st. let n = notes L st in (takes_noted L l step apart n.0, n.1)) c.requires.ready (λ L e. e ∙ sym (count_noted L l apart));
+          (record { written = Appends-none _; exchanged = told; made = made })
+          (λ L st. let n = notes L st in (takes_noted L l step apart n.0 n.1, n.2)) c.requires.ready (λ L e. e ∙ sym (count_noted L l apart));
       count = omega arith;
       fault = tt;
     }
@@ -53,7 +53,7 @@ returns-in-Err-note g c =
       ok = tt;
       count = tt;
       fault = λ o bytes line rest source read_failed one reads s.
-        stops o bytes (line ++ 10 ∷ rest) f source _ _ read_failed _ _ _ _ _ c.in-Err-note.fault None [] [] s (Does-nothing g.K.Link.told _ _ _ _ _ e.link e.client)
+          stops o bytes (line ++ 10 ∷ rest) f source _ _ read_failed _ _ _ _ _ c.in-Err-note.fault None [] [] s (Does-nothing g.K.Link.told _ _ _ _ _ e.link e.client)
           (λ stage a. (refused_stops c.in-Err-note.fault f stage bytes line rest (meaning l) source read_failed _ c.requires.ready a one reads e.fault).0)
           (λ stage a. (refused_stops c.in-Err-note.fault f stage bytes line rest (meaning l) source read_failed (g.W.Sink.has_failed c.args.output.now) c.requires.ready a one reads e.fault).1);
     }

@@ -15,14 +15,14 @@ returns-in-Ok-clause-ok g c = λ told client. carries_ready (meaning c.args.line
 pub returns-in-TooEarly-clause-fault : goal.returns-in-TooEarly-clause-fault
 returns-in-TooEarly-clause-fault g c = λ told client o bytes line rest source read_failed one reads s.
     stops o bytes (line ++ 10 ∷ rest) c.args.filter.now source _ _ read_failed _ told told client client at.NotReady None [] [] s (Does-still _ told client)
-      (λ stage a. (meaning c.args.line.now, line, at_waiting c.args.filter.now stage c.requires a, first_of line rest one, reads, c.in-TooEarly.ensures))
-      (λ stage a. (refl, refl))
+    (λ stage a. (meaning c.args.line.now, line, at_waiting c.args.filter.now stage c.requires a, first_of line rest one, reads, c.in-TooEarly.ensures))
+    (λ stage a. (refl, refl))
 
 pub returns-in-Err-clause-fault : goal.returns-in-Err-clause-fault
 returns-in-Err-clause-fault g c = λ told client o bytes line rest source read_failed one reads s.
     let (front, more, whole, written) = c.in-Err.ensures.cut in
     let f = c.in-Err.fault in
     stops o bytes (line ++ 10 ∷ rest) c.args.filter.now source _ _ read_failed _ told told client client f None front more s
-      (record { written = written; exchanged = Tells-none told; made = refl })
-      (λ stage a. cut_found f stage bytes _ source read_failed _ c.in-Err.ensures.fault)
-      (λ stage a. rw (at_waiting c.args.filter.now stage c.requires a) (cut_in_hand f _ _ _ None _ c.in-Err.ensures.fault (inr (line, first_of line rest one, (rw c.in-Ready.ensures at reads, refl, sym whole)))))
+    (record { written = written; exchanged = Tells-none told; made = refl })
+    (λ stage a. cut_found f stage bytes _ source read_failed _ c.in-Err.ensures.fault)
+    (λ stage a. rw (at_waiting c.args.filter.now stage c.requires a) (cut_in_hand f _ _ _ None _ c.in-Err.ensures.fault (inr (line, first_of line rest one, (rw c.in-Ready.ensures at reads, refl, sym whole)))))

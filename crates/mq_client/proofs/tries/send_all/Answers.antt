@@ -14,9 +14,11 @@ returns-then-not-send-clause-step g c =
     let i = c.loop-request.invariant in
     let (tries, told, sent) = c.send.ensures in
     let q = c.in-Some.request.now in
-    let (rest, starts) = starts_with c.loop-request.outbox.items q c.in-Some.ensures.lookup (search rules) in
-    (tries ++ i.done, told_both _ _ _ i.done tries i.told told,
-      sends_stop c.args.tries c.args.outbox.now.items c.loop-request.outbox.items rest q i.done tries starts i.sends (subst (IsSent c.args.tries q tries) c.if-not-send.true sent))
+    let (rest, starts) = starts_with c.loop-request.outbox.items q c.in-Some.ensures.lookup (search rules) in (
+      tries ++ i.done,
+      told_both _ _ _ i.done tries i.told told,
+      sends_stop c.args.tries c.args.outbox.now.items c.loop-request.outbox.items rest q i.done tries starts i.sends (subst (IsSent c.args.tries q tries) c.if-not-send.true sent),
+    )
 
 pub returns-clause-step : goal.returns-clause-step
 returns-clause-step g c =

@@ -32,7 +32,9 @@ invariant_of-self-2 g c =
     let left = c.send_all.ensures.len in
     let pushed = c.in_ok-push_back.ensures.len in
     record {
-      host = i.host; run = i.run; tries = i.tries;
+      host = i.host;
+      run = i.run;
+      tries = i.tries;
       places = omega (arith, i.places, len, left, pushed);
       numbers = omega (arith, i.numbers, len);
       held = closed_in_range c.self.inside.held.entries c.release.new.held.entries c.args.closing.txn c.release.ensures.find i.held;

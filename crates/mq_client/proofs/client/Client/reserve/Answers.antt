@@ -29,7 +29,9 @@ invariant_of-self-2 g c =
     let len = c.count.ensures.len ∙ c.in_ok-hold.ensures.len in
     let found = held_and_counted c.args.txn c.args.at c.args.login.now c.answer_to-answer.result s.held.entries c.hold.new.held.entries c.count.new.held.entries c.in_ok-hold.ensures.find c.count.ensures.find in
     record {
-      host = i.host; run = i.run; tries = i.tries;
+      host = i.host;
+      run = i.run;
+      tries = i.tries;
       places = room.places (length c.count.new.held.entries) len;
       numbers = room.numbers (length c.count.new.held.entries) len;
       held = asked_in_range s.held.entries c.count.new.held.entries c.args.txn c.args.at c.args.login.now c.answer_to-answer.result (room.few c.args.at c.args.login.now) found i.held c.requires.txn c.requires.at c.requires.login;
@@ -45,7 +47,10 @@ returns-clause-ok g c =
     let free : refuses (find i.held.entries c.args.txn) (length i.held.entries) i.numbers (length i.outbox.items) c.args.at c.args.login.now ≡ false = search rules in
     let found = held_and_counted c.args.txn c.args.at c.args.login.now c.answer_to-answer.result i.held.entries c.hold.new.held.entries c.count.new.held.entries c.in_ok-hold.ensures.find c.count.ensures.find in
     let by : (t : ℕ) → find c.count.new.held.entries t ≡ (if c.args.txn == t then Some (let_through (answer_by c.try_all-decided.result) (opened c.args.at c.args.login.now (find i.held.entries c.args.txn))) else find i.held.entries t) = rw c.answer_to-answer.ensures at found in
-    let tries_of = rw c.in_ok-request.ensures.request at tries in
-    (group, told, c.answer_to-answer.ensures ∙ sym (answer_of_tries i.tries _ group c.try_all-decided.result tries),
+    let tries_of = rw c.in_ok-request.ensures.request at tries in (
+      group,
+      told,
+      c.answer_to-answer.ensures ∙ sym (answer_of_tries i.tries _ group c.try_all-decided.result tries),
       subst F c.self.view_is (asked (state_of i) d c.args.txn c.args.at c.args.login.now group c.try_all-decided.result c.self.invariant.tries.from refl refl free tries_of by
-        (c.count.ensures.len ∙ c.in_ok-hold.ensures.len) refl refl))
+          (c.count.ensures.len ∙ c.in_ok-hold.ensures.len) refl refl),
+    )

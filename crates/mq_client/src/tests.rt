@@ -1,0 +1,185 @@
+ghost use Rattle.std.specs.Prelude.{◌≤◌};
+
+mod asking;
+mod faults;
+mod rows;
+mod sittings;
+
+use crate::{Bytes, Client, Ended, FilterFault, Outcome, ScriptLink, Told, run_filter};
+use log::sink::Discard;
+use mq_frame::{FromRead, Host, Id, Login, Request, ToWrite, is_request};
+use std::alloc::Global;
+use std::collections::VecDeque;
+use std::process::Abort;
+use std::test::Fail;
+
+const REGISTRATION: &[u8] = b"register|report|smtp-in|link-auth
+register|report|smtp-in|link-disconnect
+register|report|smtp-in|tx-begin
+register|report|smtp-in|tx-commit
+register|report|smtp-in|tx-rollback
+register|report|smtp-in|tx-reset
+register|filter|smtp-in|rcpt-to
+register|ready
+";
+
+const CONFIG: &[u8] = b"config|smtpd-version|6.6.1
+config|smtp-session-timeout|300
+config|subsystem|smtp-in
+config|ready
+";
+
+const AUTH: &[u8] = b"report|0.7|1576146008.006099|smtp-in|link-auth|7641df9771b4ed00|pass|alice
+";
+
+const BEGIN: &[u8] = b"report|0.7|1576146009.006099|smtp-in|tx-begin|7641df9771b4ed00|4c56d3a1
+";
+
+const RECIPIENT: &[u8] =
+    b"filter|0.7|1576146010.006099|smtp-in|rcpt-to|7641df9771b4ed00|1ef1c203cc576e5d|bob@example.org
+";
+
+const COMMIT: &[u8] =
+    b"report|0.7|1576146011.006099|smtp-in|tx-commit|7641df9771b4ed00|4c56d3a1|1200
+";
+
+const RESET: &[u8] = b"report|0.7|1576146012.006099|smtp-in|tx-reset|7641df9771b4ed00|4c56d3a1
+";
+
+const PROCEED: &[u8] = b"filter-result|7641df9771b4ed00|1ef1c203cc576e5d|proceed
+";
+
+const LIMIT: &[u8] =
+    b"filter-result|7641df9771b4ed00|1ef1c203cc576e5d|reject|550 daily recipient limit reached
+";
+
+const SERVICE: &[u8] =
+    b"filter-result|7641df9771b4ed00|1ef1c203cc576e5d|reject|451 quota service unavailable
+";
+
+/// The frame of the first reserve.
+const RESERVE: &str =
+    "0027 01 036d7831 0000000000000001 00000001 00000001 000000005df21459 05616c696365 00000001";
+
+const RELEASE: &str =
+    "0023 03 036d7831 0000000000000001 00000002 00000001 000000005df21459 05616c696365";
+
+const SETTLE: &str =
+    "0027 02 036d7831 0000000000000001 00000002 00000001 000000005df21459 05616c696365 00000001";
+
+/// The bytes of hexadecimal digits. Spaces are passed over.
+fn bytes_of(alloc: Global, text: &str) -> Result<Vec<u8>, Fail> {
+    let mut bytes = Vec::new(alloc);
+    let mut high = None;
+    for byte in text.as_bytes() {
+        let digit = match *byte {
+            b' ' => continue,
+            b'0'..=b'9' => *byte - b'0',
+            b'a'..=b'f' => *byte - b'a' + 10,
+            _ => return Err("no digit".into()),
+        };
+        match high {
+            None => high = Some(digit % 16),
+            Some(first) => {
+                bytes.push((first % 16) * 16 + digit % 16)?;
+                high = None;
+            }
+        }
+    }
+    Ok(bytes)
+}
+
+fn joined(alloc: Global, parts: &[&[u8]]) -> Result<Vec<u8>, Fail> {
+    let mut whole = Vec::new(alloc);
+    for part in parts {
+        whole.extend_from_slice(part)?;
+    }
+    Ok(whole)
+}
+
+fn answered(alloc: Global, text: &str) -> Result<Outcome, Fail> {
+    Ok(Outcome::Answered(Bytes::new(bytes_of(alloc, text)?)))
+}
+
+/// A client of the host mx1 and run 1.
+fn client_of(alloc: Global, tries: u32) -> Result<Client, Fail>
+    requires low { 1 ≤ tries }
+    requires high { tries ≤ 10 }
+{
+    let request = Request::Release {
+        id: Id {
+            host: Host::from_slice(alloc, b"mx1")?,
+            run: 1,
+            seq: 1,
+        },
+        txn: 1,
+        at: 86_400,
+        login: Login::from_slice(alloc, b"u")?,
+    };
+    if !is_request(&request) {
+        return Err("no host".into());
+    }
+    let Request::Release { id, .. } = &request else {
+        return Err("no host".into());
+    };
+    Ok(Client::new(alloc, &id.host, 1, tries)?)
+}
+
+/// What came of a run.
+#[derive(Drop)]
+struct Ran {
+    ended: Result<Ended, FilterFault>,
+    text: Vec<u8>,
+    link: ScriptLink,
+    client: Client,
+}
+
+fn run(alloc: Global, script: VecDeque<Outcome>, parts: &[&[u8]]) -> Result<Ran, Fail> {
+    let whole = joined(alloc, parts)?;
+    let mut client = client_of(alloc, 3)?;
+    let mut link = ScriptLink::new(alloc, script);
+    let mut input = FromRead::new(whole.as_slice());
+    let mut output = ToWrite::new(Vec::new(alloc));
+    let ended = run_filter(
+        &Discard,
+        alloc,
+        &mut input,
+        &mut output,
+        &mut link,
+        &mut client,
+    );
+    let _ = input.into_inner();
+    Ok(Ran {
+        ended,
+        text: output.into_inner(),
+        link,
+        client,
+    })
+}
+
+/// Asserts that the exchanges had these frames.
+fn assert_frames(
+    rt: &impl Abort,
+    alloc: Global,
+    kept: &[Told],
+    frames: &[&str],
+) -> Result<(), Fail> {
+    assert_eq!(rt; kept.len(), frames.len());
+    for (told, frame) in kept.iter().zip(frames) {
+        let wanted = bytes_of(alloc, frame)?;
+        assert_eq!(rt; told.frame.as_slice(), wanted.as_slice());
+    }
+    Ok(())
+}
+
+/// Asserts that these parts were written.
+fn assert_text(
+    rt: &impl Abort,
+    alloc: Global,
+    text: &Vec<u8>,
+    parts: &[&[u8]],
+) -> Result<(), Fail> {
+    let wanted = joined(alloc, parts)?;
+    assert_eq!(rt; text.as_slice(), wanted.as_slice());
+    Ok(())
+}

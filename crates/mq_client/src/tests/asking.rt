@@ -1,0 +1,193 @@
+//! The calls of a client.
+use super::*;
+use crate::{Asked, LinkFault};
+use log::sink::Memory as Kept;
+use mq_track::{CloseEnd, Closing};
+
+fn granted(alloc: Global, seq: u32) -> Result<Outcome, Fail> {
+    let mut body = bytes_of(alloc, "81 036d7831 0000000000000001")?;
+    body.extend_from_slice(&seq.to_be_bytes())?;
+    body.extend_from_slice(&1u32.to_be_bytes())?;
+    Ok(Outcome::Answered(Bytes::new(body)))
+}
+
+#[test]
+fn a_full_client(rt: HostRuntime) -> Result<(), Fail> {
+    let alloc = rt.alloc();
+    let mut script = VecDeque::new(alloc);
+    for seq in 1..=4096u32 {
+        script.push_back(granted(alloc, seq)?)?;
+    }
+    for _try in 0..3 {
+        script.push_back(Outcome::Faulted(LinkFault::Down))?;
+    }
+    script.push_back(answered(alloc, "84 036d7831 0000000000000001 00001001 00000001")?)?;
+    script.push_back(granted(alloc, 4098)?)?;
+    let mut link = ScriptLink::new(alloc, script);
+    let mut client = client_of(alloc, 3)?;
+    for txn in 1..=4096u32 {
+        assert_eq!(rt;
+            client.reserve(&Discard, &mut link, txn, 86_400, b"u")?,
+            Asked::Granted
+        );
+    }
+    assert_eq!(rt; link.kept().len(), 4096);
+    assert_eq!(rt;
+        client.reserve(&Discard, &mut link, 4097, 86_400, b"u")?,
+        Asked::Unavailable
+    );
+    assert_eq!(rt; link.kept().len(), 4096);
+    assert_eq!(rt; client.held_count(), 4096);
+
+    let closing = Closing {
+        txn: 1,
+        end: CloseEnd::Drop,
+    };
+    client.close(&Discard, &mut link, closing)?;
+    assert_eq!(rt; client.outbox_count(), 1);
+    assert_eq!(rt; client.held_count(), 4095);
+    assert_eq!(rt; link.kept().len(), 4099);
+    assert_eq!(rt;
+        client.reserve(&Discard, &mut link, 4097, 86_400, b"u")?,
+        Asked::Unavailable
+    );
+    assert_eq!(rt; link.kept().len(), 4099);
+
+    assert_eq!(rt; client.drain(&Discard, &mut link), 0);
+    assert_eq!(rt; client.outbox_count(), 0);
+    assert_eq!(rt;
+        client.reserve(&Discard, &mut link, 4097, 86_400, b"u")?,
+        Asked::Granted
+    );
+    assert_eq!(rt;
+        client.reserve(&Discard, &mut link, 2, 86_400, b"v")?,
+        Asked::Unavailable
+    );
+    assert_eq!(rt;
+        client.reserve(&Discard, &mut link, 2, 86_401, b"u")?,
+        Asked::Unavailable
+    );
+    assert_eq!(rt; link.kept().len(), 4101);
+    Ok(())
+}
+
+/// Lines of the log that a client wrote.
+fn assert_lines(rt: &impl Abort, kept: Kept, wanted: &[&str]) {
+    let lines = kept.into_lines();
+    assert_eq!(rt; lines.len(), wanted.len());
+    for (line, text) in lines.as_slice().iter().zip(wanted) {
+        assert!(rt; line.as_str().ends_with(text), "{line}");
+    }
+}
+
+#[test]
+fn closings_are_sent_in_order(rt: HostRuntime) -> Result<(), Fail> {
+    let alloc = rt.alloc();
+    let mut script = VecDeque::new(alloc);
+    script.push_back(granted(alloc, 1)?)?;
+    script.push_back(granted(alloc, 2)?)?;
+    // the first closing finds no answer: a body outside the grammar, a retry, another kind
+    script.push_back(answered(alloc, "00")?)?;
+    script.push_back(answered(alloc, "8d")?)?;
+    script.push_back(answered(alloc, "81 036d7831 0000000000000001 00000003 00000001")?)?;
+    // at the second both are sent, and the first is found closed
+    script.push_back(Outcome::Faulted(LinkFault::TimedOut))?;
+    script.push_back(answered(alloc, "87 036d7831 0000000000000001 00000003")?)?;
+    script.push_back(answered(alloc, "89 036d7831 0000000000000001 00000004 00000000")?)?;
+    let mut link = ScriptLink::new(alloc, script);
+    let mut client = client_of(alloc, 3)?;
+    let kept = Kept::new(alloc);
+    assert_eq!(rt;
+        client.reserve(&kept, &mut link, 1, 86_400, b"u")?,
+        Asked::Granted
+    );
+    assert_eq!(rt;
+        client.reserve(&kept, &mut link, 2, 86_400, b"u")?,
+        Asked::Granted
+    );
+    for txn in 1..=2u32 {
+        let closing = Closing {
+            txn,
+            end: CloseEnd::Commit,
+        };
+        client.close(&kept, &mut link, closing)?;
+    }
+    assert_eq!(rt; client.outbox_count(), 0);
+    // a transaction that isn't held
+    let unknown = Closing {
+        txn: 9,
+        end: CloseEnd::Commit,
+    };
+    client.close(&kept, &mut link, unknown)?;
+    assert_eq!(rt; client.drain(&kept, &mut link), 0);
+    let first =
+        "0023 02 036d7831 0000000000000001 00000003 00000001 0000000000015180 0175 00000001";
+    let second =
+        "0023 02 036d7831 0000000000000001 00000004 00000002 0000000000015180 0175 00000001";
+    let told = link.kept();
+    assert_eq!(rt; told.len(), 8);
+    assert_frames(
+        &rt,
+        alloc,
+        &told[2..],
+        &[first, first, first, first, first, second],
+    )?;
+    assert_lines(
+        &rt,
+        kept,
+        &[
+            "settle 3 of transaction 1: no answer in 3 tries, it waits",
+            "closing 3: the transaction was closed before",
+            "closing 4: the transaction holds 0 only",
+        ],
+    );
+    Ok(())
+}
+
+#[test]
+fn warnings(rt: HostRuntime) -> Result<(), Fail> {
+    let alloc = rt.alloc();
+    let mut link = ScriptLink::new(alloc, VecDeque::new(alloc));
+    let mut client = client_of(alloc, 1)?;
+    let kept = Kept::new(alloc);
+    assert_eq!(rt;
+        client.reserve(&kept, &mut link, 7, 86_400, b"u")?,
+        Asked::Unavailable
+    );
+    let closing = Closing {
+        txn: 7,
+        end: CloseEnd::Drop,
+    };
+    client.close(&kept, &mut link, closing)?;
+    assert_lines(
+        &rt,
+        kept,
+        &[
+            "reserve 1 of transaction 7: no answer in 1 tries",
+            "release 2 of transaction 7: no answer in 1 tries, it waits",
+        ],
+    );
+    for (kind, text) in [
+        (
+            "88",
+            "closing 2: the transaction has another login or moment",
+        ),
+        ("8a", "closing 2: the number was used by another request"),
+    ] {
+        let reply = format!(in alloc; "{kind} 036d7831 0000000000000001 00000002")?;
+        let mut script = VecDeque::new(alloc);
+        script.push_back(granted(alloc, 1)?)?;
+        script.push_back(answered(alloc, reply.as_str())?)?;
+        let mut link = ScriptLink::new(alloc, script);
+        let mut client = client_of(alloc, 1)?;
+        let kept = Kept::new(alloc);
+        assert_eq!(rt;
+            client.reserve(&kept, &mut link, 7, 86_400, b"u")?,
+            Asked::Granted
+        );
+        client.close(&kept, &mut link, closing)?;
+        assert_eq!(rt; client.outbox_count(), 0);
+        assert_lines(&rt, kept, &[text]);
+    }
+    Ok(())
+}

@@ -1,0 +1,218 @@
+//! How a run stops.
+use super::*;
+use crate::Memory;
+use mq_frame::{Failed, Sink, Source};
+use mq_line::LineFault;
+use mq_track::TrackFault;
+
+#[test]
+fn empty_input(rt: HostRuntime) -> Result<(), Fail> {
+    let alloc = rt.alloc();
+    let ran = run(alloc, VecDeque::new(alloc), &[])?;
+    assert_eq!(rt; ran.ended, Err(FilterFault::EndedEarly));
+    assert_text(&rt, alloc, &ran.text, &[])
+}
+
+#[test]
+fn faults_of_the_input(rt: HostRuntime) -> Result<(), Fail> {
+    let alloc = rt.alloc();
+    let no_result: &[u8] = b"report|0.7|1576146008.006099|smtp-in|link-auth|s|alice\n";
+    let no_message: &[u8] = b"report|0.7|1576146008.006099|smtp-in|tx-commit|s|\n";
+    let short: &[u8] = b"report|0.7\n";
+    let long = [b'a'; 65_537];
+    let cases: [(&[&[u8]], FilterFault, &[u8]); 10] = [
+        (&[AUTH], FilterFault::NotReady, b""),
+        (&[RECIPIENT], FilterFault::NotReady, b""),
+        (&[short, CONFIG], FilterFault::Line(LineFault::Short), b""),
+        (
+            &[CONFIG, short],
+            FilterFault::Line(LineFault::Short),
+            REGISTRATION,
+        ),
+        (
+            &[CONFIG, no_result],
+            FilterFault::Track(TrackFault::Auth),
+            REGISTRATION,
+        ),
+        (
+            &[CONFIG, no_message],
+            FilterFault::Track(TrackFault::Message),
+            REGISTRATION,
+        ),
+        (&[b"other\n"], FilterFault::EndedEarly, b""),
+        (&[b"config|x"], FilterFault::CutLine, b""),
+        (&[CONFIG, b"config|x"], FilterFault::CutLine, REGISTRATION),
+        (&[CONFIG, &long], FilterFault::TooLong, REGISTRATION),
+    ];
+    for (parts, fault, text) in cases {
+        let ran = run(alloc, VecDeque::new(alloc), parts)?;
+        assert_eq!(rt; ran.ended, Err(fault));
+        assert_text(&rt, alloc, &ran.text, &[text])?;
+    }
+    Ok(())
+}
+
+#[test]
+fn texts_of_faults(rt: HostRuntime) -> Result<(), Fail> {
+    let alloc = rt.alloc();
+    let texts = [
+        (
+            FilterFault::Line(LineFault::EmptyField),
+            "line refused: empty field",
+        ),
+        (
+            FilterFault::Track(TrackFault::Exhausted),
+            "report refused: exhausted",
+        ),
+        (FilterFault::NotReady, "line before config ready"),
+        (FilterFault::EndedEarly, "input ended before config ready"),
+        (FilterFault::CutLine, "input ends inside a line"),
+        (FilterFault::TooLong, "line too long"),
+        (FilterFault::Read, "read failed"),
+        (FilterFault::Write, "write failed"),
+        (FilterFault::Memory, "out of memory"),
+    ];
+    for (fault, wanted) in texts {
+        let text = format!(in alloc; "{fault}")?;
+        assert_eq!(rt; text.as_str(), wanted);
+    }
+    let text = format!(in alloc; "{}", Memory)?;
+    assert_eq!(rt; text.as_str(), "out of memory");
+    Ok(())
+}
+
+/// A source that gives a byte at a time and fails at its so many-th read.
+#[derive(Drop)]
+struct Dropper<'a> {
+    rest: &'a [u8],
+    reads: usize,
+    failed: bool,
+}
+
+impl Source for Dropper<'_> {
+    ghost has_failed = { λ s. s.failed };
+
+    fn read(&mut self, piece: &mut [u8]) -> Result<usize, Failed> {
+        if self.failed || self.reads == 0 {
+            self.failed = true;
+            return Err(Failed);
+        }
+        self.reads -= 1;
+        match (self.rest.split_first(), piece.split_first_mut()) {
+            (Some((byte, rest)), Some((place, _))) => {
+                *place = *byte;
+                self.rest = rest;
+                Ok(1)
+            }
+            _ => Ok(0),
+        }
+    }
+}
+
+/// A sink that takes a byte at a time and fails when it is full.
+#[derive(Drop)]
+struct Narrow {
+    taken: Vec<u8>,
+    room: usize,
+    failed: bool,
+}
+
+impl Sink for Narrow {
+    ghost has_failed = { λ s. s.failed };
+
+    fn write(&mut self, piece: &[u8]) -> Result<usize, Failed> {
+        if self.failed || self.room == 0 {
+            self.failed = true;
+            return Err(Failed);
+        }
+        let Some(byte) = piece.first() else {
+            return Ok(0);
+        };
+        if self.taken.push(*byte).is_err() {
+            self.failed = true;
+            return Err(Failed);
+        }
+        self.room -= 1;
+        Ok(1)
+    }
+
+    fn flush(&mut self) -> Result<(), Failed> {
+        if self.failed {
+            return Err(Failed);
+        }
+        Ok(())
+    }
+}
+
+/// The first recipient through the filter, where the source fails after so many reads and the sink
+/// after so many bytes.
+fn run_failing(
+    alloc: Global,
+    reads: usize,
+    room: usize,
+) -> Result<(Result<Ended, FilterFault>, Vec<u8>, usize), Fail> {
+    let input = joined(alloc, &[CONFIG, AUTH, BEGIN, RECIPIENT])?;
+    let mut script = VecDeque::new(alloc);
+    script.push_back(answered(alloc, "81 036d7831 0000000000000001 00000001 00000001")?)?;
+    let mut link = ScriptLink::new(alloc, script);
+    let mut client = client_of(alloc, 3)?;
+    let mut source = Dropper {
+        rest: input.as_slice(),
+        reads,
+        failed: false,
+    };
+    let mut sink = Narrow {
+        taken: Vec::new(alloc),
+        room,
+        failed: false,
+    };
+    let ended = run_filter(
+        &Discard,
+        alloc,
+        &mut source,
+        &mut sink,
+        &mut link,
+        &mut client,
+    );
+    let Narrow { taken, .. } = sink;
+    Ok((ended, taken, link.kept().len()))
+}
+
+#[test]
+fn each_read_and_each_write_fails(rt: HostRuntime) -> Result<(), Fail> {
+    let alloc = rt.alloc();
+    let whole = joined(alloc, &[REGISTRATION, PROCEED])?;
+    let bytes = joined(alloc, &[CONFIG, AUTH, BEGIN, RECIPIENT])?.len();
+    let config = CONFIG.len();
+    for reads in 0..=bytes {
+        let (ended, text, exchanges) = run_failing(alloc, reads, 10_000)?;
+        let wanted: &[u8] = if reads < config {
+            b""
+        } else if reads < bytes {
+            REGISTRATION
+        } else {
+            whole.as_slice()
+        };
+        assert_eq!(rt; ended, Err(FilterFault::Read), "{reads}");
+        assert_eq!(rt; text.as_slice(), wanted, "{reads}");
+        assert_eq!(rt; exchanges == 1, reads == bytes, "{reads}");
+    }
+    for room in 0..whole.len() {
+        let (ended, text, exchanges) = run_failing(alloc, 10_000, room)?;
+        assert_eq!(rt; ended, Err(FilterFault::Write), "{room}");
+        assert_eq!(rt; text.len(), room);
+        assert!(rt; whole.as_slice().starts_with(text.as_slice()), "{room}");
+        assert_eq!(rt; exchanges == 1, room >= REGISTRATION.len(), "{room}");
+    }
+    let (ended, text, exchanges) = run_failing(alloc, 10_000, whole.len())?;
+    assert_eq!(rt;
+        ended,
+        Ok(Ended {
+            answers: 1,
+            left: 0
+        })
+    );
+    assert_eq!(rt; text.as_slice(), whole.as_slice());
+    assert_eq!(rt; exchanges, 1);
+    Ok(())
+}

@@ -1,0 +1,173 @@
+//! Sources, sinks and ledgers that fail where a test wants it.
+ghost use Rattle.mq_ledger.specs.Legal.{IsLegalBook};
+
+use mq_frame::{Failed, Reply, Request, Sink, Source};
+use mq_ledger::{Ledger, LedgerFault, PlainLedger, Zone};
+use std::cell::Cell;
+
+/// Gives its bytes in pieces of at most `size`, and fails once `reads` of them were read.
+#[derive(Drop)]
+pub struct Pieces<'a> {
+    pub rest: &'a [u8],
+    pub size: usize,
+    pub reads: usize,
+    pub failed: bool,
+}
+
+impl<'a> Pieces<'a> {
+    /// A source that doesn't fail.
+    pub fn new(rest: &'a [u8], size: usize) -> Pieces<'a> {
+        Pieces {
+            rest,
+            size,
+            reads: usize::MAX,
+            failed: false,
+        }
+    }
+}
+
+impl Source for Pieces<'_> {
+    ghost has_failed = { λ source. source.failed };
+
+    fn read(&mut self, piece: &mut [u8]) -> Result<usize, Failed> {
+        if self.failed || self.reads == 0 {
+            self.failed = true;
+            return Err(Failed);
+        }
+        self.reads -= 1;
+        let count = self.rest.len().min(self.size).min(piece.len());
+        let (front, rest) = self.rest.split_at(count);
+        piece[..count].copy_from_slice(front);
+        self.rest = rest;
+        Ok(count)
+    }
+}
+
+/// Takes so many bytes, at most 5 of them at a time, and then fails.
+#[derive(Drop)]
+pub struct Room {
+    pub bytes: Vec<u8>,
+    pub left: usize,
+    pub failed: bool,
+}
+
+impl Room {
+    pub fn new(bytes: Vec<u8>, left: usize) -> Room {
+        Room {
+            bytes,
+            left,
+            failed: false,
+        }
+    }
+}
+
+impl Sink for Room {
+    ghost has_failed = { λ sink. sink.failed };
+
+    fn write(&mut self, piece: &[u8]) -> Result<usize, Failed> {
+        let count = piece.len().min(self.left).min(5);
+        if self.failed
+            || (count == 0 && !piece.is_empty())
+            || self.bytes.extend_from_slice(&piece[..count]).is_err()
+        {
+            self.failed = true;
+            return Err(Failed);
+        }
+        self.left -= count;
+        Ok(count)
+    }
+
+    fn flush(&mut self) -> Result<(), Failed> {
+        if self.failed {
+            return Err(Failed);
+        }
+        Ok(())
+    }
+}
+
+/// Gives a byte at a time, and notes whether one was read before all that was written was flushed.
+#[derive(Drop)]
+pub struct Watching<'a> {
+    pub rest: &'a [u8],
+    pub unflushed: &'a Cell<bool>,
+    pub early: bool,
+}
+
+impl Source for Watching<'_> {
+    ghost use Rattle.std.specs.Prelude.{false};
+
+    ghost has_failed = { λ _. false };
+
+    fn read(&mut self, piece: &mut [u8]) -> Result<usize, Failed> {
+        if self.unflushed.get() {
+            self.early = true;
+        }
+        match (self.rest, piece) {
+            ([byte, rest @ ..], [place, ..]) => {
+                *place = *byte;
+                self.rest = rest;
+                Ok(1)
+            }
+            _ => Ok(0),
+        }
+    }
+}
+
+/// Takes everything, and keeps nothing.
+#[derive(Drop)]
+pub struct Flushing<'a> {
+    pub unflushed: &'a Cell<bool>,
+}
+
+impl Sink for Flushing<'_> {
+    ghost use Rattle.std.specs.Prelude.{false};
+
+    ghost has_failed = { λ _. false };
+
+    fn write(&mut self, piece: &[u8]) -> Result<usize, Failed> {
+        self.unflushed.set(true);
+        Ok(piece.len())
+    }
+
+    fn flush(&mut self) -> Result<(), Failed> {
+        self.unflushed.set(false);
+        Ok(())
+    }
+}
+
+/// A plain ledger that answers a fault at one call, `before` calls after the start.
+#[derive(Drop)]
+pub struct Faulty {
+    pub inner: PlainLedger,
+    pub before: u32,
+    pub fault: LedgerFault,
+}
+
+impl Ledger for Faulty {
+    ghost book = { λ ledger. ledger.inner };
+
+    ghost has_kept = { λ _. Unit {0} };
+
+    ghost is_sound = { λ ledger. IsLegalBook ledger.inner };
+
+    ghost sound_is_kept = { λ _ _. tt };
+
+    ghost sound_is_legal = { λ _ sound. sound };
+
+    fn zone(&self) -> Zone {
+        self.inner.zone()
+    }
+
+    fn default_cap(&self) -> u32 {
+        self.inner.default_cap()
+    }
+
+    fn apply(&mut self, request: &Request) -> Result<Reply, LedgerFault> {
+        if self.before == 0 {
+            self.before = u32::MAX;
+            return Err(self.fault);
+        }
+        self.before -= 1;
+        self.inner.apply(request)
+    }
+}
