@@ -53,12 +53,24 @@ fn faults_after_ready(rt: HostRuntime) -> Result<(), Fail> {
     assert_stops(&rt, alloc, &[CONFIG, NO_RESULT], auth, REGISTRATION)?;
     let message = FilterFault::Track(TrackFault::Message);
     assert_stops(&rt, alloc, &[CONFIG, NO_MESSAGE], message, REGISTRATION)?;
-    assert_stops(&rt, alloc, &[CONFIG, b"config|x"], FilterFault::CutLine, REGISTRATION)?;
+    assert_stops(
+        &rt,
+        alloc,
+        &[CONFIG, b"config|x"],
+        FilterFault::CutLine,
+        REGISTRATION,
+    )?;
     let mut long = joined(alloc, &[CONFIG])?;
     for _byte in 0..65_537u32 {
         long.push(b'a')?;
     }
-    assert_stops(&rt, alloc, &[long.as_slice()], FilterFault::TooLong, REGISTRATION)
+    assert_stops(
+        &rt,
+        alloc,
+        &[long.as_slice()],
+        FilterFault::TooLong,
+        REGISTRATION,
+    )
 }
 
 #[test]
