@@ -1,7 +1,7 @@
 -- Tests, texts, lists and sums.
 use Rattle.std.proofs.Common.{◌≡◌, ℕ, ◌+◌, ◌<◌, ◌≤◌, List, [], ◌∷◌, ◌++◌, Bool, true, false, refl, ◌∙◌, ap, sym, inl, inr, arith}
-use Rattle.std.specs.Prelude.{sum_by, filter, ◌&&◌, ◌||◌, ◌==◌, ◌⊎◌, Option, Some, None, if◌then◌else◌}
-use Rattle.std.specs.List.{AllByRecursion, filter_map, list_any}
+use Rattle.std.specs.Prelude.{sum_by, filter, ◌&&◌, ◌==◌, ◌⊎◌, Option, Some, None}
+use Rattle.std.specs.List.{AllByRecursion, filter_map}
 use Rattle.std.specs.Cmp.Lexicographic.{bytes_decides}
 use Rattle.std.proofs.lemmas.Bool.Decides.{Decides-eqb}
 use Rattle.std.proofs.lemmas.List.Sums.{sum_by-cons}

@@ -1,15 +1,13 @@
 -- What the answers of a ledger with a legal history need.
-use Rattle.std.proofs.Common.{◌≡◌, ℕ, ◌+◌, ◌<◌, ◌≤◌, List, [], ◌∷◌, ◌++◌, true, false, Some, None, Option, refl, ◌∙◌, ap, sym, subst, arith}
-use Rattle.std.specs.Prelude.{nat_lt, is_some, All}
-use Rattle.std.proofs.lemmas.Bool.Decides.{nat_tests}
+use Rattle.std.proofs.Common.{◌≡◌, ℕ, ◌≤◌, List, [], ◌∷◌, ◌++◌, true, false, Some, None, Option, refl, ◌∙◌, ap, sym, subst}
+use Rattle.std.specs.Prelude.{is_some, All}
 use Rattle.std.proofs.lemmas.List.Elements.{All-push, All-map}
 use Rattle.mq_frame.specs.declared.message.Id.{Id}
 use Rattle.mq_frame.specs.declared.message.Request.{Request}
 use Rattle.mq_frame.specs.declared.message.Reply.{Reply}
-use Rattle.mq_frame.specs.declared.message.Reply.TheVariants.{Granted, Full}
 use Rattle.mq_frame.specs.Range.{IsRequest, IsReply, IsAmount}
 use Rattle.mq_ledger.specs.declared.entry.Entry.{Entry}
-use Rattle.mq_ledger.specs.Answer.{if_open, granted_or_full, answer, appended, stored_by, reply, reply_to, reply_by, taken, taken_by, history_of}
+use Rattle.mq_ledger.specs.Answer.{if_open, answer, appended, stored_by, reply, reply_to, reply_by, taken, taken_by, history_of}
 use Rattle.mq_ledger.specs.Arrivals.{id_of}
 use Rattle.mq_ledger.specs.Day.{IsOffset, day_of}
 use Rattle.mq_ledger.specs.History.{requests, transaction, granted_in, used, IsOpenTo}
@@ -31,12 +29,6 @@ book_held b h id txn at login o = held_fits (day_of b.zone) b.default b.history 
 -- an open transaction gets the answer itself
 pub open_answer : (H : List Entry) (id : Id) (txn at : ℕ) (login : List ℕ) (a : Reply) → IsOpenTo at login H (transaction id txn) → if_open H id txn at login a ≡ a
 open_answer H id txn at login a o = rw (o.agreed, o.open_still) refl
-
-pub full_answer : (id : Id) (n limit count : ℕ) → limit < n + count → granted_or_full id n limit count ≡ Full id n limit
-full_answer id n limit count h = (let t : nat_lt limit (n + count) ≡ true = grind (arith, nat_tests) in rw t refl)
-
-pub granted_answer : (id : Id) (n limit count : ℕ) → n + count ≤ limit → granted_or_full id n limit count ≡ Granted id (n + count)
-granted_answer id n limit count h = (let f : nat_lt limit (n + count) ≡ false = grind (arith, nat_tests) in rw f refl)
 
 -- Arrivals.
 

@@ -1,7 +1,6 @@
 -- From an instant and an offset to a day number.
 use Rattle.std.proofs.Common.{◌≡◌, ◌≤ℤ◌, pos, negsuc, ℕ, ◌<◌, ◌≤◌, ◌+◌, ◌*◌, ◌/◌, ℤ, ◌+ℤ◌, ◌*ℤ◌, ◌<ℤ◌, arith, int_div}
 use Rattle.jiff.proofs.SpanFacts.{signed_arith}
-use Rattle.mq_frame.specs.Range.{IsMoment, IsDay}
 use Rattle.mq_ledger.specs.Day.{IsOffset, natural, clock, day_of, IsDayRule}
 
 -- the whole days of a clock that shows a number of seconds

@@ -1,7 +1,6 @@
 -- Numbers of requests: what one more arrival does, and that a number keeps its reply.
-use Rattle.std.proofs.Common.{◌≡◌, ℕ, List, [], ◌∷◌, ◌++◌, Bool, true, false, refl, ◌∙◌, ap, sym, inl, inr, append_assoc, append-nil}
-use Rattle.std.specs.Prelude.{fold, map, find, ◌==◌, ◌&&◌, Option, Some, None, is_some}
-use Rattle.std.specs.Option.{option_or}
+use Rattle.std.proofs.Common.{◌≡◌, ℕ, List, [], ◌∷◌, ◌++◌, true, false, refl, ◌∙◌, ap, sym, inl, inr, append_assoc, append-nil}
+use Rattle.std.specs.Prelude.{fold, Option, Some, None, is_some}
 use Rattle.std.specs.List.{AllByRecursion, list_any}
 use Rattle.std.proofs.lemmas.List.{map-append}
 use Rattle.std.proofs.lemmas.List.Elements.{recursion_from_All, All-from_recursion}
@@ -13,13 +12,13 @@ use Rattle.mq_frame.specs.declared.message.Request.{Request}
 use Rattle.mq_frame.specs.declared.message.Request.TheVariants.{Reserve, Settle, Release, Limit, Usage, List as ListRequest}
 use Rattle.mq_frame.specs.declared.message.Reply.{Reply}
 use Rattle.mq_frame.specs.Range.{IsRequest}
-use Rattle.mq_frame.specs.Same.{same_text, same_id, same_request}
+use Rattle.mq_frame.specs.Same.{same_request}
 use Rattle.mq_ledger.specs.declared.entry.Entry.{Entry}
 use Rattle.mq_ledger.specs.Answer.{answer, appended, build, stored, reply, reply_to, reply_by, taken, taken_by, history_of}
-use Rattle.mq_ledger.specs.Arrivals.{id_of, is_numbered, has_id, kept_with, first}
+use Rattle.mq_ledger.specs.Arrivals.{id_of, has_id, kept_with, first}
 use Rattle.mq_ledger.specs.History.{requests}
 use Rattle.mq_ledger.specs.Legal.{IsLegal}
-use Rattle.mq_ledger.proofs.Basics.{either, option_cases, text_itself, number_itself}
+use Rattle.mq_ledger.proofs.Basics.{either, text_itself, number_itself}
 use Rattle.mq_ledger.proofs.Transactions.{entry, id_itself}
 
 -- First arrivals.

@@ -1,18 +1,17 @@
 -- The first day with more used is the least of all days.
-use Rattle.std.proofs.Common.{◌≡◌, ℕ, ◌+◌, ◌<◌, ◌≤◌, List, [], ◌∷◌, ◌++◌, append-nil, true, false, Some, None, Option, refl, ◌∙◌, ap, sym, subst, inl, inr, arith}
-use Rattle.std.specs.Prelude.{nat_lt, nat_le, sum_by, filter, ◌&&◌, ◌==◌, ◌⊎◌, if◌then◌else◌}
-use Rattle.std.specs.List.{AllByRecursion}
+use Rattle.std.proofs.Common.{◌≡◌, ℕ, ◌<◌, ◌≤◌, List, [], ◌∷◌, ◌++◌, append-nil, true, Some, None, Option, refl, ◌∙◌, ap, sym, subst, inl, inr, arith}
+use Rattle.std.specs.Prelude.{nat_lt, nat_le, filter, ◌&&◌, ◌==◌, ◌⊎◌, if◌then◌else◌}
 use Rattle.std.proofs.lemmas.Bool.Decides.{nat_tests}
 use Rattle.std.proofs.lemmas.List.Elements.{filter_map-append}
 use Rattle.mq_frame.specs.declared.message.Request.{Request}
-use Rattle.mq_frame.specs.declared.message.Request.TheVariants.{Reserve, Settle, Release, Limit, Usage, List as ListRequest}
+use Rattle.mq_frame.specs.declared.message.Request.TheVariants.{Reserve, Settle}
 use Rattle.mq_frame.specs.declared.message.Reply.{Reply}
 use Rattle.mq_frame.specs.declared.message.Reply.TheVariants.{Granted, Settled}
 use Rattle.mq_frame.specs.Same.{same_text}
 use Rattle.mq_ledger.specs.declared.entry.Entry.{Entry}
-use Rattle.mq_ledger.specs.History.{concerns, granted, counted, is_open, reserved_of, settled_of, reserved, settled, used}
+use Rattle.mq_ledger.specs.History.{concerns, granted, counted, is_open, reserved_of, settled_of, reserved, used}
 use Rattle.mq_ledger.specs.Over.{day_from, days_from, lesser, least, over, IsLeastOver}
-use Rattle.mq_ledger.proofs.Basics.{either, first_so, second_so, option_cases, some_none, some_is, le_or_lt, zero_or_more, number_is, In, all_of, all_at, in_filter, filter_in, in_filter_map, filter_map_in, MadeOf, Part, some_part}
+use Rattle.mq_ledger.proofs.Basics.{either, first_so, second_so, option_cases, some_none, some_is, le_or_lt, zero_or_more, number_is, In, in_filter, filter_in, in_filter_map, filter_map_in, some_part}
 
 -- The least of a list.
 
@@ -121,13 +120,14 @@ over_least day H l from c None h = λ d le. elim (le_or_lt (used day H l d) c) [
 ]
 over_least day H l from c (Some d) h =
     let kept = filter_in (λ d. nat_lt c (used day H l d)) (days_from day H l from) d (least_in _ d h) in
-    let more : nat_lt c (used day H l d) ≡ true = kept.passes in
-    (days_after day H l from d kept.among,
-     grind (arith, nat_tests, more),
-     λ e le before. elim (le_or_lt (used day H l e) c) [
-       | inl ok ↦ ok
-       | inr over' ↦ absurd (omega (arith, least_le _ d h e (over_among day H l from c e le over')))
-     ])
+    let more : nat_lt c (used day H l d) ≡ true = kept.passes in (
+      days_after day H l from d kept.among,
+      grind (arith, nat_tests, more),
+      λ e le before. elim (le_or_lt (used day H l e) c) [
+        | inl ok ↦ ok
+        | inr over' ↦ absurd (omega (arith, least_le _ d h e (over_among day H l from c e le over')))
+      ],
+    )
 
 -- and it is the only one
 same_least : (day : ℕ → ℕ) (H : List Entry) (l : List ℕ) (from c : ℕ) (o p : Option ℕ) → IsLeastOver day H l from c o → IsLeastOver day H l from c p → o ≡ p

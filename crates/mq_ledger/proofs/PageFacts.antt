@@ -1,13 +1,12 @@
 -- A page is the first hundred logins, and nothing else is.
-use Rattle.std.proofs.Common.{◌≡◌, ℕ, zero, suc, ◌+◌, ◌<◌, ◌≤◌, List, [], ◌∷◌, ◌++◌, length, length-append, get_or, take, Bool, true, false, Some, None, Option, refl, ◌∙◌, ap, sym, subst, inl, inr, arith}
-use Rattle.std.specs.Prelude.{◌⊎◌, All, Contains, if◌then◌else◌}
+use Rattle.std.proofs.Common.{◌≡◌, ℕ, zero, suc, ◌≤◌, List, [], ◌∷◌, ◌++◌, length, length-append, take, Bool, true, Some, None, Option, refl, ◌∙◌, ap, sym, subst, inl, inr, arith}
+use Rattle.std.specs.Prelude.{◌⊎◌, Contains}
 use Rattle.std.specs.List.{AllByRecursion, list_any}
 use Rattle.std.proofs.lemmas.List.{length-take}
 use Rattle.std.proofs.lemmas.List.Elements.{recursion_from_All, All-from_recursion}
-use Rattle.mq_frame.specs.Same.{same_text}
 use Rattle.mq_ledger.specs.declared.entry.Entry.{Entry}
 use Rattle.mq_ledger.specs.Page.{below, login_on, logins_on, logins_above, page, IsAscending, is_login, has_reserve, IsPage}
-use Rattle.mq_ledger.proofs.Basics.{either, le_or_lt, text_is, text_itself, some_is, In, all_of, all_at, all_push, in_filter_map, filter_map_in}
+use Rattle.mq_ledger.proofs.Basics.{either, text_is, text_itself, In, all_of, all_at, all_push, in_filter_map, filter_map_in}
 use Rattle.mq_ledger.proofs.Pages.{below_trans, not_below_itself, same_ascending, above_ascending, IsAbove, above_in, in_above}
 
 -- Members by place.
@@ -151,12 +150,12 @@ page_part day H d after xs ys p q x i =
       | inl c ↦ contains_in ys x c
       | inr full ↦ (let behind : AllByRecursion (λ m. below m x ≡ true) ys = recursion_from_All (λ m. below m x ≡ true) ys full.1 in
           let among : (y : List ℕ) → In y ys → In y xs = λ y j.
-            elim (p.first y (all_at (λ l. below after l ≡ true) ys y (all_above ys q.above) j) (all_at (λ l. has_reserve day H d l ≡ true) ys y (all_there ys q.there) j)) [
-              | inl c ↦ contains_in xs y c
-              | inr full' ↦ absurd (not_below_itself x (below_trans x y x
-                  (all_at (λ m. below m y ≡ true) xs x (recursion_from_All (λ m. below m y ≡ true) xs full'.1) i)
-                  (all_at (λ m. below m x ≡ true) ys y behind j)))
-            ] in
+          elim (p.first y (all_at (λ l. below after l ≡ true) ys y (all_above ys q.above) j) (all_at (λ l. has_reserve day H d l ≡ true) ys y (all_there ys q.there) j)) [
+            | inl c ↦ contains_in xs y c
+            | inr full' ↦ absurd (not_below_itself x (below_trans x y x
+                (all_at (λ m. below m y ≡ true) xs x (recursion_from_All (λ m. below m y ≡ true) xs full'.1) i)
+                (all_at (λ m. below m x ≡ true) ys y behind j)))
+          ] in
           let more : length (ys ++ x ∷ []) ≤ length xs = part_le xs (ys ++ x ∷ []) p.ascending (push_ascending ys x q.ascending behind) (λ z k. elim (in_push ys x z k) [
             | inl j ↦ among z j
             | inr e ↦ (let P : List ℕ → Type 0 = λ w. In w xs in subst P e i)

@@ -1,21 +1,19 @@
 -- The logins of a day in byte order, and their pages.
-use Rattle.std.proofs.Common.{◌≡◌, ℕ, zero, suc, ◌+◌, ◌-◌, ◌<◌, ◌≤◌, List, [], ◌∷◌, ◌++◌, length, take, Bool, true, false, Some, None, Option, refl, ◌∙◌, ap, sym, subst, inl, inr, arith, append_assoc, append-nil}
-use Rattle.std.specs.Prelude.{map, fold, filter, ◌==◌, ◌&&◌, ◌⊎◌, if◌then◌else◌, slice_get, nat_eq, All, Contains}
-use Rattle.std.specs.List.{AllByRecursion, filter_map, list_any}
+use Rattle.std.proofs.Common.{◌≡◌, ℕ, zero, suc, ◌+◌, ◌-◌, ◌<◌, List, [], ◌∷◌, ◌++◌, take, true, false, Some, None, Option, refl, ◌∙◌, ap, sym, subst, inl, inr, arith, append_assoc, append-nil}
+use Rattle.std.specs.Prelude.{map, fold, filter, ◌⊎◌, if◌then◌else◌, slice_get}
+use Rattle.std.specs.List.{AllByRecursion}
 use Rattle.std.specs.Ordering.{nat_cmp, is_lt, eq_by_cmp, ordering_reverse}
 use Rattle.std.specs.Cmp.{IsTotalOrder}
-use Rattle.std.specs.Cmp.Lexicographic.{slice_cmp, pointwise, texts_ties, bytes_decides}
+use Rattle.std.specs.Cmp.Lexicographic.{slice_cmp, texts_ties, bytes_decides}
 use Rattle.std.specs.declared.cmp.Ordering.{Ordering}
 use Rattle.std.specs.declared.cmp.Ordering.TheVariants.{Less, Equal, Greater}
 use Rattle.std.proofs.lemmas.Cmp.{nat_list_cmp_total}
-use Rattle.std.proofs.lemmas.List.{length-take}
-use Rattle.std.proofs.lemmas.List.Elements.{filter-append, filter_map-append, recursion_from_All, All-from_recursion}
+use Rattle.std.proofs.lemmas.List.Elements.{filter-append, filter_map-append}
 use Rattle.std.proofs.lemmas.List.Sums.{fold_push}
-use Rattle.mq_frame.specs.Same.{same_text}
 use Rattle.mq_frame.specs.declared.usage.UsageRow.{UsageRow}
 use Rattle.mq_ledger.specs.declared.entry.Entry.{Entry}
-use Rattle.mq_ledger.specs.Page.{below, login_on, logins_on, put, nearer, ascending, logins_above, page, IsAscending, is_login, has_reserve, IsPage}
-use Rattle.mq_ledger.proofs.Basics.{either, option_cases, some_none, some_is, le_or_lt, text_is, text_itself, In, all_of, all_at, in_filter, filter_in, in_filter_map, filter_map_in}
+use Rattle.mq_ledger.specs.Page.{below, login_on, logins_on, put, nearer, ascending, logins_above, page, IsAscending}
+use Rattle.mq_ledger.proofs.Basics.{either, some_none, some_is, In, all_of, all_at, in_filter, filter_in}
 
 -- Byte order.
 
@@ -104,10 +102,13 @@ put_ascending (m ∷ ms) l up = elim (either (below l m)) [
   | inl t ↦ rw t ((t, all_of (λ x. below l x ≡ true) ms (λ x i. below_trans l m x t (all_at (λ x. below m x ≡ true) ms x up.0 i))), up)
   | inr f ↦ elim (either (below m l)) [
     | inr g ↦ rw (f, g) up
-    | inl t ↦ rw (f, t) (all_of (λ x. below m x ≡ true) (put ms l) (λ x i. elim (put_adds ms l x i) [
+    | inl t ↦ rw (f, t) (
+      all_of (λ x. below m x ≡ true) (put ms l) (λ x i. elim (put_adds ms l x i) [
         | inl e ↦ (let P : List ℕ → Type 0 = λ y. below m y ≡ true in subst P e t)
         | inr j ↦ all_at (λ x. below m x ≡ true) ms x up.0 j
-      ]), put_ascending ms l up.1)
+      ]),
+      put_ascending ms l up.1,
+    )
   ]
 ]
 
@@ -156,8 +157,8 @@ same_ascending (x ∷ xs) [] up up' h g = absurd (h x (inl refl))
 same_ascending (x ∷ xs) (y ∷ ys) up up' h g =
     let e : x ≡ y = heads_same x y xs ys up up' (h x (inl refl)) (g y (inl refl)) in
     let rest : xs ≡ ys = same_ascending xs ys up.1 up'.1
-        (λ z i. tail_in x y z xs ys e up.0 i (h z (inr i)))
-        (λ z i. tail_in y x z ys xs (sym e) up'.0 i (g z (inr i))) in
+    (λ z i. tail_in x y z xs ys e up.0 i (h z (inr i)))
+    (λ z i. tail_in y x z ys xs (sym e) up'.0 i (g z (inr i))) in
     λ i. e i ∷ rest i
 
 -- The logins of a day above one.
@@ -190,12 +191,12 @@ above_first day H d after m ms h =
     let out : (z : List ℕ) → In z all → In z (m ∷ ms) = λ z i. (let P : List (List ℕ) → Type 0 = λ ls. In z ls in subst P h i) in
     let first = in_above day H d after m (into m (inl refl)) in
     same_ascending (logins_above day H d m) ms (above_ascending day H d m) up.1
-      (λ z i. (let z_is = in_above day H d m z i in
-          elim (out z (above_in day H d after z (record { above = below_trans after m z first.above z_is.above; there = z_is.there }))) [
-            | inr j ↦ j
-            | inl e ↦ absurd (not_below_itself m (let P : List ℕ → Type 0 = λ w. below m w ≡ true in subst P (sym e) z_is.above))
-          ]))
-      (λ z i. above_in day H d m z (record { above = all_at (λ x. below m x ≡ true) ms z up.0 i; there = (in_above day H d after z (into z (inr i))).there }))
+    (λ z i. (let z_is = in_above day H d m z i in
+    elim (out z (above_in day H d after z (record { above = below_trans after m z first.above z_is.above; there = z_is.there }))) [
+      | inr j ↦ j
+      | inl e ↦ absurd (not_below_itself m (let P : List ℕ → Type 0 = λ w. below m w ≡ true in subst P (sym e) z_is.above))
+    ]))
+    (λ z i. above_in day H d m z (record { above = all_at (λ x. below m x ≡ true) ms z up.0 i; there = (in_above day H d after z (into z (inr i))).there }))
 
 -- with one more entry
 abbrev put_above : List ℕ → List (List ℕ) → Option (List ℕ) → List (List ℕ)
@@ -256,7 +257,7 @@ pub rows_more : (f : List ℕ → UsageRow) (day : ℕ → ℕ) (H : List Entry)
 rows_more f day H d i after l out all lt h some =
     let k : 100 - i ≡ suc (100 - (i + 1)) = omega arith in
     let one : rows_of f day H d (100 - i) after ≡ f l ∷ rows_of f day H d (100 - (i + 1)) l =
-      ap (λ n. rows_of f day H d n after) k ∙ ap (λ (ls : List (List ℕ)). map f (take (suc (100 - (i + 1))) ls)) (above_next day H d after l _ refl some) in
+    ap (λ n. rows_of f day H d n after) k ∙ ap (λ (ls : List (List ℕ)). map f (take (suc (100 - (i + 1))) ls)) (above_next day H d after l _ refl some) in
     append_assoc out (f l ∷ []) (rows_of f day H d (100 - (i + 1)) l) ∙ ap (λ (rs : List UsageRow). out ++ rs) (sym one) ∙ h
 
 pub rows_all : (f : List ℕ → UsageRow) (day : ℕ → ℕ) (H : List Entry) (d i : ℕ) (after : List ℕ) (out all : List UsageRow) → 100 ≡ i → out ++ rows_of f day H d (100 - i) after ≡ all → out ≡ all

@@ -1,6 +1,6 @@
 -- The answers over a history of requests in range are in range.
-use Rattle.std.proofs.Common.{◌≡◌, ℕ, ◌+◌, ◌<◌, ◌≤◌, List, [], ◌∷◌, ◌++◌, length, map, Bool, true, false, Some, None, Option, refl, ◌∙◌, ap, sym, subst, inl, inr, arith}
-use Rattle.std.specs.Prelude.{filter, find, fold, nat_lt, nat_le, not, ◌==◌, ◌&&◌, ◌⊎◌, if◌then◌else◌, All}
+use Rattle.std.proofs.Common.{◌≡◌, ℕ, ◌+◌, ◌≤◌, List, [], ◌∷◌, map, Bool, true, false, Some, None, Option, refl, sym, subst, inl, inr, arith}
+use Rattle.std.specs.Prelude.{filter, fold, nat_lt, nat_le, not, ◌==◌, ◌&&◌, if◌then◌else◌}
 use Rattle.std.specs.List.{AllByRecursion}
 use Rattle.std.proofs.lemmas.Bool.Decides.{nat_tests}
 use Rattle.std.proofs.lemmas.List.Elements.{recursion_from_All, All-from_recursion, All-map}
@@ -9,21 +9,19 @@ use Rattle.mq_frame.specs.declared.message.Id.{Id}
 use Rattle.mq_frame.specs.declared.message.Request.{Request}
 use Rattle.mq_frame.specs.declared.message.Request.TheVariants.{Reserve, Settle, Release, Limit, Usage, List as ListRequest}
 use Rattle.mq_frame.specs.declared.message.Reply.{Reply}
-use Rattle.mq_frame.specs.declared.message.Reply.TheVariants.{Granted, Full, Settled, Released, LimitSet, Over, Closed, Mismatch, TooMany, Conflict, Usage as UsageReply, List as ListReply}
-use Rattle.mq_frame.specs.declared.usage.UsageRow.{UsageRow}
+use Rattle.mq_frame.specs.declared.message.Reply.TheVariants.{Granted, Full, Settled, Released, Closed, Mismatch, TooMany}
 use Rattle.mq_frame.specs.Range.{IsRequest, IsReply, IsId, IsAmount, IsCount, IsDay, IsMoment, IsLogin, IsRow, IsPage as IsRows}
 use Rattle.mq_frame.specs.Same.{same_text, same_request}
 use Rattle.mq_ledger.specs.declared.entry.Entry.{Entry}
-use Rattle.mq_ledger.specs.Answer.{answer, appended, build, stored, reply, reply_to, reply_by, granted_or_full, settled_or_too_many, set_or_over}
+use Rattle.mq_ledger.specs.Answer.{answer, appended, stored, reply, reply_to, reply_by, set_or_over}
 use Rattle.mq_ledger.specs.Arrivals.{id_of, has_id}
 use Rattle.mq_ledger.specs.Day.{IsDayRule}
-use Rattle.mq_ledger.specs.History.{requests, transaction, Transaction, named, agrees, closed, granted_in, held, reserved, settled, used}
+use Rattle.mq_ledger.specs.History.{requests, transaction, Transaction, named, agrees, closed, granted_in, held, used}
 use Rattle.mq_ledger.specs.Legal.{IsLegal}
 use Rattle.mq_ledger.specs.Limits.{cap, cap_of, from_of, governs, limits, latest, last_cap}
 use Rattle.mq_ledger.specs.Over.{day_from, over}
 use Rattle.mq_ledger.specs.Page.{page, row, login_on}
-use Rattle.mq_ledger.proofs.Basics.{either, option_cases, some_none, some_is, In, all_of, all_at, all_push, filter_in, filter_map_in}
-use Rattle.mq_ledger.proofs.Numbers.{build_push}
+use Rattle.mq_ledger.proofs.Basics.{either, some_none, some_is, all_of, all_at, all_push, filter_in, filter_map_in}
 use Rattle.mq_ledger.proofs.Overs.{least_in}
 use Rattle.mq_ledger.proofs.PageFacts.{page_few, in_page}
 use Rattle.mq_ledger.proofs.Transactions.{entry, transaction_itself, held_goes}

@@ -1,5 +1,5 @@
 -- In every history that is built no more is used than the limit.
-use Rattle.std.proofs.Common.{◌≡◌, ℕ, ◌+◌, ◌<◌, ◌≤◌, List, [], ◌∷◌, ◌++◌, Bool, true, false, refl, sym, subst, inl, inr, arith}
+use Rattle.std.proofs.Common.{◌≡◌, ℕ, ◌+◌, ◌≤◌, List, [], ◌∷◌, ◌++◌, Bool, true, false, refl, sym, subst, inl, inr, arith}
 use Rattle.std.specs.Prelude.{if◌then◌else◌, nat_lt, nat_le, sum_by, fold, ◌&&◌, ◌==◌, ◌⊎◌, not, Option, Some, None}
 use Rattle.std.specs.List.{AllByRecursion}
 use Rattle.std.proofs.lemmas.Bool.Decides.{nat_tests}
@@ -11,8 +11,8 @@ use Rattle.mq_frame.specs.declared.message.Reply.{Reply}
 use Rattle.mq_frame.specs.declared.message.Reply.TheVariants.{Granted, Full, Settled, Released, LimitSet, Closed, Mismatch, TooMany}
 use Rattle.mq_frame.specs.Same.{same_text}
 use Rattle.mq_ledger.specs.declared.entry.Entry.{Entry}
-use Rattle.mq_ledger.specs.Answer.{if_open, granted_or_full, settled_or_too_many, set_or_over, appended, build}
-use Rattle.mq_ledger.specs.History.{Transaction, transaction, is_of, closed, named, agrees, granted, granted_in, counted, held, reserved_of, settled_of, reserved, settled, used}
+use Rattle.mq_ledger.specs.Answer.{set_or_over, appended, build}
+use Rattle.mq_ledger.specs.History.{Transaction, transaction, closed, named, agrees, granted, granted_in, counted, held, reserved_of, settled_of, reserved, settled, used}
 use Rattle.mq_ledger.specs.Limits.{governs, latest, limits, cap}
 use Rattle.mq_ledger.specs.Over.{over}
 use Rattle.mq_ledger.proofs.Basics.{either, first_so, second_so, le_or_lt, text_is, number_is}

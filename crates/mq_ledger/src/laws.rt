@@ -46,11 +46,11 @@ pub fn number_keeps_its_reply()
         (id : Id) (e : AnyEntry) → id_of r ≡ Some id →
         stored (history_of day default A) id ≡ Some e →
         reply day default (history_of day default (A ++ B)) r
-            ≡ reply day default (history_of day default A) r }
+        ≡ reply day default (history_of day default A) r }
     ensures repeated { (day : ℕ → ℕ) (default : ℕ) (A B : List AnyRequest) (r : AnyRequest)
         (id : Id) → id_of r ≡ Some id →
         reply day default (history_of day default (A ++ r ∷ B)) r
-            ≡ reply day default (history_of day default A) r }
+        ≡ reply day default (history_of day default A) r }
 {}
 
 /// The days of an offset are in range, and so are all replies to requests in range.

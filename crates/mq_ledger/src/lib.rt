@@ -3,9 +3,9 @@
 //! `docs/LEDGER.md` tells the whole meaning, with examples.
 #![tactic(auto)]
 
+mod cap;
 mod contract;
 mod entry;
-mod cap;
 mod first_over;
 pub mod laws;
 mod listing;
@@ -18,3 +18,6 @@ pub use contract::{Ledger, LedgerFault};
 pub use entry::Entry;
 pub use plain::PlainLedger;
 pub use zone::{BadOffset, Zone};
+
+#[cfg(test)]
+mod tests;

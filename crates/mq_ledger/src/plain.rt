@@ -32,10 +32,16 @@ impl Model for PlainLedger {
     ghost Value = { Book };
 
     ghost view = { λ ledger. record {
-        zone = ledger.zone; default = ledger.default; history = ledger.entries.items } };
+      zone = ledger.zone;
+      default = ledger.default;
+      history = ledger.entries.items;
+    } };
 
     ghost invariant = { λ ledger. IsLegalBook (record {
-        zone = ledger.zone; default = ledger.default; history = ledger.entries.items }) };
+      zone = ledger.zone;
+      default = ledger.default;
+      history = ledger.entries.items;
+    }) };
 }
 
 impl PlainLedger {
@@ -60,7 +66,7 @@ fn stored_reply(entries: &[Entry], request: &Request) -> Result<Option<Reply>, A
     ensures { let e = stored_by entries.now (id_of request.now) in IfOk result (λ known. MatchOption known
         (e ≡ None)
         (λ r. (is_some e ≡ true)
-            × ((day : ℕ → ℕ) (default : ℕ) → r ≡ reply day default entries.now request.now))) }
+        × ((day : ℕ → ℕ) (default : ℕ) → r ≡ reply day default entries.now request.now))) }
 {
     let Some(id) = id_of(request) else {
         return Ok(None);
@@ -120,7 +126,7 @@ impl Ledger for PlainLedger {
             IfOk result (λ r. r ≡ reply (day_of b.zone) b.default b.history request.now) }
         ensures history { let b = self.old in
             OnOk result (self.new.history
-                ≡ build (day_of b.zone) b.default (first (requests b.history ++ request.now ∷ []))) }
+            ≡ build (day_of b.zone) b.default (first (requests b.history ++ request.now ∷ []))) }
         ensures fault { OnErr result (self.new ≡ self.old) }
         ensures memory { IfErr result (λ fault. fault ≡ LedgerFault.Memory) }
         ensures sound { IsLegalBook self.new }

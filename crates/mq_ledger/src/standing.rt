@@ -51,7 +51,7 @@ fn is_at(request: &Request, at: u64, login: &Login) -> bool
         | Request::Release {
             at: moment,
             login: other,
-        ..
+            ..
         } => at == *moment && *login == *other,
         _ => false,
     }
@@ -78,9 +78,7 @@ fn agrees(entries: &[Entry], id: &Id, txn: u32, at: u64, login: &Login) -> bool
 pub fn is_closed(entries: &[Entry], id: &Id, txn: u32) -> bool
     ensures { result ≡ closed entries.now (transaction id.now txn) }
 {
-    entries
-        .iter()
-        .any(|entry| is_of(&entry.request, id, txn) && closes(&entry.reply))
+    entries.iter().any(|entry| is_of(&entry.request, id, txn) && closes(&entry.reply))
 }
 
 /// The reply to a request whose transaction isn't open to it: it has another moment or login, or is

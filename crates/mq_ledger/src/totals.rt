@@ -47,10 +47,7 @@ fn reserved_of(entries: &[Entry], zone: Zone, login: &Login, day: u32, entry: &E
     ensures { result ≡ reserved_of (day_of zone) entries.now login.now day entry.now }
 {
     let count = granted(entry);
-    if 0 < count
-        && concerns(&entry.request, zone, login, day)
-        && is_open(entries, &entry.request)
-    {
+    if 0 < count && concerns(&entry.request, zone, login, day) && is_open(entries, &entry.request) {
         count
     } else {
         0

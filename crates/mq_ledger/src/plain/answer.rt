@@ -1,7 +1,7 @@
 //! The answers of a plain ledger to requests whose number it doesn't have.
-ghost use Rattle.std.specs.Prelude.{◌≡◌, IfOk};
+ghost use Rattle.std.specs.Prelude.{◌≡◌, ◌+◌, ◌<◌, ◌^◌, IfOk};
 ghost use Rattle.mq_frame.specs.Range.{IsRequest};
-ghost use Rattle.mq_ledger.specs.Answer.{answer};
+ghost use Rattle.mq_ledger.specs.Answer.{answer, granted_or_full};
 ghost use Rattle.mq_ledger.specs.Day.{day_of};
 
 use crate::cap::cap;
@@ -12,6 +12,25 @@ use crate::standing::{granted_in, refusal};
 use crate::totals::used;
 use mq_frame::{Id, Login, Reply, Request, UsageRow, UsageRows};
 use std::alloc::AllocError;
+
+/// The reply to a reserve where that much is used and may be used.
+fn granted_or_full(id: &Id, used: u32, cap: u32, count: u32) -> Result<Reply, AllocError>
+    requires { used + count < 2 ^ 32 }
+    ensures { IfOk result (λ r. r ≡ granted_or_full id.now used cap count) }
+{
+    if cap < used + count {
+        Ok(Reply::Full {
+            id: id.clone()?,
+            used,
+            cap,
+        })
+    } else {
+        Ok(Reply::Granted {
+            id: id.clone()?,
+            used: used + count,
+        })
+    }
+}
 
 impl PlainLedger {
     fn answer_reserve(
@@ -32,18 +51,7 @@ impl PlainLedger {
         let day = self.zone.day(at);
         let used = used(&self.entries, self.zone, login, day);
         let cap = cap(&self.entries, self.default, login, day);
-        if cap < used + count {
-            Ok(Reply::Full {
-                id: id.clone()?,
-                used,
-                cap,
-            })
-        } else {
-            Ok(Reply::Granted {
-                id: id.clone()?,
-                used: used + count,
-            })
-        }
+        granted_or_full(id, used, cap, count)
     }
 
     fn answer_settle(
@@ -74,13 +82,7 @@ impl PlainLedger {
         }
     }
 
-    fn answer_release(
-        &self,
-        id: &Id,
-        txn: u32,
-        at: u64,
-        login: &Login,
-    ) -> Result<Reply, AllocError>
+    fn answer_release(&self, id: &Id, txn: u32, at: u64, login: &Login) -> Result<Reply, AllocError>
         ensures { IfOk result (λ a. a ≡ answer (day_of self.now.zone) self.now.default self.now.history
             (Request.Release id.now txn at login.now)) }
     {

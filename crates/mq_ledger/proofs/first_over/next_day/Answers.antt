@@ -1,4 +1,4 @@
-use Rattle.std.proofs.Common.{◌≡◌, ◌∙◌, ℕ, Option, take, ap, sym, subst, Some, None, IfSome, inl, inr, true, false}
+use Rattle.std.proofs.Common.{◌∙◌, ℕ, Option, take, ap, sym, Some, None, IfSome, inl, inr}
 use Rattle.std.specs.Prelude.{nat_lt}
 use Rattle.std.proofs.lemmas.List.{take_more}
 use Rattle.mq_frame.specs.Range.{IsDay}
@@ -28,8 +28,8 @@ loop-entry-preserved c =
       | in_default w ↦ elim (option_cases c.day_from.result) [
         | inr p ↦ absurd (w.in_default.not-Some p.0 p.1)
         | inl none ↦ record {
-            so_far = w.found-is ∙ kept.so_far ∙ sym (next_other (day_of c.args.zone) (take c.loop-entry.entry-index c.args.entries.now) c.args.login.now c.args.from c.entry-item.result (sym given.value ∙ none));
-            in_range = rw w.found-is kept.in_range;
-          }
+          so_far = w.found-is ∙ kept.so_far ∙ sym (next_other (day_of c.args.zone) (take c.loop-entry.entry-index c.args.entries.now) c.args.login.now c.args.from c.entry-item.result (sym given.value ∙ none));
+          in_range = rw w.found-is kept.in_range;
+        }
       ]
     ])

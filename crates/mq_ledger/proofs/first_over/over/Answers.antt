@@ -1,4 +1,4 @@
-use Rattle.std.proofs.Common.{◌≡◌, ◌∙◌, ℕ, ◌<◌, ◌≤◌, sym, Some, None, arith, inl, inr}
+use Rattle.std.proofs.Common.{◌≡◌, ◌∙◌, ◌<◌, ◌≤◌, sym, Some, None, arith, inl, inr}
 use Rattle.mq_frame.specs.Range.{IsDay}
 use Rattle.mq_ledger.specs.Day.{day_of}
 use Rattle.mq_ledger.specs.History.{used}
@@ -21,7 +21,8 @@ returns-then-cap-used c =
       λ e le before. elim (le_or_lt c.days.start e) [
         | inl later ↦ omega (arith, nothing_before day H l c.days.start c.in-Some.day next e later before)
         | inr earlier ↦ c.days.invariant.none_before e le earlier
-      ])
+      ],
+    )
 
 pub days-smaller : goal.days-smaller
 days-smaller c =

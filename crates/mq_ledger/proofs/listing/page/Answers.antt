@@ -1,9 +1,9 @@
-use Rattle.std.proofs.Common.{◌≡◌, ◌++◌, Some, None, ap, sym, ◌∙◌, arith, inl, inr}
+use Rattle.std.proofs.Common.{◌≡◌, Some, ap, sym, ◌∙◌, arith}
 use Rattle.std.specs.Option.{option_copied}
 use Rattle.std.specs.Prelude.{slice_get}
 use Rattle.mq_ledger.specs.Day.{day_of}
-use Rattle.mq_ledger.specs.Page.{page, row, logins_above}
-use Rattle.mq_ledger.proofs.Pages.{rows_of, rows_page, rows_end, rows_more, rows_all}
+use Rattle.mq_ledger.specs.Page.{row, logins_above}
+use Rattle.mq_ledger.proofs.Pages.{rows_page, rows_more, rows_all}
 use Rattle.mq_ledger.proofs.listing.page.Goals as goal
 
 pub rows-init : goal.rows-init

@@ -21,5 +21,5 @@ pub returns-in_ok-clone-in-Some : goal.returns-in_ok-clone-in-Some
 returns-in_ok-clone-in-Some c =
     let same : c.in_ok-clone-in-Some.field-0 ≡ c.args.id.now = (let e = c.in_ok-clone-in-Some.ensures.cases in λ i. record { host = e.0 i; run = e.1.0 i; seq = e.1.1 i }) in
     rw (← c.self.view_is) (answered (day_of c.self.inside.zone) c.self.inside.entries.items c.args.id.now _ c.args.login.now c.in-Some.day c.used.result _ same
-      (rw c.deref-in-Some.ensures.value at c.used.ensures)
-      (sym c.in-Some.is ∙ rw c.deref.ensures.value at c.over.ensures))
+    (rw c.deref-in-Some.ensures.value at c.used.ensures)
+    (sym c.in-Some.is ∙ rw c.deref.ensures.value at c.over.ensures))

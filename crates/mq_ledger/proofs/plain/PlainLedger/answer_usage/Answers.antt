@@ -1,4 +1,4 @@
-use Rattle.std.proofs.Common.{◌≡◌, ◌∙◌, ℕ, List, ap, sym, arith}
+use Rattle.std.proofs.Common.{ap, arith}
 use Rattle.mq_frame.specs.declared.message.Reply.TheVariants.{Usage}
 use Rattle.mq_frame.specs.declared.usage.UsageRow.{UsageRow}
 use Rattle.mq_ledger.proofs.Books.{book_used}

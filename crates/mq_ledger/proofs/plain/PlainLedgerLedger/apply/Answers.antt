@@ -1,13 +1,12 @@
-use Rattle.std.proofs.Common.{◌≡◌, ◌∙◌, ◌++◌, ◌∷◌, [], List, Some, None, Option, true, false, ap, sym, refl, inl, inr}
+use Rattle.std.proofs.Common.{◌≡◌, ◌∙◌, List, Some, None, Option, true, false, ap, sym, refl, inl, inr}
 use Rattle.std.specs.Prelude.{is_some}
 use Rattle.std.specs.Borrow.{Bor}
 use Rattle.std.specs.Option.{option_copied}
-use Rattle.mq_frame.specs.Range.{IsReply}
 use Rattle.mq_ledger.specs.declared.entry.Entry.{Entry}
-use Rattle.mq_ledger.specs.Answer.{answer, appended, stored_by, reply, taken}
+use Rattle.mq_ledger.specs.Answer.{answer, stored_by, taken}
 use Rattle.mq_ledger.specs.Arrivals.{id_of}
 use Rattle.mq_ledger.specs.Day.{day_of}
-use Rattle.mq_ledger.specs.Legal.{Book, IsLegalBook}
+use Rattle.mq_ledger.specs.Legal.{Book}
 use Rattle.mq_ledger.proofs.Basics.{option_cases}
 use Rattle.mq_ledger.proofs.Books.{taken_stored, taken_unnumbered, book_taken, book_reply, book_history, book_appended, book_fresh_reply}
 use Rattle.mq_ledger.proofs.plain.PlainLedgerLedger.apply.Goals as goal
@@ -36,7 +35,7 @@ invariant_of-self c = elim (option_cases c.in_ok-reply.field-0) [
       let numbered : is_some (id_of r) ≡ true = ap is_some (sym c.id_of.ensures) ∙ copied_some c.id_of.result ∙ sym c.if-is_some.ensures in
       let is : c.in_ok-reply-2.reply ≡ answer (day_of b.zone) b.default b.history r = rw (← c.self.view_is) at c.in_ok-reply-2.ensures in
       book_taken b (record { zone = b.zone; default = b.default; history = c.append.new.entries.items }) r c.self.invariant c.requires refl refl
-        (c.in_ok-append.ensures.ok ∙ book_appended b r c.in_ok-reply-2.reply fresh numbered is))
+      (c.in_ok-append.ensures.ok ∙ book_appended b r c.in_ok-reply-2.reply fresh numbered is))
 ]
 
 pub returns-clause-in_range : goal.returns-clause-in_range

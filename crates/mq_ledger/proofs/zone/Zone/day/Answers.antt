@@ -1,4 +1,4 @@
-use Rattle.std.proofs.Common.{◌∙◌, ◌≡◌, ◌≤◌, ◌≤ℤ◌, pos, negsuc, ℕ, ◌/◌, ℤ, ◌+ℤ◌, ◌*ℤ◌, arith, ap, to_z, w64}
+use Rattle.std.proofs.Common.{◌∙◌, ◌≡◌, ◌≤ℤ◌, pos, ℤ, ◌*ℤ◌, arith, ap, to_z, w64}
 use Rattle.std.proofs.lemmas.Int.{to_z_pos}
 use Rattle.std.proofs.lemmas.Result.{IfOk-at_ok}
 use Rattle.jiff.proofs.SpanFacts.{signed_arith}

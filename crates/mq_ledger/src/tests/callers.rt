@@ -1,0 +1,119 @@
+//! A caller and a ledger that know nothing but the trait.
+ghost use Rattle.std.specs.Prelude.{◌≡◌, ◌++◌, All, IfOk, OnOk};
+ghost use Rattle.mq_frame.specs.Range.{IsRequest};
+ghost use Rattle.mq_ledger.specs.Answer.{history_of, replies_after};
+ghost use Rattle.mq_ledger.specs.Day.{day_of};
+ghost use Rattle.mq_ledger.specs.History.{requests as requests_of};
+
+use super::{granted, ledger, reserve, usage, used};
+use crate::laws::one_more_arrival;
+use crate::{Ledger, LedgerFault, Zone};
+use mq_frame::{Reply, Request};
+use std::alloc::{AllocError, Global};
+use std::test::*;
+
+/// Applies requests in order, and gives their replies.
+fn apply_all<L: Ledger>(
+    alloc: Global,
+    ledger: &mut L,
+    requests: &[Request],
+) -> Result<Vec<Reply>, LedgerFault>
+    requires { All IsRequest requests.now }
+    ensures kept { L.has_kept ledger.new → L.has_kept ledger.old }
+    ensures sound { L.has_kept ledger.new → L.is_sound ledger.old → L.is_sound ledger.new }
+    ensures history { L.has_kept ledger.new → L.is_sound ledger.old → (let b = L.book ledger.old in
+        OnOk result ((L.book ledger.new).history
+        ≡ history_of (day_of b.zone) b.default (requests_of b.history ++ requests.now))) }
+    ensures replies { L.has_kept ledger.new → L.is_sound ledger.old → (let b = L.book ledger.old in
+        IfOk result (λ replies. replies.items
+        ≡ replies_after (day_of b.zone) b.default (requests_of b.history) requests.now)) }
+{
+    one_more_arrival();
+    let mut replies = Vec::new(alloc);
+    for request in requests {
+        let reply = ledger.apply(request)?;
+        replies.push(reply).map_err(|_| LedgerFault::Memory)?;
+    }
+    Ok(replies)
+}
+
+/// A ledger whose n-th call fails, and no other.
+#[derive(Drop)]
+struct FailsOnce<L> {
+    ledger: L,
+    calls_before: u32,
+    has_failed: bool,
+}
+
+impl<L: Ledger> Ledger for FailsOnce<L> {
+    ghost book = { λ s. L.book s.ledger };
+
+    ghost has_kept = { λ s. L.has_kept s.ledger };
+
+    ghost is_sound = { λ s. L.is_sound s.ledger };
+
+    ghost sound_is_kept = { λ s. L.sound_is_kept s.ledger };
+
+    ghost sound_is_legal = { λ s. L.sound_is_legal s.ledger };
+
+    fn zone(&self) -> Zone {
+        self.ledger.zone()
+    }
+
+    fn default_cap(&self) -> u32 {
+        self.ledger.default_cap()
+    }
+
+    fn apply(&mut self, request: &Request) -> Result<Reply, LedgerFault> {
+        if self.has_failed {
+            return self.ledger.apply(request);
+        }
+        if self.calls_before == 0 {
+            self.has_failed = true;
+            return Err(LedgerFault::Store);
+        }
+        self.calls_before -= 1;
+        self.ledger.apply(request)
+    }
+}
+
+/// Two requests: a reserve, and what was used then.
+fn two(rt: &HostRuntime) -> Result<Vec<Request>, AllocError>
+    ensures { IfOk result (λ v. All IsRequest v.items) }
+{
+    let mut requests = Vec::new(rt.alloc());
+    requests.push(reserve(rt, 1, 1, 1)?)?;
+    requests.push(usage(rt)?)?;
+    Ok(requests)
+}
+
+#[test]
+fn over_any_ledger(rt: HostRuntime) -> Result<(), Fail> {
+    let requests = two(&rt)?;
+    let mut plain = ledger(&rt, 3)?;
+    let replies = apply_all(rt.alloc(), &mut plain, &requests)?;
+    assert_eq!(rt; replies.len(), 2);
+    assert_eq!(rt; replies[0], granted(&rt, 1, 1)?);
+    assert_eq!(rt; replies[1], used(&rt, 0, 1)?);
+    Ok(())
+}
+
+#[test]
+fn over_a_ledger_that_fails_once(rt: HostRuntime) -> Result<(), Fail> {
+    let requests = two(&rt)?;
+    let mut failing = FailsOnce {
+        ledger: ledger(&rt, 3)?,
+        calls_before: 1,
+        has_failed: false,
+    };
+    assert_eq!(rt;
+        apply_all(rt.alloc(), &mut failing, &requests).err(),
+        Some(LedgerFault::Store)
+    );
+    let again = apply_all(rt.alloc(), &mut failing, &requests)?;
+    assert_eq!(rt; again.len(), 2);
+    assert_eq!(rt; again[0], granted(&rt, 1, 1)?);
+    assert_eq!(rt; failing.default_cap(), 3);
+    assert_eq!(rt; failing.zone().minutes(), 0);
+    Ok(())
+}
