@@ -1,6 +1,6 @@
 -- Lines handled one after another.
 use Rattle.std.proofs.Common.{◌≡◌, ℕ, ◌+◌, ◌<◌, ◌≤◌, Bool, true, false, List, [], ◌∷◌, ◌++◌, length, refl, sym, ap, ◌∙◌, subst, append_assoc, append-nil, arith, rules, cond, inl, inr, ◌⊎◌, Option, None, Some}
-use Rattle.std.specs.Prelude.{Result, Ok, Err, IfSome}
+use Rattle.std.specs.Prelude.{Result, Ok, Err, IfSome, IsOk}
 use Rattle.std.specs.Borrow.{Bor}
 use Rattle.std.specs.List.{AllByRecursion}
 use Rattle.std.specs.Io.KnownBytes.{Appends, Consumes}
@@ -67,11 +67,20 @@ told_push a b c steps None h i =
     subst F (append-nil (told_steps steps)) (Tells-trans a b c (told_steps steps) [] h i)
 told_push a b c steps (Some x) h i = Tells-trans a b c (told_steps steps) (told_all x.group) h i
 
+-- an answer that is an error isn't Ok, and one that is Ok is
+pub err_not_ok : {T E : Type 0} (r : Result T E) (e : E) → r ≡ Err e → IsOk r → ⊥
+err_not_ok (Ok x) e is ok = cc
+err_not_ok (Err x) e is ok = cc
+
+pub is_ok_by : {T E : Type 0} (r : Result T E) (x : T) → r ≡ Ok x → IsOk r
+is_ok_by (Ok y) x is = refl
+is_ok_by (Err e) x is = absurd cc
+
 -- ---- lines that add up
 
 text_of-push : (taken : List (List ℕ)) (line : List ℕ) → text_of (taken ++ line ∷ []) ≡ text_of taken ++ (line ++ 10 ∷ [])
-text_of-push [] line = append-nil (line ++ 10 ∷ [])
-text_of-push (l ∷ taken) line = ap (λ (t : List ℕ). (l ++ 10 ∷ []) ++ t) (text_of-push taken line) ∙ sym (append_assoc (l ++ 10 ∷ []) (text_of taken) (line ++ 10 ∷ []))
+text_of-push [] line = refl
+text_of-push (l ∷ taken) line = ap (λ (t : List ℕ). l ++ 10 ∷ t) (text_of-push taken line) ∙ sym (append_assoc l (10 ∷ text_of taken) (line ++ 10 ∷ []))
 
 each-push : (P : List ℕ → Type 0) (xs : List (List ℕ)) (x : List ℕ) → AllByRecursion P xs → P x → AllByRecursion P (xs ++ x ∷ [])
 each-push P [] x all h = (h, tt)

@@ -10,10 +10,10 @@ pub loop-read-init : goal.loop-read-init
 loop-read-init g c = record {
   bytes = [];
   consumed = Consumes-none _;
-  so_far = so_far_start _ _ c.args.client.now _ c.new-feed.result c.new-feed.ensures refl c.new.ensures refl;
-  held = is_line_none _ c.new-feed.ensures;
+  so_far = so_far_start _ _ c.args.client.now _ c.new-feed.result c.new-feed.ensures.empty refl c.new.ensures refl;
+  held = is_line_none _ c.new-feed.ensures.empty;
   reads = omega arith;
-  count = omega (arith, ap length c.new-feed.ensures);
+  count = omega (arith, ap length c.new-feed.ensures.empty);
 }
 
 pub returns-in-Err-clause-fault : goal.returns-in-Err-clause-fault
