@@ -151,6 +151,7 @@ impl Client {
         ensures left { (P : List Step) → StandsAt self.new P → result ≡ length (view self.new.source P).waiting }
     {
         send_all(rt, self.alloc, link, &mut self.outbox, self.tries);
-        self.outbox.len() as u32
+        let left = self.outbox.len();
+        left as u32
     }
 }

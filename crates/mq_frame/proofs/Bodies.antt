@@ -1,5 +1,5 @@
 -- Each kind of body: what is read is spelled so, and what is spelled so is read.
-use Rattle.std.proofs.Common.{◌≡◌, ℕ, suc, ◌^◌, Bool, true, false, List, [], ◌∷◌, ◌++◌, length, Option, Some, None, refl, ap, subst, sym, ◌∙◌, arith, inl, inr}
+use Rattle.std.proofs.Common.{◌≡◌, ℕ, ◌^◌, Bool, true, false, List, [], ◌∷◌, length, Option, Some, refl, ap, subst, sym, ◌∙◌, arith, inl, inr}
 use Rattle.std.specs.Prelude.{◌⊎◌, ◌==◌, ◌||◌, if◌then◌else◌}
 use Rattle.std.specs.List.{All, list_all}
 use Rattle.std.specs.Int.{w32, w64}
@@ -11,9 +11,8 @@ use Rattle.mq_frame.specs.declared.message.Request.{Request}
 use Rattle.mq_frame.specs.declared.message.Request.TheVariants.{Reserve, Settle, Release, Limit, Usage, List as ListRequest}
 use Rattle.mq_frame.specs.declared.message.Reply.{Reply}
 use Rattle.mq_frame.specs.declared.message.Reply.TheVariants.{Granted, Full, Settled, Released, LimitSet, Over, Closed, Mismatch, TooMany, Conflict, Usage as UsageReply, List as ListReply, Retry, Bad}
-use Rattle.mq_frame.specs.declared.usage.UsageRow.{UsageRow}
-use Rattle.mq_frame.specs.Range.{IsWithin, IsHostByte, IsHost, IsLogin, IsAfter, IsRun, IsOrdinal, IsMoment, IsDay, IsCount, IsAmount, IsId, IsRow, IsPage, IsRequest, IsReply}
-use Rattle.mq_frame.specs.Spelling.{request_body, reply_body, SpellsRequest, SpellsReply}
+use Rattle.mq_frame.specs.Range.{IsWithin, IsHostByte, IsHost, IsLogin, IsAfter, IsRun, IsOrdinal, IsMoment, IsDay, IsCount, IsAmount, IsId, IsRow, IsPage}
+use Rattle.mq_frame.specs.Spelling.{SpellsRequest, SpellsReply}
 use Rattle.mq_frame.specs.Reading.{◌>>=◌, Field, between, text, pair, whole, is_host_byte, host, login, ordinal, moment, count, amount, day, id, row, page, transaction, limit, usage, if_none_left, request_of_kind, request_at, numbered_reply, reply_of_kind, reply_at}
 use Rattle.mq_frame.proofs.FieldLaws.{IsField, IsBytes, IsBytes-tail, within, tested, bind_some, kept_some, number_field, text_field, where_field, as_field, pair_field, made_field, counted_field, wide32, wide64, whole_takes, whole_again}
 

@@ -1,14 +1,11 @@
 -- What the laws of the link's format join.
-use Rattle.std.proofs.Common.{◌≡◌, ℕ, ◌<◌, ◌≤◌, List, [], ◌∷◌, ◌++◌, length, Some, refl, sym, ap, subst, ◌∙◌, arith}
-use Rattle.std.specs.List.{All}
-use Rattle.mq_frame.specs.Range.{IsWithin, IsRequest, IsReply}
-use Rattle.mq_frame.specs.Spelling.{request_body, reply_body, SpellsRequest, SpellsReply, frame}
-use Rattle.mq_frame.specs.Reading.{request_at, reply_at}
+use Rattle.std.proofs.Common.{◌≡◌, ℕ, List, ◌++◌, length, Some, sym, ◌∙◌, arith}
+use Rattle.mq_frame.specs.Range.{IsWithin}
+use Rattle.mq_frame.specs.Spelling.{SpellsRequest, SpellsReply, frame}
 use Rattle.mq_frame.specs.Feed.{Whole, front}
 use Rattle.mq_frame.specs.declared.message.Request.{Request}
-use Rattle.mq_frame.specs.declared.message.Request.TheVariants.{Reserve, Settle, Release, Limit, Usage, List as ListRequest}
 use Rattle.mq_frame.specs.declared.message.Reply.{Reply}
-use Rattle.mq_frame.proofs.Bodies.{request_at_spelled, request_at_read, reply_at_spelled, reply_at_read}
+use Rattle.mq_frame.proofs.Bodies.{request_at_read, reply_at_read}
 use Rattle.mq_frame.proofs.Lengths.{longest_request, some_request, longest_reply, some_reply}
 use Rattle.mq_frame.proofs.Cuts.{frame_front}
 

@@ -1,10 +1,10 @@
 -- How long a body is.
-use Rattle.std.proofs.Common.{◌≡◌, ℕ, suc, ◌+◌, ◌*◌, ◌≤◌, List, [], ◌∷◌, ◌++◌, length, arith}
+use Rattle.std.proofs.Common.{ℕ, ◌+◌, ◌*◌, ◌≤◌, List, [], ◌∷◌, ◌++◌, length, arith}
 use Rattle.std.specs.List.{All, flat_map}
 use Rattle.std.proofs.lemmas.List.{length-append}
 use Rattle.std.proofs.lemmas.List.Elements.{All-head, All-tail}
 use Rattle.mq_frame.specs.Range.{IsWithin, IsId, IsLogin, IsRow, IsPage, IsRequest, IsReply}
-use Rattle.mq_frame.specs.Spelling.{with_length, in_4_bytes, in_8_bytes, id_bytes, transaction_bytes, row_bytes, page_bytes, request_body, reply_body, SpellsRequest, SpellsReply}
+use Rattle.mq_frame.specs.Spelling.{with_length, in_4_bytes, in_8_bytes, id_bytes, transaction_bytes, row_bytes, page_bytes, request_body, reply_body}
 use Rattle.mq_frame.specs.declared.message.Id.{Id}
 use Rattle.mq_frame.specs.declared.message.Request.{Request}
 use Rattle.mq_frame.specs.declared.message.Request.TheVariants.{Reserve, Settle, Release, Limit, Usage, List as ListRequest}

@@ -1,6 +1,6 @@
 -- The rows of a page, read one after another.
-use Rattle.std.proofs.Common.{◌≡◌, ℕ, zero, suc, ◌-◌, ◌+◌, ◌<◌, List, [], ◌∷◌, ◌++◌, Option, Some, None, refl, sym, ap, ◌∙◌, append_assoc, append-nil, arith}
-use Rattle.std.specs.Prelude.{Bool, true, false, nat_le, if◌then◌else◌}
+use Rattle.std.proofs.Common.{◌≡◌, ℕ, suc, ◌-◌, ◌+◌, ◌<◌, List, [], ◌∷◌, ◌++◌, Option, Some, None, refl, sym, ap, append_assoc, arith}
+use Rattle.std.specs.Prelude.{true, false, nat_le, if◌then◌else◌}
 use Rattle.mq_frame.specs.Reading.{row, times_at, counted_at, ◌>>=◌}
 use Rattle.mq_frame.specs.Parts.{rows_in}
 use Rattle.mq_frame.specs.declared.usage.UsageRow.{UsageRow}

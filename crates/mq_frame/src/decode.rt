@@ -192,13 +192,16 @@ pub fn decode_request(alloc: Global, body: &[u8]) -> Result<Request, DecodeFault
     ensures found { IfOk result (λ request. SpellsRequest body.now request) }
 
     // What is spelled so is given, unless a growth is refused.
-    ensures only { (request : Request) → SpellsRequest body.now request → MatchResult result (λ found. found ≡ request) (λ fault. fault ≡ Memory) }
+    ensures only { (request : Request) → SpellsRequest body.now request
+        → MatchResult result (λ found. found ≡ request) (λ fault. fault ≡ Memory) }
 
     // A growth is asked for only where something is spelled so.
-    ensures memory { result ≡ Err DecodeFault.Memory → (request : Request) × SpellsRequest body.now request }
+    ensures memory { result ≡ Err DecodeFault.Memory → (request : Request)
+        × SpellsRequest body.now request }
 
     // A body that spells no request is bad, however little memory there is.
-    ensures bad { ((request : Request) → SpellsRequest body.now request → ⊥) → result ≡ Err DecodeFault.Bad }
+    ensures bad { ((request : Request) → SpellsRequest body.now request → ⊥)
+        → result ≡ Err DecodeFault.Bad }
 {
     match request_parts(body) {
         None => Err(DecodeFault::Bad),
@@ -214,13 +217,16 @@ pub fn decode_reply(alloc: Global, body: &[u8]) -> Result<Reply, DecodeFault>
     ensures found { IfOk result (λ reply. SpellsReply body.now reply) }
 
     // What is spelled so is given, unless a growth is refused.
-    ensures only { (reply : Reply) → SpellsReply body.now reply → MatchResult result (λ found. found ≡ reply) (λ fault. fault ≡ Memory) }
+    ensures only { (reply : Reply) → SpellsReply body.now reply
+        → MatchResult result (λ found. found ≡ reply) (λ fault. fault ≡ Memory) }
 
     // A growth is asked for only where something is spelled so.
-    ensures memory { result ≡ Err DecodeFault.Memory → (reply : Reply) × SpellsReply body.now reply }
+    ensures memory { result ≡ Err DecodeFault.Memory → (reply : Reply)
+        × SpellsReply body.now reply }
 
     // A body that spells no reply is bad, however little memory there is.
-    ensures bad { ((reply : Reply) → SpellsReply body.now reply → ⊥) → result ≡ Err DecodeFault.Bad }
+    ensures bad { ((reply : Reply) → SpellsReply body.now reply → ⊥)
+        → result ≡ Err DecodeFault.Bad }
 {
     match reply_parts(body) {
         None => Err(DecodeFault::Bad),

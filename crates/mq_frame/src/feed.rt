@@ -68,7 +68,8 @@ impl FrameFeed {
 
     /// Adds a piece of the stream. After an `Err` the feed is as before.
     pub fn feed(&mut self, piece: &[u8]) -> Result<(), Memory>
-        ensures ok { OnOk result (self.new ≡ record { limit = self.old.limit; rest = self.old.rest ++ piece.now }) }
+        ensures ok { OnOk result (self.new
+            ≡ record { limit = self.old.limit; rest = self.old.rest ++ piece.now }) }
         ensures err { OnErr result (self.new ≡ self.old) }
     {
         self.bytes.extend_from_slice(piece)?;
@@ -80,7 +81,10 @@ impl FrameFeed {
     /// At a head of length 0 it is `Empty`, and at one above the limit `TooLong`, as soon as both
     /// bytes of the head are there; the feed is then as before, and answers that again.
     pub fn next_body(&mut self) -> Result<Option<&[u8]>, FrameFault>
-        ensures* after { sem 𝓛 (Rests the_row self.entry (λ feed. feed ≡ record { limit = self.old.limit; rest = left_by_next (front self.old.limit self.old.rest) self.old.rest })) }
+        ensures* after { sem 𝓛 (Rests the_row self.entry (λ feed. feed ≡ record {
+          limit = self.old.limit;
+          rest = left_by_next (front self.old.limit self.old.rest) self.old.rest;
+        })) }
         ensures answer { MatchResult result
             (λ body. Ok (option_copied body) ≡ next_answer (front self.old.limit self.old.rest))
             (λ fault. Err fault ≡ next_answer (front self.old.limit self.old.rest)) }

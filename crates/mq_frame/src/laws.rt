@@ -12,77 +12,113 @@ ghost use Rattle.mq_frame.specs.declared.message.Reply.{Reply};
 
 /// Each request and reply in range has one body, and no body spells two of them.
 pub fn one_spelling()
-    ensures request { (request : Request) → IsRequest request → SpellsRequest (request_body request) request }
-    ensures one_request { (body : List ℕ) (request other : Request) → SpellsRequest body request → SpellsRequest body other → request ≡ other }
-    ensures one_request_body { (body other : List ℕ) (request : Request) → SpellsRequest body request → SpellsRequest other request → body ≡ other }
+    ensures request { (request : Request) → IsRequest request
+        → SpellsRequest (request_body request) request }
+    ensures one_request { (body : List ℕ) (request other : Request) → SpellsRequest body request
+        → SpellsRequest body other → request ≡ other }
+    ensures one_request_body { (body other : List ℕ) (request : Request)
+        → SpellsRequest body request → SpellsRequest other request → body ≡ other }
 
     ensures reply { (reply : Reply) → IsReply reply → SpellsReply (reply_body reply) reply }
-    ensures one_reply { (body : List ℕ) (reply other : Reply) → SpellsReply body reply → SpellsReply body other → reply ≡ other }
-    ensures one_reply_body { (body other : List ℕ) (reply : Reply) → SpellsReply body reply → SpellsReply other reply → body ≡ other }
+    ensures one_reply { (body : List ℕ) (reply other : Reply) → SpellsReply body reply
+        → SpellsReply body other → reply ≡ other }
+    ensures one_reply_body { (body other : List ℕ) (reply : Reply) → SpellsReply body reply
+        → SpellsReply other reply → body ≡ other }
 
-    ensures not_both { (body : List ℕ) (request : Request) (reply : Reply) → SpellsRequest body request → SpellsReply body reply → ⊥ }
+    ensures not_both { (body : List ℕ) (request : Request) (reply : Reply)
+        → SpellsRequest body request → SpellsReply body reply → ⊥ }
 {}
 
 /// A request's body has 1 to 350 bytes, and a reply's 1 to 26,806.
 pub fn body_lengths()
-    ensures request { (body : List ℕ) (request : Request) → SpellsRequest body request → IsWithin 1 350 (length body) }
-    ensures reply { (body : List ℕ) (reply : Reply) → SpellsReply body reply → IsWithin 1 26806 (length body) }
+    ensures request { (body : List ℕ) (request : Request) → SpellsRequest body request
+        → IsWithin 1 350 (length body) }
+    ensures reply { (body : List ℕ) (reply : Reply) → SpellsReply body reply
+        → IsWithin 1 26806 (length body) }
 {}
 
 /// Reading a body from its front finds what it spells: so whether it spells anything is decided.
 pub fn reading_finds_the_spelled()
-    ensures request { (body : List ℕ) (request : Request) → All (λ byte. byte < 256) body → (request_at body ≡ Some request) ↔ SpellsRequest body request }
-    ensures reply { (body : List ℕ) (reply : Reply) → All (λ byte. byte < 256) body → (reply_at body ≡ Some reply) ↔ SpellsReply body reply }
+    ensures request { (body : List ℕ) (request : Request) → All (λ byte. byte < 256) body
+        → (request_at body ≡ Some request) ↔ SpellsRequest body request }
+    ensures reply { (body : List ℕ) (reply : Reply) → All (λ byte. byte < 256) body
+        → (reply_at body ≡ Some reply) ↔ SpellsReply body reply }
 {}
 
 /// The tests that two ids or two requests are the same are true exactly of equal ones.
 pub fn same_is_equal()
     ensures id { (id other : Id) → (same_id id other ≡ true) ↔ (id ≡ other) }
-    ensures request { (request other : Request) → (same_request request other ≡ true) ↔ (request ≡ other) }
+    ensures request { (request other : Request)
+        → (same_request request other ≡ true) ↔ (request ≡ other) }
 {}
 
 /// A body of 1 to `limit` bytes is read back from its frame, and what is read was a frame.
 pub fn frames_are_read_back()
-    ensures whole { (limit : ℕ) (body after : List ℕ) → limit ≤ 65535 → IsWithin 1 limit (length body) → front limit (frame body ++ after) ≡ Whole body after }
-    ensures request { (body after : List ℕ) (request : Request) → SpellsRequest body request → front 512 (frame body ++ after) ≡ Whole body after }
-    ensures reply { (body after : List ℕ) (reply : Reply) → SpellsReply body reply → front 65535 (frame body ++ after) ≡ Whole body after }
+    ensures whole { (limit : ℕ) (body after : List ℕ) → limit ≤ 65535
+        → IsWithin 1 limit (length body) → front limit (frame body ++ after) ≡ Whole body after }
+    ensures request { (body after : List ℕ) (request : Request) → SpellsRequest body request
+        → front 512 (frame body ++ after) ≡ Whole body after }
+    ensures reply { (body after : List ℕ) (reply : Reply) → SpellsReply body reply
+        → front 65535 (frame body ++ after) ≡ Whole body after }
 
-    ensures only_frames { (limit : ℕ) (bytes body after : List ℕ) → All (λ byte. byte < 256) bytes → front limit bytes ≡ Whole body after → bytes ≡ frame body ++ after }
-    ensures lengths { (limit : ℕ) (bytes body after : List ℕ) → front limit bytes ≡ Whole body after → IsWithin 1 limit (length body) × (length bytes ≡ 2 + length body + length after) }
+    ensures only_frames { (limit : ℕ) (bytes body after : List ℕ) → All (λ byte. byte < 256) bytes
+        → front limit bytes ≡ Whole body after → bytes ≡ frame body ++ after }
+    ensures lengths { (limit : ℕ) (bytes body after : List ℕ) → front limit bytes ≡ Whole body after
+        → IsWithin 1 limit (length body) × (length bytes ≡ 2 + length body + length after) }
 
     // A head with length 0, and one with a length above the limit.
     ensures empty { (limit : ℕ) (after : List ℕ) → front limit (in_2_bytes 0 ++ after) ≡ EmptyHead }
-    ensures long { (limit size : ℕ) (after : List ℕ) → limit < size → size ≤ 65535 → front limit (in_2_bytes size ++ after) ≡ LongHead }
+    ensures long { (limit size : ℕ) (after : List ℕ) → limit < size → size ≤ 65535
+        → front limit (in_2_bytes size ++ after) ≡ LongHead }
 
     // A list of frames, one behind another.
-    ensures list { (limit : ℕ) (bodies : List (List ℕ)) (rest : List ℕ) → limit ≤ 65535 → All (λ body. IsWithin 1 limit (length body)) bodies → BeginsWith limit (flat_map frame bodies ++ rest) bodies rest }
-    ensures only_lists { (limit : ℕ) (bytes : List ℕ) (bodies : List (List ℕ)) (rest : List ℕ) → All (λ byte. byte < 256) bytes → BeginsWith limit bytes bodies rest
-        → (bytes ≡ flat_map frame bodies ++ rest) × All (λ body. IsWithin 1 limit (length body)) bodies }
+    ensures list { (limit : ℕ) (bodies : List (List ℕ)) (rest : List ℕ) → limit ≤ 65535
+        → All (λ body. IsWithin 1 limit (length body)) bodies
+        → BeginsWith limit (flat_map frame bodies ++ rest) bodies rest }
+    ensures only_lists { (limit : ℕ) (bytes : List ℕ) (bodies : List (List ℕ)) (rest : List ℕ)
+        → All (λ byte. byte < 256) bytes → BeginsWith limit bytes bodies rest
+        → (bytes ≡ flat_map frame bodies ++ rest)
+        × All (λ body. IsWithin 1 limit (length body)) bodies }
 {}
 
 /// How a stream is cut into pieces changes none of its frames, nor what follows them.
 pub fn any_cutting()
     // What a feed gave are the first frames of what it was fed.
-    ensures first { (limit : ℕ) (moves : List Move) (end : List ℕ) → Moves limit [] moves end → BeginsWith limit (fed moves) (given moves) end }
+    ensures first { (limit : ℕ) (moves : List Move) (end : List ℕ) → Moves limit [] moves end
+        → BeginsWith limit (fed moves) (given moves) end }
 
     // Two feeds that were fed the same bytes, and have no further frame, gave the same.
-    ensures same { (limit : ℕ) (moves others : List Move) (end stop : List ℕ) → Moves limit [] moves end → Moves limit [] others stop → fed moves ≡ fed others
-        → HasNoFrame limit end → HasNoFrame limit stop → (given moves ≡ given others) × (end ≡ stop) }
+    ensures same { (limit : ℕ) (moves others : List Move) (end stop : List ℕ)
+        → Moves limit [] moves end → Moves limit [] others stop → fed moves ≡ fed others
+        → HasNoFrame limit end → HasNoFrame limit stop → (given moves ≡ given others)
+        × (end ≡ stop) }
 {}
 
 /// Bytes that come later change no frame that stood, nor a head that is refused; and a stream has
 /// one longest list of frames.
 pub fn frames_stay()
-    ensures whole { (limit : ℕ) (bytes more body after : List ℕ) → front limit bytes ≡ Whole body after → front limit (bytes ++ more) ≡ Whole body (after ++ more) }
-    ensures empty { (limit : ℕ) (bytes more : List ℕ) → front limit bytes ≡ EmptyHead → front limit (bytes ++ more) ≡ EmptyHead }
-    ensures long { (limit : ℕ) (bytes more : List ℕ) → front limit bytes ≡ LongHead → front limit (bytes ++ more) ≡ LongHead }
+    ensures whole { (limit : ℕ) (bytes more body after : List ℕ)
+        → front limit bytes ≡ Whole body after
+        → front limit (bytes ++ more) ≡ Whole body (after ++ more) }
+    ensures empty { (limit : ℕ) (bytes more : List ℕ) → front limit bytes ≡ EmptyHead
+        → front limit (bytes ++ more) ≡ EmptyHead }
+    ensures long { (limit : ℕ) (bytes more : List ℕ) → front limit bytes ≡ LongHead
+        → front limit (bytes ++ more) ≡ LongHead }
 
     // A body that a call for the next one gives stood in a whole frame, and what is left stood behind it.
-    ensures gives { (bytes body : List ℕ) (at : Front) → next_answer at ≡ Ok (Some body) → at ≡ Whole body (left_by_next at bytes) }
+    ensures gives { (bytes body : List ℕ) (at : Front) → next_answer at ≡ Ok (Some body)
+        → at ≡ Whole body (left_by_next at bytes) }
 
-    ensures more { (limit : ℕ) (bytes more : List ℕ) (bodies : List (List ℕ)) (rest : List ℕ) → BeginsWith limit bytes bodies rest → BeginsWith limit (bytes ++ more) bodies (rest ++ more) }
-    ensures one_more { (limit : ℕ) (bytes : List ℕ) (bodies : List (List ℕ)) (rest body after : List ℕ) → BeginsWith limit bytes bodies rest → front limit rest ≡ Whole body after
+    ensures more { (limit : ℕ) (bytes more : List ℕ) (bodies : List (List ℕ)) (rest : List ℕ)
+        → BeginsWith limit bytes bodies rest
+        → BeginsWith limit (bytes ++ more) bodies (rest ++ more) }
+    ensures one_more { (limit : ℕ) (bytes : List ℕ) (bodies : List (List ℕ)) (rest body after : List ℕ)
+        → BeginsWith limit bytes bodies rest → front limit rest ≡ Whole body after
         → BeginsWith limit bytes (bodies ++ body ∷ []) after }
-    ensures none { (limit : ℕ) (bytes : List ℕ) → (front limit bytes ≡ Nothing) ⊎ ((front limit bytes ≡ Cut) ⊎ ((front limit bytes ≡ EmptyHead) ⊎ (front limit bytes ≡ LongHead))) → HasNoFrame limit bytes }
-    ensures one_list { (limit : ℕ) (bytes : List ℕ) (bodies others : List (List ℕ)) (rest end : List ℕ) → Frames limit bytes bodies rest → Frames limit bytes others end → (bodies ≡ others) × (rest ≡ end) }
+    ensures none { (limit : ℕ) (bytes : List ℕ)
+        → (front limit bytes ≡ Nothing) ⊎ ((front limit bytes ≡ Cut) ⊎ ((front limit bytes ≡ EmptyHead) ⊎ (front limit bytes ≡ LongHead)))
+        → HasNoFrame limit bytes }
+    ensures one_list { (limit : ℕ) (bytes : List ℕ) (bodies others : List (List ℕ)) (rest end : List ℕ)
+        → Frames limit bytes bodies rest → Frames limit bytes others end → (bodies ≡ others)
+        × (rest ≡ end) }
 {}

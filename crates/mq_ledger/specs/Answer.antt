@@ -73,6 +73,7 @@ abbrev pub reply_by : (ℕ → ℕ) → ℕ → List Entry → Request → Id �
 reply_by day default H r id None = answer day default H r
 reply_by day default H r id (Some e) = if same_request r e.request then e.reply else Conflict id
 
+-- the same, by the number of the request
 abbrev pub reply_to : (ℕ → ℕ) → ℕ → List Entry → Request → Option Id → Reply
 reply_to day default H r None = answer day default H r
 reply_to day default H r (Some id) = reply_by day default H r id (stored H id)
@@ -86,6 +87,7 @@ abbrev pub taken_by : (ℕ → ℕ) → ℕ → List Entry → Request → Optio
 taken_by day default H r None = H
 taken_by day default H r (Some id) = if is_some (stored H id) then H else appended day default H r
 
+-- the same, by the number of the request
 abbrev pub taken : (ℕ → ℕ) → ℕ → List Entry → Request → List Entry
 taken day default H r = taken_by day default H r (id_of r)
 

@@ -1,5 +1,5 @@
 -- Numbered requests, and the first arrival of each number.
-use Rattle.std.specs.Prelude.{List, [], ◌∷◌, ◌++◌, fold, Bool, false, if◌then◌else◌, Option, Some, None, is_some}
+use Rattle.std.specs.Prelude.{List, [], ◌∷◌, ◌++◌, fold, Bool, false, if◌then◌else◌, Option, Some, None}
 use Rattle.std.specs.List.{list_any}
 use Rattle.mq_frame.specs.declared.message.Id.{Id}
 use Rattle.mq_frame.specs.declared.message.Request.{Request}
@@ -14,9 +14,6 @@ id_of (Release id txn at login) = Some id
 id_of (Limit id from_day cap login) = Some id
 id_of (Usage login day) = None
 id_of (ListRequest day after) = None
-
-abbrev pub is_numbered : Request → Bool
-is_numbered r = is_some (id_of r)
 
 -- the number is there and is that one
 abbrev pub is_id : Id → Option Id → Bool

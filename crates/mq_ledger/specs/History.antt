@@ -12,6 +12,7 @@ use Rattle.mq_frame.specs.declared.message.Reply.TheVariants.{Granted, Settled, 
 use Rattle.mq_frame.specs.Same.{same_text}
 use Rattle.mq_ledger.specs.declared.entry.Entry.{Entry}
 
+-- the requests of a history
 abbrev pub requests : List Entry → List Request
 requests H = map (λ e. e.request) H
 
@@ -21,9 +22,11 @@ pub record Transaction : Type 0 where
   pub run : ℕ
   pub txn : ℕ
 
+-- the transaction of that number in the host and run of a request
 abbrev pub transaction : Id → ℕ → Transaction
 transaction id txn = record { host = id.host; run = id.run; txn = txn }
 
+-- the same host, run and number
 abbrev pub same_transaction : Transaction → Transaction → Bool
 same_transaction t u = same_text t.host u.host && ((t.run == u.run) && (t.txn == u.txn))
 

@@ -26,9 +26,11 @@ cap_of _ = 0
 abbrev pub governs : List ℕ → ℕ → Entry → Bool
 governs l d e = sets l e.request e.reply && nat_le (from_of e.request) d
 
+-- the limits that come into question on that day
 abbrev pub limits : List Entry → List ℕ → ℕ → List Entry
 limits H l d = filter (governs l d) H
 
+-- the later of two days
 abbrev pub later : ℕ → ℕ → ℕ
 later a b = if nat_lt a b then b else a
 

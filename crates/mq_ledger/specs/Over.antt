@@ -19,10 +19,12 @@ day_from day l from _ _ = None
 abbrev pub days_from : (ℕ → ℕ) → List Entry → List ℕ → ℕ → List ℕ
 days_from day H l from = filter_map (λ e. day_from day l from e.request e.reply) H
 
+-- the lesser of the two, where there is a second
 abbrev pub lesser : ℕ → Option ℕ → ℕ
 lesser n None = n
 lesser n (Some m) = if nat_lt m n then m else n
 
+-- the least of a list of numbers
 abbrev pub least : List ℕ → Option ℕ
 least [] = None
 least (n ∷ ns) = Some (lesser n (least ns))

@@ -22,6 +22,7 @@ abbrev pub login_on : (ℕ → ℕ) → ℕ → Request → Reply → Option (Li
 login_on day d (Reserve id txn at login count) (Granted id' used) = if day at == d then Some login else None
 login_on day d _ _ = None
 
+-- the logins of the granted reserves of that day, in order of arrival
 abbrev pub logins_on : (ℕ → ℕ) → List Entry → ℕ → List (List ℕ)
 logins_on day H d = filter_map (λ e. login_on day d e.request e.reply) H
 
@@ -56,6 +57,7 @@ abbrev pub IsAscending : List (List ℕ) → Type 0
 IsAscending [] = Unit {0}
 IsAscending (l ∷ ls) = AllByRecursion (λ m. below l m ≡ true) ls × IsAscending ls
 
+-- the login is there and is that one
 abbrev pub is_login : List ℕ → Option (List ℕ) → Bool
 is_login l None = false
 is_login l (Some m) = same_text l m

@@ -1,5 +1,5 @@
 //! One connection: each whole frame is answered before the next read.
-ghost use Rattle.std.specs.Prelude.{◌≡◌, true, List, Err};
+ghost use Rattle.std.specs.Prelude.{◌≡◌, ◌≢◌, true, false, List, Err};
 ghost use Rattle.mq_server.specs.Connection.{Serves};
 ghost use Rattle.mq_server.specs.Delivery.{Delivery, history_after, answer_to};
 ghost use Rattle.mq_server.specs.Steps.{end_at};
@@ -57,7 +57,9 @@ pub fn serve<S: Source, W: Sink, L: Ledger>(
 ) -> Result<Served, ServeFault>
     // Of any ledger, sound or not.
     ensures read { result ≡ Err ServeFault.Read → S.has_failed input.new ≡ true }
+    ensures source_works { S.has_failed input.old ≡ false → result ≢ Err ServeFault.Read → S.has_failed input.new ≡ false }
     ensures write { result ≡ Err ServeFault.Write → W.has_failed output.new ≡ true }
+    ensures sink_works { W.has_failed output.old ≡ false → result ≢ Err ServeFault.Write → W.has_failed output.new ≡ false }
     ensures same_zone { (L.book ledger.new).zone ≡ (L.book ledger.old).zone }
     ensures same_default { (L.book ledger.new).default ≡ (L.book ledger.old).default }
     ensures kept { L.has_kept ledger.new → L.has_kept ledger.old }

@@ -1,5 +1,5 @@
 //! Reading from a source.
-ghost use Rattle.std.specs.Prelude.{◌≡◌, ◌≤◌, true, ℕ, List, length, Err};
+ghost use Rattle.std.specs.Prelude.{◌≡◌, ◌≢◌, ◌≤◌, true, false, ℕ, List, length, Err};
 ghost use Rattle.std.specs.Io.KnownBytes.{Consumes};
 ghost use Rattle.mq_server.specs.Steps.{Refills};
 
@@ -18,6 +18,7 @@ pub fn refill<S: Source>(input: &mut S, feed: &mut FrameFeed) -> Result<bool, Se
         × Consumes (S.remaining input.old) (S.remaining input.new) piece
         × Refills feed.old.rest feed.new.rest piece (S.remaining input.new) result }
     ensures failed { result ≡ Err ServeFault.Read → S.has_failed input.new ≡ true }
+    ensures works { result ≢ Err ServeFault.Read → S.has_failed input.new ≡ false }
 {
     let mut piece = [0u8; PIECE];
     let count = match input.read(&mut piece) {

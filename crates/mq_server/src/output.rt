@@ -1,5 +1,5 @@
 //! Writing to a sink.
-ghost use Rattle.std.specs.Prelude.{◌≡◌, true, OnOk, OnErr, IfOk, IfErr, Err};
+ghost use Rattle.std.specs.Prelude.{◌≡◌, ◌≢◌, true, false, is_err, OnOk, OnErr, IfOk, IfErr, Err};
 ghost use Rattle.std.specs.Io.KnownBytes.{Appends};
 ghost use Rattle.mq_frame.specs.Range.{IsReply};
 ghost use Rattle.mq_frame.specs.Spelling.{frame, reply_body};
@@ -14,7 +14,7 @@ use std::alloc::Global;
 fn write_all<W: Sink>(output: &mut W, bytes: &[u8]) -> Result<(), Failed>
     ensures ok { OnOk result (Appends (W.contents output.old) (W.contents output.new) bytes.now) }
     ensures err { OnErr result (AppendsPart (W.contents output.old) (W.contents output.new) bytes.now) }
-    ensures failed { OnErr result (W.has_failed output.new ≡ true) }
+    ensures failed { W.has_failed output.new ≡ is_err result }
 {
     let mut rest = bytes;
     while !rest.is_empty() {
@@ -32,6 +32,7 @@ pub fn send<W: Sink>(alloc: Global, reply: &Reply, output: &mut W) -> Result<(),
     ensures ok { OnOk result (Appends (W.contents output.old) (W.contents output.new) (frame (reply_body reply.now))) }
     ensures err { IfErr result (IsUnsent (W.contents output.old) (W.contents output.new) (frame (reply_body reply.now))) }
     ensures failed { result ≡ Err ServeFault.Write → W.has_failed output.new ≡ true }
+    ensures works { W.has_failed output.old ≡ false → result ≢ Err ServeFault.Write → W.has_failed output.new ≡ false }
 {
     let mut bytes = Vec::new(alloc);
     encode_reply(alloc, reply, &mut bytes)?;
@@ -47,6 +48,7 @@ pub fn refuse<W: Sink>(alloc: Global, output: &mut W) -> Result<Served, ServeFau
         × Appends (W.contents output.old) (W.contents output.new) (frame (reply_body Reply.Bad))) }
     ensures err { IfErr result (IsUnsent (W.contents output.old) (W.contents output.new) (frame (reply_body Reply.Bad))) }
     ensures failed { result ≡ Err ServeFault.Write → W.has_failed output.new ≡ true }
+    ensures works { W.has_failed output.old ≡ false → result ≢ Err ServeFault.Write → W.has_failed output.new ≡ false }
 {
     send(alloc, &Reply::Bad, output)?;
     Ok(Served::BadFrame)

@@ -13,43 +13,64 @@ fn empty_input(rt: HostRuntime) -> Result<(), Fail> {
     assert_text(&rt, alloc, &ran.text, &[])
 }
 
-#[test]
-fn faults_of_the_input(rt: HostRuntime) -> Result<(), Fail> {
-    let alloc = rt.alloc();
-    let no_result: &[u8] = b"report|0.7|1576146008.006099|smtp-in|link-auth|s|alice\n";
-    let no_message: &[u8] = b"report|0.7|1576146008.006099|smtp-in|tx-commit|s|\n";
-    let short: &[u8] = b"report|0.7\n";
-    let long = [b'a'; 65_537];
-    let cases: [(&[&[u8]], FilterFault, &[u8]); 10] = [
-        (&[AUTH], FilterFault::NotReady, b""),
-        (&[RECIPIENT], FilterFault::NotReady, b""),
-        (&[short, CONFIG], FilterFault::Line(LineFault::Short), b""),
-        (
-            &[CONFIG, short],
-            FilterFault::Line(LineFault::Short),
-            REGISTRATION,
-        ),
-        (
-            &[CONFIG, no_result],
-            FilterFault::Track(TrackFault::Auth),
-            REGISTRATION,
-        ),
-        (
-            &[CONFIG, no_message],
-            FilterFault::Track(TrackFault::Message),
-            REGISTRATION,
-        ),
-        (&[b"other\n"], FilterFault::EndedEarly, b""),
-        (&[b"config|x"], FilterFault::CutLine, b""),
-        (&[CONFIG, b"config|x"], FilterFault::CutLine, REGISTRATION),
-        (&[CONFIG, &long], FilterFault::TooLong, REGISTRATION),
-    ];
-    for (parts, fault, text) in cases {
-        let ran = run(alloc, VecDeque::new(alloc), parts)?;
-        assert_eq!(rt; ran.ended, Err(fault));
-        assert_text(&rt, alloc, &ran.text, &[text])?;
-    }
+const NO_RESULT: &[u8] = b"report|0.7|1576146008.006099|smtp-in|link-auth|s|alice\n";
+
+const NO_MESSAGE: &[u8] = b"report|0.7|1576146008.006099|smtp-in|tx-commit|s|\n";
+
+const SHORT: &[u8] = b"report|0.7\n";
+
+/// Asserts how a run of that input stops, and what it wrote.
+fn assert_stops(
+    rt: &impl Abort,
+    alloc: Global,
+    parts: &[&[u8]],
+    fault: FilterFault,
+    text: &[u8],
+) -> Result<(), Fail> {
+    let ran = run(alloc, VecDeque::new(alloc), parts)?;
+    assert_eq!(rt; ran.ended, Err(fault));
+    assert_eq!(rt; ran.text.as_slice(), text);
     Ok(())
+}
+
+#[test]
+fn faults_before_ready(rt: HostRuntime) -> Result<(), Fail> {
+    let alloc = rt.alloc();
+    assert_stops(&rt, alloc, &[AUTH], FilterFault::NotReady, b"")?;
+    assert_stops(&rt, alloc, &[RECIPIENT], FilterFault::NotReady, b"")?;
+    let short = FilterFault::Line(LineFault::Short);
+    assert_stops(&rt, alloc, &[SHORT, CONFIG], short, b"")?;
+    assert_stops(&rt, alloc, &[b"other\n"], FilterFault::EndedEarly, b"")?;
+    assert_stops(&rt, alloc, &[b"config|x"], FilterFault::CutLine, b"")
+}
+
+#[test]
+fn faults_after_ready(rt: HostRuntime) -> Result<(), Fail> {
+    let alloc = rt.alloc();
+    let short = FilterFault::Line(LineFault::Short);
+    assert_stops(&rt, alloc, &[CONFIG, SHORT], short, REGISTRATION)?;
+    let auth = FilterFault::Track(TrackFault::Auth);
+    assert_stops(&rt, alloc, &[CONFIG, NO_RESULT], auth, REGISTRATION)?;
+    let message = FilterFault::Track(TrackFault::Message);
+    assert_stops(&rt, alloc, &[CONFIG, NO_MESSAGE], message, REGISTRATION)?;
+    assert_stops(
+        &rt,
+        alloc,
+        &[CONFIG, b"config|x"],
+        FilterFault::CutLine,
+        REGISTRATION,
+    )?;
+    let mut long = joined(alloc, &[CONFIG])?;
+    for _byte in 0..65_537u32 {
+        long.push(b'a')?;
+    }
+    assert_stops(
+        &rt,
+        alloc,
+        &[long.as_slice()],
+        FilterFault::TooLong,
+        REGISTRATION,
+    )
 }
 
 #[test]

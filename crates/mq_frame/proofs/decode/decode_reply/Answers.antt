@@ -1,6 +1,5 @@
 use Rattle.std.proofs.Common.{◌≡◌, Some, None, arith}
 use Rattle.mq_frame.specs.Reading.{reply_at}
-use Rattle.mq_frame.proofs.FieldLaws.{IsBytes}
 use Rattle.mq_frame.proofs.Bodies.{reply_at_spelled, reply_at_read}
 use Rattle.mq_frame.proofs.decode.decode_reply.Goals as goal
 

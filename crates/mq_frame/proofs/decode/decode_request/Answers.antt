@@ -1,6 +1,5 @@
 use Rattle.std.proofs.Common.{◌≡◌, Some, None, arith}
 use Rattle.mq_frame.specs.Reading.{request_at}
-use Rattle.mq_frame.proofs.FieldLaws.{IsBytes}
 use Rattle.mq_frame.proofs.Bodies.{request_at_spelled, request_at_read}
 use Rattle.mq_frame.proofs.decode.decode_request.Goals as goal
 

@@ -13,6 +13,9 @@ use Rattle.mq_server.proofs.Running.{SoFar, Finds, start_empty, read_more}
 use Rattle.mq_server.proofs.Exits.{Exits, exits_as, refill_failed, input_ended, refused, no_request, take_failed, sent, send_failed, enough}
 use Rattle.mq_server.proofs.connection.serve.Goals as goal
 
+no_fault : {A : Type 0} (x : A) (fault : ServeFault) → Ok x ≡ Err fault → ⊥
+no_fault x fault e = cc
+
 pub frames-init : goal.frames-init
 frames-init g c =
     let empty : c.new-feed.result.rest ≡ [] = ap (λ (f : Feed). f.rest) c.new-feed.ensures in
@@ -20,6 +23,8 @@ frames-init g c =
       limit = ap (λ (f : Feed). f.limit) c.new-feed.ensures;
       under = omega arith;
       ahead = omega (arith, ap length empty);
+      source_works = λ w. w;
+      sink_works = λ w. w;
       same_zone = refl;
       same_default = refl;
       was_kept = λ k. k;
@@ -67,6 +72,8 @@ frames-preserved-else-not-branch g c =
       limit = c.refill.ensures.same_limit ∙ same_limit c.frames.feed c.next_body.follows.lender-at-none i.limit c.next_body.follows.holds-at-none;
       under = i.under;
       ahead = omega (arith, small, ap length grown, length-append c.frames.feed.rest piece, partial_short 512 c.frames.feed.rest partial);
+      source_works = λ w. c.in_ok-refill-in-Ok-None.ensures.works (no_fault _ _);
+      sink_works = i.sink_works;
       same_zone = i.same_zone;
       same_default = i.same_default;
       was_kept = i.was_kept;
@@ -141,6 +148,8 @@ frames-preserved g c =
       limit = same_limit c.frames.feed c.next_body.follows.lender-at-none i.limit c.next_body.follows.holds-at-none;
       under = omega (arith, i.under, c.if-answered-eq-ENOUGH.false);
       ahead = omega (arith, i.ahead, left_short 512 c.frames.feed.rest c.in-Ok-Some.body.now c.next_body.follows.lender-at-none.rest stands);
+      source_works = i.source_works;
+      sink_works = λ w. c.in_ok-send-in-Some.ensures.works (i.sink_works w) (no_fault _ _);
       same_zone = c.take.ensures.same_zone ∙ i.same_zone;
       same_default = c.take.ensures.same_default ∙ i.same_default;
       was_kept = λ k. i.was_kept (c.take.ensures.kept k);

@@ -1,4 +1,4 @@
-use Rattle.std.proofs.Common.{◌≡◌, ℕ, ◌+◌, ◌-◌, ◌*◌, ◌<◌, length}
+use Rattle.std.proofs.Common.{◌≡◌, ℕ, ◌+◌, ◌-◌, ◌*◌, ◌<◌, length, false}
 use Rattle.mq_server.specs.Connection.{Wire}
 use Rattle.mq_server.proofs.Running.{SoFar}
 use Rattle.mq_server.proofs.connection.serve.Given as goal
@@ -12,6 +12,8 @@ invariant-frames g l =
       limit : l.feed.limit ≡ 512;
       under : l.answered < 10000;
       ahead : length l.feed.rest < 4610;
+      source_works : g.S.Source.has_failed l.fn.input ≡ false → g.S.Source.has_failed l.input ≡ false;
+      sink_works : g.W.Sink.has_failed l.fn.output ≡ false → g.W.Sink.has_failed l.output ≡ false;
       same_zone : (book l.ledger).zone ≡ (book l.fn.ledger).zone;
       same_default : (book l.ledger).default ≡ (book l.fn.ledger).default;
       was_kept : kept l.ledger → kept l.fn.ledger;
