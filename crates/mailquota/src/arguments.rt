@@ -37,7 +37,10 @@ impl From<AllocError> for ArgumentsFault {
 
 impl From<Error> for ArgumentsFault {
     fn from(error: Error) -> ArgumentsFault {
-        ArgumentsFault::Words(error)
+        match error.kind() {
+            ErrorKind::OutOfMemory => ArgumentsFault::Memory,
+            _ => ArgumentsFault::Words(error),
+        }
     }
 }
 
