@@ -6,11 +6,13 @@ PROGRAM = crates/mailquota/out/mailquota
 
 DESTDIR =
 PREFIX = /usr/local
-# smtpd looks here for a filter whose command doesn't begin with a slash
-FILTERDIR = $(PREFIX)/libexec/smtpd
 SBINDIR = $(PREFIX)/sbin
+LIBEXECDIR = $(PREFIX)/libexec/mailquota
+MANDIR = $(PREFIX)/share/man
+EXAMPLEDIR = $(PREFIX)/share/examples/mailquota
+DOCDIR = $(PREFIX)/share/doc/mailquota
 
-.PHONY: all build demo check install clean
+.PHONY: all build demo check program-tests smtpd install clean
 
 all: build
 
@@ -25,11 +27,27 @@ demo: build
 check:
 	@$(RT) ci
 
+# The program over loopback, as peers, smtpd and administrators use it: Python 3 alone, about two minutes.
+program-tests:
+	@test -x $(PROGRAM) || { echo "run 'make build' first" >&2; exit 1; }
+	@python3 tests/program/run.py $(PROGRAM)
+
+# A real OpenSMTPD from Debian, in namespaces of its own: wants root, debootstrap, iproute2, openssl and python3.
+smtpd:
+	@test -x $(PROGRAM) || { echo "run 'make build' first" >&2; exit 1; }
+	@bash tests/smtpd/run.sh $(PROGRAM)
+
 install:
 	@test -x $(PROGRAM) || { echo "run 'make build' first" >&2; exit 1; }
-	install -d $(DESTDIR)$(FILTERDIR) $(DESTDIR)$(SBINDIR)
+	install -d $(DESTDIR)$(SBINDIR) $(DESTDIR)$(LIBEXECDIR) $(DESTDIR)$(MANDIR)/man5 $(DESTDIR)$(MANDIR)/man8
+	install -d $(DESTDIR)$(EXAMPLEDIR) $(DESTDIR)$(DOCDIR)
 	install -m 755 $(PROGRAM) $(DESTDIR)$(SBINDIR)/mailquota
-	ln -sf $(SBINDIR)/mailquota $(DESTDIR)$(FILTERDIR)/mailquota
+	install -m 755 contrib/one-spelling $(DESTDIR)$(LIBEXECDIR)/one-spelling
+	install -m 644 man/mailquota.8 $(DESTDIR)$(MANDIR)/man8/mailquota.8
+	install -m 644 man/mailquota.toml.5 $(DESTDIR)$(MANDIR)/man5/mailquota.toml.5
+	install -m 644 contrib/filter.toml contrib/server.toml contrib/smtpd.conf $(DESTDIR)$(EXAMPLEDIR)
+	install -m 644 contrib/mailquota.service contrib/mailquota.rc $(DESTDIR)$(EXAMPLEDIR)
+	install -m 644 LICENSE NOTICE $(DESTDIR)$(DOCDIR)
 
 clean:
 	rm -rf crates/*/out

@@ -3,13 +3,12 @@
 
 usage: replay.py PROGRAM
 """
-import subprocess
 import sys
 import tempfile
 from pathlib import Path
 
 from frames import USAGE, reserve
-from turns import medians
+from turns import built, medians
 
 CONNECTIONS, FRAMES = 5, 9_999
 
@@ -18,8 +17,7 @@ def main():
     program = sys.argv[1]
     here = Path(__file__).parent
     with tempfile.TemporaryDirectory() as folder:
-        twin = f"{folder}/twin"
-        subprocess.run(["rustc", "-O", "--edition", "2021", "-o", twin, here / "twin.rs"], check=True)
+        twin = built(here / "twin.rs", folder)
         history = "".join(reserve(n, n, "u") for n in range(1, 11))
         usages = USAGE * FRAMES
         text = (history + "\n\n" + "\n\n".join([usages] * CONNECTIONS) + "\n").encode()

@@ -15,3 +15,10 @@ def medians(commands, text, rounds=15):
             times[place].append(time.perf_counter() - start)
             outputs[place] = run.stdout
     return [statistics.median(t) for t in times], outputs
+
+
+def built(source, folder):
+    """The program that rustc -O makes of a file, in that folder."""
+    program = f"{folder}/{source.stem}"
+    subprocess.run(["rustc", "-O", "--edition", "2021", "-o", program, source], check=True)
+    return program

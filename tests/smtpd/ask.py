@@ -1,8 +1,11 @@
-"""Asks two hosts by SMTP, and prints a table of what was asked and answered."""
+"""Asks several hosts by SMTP, and prints a table of what was asked and answered."""
+import os
+import signal
+import subprocess
 import sys
 import time
 
-from host import command, session, start_server, start_smtpd, stop
+from host import command, log_of, session, session_at, start_server, start_smtpd, stop
 
 ROWS = []
 
@@ -86,11 +89,115 @@ def no_login():
     smtp.quit()
 
 
+def a_cut_connection():
+    smtp = session(2, "u06")
+    smtp.mail("a@quota.test")
+    recipient(smtp, 1)
+    note("report of u06 within a message", usage("u06"), "0 1 3 u06")
+    smtp.close()
+    for _ in range(100):
+        if usage("u06").startswith("0 0"):
+            break
+        time.sleep(0.05)
+    note("report of u06 after its connection broke", usage("u06"), "0 0 3 u06")
+
+
+def two_messages_on_two_hosts():
+    for host, allowed in ((1, 2), (2, 1)):
+        smtp = session(host, "u07")
+        smtp.mail("a@quota.test")
+        for number in range(1, allowed + 1):
+            note(f"u07 at host {host}, recipient {number} of its message", recipient(smtp, number), "250")
+        code, _ = smtp.data(b"Subject: hello\r\n\r\nhello\r\n")
+        note(f"u07 at host {host}, DATA", str(code), "250")
+        smtp.quit()
+    smtp = session(1, "u07")
+    smtp.mail("a@quota.test")
+    note("u07 at host 1, its fourth recipient", recipient(smtp, 1), "550")
+    note("report of u07", usage("u07"), "3 0 3 u07")
+    smtp.quit()
+
+
+def spellings():
+    """Each spelling has its own quota, and contrib's filter refuses all but one."""
+    smtp = session(1, "U01")
+    smtp.mail("a@quota.test")
+    note("U01, while u01 used its limit", recipient(smtp, 1), "250")
+    note("report of U01", usage("U01"), "0 1 3 U01")
+    smtp.quit()
+    for login, wanted in (("u08", "250"), ("U08", "550 type the login in lower case")):
+        smtp = session(3, login)
+        code, text = smtp.mail("a@quota.test")
+        note(f"{login} behind one-spelling, MAIL FROM", f"{code} {text.decode()}", wanted)
+        smtp.quit()
+    smtp = session(3, "u08")
+    smtp.mail("a@quota.test")
+    note("u08 behind one-spelling, recipients 1 to 4", " ".join(recipient(smtp, number)[:3] for number in range(1, 5)), "250 250 250 550")
+    smtp.quit()
+
+
 def no_server():
     smtp = session(1, "u05")
     smtp.mail("a@quota.test")
     note("u05 without a quota server", recipient(smtp, 1), "451")
+    smtp.rset()
+    note("no login without a quota server", no_login_answer(), "250")
+    lines = log_of("smtpd").read_text(errors="replace").splitlines()
+    note("smtpd's log", next((line for line in lines if line.startswith("quota1: ")), "nothing"), "quota1: [WARN")
+    return smtp
+
+
+def no_login_answer():
+    smtp = session(2)
+    smtp.mail("a@quota.test")
+    answer = recipient(smtp, 1)
     smtp.quit()
+    return answer
+
+
+def a_new_server(smtp):
+    """A ledger in memory begins again with its server."""
+    smtp.mail("a@quota.test")
+    note("u05 after the server came back", recipient(smtp, 1), "250")
+    smtp.quit()
+    note("report of u03, who had used 2, from the new server", usage("u03"), "0 0 3 u03")
+
+
+def end_of_a_filter(smtpd):
+    """Whatever ends a filter ends smtpd."""
+    found = subprocess.run(["pgrep", "-f", "mailquota filter --config /etc/mailquota/filter2.toml"], capture_output=True, text=True)
+    for pid in found.stdout.split():
+        os.kill(int(pid), signal.SIGTERM)
+    try:
+        smtpd.wait(timeout=10)
+        note("smtpd after the end of one filter", "ended", "ended")
+    except subprocess.TimeoutExpired:
+        note("smtpd after the end of one filter", "runs on", "ended")
+
+
+def as_in_contrib():
+    """The files of contrib as they stand: a submission port that asks for a login, one spelling, a limit of 500."""
+    address, host = "192.0.2.7", "192.0.2.1"
+    server = start_server("/etc/mailquota.toml", address)
+    smtpd = start_smtpd("/etc/mail/smtpd.conf", host, ports=(587,))
+    try:
+        smtp = session_at(587, address=host)
+        note("contrib: MAIL FROM without a login", str(smtp.mail("a@quota.test")[0]), "530")
+        smtp.quit()
+        smtp = session_at(587, "U01", host)
+        note("contrib: U01, MAIL FROM", str(smtp.mail("a@quota.test")[0]), "550")
+        smtp.quit()
+        words = ["--server", f"{address}:7025", "--host", "admin", "--login", "u01", "--from", day(), "--cap", "2"]
+        note("contrib: limit of u01 set to 2", command("limit", *words)[0], "set")
+        smtp = session_at(587, "u01", host)
+        smtp.mail("a@quota.test")
+        note("contrib: u01, recipients 1 to 3", " ".join(recipient(smtp, number)[:3] for number in (1, 2, 3)), "250 250 550")
+        text, _ = command("report", "--server", f"{address}:7025", "--day", day())
+        note("contrib: report", " ".join(text.split()), "0 2 2 u01")
+        smtp.quit()
+    finally:
+        stop(smtpd)
+        stop(server)
 
 
 def main():
@@ -102,12 +209,20 @@ def main():
         a_commit_keeps()
         a_limit()
         no_login()
+        a_cut_connection()
+        two_messages_on_two_hosts()
+        spellings()
         stop(server)
-        no_server()
+        smtp = no_server()
+        server = start_server()
+        a_new_server(smtp)
+        end_of_a_filter(smtpd)
     finally:
-        stop(smtpd)
+        if smtpd.poll() is None:
+            stop(smtpd)
         if server.poll() is None:
             stop(server)
+    as_in_contrib()
     for what, answer, wanted, good in ROWS:
         print(f"{'ok ' if good else 'NOT'} {what:45} {answer}" + ("" if good else f" (wanted {wanted})"))
     bad = sum(not row[3] for row in ROWS)

@@ -8,14 +8,15 @@ import time
 from pathlib import Path
 
 ROOT = Path(os.environ["SMTPD_ROOT"])
-PROGRAM = "/usr/libexec/opensmtpd/mailquota"
-PORTS = {1: 2501, 2: 2502}
+PROGRAM = "/usr/local/sbin/mailquota"
+# host 3 has contrib's filter for logins before mailquota
+PORTS = {1: 2501, 2: 2502, 3: 2503}
 
 
-def wait_for(port, seconds=10):
+def wait_for(port, address="127.0.0.1", seconds=10):
     for _ in range(seconds * 20):
         try:
-            socket.create_connection(("127.0.0.1", port), timeout=1).close()
+            socket.create_connection((address, port), timeout=1).close()
             return
         except OSError:
             time.sleep(0.05)
@@ -23,20 +24,24 @@ def wait_for(port, seconds=10):
 
 
 def start(name, *words):
-    log = open(f"/tmp/{name}.log", "wb")
+    log = open(log_of(name), "wb")
     return subprocess.Popen(["chroot", str(ROOT), *words], stdout=log, stderr=log, stdin=subprocess.DEVNULL)
 
 
-def start_server():
-    server = start("server", PROGRAM, "server", "--config", "/etc/mailquota/server.toml")
-    wait_for(7025)
+def log_of(name):
+    return ROOT / "var/log" / f"mailquota-{name}.log"
+
+
+def start_server(settings="/etc/mailquota/server.toml", address="127.0.0.1"):
+    server = start("server", PROGRAM, "server", "--config", settings)
+    wait_for(7025, address)
     return server
 
 
-def start_smtpd():
-    smtpd = start("smtpd", "/usr/sbin/smtpd", "-d", "-f", "/etc/mailquota/smtpd.conf")
-    for port in PORTS.values():
-        wait_for(port)
+def start_smtpd(settings="/etc/mailquota/smtpd.conf", address="127.0.0.1", ports=(2501, 2502, 2503)):
+    smtpd = start("smtpd", "/usr/sbin/smtpd", "-d", "-f", settings)
+    for port in ports:
+        wait_for(port, address)
     return smtpd
 
 
@@ -46,8 +51,12 @@ def stop(process):
 
 
 def session(host, login=None):
-    """A sitting at one of the two hosts, with or without a login."""
-    smtp = smtplib.SMTP("127.0.0.1", PORTS[host], timeout=30)
+    """A sitting at one of the hosts, with or without a login."""
+    return session_at(PORTS[host], login)
+
+
+def session_at(port, login=None, address="127.0.0.1"):
+    smtp = smtplib.SMTP(address, port, timeout=30)
     smtp.ehlo("client.test")
     if login:
         context = ssl.create_default_context()

@@ -1,5 +1,6 @@
 #!/bin/bash
-# A real smtpd with two listeners as two hosts, and one quota server: shows what is asked and answered by SMTP.
+# A real smtpd with a listener for each of several hosts, and one quota server: shows what is asked and answered by
+# SMTP.
 #
 # usage: run.sh PROGRAM [SCRIPT [WORDS..]]
 #
@@ -31,17 +32,17 @@ printf '#!/bin/sh\nexit 101\n' >"$root/usr/sbin/policy-rc.d"
 chmod +x "$root/usr/sbin/policy-rc.d"
 : >"$root/etc/resolv.conf"
 echo quota.test >"$root/etc/mailname"
-install -m 755 "$program" "$root/usr/libexec/opensmtpd/mailquota"
+make -s -C "$here/../.." install PROGRAM="$program" DESTDIR="$root" PREFIX=/usr/local
 [ -f "$etc/key.pem" ] || openssl req -x509 -newkey rsa:2048 -nodes -days 3650 -subj /CN=quota.test \
     -keyout "$etc/key.pem" -out "$etc/cert.pem" 2>/dev/null
 chmod 600 "$etc/key.pem"
 : >"$etc/credentials"
-for login in u01 u02 u03 u04 u05 u06 u07 u08; do
-    printf '%s %s\n' "$login" "$(openssl passwd -6 secret)" >>"$etc/credentials"
+secret=$(openssl passwd -6 secret)
+for login in u01 u02 u03 u04 u05 u06 u07 u08 u09; do
+    printf '%s %s\n' "$login" "$secret" >>"$etc/credentials"
 done
-chown root:opensmtpd "$etc/credentials" 2>/dev/null || chmod 644 "$etc/credentials"
 chmod 644 "$etc/credentials"
-for host in 1 2; do
+for host in 1 2 3; do
     cat >"$etc/filter$host.toml" <<FILTER
 host = "mx$host.quota.test"
 server = "127.0.0.1:7025"
@@ -60,17 +61,32 @@ cat >"$etc/smtpd.conf" <<'CONF'
 pki quota.test cert "/etc/mailquota/cert.pem"
 pki quota.test key "/etc/mailquota/key.pem"
 table credentials file:/etc/mailquota/credentials
-filter quota1 proc-exec "/usr/libexec/opensmtpd/mailquota filter --config /etc/mailquota/filter1.toml"
-filter quota2 proc-exec "/usr/libexec/opensmtpd/mailquota filter --config /etc/mailquota/filter2.toml"
+filter quota1 proc-exec "/usr/local/sbin/mailquota filter --config /etc/mailquota/filter1.toml"
+filter quota2 proc-exec "/usr/local/sbin/mailquota filter --config /etc/mailquota/filter2.toml"
+filter quota3 proc-exec "/usr/local/sbin/mailquota filter --config /etc/mailquota/filter3.toml"
+filter spelling proc-exec "/usr/local/libexec/mailquota/one-spelling"
+filter both chain { spelling, quota3 }
 listen on 127.0.0.1 port 2501 tls pki quota.test auth-optional <credentials> filter quota1
 listen on 127.0.0.1 port 2502 tls pki quota.test auth-optional <credentials> filter quota2
+listen on 127.0.0.1 port 2503 tls pki quota.test auth-optional <credentials> filter both
 action "sink" mda "cat >/dev/null" virtual { "@" = nobody }
 match from any for any action "sink"
 CONF
 
+# contrib's files where they say that they belong, and unchanged
+mkdir -p "$root/etc/mail" "$root/etc/ssl/private"
+install -m 644 "$here/../../contrib/smtpd.conf" "$root/etc/mail/smtpd.conf"
+install -m 644 "$here/../../contrib/filter.toml" "$root/etc/mail/mailquota.toml"
+install -m 644 "$here/../../contrib/server.toml" "$root/etc/mailquota.toml"
+install -m 644 "$etc/credentials" "$root/etc/mail/credentials"
+install -m 644 "$etc/cert.pem" "$root/etc/ssl/mx1.example.org.crt"
+install -m 600 "$etc/key.pem" "$root/etc/ssl/private/mx1.example.org.key"
+
 export SMTPD_ROOT=$root
 exec unshare --mount --net --pid --fork --kill-child --mount-proc bash -c '
     ip link set lo up
+    ip address add 192.0.2.1/32 dev lo
+    ip address add 192.0.2.7/32 dev lo
     mount --bind /proc "$SMTPD_ROOT/proc"
     mount --bind /dev "$SMTPD_ROOT/dev"
     exec python3 "$@"' smtpd "$script" "$@"

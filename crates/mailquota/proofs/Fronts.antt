@@ -1,7 +1,7 @@
 -- What is written in several steps.
-use Rattle.std.proofs.Common.{◌≡◌, ◌<◌, ◌+◌, ℕ, List, [], ◌∷◌, ◌++◌, Option, map, length, take, drop, get_or, refl, sym, ap, ◌∙◌, append_assoc, append-nil, take-append-drop}
-use Rattle.std.proofs.lemmas.List.{drop_more, map-append, map-id}
-use Rattle.std.specs.Io.KnownBytes.{Appends}
+use Rattle.std.proofs.Common.{◌≡◌, ◌<◌, ◌+◌, ℕ, List, [], ◌∷◌, ◌++◌, Option, None, Some, map, length, take, drop, get_or, refl, sym, ap, ◌∙◌, append_assoc, append-nil, take-append-drop}
+use Rattle.std.proofs.lemmas.List.{drop_more, take_more, map-append, map-id}
+use Rattle.std.specs.Io.KnownBytes.{Appends, Keeps}
 use Rattle.std.proofs.KnownBytes.{Appends-trans, Appends-nil}
 use Rattle.std.specs.List.{flat_map}
 use Rattle.std.proofs.lemmas.List.Concat.{flat_map-append}
@@ -43,3 +43,29 @@ around_place inner all yielded x so_far below here =
     let left : drop (length yielded) all ≡ x ∷ drop (length yielded + 1) all = drop_more all (length yielded) x below ∙ ap (λ y. y ∷ drop (length yielded + 1) all) (sym here) in
     ap (map inner) (sym (take-append-drop (length yielded) all)) ∙ ap (λ t. map inner (t ++ drop (length yielded) all)) (sym same) ∙ map-append inner yielded (drop (length yielded) all)
     ∙ ap (λ t. map inner yielded ++ map inner t) left
+
+-- ---- the lines of a list, for any line of an element
+
+pub around_index : {X : Type 0} (xs : List X) (i : ℕ) (x : X) → i < length xs → get_or xs i x ≡ x → xs ≡ take i xs ++ x ∷ drop (i + 1) xs
+around_index xs i x below here = sym (take-append-drop i xs) ∙ ap (λ l. take i xs ++ l) (drop_more xs i x below ∙ ap (λ y. y ∷ drop (i + 1) xs) here)
+
+pub front_of_item : {X : Type 0} (f : X → List ℕ) (old mid new : Option (List ℕ)) (xs : List X) (i : ℕ) (x : X) → i < length xs → get_or xs i x ≡ x
+    → Appends old mid (flat_map f (take i xs)) → AppendsFront mid new (f x) → AppendsFront old new (flat_map f xs)
+front_of_item f old mid new xs i x below here before now =
+    let whole : flat_map f xs ≡ (flat_map f (take i xs) ++ f x) ++ flat_map f (drop (i + 1) xs) =
+    ap (flat_map f) (around_index xs i x below here) ∙ flat_map-append f (take i xs) (x ∷ drop (i + 1) xs) ∙ sym (append_assoc (flat_map f (take i xs)) (f x) (flat_map f (drop (i + 1) xs))) in
+    rw whole (front_first old new (flat_map f (take i xs) ++ f x) (flat_map f (drop (i + 1) xs)) (front_later old mid new (flat_map f (take i xs)) (f x) before now))
+
+pub one_more_item : {X : Type 0} (f : X → List ℕ) (old mid new : Option (List ℕ)) (xs : List X) (i : ℕ) (x : X) → i < length xs → get_or xs i x ≡ x
+    → Appends old mid (flat_map f (take i xs)) → Appends mid new (f x) → Appends old new (flat_map f (take (i + 1) xs))
+one_more_item f old mid new xs i x below here before now =
+    let whole : flat_map f (take (i + 1) xs) ≡ flat_map f (take i xs) ++ f x =
+    ap (flat_map f) (take_more xs i x below ∙ ap (λ y. take i xs ++ y ∷ []) here) ∙ flat_map-append f (take i xs) (x ∷ []) ∙ ap (λ l. flat_map f (take i xs) ++ l) (append-nil (f x)) in
+    rw whole (Appends-trans old mid new (flat_map f (take i xs)) (f x) before now)
+
+-- a flush keeps what was written
+pub appends_kept : (old mid new : Option (List ℕ)) (bytes : List ℕ) → Appends old mid bytes → Keeps mid new → Appends old new bytes
+appends_kept None mid new bytes a k = tt
+appends_kept (Some old) None new bytes a k = absurd a
+appends_kept (Some old) (Some mid) None bytes a k = absurd k
+appends_kept (Some old) (Some mid) (Some new) bytes a k = k ∙ a

@@ -1,8 +1,12 @@
 -- What the words of a command line may ask for.
-use Rattle.std.specs.Prelude.{◌≤◌, ◌≤ℤ◌, pos, negsuc}
+use Rattle.std.specs.Prelude.{ℕ, List, ◌≤◌, ◌≤ℤ◌, pos, negsuc, IfSome}
+use Rattle.std.specs.Net.Grammar.{IsSocketText}
+use Rattle.std.specs.declared.net.SocketAddr.{SocketAddr}
+use Rattle.mq_frame.specs.Range.{IsRun, IsDay, IsAmount, IsWithin}
 use Rattle.mailquota.specs.declared.arguments.ReplayArguments.{ReplayArguments}
+use Rattle.mailquota.specs.declared.arguments.LimitArguments.{LimitArguments}
 use Rattle.mailquota.specs.declared.arguments.Arguments.{Arguments}
-use Rattle.mailquota.specs.declared.arguments.Arguments.TheVariants.{Replay}
+use Rattle.mailquota.specs.declared.arguments.Arguments.TheVariants.{Replay, Filter, Server, Limit, Report}
 
 -- a limit of 0 to 1,000,000 and an offset of -1,439 to 1,439 minutes
 pub record IsReplayArguments (given : ReplayArguments) : Type 0 where
@@ -10,6 +14,19 @@ pub record IsReplayArguments (given : ReplayArguments) : Type 0 where
   pub west : negsuc 1438 ≤ℤ given.offset
   pub east : given.offset ≤ℤ pos 1439
 
+pub record IsLimitArguments (given : LimitArguments) : Type 0 where
+  pub from : IsDay given.from
+  pub cap : IsAmount given.cap
+  pub run : IfSome given.run IsRun
+
 -- the numbers are within their ranges
 abbrev pub IsArguments : Arguments → Type 0
 IsArguments (Replay given) = IsReplayArguments given
+IsArguments (Filter given) = IfSome given.run IsRun
+IsArguments (Server given) = IsWithin 1 1000000 given.connections
+IsArguments (Limit given) = IsLimitArguments given
+IsArguments (Report given) = IsDay given.day
+
+-- the text spells no numeric address and port
+abbrev pub IsNoAddress : List ℕ → Type 0
+IsNoAddress text = (address : SocketAddr) → ¬ IsSocketText text address

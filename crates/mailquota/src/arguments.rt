@@ -1,9 +1,10 @@
 //! The words of the command line.
-ghost use Rattle.std.specs.Prelude.{IfOk};
+ghost use Rattle.std.specs.Prelude.{◌≤◌, IfOk, IfSome};
+ghost use Rattle.mq_frame.specs.Range.{IsRun, IsWithin};
 ghost use Rattle.mailquota.specs.Arguments.{IsArguments, IsReplayArguments};
 
 use clap::error::ErrorKind;
-use clap::{Arg, ArgMatches, Command, Error, value_parser};
+use clap::{Arg, ArgAction, ArgMatches, Command, Error, value_parser};
 use std::alloc::{AllocError, Global};
 
 /// What `replay` is given.
@@ -15,10 +16,56 @@ pub struct ReplayArguments {
     pub offset: i32,
 }
 
+/// What `filter` is given.
+#[derive(Clone, Copy, Debug, PartialEq)]
+pub struct FilterArguments<'a> {
+    /// The file of settings.
+    pub config: &'a str,
+    /// The number of the run, or the clock's.
+    pub run: Option<u64>,
+}
+
+/// What `server` is given.
+#[derive(Clone, Copy, Debug, PartialEq)]
+pub struct ServerArguments<'a> {
+    /// The file of settings.
+    pub config: &'a str,
+    /// How many connections are served, 1 to 1,000,000.
+    pub connections: u32,
+}
+
+/// What `limit` is given.
+#[derive(Clone, Copy, Debug, PartialEq)]
+pub struct LimitArguments<'a> {
+    pub server: &'a str,
+    pub host: &'a str,
+    pub login: &'a str,
+    /// The day number from which on the limit governs, 0 to 376,200.
+    pub from: u32,
+    /// Recipients a day, 0 to 1,000,000.
+    pub cap: u32,
+    /// The number of the run, or the clock's.
+    pub run: Option<u64>,
+}
+
+/// What `report` is given.
+#[derive(Clone, Copy, Debug, PartialEq)]
+pub struct ReportArguments<'a> {
+    pub server: &'a str,
+    /// The day number that is reported, 0 to 376,200.
+    pub day: u32,
+    /// The one login that is reported, or all.
+    pub login: Option<&'a str>,
+}
+
 /// What the words ask for.
-#[derive(Debug, Drop, PartialEq)]
-pub enum Arguments {
+#[derive(Clone, Copy, Debug, PartialEq)]
+pub enum Arguments<'a> {
     Replay(ReplayArguments),
+    Filter(FilterArguments<'a>),
+    Server(ServerArguments<'a>),
+    Limit(LimitArguments<'a>),
+    Report(ReportArguments<'a>),
 }
 
 /// Why the words ask for nothing that can be done.
@@ -45,12 +92,36 @@ impl From<Error> for ArgumentsFault {
 }
 
 /// Reads the words of a command line, the program's name first.
-pub fn read_arguments(alloc: Global, words: &[String]) -> Result<Arguments, ArgumentsFault>
+pub fn read_arguments<'a>(
+    alloc: Global,
+    words: &'a [String],
+) -> Result<Arguments<'a>, ArgumentsFault>
     ensures { IfOk result IsArguments }
 {
     let mut program = program(alloc)?;
     let matches = program.try_get_matches_from_mut(words)?;
     match matches.subcommand() {
+        Some(("filter", found)) => Ok(Arguments::Filter(FilterArguments {
+            config: text_of(found, "config"),
+            run: run_of(found),
+        })),
+        Some(("server", found)) => Ok(Arguments::Server(ServerArguments {
+            config: text_of(found, "config"),
+            connections: number_of(found, "connections", 1, 1_000_000),
+        })),
+        Some(("limit", found)) => Ok(Arguments::Limit(LimitArguments {
+            server: text_of(found, "server"),
+            host: text_of(found, "host"),
+            login: text_of(found, "login"),
+            from: number_of(found, "from", 0, 376_200),
+            cap: number_of(found, "cap", 0, 1_000_000),
+            run: run_of(found),
+        })),
+        Some(("report", found)) => Ok(Arguments::Report(ReportArguments {
+            server: text_of(found, "server"),
+            day: number_of(found, "day", 0, 376_200),
+            login: found.get_str("login"),
+        })),
         Some((_, found)) => Ok(Arguments::Replay(replay_of(found))),
         None => Err(ArgumentsFault::Words(program.error(
             ErrorKind::MissingSubcommand,
@@ -65,7 +136,11 @@ fn program<'a>(alloc: Global) -> Result<Command<'a>, AllocError> {
             .about("Daily recipient limits for smtpd, shared by all outgoing hosts")
             .subcommand_required(true)
             .disable_help_subcommand(true)
-            .subcommand(replay_command(alloc)?)?,
+            .subcommand(replay_command(alloc)?)?
+            .subcommand(filter_command(alloc)?)?
+            .subcommand(server_command(alloc)?)?
+            .subcommand(limit_command(alloc)?)?
+            .subcommand(report_command(alloc)?)?,
     )
 }
 
@@ -99,6 +174,129 @@ fn replay_command<'a>(alloc: Global) -> Result<Command<'a>, AllocError> {
             .arg(east)?
             .arg(west)?,
     )
+}
+
+/// The settings file that has to be named.
+fn config_option<'a>(alloc: Global) -> Arg<'a> {
+    option(alloc, "config", "FILE", "Settings").required(true)
+}
+
+fn run_option<'a>(alloc: Global) -> Arg<'a> {
+    option(
+        alloc,
+        "run",
+        "N",
+        "Number of the run; the clock's milliseconds where it isn't given",
+    )
+    .value_parser(value_parser!(u64).range(1..=281_474_976_710_655))
+}
+
+fn filter_command<'a>(alloc: Global) -> Result<Command<'a>, AllocError> {
+    Ok(
+        Command::new(alloc, "filter")
+            .about("Answer smtpd on standard input and output")
+            .arg(config_option(alloc))?
+            .arg(run_option(alloc))?,
+    )
+}
+
+fn server_command<'a>(alloc: Global) -> Result<Command<'a>, AllocError> {
+    let create = Arg::new(alloc, "create")
+        .long("create")
+        .action(ArgAction::SetTrue)
+        .help("Make a new ledger; one in memory is always new");
+    let connections = option(alloc, "connections", "N", "Connections to serve")
+        .value_parser(value_parser!(u32).range(1..=1_000_000))
+        .default_value("1000000");
+    Ok(
+        Command::new(alloc, "server")
+            .about("Serve the ledger to filters, one connection after another")
+            .arg(config_option(alloc))?
+            .arg(create)?
+            .arg(connections)?,
+    )
+}
+
+/// The server's address that has to be given.
+fn server_option<'a>(alloc: Global) -> Arg<'a> {
+    option(
+        alloc,
+        "server",
+        "ADDRESS",
+        "Numeric address and port of the quota server",
+    )
+    .required(true)
+}
+
+fn limit_command<'a>(alloc: Global) -> Result<Command<'a>, AllocError> {
+    let host = option(alloc, "host", "HOST", "Host that asks").required(true);
+    let login = option(alloc, "login", "LOGIN", "Login, as smtpd reports it").required(true);
+    let from = option(
+        alloc,
+        "from",
+        "DAY",
+        "Day number from which on the limit governs",
+    )
+    .required(true)
+    .value_parser(value_parser!(u32).range(0..=376_200));
+    let cap = option(alloc, "cap", "N", "Recipients a day")
+        .required(true)
+        .value_parser(value_parser!(u32).range(0..=1_000_000));
+    Ok(
+        Command::new(alloc, "limit")
+            .about("Set the limit of a login from a day on")
+            .arg(server_option(alloc))?
+            .arg(host)?
+            .arg(login)?
+            .arg(from)?
+            .arg(cap)?
+            .arg(run_option(alloc))?,
+    )
+}
+
+fn report_command<'a>(alloc: Global) -> Result<Command<'a>, AllocError> {
+    let day = option(alloc, "day", "DAY", "Day number, counted from 1970-01-01")
+        .required(true)
+        .value_parser(value_parser!(u32).range(0..=376_200));
+    let login = option(
+        alloc,
+        "login",
+        "LOGIN",
+        "One login, as smtpd reports it; all where it isn't given",
+    );
+    Ok(
+        Command::new(alloc, "report")
+            .about("Print what logins used on a day")
+            .arg(server_option(alloc))?
+            .arg(day)?
+            .arg(login)?,
+    )
+}
+
+/// The text of an option that has to be given.
+fn text_of<'a>(found: &ArgMatches<'a>, name: &str) -> &'a str {
+    found.get_str(name).unwrap_or("")
+}
+
+/// The number of an option that has to be given or has a default, from `least` to `most`.
+fn number_of(found: &ArgMatches<'_>, name: &str, least: u32, most: u32) -> u32
+    requires { least ≤ most }
+    ensures { IsWithin least most result }
+{
+    found
+        .get_one::<u32>(name)
+        .unwrap_or(least)
+        .clamp(least, most)
+}
+
+/// The number of the run, if it is given.
+fn run_of(found: &ArgMatches<'_>) -> Option<u64>
+    ensures { IfSome result IsRun }
+{
+    match found.get_one::<u64>("run") {
+        Some(run) => Some(run.clamp(1, 281_474_976_710_655)),
+        None => None,
+    }
 }
 
 fn replay_of(found: &ArgMatches<'_>) -> ReplayArguments

@@ -1,79 +1,74 @@
-//! What each subcommand does with the arguments, the streams and the files of the process.
+//! Which subcommand the words ask for, with the streams and the files of the process.
+ghost use Rattle.std.specs.Prelude.{◌≡◌};
 ghost use Rattle.mailquota.specs.Arguments.{IsReplayArguments};
+ghost use Rattle.mailquota.specs.Faults.{fault_status};
 
+use crate::admin::{limit, report};
 use crate::arguments::{Arguments, ArgumentsFault, ReplayArguments, read_arguments};
 use crate::connections::LIMIT;
+use crate::fault::{ProgramFault, or_memory};
+use crate::filter::filter;
 use crate::replay::run_replay;
+use crate::server::server;
 use mq_ledger::Zone;
-use std::alloc::{AllocError, AllocFailed};
-use std::io::{BufWriter, ErrorKind, Read, Write};
-use std::rt::Env;
+use std::io::{BufWriter, Read, Write};
+use std::net::{Net, TcpListener, TcpStream};
+use std::rt::{Clock, Env, Files};
 use std::{env, io};
-use thiserror::Error;
 
-/// Why a subcommand couldn't begin.
-#[derive(Clone, Copy, Debug, PartialEq, Error)]
-enum ProgramFault {
-    #[error("arguments are not text")]
-    Words,
-    #[error("read failed")]
-    Read,
-    #[error("write failed")]
-    Write,
-    #[error("out of memory")]
-    Memory,
-}
-
-impl ProgramFault {
-    fn status(self) -> u8 {
-        match self {
-            ProgramFault::Words => 2,
-            _ => 1,
-        }
+/// Runs the program by the words of the process and gives its exit status: 0 done, 1 fault,
+/// 2 usage.
+pub fn run<R, E: Write>(rt: &R, errors: &mut E) -> u8
+where
+    R: Env + Files + Clock + Net<Listener = TcpListener, Stream = TcpStream>,
+    R: Input + Print + Eprint + AllocGlobal,
+{
+    match words_of(rt) {
+        Ok(words) => run_words(rt, words.as_slice(), errors),
+        Err(fault) => refuse(&fault, errors),
     }
 }
 
-impl From<AllocError> for ProgramFault {
-    fn from(_error: AllocError) -> ProgramFault {
-        ProgramFault::Memory
-    }
-}
-
-impl<T: Drop> From<AllocFailed<T>> for ProgramFault {
-    fn from(_error: AllocFailed<T>) -> ProgramFault {
-        ProgramFault::Memory
-    }
-}
-
-/// Want of memory, or else this fault.
-fn or_memory(error: &io::Error, fault: ProgramFault) -> ProgramFault {
-    if error.kind() == ErrorKind::OutOfMemory {
-        return ProgramFault::Memory;
-    }
-    fault
-}
-
-/// Runs the program and gives its exit status: 0 done, 1 fault, 2 usage.
-pub fn run<R: Env + Input + Print + Eprint + AllocGlobal, E: Write>(rt: &R, errors: &mut E) -> u8 {
-    match run_words(rt, errors) {
-        Ok(status) => status,
-        Err(fault) => {
-            let _ = writeln!(errors, "mailquota: {fault}");
-            fault.status()
-        }
-    }
-}
-
-fn run_words<R: Env + Input + Print + Eprint + AllocGlobal, E: Write>(
-    rt: &R,
-    errors: &mut E,
-) -> Result<u8, ProgramFault> {
+/// The words of the command line, the program's name first.
+fn words_of<R: Env + AllocGlobal>(rt: &R) -> Result<Vec<String>, ProgramFault> {
     let mut words = Vec::new(rt.alloc());
     for word in env::args(rt).map_err(|e| or_memory(&e, ProgramFault::Words))? {
         words.push(word)?;
     }
-    match read_arguments(rt.alloc(), words.as_slice()) {
+    Ok(words)
+}
+
+/// Runs the program by these words, the program's name first, and gives its exit status.
+pub fn run_words<R, E: Write>(rt: &R, words: &[String], errors: &mut E) -> u8
+where
+    R: Files + Clock + Net<Listener = TcpListener, Stream = TcpStream>,
+    R: Input + Print + Eprint + AllocGlobal,
+{
+    match run_subcommand(rt, words, errors) {
+        Ok(status) => status,
+        Err(fault) => refuse(&fault, errors),
+    }
+}
+
+/// Prints a fault, and gives its exit status.
+fn refuse<E: Write>(fault: &ProgramFault, errors: &mut E) -> u8
+    ensures { result ≡ fault_status fault.now }
+{
+    let _ = writeln!(errors, "mailquota: {fault}");
+    fault.status()
+}
+
+fn run_subcommand<R, E: Write>(rt: &R, words: &[String], errors: &mut E) -> Result<u8, ProgramFault>
+where
+    R: Files + Clock + Net<Listener = TcpListener, Stream = TcpStream>,
+    R: Input + Print + Eprint + AllocGlobal,
+{
+    match read_arguments(rt.alloc(), words) {
         Ok(Arguments::Replay(given)) => replay(rt, given, errors),
+        Ok(Arguments::Filter(given)) => filter(rt, given),
+        Ok(Arguments::Server(given)) => server(rt, given),
+        Ok(Arguments::Limit(given)) => limit(rt, given, errors),
+        Ok(Arguments::Report(given)) => report(rt, given, errors),
         Err(ArgumentsFault::Words(error)) => match error.print(rt) {
             Err(_) if !error.use_stderr() => Err(ProgramFault::Write),
             _ => Ok(if error.use_stderr() { 2 } else { 0 }),
@@ -96,10 +91,7 @@ fn replay<R: Input + Print + AllocGlobal, E: Write>(
         .read_to_end(&mut text)
         .map_err(|e| or_memory(&e, ProgramFault::Read))?;
     let zone = Zone::of_offset(given.offset).unwrap();
-    let mut output = BufWriter::new(rt.alloc(), io::writer(rt)).map_err(|e| or_memory(
-        &e,
-        ProgramFault::Memory,
-    ))?;
+    let mut output = BufWriter::new(rt.alloc(), io::writer(rt)).map_err(|_| ProgramFault::Memory)?;
     Ok(run_replay(
         rt.alloc(),
         text.as_slice(),

@@ -1,15 +1,15 @@
 -- In every played past few transactions are live or waiting, numbers are left to close the live ones, and a step
 -- makes few exchanges.
-use Rattle.std.proofs.Common.{◌≡◌, ℕ, zero, suc, ◌+◌, ◌*◌, ◌<◌, ◌≤◌, Bool, false, true, List, [], ◌∷◌, ◌++◌, length, drop, refl, sym, ap, ◌∙◌, subst, arith, length-append, length-drop, Option, None, Some, is_some, if◌then◌else◌, MatchBool}
+use Rattle.std.proofs.Common.{◌≡◌, ℕ, suc, ◌+◌, ◌*◌, ◌≤◌, Bool, false, true, List, [], ◌∷◌, ◌++◌, length, refl, ap, arith, length-append, length-drop, Option, None, Some, is_some, if◌then◌else◌, MatchBool}
 use Rattle.std.proofs.Math.Nat.{mul-le-mul_left}
 use Rattle.mq_frame.specs.declared.message.Request.{Request}
 use Rattle.mq_frame.specs.declared.message.Reply.{Reply}
 use Rattle.mq_client.specs.Exchanges.{Exchange, AreTries, IsUndecided, SendsSome, NoneYet, OneMore, Sends, SendsAll, StopsAt, decisions}
-use Rattle.mq_client.specs.Past.{Source, Action, Ask, Close, Drain, Step, View, view, after, after_close, held_by, held_for, with_asked, without, reserve_of, closing_of, refuses, PlaysFrom, Plays, IsPlayed, IsBounded}
+use Rattle.mq_client.specs.Past.{Source, Action, Ask, Close, Drain, Step, View, view, after, after_close, held_by, held_for, with_asked, reserve_of, closing_of, refuses, PlaysFrom, Plays, IsPlayed, IsBounded}
 use Rattle.mq_track.specs.declared.closing.CloseEnd.{CloseEnd}
 use Rattle.mq_client.specs.declared.held.Held.{Held}
 use Rattle.mq_client.proofs.Counting.{AreCounted, counted, length_closed}
-use Rattle.mq_client.proofs.Keeping.{HasRoom, has_room}
+use Rattle.mq_client.proofs.Keeping.{has_room}
 
 -- an ask with an exchange isn't refused
 asked_free : (b : Bool) (x : Exchange) (group : List Exchange) (B : Type 0) → MatchBool b (x ∷ group ≡ []) B → b ≡ false

@@ -1,8 +1,8 @@
 -- The live transactions of a past, each once.
-use Rattle.std.proofs.Common.{◌≡◌, ℕ, zero, suc, ◌+◌, ◌≤◌, ◌==◌, Bool, false, true, not, List, [], ◌∷◌, length, refl, sym, ap, ◌∙◌, subst, arith, Option, None, Some, is_some, if◌then◌else◌}
+use Rattle.std.proofs.Common.{◌≡◌, ℕ, ◌+◌, ◌==◌, Bool, false, true, List, [], ◌∷◌, length, refl, sym, ap, ◌∙◌, arith, Option, None, Some, is_some, if◌then◌else◌}
 use Rattle.std.proofs.lemmas.Bool.{eqb-true, eq-eqb, ne_eqb, both_ways}
 use Rattle.mq_client.specs.Exchanges.{Exchange}
-use Rattle.mq_client.specs.Past.{Source, Action, Ask, Close, Drain, Step, Standing, Never, Live, Ended, View, view, after, after_ask, after_close, held_by, with_asked, without}
+use Rattle.mq_client.specs.Past.{Source, Action, Ask, Close, Drain, Step, Live, Ended, View, view, after, after_close, held_by, with_asked, without}
 use Rattle.mq_track.specs.declared.closing.CloseEnd.{CloseEnd}
 use Rattle.mq_client.specs.declared.held.Held.{Held}
 

@@ -8,3 +8,7 @@ pub mod Bounding
 pub mod Turning
 pub mod ReadingOff
 pub mod WaitingOff
+pub mod Sameness
+pub mod Placing
+pub mod Ending
+pub mod Wholes

@@ -1,15 +1,16 @@
 -- What a past leaves is what is read off the whole list of its steps.
-use Rattle.std.proofs.Common.{◌≡◌, ℕ, ◌+◌, ◌==◌, Bool, false, true, List, [], ◌∷◌, ◌++◌, refl, sym, ap, ◌∙◌, subst, arith, cond, Option, None, Some, is_some, if◌then◌else◌, count_by}
+use Rattle.std.proofs.Common.{◌≡◌, ℕ, ◌+◌, ◌==◌, Bool, false, true, List, [], ◌∷◌, refl, sym, ap, ◌∙◌, arith, cond, Option, None, Some, is_some, if◌then◌else◌, count_by}
 use Rattle.std.specs.List.{filter_map, cons_option}
 use Rattle.std.proofs.lemmas.Bool.{eqb-true}
 use Rattle.std.proofs.lemmas.List.Sums.{sum_by-cons}
 use Rattle.mq_client.specs.Exchanges.{Exchange}
-use Rattle.mq_client.specs.Past.{Source, Action, Ask, Close, Drain, Step, Standing, Never, Live, Ended, View, view, after, after_close, held_by, opened, let_through, answer_of}
-use Rattle.mq_client.specs.Reading.{Asking, closes, since_close, asking, asks_of, first_of, is_granted, live_by, live_in, takes_number, numbers_in, ended_by, standing_or, ended_in, live_or, standing_in}
+use Rattle.mq_client.specs.Past.{Source, Action, Ask, Close, Drain, Step, Standing, Live, Ended, View, view, after, after_close, held_by, opened, let_through, answer_of}
+use Rattle.mq_client.specs.Reading.{Asking, since_close, asking, asks_of, first_of, is_granted, live_by, live_in, numbers_in, ended_by, standing_or, ended_in, live_or, standing_in}
 use Rattle.mq_track.specs.declared.closing.CloseEnd.{CloseEnd}
 use Rattle.mq_client.specs.declared.held.Asked.{Asked}
 use Rattle.mq_client.specs.declared.held.Asked.TheVariants as asked
 use Rattle.mq_client.specs.declared.held.Held.{Held}
+use Rattle.mq_client.proofs.Counting.{count_in, one_if, counted}
 
 -- one more ask
 abbrev one_ask : List ℕ → ℕ → Asked → Asking
@@ -124,3 +125,20 @@ read_step s v P Drain group n all read = read
 pub standing_read : (s : Source) (P : List Step) → IsRead (view s P) P
 standing_read s [] = λ t. refl
 standing_read s (x ∷ P) = read_step s (view s P) P x.action x.group (numbers_read s P) (live_read s P) (standing_read s P)
+
+-- ---- the live transactions, each once
+
+count_is : (t : ℕ) (xs : List ℕ) → count_by (λ u. u == t) xs ≡ count_in t xs
+count_is t [] = refl
+count_is t (x ∷ xs) = sum_by-cons (λ (u : ℕ). cond (u == t) 1 0) x xs ∙ one_more (x == t) (count_by (λ u. u == t) xs) (count_in t xs) (count_is t xs)
+  where
+    one_more : (b : Bool) (m n : ℕ) → m ≡ n → cond b 1 0 + m ≡ (if b then n + 1 else n)
+    one_more true m n e = omega (arith, e)
+    one_more false m n e = omega (arith, e)
+
+one_of : (b : Bool) → one_if b ≡ (if b then 1 else 0)
+one_of true = refl
+one_of false = refl
+
+pub lives_read : (s : Source) (P : List Step) (t : ℕ) → count_by (λ u. u == t) (view s P).live ≡ (if is_some (live_in P t) then 1 else 0)
+lives_read s P t = count_is t (view s P).live ∙ counted s P t ∙ one_of (is_some (held_by ((view s P).standing t))) ∙ ap (λ o. if is_some o then 1 else 0) (live_read s P t)

@@ -1,9 +1,8 @@
 -- A queue that is sent from its front.
-use Rattle.std.proofs.Common.{◌≡◌, ℕ, ◌+◌, ◌<◌, ◌≤◌, Bool, true, false, List, [], ◌∷◌, ◌++◌, length, drop, refl, sym, ap, ◌∙◌, subst, arith, Option, None, Some}
+use Rattle.std.proofs.Common.{◌≡◌, ℕ, ◌<◌, true, false, List, [], ◌∷◌, ◌++◌, length, refl, sym, ap, ◌∙◌, subst, arith}
 use Rattle.std.specs.Prelude.{slice_index_or}
 use Rattle.mq_frame.specs.declared.message.Request.{Request}
-use Rattle.mq_frame.specs.declared.message.Reply.{Reply}
-use Rattle.mq_client.specs.Exchanges.{Exchange, AreTries, IsUndecided, IsSent, SendsSome, OneMore, NoneYet, Sends, SendsAll, StopsAt}
+use Rattle.mq_client.specs.Exchanges.{Exchange, IsSent, SendsSome, OneMore, Sends, SendsAll, StopsAt}
 
 -- the request in front
 pub starts_with : (now : List Request) (q : Request) → q ≡ slice_index_or now 0 q → 0 < length now → (rest : List Request) × (now ≡ q ∷ rest)

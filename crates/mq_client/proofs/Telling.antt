@@ -1,10 +1,13 @@
 -- What a link tells of several exchanges, and how tries add up.
-use Rattle.std.proofs.Common.{◌≡◌, ℕ, ◌+◌, ◌-◌, ◌<◌, ◌≤◌, Bool, true, false, List, [], ◌∷◌, ◌++◌, length, refl, sym, ap, ◌∙◌, subst, append_assoc, append-nil, arith, Option, None, Some}
+use Rattle.std.proofs.Common.{◌≡◌, ℕ, Bool, true, false, List, [], ◌∷◌, ◌++◌, refl, sym, ap, ◌∙◌, subst, append_assoc, append-nil, Option, None, Some, if◌then◌else◌}
+use Rattle.std.specs.Prelude.{Result, Ok, Err, IfOk, MatchResult}
+use Rattle.mq_frame.specs.declared.decode.DecodeFault.{DecodeFault}
+use Rattle.mq_frame.specs.declared.decode.DecodeFault.TheVariants as fault
 use Rattle.mq_frame.specs.Spelling.{SpellsReply}
 use Rattle.mq_frame.specs.declared.message.Request.{Request}
 use Rattle.mq_frame.specs.declared.message.Reply.{Reply}
 use Rattle.mq_client.specs.Link.{Tells}
-use Rattle.mq_client.specs.Exchanges.{Exchange, Fails, Brings, IsMarked, decides, request_frame, told_of, told_all}
+use Rattle.mq_client.specs.Exchanges.{Exchange, Mark, Fails, Refused, Decides, decided_by, Brings, IsMarked, decides, deciding, request_frame, told_of, told_all}
 use Rattle.mq_client.specs.declared.link.Outcome.{Outcome}
 use Rattle.mq_client.specs.declared.link.Outcome.TheVariants.{Answered}
 use Rattle.mq_client.specs.declared.link.Told.{Told}
@@ -46,3 +49,15 @@ fails_by request bytes body found e n only = λ reply spelled. ap (decides reque
 -- the body spells none
 pub fails_bad : (request : Request) (bytes body : List ℕ) → bytes ≡ body → ((reply : Reply) → SpellsReply bytes reply → ⊥) → IsMarked request (Answered body) Fails
 fails_bad request bytes body e bad = λ reply spelled. absurd (bad reply (subst (λ (b : List ℕ). SpellsReply b reply) (sym e) spelled))
+
+-- what the decoding of a body decides
+pub marked_by : (request : Request) (bytes body : List ℕ) (r : Result Reply DecodeFault) → bytes ≡ body → IfOk r (λ reply. SpellsReply bytes reply)
+    → ((reply : Reply) → SpellsReply bytes reply → MatchResult r (λ found. found ≡ reply) (λ f. f ≡ fault.Memory)) → (r ≡ Err fault.Memory → (reply : Reply) × SpellsReply bytes reply)
+    → (mark : Mark) × IsMarked request (Answered body) mark × (decided_by mark ≡ deciding request r)
+marked_by request bytes body (Ok found) e spells only memory = by_kind (decides request found) refl
+  where
+    by_kind : (b : Bool) → decides request found ≡ b → (mark : Mark) × IsMarked request (Answered body) mark × (decided_by mark ≡ deciding request (Ok found))
+    by_kind true so = (Decides found, (brought bytes body found e spells, so), sym (ap (λ (b : Bool). if b then Some found else None) so))
+    by_kind false so = (Fails, fails_by request bytes body found e so only, sym (ap (λ (b : Bool). if b then Some found else None) so))
+marked_by request bytes body (Err fault.Bad) e spells only memory = (Fails, fails_bad request bytes body e (λ reply spelled. let no = only reply spelled in cc (no)), refl)
+marked_by request bytes body (Err fault.Memory) e spells only memory = let (reply, spelled) = memory refl in (Refused, (reply, brought bytes body reply e spelled), refl)

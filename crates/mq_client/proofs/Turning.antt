@@ -1,11 +1,11 @@
 -- The exchanges of a step come in turn.
-use Rattle.std.proofs.Common.{◌≡◌, ℕ, zero, suc, ◌+◌, ◌<◌, ◌≤◌, Bool, false, true, List, [], ◌∷◌, ◌++◌, length, drop, map, refl, sym, ap, ◌∙◌, subst, append-nil, arith, Option, None, Some, is_some, nat_le, if◌then◌else◌, MatchBool}
+use Rattle.std.proofs.Common.{◌≡◌, ℕ, zero, suc, ◌+◌, ◌<◌, ◌≤◌, Bool, false, true, List, [], ◌∷◌, ◌++◌, length, drop, refl, sym, ap, ◌∙◌, subst, append-nil, arith, Option, None, Some, if◌then◌else◌, MatchBool}
 use Rattle.std.specs.Prelude.{slice_get}
 use Rattle.std.proofs.lemmas.Bool.{lt-leb}
 use Rattle.mq_frame.specs.declared.message.Request.{Request}
 use Rattle.mq_frame.specs.declared.message.Reply.{Reply}
-use Rattle.mq_client.specs.Exchanges.{Mark, Exchange, IsTry, IsMarked, AreFailed, AreTries, IsUndecided, SendsSome, NoneYet, OneMore, Sends, SendsAll, StopsAt, decided_by, decisions}
-use Rattle.mq_client.specs.Past.{Source, Action, Ask, Close, Drain, Step, View, view, held_for, reserve_of, closing_of, refuses, PlaysFrom, Plays}
+use Rattle.mq_client.specs.Exchanges.{Mark, Exchange, IsTry, IsMarked, AreFailed, AreTries, SendsSome, NoneYet, OneMore, Sends, SendsAll, StopsAt, decisions}
+use Rattle.mq_client.specs.Past.{Source, Action, Ask, Close, Drain, Step, View, view, held_for, reserve_of, refuses, PlaysFrom, Plays}
 use Rattle.mq_client.specs.Turns.{failures, queue_of, next_of, ComeInTurn, Ending, outcomes}
 use Rattle.mq_client.specs.declared.held.Held.{Held}
 use Rattle.mq_client.specs.declared.link.Outcome.{Outcome}

@@ -1,7 +1,8 @@
 -- The exchanges of one request: what each brought, and which reply decides.
-use Rattle.std.specs.Prelude.{◌≡◌, ℕ, ◌<◌, List, [], ◌∷◌, ◌++◌, length, Bool, true, false, Option, None, Some, is_some, if◌then◌else◌, ◌+◌}
+use Rattle.std.specs.Prelude.{◌≡◌, ℕ, ◌<◌, List, [], ◌∷◌, ◌++◌, length, Bool, true, false, Option, None, Some, is_some, if◌then◌else◌, ◌+◌, Result, Ok, Err}
 use Rattle.mq_frame.specs.Same.{same_id}
 use Rattle.mq_frame.specs.declared.message.Id.{Id}
+use Rattle.mq_frame.specs.declared.decode.DecodeFault.{DecodeFault}
 use Rattle.mq_frame.specs.declared.message.Request.{Request}
 use Rattle.mq_frame.specs.declared.message.Request.TheVariants.{Reserve, Settle, Release}
 use Rattle.mq_frame.specs.declared.message.Reply.{Reply}
@@ -53,6 +54,11 @@ decides (Reserve id txn at login count) reply = answers_reserve id reply
 decides (Settle id txn at login count) reply = answers_closing id reply
 decides (Release id txn at login) reply = answers_closing id reply
 decides _ reply = false
+
+-- the reply that decides the request, of what was decoded
+abbrev pub deciding : Request → Result Reply DecodeFault → Option Reply
+deciding request (Ok reply) = if decides request reply then Some reply else None
+deciding request (Err fault) = None
 
 -- a body came that spells the reply
 abbrev pub Brings : Outcome → Reply → Type 0

@@ -9,7 +9,8 @@ use Rattle.mq_line.specs.declared.results.Decision.TheVariants.{Proceed, RejectL
 use Rattle.mq_track.specs.Sessions.{Position, Unknown, LoggedIn, Sending, position, closing, fault}
 use Rattle.mq_track.specs.declared.closing.Closing.{Closing}
 use Rattle.mq_client.specs.Exchanges.{Exchange}
-use Rattle.mq_client.specs.Past.{Ask, Close, Step, answer_of}
+use Rattle.mq_client.specs.Past.{Action, Ask, Close, Step, answer_of}
+use Rattle.mq_client.specs.Turns.{Ending, outcomes}
 use Rattle.mq_client.specs.declared.held.Asked.{Asked}
 use Rattle.mq_client.specs.declared.held.Asked.TheVariants as asked
 
@@ -73,3 +74,12 @@ is_filter _ = false
 -- how many lines are answered
 abbrev pub answer_count : List Meaning → ℕ
 answer_count L = count_by is_filter L
+
+-- what some steps did, and how the exchanges of each ended
+abbrev pub actions : List Step → List Action
+actions [] = []
+actions (x ∷ steps) = x.action ∷ actions steps
+
+abbrev pub endings : List Step → List (List Ending)
+endings [] = []
+endings (x ∷ steps) = outcomes x.group ∷ endings steps

@@ -1,7 +1,6 @@
 -- The ranges of what a client holds.
-use Rattle.std.specs.Prelude.{◌≡◌, ℕ, List, ◌≤◌, ◌+◌, length, Option, Some}
-use Rattle.std.specs.List.{AllByRecursion}
-use Rattle.mq_frame.specs.Range.{IsWithin, IsHost, IsRun, IsOrdinal, IsMoment, IsLogin, IsRequest}
+use Rattle.std.specs.Prelude.{◌≡◌, ℕ, List, ◌≤◌, Some}
+use Rattle.mq_frame.specs.Range.{IsOrdinal, IsMoment, IsLogin}
 use Rattle.mq_client.specs.Past.{find}
 use Rattle.mq_client.specs.declared.held.Held.{Held}
 

@@ -1,5 +1,5 @@
 -- What is so of every client, and what its callers see.
-use Rattle.std.specs.Prelude.{ℕ, ◌+◌, ◌≤◌, length}
+use Rattle.std.specs.Prelude.{◌+◌, ◌≤◌, length}
 use Rattle.std.specs.List.{AllByRecursion}
 use Rattle.mq_frame.specs.Range.{IsWithin, IsHost, IsRun, IsRequest}
 use Rattle.mq_client.specs.Past.{State}

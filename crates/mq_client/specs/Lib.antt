@@ -6,5 +6,7 @@ pub mod Inside
 pub mod Filter
 pub mod Run
 pub mod Loop
+pub mod Place
+pub mod Whole
 pub mod Reading
 pub mod Turns

@@ -1,5 +1,5 @@
 -- The loop over lines: where it stands, and what each of its parts does.
-use Rattle.std.specs.Prelude.{◌≡◌, ◌⊎◌, ℕ, List, [], ◌∷◌, ◌++◌, Bool, true, false, Option, None, Some}
+use Rattle.std.specs.Prelude.{◌≡◌, ℕ, List, [], ◌∷◌, ◌++◌, Bool, true, false, Option, None, Some}
 use Rattle.std.specs.Io.KnownBytes.{Appends}
 use Rattle.mq_line.specs.Grammar.{Meaning, ReadyLine, Reads}
 use Rattle.mq_line.specs.Results.{result_text}
@@ -54,6 +54,10 @@ pub record SoFar (o : Origin) (bytes left : List ℕ) (f : Filter) (sink : Optio
   pub written : Appends o.sink sink text
   pub exchanged : Tells o.told told (told_steps steps)
   pub made : MakesAll o.client client steps
+
+-- once the filter is ready its sink works
+abbrev pub SinkWorks : Filter → (write_failed : Bool) → Type 0
+SinkWorks f write_failed = f.is_ready ≡ true → write_failed ≡ false
 
 -- what a request of smtpd makes and is answered by
 abbrev pub Replies : List Meaning → (subsystem phase session token : List ℕ) → Option Step → List ℕ → Type 0

@@ -1,9 +1,8 @@
 -- The next exchange of a step.
-use Rattle.std.specs.Prelude.{◌≡◌, ℕ, ◌+◌, ◌*◌, ◌≤◌, List, [], ◌∷◌, ◌++◌, length, Bool, nat_le, if◌then◌else◌, Option, None, Some, is_some, slice_get}
+use Rattle.std.specs.Prelude.{◌≡◌, ℕ, ◌+◌, List, [], ◌∷◌, ◌++◌, length, nat_le, if◌then◌else◌, Option, None, Some, is_some, slice_get}
 use Rattle.mq_frame.specs.declared.message.Request.{Request}
 use Rattle.mq_client.specs.Exchanges.{Mark, Exchange, decided_by, decisions, IsMarked}
-use Rattle.mq_client.specs.Past.{Source, Action, Ask, Close, Drain, View, reserve_of, closing_of, refuses, held_by, held_for}
-use Rattle.mq_track.specs.declared.closing.CloseEnd.{CloseEnd}
+use Rattle.mq_client.specs.Past.{Source, Action, Ask, Close, Drain, View, reserve_of, closing_of, refuses, held_for}
 use Rattle.mq_client.specs.declared.held.Held.{Held}
 use Rattle.mq_client.specs.declared.link.Outcome.{Outcome}
 

@@ -1,5 +1,5 @@
 //! The answer to one request of smtpd.
-ghost use Rattle.std.specs.Prelude.{◌≡◌, ◌<◌, ◌++◌, ◌&&◌, ◌⊎◌, [], ℕ, List, Option, None, codes, IfOk, OnOk, OnErr, IfErr};
+ghost use Rattle.std.specs.Prelude.{◌≡◌, ◌≢◌, ◌<◌, ◌++◌, ◌&&◌, ◌⊎◌, [], ℕ, List, Option, None, Err, false, codes, IfOk, OnOk, OnErr, IfErr};
 ghost use Rattle.std.specs.Str.{bytes_eq};
 ghost use Rattle.mq_track.specs.Sessions.{Sending};
 ghost use Rattle.mq_track.specs.State.{StandsAt};
@@ -114,6 +114,7 @@ pub fn answer<R: Log, W: Sink, K: Link>(
         × Does (W.contents output.old) (W.contents output.new) (K.told link.old) (K.told link.new) client.old client.new step text
         × ((L : List Meaning) → StandsAt tracker.now L → Replies L inquiry.entry.subsystem.now inquiry.entry.phase.now inquiry.entry.session.now inquiry.entry.token.now step text)) }
     ensures fault { IfErr result (λ f. IsCut f (W.has_failed output.new)) }
+    ensures works { W.has_failed output.old ≡ false → result ≢ Err FilterFault.Write → W.has_failed output.new ≡ false }
     ensures cut { OnErr result ((step : Option Step) × (front : List ℕ) × (rest : List ℕ)
         × Does (W.contents output.old) (W.contents output.new) (K.told link.old) (K.told link.new) client.old client.new step front
         × (((step ≡ None) × (front ++ rest ≡ [])) ⊎ ((L : List Meaning) → StandsAt tracker.now L →

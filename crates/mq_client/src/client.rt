@@ -1,9 +1,9 @@
 //! Numbered requests, each sent again under its number until a reply decides it.
-ghost use Rattle.std.specs.Prelude.{◌≡◌, ◌≤◌, ◌<◌, ◌+◌, ◌^◌, ℕ, List, [], length, IfOk, OnOk, OnErr};
+ghost use Rattle.std.specs.Prelude.{◌≡◌, ◌≤◌, ◌<◌, ◌+◌, ◌^◌, ℕ, List, [], length, None, true, IfOk, IsOk, OnOk, OnErr};
 ghost use Rattle.mq_frame.specs.Range.{IsHost, IsRun, IsWithin, IsOrdinal, IsMoment, IsLogin};
 ghost use Rattle.mq_client.specs.Link.{Tells};
 ghost use Rattle.mq_client.specs.Exchanges.{Exchange, told_all};
-ghost use Rattle.mq_client.specs.Past.{Step, Ask, Close, Drain, StandsAt, Makes, view, answer_of};
+ghost use Rattle.mq_client.specs.Past.{Step, Ask, Close, Drain, StandsAt, Makes, view, answer_of, find, refuses as refuses_lem};
 
 use crate::faults::Memory;
 use crate::held::{
@@ -101,6 +101,8 @@ impl Client {
         requires login { IsLogin login.now }
         ensures ok { IfOk result (λ answer. (group : List Exchange) × Tells (L.told link.old) (L.told link.new) (told_all group)
             × (answer ≡ answer_of group) × Makes self.old self.new (record { action = Ask txn at login.now; group = group })) }
+        // Memory is asked for only where the server is.
+        ensures refused { refuses_lem (find self.old.held txn) (length self.old.held) self.old.numbers (length self.old.waiting) at login.now ≡ true → IsOk result }
         ensures client { OnErr result (self.new ≡ self.old) }
         ensures link { OnErr result (link.new ≡ link.old) }
     {
@@ -129,6 +131,8 @@ impl Client {
     ) -> Result<(), Memory>
         ensures ok { OnOk result ((group : List Exchange) × Tells (L.told link.old) (L.told link.new) (told_all group)
             × Makes self.old self.new (record { action = Close closing.txn closing.end; group = group })) }
+        // Memory is asked for only where there is something to close.
+        ensures unheld { find self.old.held closing.txn ≡ None → IsOk result }
         ensures client { OnErr result (self.new ≡ self.old) }
         ensures link { OnErr result (link.new ≡ link.old) }
     {

@@ -1,5 +1,5 @@
 //! The filter: what smtpd writes is read, and each of its requests is answered.
-ghost use Rattle.std.specs.Prelude.{◌≡◌, ◌≤◌, ◌<◌, ◌+◌, ◌*◌, ◌^◌, ◌++◌, ◌∷◌, [], ℕ, List, Option, Bool, None, Some, true, false, length, IfOk, OnOk, OnErr, IfErr, MatchBool, MatchResult};
+ghost use Rattle.std.specs.Prelude.{◌≡◌, ◌≢◌, ◌≤◌, ◌<◌, ◌+◌, ◌*◌, ◌^◌, ◌++◌, ◌∷◌, [], ℕ, List, Option, Bool, None, Some, true, false, length, IfOk, OnOk, OnErr, IfErr, MatchBool, MatchResult};
 ghost use Rattle.std.specs.Io.KnownBytes.{Appends, Consumes, IsAtEnd};
 ghost use Rattle.mq_line.specs.Grammar.{Meaning, ReadyLine, meaning};
 ghost use Rattle.mq_line.specs.Results.{registration};
@@ -11,7 +11,7 @@ ghost use Rattle.mq_client.specs.Past.{Step, State};
 ghost use Rattle.mq_client.specs.Filter.{Closes};
 ghost use Rattle.mq_client.specs.declared.link.Told.{Told};
 ghost use Rattle.mq_client.specs.Run.{Origin, EndsWith, StopsAt};
-ghost use Rattle.mq_client.specs.Loop.{MakesOne, told_one, IsCut, IsSorted, IsRefused, filter_fault, Carries, Halts, CarriesHeld, HaltsHeld, SoFar};
+ghost use Rattle.mq_client.specs.Loop.{MakesOne, told_one, IsCut, IsSorted, IsRefused, filter_fault, Carries, Halts, CarriesHeld, HaltsHeld, SinkWorks, SoFar};
 
 use crate::answer::{Inquiry, answer};
 use crate::client::Client;
@@ -51,7 +51,9 @@ struct Filter {
 /// Writes the registration.
 fn register<W: Sink>(alloc: Global, output: &mut W) -> Result<(), FilterFault>
     ensures ok { OnOk result (Appends (W.contents output.old) (W.contents output.new) registration) }
+    ensures written { OnOk result (W.has_failed output.new ≡ false) }
     ensures fault { IfErr result (λ f. IsCut f (W.has_failed output.new)) }
+    ensures works { W.has_failed output.old ≡ false → result ≢ Err FilterFault.Write → W.has_failed output.new ≡ false }
     ensures cut { OnErr result ((front : List ℕ) × (rest : List ℕ) × (registration ≡ front ++ rest) × Appends (W.contents output.old) (W.contents output.new) front) }
 {
     let mut text = Vec::new(alloc);
@@ -145,6 +147,8 @@ fn wait<W: Sink>(
     ensures ok { OnOk result ((told : Option (List Told)) (client : State) →
         Carries (meaning line.now) filter.old filter.new (W.contents output.old) (W.contents output.new) told told client client) }
     ensures count { OnOk result (filter.new.answers ≡ filter.old.answers) }
+    ensures written { OnOk result (SinkWorks filter.new (W.has_failed output.new)) }
+    ensures works { W.has_failed output.old ≡ false → result ≢ Err FilterFault.Write → W.has_failed output.new ≡ false }
     ensures fault { IfErr result (λ f. (told : Option (List Told)) (client : State) →
         Halts (meaning line.now) f filter.old (W.contents output.old) (W.contents output.new) (W.has_failed output.new) told told client client) }
 {
@@ -175,6 +179,7 @@ fn take<R: Log, W: Sink, K: Link>(
     requires count { filter.old.answers < 2 ^ 63 }
     ensures ok { OnOk result (Carries (meaning line.now) filter.old filter.new (W.contents output.old) (W.contents output.new) (K.told link.old) (K.told link.new) client.old client.new) }
     ensures count { OnOk result (filter.new.answers ≤ filter.old.answers + 1) }
+    ensures works { W.has_failed output.old ≡ false → result ≢ Err FilterFault.Write → W.has_failed output.new ≡ false }
     ensures fault { IfErr result (λ f. Halts (meaning line.now) f filter.old (W.contents output.old) (W.contents output.new) (W.has_failed output.new) (K.told link.old) (K.told link.new) client.old client.new) }
 {
     if let Line::Filter {
@@ -219,6 +224,8 @@ fn handle<R: Log, W: Sink, K: Link>(
     requires count { filter.old.answers < 2 ^ 63 }
     ensures ok { OnOk result ((rest : List ℕ) → CarriesHeld (bytes.now ++ 10 ∷ rest) rest filter.old filter.new (W.contents output.old) (W.contents output.new) (K.told link.old) (K.told link.new) client.old client.new) }
     ensures count { OnOk result (filter.new.answers ≤ filter.old.answers + 1) }
+    ensures written { OnOk result (SinkWorks filter.old (W.has_failed output.old) → SinkWorks filter.new (W.has_failed output.new)) }
+    ensures works { W.has_failed output.old ≡ false → result ≢ Err FilterFault.Write → W.has_failed output.new ≡ false }
     ensures fault { IfErr result (λ f. (rest : List ℕ) → HaltsHeld (bytes.now ++ 10 ∷ rest) f filter.old (W.contents output.old) (W.contents output.new) (W.has_failed output.new) (K.told link.old) (K.told link.new) client.old client.new) }
 {
     let line = match read_line(bytes) {
@@ -252,6 +259,8 @@ fn take_lines<R: Log, W: Sink, K: Link>(
     ensures ok { OnOk result (CarriesHeld feed.old feed.new filter.old filter.new (W.contents output.old) (W.contents output.new) (K.told link.old) (K.told link.new) client.old client.new) }
     ensures left { OnOk result (IsLine feed.new) }
     ensures count { OnOk result (filter.new.answers + length feed.new ≤ filter.old.answers + length feed.old) }
+    ensures written { OnOk result (SinkWorks filter.old (W.has_failed output.old) → SinkWorks filter.new (W.has_failed output.new)) }
+    ensures works { W.has_failed output.old ≡ false → result ≢ Err FilterFault.Write → W.has_failed output.new ≡ false }
     ensures fault { IfErr result (λ f. HaltsHeld feed.old f filter.old (W.contents output.old) (W.contents output.new) (W.has_failed output.new) (K.told link.old) (K.told link.new) client.old client.new) }
 {
     'lines: loop {
@@ -277,6 +286,7 @@ fn finish<R: Log, K: Link>(
     requires { IsLine feed.now }
     ensures ok { IfOk result (λ e. (o : Origin) (bytes : List ℕ) (sink : Option (List ℕ)) →
         SoFar o bytes feed.now filter.now sink (K.told link.old) client.old → EndsWith o bytes sink (K.told link.new) client.new e) }
+    ensures ready { OnOk result (filter.now.is_ready ≡ true) }
     ensures fault { IfErr result (λ f. (o : Origin) (bytes : List ℕ) (source sink : Option (List ℕ)) (read_failed write_failed : Bool) → IsAtEnd source →
         SoFar o bytes feed.now filter.now sink (K.told link.old) client.old → StopsAt o bytes source sink read_failed write_failed (K.told link.new) client.new f) }
 {
@@ -314,6 +324,12 @@ pub fn run_filter<R: Log, S: Source, W: Sink, K: Link>(
     ensures fault { IfErr result (λ f. (bytes : List ℕ) × Consumes (S.remaining input.old) (S.remaining input.new) bytes
         × StopsAt (record { sink = W.contents output.old; told = K.told link.old; client = client.old }) bytes (S.remaining input.new) (W.contents output.new)
         (S.has_failed input.new) (W.has_failed output.new) (K.told link.new) client.new f) }
+    // A device that failed is always told.
+    ensures written { OnOk result (W.has_failed output.new ≡ false) }
+    ensures sink_works { W.has_failed output.old ≡ false → result ≢ Err FilterFault.Write → W.has_failed output.new ≡ false }
+    ensures source_works { S.has_failed input.old ≡ false → result ≢ Err FilterFault.Read → S.has_failed input.new ≡ false }
+    // Each of the reads takes at most 4,096 bytes.
+    ensures reads { (bytes : List ℕ) × Consumes (S.remaining input.old) (S.remaining input.new) bytes × (length bytes ≤ 4096 * 1099511627776) }
 {
     let mut feed = LineFeed::new(alloc);
     let mut filter = Filter {

@@ -11,6 +11,7 @@ mod filter;
 mod held;
 mod laws;
 mod link;
+mod named;
 mod put;
 mod script;
 #[cfg(test)]
@@ -21,6 +22,6 @@ pub use client::Client;
 pub use faults::{FilterFault, Memory};
 pub use filter::{Ended, run_filter};
 pub use held::{Asked, Held};
-pub use laws::{few_at_a_time, in_turn, readings};
+pub use laws::{few_at_a_time, in_turn, one_run, readings};
 pub use link::{Bytes, Link, LinkFault, Outcome, Told};
 pub use script::ScriptLink;

@@ -1,5 +1,5 @@
 //! Writing all of some bytes.
-ghost use Rattle.std.specs.Prelude.{◌≡◌, ◌++◌, ℕ, List, true, OnOk, OnErr};
+ghost use Rattle.std.specs.Prelude.{◌≡◌, ◌++◌, ℕ, List, true, false, OnOk, OnErr};
 ghost use Rattle.std.specs.Io.KnownBytes.{Appends};
 
 use mq_frame::{Failed, Sink};
@@ -25,6 +25,7 @@ pub fn put<W: Sink>(sink: &mut W, bytes: &[u8]) -> Result<(), Failed>
     ensures whole { OnOk result (Appends (W.contents sink.old) (W.contents sink.new) bytes.now) }
     ensures front { OnErr result ((front : List ℕ) × (rest : List ℕ) × (bytes.now ≡ front ++ rest) × Appends (W.contents sink.old) (W.contents sink.new) front) }
     ensures failed { OnErr result (W.has_failed sink.new ≡ true) }
+    ensures works { OnOk result (W.has_failed sink.new ≡ false) }
 {
     match write_all(sink, bytes) {
         Ok(()) => sink.flush(),

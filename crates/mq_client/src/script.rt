@@ -1,5 +1,5 @@
 //! A link for tests: it ends each exchange as it was told to, and keeps the frames.
-ghost use Rattle.std.specs.Prelude.{◌≡◌, ◌∷◌, ◌++◌, [], true, List, OnErr};
+ghost use Rattle.std.specs.Prelude.{◌≡◌, ◌∷◌, ◌++◌, [], true, false, List, OnErr};
 ghost use Rattle.mq_client.specs.Link.{outcome_of};
 
 use crate::link::{Bytes, Link, LinkFault, Outcome, Told};
@@ -39,7 +39,8 @@ impl ScriptLink {
 
 /// Keeps an exchange, and answers whether it could.
 fn keep(alloc: Global, kept: &mut Vec<Told>, frame: &[u8], outcome: Outcome) -> bool
-    ensures { result ≡ true → kept.new.items ≡ kept.old.items ++ record { frame = frame.now; outcome = outcome } ∷ [] }
+    ensures kept { result ≡ true → kept.new.items ≡ kept.old.items ++ record { frame = frame.now; outcome = outcome } ∷ [] }
+    ensures lost { result ≡ false → kept.new.items ≡ kept.old.items }
 {
     let Ok(frame) = Bytes::from_slice(alloc, frame) else {
         return false;
@@ -64,11 +65,18 @@ fn play(script: &mut VecDeque<Outcome>, reply: &mut Vec<u8>) -> (Outcome, Result
 }
 
 impl Link for ScriptLink {
-    ghost use Rattle.std.specs.Prelude.{if◌then◌else◌, None, Some};
+    ghost use Rattle.std.specs.Prelude.{◌≡◌, ◌<◌, ◌∷◌, [], List, OnErr, length, if◌then◌else◌, None, Some};
+    ghost use Rattle.mq_client.specs.Link.{Tells, outcome_of};
 
     ghost told = { λ s. if s.tells then Some s.kept.items else None };
 
-    fn exchange(&mut self, frame: &[u8], reply: &mut Vec<u8>) -> Result<(), LinkFault> {
+    fn exchange(&mut self, frame: &[u8], reply: &mut Vec<u8>) -> Result<(), LinkFault>
+        ensures told { Tells (if self.old.tells then Some self.old.kept.items else None) (if self.new.tells then Some self.new.kept.items else None)
+            (record { frame = frame.now; outcome = outcome_of result reply.new.items } ∷ []) }
+        ensures empty { OnErr result (reply.new.items ≡ []) }
+        // It still tells where it kept the exchange.
+        ensures tells { length self.old.kept.items < length self.new.kept.items → self.new.tells ≡ self.old.tells }
+    {
         let (outcome, answer) = play(&mut self.script, reply);
         if !keep(self.alloc, &mut self.kept, frame, outcome) {
             self.tells = false;

@@ -2,6 +2,7 @@ ghost use Rattle.std.specs.Prelude.{◌≤◌};
 
 mod asking;
 mod faults;
+mod flushing;
 mod rows;
 mod sittings;
 

@@ -3,10 +3,11 @@ ghost use Rattle.std.specs.Prelude.{◌≡◌, ◌<◌, ◌≤◌, ◌∷◌, []
 ghost use Rattle.std.specs.List.{AllByRecursion};
 ghost use Rattle.mq_frame.specs.Range.{IsRequest};
 ghost use Rattle.mq_client.specs.Link.{Tells};
-ghost use Rattle.mq_client.specs.Exchanges.{Exchange, IsTry, AreTries, IsSent, Sends, request_frame, told_of, told_all, answers_reserve as answers_reserve_lem, answers_closing as answers_closing_lem, decides as decides_lem};
+ghost use Rattle.mq_client.specs.Exchanges.{Exchange, IsTry, AreTries, IsSent, Sends, request_frame, told_of, told_all, answers_reserve as answers_reserve_lem, answers_closing as answers_closing_lem, decides as decides_lem, deciding as deciding_lem};
 ghost use Rattle.mq_frame.specs.declared.message.Request.{Request};
 
 use crate::link::Link;
+use crate::named::Named;
 use log::{Log, warn};
 use mq_frame::{DecodeFault, Id, Reply, Request, decode_reply, encode_request};
 use std::alloc::Global;
@@ -52,6 +53,22 @@ fn decides(request: &Request, reply: &Reply) -> bool
     }
 }
 
+/// The reply that decides a request, where one was decoded that does. A refused growth is none.
+fn deciding(request: &Request, decoded: Result<Reply, DecodeFault>) -> Option<Reply>
+    ensures { result ≡ deciding_lem request.now decoded }
+{
+    match decoded {
+        Ok(reply) => {
+            if decides(request, &reply) {
+                Some(reply)
+            } else {
+                None
+            }
+        }
+        Err(_fault) => None,
+    }
+}
+
 /// One exchange of a request's frame, and the reply that decides it, where one does.
 fn try_once<L: Link>(
     alloc: Global,
@@ -64,37 +81,19 @@ fn try_once<L: Link>(
     ensures { (x : Exchange) × Tells (L.told link.old) (L.told link.new) (told_of x ∷ []) × IsTry request.now x result }
 {
     match link.exchange(frame, body) {
-        Ok(()) => {}
-        Err(_fault) => return None,
-    }
-    match decode_reply(alloc, body.as_slice()) {
-        Ok(reply) => {
-            if decides(request, &reply) {
-                Some(reply)
-            } else {
-                None
-            }
-        }
-        // It spells no reply.
-        Err(DecodeFault::Bad) => None,
-        // A growth was refused.
-        Err(DecodeFault::Memory) => None,
+        Ok(()) => deciding(request, decode_reply(alloc, body.as_slice())),
+        Err(_fault) => None,
     }
 }
 
-/// Warns that a request stays undecided.
+/// Warns that a request stays undecided. A closing then waits.
 fn warn_unanswered<R: Log>(rt: &R, request: &Request, tries: u32) {
+    let named = Named(request);
     match request {
-        Request::Reserve { id, txn, .. } => {
-            warn!(rt; "reserve {} of transaction {txn}: no answer in {tries} tries", id.seq);
+        Request::Settle { .. } | Request::Release { .. } => {
+            warn!(rt; "{named}: no answer in {tries} tries, it waits");
         }
-        Request::Settle { id, txn, .. } => {
-            warn!(rt; "settle {} of transaction {txn}: no answer in {tries} tries, it waits", id.seq);
-        }
-        Request::Release { id, txn, .. } => {
-            warn!(rt; "release {} of transaction {txn}: no answer in {tries} tries, it waits", id.seq);
-        }
-        _ => {}
+        _ => warn!(rt; "{named}: no answer in {tries} tries"),
     }
 }
 
@@ -121,20 +120,15 @@ pub fn try_all<R: Log, L: Link>(
 }
 
 /// Warns that the server closed a transaction in another way than was asked for.
-fn warn_refused<R: Log>(rt: &R, reply: &Reply) {
+fn warn_refused<R: Log>(rt: &R, request: &Request, reply: &Reply) {
+    let named = Named(request);
     match reply {
-        Reply::Closed { id } => {
-            warn!(rt; "closing {}: the transaction was closed before", id.seq);
+        Reply::Closed { .. } => warn!(rt; "{named}: the transaction was closed before"),
+        Reply::Mismatch { .. } => {
+            warn!(rt; "{named}: the transaction has another login or moment");
         }
-        Reply::Mismatch { id } => {
-            warn!(rt; "closing {}: the transaction has another login or moment", id.seq);
-        }
-        Reply::TooMany { id, held } => {
-            warn!(rt; "closing {}: the transaction holds {held} only", id.seq);
-        }
-        Reply::Conflict { id } => {
-            warn!(rt; "closing {}: the number was used by another request", id.seq);
-        }
+        Reply::TooMany { held, .. } => warn!(rt; "{named}: the transaction holds {held} only"),
+        Reply::Conflict { .. } => warn!(rt; "{named}: the number was used by another request"),
         _ => {}
     }
 }
@@ -147,11 +141,12 @@ fn send<R: Log, L: Link>(rt: &R, alloc: Global, link: &mut L, request: &Request,
 {
     let mut frame = Vec::new(alloc);
     if encode_request(alloc, request, &mut frame).is_err() {
+        warn_unanswered(rt, request, tries);
         return false;
     }
     match try_all(rt, alloc, link, request, frame.as_slice(), tries) {
         Some(reply) => {
-            warn_refused(rt, &reply);
+            warn_refused(rt, request, &reply);
             true
         }
         None => false,

@@ -90,11 +90,15 @@ fn server_settings(rt: HostRuntime) -> Result<(), Fail> {
 
 #[test]
 fn refused_server_settings(rt: HostRuntime) -> Result<(), Fail> {
-    let rows: [(&str, &str); 7] = [
+    let rows: [(&str, &str); 8] = [
         ("host = \"mx1\"", "setting host: unknown"),
         ("listen = \"127.0.0.1:7025\"", "setting store: missing"),
         (
             "listen = \"127.0.0.1:7025\"\nstore = 1",
+            "setting store: bad value",
+        ),
+        (
+            "listen = \"127.0.0.1:7025\"\nstore = \"/var/lib/mailquota\"",
             "setting store: bad value",
         ),
         (

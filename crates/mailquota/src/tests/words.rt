@@ -2,6 +2,7 @@
 
 use crate::arguments::{Arguments, ArgumentsFault, ReplayArguments, read_arguments};
 use std::alloc::Global;
+use std::process::Abort;
 use std::test::Fail;
 
 /// What is shown for words of a command line, and its status.
@@ -20,39 +21,318 @@ fn shown(alloc: Global, words: &[&str]) -> Result<(String, u8), Fail> {
     }
 }
 
+/// Asserts what is shown for these words, with its status.
+fn assert_shown<R: AllocGlobal + Abort>(
+    rt: &R,
+    words: &[&str],
+    status: u8,
+    text: &str,
+) -> Result<(), Fail> {
+    let found = shown(rt.alloc(), words)?;
+    assert_eq!(rt; found.0.as_str(), text, "{words:?}");
+    assert_eq!(rt; found.1, status, "{words:?}");
+    Ok(())
+}
+
 #[test]
-fn usage(rt: HostRuntime) -> Result<(), Fail> {
-    let rows: [(&[&str], &str, u8); 5] = [
+fn help(rt: HostRuntime) -> Result<(), Fail> {
+    let rows: [(&[&str], &str); 6] = [
         (
-            &["mailquota", "replay", "--default=1000001"],
-            "error: invalid value '1000001' for '--default <N>': 1000001 is not in 0..=1000000\n\nFor more information, try '--help'.\n",
-            2,
-        ),
-        (
-            &["mailquota", "replay", "--east", "1440"],
-            "error: invalid value '1440' for '--east <M>': 1440 is not in 0..=1439\n\nFor more information, try '--help'.\n",
-            2,
-        ),
-        (
-            &["mailquota", "replay", "--sql"],
-            "error: unexpected argument '--sql' found\n\nUsage: mailquota replay [OPTIONS]\n\nFor more information, try '--help'.\n",
-            2,
-        ),
-        (
-            &["mailquota", "audit"],
-            "error: unrecognized subcommand 'audit'\n\nUsage: mailquota <COMMAND>\n\nFor more information, try '--help'.\n",
-            2,
+            &["mailquota", "--help"],
+            "Daily recipient limits for smtpd, shared by all outgoing hosts
+
+Usage: mailquota <COMMAND>
+
+Commands:
+  replay  Answer frames in hexadecimal from standard input over a new ledger
+  filter  Answer smtpd on standard input and output
+  server  Serve the ledger to filters, one connection after another
+  limit   Set the limit of a login from a day on
+  report  Print what logins used on a day
+
+Options:
+  -h, --help  Print help
+",
         ),
         (
             &["mailquota", "replay", "--help"],
-            "Answer frames in hexadecimal from standard input over a new ledger\n\nUsage: mailquota replay [OPTIONS]\n\nOptions:\n      --default <N>  Limit of a login that has none of its own [default: 100]\n      --east <M>     Minutes that a day begins before UTC's [default: 0]\n      --west <M>     Minutes that a day begins after UTC's [default: 0]\n  -h, --help         Print help\n",
-            0,
+            "Answer frames in hexadecimal from standard input over a new ledger
+
+Usage: mailquota replay [OPTIONS]
+
+Options:
+      --default <N>  Limit of a login that has none of its own [default: 100]
+      --east <M>     Minutes that a day begins before UTC's [default: 0]
+      --west <M>     Minutes that a day begins after UTC's [default: 0]
+  -h, --help         Print help
+",
+        ),
+        (
+            &["mailquota", "filter", "--help"],
+            "Answer smtpd on standard input and output
+
+Usage: mailquota filter [OPTIONS] --config <FILE>
+
+Options:
+      --config <FILE>  Settings
+      --run <N>        Number of the run; the clock's milliseconds where it isn't given
+  -h, --help           Print help
+",
+        ),
+        (
+            &["mailquota", "server", "--help"],
+            "Serve the ledger to filters, one connection after another
+
+Usage: mailquota server [OPTIONS] --config <FILE>
+
+Options:
+      --config <FILE>    Settings
+      --create           Make a new ledger; one in memory is always new
+      --connections <N>  Connections to serve [default: 1000000]
+  -h, --help             Print help
+",
+        ),
+        (
+            &["mailquota", "limit", "--help"],
+            "Set the limit of a login from a day on
+
+Usage: mailquota limit [OPTIONS] --server <ADDRESS> --host <HOST> --login <LOGIN> --from <DAY> --cap <N>
+
+Options:
+      --server <ADDRESS>  Numeric address and port of the quota server
+      --host <HOST>       Host that asks
+      --login <LOGIN>     Login, as smtpd reports it
+      --from <DAY>        Day number from which on the limit governs
+      --cap <N>           Recipients a day
+      --run <N>           Number of the run; the clock's milliseconds where it isn't given
+  -h, --help              Print help
+",
+        ),
+        (
+            &["mailquota", "report", "--help"],
+            "Print what logins used on a day
+
+Usage: mailquota report [OPTIONS] --server <ADDRESS> --day <DAY>
+
+Options:
+      --server <ADDRESS>  Numeric address and port of the quota server
+      --day <DAY>         Day number, counted from 1970-01-01
+      --login <LOGIN>     One login, as smtpd reports it; all where it isn't given
+  -h, --help              Print help
+",
         ),
     ];
-    for (words, text, status) in rows {
-        let found = shown(rt.alloc(), words)?;
-        assert_eq!(rt; found.0.as_str(), text);
-        assert_eq!(rt; found.1, status);
+    for (words, text) in rows {
+        assert_shown(&rt, words, 0, text)?;
+    }
+    Ok(())
+}
+
+#[test]
+fn usage_faults(rt: HostRuntime) -> Result<(), Fail> {
+    let rows: [(&[&str], &str); 7] = [
+        (
+            &["mailquota", "audit"],
+            "error: unrecognized subcommand 'audit'
+
+Usage: mailquota <COMMAND>
+
+For more information, try '--help'.
+",
+        ),
+        (
+            &["mailquota", "replay", "--sql"],
+            "error: unexpected argument '--sql' found
+
+Usage: mailquota replay [OPTIONS]
+
+For more information, try '--help'.
+",
+        ),
+        (
+            &["mailquota", "filter"],
+            "error: the following required arguments were not provided:
+  --config <FILE>
+
+Usage: mailquota filter --config <FILE>
+
+For more information, try '--help'.
+",
+        ),
+        (
+            &["mailquota", "server", "--create"],
+            "error: the following required arguments were not provided:
+  --config <FILE>
+
+Usage: mailquota server --config <FILE> --create
+
+For more information, try '--help'.
+",
+        ),
+        (
+            &[
+                "mailquota",
+                "limit",
+                "--host=mx1",
+                "--login=u",
+                "--from=1",
+                "--cap=2",
+            ],
+            "error: the following required arguments were not provided:
+  --server <ADDRESS>
+
+Usage: mailquota limit --server <ADDRESS> --host <HOST> --login <LOGIN> --from <DAY> --cap <N>
+
+For more information, try '--help'.
+",
+        ),
+        (
+            &["mailquota", "report", "--login", "u"],
+            "error: the following required arguments were not provided:
+  --server <ADDRESS>
+  --day <DAY>
+
+Usage: mailquota report --server <ADDRESS> --day <DAY> --login <LOGIN>
+
+For more information, try '--help'.
+",
+        ),
+        (
+            &["mailquota", "report", "--day=1", "--day=2"],
+            "error: the argument '--day <DAY>' cannot be used multiple times
+
+Usage: mailquota report [OPTIONS] --server <ADDRESS> --day <DAY>
+
+For more information, try '--help'.
+",
+        ),
+    ];
+    for (words, text) in rows {
+        assert_shown(&rt, words, 2, text)?;
+    }
+    Ok(())
+}
+
+/// The words that each subcommand needs, beside the numbers.
+fn needed(subcommand: &str) -> &'static [&'static str] {
+    match subcommand {
+        "filter" | "server" => &["--config=f"],
+        "limit" => &["--server=a", "--host=h", "--login=u"],
+        "report" => &["--server=a"],
+        _ => &[],
+    }
+}
+
+/// What is shown for a number option and the words that its subcommand needs.
+fn shown_at(
+    alloc: Global,
+    subcommand: &str,
+    option: &str,
+    number: i64,
+) -> Result<(String, u8), Fail> {
+    let given = format!(in alloc; "--{option}={number}")?;
+    let mut words = Vec::new(alloc);
+    words.push("mailquota")?;
+    words.push(subcommand)?;
+    for word in needed(subcommand) {
+        words.push(*word)?;
+    }
+    if subcommand == "limit" && option != "from" {
+        words.push("--from=1")?;
+    }
+    if subcommand == "limit" && option != "cap" {
+        words.push("--cap=1")?;
+    }
+    if subcommand == "report" && option != "day" {
+        words.push("--day=1")?;
+    }
+    words.push(given.as_str())?;
+    shown(alloc, words.as_slice())
+}
+
+#[test]
+fn ranges_of_numbers(rt: HostRuntime) -> Result<(), Fail> {
+    let alloc = rt.alloc();
+    // The option, its value's name, the least and the greatest number.
+    let rows = [
+        ("replay", "default", "N", 0, 1_000_000),
+        ("replay", "east", "M", 0, 1_439),
+        ("replay", "west", "M", 0, 1_439),
+        ("filter", "run", "N", 1, 281_474_976_710_655),
+        ("server", "connections", "N", 1, 1_000_000),
+        ("limit", "from", "DAY", 0, 376_200),
+        ("limit", "cap", "N", 0, 1_000_000),
+        ("limit", "run", "N", 1, 281_474_976_710_655),
+        ("report", "day", "DAY", 0, 376_200),
+    ];
+    for (subcommand, option, value, least, most) in rows {
+        for number in [least, most] {
+            let found = shown_at(alloc, subcommand, option, number)?;
+            assert_eq!(rt; found.1, 0, "{}", found.0);
+        }
+        for number in [least.wrapping_sub(1), most + 1] {
+            let found = shown_at(alloc, subcommand, option, number)?;
+            assert_eq!(rt; found.1, 2, "{subcommand} {option} {number}");
+            let start = format!(in alloc;
+                "error: invalid value '{number}' for '--{option} <{value}>': "
+            )?;
+            assert!(rt; found.0.starts_with(start.as_str()));
+        }
+    }
+    Ok(())
+}
+
+#[test]
+fn a_default_above_a_million(rt: HostRuntime) -> Result<(), Fail> {
+    assert_shown(
+        &rt,
+        &["mailquota", "replay", "--default", "1000001"],
+        2,
+        "error: invalid value '1000001' for '--default <N>': 1000001 is not in 0..=1000000
+
+For more information, try '--help'.
+",
+    )
+}
+
+#[test]
+fn words_of_subcommands(rt: HostRuntime) -> Result<(), Fail> {
+    let rows: [(&[&str], &str); 6] = [
+        (
+            &["mailquota", "filter", "--config", "f.toml"],
+            "Filter(FilterArguments { config: \"f.toml\", run: None })",
+        ),
+        (
+            &["mailquota", "filter", "--run=7", "--config=f"],
+            "Filter(FilterArguments { config: \"f\", run: Some(7) })",
+        ),
+        (
+            &["mailquota", "server", "--config=s", "--create"],
+            "Server(ServerArguments { config: \"s\", connections: 1000000 })",
+        ),
+        (
+            &[
+                "mailquota",
+                "limit",
+                "--server=[::1]:7025",
+                "--host=mx1",
+                "--login=u v",
+                "--from=2",
+                "--cap=3",
+            ],
+            "Limit(LimitArguments { server: \"[::1]:7025\", host: \"mx1\", login: \"u v\", from: 2, cap: 3, run: None })",
+        ),
+        (
+            &["mailquota", "report", "--day=2", "--server=127.0.0.1:7025"],
+            "Report(ReportArguments { server: \"127.0.0.1:7025\", day: 2, login: None })",
+        ),
+        (
+            &["mailquota", "report", "--day=2", "--server=a", "--login="],
+            "Report(ReportArguments { server: \"a\", day: 2, login: Some(\"\") })",
+        ),
+    ];
+    for (words, text) in rows {
+        assert_shown(&rt, words, 0, text)?;
     }
     Ok(())
 }

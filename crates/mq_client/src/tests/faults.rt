@@ -134,6 +134,8 @@ impl Source for Dropper<'_> {
 #[derive(Drop)]
 struct Narrow {
     taken: Vec<u8>,
+    /// How many of the bytes were flushed.
+    flushed: usize,
     room: usize,
     failed: bool,
 }
@@ -161,17 +163,22 @@ impl Sink for Narrow {
         if self.failed {
             return Err(Failed);
         }
+        self.flushed = self.taken.len();
         Ok(())
     }
 }
 
+/// What came of a run that a device cut short.
+#[derive(Drop)]
+struct Cut {
+    ended: Result<Ended, FilterFault>,
+    sink: Narrow,
+    exchanges: usize,
+}
+
 /// The first recipient through the filter, where the source fails after so many reads and the sink
 /// after so many bytes.
-fn run_failing(
-    alloc: Global,
-    reads: usize,
-    room: usize,
-) -> Result<(Result<Ended, FilterFault>, Vec<u8>, usize), Fail> {
+fn run_failing(alloc: Global, reads: usize, room: usize) -> Result<Cut, Fail> {
     let input = joined(alloc, &[CONFIG, AUTH, BEGIN, RECIPIENT])?;
     let mut script = VecDeque::new(alloc);
     script.push_back(answered(alloc, "81 036d7831 0000000000000001 00000001 00000001")?)?;
@@ -184,6 +191,7 @@ fn run_failing(
     };
     let mut sink = Narrow {
         taken: Vec::new(alloc),
+        flushed: 0,
         room,
         failed: false,
     };
@@ -195,8 +203,12 @@ fn run_failing(
         &mut link,
         &mut client,
     );
-    let Narrow { taken, .. } = sink;
-    Ok((ended, taken, link.kept().len()))
+    let exchanges = link.kept().len();
+    Ok(Cut {
+        ended,
+        sink,
+        exchanges,
+    })
 }
 
 #[test]
@@ -206,7 +218,7 @@ fn each_read_and_each_write_fails(rt: HostRuntime) -> Result<(), Fail> {
     let bytes = joined(alloc, &[CONFIG, AUTH, BEGIN, RECIPIENT])?.len();
     let config = CONFIG.len();
     for reads in 0..=bytes {
-        let (ended, text, exchanges) = run_failing(alloc, reads, 10_000)?;
+        let cut = run_failing(alloc, reads, 10_000)?;
         let wanted: &[u8] = if reads < config {
             b""
         } else if reads < bytes {
@@ -214,26 +226,29 @@ fn each_read_and_each_write_fails(rt: HostRuntime) -> Result<(), Fail> {
         } else {
             whole.as_slice()
         };
-        assert_eq!(rt; ended, Err(FilterFault::Read), "{reads}");
-        assert_eq!(rt; text.as_slice(), wanted, "{reads}");
-        assert_eq!(rt; exchanges == 1, reads == bytes, "{reads}");
+        assert_eq!(rt; cut.ended, Err(FilterFault::Read), "{reads}");
+        assert_eq!(rt; cut.sink.taken.as_slice(), wanted, "{reads}");
+        // each answer was flushed before the next read
+        assert_eq!(rt; cut.sink.flushed, wanted.len(), "{reads}");
+        assert_eq!(rt; cut.exchanges == 1, reads == bytes, "{reads}");
     }
     for room in 0..whole.len() {
-        let (ended, text, exchanges) = run_failing(alloc, 10_000, room)?;
-        assert_eq!(rt; ended, Err(FilterFault::Write), "{room}");
+        let cut = run_failing(alloc, 10_000, room)?;
+        let text = cut.sink.taken.as_slice();
+        assert_eq!(rt; cut.ended, Err(FilterFault::Write), "{room}");
         assert_eq!(rt; text.len(), room);
-        assert!(rt; whole.as_slice().starts_with(text.as_slice()), "{room}");
-        assert_eq!(rt; exchanges == 1, room >= REGISTRATION.len(), "{room}");
+        assert!(rt; whole.as_slice().starts_with(text), "{room}");
+        assert_eq!(rt; cut.exchanges == 1, room >= REGISTRATION.len(), "{room}");
     }
-    let (ended, text, exchanges) = run_failing(alloc, 10_000, whole.len())?;
+    let cut = run_failing(alloc, 10_000, whole.len())?;
     assert_eq!(rt;
-        ended,
+        cut.ended,
         Ok(Ended {
             answers: 1,
             left: 0
         })
     );
-    assert_eq!(rt; text.as_slice(), whole.as_slice());
-    assert_eq!(rt; exchanges, 1);
+    assert_eq!(rt; cut.sink.taken.as_slice(), whole.as_slice());
+    assert_eq!(rt; cut.exchanges, 1);
     Ok(())
 }

@@ -1,4 +1,4 @@
-use Rattle.std.proofs.Common.{◌≡◌, [], refl, inl, inr, None}
+use Rattle.std.proofs.Common.{[], refl, inl, inr, None}
 use Rattle.mq_line.specs.Results.{result_text}
 use Rattle.mq_client.proofs.Looping.{Appends-none, Does-nothing}
 use Rattle.mq_client.proofs.answer.answer.Goals as goal

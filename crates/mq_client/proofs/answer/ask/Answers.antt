@@ -1,6 +1,5 @@
-use Rattle.std.proofs.Common.{◌≡◌, ◌&&◌, true, refl, ap, ◌∙◌, rules, Some, List}
-use Rattle.mq_client.specs.Exchanges.{Exchange}
-use Rattle.mq_client.specs.Past.{Ask, answer_of}
+use Rattle.std.proofs.Common.{◌≡◌, ◌&&◌, true, refl, ap, ◌∙◌, rules, Some}
+use Rattle.mq_client.specs.Past.{Ask}
 use Rattle.mq_client.specs.Filter.{is_login, is_moment, decision_of}
 use Rattle.mq_client.proofs.answer.ask.Goals as goal
 

@@ -1,4 +1,4 @@
-use Rattle.std.proofs.Common.{◌≡◌, refl, sym, subst, Some, Option}
+use Rattle.std.proofs.Common.{refl, sym, subst, Some, Option}
 use Rattle.mq_track.specs.declared.closing.Closing.{Closing}
 use Rattle.mq_client.specs.Past.{Close}
 use Rattle.mq_client.specs.Filter.{Closes}

@@ -1,4 +1,4 @@
-use Rattle.std.proofs.Common.{◌≡◌, [], refl, None}
+use Rattle.std.proofs.Common.{[], refl, None}
 use Rattle.mq_client.specs.declared.faults.FilterFault.TheVariants as at
 use Rattle.mq_client.proofs.Looping.{Does-still, stops, at_waiting, ends, err_not_ok, is_ok_by}
 use Rattle.mq_client.proofs.filter.finish.Goals as goal

@@ -1,7 +1,7 @@
-use Rattle.std.proofs.Common.{◌≡◌, ◌∷◌, refl, sym, ap, subst, Option, None}
+use Rattle.std.proofs.Common.{subst, Option}
 use Rattle.std.proofs.lemmas.Result.{on_ok_weaker}
 use Rattle.mq_line.specs.Grammar.{meaning}
-use Rattle.mq_track.specs.Sessions.{closing as closing_lem, fault}
+use Rattle.mq_track.specs.Sessions.{fault}
 use Rattle.mq_track.specs.declared.closing.Closing.{Closing}
 use Rattle.mq_client.specs.Filter.{Closes}
 use Rattle.mq_client.proofs.Looping.{accepted}

@@ -1,7 +1,6 @@
-use Rattle.std.proofs.Common.{◌≡◌, ℕ, ◌+◌, ◌*◌, ◌≤◌, ◌<◌, List, [], ◌++◌, length, take, refl, sym, ap, ◌∙◌, arith, rules, inl, inr, None, length-append}
+use Rattle.std.proofs.Common.{◌≡◌, ◌≤◌, ◌<◌, [], ◌++◌, length, take, refl, ap, arith, rules, inl, inr, None, length-append}
 use Rattle.std.proofs.lemmas.List.{length-take-le}
 use Rattle.std.proofs.KnownBytes.{Consumes-trans, Consumes-kept}
-use Rattle.mq_client.specs.Run.{Origin}
 use Rattle.mq_client.specs.declared.faults.FilterFault.TheVariants as at
 use Rattle.mq_client.proofs.Looping.{Does-still, stops, so_far_start, so_far_fed, is_line_none, Consumes-none}
 use Rattle.mq_client.proofs.filter.run_filter.Goals as goal
@@ -12,7 +11,11 @@ loop-read-init g c = record {
   consumed = Consumes-none _;
   so_far = so_far_start _ _ c.args.client.now _ c.new-feed.result c.new-feed.ensures.empty refl c.new.ensures refl;
   held = is_line_none _ c.new-feed.ensures.empty;
+  written = λ ready. cc (ready);
+  sink_works = λ works. works;
+  source_works = λ works. works;
   reads = omega arith;
+  most = omega arith;
   count = omega (arith, ap length c.new-feed.ensures.empty);
 }
 
@@ -65,7 +68,11 @@ loop-read-preserved g c =
       consumed = Consumes-trans _ _ _ _ _ i.consumed c.in-Ok.ensures.bytes.0;
       so_far = c.in-Ok-take_lines.ensures.ok _ (i.bytes ++ piece) (so_far_fed _ i.bytes c.loop-read.feed c.feed-in-loop-read.new.self piece c.loop-read.filter _ _ _ fed i.so_far);
       held = c.in-Ok-take_lines.ensures.left;
+      written = c.in-Ok-take_lines.ensures.written i.written;
+      sink_works = λ works. c.in-Ok-take_lines.ensures.works (i.sink_works works) (λ no. cc (no));
+      source_works = λ works. c.in-Ok.ensures.failed;
       reads = omega (arith, i.reads, length-append i.bytes piece, long, some);
+      most = omega (arith, i.most, length-append i.bytes piece, long, small);
       count = omega (arith, i.count, count, before, length-append c.loop-read.feed piece, long, small);
     }
 
@@ -78,4 +85,30 @@ returns-clause-fault g c =
       stops _ i.bytes c.loop-read.feed c.loop-read.filter _ _ _ _ _ _ _ _ _ at.Read None [] [] i.so_far (Does-still _ _ _)
           (λ stage a. (i.held, inr all))
           (λ stage a. (refl, refl)),
+    )
+
+pub returns-in-Err-feed-clause-reads : goal.returns-in-Err-feed-clause-reads
+returns-in-Err-feed-clause-reads g c =
+    let i = c.loop-read.invariant in
+    let n = c.in-Ok.count in
+    let piece = take n c.read.new.piece in
+    let fits : n ≤ length c.read.new.piece = search rules in
+    let small : n ≤ 4096 = omega arith in
+    let long = length-take-le n c.read.new.piece fits in (
+      i.bytes ++ piece,
+      Consumes-trans _ _ _ _ _ i.consumed c.in-Ok.ensures.bytes.0,
+      omega (arith, i.most, c.loop-read-test.true, length-append i.bytes piece, long, small),
+    )
+
+pub returns-in-Err-take_lines-clause-reads : goal.returns-in-Err-take_lines-clause-reads
+returns-in-Err-take_lines-clause-reads g c =
+    let i = c.loop-read.invariant in
+    let n = c.in-Ok.count in
+    let piece = take n c.read.new.piece in
+    let fits : n ≤ length c.read.new.piece = search rules in
+    let small : n ≤ 4096 = omega arith in
+    let long = length-take-le n c.read.new.piece fits in (
+      i.bytes ++ piece,
+      Consumes-trans _ _ _ _ _ i.consumed c.in-Ok.ensures.bytes.0,
+      omega (arith, i.most, c.loop-read-test.true, length-append i.bytes piece, long, small),
     )

@@ -1,7 +1,7 @@
-use Rattle.std.proofs.Common.{◌+◌, ◌*◌, ◌≤◌, ℕ, List, length}
+use Rattle.std.proofs.Common.{◌≡◌, ◌+◌, ◌*◌, ◌≤◌, ℕ, List, length, false}
 use Rattle.std.specs.Io.KnownBytes.{Consumes}
 use Rattle.mq_line.specs.Text.{IsLine}
-use Rattle.mq_client.specs.Loop.{SoFar}
+use Rattle.mq_client.specs.Loop.{SinkWorks, SoFar}
 use Rattle.mq_client.proofs.filter.run_filter.Given as goal
 
 -- the lines of the bytes that were read were handled, but for a cut one that is held
@@ -12,6 +12,10 @@ invariant-loop-read g l = record {
   so_far : SoFar (record { sink = g.W.Sink.contents l.initial.output; told = g.K.Link.told l.initial.link; client = l.initial.client }) bytes l.feed l.filter
       (g.W.Sink.contents l.output) (g.K.Link.told l.link) l.client;
   held : IsLine l.feed;
+  written : SinkWorks l.filter (g.W.Sink.has_failed l.output);
+  sink_works : g.W.Sink.has_failed l.initial.output ≡ false → g.W.Sink.has_failed l.output ≡ false;
+  source_works : g.S.Source.has_failed l.initial.input ≡ false → g.S.Source.has_failed l.input ≡ false;
   reads : l._read ≤ length bytes;
+  most : length bytes ≤ 4096 * l._read;
   count : l.filter.answers + length l.feed ≤ 4096 * l._read;
 }

@@ -1,12 +1,6 @@
-use Rattle.std.proofs.Common.{◌≡◌, ◌+◌, ◌++◌, ◌∷◌, [], ℕ, List, refl, sym, ap, ◌∙◌, subst, inl, inr, ◌⊎◌, Option, None, Some, arith}
-use Rattle.mq_line.specs.Grammar.{Meaning, FilterLine, meaning}
-use Rattle.mq_track.specs.State.{StandsAt}
-use Rattle.mq_client.specs.Past.{Step}
-use Rattle.mq_client.specs.Filter.{Takes}
-use Rattle.mq_client.specs.Run.{Stage, Running, MayGo}
-use Rattle.mq_client.specs.Loop.{Replies}
-use Rattle.mq_client.specs.declared.faults.FilterFault.TheVariants as at
-use Rattle.mq_client.proofs.Looping.{Appends-none, Does-nothing, carries_take, at_running, stops, cut_found, cut_in_hand, first_of, takes_noted, count_noted, tracks_filter, answer_counted, refused_stops, may_go}
+use Rattle.std.proofs.Common.{◌+◌, ◌++◌, ◌∷◌, [], sym, ap, ◌∙◌, None, arith}
+use Rattle.mq_line.specs.Grammar.{FilterLine, meaning}
+use Rattle.mq_client.proofs.Looping.{Appends-none, Does-nothing, carries_take, stops, cut_found, cut_in_hand, takes_noted, count_noted, tracks_filter, answer_counted, refused_stops, may_go}
 use Rattle.mq_client.proofs.filter.take.Goals as goal
 
 pub returns-in-Ok-clause-ok : goal.returns-in-Ok-clause-ok
@@ -41,6 +35,7 @@ returns-in-Ok-note g c =
           (record { written = Appends-none _; exchanged = told; made = made })
           (λ L st. let n = notes L st in (takes_noted L l step apart n.0 n.1, n.2)) c.requires.ready (λ L e. e ∙ sym (count_noted L l apart));
       count = omega arith;
+      works = λ works differs. works;
       fault = tt;
     }
 
@@ -52,6 +47,7 @@ returns-in-Err-note g c =
     record {
       ok = tt;
       count = tt;
+      works = λ works differs. works;
       fault = λ o bytes line rest source read_failed one reads s.
           stops o bytes (line ++ 10 ∷ rest) f source _ _ read_failed _ _ _ _ _ c.in-Err-note.fault None [] [] s (Does-nothing g.K.Link.told _ _ _ _ _ e.link e.client)
           (λ stage a. (refused_stops c.in-Err-note.fault f stage bytes line rest (meaning l) source read_failed _ c.requires.ready a one reads e.fault).0)

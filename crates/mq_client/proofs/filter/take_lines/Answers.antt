@@ -1,7 +1,6 @@
-use Rattle.std.proofs.Common.{◌≡◌, ◌++◌, ◌∷◌, [], ℕ, List, refl, subst, ap, Err, None}
+use Rattle.std.proofs.Common.{[], ℕ, List, refl, subst, ap, Err, None}
 use Rattle.mq_client.specs.Loop.{SoFar}
 use Rattle.mq_client.specs.declared.faults.FilterFault.TheVariants as at
-use Rattle.mq_line.specs.declared.faults.FeedFault.{FeedFault}
 use Rattle.mq_client.proofs.Looping.{Does-still, stops}
 use Rattle.mq_client.proofs.filter.take_lines.Goals as goal
 

@@ -1,6 +1,5 @@
-use Rattle.std.proofs.Common.{◌≡◌, ◌++◌, ◌∷◌, [], refl, sym, inr, None}
+use Rattle.std.proofs.Common.{◌++◌, ◌∷◌, [], refl, sym, inr, None}
 use Rattle.mq_line.specs.Grammar.{meaning}
-use Rattle.mq_client.specs.Run.{Running}
 use Rattle.mq_client.specs.declared.faults.FilterFault.TheVariants as at
 use Rattle.mq_client.proofs.Looping.{carries_early, carries_ready, at_waiting, Does-still, stops, cut_found, cut_in_hand, first_of}
 use Rattle.mq_client.proofs.Telling.{Tells-none}

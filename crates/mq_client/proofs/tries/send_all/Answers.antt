@@ -1,4 +1,4 @@
-use Rattle.std.proofs.Common.{◌≡◌, ◌++◌, [], length, subst, ap, arith, rules, true, false}
+use Rattle.std.proofs.Common.{◌≡◌, ◌++◌, [], length, subst, ap, arith, rules}
 use Rattle.std.specs.List.{AllByRecursion}
 use Rattle.mq_frame.specs.Range.{IsRequest}
 use Rattle.mq_client.specs.Exchanges.{IsSent, NoneYet}

@@ -1,4 +1,4 @@
-use Rattle.std.proofs.Common.{◌≡◌, ℕ, ◌+◌, List, [], ◌∷◌, ◌++◌, length, refl, sym, ap, ◌∙◌, subst, rules, arith, Option, None, Some}
+use Rattle.std.proofs.Common.{◌≡◌, ◌+◌, List, [], ◌∷◌, ◌++◌, refl, sym, ap, ◌∙◌, subst, rules, arith, None, Some}
 use Rattle.std.specs.List.{AllByRecursion}
 use Rattle.mq_frame.specs.Range.{IsRequest}
 use Rattle.mq_frame.specs.declared.message.Request.{Request}

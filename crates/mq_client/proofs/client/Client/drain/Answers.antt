@@ -1,4 +1,4 @@
-use Rattle.std.proofs.Common.{◌≡◌, ℕ, List, [], refl, subst}
+use Rattle.std.proofs.Common.{refl, subst}
 use Rattle.mq_client.specs.Past.{State, Drain, Makes}
 use Rattle.mq_client.specs.Inside.{state_of}
 use Rattle.mq_client.proofs.Making.{drained}

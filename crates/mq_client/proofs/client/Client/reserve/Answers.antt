@@ -1,10 +1,10 @@
-use Rattle.std.proofs.Common.{◌≡◌, ℕ, ◌+◌, ◌==◌, List, [], length, refl, sym, ap, ◌∙◌, subst, rules, arith, true, false, Some, if◌then◌else◌}
+use Rattle.std.proofs.Common.{◌≡◌, ℕ, ◌+◌, ◌==◌, [], length, refl, sym, ◌∙◌, subst, rules, true, false, Some, if◌then◌else◌}
 use Rattle.mq_client.specs.Past.{State, Ask, Makes, refuses, find, opened, let_through, answer_by}
 use Rattle.mq_client.specs.Inside.{state_of}
 use Rattle.mq_client.specs.Held.{AllHeld}
 use Rattle.mq_client.proofs.Telling.{Tells-none}
 use Rattle.mq_client.proofs.Making.{refused, asked, answer_of_tries, held_and_counted}
-use Rattle.mq_client.proofs.Keeping.{HasRoom, has_room, asked_in_range}
+use Rattle.mq_client.proofs.Keeping.{has_room, asked_in_range}
 use Rattle.mq_client.proofs.client.Client.reserve.Goals as goal
 
 pub returns-then-refuses-clause-ok : goal.returns-then-refuses-clause-ok

@@ -1,0 +1,62 @@
+#!/usr/bin/env python3
+"""Reserves per second over loopback, one a connection, beside a peer that only echoes (echo.rs).
+
+usage: link.py PROGRAM [RESERVES]
+
+The server's ledger is empty at each start. asker.rs asks both, by turns, median of 15 runs.
+"""
+import statistics
+import subprocess
+import sys
+import tempfile
+from pathlib import Path
+
+HERE = Path(__file__).parent
+sys.path.append(str(HERE.parent / "tests" / "program"))
+
+from ends import World, free_port, toml, wait_for_listener  # noqa: E402
+
+ROUNDS = 15
+
+
+def seconds(asker, words, port, clients, reserves):
+    server = subprocess.Popen(words, stdin=subprocess.DEVNULL)
+    try:
+        wait_for_listener(port, server)
+        run = subprocess.run([asker, str(port), str(clients), str(reserves)], capture_output=True, check=True, timeout=60)
+        server.wait(timeout=60)
+        return float(run.stdout)
+    finally:
+        if server.poll() is None:
+            server.kill()
+            server.wait()
+
+
+def main():
+    program = sys.argv[1]
+    counts = [int(word) for word in sys.argv[2:]] or [200, 1_000]
+    with tempfile.TemporaryDirectory() as folder:
+        for name in ("echo", "asker"):
+            subprocess.run(["rustc", "-O", "--edition", "2021", "-o", f"{folder}/{name}", HERE / f"{name}.rs"], check=True)
+        world = World(program, folder)
+
+        def ours(port, count):
+            settings = {"listen": f"127.0.0.1:{port}", "store": "memory", "default": 1_000_000, "offset": 0, "timeout": 2_000}
+            return [program, "server", "--config", world.new_file(toml(settings)), "--connections", str(count)]
+
+        def floor(port, count):
+            return [f"{folder}/echo", str(port), str(count)]
+
+        for count in counts:
+            for clients in (1, 4):
+                times = {ours: [], floor: []}
+                for _ in range(ROUNDS):
+                    for kind, taken in times.items():
+                        port = free_port()
+                        taken.append(seconds(f"{folder}/asker", kind(port, count), port, clients, count))
+                a, b = (statistics.median(times[kind]) for kind in (ours, floor))
+                print(f"{count} reserves, {clients} clients: mailquota {count / a:8.0f}/s   echo {count / b:8.0f}/s   {100 * b / a:5.1f}% of the floor", flush=True)
+
+
+if __name__ == "__main__":
+    main()

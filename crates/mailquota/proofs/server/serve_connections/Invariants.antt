@@ -1,0 +1,11 @@
+use Rattle.std.proofs.Common.{◌≡◌}
+use Rattle.mailquota.proofs.server.serve_connections.Given as goal
+
+-- what each connection leaves of the ledger's promises
+abbrev pub invariant-loop-connection : goal.invariant-loop-connection
+invariant-loop-connection g l = record {
+  same_zone : (g.L.Ledger.book l.ledger).zone ≡ (g.L.Ledger.book l.initial.ledger).zone;
+  same_default : (g.L.Ledger.book l.ledger).default ≡ (g.L.Ledger.book l.initial.ledger).default;
+  kept : g.L.Ledger.has_kept l.ledger → g.L.Ledger.has_kept l.initial.ledger;
+  sound : g.L.Ledger.has_kept l.ledger → g.L.Ledger.is_sound l.initial.ledger → g.L.Ledger.is_sound l.ledger;
+}

@@ -1,0 +1,119 @@
+//! What an administrator asks of the server: `limit` and `report`.
+ghost use Rattle.std.specs.Prelude.{◌≡◌, ◌↔◌, Err, IsTrue, IfOk, IfSome, MatchResult, option_map};
+ghost use Rattle.std.specs.Net.Grammar.{IsSocketText};
+ghost use Rattle.mq_frame.specs.Range.{IsHost, IsLogin, IsDay};
+ghost use Rattle.mq_frame.specs.declared.message.Request.TheVariants.{Limit};
+ghost use Rattle.mailquota.specs.Arguments.{IsLimitArguments, IsNoAddress};
+
+use crate::arguments::{LimitArguments, ReportArguments};
+use crate::clock::run_number;
+use crate::fault::ProgramFault;
+use crate::limit::run_limit;
+use crate::report::run_report;
+use crate::settings::is_host;
+use crate::tcp::TcpLink;
+use mq_frame::{Host, Id, Login, Request};
+use std::alloc::{AllocError, Global};
+use std::io;
+use std::io::{BufWriter, Write};
+use std::net::{Net, SocketAddr};
+use std::rt::Clock;
+use std::time::Duration;
+
+/// How long a connect, a read or a write may take, in milliseconds.
+const TIMEOUT: u64 = 2_000;
+
+/// Whether the bytes are a login: 1 to 255 of any value.
+fn is_login(login: &[u8]) -> bool
+    ensures { IsTrue result ↔ IsLogin login.now }
+{
+    !login.is_empty() && login.len() <= 255
+}
+
+/// The numeric address and port that a text spells.
+fn address_of(text: &str) -> Result<SocketAddr, ProgramFault>
+    ensures { MatchResult result (IsSocketText text.now) (λ fault. (fault ≡ ProgramFault.Address) × IsNoAddress text.now) }
+{
+    match text.parse::<SocketAddr>() {
+        Ok(address) => Ok(address),
+        Err(_) => Err(ProgramFault::Address),
+    }
+}
+
+/// The request that sets a limit, the first of its run.
+fn limit_request(alloc: Global, given: LimitArguments<'_>, run: u64) -> Result<Request, AllocError>
+    ensures { IfOk result (λ request. request
+        ≡ Limit (record { host = given.entry.host.now; run = run; seq = 1 }) given.entry.from given.entry.cap given.entry.login.now) }
+{
+    Ok(Request::Limit {
+        id: Id {
+            host: Host::from_slice(alloc, given.host.as_bytes())?,
+            run,
+            seq: 1,
+        },
+        from_day: given.from,
+        cap: given.cap,
+        login: Login::from_slice(alloc, given.login.as_bytes())?,
+    })
+}
+
+/// `limit`: sets the limit of a login from a day on.
+pub fn limit<R: Clock + Net + Print + AllocGlobal, E: Write>(
+    rt: &R,
+    given: LimitArguments<'_>,
+    errors: &mut E,
+) -> Result<u8, ProgramFault>
+    requires { IsLimitArguments given }
+    ensures host { ¬ IsHost given.entry.host.now → result ≡ Err ProgramFault.Host }
+    ensures login { IsHost given.entry.host.now → ¬ IsLogin given.entry.login.now → result ≡ Err ProgramFault.Login }
+    ensures address { IsHost given.entry.host.now → IsLogin given.entry.login.now → IsNoAddress given.entry.server.now → result ≡ Err ProgramFault.Address }
+{
+    if !is_host(given.host.as_bytes()) {
+        return Err(ProgramFault::Host);
+    }
+    if !is_login(given.login.as_bytes()) {
+        return Err(ProgramFault::Login);
+    }
+    let address = address_of(given.server)?;
+    let run = run_number(rt, given.run)?;
+    let request = limit_request(rt.alloc(), given, run)?;
+    let mut link = TcpLink::new(rt, address, Duration::from_millis(TIMEOUT));
+    Ok(run_limit(rt.alloc(), &mut link, &request, &mut io::writer(rt), errors))
+}
+
+/// The login that is reported alone, where one is given.
+fn login_of(alloc: Global, given: Option<&str>) -> Result<Option<Login>, AllocError>
+    ensures { IfOk result (λ login. login ≡ option_map (λ text. text.now) given.entry) }
+{
+    match given {
+        None => Ok(None),
+        Some(text) => Ok(Some(Login::from_slice(alloc, text.as_bytes())?)),
+    }
+}
+
+/// `report`: prints what one login, or all, used on a day.
+pub fn report<R: Net + Print + AllocGlobal, E: Write>(
+    rt: &R,
+    given: ReportArguments<'_>,
+    errors: &mut E,
+) -> Result<u8, ProgramFault>
+    requires { IsDay given.day }
+    ensures login { IfSome given.entry.login (λ login. ¬ IsLogin login.now → result ≡ Err ProgramFault.Login) }
+    ensures address { IfSome given.entry.login (λ login. IsLogin login.now) → IsNoAddress given.entry.server.now → result ≡ Err ProgramFault.Address }
+{
+    if !given.login.is_none_or(|login| is_login(login.as_bytes())) {
+        return Err(ProgramFault::Login);
+    }
+    let address = address_of(given.server)?;
+    let login = login_of(rt.alloc(), given.login)?;
+    let mut link = TcpLink::new(rt, address, Duration::from_millis(TIMEOUT));
+    let mut output = BufWriter::new(rt.alloc(), io::writer(rt)).map_err(|_| ProgramFault::Memory)?;
+    Ok(run_report(
+        rt.alloc(),
+        &mut link,
+        given.day,
+        login.as_ref(),
+        &mut output,
+        errors,
+    ))
+}

@@ -1,0 +1,83 @@
+//! Why a subcommand isn't done.
+ghost use Rattle.std.specs.Prelude.{◌≡◌};
+
+use crate::file::FileFault;
+use crate::settings::SettingsFault;
+use mq_client::FilterFault;
+use mq_server::ServeFault;
+use std::alloc::{AllocError, AllocFailed};
+use std::io;
+use std::io::ErrorKind;
+use thiserror::Error;
+
+/// Why a subcommand isn't done. Its text is printed behind `mailquota: `.
+#[derive(Debug, Drop, Error)]
+pub enum ProgramFault {
+    /// A word of the command line is no UTF-8.
+    #[error("arguments are not text")]
+    Words,
+    #[error("bad host")]
+    Host,
+    #[error("bad login")]
+    Login,
+    #[error("bad address")]
+    Address,
+    #[error("read failed")]
+    Read,
+    #[error("write failed")]
+    Write,
+    #[error("out of memory")]
+    Memory,
+    #[error("{0}")]
+    File(FileFault),
+    #[error("{0}")]
+    Settings(SettingsFault),
+    /// The clock can't be read, or its milliseconds can't be a run's number.
+    #[error("run number unavailable")]
+    NoRun,
+    #[error("{0}")]
+    Filter(FilterFault),
+    #[error("listen failed")]
+    Listen,
+    #[error("accept failed")]
+    Accept,
+    #[error("{0}")]
+    Serve(ServeFault),
+}
+
+impl ProgramFault {
+    ghost use Rattle.mailquota.specs.Faults.{fault_status};
+
+    /// The exit status: 2 where the words are at fault, else 1.
+    pub fn status(&self) -> u8
+        ensures { result ≡ fault_status self.now }
+    {
+        match self {
+            ProgramFault::Words
+            | ProgramFault::Host
+            | ProgramFault::Login
+            | ProgramFault::Address => 2,
+            _ => 1,
+        }
+    }
+}
+
+impl From<AllocError> for ProgramFault {
+    fn from(_error: AllocError) -> ProgramFault {
+        ProgramFault::Memory
+    }
+}
+
+impl<T: Drop> From<AllocFailed<T>> for ProgramFault {
+    fn from(_error: AllocFailed<T>) -> ProgramFault {
+        ProgramFault::Memory
+    }
+}
+
+/// Want of memory, or else this fault.
+pub fn or_memory(error: &io::Error, fault: ProgramFault) -> ProgramFault {
+    if error.kind() == ErrorKind::OutOfMemory {
+        return ProgramFault::Memory;
+    }
+    fault
+}

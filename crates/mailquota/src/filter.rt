@@ -1,0 +1,52 @@
+//! `filter`: answers smtpd on standard input and output.
+ghost use Rattle.std.specs.Prelude.{IfSome};
+ghost use Rattle.mq_frame.specs.Range.{IsRun};
+
+use crate::arguments::FilterArguments;
+use crate::clock::run_number;
+use crate::fault::ProgramFault;
+use crate::file::read_file;
+use crate::settings::read_filter_settings;
+use crate::tcp::TcpLink;
+use log::Logged;
+use log::sink::Console;
+use mq_client::{Client, run_filter};
+use mq_frame::{FromRead, ToWrite};
+use std::io;
+use std::net::Net;
+use std::rt::{Clock, Files};
+use std::time::Duration;
+
+/// Runs the filter until its input ends: the settings first, then the clock.
+pub fn filter<R: Files + Clock + Net + Input + Print + Eprint + AllocGlobal>(
+    rt: &R,
+    given: FilterArguments<'_>,
+) -> Result<u8, ProgramFault>
+    requires { IfSome given.run IsRun }
+{
+    let text = read_file(rt, given.config).map_err(ProgramFault::File)?;
+    let settings = read_filter_settings(rt.alloc(), text.as_slice()).map_err(
+        ProgramFault::Settings,
+    )?;
+    let run = run_number(rt, given.run)?;
+    let logged = Logged::new(rt, settings.log, Console(rt));
+    let timeout = Duration::from_millis(u64::from(settings.timeout));
+    let mut link = TcpLink::new(rt, settings.server, timeout);
+    let mut client = match Client::new(rt.alloc(), &settings.host, run, settings.tries) {
+        Ok(client) => client,
+        Err(_) => return Err(ProgramFault::Memory),
+    };
+    let mut input = FromRead::new(rt.reader());
+    let mut output = ToWrite::new(io::writer(rt));
+    match run_filter(
+        &logged,
+        rt.alloc(),
+        &mut input,
+        &mut output,
+        &mut link,
+        &mut client,
+    ) {
+        Ok(_) => Ok(0),
+        Err(fault) => Err(ProgramFault::Filter(fault)),
+    }
+}

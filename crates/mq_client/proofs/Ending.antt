@@ -1,0 +1,236 @@
+-- Two runs over the same input, whose exchanges ended alike, do and write the same.
+use Rattle.std.proofs.Common.{◌≡◌, ℕ, Bool, true, false, List, [], ◌∷◌, ◌++◌, length, refl, sym, ap, ◌∙◌, subst, append_assoc, append-nil, inl, inr, ◌⊎◌, Option, None, Some}
+use Rattle.mq_line.specs.Grammar.{Meaning}
+use Rattle.mq_line.specs.Results.{registration}
+use Rattle.mq_line.specs.Text.{IsLine, IsTooLong, Holds, text_of, lines as all_lines, left as left_over}
+use Rattle.mq_client.specs.Past.{Source, Drain, Step, State, StandsAt as PastStandsAt, view, ArePlayed}
+use Rattle.mq_client.specs.Turns.{outcomes}
+use Rattle.mq_client.specs.Filter.{Filters, push, actions, endings, answer_count}
+use Rattle.mq_client.specs.Run.{Stage, Waiting, Running, Reaches, HasText, Origin, StandsFirst, EndsWith, IsFound, IsInHand, StopsAt}
+use Rattle.mq_client.specs.Place.{is_of_input}
+use Rattle.mq_client.specs.Whole.{AreWhole, all_outcomes, drained}
+use Rattle.mq_client.specs.declared.faults.FilterFault.{FilterFault}
+use Rattle.mq_client.specs.declared.faults.FilterFault.TheVariants as at
+use Rattle.mq_client.specs.declared.filter.Ended.{Ended}
+use Rattle.mq_client.specs.declared.link.Told.{Told}
+use Rattle.mq_client.proofs.Looping.{is_line_none}
+use Rattle.mq_client.proofs.Sameness.{cons_head, cons_tail, same_actions, same_texts, same_played, same_lines}
+use Rattle.mq_client.proofs.Wholes.{same_whole}
+use Rattle.mq_client.proofs.Placing.{Grammar, Front, Unread, Untracked, TooEarly, NeverReady, Over, InLine, Long, Fate, AtLine, AtEnd, true_false, some_is, none_some, same_place}
+
+-- how a text is cut into lines
+pub record Cutting : Type 0 where
+  pub unique : (text : List ℕ) (ls : List (List ℕ)) (rest : List ℕ) → Holds text ls rest → IsLine rest ⊎ IsTooLong rest → (all_lines text ≡ ls) × (left_over text ≡ rest)
+  pub held : (text : List ℕ) (taken : List (List ℕ)) (held : List ℕ) → Holds text taken held → (all_lines text ≡ taken ++ all_lines held) × (left_over text ≡ left_over held)
+  pub too_long : (held more : List ℕ) → IsTooLong held → IsTooLong (held ++ more)
+
+-- bytes without a whole line
+no_lines : (C : Cutting) (text : List ℕ) → IsLine text ⊎ IsTooLong text → (all_lines text ≡ []) × (left_over text ≡ text)
+no_lines C text h = C.unique text [] text (record { whole = refl; each = tt }) h
+
+nothing_left : (C : Cutting) (text : List ℕ) → text ≡ [] → (all_lines text ≡ []) × (left_over text ≡ [])
+nothing_left C text e = let (f, g) = no_lines C text (inl (is_line_none text e)) in (f, g ∙ e)
+
+-- the line in front of some bytes is the first of all that come
+first_line : (C : Cutting) (line left rest : List ℕ) (s : StandsFirst line left) → all_lines (left ++ rest) ≡ line ∷ all_lines (s.rest ++ rest)
+first_line C line left rest s =
+    (C.held (left ++ rest) (line ∷ []) (s.rest ++ rest) (record {
+      whole = ap (λ (l : List ℕ). l ++ rest) s.whole ∙ append_assoc line (10 ∷ s.rest) rest ∙ sym (append_assoc line (10 ∷ []) (s.rest ++ rest));
+      each = (s.is_line, tt);
+    })).0
+
+at_line : (C : Cutting) (stage : Stage) (line left rest : List ℕ) (o : Option FilterFault) → StandsFirst line left → Front stage line o → Fate stage (all_lines (left ++ rest)) (left_over (left ++ rest)) o
+at_line C stage line left rest o s f = AtLine line (all_lines (s.rest ++ rest)) (first_line C line left rest s) f
+
+both_nil : (left rest : List ℕ) → left ≡ [] → rest ≡ [] → left ++ rest ≡ []
+both_nil left rest e f = ap (λ (l : List ℕ). l ++ rest) e ∙ f
+
+no_rest : (left rest : List ℕ) → rest ≡ [] → left ++ rest ≡ left
+no_rest left rest e = ap (λ (l : List ℕ). left ++ l) e ∙ append-nil left
+
+found_fate : (C : Cutting) (f : FilterFault) (stage : Stage) (bytes left rest : List ℕ) (read_failed write_failed : Bool) → is_of_input f ≡ true → IsFound f stage bytes left (Some rest) read_failed write_failed
+    → Fate stage (all_lines (left ++ rest)) (left_over (left ++ rest)) (Some f)
+found_fate C (at.Line f) stage bytes left rest read_failed write_failed i (line, first, e) = at_line C stage line left rest (Some (at.Line f)) first (Unread f e refl)
+found_fate C (at.Track f) stage bytes left rest read_failed write_failed i (L, m, line, s, first, reads, e) = at_line C stage line left rest (Some (at.Track f)) first (Untracked m L f s reads e refl)
+found_fate C at.NotReady stage bytes left rest read_failed write_failed i (m, line, s, first, reads, e) = at_line C stage line left rest (Some at.NotReady) first (TooEarly m s reads e refl)
+found_fate C at.EndedEarly stage bytes left rest read_failed write_failed i (s, none, end) =
+    let (f, g) = nothing_left C (left ++ rest) (both_nil left rest none end) in
+    AtEnd f (NeverReady s g refl)
+found_fate C at.CutLine stage bytes left rest read_failed write_failed i (some, one, end) =
+    let same = no_rest left rest end in
+    let F : List ℕ → Type 0 = IsLine in
+    let all : IsLine (left ++ rest) = subst F (sym same) one in
+    let (f, g) = no_lines C (left ++ rest) (inl all) in
+    AtEnd f (InLine (λ none. some (sym (g ∙ same) ∙ none)) (subst F (sym g) all) refl)
+found_fate C at.TooLong stage bytes left rest read_failed write_failed i long =
+    let all = C.too_long left rest long in
+    let (f, g) = no_lines C (left ++ rest) (inr all) in
+    let F : List ℕ → Type 0 = IsTooLong in
+    AtEnd f (Long (subst F (sym g) all) refl)
+found_fate C at.Read stage bytes left rest read_failed write_failed i found = absurd (true_false (sym i))
+found_fate C at.Write stage bytes left rest read_failed write_failed i found = absurd (true_false (sym i))
+found_fate C at.Memory stage bytes left rest read_failed write_failed i found = absurd (true_false (sym i))
+
+-- at a fault of the input no line is in hand
+quiet : (f : FilterFault) (stage : Stage) (left : List ℕ) (step : Option Step) (next : List ℕ) → is_of_input f ≡ true → IsInHand f stage left step next → (step ≡ None) × (next ≡ [])
+quiet (at.Line f) stage left step next i h = h
+quiet (at.Track f) stage left step next i h = h
+quiet at.NotReady stage left step next i h = h
+quiet at.EndedEarly stage left step next i h = h
+quiet at.CutLine stage left step next i h = h
+quiet at.TooLong stage left step next i h = h
+quiet at.Read stage left step next i h = h
+quiet at.Write stage left step next i h = absurd (true_false (sym i))
+quiet at.Memory stage left step next i h = absurd (true_false (sym i))
+
+front_nil : (front rest : List ℕ) → front ++ rest ≡ [] → front ≡ []
+front_nil [] rest e = refl
+front_nil (x ∷ front) rest e = let no : ⊥ = cc (e) in absurd no
+
+-- what was read and what is left, by the lines that were handled
+holds_all : (bytes rest : List ℕ) (ls : List (List ℕ)) (left : List ℕ) → Holds bytes ls left → Holds (bytes ++ rest) ls (left ++ rest)
+holds_all bytes rest ls left h = record { whole = ap (λ (l : List ℕ). l ++ rest) h.whole ∙ append_assoc (text_of ls) left rest; each = h.each }
+
+-- two runs over the same input come to the same place
+meets : (G : Grammar) (C : Cutting) (text text' : List ℕ) (ls ms : List (List ℕ)) (left left' : List ℕ) (stage stage' : Stage) (steps steps' : List Step) (written written' : List ℕ) (a b : Option FilterFault)
+    → text ≡ text' → Holds text ls left → Holds text' ms left' → Reaches ls stage → HasText stage steps written → Reaches ms stage' → HasText stage' steps' written'
+    → Fate stage (all_lines left) (left_over left) a → Fate stage' (all_lines left') (left_over left') b → (ls ≡ ms) × (stage ≡ stage') × (a ≡ b)
+meets G C text text' ls ms left left' stage stage' steps steps' written written' a b e h i r t r' t' f g =
+    let (lines_h, left_h) = C.held text ls left h in
+    let (lines_i, left_i) = C.held text' ms left' i in
+    let same : ls ++ all_lines left ≡ ms ++ all_lines left' = sym lines_h ∙ ap all_lines e ∙ lines_i in
+    let last : left_over left' ≡ left_over left = sym left_i ∙ sym (ap left_over e) ∙ left_h in
+    let F : List ℕ → Type 0 = λ l. Fate stage' (all_lines left') l b in
+    same_place G ls ms (all_lines left) (all_lines left') (left_over left) stage stage' steps steps' written written' a b same r t r' t' f (subst F last g)
+
+-- ---- what was done
+
+same_done : (stage : Stage) (steps others : List Step) (text more : List ℕ) → HasText stage steps text → HasText stage others more → (actions steps ≡ actions others → steps ≡ others)
+    → (steps ≡ others) × (text ≡ more)
+same_done Waiting steps others text more h i alike = (h.0 ∙ sym i.0, h.1 ∙ sym i.1)
+same_done (Running L) steps others text more (results, filters, whole) (results', filters', whole') alike =
+    let same = alike (same_actions L steps others results results' filters filters') in
+    (same, whole ∙ ap (λ (t : List ℕ). registration ++ t) (same_texts L steps others results results' same filters filters') ∙ sym whole')
+
+played_from : (c d : State) (P steps : List Step) → d ≡ c → ArePlayed d.source d.tries P steps → ArePlayed c.source c.tries P steps
+played_from c d P steps e h = let F : State → Type 0 = λ x. ArePlayed x.source x.tries P steps in subst F e h
+
+stands_from : (c d : State) (P : List Step) → d ≡ c → PastStandsAt c P → PastStandsAt d P
+stands_from c d P e h = let F : State → Type 0 = λ x. PastStandsAt x P in subst F (sym e) h
+
+-- two runs that stop at faults of the same input stop at the same one, and do the same where what was played
+-- follows from the actions
+stops_from : (G : Grammar) (C : Cutting) (o p : Origin) (bytes others rest more : List ℕ) (sink sink' : Option (List ℕ)) (read_failed write_failed read_failed' write_failed' : Bool) (told told' : Option (List Told)) (client client' : State) (f g : FilterFault)
+    (h : StopsAt o bytes (Some rest) sink read_failed write_failed told client f) (i : StopsAt p others (Some more) sink' read_failed' write_failed' told' client' g)
+    → bytes ++ rest ≡ others ++ more → is_of_input f ≡ true → is_of_input g ≡ true
+    → (f ≡ g) × (h.lines ≡ i.lines) × ((P : List Step) → PastStandsAt o.client P → p.client ≡ o.client
+    → (ArePlayed o.client.source o.client.tries P (push h.step h.steps) → ArePlayed o.client.source o.client.tries P (push i.step i.steps)
+    → actions (push h.step h.steps) ≡ actions (push i.step i.steps) → push h.step h.steps ≡ push i.step i.steps)
+    → (push h.step h.steps ≡ push i.step i.steps) × (h.text ++ h.front ≡ i.text ++ i.front))
+stops_from G C o p bytes others rest more sink sink' read_failed write_failed read_failed' write_failed' told told' client client' f g h i e of_f of_g =
+    let (same, stages, faults) = meets G C (bytes ++ rest) (others ++ more) h.lines i.lines (h.left ++ rest) (i.left ++ more) h.stage i.stage h.steps i.steps h.text i.text (Some f) (Some g) e
+    (holds_all bytes rest h.lines h.left h.whole) (holds_all others more i.lines i.left i.whole) h.reaches h.has_text i.reaches i.has_text
+    (found_fate C f h.stage bytes h.left rest read_failed write_failed of_f h.found) (found_fate C g i.stage others i.left more read_failed' write_failed' of_g i.found) in
+    let (no_step, no_next) = quiet f h.stage h.left h.step (h.front ++ h.rest) of_f h.in_hand in
+    let (no_step', no_next') = quiet g i.stage i.left i.step (i.front ++ i.rest) of_g i.in_hand in
+    let steps : push h.step h.steps ≡ h.steps = ap (λ s. push s h.steps) no_step in
+    let steps' : push i.step i.steps ≡ i.steps = ap (λ s. push s i.steps) no_step' in
+    let text : h.text ++ h.front ≡ h.text = no_rest h.text h.front (front_nil h.front h.rest no_next) in
+    let text' : i.text ++ i.front ≡ i.text = no_rest i.text i.front (front_nil i.front i.rest no_next') in (
+      some_is f g faults,
+      same,
+      λ P st start alike.
+          let S : Stage → Type 0 = λ s. HasText s i.steps i.text in
+          let mine = h.made.plays P st in
+          let theirs = played_from o.client p.client P (push i.step i.steps) start (i.made.plays P (stands_from o.client p.client P start st)) in
+          let (done, wrote) = same_done h.stage h.steps i.steps h.text i.text h.has_text (subst S (sym stages) i.has_text)
+          (λ acts. sym steps ∙ alike mine theirs (ap actions steps ∙ acts ∙ sym (ap actions steps')) ∙ steps') in
+          (steps ∙ done ∙ sym steps', text ∙ wrote ∙ sym text'),
+    )
+
+pub same_stops : (G : Grammar) (C : Cutting) (o p : Origin) (bytes others rest more : List ℕ) (sink sink' : Option (List ℕ)) (read_failed write_failed read_failed' write_failed' : Bool) (told told' : Option (List Told)) (client client' : State) (f g : FilterFault)
+    (h : StopsAt o bytes (Some rest) sink read_failed write_failed told client f) (i : StopsAt p others (Some more) sink' read_failed' write_failed' told' client' g)
+    → bytes ++ rest ≡ others ++ more → is_of_input f ≡ true → is_of_input g ≡ true
+    → (f ≡ g) × (h.lines ≡ i.lines) × ((P : List Step) → PastStandsAt o.client P → p.client ≡ o.client → endings (push h.step h.steps) ≡ endings (push i.step i.steps)
+    → (push h.step h.steps ≡ push i.step i.steps) × (h.text ++ h.front ≡ i.text ++ i.front))
+same_stops G C o p bytes others rest more sink sink' read_failed write_failed read_failed' write_failed' told told' client client' f g h i e of_f of_g =
+    let (fault, lines, done) = stops_from G C o p bytes others rest more sink sink' read_failed write_failed read_failed' write_failed' told told' client client' f g h i e of_f of_g in
+    (fault, lines, λ P st start ended. done P st start (λ m t acts. same_played o.client.source o.client.tries P (push h.step h.steps) (push i.step i.steps) m t acts ended))
+
+pub flat_stops : (G : Grammar) (C : Cutting) (o p : Origin) (bytes others rest more : List ℕ) (sink sink' : Option (List ℕ)) (read_failed write_failed read_failed' write_failed' : Bool) (told told' : Option (List Told)) (client client' : State) (f g : FilterFault) (P : List Step)
+    (h : StopsAt o bytes (Some rest) sink read_failed write_failed told client f) (i : StopsAt p others (Some more) sink' read_failed' write_failed' told' client' g)
+    → bytes ++ rest ≡ others ++ more → is_of_input f ≡ true → is_of_input g ≡ true → PastStandsAt o.client P → p.client ≡ o.client
+    → AreWhole o.client.source o.client.tries P (push h.step h.steps) → AreWhole o.client.source o.client.tries P (push i.step i.steps)
+    → all_outcomes (push h.step h.steps) ≡ all_outcomes (push i.step i.steps) → (push h.step h.steps ≡ push i.step i.steps) × (h.text ++ h.front ≡ i.text ++ i.front)
+flat_stops G C o p bytes others rest more sink sink' read_failed write_failed read_failed' write_failed' told told' client client' f g P h i e of_f of_g st start sent sent' ended =
+    let (fault, lines, done) = stops_from G C o p bytes others rest more sink sink' read_failed write_failed read_failed' write_failed' told told' client client' f g h i e of_f of_g in
+    done P st start (λ m t acts. same_whole o.client.source o.client.tries P (push h.step h.steps) (push i.step i.steps) m t sent sent' acts ended)
+
+-- a run to the end of the input
+end_fate : (C : Cutting) (L : List Meaning) → Fate (Running L) (all_lines []) (left_over []) None
+end_fate C L = let (f, g) = nothing_left C [] refl in AtEnd f (Over L refl g refl)
+
+pub no_stop_and_end : (G : Grammar) (C : Cutting) (o p : Origin) (bytes others more : List ℕ) (sink sink' : Option (List ℕ)) (read_failed write_failed : Bool) (told told' : Option (List Told)) (client client' : State) (e : Ended) (g : FilterFault)
+    → EndsWith o bytes sink told client e → StopsAt p others (Some more) sink' read_failed write_failed told' client' g → bytes ≡ others ++ more → is_of_input g ≡ false
+no_stop_and_end G C o p bytes others more sink sink' read_failed write_failed told told' client client' e g h i same = by_kind (is_of_input g) refl
+  where
+    clash : is_of_input g ≡ true → ⊥
+    clash of_g =
+        let (ls, stages, faults) = meets G C bytes (others ++ more) h.lines i.lines [] (i.left ++ more) (Running h.after_ready) i.stage h.steps i.steps (registration ++ h.results) i.text None (Some g) same
+        h.whole (holds_all others more i.lines i.left i.whole) h.ready (h.results, h.filters, refl) i.reaches i.has_text
+        (end_fate C h.after_ready) (found_fate C g i.stage others i.left more read_failed write_failed of_g i.found) in
+        none_some g faults
+
+    by_kind : (b : Bool) → is_of_input g ≡ b → is_of_input g ≡ false
+    by_kind false k = k
+    by_kind true k = absurd (clash k)
+
+same_ended : (e f : Ended) → e.answers ≡ f.answers → e.left ≡ f.left → e ≡ f
+same_ended e f a l =
+    let A : ℕ → Ended = λ n. record { answers = n; left = e.left } in
+    let B : ℕ → Ended = λ n. record { answers = f.answers; left = n } in
+    ap A a ∙ ap B l
+
+-- two runs to the end of the same input do the same, where what was played follows from the actions
+ends_from : (G : Grammar) (C : Cutting) (o p : Origin) (bytes : List ℕ) (sink sink' : Option (List ℕ)) (told told' : Option (List Told)) (client client' : State) (e f : Ended) (P : List Step)
+    (h : EndsWith o bytes sink told client e) (i : EndsWith p bytes sink' told' client' f)
+    → PastStandsAt o.client P → p.client ≡ o.client
+    → (ArePlayed o.client.source o.client.tries P (drained h.group h.steps) → ArePlayed o.client.source o.client.tries P (drained i.group i.steps)
+    → actions (drained h.group h.steps) ≡ actions (drained i.group i.steps) → drained h.group h.steps ≡ drained i.group i.steps)
+    → (h.steps ≡ i.steps) × (h.group ≡ i.group) × (h.results ≡ i.results) × (e ≡ f)
+ends_from G C o p bytes sink sink' told told' client client' e f P h i st start alike =
+    let none = inl (is_line_none [] refl) in
+    let lines : h.lines ≡ i.lines = sym ((C.unique bytes h.lines [] h.whole none).0) ∙ (C.unique bytes i.lines [] i.whole none).0 in
+    let past : h.after_ready ≡ i.after_ready = same_lines G.unique h.lines i.lines h.after_ready i.after_ready lines h.ready i.ready in
+    let F : List Meaning → Type 0 = λ l. Filters l h.steps h.results in
+    let filters : Filters i.after_ready h.steps h.results = subst F past h.filters in
+    let mine : List Step = drained h.group h.steps in
+    let theirs : List Step = drained i.group i.steps in
+    let st' = stands_from o.client p.client P start st in
+    let acts : actions mine ≡ actions theirs = ap (λ l. Drain ∷ l) (same_actions i.after_ready h.steps i.steps h.results i.results filters i.filters) in
+    let all : mine ≡ theirs = alike (h.made.plays P st) (played_from o.client p.client P theirs start (i.made.plays P st')) acts in
+    let steps : h.steps ≡ i.steps = cons_tail _ _ h.steps i.steps all in
+    let group : h.group ≡ i.group = ap (λ (x : Step). x.group) (cons_head (record { action = Drain; group = h.group }) (record { action = Drain; group = i.group }) h.steps i.steps all) in
+    let source : client.source ≡ client'.source = h.made.source ∙ sym (ap (λ (c : State). c.source) start) ∙ sym i.made.source in
+    let left : e.left ≡ f.left = h.left (mine ++ P) (h.made.stands P st)
+    ∙ ap (λ (s : Source). length (view s (mine ++ P)).waiting) source
+    ∙ ap (λ (l : List Step). length (view client'.source (l ++ P)).waiting) all
+    ∙ sym (i.left (theirs ++ P) (i.made.stands P st')) in
+    (steps, group, same_texts i.after_ready h.steps i.steps h.results i.results steps filters i.filters, same_ended e f (h.answers ∙ ap answer_count past ∙ sym i.answers) left)
+
+pub same_ends : (G : Grammar) (C : Cutting) (o p : Origin) (bytes : List ℕ) (sink sink' : Option (List ℕ)) (told told' : Option (List Told)) (client client' : State) (e f : Ended) (P : List Step)
+    (h : EndsWith o bytes sink told client e) (i : EndsWith p bytes sink' told' client' f)
+    → PastStandsAt o.client P → p.client ≡ o.client → endings h.steps ≡ endings i.steps → outcomes h.group ≡ outcomes i.group
+    → (h.steps ≡ i.steps) × (h.group ≡ i.group) × (h.results ≡ i.results) × (e ≡ f)
+same_ends G C o p bytes sink sink' told told' client client' e f P h i st start ended drain =
+    let ends : endings (drained h.group h.steps) ≡ endings (drained i.group i.steps) = ap (λ x. x ∷ endings h.steps) drain ∙ ap (λ l. outcomes i.group ∷ l) ended in
+    ends_from G C o p bytes sink sink' told told' client client' e f P h i st start
+    (λ m t acts. same_played o.client.source o.client.tries P (drained h.group h.steps) (drained i.group i.steps) m t acts ends)
+
+pub flat_ends : (G : Grammar) (C : Cutting) (o p : Origin) (bytes : List ℕ) (sink sink' : Option (List ℕ)) (told told' : Option (List Told)) (client client' : State) (e f : Ended) (P : List Step)
+    (h : EndsWith o bytes sink told client e) (i : EndsWith p bytes sink' told' client' f) → PastStandsAt o.client P → p.client ≡ o.client
+    → AreWhole o.client.source o.client.tries P (drained h.group h.steps) → AreWhole o.client.source o.client.tries P (drained i.group i.steps)
+    → all_outcomes (drained h.group h.steps) ≡ all_outcomes (drained i.group i.steps) → (h.steps ≡ i.steps) × (h.group ≡ i.group) × (h.results ≡ i.results) × (e ≡ f)
+flat_ends G C o p bytes sink sink' told told' client client' e f P h i st start sent sent' ended =
+    ends_from G C o p bytes sink sink' told told' client client' e f P h i st start
+    (λ m t acts. same_whole o.client.source o.client.tries P (drained h.group h.steps) (drained i.group i.steps) m t sent sent' acts ended)

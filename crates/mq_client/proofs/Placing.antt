@@ -1,0 +1,271 @@
+-- The place where a run comes to its end follows from its whole input.
+use Rattle.std.proofs.Common.{◌≡◌, ℕ, ◌+◌, true, false, List, [], ◌∷◌, ◌++◌, length, refl, sym, ap, ◌∙◌, subst, append_assoc, length-append, arith, Option, None, Some}
+use Rattle.std.specs.Prelude.{◌≢◌}
+use Rattle.std.specs.List.{AllByRecursion}
+use Rattle.mq_line.specs.Grammar.{Meaning, ConfigLine, ReadyLine, ReportLine, FilterLine, OtherLine, Reads, fault}
+use Rattle.mq_line.specs.Text.{IsLine, IsTooLong}
+use Rattle.mq_line.specs.declared.faults.LineFault.{LineFault}
+use Rattle.mq_track.specs.Sessions.{fault as track_fault}
+use Rattle.mq_track.specs.declared.fault.TrackFault.{TrackFault}
+use Rattle.mq_client.specs.Past.{Step}
+use Rattle.mq_client.specs.Filter.{Takes, Filters}
+use Rattle.mq_client.specs.Run.{is_early, is_stamped, IsEarly, AreRead, IsReady, Stage, Waiting, Running, Reaches, HasText}
+use Rattle.mq_client.specs.declared.faults.FilterFault.{FilterFault}
+use Rattle.mq_client.specs.declared.faults.FilterFault.TheVariants as at
+use Rattle.mq_client.proofs.Sameness.{cons_head, cons_tail, nil_cons, push_front, early_apart, same_after, same_read, same_lines}
+
+-- a line has one meaning, and none where it has a fault
+pub record Grammar : Type 0 where
+  pub unique : (line : List ℕ) (m n : Meaning) → Reads line m → Reads line n → m ≡ n
+  pub no_fault : (line : List ℕ) (m : Meaning) → Reads line m → fault line ≡ None
+
+-- ---- how a run ends that no device and no want of memory ends
+
+-- at the line in front
+pub data Front (stage : Stage) (line : List ℕ) (o : Option FilterFault) : Type 0 where
+  Unread : (f : LineFault) → fault line ≡ Some f → o ≡ Some (at.Line f) → Front stage line o
+  Untracked : (m : Meaning) (L : List Meaning) (f : TrackFault) → stage ≡ Running L → Reads line m → track_fault L m ≡ Some f → o ≡ Some (at.Track f) → Front stage line o
+  TooEarly : (m : Meaning) → stage ≡ Waiting → Reads line m → is_stamped m ≡ true → o ≡ Some at.NotReady → Front stage line o
+
+-- behind the last line
+pub data End (stage : Stage) (last : List ℕ) (o : Option FilterFault) : Type 0 where
+  NeverReady : stage ≡ Waiting → last ≡ [] → o ≡ Some at.EndedEarly → End stage last o
+  Over : (L : List Meaning) → stage ≡ Running L → last ≡ [] → o ≡ None → End stage last o
+  InLine : last ≢ [] → IsLine last → o ≡ Some at.CutLine → End stage last o
+  Long : IsTooLong last → o ≡ Some at.TooLong → End stage last o
+
+pub data Fate (stage : Stage) (next : List (List ℕ)) (last : List ℕ) (o : Option FilterFault) : Type 0 where
+  AtLine : (line : List ℕ) (more : List (List ℕ)) → next ≡ line ∷ more → Front stage line o → Fate stage next last o
+  AtEnd : next ≡ [] → End stage last o → Fate stage next last o
+
+pub none_some : {A : Type 0} (x : A) → None ≡ Some x → ⊥
+none_some x e = cc
+
+pub some_is : {A : Type 0} (x y : A) → Some x ≡ Some y → x ≡ y
+some_is x y e = cc
+
+running_is : (L M : List Meaning) → Running L ≡ Running M → L ≡ M
+running_is L M e = cc
+
+waiting_running : (L : List Meaning) → Waiting ≡ Running L → ⊥
+waiting_running L e = cc
+
+pub true_false : true ≡ false → ⊥
+true_false e = cc
+
+apart_stages : (stage : Stage) (L : List Meaning) → stage ≡ Waiting → stage ≡ Running L → ⊥
+apart_stages stage L e f = waiting_running L (sym e ∙ f)
+
+read_no_fault : (G : Grammar) (line : List ℕ) (m : Meaning) (f : LineFault) → Reads line m → fault line ≡ Some f → ⊥
+read_no_fault G line m f r e = none_some f (sym (G.no_fault line m r) ∙ e)
+
+front_apart : (G : Grammar) (stage : Stage) (line : List ℕ) (L : List Meaning) (m n : Meaning) (f g : TrackFault) → stage ≡ Running L → track_fault L m ≡ Some f → Reads line m
+    → (M : List Meaning) → stage ≡ Running M → track_fault M n ≡ Some g → Reads line n → f ≡ g
+front_apart G stage line L m n f g s e r M s' e' r' =
+    let same_past : L ≡ M = running_is L M (sym s ∙ s') in
+    let same : m ≡ n = G.unique line m n r r' in
+    some_is f g (sym e ∙ ap (λ l. track_fault l m) same_past ∙ ap (track_fault M) same ∙ e')
+
+same_front : (G : Grammar) (stage : Stage) (line : List ℕ) (a b : Option FilterFault) → Front stage line a → Front stage line b → a ≡ b
+same_front G stage line a b (Unread f e i) (Unread g e' i') = i ∙ ap (λ x. Some (at.Line x)) (some_is f g (sym e ∙ e')) ∙ sym i'
+same_front G stage line a b (Unread f e i) (Untracked m L g s r e' i') = absurd (read_no_fault G line m f r e)
+same_front G stage line a b (Unread f e i) (TooEarly m s r p i') = absurd (read_no_fault G line m f r e)
+same_front G stage line a b (Untracked m L f s r e i) (Unread g e' i') = absurd (read_no_fault G line m g r e')
+same_front G stage line a b (Untracked m L f s r e i) (Untracked n M g s' r' e' i') = i ∙ ap (λ x. Some (at.Track x)) (front_apart G stage line L m n f g s e r M s' e' r') ∙ sym i'
+same_front G stage line a b (Untracked m L f s r e i) (TooEarly n s' r' p i') = absurd (apart_stages stage L s' s)
+same_front G stage line a b (TooEarly m s r p i) (Unread g e' i') = absurd (read_no_fault G line m g r e')
+same_front G stage line a b (TooEarly m s r p i) (Untracked n M g s' r' e' i') = absurd (apart_stages stage M s s')
+same_front G stage line a b (TooEarly m s r p i) (TooEarly n s' r' p' i') = i ∙ sym i'
+
+long_not_line : (last : List ℕ) → IsLine last → IsTooLong last → ⊥
+long_not_line last one long =
+    let whole : length last ≡ length long.front + length long.rest = ap length long.whole ∙ length-append long.front long.rest in
+    omega (arith, whole, one.short, long.long)
+
+long_not_nil : (last : List ℕ) → last ≡ [] → IsTooLong last → ⊥
+long_not_nil last e long =
+    let whole : length last ≡ length long.front + length long.rest = ap length long.whole ∙ length-append long.front long.rest in
+    let none : length last ≡ 0 = ap length e in
+    omega (arith, whole, none, long.long)
+
+same_end : (stage : Stage) (last : List ℕ) (a b : Option FilterFault) → End stage last a → End stage last b → a ≡ b
+same_end stage last a b (NeverReady s e i) (NeverReady s' e' i') = i ∙ sym i'
+same_end stage last a b (NeverReady s e i) (Over L s' e' i') = absurd (apart_stages stage L s s')
+same_end stage last a b (NeverReady s e i) (InLine e' l i') = absurd (e' e)
+same_end stage last a b (NeverReady s e i) (Long l i') = absurd (long_not_nil last e l)
+same_end stage last a b (Over L s e i) (NeverReady s' e' i') = absurd (apart_stages stage L s' s)
+same_end stage last a b (Over L s e i) (Over M s' e' i') = i ∙ sym i'
+same_end stage last a b (Over L s e i) (InLine e' l i') = absurd (e' e)
+same_end stage last a b (Over L s e i) (Long l i') = absurd (long_not_nil last e l)
+same_end stage last a b (InLine e l i) (NeverReady s' e' i') = absurd (e e')
+same_end stage last a b (InLine e l i) (Over M s' e' i') = absurd (e e')
+same_end stage last a b (InLine e l i) (InLine e' l' i') = i ∙ sym i'
+same_end stage last a b (InLine e l i) (Long l' i') = absurd (long_not_line last l l')
+same_end stage last a b (Long l i) (NeverReady s' e' i') = absurd (long_not_nil last e' l)
+same_end stage last a b (Long l i) (Over M s' e' i') = absurd (long_not_nil last e' l)
+same_end stage last a b (Long l i) (InLine e' l' i') = absurd (long_not_line last l' l)
+same_end stage last a b (Long l i) (Long l' i') = i ∙ sym i'
+
+same_fate : (G : Grammar) (stage : Stage) (next : List (List ℕ)) (last : List ℕ) (a b : Option FilterFault) → Fate stage next last a → Fate stage next last b → a ≡ b
+same_fate G stage next last a b (AtLine line more e f) (AtLine line' more' e' f') =
+    let F : List ℕ → Type 0 = λ l. Front stage l a in
+    same_front G stage line' a b (subst F (cons_head line line' more more' (sym e ∙ e')) f) f'
+same_fate G stage next last a b (AtLine line more e f) (AtEnd e' f') = absurd (nil_cons line more (sym e' ∙ e))
+same_fate G stage next last a b (AtEnd e f) (AtLine line' more' e' f') = absurd (nil_cons line' more' (sym e ∙ e'))
+same_fate G stage next last a b (AtEnd e f) (AtEnd e' f') = same_end stage last a b f f'
+
+-- ---- a line that was passed
+
+data Passed (stage : Stage) (line : List ℕ) : Type 0 where
+  Early : (m : Meaning) → stage ≡ Waiting → Reads line m → is_stamped m ≡ false → Passed stage line
+  Taken : (L : List Meaning) (m : Meaning) → stage ≡ Running L → Reads line m → track_fault L m ≡ None → Passed stage line
+
+passed_on : (G : Grammar) (stage : Stage) (line : List ℕ) (o : Option FilterFault) → Front stage line o → Passed stage line → ⊥
+passed_on G stage line o (Unread f e i) (Early m s r p) = read_no_fault G line m f r e
+passed_on G stage line o (Unread f e i) (Taken L m s r p) = read_no_fault G line m f r e
+passed_on G stage line o (Untracked m L f s r e i) (Early n s' r' p) = apart_stages stage L s' s
+passed_on G stage line o (Untracked m L f s r e i) (Taken M n s' r' p) =
+    let same_past : L ≡ M = running_is L M (sym s ∙ s') in
+    let same : m ≡ n = G.unique line m n r r' in
+    none_some f (sym p ∙ sym (ap (track_fault M) same) ∙ sym (ap (λ l. track_fault l m) same_past) ∙ e)
+passed_on G stage line o (TooEarly m s r p i) (Early n s' r' p') = true_false (sym p ∙ ap is_stamped (G.unique line m n r r') ∙ p')
+passed_on G stage line o (TooEarly m s r p i) (Taken M n s' r' p') = apart_stages stage M s s'
+
+early_plain : (m : Meaning) → is_early m ≡ true → is_stamped m ≡ false
+early_plain (ConfigLine key value) e = refl
+early_plain ReadyLine e = absurd (true_false (sym e))
+early_plain (ReportLine seconds subsystem event session params) e = absurd (true_false (sym e))
+early_plain (FilterLine seconds subsystem phase session token rest) e = absurd (true_false (sym e))
+early_plain OtherLine e = refl
+
+takes_sound : (L : List Meaning) (m : Meaning) (step : Option Step) (text : List ℕ) → Takes L m step text → track_fault L m ≡ None
+takes_sound L (ConfigLine key value) step text t = t.0
+takes_sound L ReadyLine step text t = t.0
+takes_sound L (ReportLine seconds subsystem event session params) step text t = t.0
+takes_sound L (FilterLine seconds subsystem phase session token rest) step text t = refl
+takes_sound L OtherLine step text t = t.0
+
+all_at : (P : List ℕ → Type 0) (ls : List (List ℕ)) (y : List ℕ) (d : List (List ℕ)) → AllByRecursion P (ls ++ y ∷ d) → P y
+all_at P [] y d h = h.0
+all_at P (x ∷ ls) y d h = all_at P ls y d h.1
+
+all_front : (P : List ℕ → Type 0) (ls d : List (List ℕ)) → AllByRecursion P (ls ++ d) → AllByRecursion P ls
+all_front P [] d h = tt
+all_front P (x ∷ ls) d h = (h.0, all_front P ls d h.1)
+
+-- the line behind early ones is early, or it is the first `config|ready`
+early_or_ready : (G : Grammar) (before ls : List (List ℕ)) (r y : List ℕ) (after d : List (List ℕ)) → AllByRecursion IsEarly before → AllByRecursion IsEarly ls → Reads r ReadyLine → ls ++ y ∷ d ≡ before ++ r ∷ after → Passed Waiting y
+early_or_ready G [] [] r y after d hb hl hr e =
+    let F : List ℕ → Type 0 = λ l. Reads l ReadyLine in
+    Early ReadyLine refl (subst F (sym (cons_head y r d after e)) hr) refl
+early_or_ready G [] (x ∷ ls) r y after d hb hl hr e =
+    let F : List ℕ → Type 0 = λ l. Reads l ReadyLine in
+    absurd (early_apart G.unique x hl.0 (subst F (sym (cons_head x r (ls ++ y ∷ d) after e)) hr))
+early_or_ready G (b ∷ before) [] r y after d hb hl hr e =
+    let F : List ℕ → Type 0 = IsEarly in
+    let (m, reads, early) = subst F (sym (cons_head y b d (before ++ r ∷ after) e)) hb.0 in
+    Early m refl reads (early_plain m early)
+early_or_ready G (b ∷ before) (x ∷ ls) r y after d hb hl hr e = early_or_ready G before ls r y after d hb.1 hl.1 hr (cons_tail x b (ls ++ y ∷ d) (before ++ r ∷ after) e)
+
+ready_not_early : (G : Grammar) (ls : List (List ℕ)) (L : List Meaning) → IsReady ls L → AllByRecursion IsEarly ls → ⊥
+ready_not_early G ls L h all =
+    let F : List (List ℕ) → Type 0 = λ l. AllByRecursion IsEarly l in
+    early_apart G.unique h.ready (all_at IsEarly h.before h.ready h.after (subst F h.whole all)) h.reads_ready
+
+data Snoc (d : List (List ℕ)) : Type 0 where
+  Empty : d ≡ [] → Snoc d
+  Last : (front : List (List ℕ)) (z : List ℕ) → d ≡ front ++ z ∷ [] → Snoc d
+
+snoc : (d : List (List ℕ)) → Snoc d
+snoc [] = Empty refl
+snoc (x ∷ d) = one_more (snoc d)
+  where
+    one_more : Snoc d → Snoc (x ∷ d)
+    one_more (Empty e) = Last [] x (ap (λ l. x ∷ l) e)
+    one_more (Last front z e) = Last (x ∷ front) z (ap (λ l. x ∷ l) e)
+
+-- a line after others that were read was taken after what those say
+taken_at : (G : Grammar) (xs d : List (List ℕ)) (y : List ℕ) (L M : List Meaning) (steps : List Step) (text : List ℕ) → AreRead xs L → AreRead (xs ++ y ∷ d) M → Filters M steps text
+    → (m : Meaning) × Reads y m × (track_fault L m ≡ None)
+taken_at G xs d y L [] steps text h i f = absurd (no_lines xs i)
+  where
+    no_lines : (l : List (List ℕ)) → l ++ y ∷ d ≡ [] → ⊥
+    no_lines [] e = nil_cons y d (sym e)
+    no_lines (x ∷ l) e = nil_cons x (l ++ y ∷ d) (sym e)
+taken_at G xs d y L (m ∷ M) steps text h (before, line, whole, reads, rest) (step, b, written, next, filters, takes, e, g) = by_end (snoc d) (λ front read. taken_at G xs front y L M b written h read filters)
+  where
+    by_end : Snoc d → ((front : List (List ℕ)) → AreRead (xs ++ y ∷ front) M → (n : Meaning) × Reads y n × (track_fault L n ≡ None)) → (n : Meaning) × Reads y n × (track_fault L n ≡ None)
+    by_end (Empty none) again =
+        let F : List (List ℕ) → Type 0 = λ l. xs ++ y ∷ l ≡ before ++ line ∷ [] in
+        let (same, same_line) = push_front xs before y line (subst F none whole) in
+        let past : M ≡ L = same_read G.unique before xs M L (sym same) rest h in
+        let R : List ℕ → Type 0 = λ l. Reads l m in
+        (m, subst R (sym same_line) reads, ap (λ l. track_fault l m) (sym past) ∙ takes_sound M m step next takes)
+    by_end (Last front z more) again =
+        let F : List (List ℕ) → Type 0 = λ l. xs ++ y ∷ l ≡ before ++ line ∷ [] in
+        let (same, same_line) = push_front (xs ++ y ∷ front) before z line (append_assoc xs (y ∷ front) (z ∷ []) ∙ subst F more whole) in
+        let R : List (List ℕ) → Type 0 = λ l. AreRead l M in
+        again front (subst R (sym same) rest)
+
+passes : (G : Grammar) (ls : List (List ℕ)) (y : List ℕ) (d : List (List ℕ)) (stage stage' : Stage) (steps : List Step) (text : List ℕ) → Reaches ls stage → Reaches (ls ++ y ∷ d) stage' → HasText stage' steps text → Passed stage y
+passes G ls y d Waiting Waiting steps text h i t =
+    let (m, reads, early) = all_at IsEarly ls y d i in
+    Early m refl reads (early_plain m early)
+passes G ls y d Waiting (Running M) steps text h i t = early_or_ready G i.before ls i.ready y i.after d i.early h i.reads_ready i.whole
+passes G ls y d (Running L) Waiting steps text h i t = absurd (ready_not_early G ls L h (all_front IsEarly ls (y ∷ d) i))
+passes G ls y d (Running L) (Running M) steps text h i (results, filters, whole) =
+    let longer = ap (λ l. l ++ y ∷ d) h.whole ∙ append_assoc h.before (h.ready ∷ h.after) (y ∷ d) in
+    let after : h.after ++ y ∷ d ≡ i.after = same_after G.unique h.before i.before h.ready i.ready (h.after ++ y ∷ d) i.after h.early i.early h.reads_ready i.reads_ready (sym longer ∙ i.whole) in
+    let F : List (List ℕ) → Type 0 = λ l. AreRead l M in
+    let (m, reads, none) = taken_at G h.after d y L M steps results h.read (subst F (sym after) i.read) filters in
+    Taken L m refl reads none
+
+-- ---- two runs
+
+data Compared (ls next ms next' : List (List ℕ)) : Type 0 where
+  Equal : ls ≡ ms → next ≡ next' → Compared ls next ms next'
+  Further : (y : List ℕ) (d : List (List ℕ)) → ms ≡ ls ++ y ∷ d → next ≡ y ∷ (d ++ next') → Compared ls next ms next'
+  Shorter : (y : List ℕ) (d : List (List ℕ)) → ls ≡ ms ++ y ∷ d → next' ≡ y ∷ (d ++ next) → Compared ls next ms next'
+
+compare : (ls next ms next' : List (List ℕ)) → ls ++ next ≡ ms ++ next' → Compared ls next ms next'
+compare [] next [] next' e = Equal refl e
+compare [] next (y ∷ ms) next' e = Further y ms refl e
+compare (x ∷ ls) next [] next' e = Shorter x ls refl (sym e)
+compare (x ∷ ls) next (y ∷ ms) next' e = one_more (cons_head x y (ls ++ next) (ms ++ next') e) (compare ls next ms next' (cons_tail x y (ls ++ next) (ms ++ next') e))
+  where
+    one_more : x ≡ y → Compared ls next ms next' → Compared (x ∷ ls) next (y ∷ ms) next'
+    one_more h (Equal f g) = Equal (ap (λ z. z ∷ ls) h ∙ ap (λ l. y ∷ l) f) g
+    one_more h (Further z d f g) = Further z d (ap (λ l. y ∷ l) f ∙ ap (λ w. w ∷ (ls ++ z ∷ d)) (sym h)) g
+    one_more h (Shorter z d f g) = Shorter z d (ap (λ w. w ∷ ls) h ∙ ap (λ l. y ∷ l) f) g
+
+same_stage : (G : Grammar) (ls : List (List ℕ)) (stage stage' : Stage) → Reaches ls stage → Reaches ls stage' → stage ≡ stage'
+same_stage G ls Waiting Waiting h i = refl
+same_stage G ls Waiting (Running M) h i = absurd (ready_not_early G ls M i h)
+same_stage G ls (Running L) Waiting h i = absurd (ready_not_early G ls L h i)
+same_stage G ls (Running L) (Running M) h i = ap Running (same_lines G.unique ls ls L M refl h i)
+
+-- no run ends at a line that another one passed
+not_passed : (G : Grammar) (ls ms next more : List (List ℕ)) (y : List ℕ) (d : List (List ℕ)) (last : List ℕ) (stage stage' : Stage) (steps : List Step) (text : List ℕ) (o : Option FilterFault)
+    → Reaches ls stage → Reaches ms stage' → HasText stage' steps text → ms ≡ ls ++ y ∷ d → next ≡ y ∷ more → Fate stage next last o → ⊥
+not_passed G ls ms next more y d last stage stage' steps text o h i t e n (AtEnd none end) = nil_cons y more (sym none ∙ n)
+not_passed G ls ms next more y d last stage stage' steps text o h i t e n (AtLine line others same front) =
+    let F : List (List ℕ) → Type 0 = λ l. Reaches l stage' in
+    let passed : Passed stage y = passes G ls y d stage stage' steps text h (subst F e i) t in
+    let A : List ℕ → Type 0 = λ l. Front stage l o in
+    passed_on G stage y o (subst A (cons_head line y others more (sym same ∙ n)) front) passed
+
+-- two runs over the same lines come to the same place, and end there alike
+pub same_place : (G : Grammar) (ls ms next next' : List (List ℕ)) (last : List ℕ) (stage stage' : Stage) (steps steps' : List Step) (text text' : List ℕ) (a b : Option FilterFault)
+    → ls ++ next ≡ ms ++ next' → Reaches ls stage → HasText stage steps text → Reaches ms stage' → HasText stage' steps' text' → Fate stage next last a → Fate stage' next' last b
+    → (ls ≡ ms) × (stage ≡ stage') × (a ≡ b)
+same_place G ls ms next next' last stage stage' steps steps' text text' a b e h t i t' f g = by_place (compare ls next ms next' e)
+  where
+    by_place : Compared ls next ms next' → (ls ≡ ms) × (stage ≡ stage') × (a ≡ b)
+    by_place (Further y d more rest) = absurd (not_passed G ls ms next (d ++ next') y d last stage stage' steps' text' a h i t' more rest f)
+    by_place (Shorter y d more rest) = absurd (not_passed G ms ls next' (d ++ next) y d last stage' stage steps text b i h t more rest g)
+    by_place (Equal same rest) =
+        let F : List (List ℕ) → Type 0 = λ l. Reaches l stage' in
+        let stages : stage ≡ stage' = same_stage G ls stage stage' h (subst F (sym same) i) in
+        let A : List (List ℕ) → Type 0 = λ l. Fate stage l last a in
+        let B : Stage → Type 0 = λ s. Fate s next' last a in
+        (same, stages, same_fate G stage' next' last a b (subst B stages (subst A rest f)) g)

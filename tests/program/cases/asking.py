@@ -1,0 +1,173 @@
+"""`limit` and `report`, asked of the real server and of one that answers by a script."""
+import time
+
+from ends import RESET, SILENCE, Script, Server, free_port
+from wire import BAD, RETRY, frame, full, granted, identity, limit, number, page, page_reply, release, reserve, row, settle, text, usage
+
+ADMIN = {"host": b"admin", "run": 7}
+
+
+def run(world, checks):
+    of_the_real_server(world, checks)
+    pages_of_the_real_server(world, checks)
+    limit_by_script(world, checks)
+    usage_by_script(world, checks)
+    pages_by_script(world, checks)
+    device_that_is_full(world, checks)
+
+
+def set_limit(world, address, *, cap, start=1, login="u", run=7, **more):
+    words = ["--server", address, "--host", "admin", "--login", login, "--from", str(start), "--cap", str(cap)]
+    return world.run("limit", *words, "--run", str(run), **more)
+
+
+def report(world, address, *, day=1, login=None, **more):
+    return world.run("report", "--server", address, "--day", str(day), *(["--login", login] if login is not None else []), **more)
+
+
+def fault(message, output=b""):
+    return (1, output, f"mailquota: {message}\n")
+
+
+def of_the_real_server(world, checks):
+    """Three reserved, then reserve twice and settle once: what limits and reports say."""
+    with Server(world) as server:
+        address = server.address
+        checks.equal("report of nobody", report(world, address), (0, b"", ""))
+        checks.equal("report of a login without a recipient", report(world, address, login="u"), (0, b"      0       0       3 u\n", ""))
+        three = reserve(1) + reserve(2, count=2) + reserve(3)
+        checks.equal("three reserves at the cap", server.ask(three), granted(1, 1) + granted(2, 3) + full(3, 3, 3))
+        checks.equal("limit 2 where 3 are used", set_limit(world, address, cap=2, run=1), fault("over day 1 used 3"))
+        checks.equal("limit 3 where 3 are used", set_limit(world, address, cap=3, run=2), (0, b"set\n", ""))
+        checks.equal("limit 0 from the next day on", set_limit(world, address, cap=0, start=2, run=3), (0, b"set\n", ""))
+        checks.equal("limit 2 from day 0 on", set_limit(world, address, cap=2, start=0, run=4), fault("over day 1 used 3"))
+        checks.equal("the same limit under its number again", set_limit(world, address, cap=3, run=2), (0, b"set\n", ""))
+        checks.equal("another limit under that number", set_limit(world, address, cap=4, run=2), fault("number used with another limit"))
+        checks.equal("the refused limit under its number again", set_limit(world, address, cap=2, run=1), fault("over day 1 used 3"))
+        checks.equal("report of day 2", report(world, address, day=2, login="u"), (0, b"      0       0       0 u\n", ""))
+        checks.equal("a limit without --run", world.run("limit", "--server", address, "--host", "admin", "--login", "u", "--from", "1", "--cap", "9"), (0, b"set\n", ""))
+        checks.equal("report of day 1", report(world, address, login="u"), (0, b"      0       3       9 u\n", ""))
+        checks.equal("greatest values", set_limit(world, address, cap=1_000_000, start=376_200, run=281_474_976_710_655), (0, b"set\n", ""))
+        checks.equal("the server's log", server.log_lines(), [])
+    with Server(world) as server:
+        twice = reserve(1) + reserve(2) + settle(3)
+        server.ask(twice)
+        checks.equal("report after two reserves and a settle of 1", report(world, server.address, login="u"), (0, b"      1       0       3 u\n", ""))
+        checks.equal("the same without --login", report(world, server.address), (0, b"      1       0       3 u\n", ""))
+        logins = [b"a b\\", b"\xff\xfe", b"z", b"\x1b[2J", b"~", b"\x7f"]
+        server.ask(b"".join(reserve(n, txn=n, login=login) for n, login in enumerate(logins, start=10)))
+        shown = [r"\x1b[2J", r"a\x20b\x5c", "u", "z", "~", r"\x7f", r"\xff\xfe"]
+        counts = {"u": "      1       0       3 "}
+        lines = "".join(counts.get(name, "      0       1       3 ") + name + "\n" for name in shown)
+        checks.equal("logins of any bytes, in byte order", report(world, server.address), (0, lines.encode(), ""))
+
+
+def pages_of_the_real_server(world, checks):
+    with Server(world) as server:
+        for count in (99, 100, 101, 200, 250):
+            logins = [b"u%03d" % n for n in range(count)]
+            day = count
+            asked = b"".join(reserve(1000 * count + n, txn=1000 * count + n, login=login, at=86_400 * day) for n, login in enumerate(logins))
+            server.ask(asked)
+            lines = b"".join(b"      0       1       3 " + login + b"\n" for login in logins)
+            checks.equal(f"report of {count} logins", report(world, server.address, day=day), (0, lines, ""))
+
+
+def limit_by_script(world, checks):
+    asked = limit(1, 1, 5, **ADMIN)
+    good = frame(b"\x85" + identity(1, **ADMIN))
+    unavailable = fault("quota service unavailable")
+    cases = [
+        ("set at once", [good], 1, (0, b"set\n", "")),
+        ("set at the third try", [b"", RETRY, good], 3, (0, b"set\n", "")),
+        ("over", [frame(b"\x86" + identity(1, **ADMIN) + number(4) + number(9))], 1, fault("over day 4 used 9")),
+        ("conflict", [frame(b"\x8a" + identity(1, **ADMIN))], 1, fault("number used with another limit")),
+        ("a reply of another number, thrice", [frame(b"\x85" + identity(2, **ADMIN))] * 3, 3, unavailable),
+        ("a reply of another run, thrice", [frame(b"\x85" + identity(1, host=b"admin", run=8))] * 3, 3, unavailable),
+        ("another host's over, thrice", [frame(b"\x86" + identity(1) + number(4) + number(9))] * 3, 3, unavailable),
+        ("a reply of another kind, thrice", [granted(1, 1, **ADMIN)] * 3, 3, unavailable),
+        ("closed, thrice", [frame(b"\x87" + identity(1, **ADMIN))] * 3, 3, unavailable),
+        ("bad, thrice", [BAD] * 3, 3, unavailable),
+        ("garbage, a reset and a cut", [b"HTTP/1.1 400", RESET, good[:-1]], 3, unavailable),
+        ("a length of 0 and no more", [b"\x00\x00"], 1, unavailable),
+    ]
+    for what, script, times, wanted in cases:
+        with Script(script) as server:
+            if len(script) < 3 and wanted == unavailable:
+                server.answers += [b""] * 2
+                times = 3
+            came = set_limit(world, server.address, cap=5)
+        checks.equal(f"limit, {what}", (came, server.heard), (wanted, [asked] * times))
+    checks.equal("limit without a server", set_limit(world, f"127.0.0.1:{free_port()}", cap=5), unavailable)
+    with Script([SILENCE] * 3) as server:
+        start = time.monotonic()
+        came = set_limit(world, server.address, cap=5)
+        took = time.monotonic() - start
+    checks.equal("limit of a silent server", (came, server.heard), (unavailable, [asked] * 3))
+    checks.holds("limit of a silent server: three tries of 2,000 ms", 5.9 < took < 8, "6 s", f"{took:.1f} s")
+
+
+def usage_reply(login=b"u", day=1):
+    return frame(b"\x8b" + text(login) + number(day) + number(1) + number(20) + number(300))
+
+
+def usage_by_script(world, checks):
+    line = b"      1      20     300 u\n"
+    unavailable = fault("quota service unavailable")
+    for what, script, times, wanted in [
+        ("at once", [usage_reply()], 1, (0, line, "")),
+        ("at the third try", [BAD, b"", usage_reply()], 3, (0, line, "")),
+        ("of another login, then its own", [usage_reply(b"v"), usage_reply()], 2, (0, line, "")),
+        ("of another day, thrice", [usage_reply(day=2)] * 3, 3, unavailable),
+        ("a page, thrice", [page_reply([])] * 3, 3, unavailable),
+        ("greatest numbers", [frame(b"\x8b" + text(b"u") + number(1) + number(1_000_000) * 3)], 1, (0, b"1000000 1000000 1000000 u\n", "")),
+        ("a number of 1,000,001, thrice", [frame(b"\x8b" + text(b"u") + number(1) + number(1_000_001) * 3)] * 3, 3, unavailable),
+    ]:
+        with Script(script) as server:
+            came = report(world, server.address, login="u")
+        checks.equal(f"report of a login, {what}", (came, server.heard), (wanted, [usage()] * times))
+    checks.equal("report without a server", report(world, f"127.0.0.1:{free_port()}"), unavailable)
+
+
+def rows_of(names):
+    return [row(name, 1, 2, 3) for name in names]
+
+
+def lines_of(names):
+    return b"".join(b"      1       2       3 " + name + b"\n" for name in names)
+
+
+def pages_by_script(world, checks):
+    first = [b"a%02d" % n for n in range(100)]
+    behind = [page(), page(after=first[-1])]
+    bad = fault("bad page")
+    for what, script, asked, wanted in [
+        ("an empty page", [page_reply([])], [page()], (0, b"", "")),
+        ("a full page and an empty one", [page_reply(rows_of(first)), page_reply([])], behind, (0, lines_of(first), "")),
+        ("a full page and one row", [page_reply(rows_of(first)), page_reply(rows_of([b"b"]))], behind, (0, lines_of(first + [b"b"]), "")),
+        ("the second page at its third try", [page_reply(rows_of(first)), b"", RETRY, page_reply([])], behind + behind[1:] * 2, (0, lines_of(first), "")),
+        ("a page that descends", [page_reply(rows_of([b"b", b"a"]))], [page()], bad),
+        ("a login twice", [page_reply(rows_of([b"a", b"a"]))], [page()], bad),
+        ("a shorter login behind a longer", [page_reply(rows_of([b"aa", b"a"]))], [page()], bad),
+        ("bytes above 127 count as high", [page_reply(rows_of([b"z", b"\xc3"]))], [page()], (0, b"      1       2       3 z\n      1       2       3 \\xc3\n", "")),
+        ("a page of another day", [page_reply(rows_of([b"a"]), day=2)], [page()], bad),
+        ("an empty page of another day", [page_reply([], day=2)], [page()], bad),
+        ("a second page that begins with the last login", [page_reply(rows_of(first)), page_reply(rows_of(first[-1:]))], behind, fault("bad page", lines_of(first))),
+        ("the same full page again", [page_reply(rows_of(first))] * 2, behind, fault("bad page", lines_of(first))),
+        ("no second page", [page_reply(rows_of(first)), b"", b"", b""], behind + behind[1:] * 2, fault("quota service unavailable", lines_of(first))),
+        ("a page of 101 rows, thrice", [page_reply(rows_of(first + [b"b"]))] * 3, [page()] * 3, fault("quota service unavailable")),
+    ]:
+        with Script(script) as server:
+            came = report(world, server.address)
+        checks.equal(f"report, {what}", (came, server.heard), (wanted, asked))
+
+
+def device_that_is_full(world, checks):
+    with Server(world) as server, open("/dev/full", "wb") as device:
+        server.ask(reserve(1) + release(2))
+        for what, came in [
+            ("limit", set_limit(world, server.address, cap=5, output=device)),
+            ("report", report(world, server.address, output=device)),
+            ("report of a login", report(world, server.address, login="u", output=device)),
+        ]:
+            checks.equal(f"{what} to a full device", (came[0], came[2]), (1, "mailquota: write failed\n"))

@@ -1,0 +1,82 @@
+"""Settings of the filter: accepted ones end in the refusal of an empty input, so that nothing is asked."""
+from ends import free_port
+
+ACCEPTED = "input ended before config ready"
+GOOD = {"host": '"mx1"', "server": '"127.0.0.1:7025"'}
+
+
+def text_of(**settings):
+    return "".join(f"{key} = {value}\n" for key, value in {**GOOD, **settings}.items() if value is not None)
+
+
+def run(world, checks):
+    files(world, checks)
+    order(world, checks)
+    values(world, checks)
+
+
+def expect(world, checks, what, content, wanted):
+    came = world.run("filter", "--config", world.new_file(content), "--run", "1")
+    checks.equal(f"filter settings, {what}", came, (1, b"", f"mailquota: {wanted}\n"))
+
+
+def files(world, checks):
+    for what, path in [("no file", f"{world.folder}/none"), ("a folder", world.folder), ("an empty path", "")]:
+        came = world.run("filter", "--config", path)
+        checks.equal(f"filter settings, {what}", came, (1, b"", "mailquota: settings can't be read\n"))
+    text = text_of()
+    expect(world, checks, "65,536 bytes", text + "#" * (65_536 - len(text)), ACCEPTED)
+    expect(world, checks, "65,537 bytes", text + "#" * (65_537 - len(text)), "settings too large")
+    came = world.run("filter", "--config", "/dev/zero")
+    checks.equal("filter settings, a file without end", came, (1, b"", "mailquota: settings too large\n"))
+    for what, content in [
+        ("no TOML", "host"),
+        ("bytes that are no text", b'host = "\xff\xfe"\n'),
+        ("a key twice", text_of() + 'host = "mx2"\n'),
+        ("random bytes", bytes(range(256))),
+        ("an open string", 'host = "mx1\n'),
+    ]:
+        expect(world, checks, what, content, "settings are not TOML")
+
+
+def order(world, checks):
+    expect(world, checks, "empty", "", "setting host: missing")
+    expect(world, checks, "host alone", 'host = "mx1"\n', "setting server: missing")
+    expect(world, checks, "host and server", text_of(), ACCEPTED)
+    expect(world, checks, "an unknown key", text_of(hots=1), "setting hots: unknown")
+    expect(world, checks, "two unknown keys, the least in byte order", text_of(zone=1, Zone=2, y=3), "setting Zone: unknown")
+    expect(world, checks, "an unknown key before what is missing", "hots = 1\n", "setting hots: unknown")
+    expect(world, checks, "no TOML before an unknown key", "hots = 1\nhots = 2\n", "settings are not TOML")
+    expect(world, checks, "a key of the server", text_of(listen='"127.0.0.1:1"'), "setting listen: unknown")
+    expect(world, checks, "a subtable", text_of() + "[more]\na = 1\n", "setting more: unknown")
+    expect(world, checks, "a subtable under a key", text_of(tries=None) + "[tries]\na = 1\n", "setting tries: bad value")
+    expect(world, checks, "host bad, server missing", "host = 1\n", "setting host: bad value")
+    expect(world, checks, "server bad, host missing", 'server = "x"\n', "setting host: missing")
+    expect(world, checks, "server, tries, timeout and log bad", text_of(server="1", tries=0, timeout=0, log="0"), "setting server: bad value")
+    expect(world, checks, "tries, timeout and log bad", text_of(tries=0, timeout=0, log="0"), "setting tries: bad value")
+    expect(world, checks, "timeout and log bad", text_of(timeout=0, log="0"), "setting timeout: bad value")
+
+
+def values(world, checks):
+    port = free_port()
+    host_64, host_65 = '"' + "a" * 64 + '"', '"' + "a" * 65 + '"'
+    accepted = [
+        ("host", [host_64, '"a"', '"Mx-1.example.org"']),
+        ("server", [f'"127.0.0.1:{port}"', '"[::1]:7025"', '"127.0.0.1:65535"', "'10.0.0.1:1'"]),
+        ("tries", ["1", "10", "0x0a"]),
+        ("timeout", ["1", "60000", "60_000"]),
+        ("log", ['"off"', '"error"', '"warn"', '"info"']),
+    ]
+    refused = [
+        ("host", ['""', host_65, '"a_b"', '"mx1 "', '"m\u00fc"', "1", "true", '["mx1"]', "{}"]),
+        ("server", ['"localhost:7025"', '"127.0.0.1"', '"127.0.0.1:65536"', '"127.0.0.1:x"', '"127.0.1:1"', '":7025"', '""', "7025"]),
+        ("tries", ["0", "11", "-1", '"3"', "3.0", "true", "[3]", "9223372036854775807"]),
+        ("timeout", ["0", "60001", "-1", '"2000"', "2000.0", "1979-05-27"]),
+        ("log", ['"debug"', '"trace"', '"WARN"', '"warning"', '""', "1", "true"]),
+    ]
+    for key, spellings in accepted:
+        for value in spellings:
+            expect(world, checks, f"{key} = {value[:30]}", text_of(**{key: value}), ACCEPTED)
+    for key, spellings in refused:
+        for value in spellings:
+            expect(world, checks, f"{key} = {value[:30]}", text_of(**{key: value}), f"setting {key}: bad value")

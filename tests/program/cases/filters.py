@@ -1,0 +1,255 @@
+"""The filter on standard input and output, with a server that answers by a script."""
+import select
+import socket
+import subprocess
+import time
+
+from ends import RESET, SECONDS, SILENCE, Script, free_port
+from wire import BAD, RETRY, frame, granted, identity, number, reserve, settled
+
+REGISTRATION = b"".join(
+    line + b"\n"
+    for line in [
+        b"register|report|smtp-in|link-auth",
+        b"register|report|smtp-in|link-disconnect",
+        b"register|report|smtp-in|tx-begin",
+        b"register|report|smtp-in|tx-commit",
+        b"register|report|smtp-in|tx-rollback",
+        b"register|report|smtp-in|tx-reset",
+        b"register|filter|smtp-in|rcpt-to",
+        b"register|ready",
+    ]
+)
+CONFIG = b"config|smtpd-version|6.6.1\nconfig|smtp-session-timeout|300\nconfig|subsystem|smtp-in\nconfig|ready\n"
+AUTH = b"report|0.7|1576146008.006099|smtp-in|link-auth|7641df9771b4ed00|pass|alice\n"
+BEGIN = b"report|0.7|1576146009.006099|smtp-in|tx-begin|7641df9771b4ed00|4c56d3a1\n"
+RCPT = b"filter|0.7|1576146010.006099|smtp-in|rcpt-to|7641df9771b4ed00|1ef1c203cc576e5d|bob@example.org\n"
+COMMIT = b"report|0.7|1576146011.006099|smtp-in|tx-commit|7641df9771b4ed00|4c56d3a1|1200\n"
+RESET_LINE = b"report|0.7|1576146012.006099|smtp-in|tx-reset|7641df9771b4ed00|4c56d3a1\n"
+INPUT = CONFIG + AUTH + BEGIN + RCPT
+
+RESERVE = bytes.fromhex("0027" "01" "036d7831" "0000000000000001" "00000001" "00000001" "000000005df21459" "05616c696365" "00000001")
+GRANTED = frame(bytes.fromhex("81" "036d7831" "0000000000000001" "00000001" "00000001"))
+FULL = frame(bytes.fromhex("82" "036d7831" "0000000000000001" "00000001" "00000003" "00000003"))
+SETTLE = bytes.fromhex("0027" "02" "036d7831" "0000000000000001" "00000002" "00000001" "000000005df21459" "05616c696365" "00000001")
+SETTLED = frame(bytes.fromhex("83" "036d7831" "0000000000000001" "00000002" "00000001"))
+RELEASE = bytes.fromhex("0023" "03" "036d7831" "0000000000000001" "00000002" "00000001" "000000005df21459" "05616c696365")
+RELEASED = frame(bytes.fromhex("84" "036d7831" "0000000000000001" "00000002" "00000001"))
+MX1 = {"host": b"mx1"}
+
+
+def answer(result, session=b"7641df9771b4ed00", token=b"1ef1c203cc576e5d"):
+    return b"filter-result|" + session + b"|" + token + b"|" + result + b"\n"
+
+
+PROCEED = b"proceed"
+LIMIT = b"reject|550 daily recipient limit reached"
+SERVICE = b"reject|451 quota service unavailable"
+
+
+def run(world, checks):
+    one_recipient(world, checks)
+    tries(world, checks)
+    closings(world, checks)
+    warnings(world, checks)
+    no_server(world, checks)
+    without_a_question(world, checks)
+    faults(world, checks)
+    a_socket_that_breaks(world, checks)
+    a_thousand_recipients(world, checks)
+
+
+def scripted(world, checks, what, text, script, *, results, frames, status=0, errors=None, **settings):
+    """Runs the filter; compares lines written, frames heard and the status, and the errors where they are given."""
+    with Script(script) as server:
+        came_status, output, came_errors = world.filter(server.address, text, **settings)
+    checks.equal(f"{what}: the lines", output, REGISTRATION + b"".join(results))
+    checks.equal(f"{what}: the frames", server.heard, frames)
+    checks.equal(f"{what}: the status", came_status, status)
+    if errors is not None:
+        checks.equal(f"{what}: standard error", came_errors, errors)
+    return came_errors
+
+
+def one_recipient(world, checks):
+    scripted(world, checks, "one recipient, granted", INPUT, [GRANTED], results=[answer(PROCEED)], frames=[RESERVE], errors="")
+    scripted(world, checks, "one recipient, full", INPUT, [FULL], results=[answer(LIMIT)], frames=[RESERVE], errors="")
+    text = INPUT + COMMIT + RESET_LINE
+    scripted(world, checks, "a commit settles, the reset after it does nothing", text, [GRANTED, SETTLED], results=[answer(PROCEED)], frames=[RESERVE, SETTLE], errors="")
+    scripted(world, checks, "a reset releases", INPUT + RESET_LINE, [GRANTED, RELEASED], results=[answer(PROCEED)], frames=[RESERVE, RELEASE], errors="")
+    scripted(world, checks, "a commit after a full answer releases", INPUT + COMMIT, [FULL, RELEASED], results=[answer(LIMIT)], frames=[RESERVE, RELEASE], errors="")
+    swapped = INPUT.replace(b"|pass|alice", b"|alice|pass")
+    scripted(world, checks, "name before result", swapped, [GRANTED], results=[answer(PROCEED)], frames=[RESERVE], errors="")
+
+
+def tries(world, checks):
+    other_number = granted(2, 1, **MX1)
+    other_host = granted(1, 1, host=b"mx2")
+    other_run = granted(1, 1, run=2, **MX1)
+    good = [
+        ("a reply of another number", other_number),
+        ("a reply of another host", other_host),
+        ("a reply of another run", other_run),
+        ("a reply cut in its body", GRANTED[:-1]),
+        ("a reply cut in its length", GRANTED[:1]),
+        ("no reply", b""),
+        ("a length of 0", b"\x00\x00"),
+        ("a length of 65,535 and little more", b"\xff\xff" + GRANTED),
+        ("a reply that is none", frame(b"\x90garbage")),
+        ("a reply with a byte left over", frame(GRANTED[2:] + b"\x00")),
+        ("a reply that asks for another try", RETRY),
+        ("a reply that tells of a bad frame", BAD),
+        ("a reply of another kind", settled(1, 1, **MX1)),
+        ("its own request", RESERVE),
+        ("a reset", RESET),
+        ("silence", SILENCE),
+    ]
+    for what, first in good:
+        scripted(world, checks, f"{what}, then the grant", INPUT, [first, GRANTED], results=[answer(PROCEED)], frames=[RESERVE] * 2, errors="", timeout=300)
+    for what, first in good:
+        errors = scripted(world, checks, f"{what}, twice, with tries = 2", INPUT, [first, first], results=[answer(SERVICE)], frames=[RESERVE] * 2, timeout=300, tries=2)
+        told(checks, f"{what}, twice", errors, 1, ["mx1", "alice", "transaction 1"])
+    scripted(world, checks, "a grant and more bytes", INPUT, [GRANTED + b"more"], results=[answer(PROCEED)], frames=[RESERVE], errors="")
+    scripted(world, checks, "ten tries, the tenth granted", INPUT, [b""] * 9 + [GRANTED], results=[answer(PROCEED)], frames=[RESERVE] * 10, errors="", tries=10)
+    for what, body in [("closed", b"\x87"), ("mismatch", b"\x88"), ("conflict", b"\x8a")]:
+        reply = frame(body + identity(1, **MX1))
+        scripted(world, checks, f"a reserve answered {what}: no second try", INPUT, [reply, GRANTED], results=[answer(SERVICE)], frames=[RESERVE])
+
+
+def closings(world, checks):
+    """A closing waits until a reply decides it, and is sent again with its own bytes."""
+    text = INPUT + COMMIT
+    scripted(world, checks, "a settle lost twice", text, [GRANTED, b"", b"", SETTLED], results=[answer(PROCEED)], frames=[RESERVE] + [SETTLE] * 3, errors="")
+    scripted(world, checks, "a settle lost three times is sent at the end", text, [GRANTED, b"", b"", b"", SETTLED], results=[answer(PROCEED)], frames=[RESERVE] + [SETTLE] * 4)
+    lost = [RESERVE] * 3 + [RELEASE] * 6
+    errors = scripted(world, checks, "every reply lost", text, [b""] * 9, results=[answer(SERVICE)], frames=lost)
+    told(checks, "every reply lost", errors, 3, ["mx1", "alice", "transaction 1"])
+
+
+def warnings(world, checks):
+    for what, body in [("closed", b"\x87"), ("mismatch", b"\x88"), ("conflict", b"\x8a")]:
+        reply = frame(body + identity(2, **MX1))
+        errors = scripted(world, checks, f"a settle answered {what}", INPUT + COMMIT, [GRANTED, reply], results=[answer(PROCEED)], frames=[RESERVE, SETTLE])
+        told(checks, f"a settle answered {what}", errors, 1, ["mx1", "alice", "transaction 1"])
+    reply = frame(b"\x89" + identity(2, **MX1) + number(0))
+    errors = scripted(world, checks, "a settle answered too many", INPUT + COMMIT, [GRANTED, reply], results=[answer(PROCEED)], frames=[RESERVE, SETTLE])
+    told(checks, "a settle answered too many", errors, 1, ["mx1", "alice", "transaction 1"])
+    for level in ("off", "error"):
+        scripted(world, checks, f'a lost reserve with log = "{level}"', INPUT, [b""] * 3, results=[answer(SERVICE)], frames=[RESERVE] * 3, errors="", log=level)
+    login = b"a\x1b[2J \\" + b"x" * 200
+    long = INPUT.replace(b"alice", login)
+    asked = reserve(1, login=login, at=1_576_146_009, **MX1)
+    errors = scripted(world, checks, "a login with bytes for a terminal", long, [b""] * 3, results=[answer(SERVICE)], frames=[asked] * 3)
+    checks.holds("a login with bytes for a terminal: the log", "\x1b" not in errors and "a\\x1b[2J\\x20\\x5cx" in errors, "a\\x1b[2J\\x20\\x5cx.. and no byte of it raw", errors)
+
+
+def told(checks, what, errors, count, words):
+    lines = errors.splitlines()
+    good = len(lines) == count and all(word in line for word in words for line in lines)
+    checks.holds(f"{what}: the log", good, f"{count} lines, each with {', '.join(words)}", lines)
+
+
+def no_server(world, checks):
+    text = INPUT + COMMIT
+    status, output, errors = world.filter(f"127.0.0.1:{free_port()}", text)
+    checks.equal("no server: lines and status", (status, output), (0, REGISTRATION + answer(SERVICE)))
+    told(checks, "no server: reserve, release at the commit, release at the end", errors, 3, ["mx1", "alice", "transaction 1"])
+    with socket.socket() as listener:
+        listener.bind(("127.0.0.1", 0))
+        listener.listen(0)
+        address = listener.getsockname()
+        waiting = []
+        for _ in range(3):
+            peer = socket.socket()
+            peer.setblocking(False)
+            peer.connect_ex(address)
+            waiting.append(peer)
+        time.sleep(0.1)
+        start = time.monotonic()
+        status, output, errors = world.filter(f"127.0.0.1:{address[1]}", INPUT, tries=2, timeout=300)
+        took = time.monotonic() - start
+        for peer in waiting:
+            peer.close()
+    checks.equal("a server that accepts nothing: lines and status", (status, output), (0, REGISTRATION + answer(SERVICE)))
+    checks.holds("a server that accepts nothing: the timeout of a connect", 0.55 < took < 2, "2 tries of 300 ms", f"{took:.2f} s")
+    with Script([SILENCE, SILENCE, SILENCE]) as server:
+        start = time.monotonic()
+        status, output, _ = world.filter(server.address, INPUT, timeout=200)
+        took = time.monotonic() - start
+    checks.holds("a silent server: 3 tries of 200 ms", (status, output) == (0, REGISTRATION + answer(SERVICE)) and 0.55 < took < 2, "451 after 600 ms", (output, f"{took:.2f} s"))
+
+
+def without_a_question(world, checks):
+    """Requests that are answered with nothing sent."""
+    cases = [
+        ("no login", CONFIG + BEGIN + RCPT, PROCEED),
+        ("a login that failed", CONFIG + AUTH.replace(b"pass", b"fail") + BEGIN + RCPT, PROCEED),
+        ("an empty login", CONFIG + AUTH.replace(b"|alice", b"") + BEGIN + RCPT, SERVICE),
+        ("a login of 256 bytes", CONFIG + AUTH.replace(b"alice", b"a" * 256) + BEGIN + RCPT, SERVICE),
+        ("no transaction", CONFIG + AUTH + RCPT, SERVICE),
+        ("a transaction that ended", CONFIG + AUTH + BEGIN + RESET_LINE + RCPT, SERVICE),
+        ("a transaction before the first day", CONFIG + AUTH + BEGIN.replace(b"1576146009", b"0000086399") + RCPT, SERVICE),
+        ("a transaction after the year 3000", CONFIG + AUTH + BEGIN.replace(b"1576146009", b"32503680001") + RCPT, SERVICE),
+        ("another phase", INPUT.replace(b"rcpt-to", b"mail-from"), PROCEED),
+        ("another subsystem", INPUT.replace(b"filter|0.7|1576146010.006099|smtp-in", b"filter|0.7|1576146010.006099|smtp-out"), PROCEED),
+        ("a session that went", CONFIG + AUTH + BEGIN + b"report|0.7|1576146009.1|smtp-in|link-disconnect|7641df9771b4ed00\n" + RCPT, PROCEED),
+    ]
+    for what, text, result in cases:
+        with Script([GRANTED]) as server:
+            came = world.filter(server.address, text)
+        checks.equal(f"{what}: status, lines, errors, frames", (*came, server.heard), (0, REGISTRATION + answer(result), "", []))
+
+
+def faults(world, checks):
+    """What ends the filter: status 1, one line of error, and what was written stays."""
+    ready = CONFIG
+    cases = [
+        ("an empty input", b"", b"", "input ended before config ready"),
+        ("an end before ready", b"config|subsystem|smtp-in\n", b"", "input ended before config ready"),
+        ("a report before ready", AUTH + CONFIG, b"", "line before config ready"),
+        ("a request before ready", RCPT, b"", "line before config ready"),
+        ("an end inside a line", ready + AUTH[:-1], REGISTRATION, "input ends inside a line"),
+        ("another version", ready + AUTH + BEGIN + RCPT.replace(b"0.7", b"0.6").replace(b"rcpt-to", b"mail-from"), REGISTRATION, "line refused: version"),
+        ("a report with five fields", ready + b"report|0.7|1.0|smtp-in|link-auth\n", REGISTRATION, "line refused: short"),
+        ("a time without a point", ready + AUTH.replace(b".006099", b""), REGISTRATION, "line refused: time"),
+        ("an empty session", ready + AUTH.replace(b"7641df9771b4ed00", b""), REGISTRATION, "line refused: empty field"),
+        ("an auth without a result", ready + AUTH.replace(b"pass|alice", b"a|b"), REGISTRATION, "report refused: auth"),
+        ("a begin without a message", ready + BEGIN.replace(b"|4c56d3a1", b""), REGISTRATION, "report refused: message"),
+        ("65,537 bytes without an end", ready + b"x" * 65_537, REGISTRATION, "line too long"),
+    ]
+    for what, text, written, error in cases:
+        came = world.filter("127.0.0.1:1", text)
+        checks.equal(f"{what}: status, lines, errors", came, (1, written, f"mailquota: {error}\n"))
+    came = world.filter("127.0.0.1:1", ready + b"x" * 65_536 + b"\n" + b"\n" + b"anything|else\n")
+    checks.equal("a line of 65,536 bytes, an empty and a strange one: passed over", came, (0, REGISTRATION, ""))
+    with open("/dev/full", "wb") as device:
+        file = world.filter_file("127.0.0.1:1")
+        status, _, errors = world.run("filter", "--config", file, text=CONFIG, output=device)
+    checks.equal("an output that takes nothing", (status, errors), (1, "mailquota: write failed\n"))
+    with Script([GRANTED]) as server:
+        came = world.filter(server.address, INPUT + b"report|0.6|")
+    checks.equal("an end inside a line after an answer", came, (1, REGISTRATION + answer(PROCEED), "mailquota: input ends inside a line\n"))
+
+
+def a_socket_that_breaks(world, checks):
+    """smtpd's end is one socket pair: where it goes with lines unread, the filter's next read fails."""
+    ours, theirs = socket.socketpair()
+    words = [world.program, "filter", "--config", world.filter_file("127.0.0.1:1"), "--run", "1"]
+    process = subprocess.Popen(words, stdin=theirs, stdout=theirs, stderr=subprocess.PIPE)
+    theirs.close()
+    ours.sendall(CONFIG)
+    select.select([ours], [], [], SECONDS)
+    ours.close()
+    _, errors = process.communicate(timeout=SECONDS)
+    checks.equal("a socket pair whose other end went", (process.returncode, errors), (1, b"mailquota: read failed\n"))
+
+
+def a_thousand_recipients(world, checks):
+    """A transaction lets 1,000 recipients through; the next isn't asked for."""
+
+    def grant(heard):
+        sequence = int.from_bytes(heard[15:19], "big")
+        return granted(sequence, sequence, **MX1)
+
+    wanted = [reserve(n, login=b"alice", at=1_576_146_009, **MX1) for n in range(1, 1001)]
+    scripted(world, checks, "1,001 recipients", CONFIG + AUTH + BEGIN + RCPT * 1001, [grant] * 1000, results=[answer(PROCEED)] * 1000 + [answer(SERVICE)], frames=wanted)

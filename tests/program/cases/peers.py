@@ -1,0 +1,223 @@
+"""What a peer may do to the server: it answers what is a request, logs what isn't, and goes on."""
+import random
+import socket
+import time
+
+from ends import Server, read_all, reset
+from wire import BAD, frame, full, granted, limit, number, page, page_reply, release, released, reserve, row, settle, settled, usage
+
+NOTHING_USED = bytes.fromhex("0013" "8b" "0175" "00000001" "00000000" "00000000" "00000003")
+
+
+def run(world, checks):
+    requests(world, checks)
+    bad_bytes(world, checks)
+    slow_and_broken(world, checks)
+    random_bytes(world, checks)
+    ends(world, checks)
+
+
+def goes_on(server, checks, what, before, *, word):
+    """One more line with the peer's address where a word is given, else none; the next peer is answered."""
+    checks.equal(f"{what}: the next connection", server.ask(usage()), NOTHING_USED)
+    lines = server.log_lines()[before:]
+    if word is None:
+        checks.equal(f"{what}: the log", lines, [])
+    else:
+        peer, said = word
+        good = len(lines) == 1 and peer in lines[0] and said in lines[0]
+        checks.holds(f"{what}: the log", good, f"one line with {peer} and '{said}'", lines)
+
+
+def name_of(peer):
+    host, port = peer.getsockname()[:2]
+    return f"[{host}]:{port}" if ":" in host else f"{host}:{port}"
+
+
+def requests(world, checks):
+    """Requests in order, each on a connection of its own, and what has to come."""
+    login = b"u"
+    exchanges = [
+        ("one reserve", "00210101610000000000000001000000010000000100000000000151800175" "00000001", "0013810161000000000000000100000001" "00000001"),
+        ("the same again", reserve(1).hex(), granted(1, 1).hex()),
+        ("another content under its number", reserve(1, count=2).hex(), "000f8a0161000000000000000100000001"),
+        ("a second reserve of 2", reserve(2, count=2).hex(), granted(2, 3).hex()),
+        ("a third above the limit", reserve(3).hex(), full(3, 3, 3).hex()),
+        ("the usage", usage(login).hex(), "00138b0175000000010000000000000003" "00000003"),
+        ("another host", reserve(1, host=b"b").hex(), full(1, 3, 3, host=b"b").hex()),
+        ("another login in the same transaction", reserve(4, login=b"v").hex(), "000f880161000000000000000100000004"),
+        ("a settle of too many", settle(5, count=4).hex(), "0013890161000000000000000100000005" "00000003"),
+        ("a settle of 1", settle(6).hex(), settled(6, 1).hex()),
+        ("a reserve after it", reserve(7).hex(), "000f870161000000000000000100000007"),
+        ("the list", page().hex(), page_reply([row(login, 1, 0, 3)]).hex()),
+        ("a release of an unheard transaction", release(8, txn=9).hex(), released(8, 0).hex()),
+        ("a limit below what was used", limit(9, 1, 0).hex(), "0017860161000000000000000100000009" "00000001" "00000001"),
+        ("a limit", limit(10, 1, 1).hex(), "000f85016100000000000000010000000a"),
+        ("a reserve above it", reserve(11, txn=2).hex(), full(11, 1, 1).hex()),
+    ]
+    with Server(world) as server:
+        for what, sent, wanted in exchanges:
+            checks.equal(f"a request, {what}", server.ask(bytes.fromhex(sent)).hex(), wanted)
+        checks.equal("all of them again on one connection, and the log", (
+            server.ask(b"".join(bytes.fromhex(sent) for what, sent, _ in exchanges if what not in ("the usage", "the list"))).hex(),
+            server.log_lines(),
+        ), ("".join(wanted for what, _, wanted in exchanges if what not in ("the usage", "the list")), []))
+    with Server(world, host="::1") as server:
+        checks.equal("a request over IPv6", server.ask(usage()), NOTHING_USED)
+
+
+def bad_bytes(world, checks):
+    good, reply = usage(), NOTHING_USED
+    cases = [
+        ("nothing, then the end", b"", b"", None),
+        ("one byte, then the end", b"\x00", b"", "cut frame"),
+        ("half a frame, then the end", reserve(1)[:20], b"", "cut frame"),
+        ("a frame but its last byte", reserve(1)[:-1], b"", "cut frame"),
+        ("a request and half a frame", good + good[:5], reply, "cut frame"),
+        ("words of another protocol", b"GET / HTTP/1.0\r\n\r\n", BAD, "bad frame"),
+        ("600 bytes of 255", b"\xff" * 600, BAD, "bad frame"),
+        ("600 bytes of 0", bytes(600), BAD, "bad frame"),
+        ("a length of 0", b"\x00\x00", BAD, "bad frame"),
+        ("a length of 513", b"\x02\x01", BAD, "bad frame"),
+        ("a length of 512 without a body", b"\x02\x00", b"", "cut frame"),
+        ("a body of 512 bytes of 7", b"\x02\x00" + b"\x07" * 512, BAD, "bad frame"),
+        ("a request with a byte left over", frame(good[2:] + b"\x00"), BAD, "bad frame"),
+        ("a reply in place of a request", granted(1, 1), BAD, "bad frame"),
+        ("a moment before the first day", reserve(1, at=86_399), BAD, "bad frame"),
+        ("a count of 0", reserve(1, count=0), BAD, "bad frame"),
+        ("a count of 1,001", reserve(1, count=1001), BAD, "bad frame"),
+        ("an empty login", reserve(1, login=b""), BAD, "bad frame"),
+        ("a host with a space", reserve(1, host=b"a "), BAD, "bad frame"),
+        ("a host of 65 bytes", reserve(1, host=b"a" * 65), BAD, "bad frame"),
+        ("a number of 0", reserve(0), BAD, "bad frame"),
+        ("a run of 0", reserve(1, run=0), BAD, "bad frame"),
+        ("a day of 376,201", usage(day=376_201), BAD, "bad frame"),
+        ("two requests, then a length of 0, then a request", good * 2 + b"\x00\x00" + good, reply * 2 + BAD, "bad frame"),
+    ]
+    with Server(world) as server:
+        for what, sent, wanted, word in cases:
+            before = len(server.log_lines())
+            peer = server.connect()
+            name = name_of(peer)
+            peer.sendall(sent)
+            peer.shutdown(socket.SHUT_WR)
+            checks.equal(f"{what}: the reply", read_all(peer), wanted)
+            peer.close()
+            goes_on(server, checks, what, before, word=word and (name, word))
+
+
+def slow_and_broken(world, checks):
+    with Server(world, timeout=400) as server:
+        for what, sent, wanted in [("a peer that sends nothing", b"", b""), ("half a frame and no more", reserve(1)[:9], b""), ("a request, then nothing", usage(), NOTHING_USED)]:
+            before, start = len(server.log_lines()), time.monotonic()
+            peer = server.connect()
+            peer.sendall(sent)
+            came = read_all(peer)
+            took = time.monotonic() - start
+            checks.equal(f"{what}: the reply", came, wanted)
+            checks.holds(f"{what}: the server's timeout ends it", 0.35 < took < 2, "after 400 ms", f"{took:.2f} s")
+            goes_on(server, checks, what, before, word=(name_of(peer), "read failed"))
+            peer.close()
+        before = len(server.log_lines())
+        peer = server.connect()
+        for byte in usage():
+            peer.sendall(bytes([byte]))
+            time.sleep(0.02)
+        peer.shutdown(socket.SHUT_WR)
+        checks.equal("a request byte by byte", read_all(peer), NOTHING_USED)
+        peer.close()
+        goes_on(server, checks, "a request byte by byte", before, word=None)
+        resets(server, checks)
+        waits_for_its_turn(server, checks)
+    a_peer_that_reads_nothing(world, checks)
+
+
+def resets(server, checks):
+    before = len(server.log_lines())
+    for sent in (b"", b"\x00", usage(), reserve(1)[:20]):
+        peer = server.connect()
+        peer.sendall(sent)
+        reset(peer)
+    checks.equal("connections that were reset: the next connection", server.ask(usage()), NOTHING_USED)
+    lines = server.log_lines()[before:]
+    checks.holds("connections that were reset: the log", len(lines) <= 4 and all("127.0.0.1:" in line for line in lines), "at most a line for each, with its address", lines)
+
+
+def waits_for_its_turn(server, checks):
+    """A silent peer holds the others back for the server's timeout, and no longer."""
+    start = time.monotonic()
+    silent = server.connect()
+    time.sleep(0.05)
+    came = server.ask(usage())
+    took = time.monotonic() - start
+    silent.close()
+    checks.holds("a request behind a silent peer", came == NOTHING_USED and 0.35 < took < 2, "its answer after 400 ms", (came, f"{took:.2f} s"))
+
+
+def a_peer_that_reads_nothing(world, checks):
+    """A page of ten logins of 255 bytes is 2,686 bytes; 10,000 of them don't fit into what the kernel keeps."""
+    with Server(world, timeout=400) as server:
+        logins = [b"%03d" % n + b"x" * 252 for n in range(10)]
+        sent = b"".join(reserve(n + 1, txn=n + 1, login=login) for n, login in enumerate(logins))
+        checks.equal("ten logins", server.ask(sent), b"".join(granted(n + 1, 1) for n in range(10)))
+        checks.equal("a page of ten long logins", server.ask(page()), page_reply([row(login, 0, 1, 3) for login in logins]))
+        before = len(server.log_lines())
+        peer = server.connect(room=4_096)
+        peer.sendall(page() * 10_000)
+        goes_on(server, checks, "a peer that reads nothing", before, word=(name_of(peer), "write failed"))
+        peer.close()
+
+
+def random_bytes(world, checks):
+    """Frames with a first byte that no request has, lengths of all sizes, cut anywhere."""
+    source = random.Random(7025)
+    wrong = []
+    rounds = 300
+    with Server(world) as server:
+        for _ in range(rounds):
+            length = source.choice([0, 1, 2, source.randrange(512), 511, 512, 513, source.randrange(65_536)])
+            body = bytes([source.randrange(7, 256)]) + source.randbytes(source.randrange(1, 700))
+            sent = number(length, 2) + body
+            whole = len(body) >= length
+            wanted = BAD if length == 0 or length > 512 or whole else b""
+            came = server.ask(sent)
+            if came != wanted:
+                wrong.append((sent, came))
+        checks.equal(f"{rounds} random frames: other replies than expected", wrong, [])
+        checks.equal("random frames: lines of the log, and the next connection", (len(server.log_lines()), server.ask(usage())), (rounds, NOTHING_USED))
+
+
+def ends(world, checks):
+    with Server(world) as server:
+        peer = server.connect()
+        peer.sendall(usage() * 9_999)
+        came = b""
+        while len(came) < len(NOTHING_USED) * 9_999:
+            came += peer.recv(65_536)
+        peer.sendall(usage() * 2)
+        came += read_all(peer)
+        checks.equal("10,001 requests on a connection: the answers", (len(came), came == NOTHING_USED * 10_000), (21 * 10_000, True))
+        goes_on(server, checks, "10,001 requests on a connection", 0, word=(name_of(peer), "enough"))
+        peer.close()
+    with Server(world, connections=3) as server:
+        for _ in range(2):
+            server.ask(usage())
+        server.ask(b"\x00\x00")
+        checks.equal("--connections 3, one of them bad: the status", server.status(), 0)
+        checks.equal("--connections 3: lines of the log", len(server.log_lines()), 1)
+    with Server(world, connections=1) as server:
+        peers = [server.connect()]
+        peers[0].sendall(usage())
+        peers[0].shutdown(socket.SHUT_WR)
+        checks.equal("--connections 1: reply and status", (read_all(peers[0]), server.status()), (NOTHING_USED, 0))
+    with Server(world, connections=2, log="off") as server:
+        server.ask(b"\x00\x00")
+        server.ask(b"\x00\x00")
+        checks.equal('log = "off": status and log', (server.status(), server.log_lines()), (0, []))
+    with Server(world) as one:
+        two = world.run("server", "--config", world.new_file(f'listen = "{one.address}"\nstore = "memory"\ndefault = 3\noffset = 0\n'))
+        checks.equal("a port in use", two, (1, b"", "mailquota: listen failed\n"))
+    with Server(world, offset=60) as server:
+        asked = reserve(1, at=1_576_105_199) + reserve(2, txn=2, at=1_576_105_200) + page(day=18_241) + page(day=18_242)
+        wanted = granted(1, 1) + granted(2, 1) + page_reply([row(b"u", 0, 1, 3)], day=18_241) + page_reply([row(b"u", 0, 1, 3)], day=18_242)
+        checks.equal("offset = 60: two moments around midnight are on two days", server.ask(asked), wanted)

@@ -1,0 +1,42 @@
+"""What a real smtpd 7.6 wrote, through the real filter and the real server."""
+from pathlib import Path
+
+from cases.filters import LIMIT, PROCEED, REGISTRATION, SERVICE, answer
+from ends import Server, free_port
+
+FOLDER = Path(__file__).parent.parent / "recordings"
+# the day of 1795329219 to 1795329227, in UTC: 20,779 whole days are 1,795,305,600 seconds
+DAY = 20_779
+ONE, TWO = (b"37ab31835d776ace", b"6e5fd6102582181a"), (b"8830003b8d1c8ffe", b"4d35946cb887bc94")
+THREE, FOUR = (b"d1214ca5ddd8451a", b"a90d6ef2fbf8626f"), (b"d1214ca6b2f3c582", b"a90d6ef2fbf8626f")
+
+
+def answers(*pairs):
+    return REGISTRATION + b"".join(answer(result, session, token) for result, (session, token) in pairs)
+
+
+def run(world, checks):
+    cases = [
+        ("reset", 3, answers((PROCEED, ONE), (PROCEED, ONE)), "      0       0       3 u01\n"),
+        ("reset", 1, answers((PROCEED, ONE), (LIMIT, ONE)), "      0       0       1 u01\n"),
+        ("two_messages", 3, answers((PROCEED, TWO), (PROCEED, TWO)), "      2       0       3 u01\n"),
+        ("two_messages", 1, answers((PROCEED, TWO), (LIMIT, TWO)), "      1       0       1 u01\n"),
+        (
+            "two_sessions", 3, answers((PROCEED, THREE), (PROCEED, FOUR), (PROCEED, THREE)),
+            "      0       0       3 u01\n      1       0       3 u02\n",
+        ),
+        ("two_sessions", 0, answers((LIMIT, THREE), (LIMIT, FOUR), (LIMIT, THREE)), ""),
+    ]
+    for name, default, wanted, report in cases:
+        text = (FOLDER / f"{name}.smtpd").read_bytes()
+        with Server(world, default=default) as server:
+            came = world.filter(server.address, text)
+            checks.equal(f"{name}, default {default}: status, lines, errors", came, (0, wanted, ""))
+            came = world.run("report", "--server", server.address, "--day", str(DAY))
+            checks.equal(f"{name}, default {default}: the report after it", came, (0, report.encode(), ""))
+            came = world.filter(server.address, text)
+            checks.equal(f"{name}, default {default}, the same run again: the server gives the same answers", came, (0, wanted, ""))
+            checks.equal(f"{name}, default {default}: the server's log", server.log_lines(), [])
+    text = (FOLDER / "two_sessions.smtpd").read_bytes()
+    status, output, _ = world.filter(f"127.0.0.1:{free_port()}", text)
+    checks.equal("two_sessions without a server", (status, output), (0, answers((SERVICE, THREE), (SERVICE, FOUR), (SERVICE, THREE))))

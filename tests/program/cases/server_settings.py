@@ -1,0 +1,74 @@
+"""Settings of the server: accepted ones end in the refusal of a port that is in use, so that nothing is served."""
+import socket
+
+ACCEPTED = "listen failed"
+
+
+def run(world, checks):
+    with socket.create_server(("127.0.0.1", 0)) as taken:
+        cases = Cases(world, checks, taken.getsockname()[1])
+        cases.files()
+        cases.order()
+        cases.values()
+
+
+class Cases:
+    def __init__(self, world, checks, port):
+        self.world = world
+        self.checks = checks
+        self.good = {"listen": f'"127.0.0.1:{port}"', "store": '"memory"', "default": "3", "offset": "0"}
+
+    def text_of(self, **settings):
+        return "".join(f"{key} = {value}\n" for key, value in {**self.good, **settings}.items() if value is not None)
+
+    def expect(self, what, content, wanted, *words):
+        came = self.world.run("server", "--config", self.world.new_file(content), *words)
+        self.checks.equal(f"server settings, {what}", came, (1, b"", f"mailquota: {wanted}\n"))
+
+    def files(self):
+        for what, path in [("no file", f"{self.world.folder}/none"), ("a folder", self.world.folder)]:
+            came = self.world.run("server", "--config", path)
+            self.checks.equal(f"server settings, {what}", came, (1, b"", "mailquota: settings can't be read\n"))
+        text = self.text_of()
+        self.expect("65,536 bytes", text + "#" * (65_536 - len(text)), ACCEPTED)
+        self.expect("65,537 bytes", text + "#" * (65_537 - len(text)), "settings too large")
+        self.expect("no TOML", "listen\n", "settings are not TOML")
+
+    def order(self):
+        keys = ["listen", "store", "default", "offset"]
+        for key in keys:
+            self.expect(f"{key} missing", self.text_of(**{key: None}), f"setting {key}: missing")
+        self.expect("empty", "", "setting listen: missing")
+        self.expect("all that is wanted, the port in use", self.text_of(), ACCEPTED)
+        self.expect("the same with --create", self.text_of(), ACCEPTED, "--create")
+        self.expect("an unknown key", self.text_of(tries=3), "setting tries: unknown")
+        self.expect("an unknown key before what is missing", "hots = 1\n", "setting hots: unknown")
+        self.expect("a key of the filter", self.text_of(host='"mx1"'), "setting host: unknown")
+        for first in range(len(keys)):
+            bad = {key: "{}" for key in keys[first:]}
+            self.expect(f"{', '.join(bad)} bad", self.text_of(**bad), f"setting {keys[first]}: bad value")
+        self.expect("timeout and log bad", self.text_of(timeout=0, log=0), "setting timeout: bad value")
+        self.expect("store missing, default bad", self.text_of(store=None, default='"x"'), "setting store: missing")
+
+    def values(self):
+        accepted = [
+            ("default", ["0", "1000000"]),
+            ("offset", ["-1439", "1439", "+60"]),
+            ("timeout", ["1", "60000"]),
+            ("log", ['"off"', '"error"', '"warn"', '"info"']),
+        ]
+        refused = [
+            ("listen", ['"localhost:7025"', '"127.0.0.1"', '"*:7025"', '"127.0.0.1:65536"', "7025", '""']),
+            ("store", ['"/var/db/mailquota"', '"Memory"', '""', "1", "true"]),
+            ("default", ["-1", "1000001", '"3"', "3.5", "true"]),
+            ("offset", ["-1440", "1440", '"0"', "0.0", "true"]),
+            ("timeout", ["0", "60001", '"300"', "300.0"]),
+            ("log", ['"debug"', '"Info"', "1"]),
+        ]
+        for key, spellings in accepted:
+            for value in spellings:
+                self.expect(f"{key} = {value}", self.text_of(**{key: value}), ACCEPTED)
+        for key, spellings in refused:
+            for value in spellings:
+                self.expect(f"{key} = {value}", self.text_of(**{key: value}), f"setting {key}: bad value")
+        self.expect("an address of another machine", self.text_of(listen='"192.0.2.1:7025"'), ACCEPTED)
