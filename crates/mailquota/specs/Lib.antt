@@ -1,11 +1,2 @@
 pub mod Arguments
-pub mod Asking
-pub mod Connections
-pub mod Exchange
 pub mod Faults
-pub mod Keys
-pub mod Output
-pub mod Printed
-pub mod Replay
-pub mod Report
-pub mod Settings

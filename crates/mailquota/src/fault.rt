@@ -1,10 +1,9 @@
 //! Why a subcommand isn't done.
 ghost use Rattle.std.specs.Prelude.{◌≡◌};
 
-use crate::file::FileFault;
-use crate::settings::SettingsFault;
 use mq_client::FilterFault;
 use mq_server::ServeFault;
+use mq_settings::{FileFault, SettingsFault};
 use std::alloc::{AllocError, AllocFailed};
 use std::io;
 use std::io::ErrorKind;

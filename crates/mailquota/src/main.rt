@@ -3,21 +3,11 @@
 
 mod admin;
 mod arguments;
-mod ask;
 mod clock;
-mod connections;
 mod fault;
-mod file;
 mod filter;
-mod limit;
-mod output;
-mod printed;
 mod program;
-mod replay;
-mod report;
 mod server;
-mod settings;
-mod tcp;
 #[cfg(test)]
 mod tests;
 

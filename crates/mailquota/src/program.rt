@@ -5,11 +5,10 @@ ghost use Rattle.mailquota.specs.Faults.{fault_status};
 
 use crate::admin::{limit, report};
 use crate::arguments::{Arguments, ArgumentsFault, ReplayArguments, read_arguments};
-use crate::connections::LIMIT;
 use crate::fault::{ProgramFault, or_memory};
 use crate::filter::filter;
-use crate::replay::run_replay;
 use crate::server::server;
+use mq_command::{TEXT_LIMIT, run_replay};
 use mq_ledger::Zone;
 use std::io::{BufWriter, Read, Write};
 use std::net::{Net, TcpListener, TcpStream};
@@ -87,7 +86,7 @@ fn replay<R: Input + Print + AllocGlobal, E: Write>(
 {
     let mut text = Vec::new(rt.alloc());
     rt.reader()
-        .take(LIMIT as u64 + 1)
+        .take(TEXT_LIMIT as u64 + 1)
         .read_to_end(&mut text)
         .map_err(|e| or_memory(&e, ProgramFault::Read))?;
     let zone = Zone::of_offset(given.offset).unwrap();

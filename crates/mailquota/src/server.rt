@@ -5,13 +5,12 @@ ghost use Rattle.mq_ledger.specs.Day.{IsOffset};
 
 use crate::arguments::ServerArguments;
 use crate::fault::ProgramFault;
-use crate::file::read_file;
-use crate::settings::{Place, ServerSettings, read_server_settings};
 use log::sink::Console;
 use log::{Log, Logged, info, warn};
 use mq_frame::{FromRead, ToWrite};
 use mq_ledger::{Ledger, PlainLedger, Zone};
 use mq_server::{ServeFault, Served, serve};
+use mq_settings::{Place, ServerSettings, read_file, read_server_settings};
 use std::alloc::Global;
 use std::io;
 use std::io::ErrorKind;

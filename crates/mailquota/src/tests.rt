@@ -1,12 +1,6 @@
-//! The worked examples, printed texts, and each public function once with ample memory.
+//! The command line, the texts of faults, and both ends over TCP.
 
-mod devices;
-mod limit;
+mod clock;
 mod link;
-mod links;
 mod refusals;
-mod report;
-mod rows;
-mod settings;
-mod text;
 mod words;

@@ -1,14 +1,14 @@
 //! The link and the server over the loopback, both ends in one process, one after the other.
 
 use crate::server::{listen, serve_connections};
-use crate::settings::{Place, ServerSettings};
-use crate::tcp::TcpLink;
 use log::LevelFilter;
 use log::sink::{Discard, Memory};
 use mq_client::{Link, LinkFault};
 use mq_frame::{FromRead, ToWrite};
 use mq_ledger::{PlainLedger, Zone};
 use mq_server::{Served, serve};
+use mq_settings::{Place, ServerSettings};
+use mq_tcp::TcpLink;
 use std::alloc::Global;
 use std::io::{Read, Write};
 use std::net::{Net, Shutdown, SocketAddr, TcpListener, TcpStream};

@@ -1,11 +1,9 @@
 //! What the program prints on standard error, with its status, where it does nothing.
 
-use crate::connections::TextFault;
 use crate::fault::ProgramFault;
 use crate::program::run_words;
-use crate::replay::{Ending, ReplayFault};
-use crate::report::ReportFault;
 use mq_client::FilterFault;
+use mq_command::{Ending, ReplayFault, ReportFault, TextFault};
 use mq_track::TrackFault;
 use std::net::{Net, TcpListener, TcpStream};
 use std::process::Abort;

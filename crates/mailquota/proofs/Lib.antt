@@ -1,9 +1,0 @@
-pub mod AskSteps
-pub mod BodySteps
-pub mod EndSteps
-pub mod Fronts
-pub mod LineSteps
-pub mod PageSteps
-pub mod ReplaySteps
-pub mod SettingsFaults
-pub mod TableNames

@@ -1,8 +1,0 @@
-use Rattle.std.proofs.Common.{take}
-use Rattle.std.specs.Io.KnownBytes.{Appends}
-use Rattle.mailquota.specs.Report.{report_lines}
-use Rattle.mailquota.proofs.report.row.write_rows.Given as goal
-
--- the lines so far are written
-abbrev pub invariant-loop-row : goal.invariant-loop-row
-invariant-loop-row g l = Appends (g.W.Write.contents l.initial.output) (g.W.Write.contents l.output) (report_lines (take l.row-index l.rows))

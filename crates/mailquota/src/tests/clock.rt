@@ -1,0 +1,50 @@
+//! The number of a run.
+
+use crate::clock::run_number;
+use std::io;
+use std::io::ErrorKind;
+use std::rt::Clock;
+use std::test::Fail;
+use std::time::Duration;
+
+/// A clock that stands still at so many milliseconds after 1970, or can't be read.
+#[derive(Clone, Copy)]
+struct Stopped(Option<u64>);
+
+impl Clock for Stopped {
+    fn monotonic(&self) -> io::Result<Duration> {
+        self.since_1970()
+    }
+
+    fn since_1970(&self) -> io::Result<Duration> {
+        match self.0 {
+            Some(millis) => Ok(Duration::from_millis(millis)),
+            None => Err(io::Error::from(ErrorKind::Other)),
+        }
+    }
+}
+
+#[test]
+fn run_of_the_clock(rt: HostRuntime) -> Result<(), Fail> {
+    let rows = [
+        (None, None),
+        (Some(0), None),
+        (Some(1), Some(1)),
+        (Some(1_576_146_008_006), Some(1_576_146_008_006)),
+        (Some(281_474_976_710_655), Some(281_474_976_710_655)),
+        (Some(281_474_976_710_656), None),
+    ];
+    for (millis, wanted) in rows {
+        match run_number(&Stopped(millis), None) {
+            Ok(run) => assert_eq!(rt; Some(run), wanted),
+            Err(fault) => {
+                assert_eq!(rt; wanted, None);
+                let text = fault.to_string(rt.alloc())?;
+                assert_eq!(rt; text.as_str(), "run number unavailable");
+                assert_eq!(rt; fault.status(), 1);
+            }
+        }
+    }
+    assert_eq!(rt; run_number(&Stopped(None), Some(7)).ok(), Some(7));
+    Ok(())
+}

@@ -1,0 +1,6 @@
+pub mod AskSteps
+pub mod EndSteps
+pub mod Fronts
+pub mod LineSteps
+pub mod PageSteps
+pub mod ReplaySteps

@@ -1,0 +1,107 @@
+-- What an administrator's question to the quota server brings.
+use Rattle.std.specs.Prelude.{◌≡◌, ◌<◌, ◌==◌, ℕ, List, [], ◌∷◌, ◌++◌, Bool, true, false, length, ◌&&◌, ◌⊎◌, Option, Result, Ok, Err, codes}
+use Rattle.std.specs.List.{All}
+use Rattle.std.specs.Io.KnownBytes.{Appends, Keeps}
+use Rattle.mq_frame.specs.Range.{IsRequest}
+use Rattle.mq_frame.specs.Same.{same_id, same_text}
+use Rattle.mq_frame.specs.Spelling.{SpellsReply, frame, request_body}
+use Rattle.mq_frame.specs.declared.message.Request.{Request}
+use Rattle.mq_frame.specs.declared.message.Request.TheVariants as asks
+use Rattle.mq_frame.specs.declared.message.Reply.{Reply}
+use Rattle.mq_frame.specs.declared.message.Reply.TheVariants as says
+use Rattle.mq_frame.specs.declared.message.Id.{Id}
+use Rattle.mq_command.specs.Output.{AppendsFront}
+use Rattle.mq_command.specs.declared.ask.AskFault.{AskFault}
+use Rattle.mq_command.specs.declared.ask.AskFault.TheVariants.{Unavailable, Memory}
+use Rattle.mq_command.specs.declared.limit.SetFault.{SetFault}
+use Rattle.mq_command.specs.declared.limit.SetFault.TheVariants.{Over, Conflict, Unanswered, Write}
+use Rattle.mq_client.specs.Link.{Tells}
+use Rattle.mq_client.specs.declared.link.Outcome.{Outcome}
+use Rattle.mq_client.specs.declared.link.Outcome.TheVariants.{Answered, Faulted}
+use Rattle.mq_client.specs.declared.link.Told.{Told}
+
+-- whether a reply answers a limit, a usage or a list
+abbrev pub fits : Request → Reply → Bool
+fits (asks.Limit id from_day cap login) (says.LimitSet other) = same_id id other
+fits (asks.Limit id from_day cap login) (says.Over other day used) = same_id id other
+fits (asks.Limit id from_day cap login) (says.Conflict other) = same_id id other
+fits (asks.Usage login day) (says.Usage other day' settled reserved cap) = same_text login other && (day == day')
+fits (asks.List day after) (says.List day' rows) = true
+fits _ _ = false
+
+-- an exchange brought a body that spells this reply
+abbrev pub Brought : Outcome → Reply → Type 0
+Brought (Answered body) reply = SpellsReply body reply
+Brought (Faulted fault) reply = ⊥
+
+-- the one frame of a request
+abbrev pub frame_of : Request → List ℕ
+frame_of request = frame (request_body request)
+
+-- the exchange sent it
+abbrev pub Sends : Request → Told → Type 0
+Sends request exchange = exchange.frame ≡ frame_of request
+
+-- the exchange brought no reply that answers the request
+abbrev pub IsMissed : Request → Told → Type 0
+IsMissed request exchange = (reply : Reply) → Brought exchange.outcome reply → fits request reply ≡ false
+
+-- The request was sent up to three times; the last exchange brought a reply that answers it, and none before it did.
+pub record IsAnswered (request : Request) (reply : Reply) (old new : Option (List Told)) : Type 0 where
+  pub before : List Told
+  pub last : Told
+  pub told : Tells old new (before ++ last ∷ [])
+  pub few : length before < 3
+  pub sent : All (Sends request) (before ++ last ∷ [])
+  pub missed : All (IsMissed request) before
+  pub brought : Brought last.outcome reply
+  pub answers : fits request reply ≡ true
+
+-- The request was sent so often, and no exchange brought a reply that answers it.
+pub record IsUnanswered (request : Request) (count : ℕ) (old new : Option (List Told)) : Type 0 where
+  pub group : List Told
+  pub told : Tells old new group
+  pub counted : length group ≡ count
+  pub sent : All (Sends request) group
+  pub missed : All (IsMissed request) group
+
+-- The request was sent up to three times; no exchange before the last brought a reply that answers it. The last one
+-- brought a reply that couldn't be decoded for want of memory.
+pub record IsUndecoded (request : Request) (old new : Option (List Told)) : Type 0 where
+  pub before : List Told
+  pub last : Told
+  pub told : Tells old new (before ++ last ∷ [])
+  pub few : length before < 3
+  pub sent : All (Sends request) (before ++ last ∷ [])
+  pub missed : All (IsMissed request) before
+  pub reply : Reply
+  pub brought : Brought last.outcome reply
+
+-- What asking leads to: the first reply that answers, or the fault after three exchanges without one. Want of memory
+-- ends it before any exchange, or at a reply that came.
+abbrev pub Asks : Request → Option (List Told) → Option (List Told) → Result Reply AskFault → Type 0
+Asks request old new (Ok reply) = IsAnswered request reply old new
+Asks request old new (Err Unavailable) = IsUnanswered request 3 old new
+Asks request old new (Err Memory) = (new ≡ old) ⊎ IsUndecoded request old new
+
+-- a limit whose fields are in range
+abbrev pub IsLimit : Request → Type 0
+IsLimit (asks.Limit id from_day cap login) = IsRequest (asks.Limit id from_day cap login)
+IsLimit _ = ⊥
+
+-- what a limit that is set prints
+abbrev pub set_line : List ℕ
+set_line = codes "set\n"
+
+-- What sending a limit leads to: `set` is printed only where the server has set it.
+abbrev pub Limits : Request → Option (List Told) → Option (List Told) → Option (List ℕ) → Option (List ℕ) → Result (Unit {0}) SetFault → Type 0
+Limits request told told' old new (Ok _) = (id : Id) × IsAnswered request (says.LimitSet id) told told' × Appends old new set_line
+Limits request told told' old new (Err Write) = (id : Id) × IsAnswered request (says.LimitSet id) told told' × AppendsFront old new set_line
+Limits request told told' old new (Err (Over day used)) = (id : Id) × IsAnswered request (says.Over id day used) told told' × Keeps old new
+Limits request told told' old new (Err Conflict) = (id : Id) × IsAnswered request (says.Conflict id) told told' × Keeps old new
+Limits request told told' old new (Err (Unanswered fault)) = Asks request told told' (Err fault) × Keeps old new
+
+-- 0 where all is done and printed, else 1
+abbrev pub status_of : {Fault : Type 0} → Result (Unit {0}) Fault → ℕ
+status_of (Ok _) = 0
+status_of (Err fault) = 1

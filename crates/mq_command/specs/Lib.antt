@@ -1,0 +1,6 @@
+pub mod Asking
+pub mod Connections
+pub mod Output
+pub mod Printed
+pub mod Replay
+pub mod Report

@@ -1,0 +1,105 @@
+//! A question of an administrator to the quota server.
+ghost use Rattle.std.specs.Prelude.{◌≡◌, ◌∷◌, [], true, IfOk, MatchResult};
+ghost use Rattle.std.specs.Option.{MatchOption};
+ghost use Rattle.mq_frame.specs.Range.{IsReply, IsRequest};
+ghost use Rattle.mq_frame.specs.declared.message.Reply.{Reply as AReply};
+ghost use Rattle.mq_command.specs.Asking.{fits, frame_of, Asks, Brought, IsMissed, Sends};
+ghost use Rattle.mq_command.specs.declared.ask.AskFault.TheVariants.{Memory as AMemory};
+ghost use Rattle.mq_client.specs.Link.{Tells};
+ghost use Rattle.mq_client.specs.declared.link.Told.{Told};
+
+use mq_client::Link;
+use mq_frame::{DecodeFault, Memory, Reply, Request, decode_reply, encode_request};
+use std::alloc::Global;
+use thiserror::Error;
+
+/// How often a request is sent.
+const TRIES: u32 = 3;
+
+/// Why a question brought no answer.
+#[derive(Clone, Copy, Debug, PartialEq, Error)]
+pub enum AskFault {
+    /// No reply that answers came in three tries.
+    #[error("quota service unavailable")]
+    Unavailable,
+    /// A growth was refused, for the request's frame or for a reply that came.
+    #[error("out of memory")]
+    Memory,
+}
+
+impl From<Memory> for AskFault {
+    ghost from_gives = { λ _ fault. fault ≡ AMemory };
+
+    fn from(_error: Memory) -> AskFault {
+        AskFault::Memory
+    }
+}
+
+/// Whether a reply answers a limit, a usage or a list.
+fn fits(request: &Request, reply: &Reply) -> bool
+    ensures { result ≡ fits request.now reply.now }
+{
+    match (request, reply) {
+        (Request::Limit { id, .. }, Reply::LimitSet { id: other }) => id.is_same(other),
+        (Request::Limit { id, .. }, Reply::Over { id: other, .. }) => id.is_same(other),
+        (Request::Limit { id, .. }, Reply::Conflict { id: other }) => id.is_same(other),
+        (
+            Request::Usage { login, day },
+            Reply::Usage {
+                login: other,
+                day: other_day,
+                ..
+            },
+        ) => *login == *other && *day == *other_day,
+        (Request::List { .. }, Reply::List { .. }) => true,
+        _ => false,
+    }
+}
+
+/// Sends a frame once, and gives the reply that answers its request, where one came. Memory may
+/// fail for a reply that came.
+fn try_once<L: Link>(
+    alloc: Global,
+    link: &mut L,
+    request: &Request,
+    frame: &[u8],
+    body: &mut Vec<u8>,
+) -> Result<Option<Reply>, Memory>
+    requires { frame.now ≡ frame_of request.now }
+    ensures { (one : Told) × Sends request.now one × Tells (L.told link.old) (L.told link.new) (one ∷ [])
+        × MatchResult result (λ answer. MatchOption answer (IsMissed request.now one)
+        (λ reply. Brought one.outcome reply × (fits request.now reply ≡ true)))
+        (λ fault. (reply : AReply) × Brought one.outcome reply) }
+{
+    if link.exchange(frame, body).is_err() {
+        return Ok(None);
+    }
+    match decode_reply(alloc, body.as_slice()) {
+        Ok(reply) => {
+            if fits(request, &reply) {
+                Ok(Some(reply))
+            } else {
+                Ok(None)
+            }
+        }
+        Err(DecodeFault::Bad) => Ok(None),
+        Err(DecodeFault::Memory) => Err(Memory),
+    }
+}
+
+/// Sends a request up to three times, until a reply answers it.
+pub fn ask<L: Link>(alloc: Global, link: &mut L, request: &Request) -> Result<Reply, AskFault>
+    requires { IsRequest request.now }
+    ensures asks { Asks request.now (L.told link.old) (L.told link.new) result }
+    ensures in_range { IfOk result IsReply }
+{
+    let mut frame = Vec::new(alloc);
+    encode_request(alloc, request, &mut frame)?;
+    let mut body = Vec::new(alloc);
+    for _attempt in 0..TRIES {
+        if let Some(reply) = try_once(alloc, link, request, frame.as_slice(), &mut body)? {
+            return Ok(reply);
+        }
+    }
+    Err(AskFault::Unavailable)
+}

@@ -1,0 +1,20 @@
+//! What the subcommands `limit`, `report` and `replay` do, over any link, text and output.
+#![tactic(auto)]
+
+mod ask;
+mod connections;
+mod limit;
+mod output;
+mod printed;
+mod replay;
+mod report;
+#[cfg(test)]
+mod tests;
+
+pub use ask::AskFault;
+pub use connections::{TEXT_LIMIT, TextFault, read_connections};
+pub use limit::{SetFault, run_limit};
+pub use output::OutputFault;
+pub use printed::login_text;
+pub use replay::{Ending, ReplayFault, run_replay};
+pub use report::{ReportFault, run_report};

@@ -1,0 +1,223 @@
+//! `report`: prints what logins used on a day.
+ghost use Rattle.std.specs.Prelude.{◌≡◌, IfOk, IfSome, option_map, Ok, Err, Result as AResult};
+ghost use Rattle.mq_frame.specs.Range.{IsDay, IsAfter, IsLogin, IsPage as IsPageInRange};
+ghost use Rattle.mq_command.specs.Asking.{status_of};
+ghost use Rattle.mq_command.specs.Report.{AsksPage, AsksUsage, output_fault, Reports, ReportsAll, ReportsOne};
+ghost use Rattle.mq_command.specs.declared.report.ReportFault.{ReportFault as AReportFault};
+ghost use Rattle.mq_command.specs.declared.report.ReportFault.TheVariants.{Memory as AMemory};
+
+mod page;
+mod row;
+
+use crate::ask::{AskFault, ask};
+use crate::output::OutputFault;
+use crate::report::page::is_ascending;
+use crate::report::row::{write_row, write_rows};
+use mq_client::Link;
+use mq_frame::{Login, Reply, Request, UsageRow, UsageRows};
+use std::alloc::{AllocError, Global};
+use std::io::Write;
+use thiserror::Error;
+
+/// The rows of a full page.
+const PAGE: usize = 100;
+
+/// The most pages of a report, the last of which may not be full.
+const MOST_PAGES: u32 = 100_000;
+
+/// Why a report isn't done; what was printed is a front of it.
+#[derive(Clone, Copy, Debug, PartialEq, Error)]
+pub enum ReportFault {
+    #[error("{0}")]
+    Unanswered(AskFault),
+    /// A page isn't of that day, ascending and above the one before.
+    #[error("bad page")]
+    BadPage,
+    /// 100,000 full pages came.
+    #[error("too many pages")]
+    TooManyPages,
+    #[error("write failed")]
+    Write,
+    #[error("out of memory")]
+    Memory,
+}
+
+impl From<AllocError> for ReportFault {
+    ghost from_gives = { λ _ fault. fault ≡ AMemory };
+
+    fn from(_error: AllocError) -> ReportFault {
+        ReportFault::Memory
+    }
+}
+
+impl From<OutputFault> for ReportFault {
+    ghost from_gives = { λ fault given. given ≡ output_fault fault };
+
+    fn from(fault: OutputFault) -> ReportFault {
+        match fault {
+            OutputFault::Write => ReportFault::Write,
+            OutputFault::Memory => ReportFault::Memory,
+        }
+    }
+}
+
+/// Asks for what a login used on that day.
+fn ask_usage<L: Link>(
+    alloc: Global,
+    link: &mut L,
+    day: u32,
+    login: &Login,
+) -> Result<UsageRow, ReportFault>
+    requires day { IsDay day }
+    requires login { IsLogin login.now }
+    ensures { AsksUsage day login.now (L.told link.old) (L.told link.new) result }
+{
+    let request = Request::Usage {
+        login: login.clone()?,
+        day,
+    };
+    match ask(alloc, link, &request) {
+        Ok(
+            Reply::Usage {
+                login,
+                settled,
+                reserved,
+                cap,
+                ..
+            },
+        ) => Ok(UsageRow {
+            login,
+            settled,
+            reserved,
+            cap,
+        }),
+        Ok(_) => unreachable!(),
+        Err(fault) => Err(ReportFault::Unanswered(fault)),
+    }
+}
+
+/// Asks for the page of that day behind a login.
+fn ask_page<L: Link>(
+    alloc: Global,
+    link: &mut L,
+    day: u32,
+    after: &Login,
+) -> Result<UsageRows, ReportFault>
+    requires day { IsDay day }
+    requires after { IsAfter after.now }
+    ensures page { AsksPage day after.now (L.told link.old) (L.told link.new) result }
+    ensures in_range { IfOk result IsPageInRange }
+{
+    let request = Request::List {
+        day,
+        after: after.clone()?,
+    };
+    match ask(alloc, link, &request) {
+        Ok(
+            Reply::List {
+                day: answered,
+                rows,
+            },
+        ) => {
+            if answered != day || !is_ascending(after.as_slice(), rows.as_slice()) {
+                return Err(ReportFault::BadPage);
+            }
+            Ok(rows)
+        }
+        Ok(_) => unreachable!(),
+        Err(fault) => Err(ReportFault::Unanswered(fault)),
+    }
+}
+
+/// Prints the line of one login.
+fn report_one<L: Link, W: Write>(
+    alloc: Global,
+    link: &mut L,
+    day: u32,
+    login: &Login,
+    output: &mut W,
+) -> Result<(), ReportFault>
+    requires day { IsDay day }
+    requires login { IsLogin login.now }
+    ensures { ReportsOne day login.now (L.told link.old) (L.told link.new) (W.contents output.old) (W.contents output.new) result }
+{
+    let row = ask_usage(alloc, link, day, login)?;
+    write_row(alloc, output, &row)?;
+    if output.flush().is_err() {
+        return Err(ReportFault::Write);
+    }
+    Ok(())
+}
+
+/// Prints the lines of all logins of the day, page by page until one isn't full.
+fn report_all<L: Link, W: Write>(
+    alloc: Global,
+    link: &mut L,
+    day: u32,
+    output: &mut W,
+) -> Result<(), ReportFault>
+    requires { IsDay day }
+    ensures { ReportsAll day (L.told link.old) (L.told link.new) (W.contents output.old) (W.contents output.new) result }
+{
+    let mut after = Login::new(Vec::new(alloc));
+    for _page in 0..MOST_PAGES {
+        let rows = ask_page(alloc, link, day, &after)?;
+        let page = rows.as_slice();
+        write_rows(alloc, output, page)?;
+        if page.len() < PAGE {
+            if output.flush().is_err() {
+                return Err(ReportFault::Write);
+            }
+            return Ok(());
+        }
+        after = page[page.len() - 1].login.clone()?;
+    }
+    Err(ReportFault::TooManyPages)
+}
+
+/// Prints the line of one login, or those of all.
+fn report<L: Link, W: Write>(
+    alloc: Global,
+    link: &mut L,
+    day: u32,
+    login: Option<&Login>,
+    output: &mut W,
+) -> Result<(), ReportFault>
+    requires day { IsDay day }
+    requires login { IfSome login (λ l. IsLogin l.now) }
+    ensures { Reports day (option_map (λ l. l.now) login.entry) (L.told link.old) (L.told link.new) (W.contents output.old) (W.contents output.new) result }
+{
+    match login {
+        Some(login) => report_one(alloc, link, day, login, output),
+        None => report_all(alloc, link, day, output),
+    }
+}
+
+/// Prints on `output` what a login used on a day, or without a login what each did, and says on
+/// `errors` why the report isn't done. The result is the exit status, 0 or 1.
+///
+/// `day` is a day number, 0 to 376,200, and the login has 1 to 255 bytes. Each request is sent up
+/// to three times. The logins are asked for page by page, in ascending order; a page is one
+/// moment, and two pages may be two.
+pub fn run_report<L: Link, W: Write, E: Write>(
+    alloc: Global,
+    link: &mut L,
+    day: u32,
+    login: Option<&Login>,
+    output: &mut W,
+    errors: &mut E,
+) -> u8
+    requires day { IsDay day }
+    requires login { IfSome login (λ l. IsLogin l.now) }
+    ensures reports { (outcome : AResult (Unit {0}) AReportFault) × (result ≡ status_of outcome)
+        × Reports day (option_map (λ l. l.now) login.entry) (L.told link.old) (L.told link.new) (W.contents output.old) (W.contents output.new) outcome }
+    ensures quiet { result ≡ 0 → errors.new ≡ errors.old }
+{
+    match report(alloc, link, day, login, output) {
+        Ok(()) => 0,
+        Err(fault) => {
+            let _ = writeln!(errors, "mailquota: {fault}");
+            1
+        }
+    }
+}

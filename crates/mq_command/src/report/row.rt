@@ -1,0 +1,71 @@
+//! The line of one login in a report.
+ghost use Rattle.std.specs.Prelude.{◌≡◌, ◌++◌, OnOk, IfOk, string_bytes, replicate};
+ghost use Rattle.std.specs.Io.KnownBytes.{Appends};
+ghost use Rattle.mq_command.specs.Output.{AppendsFront};
+ghost use Rattle.mq_command.specs.Report.{column, row_line, report_lines};
+
+use crate::output::{OutputFault, write_whole};
+use crate::printed::login_text;
+use mq_frame::UsageRow;
+use std::alloc::{AllocError, Global};
+use std::io::Write;
+
+/// How many places a number takes.
+const PLACES: usize = 7;
+
+fn push_spaces(line: &mut String, count: usize) -> Result<(), AllocError>
+    ensures { OnOk result (string_bytes line.new ≡ string_bytes line.old ++ replicate count 32) }
+{
+    for _space in 0..count {
+        line.push(' ')?;
+    }
+    Ok(())
+}
+
+/// A number, right in its places, and a space.
+fn push_column(alloc: Global, line: &mut String, number: u32) -> Result<(), AllocError>
+    ensures { OnOk result (string_bytes line.new ≡ string_bytes line.old ++ column number) }
+{
+    let digits = number.to_string(alloc)?;
+    push_spaces(line, PLACES.saturating_sub(digits.len()))?;
+    line.push_str(digits.as_str())?;
+    line.push(' ')
+}
+
+/// The line of a login: what is settled and reserved and the limit, each right in 7 places and a
+/// space, and the login's text.
+fn row_text(alloc: Global, row: &UsageRow) -> Result<String, AllocError>
+    ensures { IfOk result (λ line. string_bytes line ≡ row_line row.now) }
+{
+    let mut line = String::new(alloc);
+    push_column(alloc, &mut line, row.settled)?;
+    push_column(alloc, &mut line, row.reserved)?;
+    push_column(alloc, &mut line, row.cap)?;
+    line.push_str(login_text(alloc, row.login.as_slice())?.as_str())?;
+    line.push('\n')?;
+    Ok(line)
+}
+
+/// Writes the line of a login.
+pub fn write_row<W: Write>(alloc: Global, output: &mut W, row: &UsageRow) -> Result<(), OutputFault>
+    ensures whole { OnOk result (Appends (W.contents output.old) (W.contents output.new) (row_line row.now)) }
+    ensures front { AppendsFront (W.contents output.old) (W.contents output.new) (row_line row.now) }
+{
+    let line = row_text(alloc, row)?;
+    write_whole(output, line.as_bytes())
+}
+
+/// Writes the line of each row, in order.
+pub fn write_rows<W: Write>(
+    alloc: Global,
+    output: &mut W,
+    rows: &[UsageRow],
+) -> Result<(), OutputFault>
+    ensures whole { OnOk result (Appends (W.contents output.old) (W.contents output.new) (report_lines rows.now)) }
+    ensures front { AppendsFront (W.contents output.old) (W.contents output.new) (report_lines rows.now) }
+{
+    for row in rows {
+        write_row(alloc, output, row)?;
+    }
+    Ok(())
+}

@@ -1,0 +1,3 @@
+pub mod FileSteps
+pub mod SettingsFaults
+pub mod TableNames

@@ -1,0 +1,65 @@
+-- Why settings are refused, from the first reading that fails.
+use Rattle.std.proofs.Common.{◌≡◌, ◌≢◌, ℕ, ℤ, List, Result, Ok, Err, sym, subst, ◌⊎◌, inl, inr, refl}
+use Rattle.std.specs.Prelude.{IfErr}
+use Rattle.std.specs.Result.{IsErrAnd}
+use Rattle.std.specs.declared.net.SocketAddr.{SocketAddr}
+use Rattle.toml.specs.Data.{Members}
+use Rattle.log.specs.declared.level.LevelFilter.{LevelFilter}
+use Rattle.mq_settings.specs.Keys.{filter_keys, server_keys, HasOnly}
+use Rattle.mq_settings.specs.Settings.{Spells, IsTableRefusal, memory, IsHostAt, IsAddressAt, tries_at, timeout_at, default_at, offset_at, store_at, level_at, IsFilterFault, IsFilterRefusal, IsServerFault, IsServerRefusal}
+use Rattle.mq_settings.specs.declared.settings.key.Key.TheVariants.{Server, Listen}
+use Rattle.mq_settings.specs.declared.settings.value.Place.{Place}
+use Rattle.mq_settings.specs.declared.settings.fault.SettingsFault.{SettingsFault}
+use Rattle.mq_settings.specs.declared.settings.fault.SettingsFault.TheVariants.{Text, Unknown, Missing, Bad, Memory}
+
+-- what holds of the one error of a result
+pub of_error : {T : Type 0} (P : SettingsFault → Type 0) (r : Result T SettingsFault) (e : SettingsFault) → IsErrAnd r (λ f. f ≡ e) → P e → IfErr r P
+of_error P (Ok x) e h p = tt
+of_error P (Err f) e h p = subst P (sym h) p
+
+-- a host is refused for its text, or for want of memory
+pub host_fault : (table : Members) (e : SettingsFault) → (e ≢ Memory → IsHostAt table (Err e)) → (e ≡ Memory) ⊎ IsHostAt table (Err e)
+host_fault table Text h = inr (h (λ q. cc))
+host_fault table (Unknown name) h = inr (h (λ q. cc))
+host_fault table (Missing key) h = inr (h (λ q. cc))
+host_fault table (Bad key) h = inr (h (λ q. cc))
+host_fault table Memory h = inl refl
+
+-- ---- the filter
+
+pub filter_at_host : (text : List ℕ) (table : Members) (e : SettingsFault) → Spells text table → HasOnly filter_keys table → (e ≢ Memory → IsHostAt table (Err e)) → IsFilterRefusal text e
+filter_at_host text table e spells names h =
+    elim (host_fault table e h) [
+      | inl out ↦ inl (subst (IsTableRefusal filter_keys text) (sym out) memory)
+      | inr bad ↦ inr (table, spells, names, inl bad)
+    ]
+
+pub filter_at_tries : (text : List ℕ) (table : Members) (host : List ℕ) (server : SocketAddr) (e : SettingsFault) → Spells text table → HasOnly filter_keys table
+    → IsHostAt table (Ok host) → IsAddressAt Server table (Ok server) → tries_at table ≡ Err e → IsFilterRefusal text e
+filter_at_tries text table host server e spells names h s bad = inr (table, spells, names, inr (host, h, inr (server, s, inl bad)))
+
+pub filter_at_timeout : (text : List ℕ) (table : Members) (host : List ℕ) (server : SocketAddr) (tries : ℕ) (e : SettingsFault) → Spells text table → HasOnly filter_keys table
+    → IsHostAt table (Ok host) → IsAddressAt Server table (Ok server) → tries_at table ≡ Ok tries → timeout_at table ≡ Err e → IsFilterRefusal text e
+filter_at_timeout text table host server tries e spells names h s t bad = inr (table, spells, names, inr (host, h, inr (server, s, inr (tries, t, inl bad))))
+
+pub filter_at_log : (text : List ℕ) (table : Members) (host : List ℕ) (server : SocketAddr) (tries timeout : ℕ) (e : SettingsFault) → Spells text table → HasOnly filter_keys table
+    → IsHostAt table (Ok host) → IsAddressAt Server table (Ok server) → tries_at table ≡ Ok tries → timeout_at table ≡ Ok timeout → level_at table ≡ Err e → IsFilterRefusal text e
+filter_at_log text table host server tries timeout e spells names h s t m bad = inr (table, spells, names, inr (host, h, inr (server, s, inr (tries, t, inr (timeout, m, bad)))))
+
+-- ---- the server
+
+pub server_at_default : (text : List ℕ) (table : Members) (listen : SocketAddr) (store : Place) (e : SettingsFault) → Spells text table → HasOnly server_keys table
+    → IsAddressAt Listen table (Ok listen) → store_at table ≡ Ok store → default_at table ≡ Err e → IsServerRefusal text e
+server_at_default text table listen store e spells names l s bad = inr (table, spells, names, inr (listen, l, inr (store, s, inl bad)))
+
+pub server_at_offset : (text : List ℕ) (table : Members) (listen : SocketAddr) (store : Place) (default : ℕ) (e : SettingsFault) → Spells text table → HasOnly server_keys table
+    → IsAddressAt Listen table (Ok listen) → store_at table ≡ Ok store → default_at table ≡ Ok default → offset_at table ≡ Err e → IsServerRefusal text e
+server_at_offset text table listen store default e spells names l s d bad = inr (table, spells, names, inr (listen, l, inr (store, s, inr (default, d, inl bad))))
+
+pub server_at_timeout : (text : List ℕ) (table : Members) (listen : SocketAddr) (store : Place) (default : ℕ) (offset : ℤ) (e : SettingsFault) → Spells text table → HasOnly server_keys table
+    → IsAddressAt Listen table (Ok listen) → store_at table ≡ Ok store → default_at table ≡ Ok default → offset_at table ≡ Ok offset → timeout_at table ≡ Err e → IsServerRefusal text e
+server_at_timeout text table listen store default offset e spells names l s d o bad = inr (table, spells, names, inr (listen, l, inr (store, s, inr (default, d, inr (offset, o, inl bad)))))
+
+pub server_at_log : (text : List ℕ) (table : Members) (listen : SocketAddr) (store : Place) (default : ℕ) (offset : ℤ) (timeout : ℕ) (e : SettingsFault) → Spells text table → HasOnly server_keys table
+    → IsAddressAt Listen table (Ok listen) → store_at table ≡ Ok store → default_at table ≡ Ok default → offset_at table ≡ Ok offset → timeout_at table ≡ Ok timeout → level_at table ≡ Err e → IsServerRefusal text e
+server_at_log text table listen store default offset timeout e spells names l s d o m bad = inr (table, spells, names, inr (listen, l, inr (store, s, inr (default, d, inr (offset, o, inr (timeout, m, bad))))))

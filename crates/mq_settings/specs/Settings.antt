@@ -1,0 +1,175 @@
+-- What settings mean, read off the table that the text spells.
+use Rattle.std.specs.Prelude.{◌≡◌, ℕ, ℤ, pos, negsuc, nat_le, int_le, ◌&&◌, ◌⊎◌, List, [], ◌∷◌, codes, bytes_eq, Option, None, Some, Result, Ok, Err, MatchOption, MatchResult, IsOkAnd, String, string_bytes, if◌then◌else◌}
+use Rattle.std.specs.Borrow.{Bor}
+use Rattle.std.specs.Str.{IsUtf8}
+use Rattle.std.specs.declared.alloc.Global.{Global}
+use Rattle.std.specs.Net.Grammar.{IsSocketText}
+use Rattle.std.specs.declared.net.SocketAddr.{SocketAddr}
+use Rattle.toml.specs.Data.{Data, Members, get_member, as_integer, as_str}
+use Rattle.toml.specs.Parse.{parse_document}
+use Rattle.log.specs.declared.level.LevelFilter.{LevelFilter}
+use Rattle.log.specs.declared.level.LevelFilter.TheVariants as level
+use Rattle.mq_frame.specs.Range.{IsHost}
+use Rattle.mq_settings.specs.Keys.{key_name, filter_keys, server_keys, IsLeastUnknown, HasOnly}
+use Rattle.mq_settings.specs.declared.settings.key.Key.{Key}
+use Rattle.mq_settings.specs.declared.settings.key.Key.TheVariants.{Host, Server, Tries, Listen, Store, Default, Offset, Timeout, Log}
+use Rattle.mq_settings.specs.declared.settings.value.Place.{Place}
+use Rattle.mq_settings.specs.declared.settings.value.Place.TheVariants as place
+use Rattle.mq_settings.specs.declared.settings.FilterSettings.{FilterSettings}
+use Rattle.mq_settings.specs.declared.settings.ServerSettings.{ServerSettings}
+use Rattle.mq_settings.specs.declared.settings.fault.SettingsFault.{SettingsFault}
+use Rattle.mq_settings.specs.declared.settings.fault.SettingsFault.TheVariants.{Text, Unknown, Missing, Bad, Memory}
+
+-- the text is UTF-8 and spells this table
+pub record Spells (text : List ℕ) (table : Members) : Type 0 where
+  pub utf8 : IsUtf8 text
+  pub document : parse_document text ≡ Some table
+
+-- why no table of these keys alone is read; want of memory may come before any other cause
+pub data IsTableRefusal (keys : List Key) (text : List ℕ) : SettingsFault → Type 0 where
+  memory : IsTableRefusal keys text Memory
+  no_table : ((table : Members) → ¬ Spells text table) → IsTableRefusal keys text Text
+  unknown_name : (table : Members) (name : String Global) → Spells text table → IsLeastUnknown keys table (string_bytes name) → IsTableRefusal keys text (Unknown name)
+
+-- ---- what the entry of one key gives: a value, or why there is none
+
+-- a text that has to be there
+abbrev pub IsText : Key → Option Data → Result (Bor (List ℕ)) SettingsFault → Type 0
+IsText key None r = r ≡ Err (Missing key)
+IsText key (Some entry) r = MatchOption (as_str entry) (r ≡ Err (Bad key)) (λ text. IsOkAnd r (λ found. found.now ≡ text))
+
+abbrev pub IsTextAt : Key → Members → Result (Bor (List ℕ)) SettingsFault → Type 0
+IsTextAt key table r = IsText key (get_member (key_name key) table) r
+
+-- a text that has to be there and spells a value
+abbrev pub TextAs : {V : Type 0} → Key → (List ℕ → V → Type 0) → Option Data → Result V SettingsFault → Type 0
+TextAs key Means None r = r ≡ Err (Missing key)
+TextAs {V} key Means (Some entry) r = MatchOption (as_str entry) (r ≡ Err (Bad key)) (λ text. MatchResult r (Means text) (λ e. (e ≡ Bad key) × ((v : V) → ¬ Means text v)))
+
+-- the name of a host
+abbrev pub IsHostAt : Members → Result (List ℕ) SettingsFault → Type 0
+IsHostAt table r = TextAs Host (λ text host. (host ≡ text) × IsHost text) (get_member (key_name Host) table) r
+
+-- an address and a port, both numeric
+abbrev pub IsAddressAt : Key → Members → Result SocketAddr SettingsFault → Type 0
+IsAddressAt key table r = TextAs key IsSocketText (get_member (key_name key) table) r
+
+-- a number from least to most
+abbrev pub count_in : Key → ℕ → ℕ → Option ℤ → Result ℕ SettingsFault
+count_in key least most (Some (pos n)) = if nat_le least n && nat_le n most then Ok n else Err (Bad key)
+count_in key least most _ = Err (Bad key)
+
+-- a number from least to most, or what stands for none
+abbrev pub count_of : Key → ℕ → ℕ → Result ℕ SettingsFault → Option Data → Result ℕ SettingsFault
+count_of key least most absent None = absent
+count_of key least most absent (Some entry) = count_in key least most (as_integer entry)
+
+abbrev pub count_at : Key → ℕ → ℕ → Result ℕ SettingsFault → Members → Result ℕ SettingsFault
+count_at key least most absent table = count_of key least most absent (get_member (key_name key) table)
+
+-- minutes east of UTC, within a day
+abbrev pub offset_in : Option ℤ → Result ℤ SettingsFault
+offset_in None = Err (Bad Offset)
+offset_in (Some minutes) = if int_le (negsuc 1438) minutes && int_le minutes (pos 1439) then Ok minutes else Err (Bad Offset)
+
+abbrev pub offset_of : Option Data → Result ℤ SettingsFault
+offset_of None = Err (Missing Offset)
+offset_of (Some entry) = offset_in (as_integer entry)
+
+abbrev pub offset_at : Members → Result ℤ SettingsFault
+offset_at table = offset_of (get_member (key_name Offset) table)
+
+-- how much is logged
+abbrev pub level_named : List ℕ → Option LevelFilter
+level_named name =
+    if bytes_eq name (codes "off") then Some level.Off
+    else if bytes_eq name (codes "error") then Some level.Error
+    else if bytes_eq name (codes "warn") then Some level.Warn
+    else if bytes_eq name (codes "info") then Some level.Info
+    else None
+
+abbrev pub level_or_bad : Option LevelFilter → Result LevelFilter SettingsFault
+level_or_bad None = Err (Bad Log)
+level_or_bad (Some found) = Ok found
+
+abbrev pub level_in : Option (List ℕ) → Result LevelFilter SettingsFault
+level_in None = Err (Bad Log)
+level_in (Some name) = level_or_bad (level_named name)
+
+-- warnings where the key is absent
+abbrev pub level_of : Option Data → Result LevelFilter SettingsFault
+level_of None = Ok level.Warn
+level_of (Some entry) = level_in (as_str entry)
+
+abbrev pub level_at : Members → Result LevelFilter SettingsFault
+level_at table = level_of (get_member (key_name Log) table)
+
+-- milliseconds, up to a minute, or two seconds where the key is absent
+abbrev pub timeout_at : Members → Result ℕ SettingsFault
+timeout_at table = count_at Timeout 1 60000 (Ok 2000) table
+
+-- how often a request is sent, up to 10 times, or 3 times where the key is absent
+abbrev pub tries_at : Members → Result ℕ SettingsFault
+tries_at table = count_at Tries 1 10 (Ok 3) table
+
+-- the limit of a login that has none of its own
+abbrev pub default_at : Members → Result ℕ SettingsFault
+default_at table = count_at Default 0 1000000 (Err (Missing Default)) table
+
+-- where the ledger is kept
+abbrev pub store_named : List ℕ → Result Place SettingsFault
+store_named name = if bytes_eq name (codes "memory") then Ok place.Memory else Err (Bad Store)
+
+abbrev pub store_in : Option (List ℕ) → Result Place SettingsFault
+store_in None = Err (Bad Store)
+store_in (Some name) = store_named name
+
+abbrev pub store_of : Option Data → Result Place SettingsFault
+store_of None = Err (Missing Store)
+store_of (Some entry) = store_in (as_str entry)
+
+abbrev pub store_at : Members → Result Place SettingsFault
+store_at table = store_of (get_member (key_name Store) table)
+
+-- ---- the settings of a file
+
+-- one check fails, or passes and a later one fails
+abbrev pub FailsOr : {V : Type 0} → (Result V SettingsFault → Type 0) → (SettingsFault → Type 0) → SettingsFault → Type 0
+FailsOr {V} Reads Later e = Reads (Err e) ⊎ ((v : V) × Reads (Ok v) × Later e)
+
+-- the filter's settings are those of the table
+pub record IsFilterSettings (table : Members) (settings : FilterSettings) : Type 0 where
+  pub names : HasOnly filter_keys table
+  pub host : IsHostAt table (Ok settings.host)
+  pub server : IsAddressAt Server table (Ok settings.server)
+  pub tries : tries_at table ≡ Ok settings.tries
+  pub timeout : timeout_at table ≡ Ok settings.timeout
+  pub log : level_at table ≡ Ok settings.log
+
+-- the first of the filter's keys that gives no value
+abbrev pub IsFilterFault : Members → SettingsFault → Type 0
+IsFilterFault table e =
+    FailsOr (IsHostAt table) (FailsOr (IsAddressAt Server table) (FailsOr (λ r. tries_at table ≡ r) (FailsOr (λ r. timeout_at table ≡ r) (λ f. level_at table ≡ Err f)))) e
+
+-- why the filter's settings are refused
+abbrev pub IsFilterRefusal : List ℕ → SettingsFault → Type 0
+IsFilterRefusal text e = IsTableRefusal filter_keys text e ⊎ ((table : Members) × Spells text table × HasOnly filter_keys table × IsFilterFault table e)
+
+-- the server's settings are those of the table
+pub record IsServerSettings (table : Members) (settings : ServerSettings) : Type 0 where
+  pub names : HasOnly server_keys table
+  pub listen : IsAddressAt Listen table (Ok settings.listen)
+  pub store : store_at table ≡ Ok settings.store
+  pub default : default_at table ≡ Ok settings.default
+  pub offset : offset_at table ≡ Ok settings.offset
+  pub timeout : timeout_at table ≡ Ok settings.timeout
+  pub log : level_at table ≡ Ok settings.log
+
+-- the first of the server's keys that gives no value
+abbrev pub IsServerFault : Members → SettingsFault → Type 0
+IsServerFault table e =
+    FailsOr (IsAddressAt Listen table) (FailsOr (λ r. store_at table ≡ r) (FailsOr (λ r. default_at table ≡ r) (FailsOr (λ r. offset_at table ≡ r) (FailsOr (λ r. timeout_at table ≡ r) (λ f. level_at table ≡ Err f))))) e
+
+-- why the server's settings are refused
+abbrev pub IsServerRefusal : List ℕ → SettingsFault → Type 0
+IsServerRefusal text e = IsTableRefusal server_keys text e ⊎ ((table : Members) × Spells text table × HasOnly server_keys table × IsServerFault table e)

@@ -1,0 +1,13 @@
+//! The settings files of the filter and the server.
+#![tactic(auto)]
+
+mod file;
+mod settings;
+#[cfg(test)]
+mod tests;
+
+pub use file::{FileFault, read_file, read_limited};
+pub use settings::{
+    FilterSettings, Key, Place, ServerSettings, SettingsFault, is_host, read_filter_settings,
+    read_server_settings,
+};

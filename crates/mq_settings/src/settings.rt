@@ -1,0 +1,101 @@
+//! The settings of the filter and of the server, read from TOML.
+ghost use Rattle.std.specs.Prelude.{IfOk, IfErr};
+ghost use Rattle.toml.specs.Data.{Members};
+ghost use Rattle.mq_settings.specs.Settings.{Spells, IsFilterSettings, IsFilterRefusal, IsServerSettings, IsServerRefusal};
+
+mod fault;
+mod key;
+mod table;
+mod value;
+
+pub use fault::SettingsFault;
+pub use key::Key;
+use log::LevelFilter;
+use mq_frame::Host;
+use std::alloc::Global;
+use std::net::SocketAddr;
+pub use value::{Place, is_host};
+
+/// What the filter runs by.
+#[derive(Debug, Drop)]
+pub struct FilterSettings {
+    /// The name under which this host asks, 1 to 64 bytes.
+    pub host: Host,
+    pub server: SocketAddr,
+    /// How often a request is sent, 1 to 10.
+    pub tries: u32,
+    /// Milliseconds of each connect, read and write, 1 to 60,000.
+    pub timeout: u32,
+    pub log: LevelFilter,
+}
+
+/// What the server runs by.
+#[derive(Debug, Drop)]
+pub struct ServerSettings {
+    pub listen: SocketAddr,
+    pub store: Place,
+    /// The limit of a login that has none of its own, 0 to 1,000,000 recipients a day.
+    pub default: u32,
+    /// How far the ledger's days are east of UTC, in minutes: -1,439 to 1,439.
+    pub offset: i32,
+    /// Milliseconds of each read and write, 1 to 60,000.
+    pub timeout: u32,
+    pub log: LevelFilter,
+}
+
+const FILTER_KEYS: [Key; 5] = [Key::Host, Key::Server, Key::Tries, Key::Timeout, Key::Log];
+
+const SERVER_KEYS: [Key; 6] = [
+    Key::Listen,
+    Key::Store,
+    Key::Default,
+    Key::Offset,
+    Key::Timeout,
+    Key::Log,
+];
+
+/// Reads the filter's settings.
+///
+/// Want of memory may be met before any other cause of refusal.
+pub fn read_filter_settings(alloc: Global, text: &[u8]) -> Result<FilterSettings, SettingsFault>
+    ensures settings { IfOk result (λ settings. (table : Members) × Spells text.now table × IsFilterSettings table settings) }
+    ensures refusal { IfErr result (IsFilterRefusal text.now) }
+{
+    let table = table::read_table(alloc, text, &FILTER_KEYS)?;
+    let host = value::read_host(alloc, &table)?;
+    let server = value::read_address(&table, Key::Server)?;
+    let tries = value::read_count(&table, Key::Tries, 1, 10, Some(3))?;
+    let timeout = value::read_count(&table, Key::Timeout, 1, 60_000, Some(2_000))?;
+    let log = value::read_level(&table)?;
+    Ok(FilterSettings {
+        host,
+        server,
+        tries,
+        timeout,
+        log,
+    })
+}
+
+/// Reads the server's settings.
+///
+/// Want of memory may be met before any other cause of refusal.
+pub fn read_server_settings(alloc: Global, text: &[u8]) -> Result<ServerSettings, SettingsFault>
+    ensures settings { IfOk result (λ settings. (table : Members) × Spells text.now table × IsServerSettings table settings) }
+    ensures refusal { IfErr result (IsServerRefusal text.now) }
+{
+    let table = table::read_table(alloc, text, &SERVER_KEYS)?;
+    let listen = value::read_address(&table, Key::Listen)?;
+    let store = value::read_place(&table)?;
+    let default = value::read_count(&table, Key::Default, 0, 1_000_000, None)?;
+    let offset = value::read_offset(&table)?;
+    let timeout = value::read_count(&table, Key::Timeout, 1, 60_000, Some(2_000))?;
+    let log = value::read_level(&table)?;
+    Ok(ServerSettings {
+        listen,
+        store,
+        default,
+        offset,
+        timeout,
+        log,
+    })
+}

@@ -1,0 +1,167 @@
+//! The value of one key of a table of settings.
+ghost use Rattle.std.specs.Prelude.{◌≡◌, ◌↔◌, ◌≤ℤ◌, pos, negsuc, Ok, Err, None, Some, ◌≢◌, IfOk, IfErr, IsTrue, ok_or};
+ghost use Rattle.toml.specs.View.{table_view};
+ghost use Rattle.mq_frame.specs.Range.{IsHost, IsHostByte};
+ghost use Rattle.mq_settings.specs.Settings.{IsTextAt, IsHostAt, IsAddressAt, count_at, count_in, offset_in, offset_at, level_named, level_at, store_named, store_at};
+
+use crate::settings::fault::SettingsFault;
+use crate::settings::key::Key;
+use crate::settings::table::value_at;
+use log::LevelFilter;
+use mq_frame::Host;
+use std::alloc::Global;
+use std::net::SocketAddr;
+use toml::Table;
+
+/// A text that has to be there.
+fn read_text<'a>(table: &'a Table, key: Key) -> Result<&'a str, SettingsFault>
+    ensures { IsTextAt key (table_view table.now) result }
+{
+    match value_at(table, key) {
+        None => Err(SettingsFault::Missing(key)),
+        Some(value) => match value.as_str() {
+            Some(text) => Ok(text),
+            None => Err(SettingsFault::Bad(key)),
+        },
+    }
+}
+
+/// An address and a port that have to be there.
+pub fn read_address(table: &Table, key: Key) -> Result<SocketAddr, SettingsFault>
+    ensures { IsAddressAt key (table_view table.now) result }
+{
+    let text = read_text(table, key)?;
+    match text.parse::<SocketAddr>() {
+        Ok(address) => Ok(address),
+        Err(_) => Err(SettingsFault::Bad(key)),
+    }
+}
+
+/// Whether a byte may stand in a host's name.
+fn is_host_byte(byte: u8) -> bool
+    ensures { IsTrue result ↔ IsHostByte byte }
+{
+    byte.is_ascii_alphanumeric() || byte == b'.' || byte == b'-'
+}
+
+/// Whether the bytes are a host's name: 1 to 64 ASCII letters, digits, dots and hyphens.
+pub fn is_host(name: &[u8]) -> bool
+    ensures { IsTrue result ↔ IsHost name.now }
+{
+    !name.is_empty() && name.len() <= 64 && name.iter().all(|byte| is_host_byte(*byte))
+}
+
+/// The host's name, which has to be there.
+pub fn read_host(alloc: Global, table: &Table) -> Result<Host, SettingsFault>
+    ensures ok { IfOk result (λ host. IsHostAt (table_view table.now) (Ok host)) }
+    ensures fault { IfErr result (λ e. e ≢ SettingsFault.Memory → IsHostAt (table_view table.now) (Err e)) }
+{
+    let text = read_text(table, Key::Host)?;
+    if !is_host(text.as_bytes()) {
+        return Err(SettingsFault::Bad(Key::Host));
+    }
+    Ok(Host::from_slice(alloc, text.as_bytes())?)
+}
+
+/// A number from `least` to `most`.
+fn count_in(key: Key, least: u32, most: u32, found: Option<i64>) -> Result<u32, SettingsFault>
+    ensures { result ≡ count_in key least most found }
+{
+    match found.map(u32::try_from) {
+        Some(Ok(count)) if least <= count && count <= most => Ok(count),
+        _ => Err(SettingsFault::Bad(key)),
+    }
+}
+
+/// A number from `least` to `most`; `absent` where there is none, which is `Missing` if that is
+/// `None`.
+pub fn read_count(
+    table: &Table,
+    key: Key,
+    least: u32,
+    most: u32,
+    absent: Option<u32>,
+) -> Result<u32, SettingsFault>
+    ensures { result ≡ count_at key least most (ok_or absent (SettingsFault.Missing key)) (table_view table.now) }
+{
+    match value_at(table, key) {
+        None => absent.ok_or(SettingsFault::Missing(key)),
+        Some(value) => count_in(key, least, most, value.as_integer()),
+    }
+}
+
+/// Minutes east of UTC, within a day.
+fn offset_in(found: Option<i64>) -> Result<i32, SettingsFault>
+    ensures { result ≡ offset_in found }
+{
+    match found.map(i32::try_from) {
+        Some(Ok(minutes)) if minutes >= -1439 && minutes <= 1439 => Ok(minutes),
+        _ => Err(SettingsFault::Bad(Key::Offset)),
+    }
+}
+
+/// Minutes east of UTC, which have to be there.
+pub fn read_offset(table: &Table) -> Result<i32, SettingsFault>
+    ensures { result ≡ offset_at (table_view table.now) }
+{
+    match value_at(table, Key::Offset) {
+        None => Err(SettingsFault::Missing(Key::Offset)),
+        Some(value) => offset_in(value.as_integer()),
+    }
+}
+
+/// The level of that name.
+fn level_named(name: &str) -> Option<LevelFilter>
+    ensures { result ≡ level_named name.now }
+{
+    match name {
+        "off" => Some(LevelFilter::Off),
+        "error" => Some(LevelFilter::Error),
+        "warn" => Some(LevelFilter::Warn),
+        "info" => Some(LevelFilter::Info),
+        _ => None,
+    }
+}
+
+/// How much is logged: warnings, if nothing is said.
+pub fn read_level(table: &Table) -> Result<LevelFilter, SettingsFault>
+    ensures { result ≡ level_at (table_view table.now) }
+{
+    let Some(value) = value_at(table, Key::Log) else {
+        return Ok(LevelFilter::Warn);
+    };
+    match value.as_str().and_then(level_named) {
+        Some(level) => Ok(level),
+        None => Err(SettingsFault::Bad(Key::Log)),
+    }
+}
+
+/// Where the ledger is kept.
+#[derive(Clone, Copy, Debug, PartialEq, Eq)]
+pub enum Place {
+    /// In the memory of the server, for as long as it runs.
+    Memory,
+}
+
+/// The place of that name.
+fn place_named(name: &str) -> Result<Place, SettingsFault>
+    ensures { result ≡ store_named name.now }
+{
+    if name == "memory" {
+        return Ok(Place::Memory);
+    }
+    Err(SettingsFault::Bad(Key::Store))
+}
+
+/// Where the ledger is kept, which has to be said.
+pub fn read_place(table: &Table) -> Result<Place, SettingsFault>
+    ensures { result ≡ store_at (table_view table.now) }
+{
+    match value_at(table, Key::Store) {
+        None => Err(SettingsFault::Missing(Key::Store)),
+        Some(value) => match value.as_str() {
+            Some(name) => place_named(name),
+            None => Err(SettingsFault::Bad(Key::Store)),
+        },
+    }
+}

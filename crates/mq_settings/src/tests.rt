@@ -1,0 +1,4 @@
+//! The settings files.
+
+mod files;
+mod settings;

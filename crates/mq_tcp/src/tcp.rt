@@ -1,0 +1,155 @@
+//! The link to the quota server over TCP: a connection for each exchange.
+ghost use Rattle.std.specs.Prelude.{◌≡◌, ◌≢◌, ◌≤◌, ℕ, List, [], ◌∷◌, Option, None, IsSome, IfSome, Err, OnOk, OnErr, IfErr, MatchOption, vec_len};
+ghost use Rattle.std.specs.Io.KnownBytes.{Appends};
+ghost use Rattle.std.specs.IoError.{error_kind};
+ghost use Rattle.mq_client.specs.Link.{Tells, outcome_of};
+ghost use Rattle.mq_frame.specs.Spelling.{in_2_bytes};
+ghost use Rattle.mq_tcp.specs.Exchange.{fault_of, IsReceived, IsHeadOnly};
+
+use mq_client::{Link, LinkFault};
+use std::io;
+use std::io::{ErrorKind, Read, Write};
+use std::marker::Model;
+use std::net::{Net, OpenStream, Shutdown, SocketAddr, TcpStream};
+use std::time::Duration;
+
+/// A call that took too long is `TimedOut`, whatever else went wrong is `Down`.
+fn fault_of(error: &io::Error) -> LinkFault
+    ensures { result ≡ fault_of (error_kind error.now) }
+{
+    match error.kind() {
+        ErrorKind::TimedOut | ErrorKind::WouldBlock => LinkFault::TimedOut,
+        _ => LinkFault::Down,
+    }
+}
+
+/// Writes a whole frame and ends the writing side.
+fn write_frame<S: Write + OpenStream>(stream: &mut S, frame: &[u8]) -> io::Result<()>
+    ensures { OnOk result (Appends (S.contents stream.old) (S.contents stream.new) frame.now) }
+{
+    stream.write_all(frame)?;
+    stream.shutdown(Shutdown::Write)
+}
+
+/// The length of the body that the two bytes of a head announce.
+fn length_of(high: u8, low: u8) -> usize
+    ensures spelled { in_2_bytes result ≡ high ∷ low ∷ [] }
+    ensures fits { result ≤ 65535 }
+{
+    usize::from(u16::from_be_bytes([high, low]))
+}
+
+/// Reads the body of one frame. The end of the input and a length of 0 are `Down`.
+fn read_body<S: Read>(stream: &mut S, reply: &mut Vec<u8>) -> Result<(), LinkFault>
+    ensures body { OnOk result (IsReceived (S.remaining stream.old) (S.remaining stream.new) reply.new.items) }
+    ensures empty { OnErr result (reply.new.items ≡ []) }
+    ensures memory { result ≡ Err LinkFault.Memory → IsHeadOnly (S.remaining stream.old) (S.remaining stream.new) }
+{
+    reply.clear();
+    let mut head = [0u8; 2];
+    if let Err(error) = stream.read_exact(&mut head) {
+        return Err(fault_of(&error));
+    }
+    let length = length_of(head[0], head[1]);
+    if length == 0 {
+        return Err(LinkFault::Down);
+    }
+    if reply.resize(length, 0).is_err() {
+        reply.clear();
+        return Err(LinkFault::Memory);
+    }
+    match stream.read_exact(reply.as_mut_slice()) {
+        Ok(()) => Ok(()),
+        Err(error) => {
+            reply.clear();
+            Err(fault_of(&error))
+        }
+    }
+}
+
+/// A link that makes a new connection for each frame. Contracts see the connection that is open.
+#[derive(Drop)]
+pub struct TcpLink<'a, R: Net> {
+    net: &'a R,
+    address: SocketAddr,
+    timeout: Duration,
+    stream: Option<R::Stream>,
+}
+
+impl<'a, R: Net> Model for TcpLink<'a, R> {
+    ghost Value = { Option R.Stream };
+
+    ghost view = { λ link. link.stream };
+}
+
+impl<'a, R: Net> TcpLink<'a, R> {
+    /// A link to this address, with no connection. `timeout` is that of each connect, read and
+    /// write, above 0.
+    pub fn new(net: &'a R, address: SocketAddr, timeout: Duration) -> TcpLink<'a, R>
+        ensures { result ≡ None }
+    {
+        TcpLink {
+            net,
+            address,
+            timeout,
+            stream: None,
+        }
+    }
+
+    /// Makes a new connection, writes the frame and ends the writing side. Where it fails no
+    /// connection is left.
+    pub fn send(&mut self, frame: &[u8]) -> Result<(), LinkFault>
+        ensures open { OnOk result (IsSome self.new) }
+        ensures closed { OnErr result (self.new ≡ None) }
+        ensures no_memory { IfErr result (λ fault. fault ≢ LinkFault.Memory) }
+    {
+        self.stream = None;
+        match self.connect_and_write(frame) {
+            Ok(stream) => {
+                self.stream = Some(stream);
+                Ok(())
+            }
+            Err(error) => Err(fault_of(&error)),
+        }
+    }
+
+    fn connect_and_write(&self, frame: &[u8]) -> io::Result<R::Stream> {
+        let mut stream = TcpStream::connect_timeout(self.net, &self.address, self.timeout)?;
+        stream.set_read_timeout(Some(self.timeout))?;
+        stream.set_write_timeout(Some(self.timeout))?;
+        write_frame(&mut stream, frame)?;
+        Ok(stream)
+    }
+
+    /// Reads one frame's body and drops the connection, also at a fault. Without a connection, at
+    /// the end of the input and at a length of 0 it is `Down`.
+    pub fn receive(&mut self, reply: &mut Vec<u8>) -> Result<(), LinkFault>
+        ensures closed { self.new ≡ None }
+        ensures body { MatchOption self.old (result ≡ Err LinkFault.Down)
+            (λ stream. OnOk result ((left : Option (List ℕ)) × IsReceived (R.Stream.remaining stream) left reply.new.items)) }
+        ensures empty { OnErr result (reply.new.items ≡ []) }
+        ensures memory { IfSome self.old (λ stream. result ≡ Err LinkFault.Memory →
+            (left : Option (List ℕ)) × IsHeadOnly (R.Stream.remaining stream) left) }
+    {
+        reply.clear();
+        let Some(mut stream) = self.stream.take() else {
+            return Err(LinkFault::Down);
+        };
+        read_body(&mut stream, reply)
+    }
+}
+
+impl<R: Net> Link for TcpLink<'_, R> {
+    /// Sends the frame over a new connection and reads one body of 1 to 65,535 bytes; no connection
+    /// is left.
+    fn exchange(&mut self, frame: &[u8], reply: &mut Vec<u8>) -> Result<(), LinkFault>
+        ensures told { Tells None None (record { frame = frame.now; outcome = outcome_of result reply.new.items } ∷ []) }
+        ensures empty { OnErr result (reply.new.items ≡ []) }
+        ensures body { OnOk result (1 ≤ vec_len reply.new × vec_len reply.new ≤ 65535) }
+        ensures closed { self.new ≡ None }
+    {
+        reply.clear();
+        self.send(frame)?;
+        self.receive(reply)
+    }
+}
