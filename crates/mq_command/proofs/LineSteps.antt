@@ -1,5 +1,5 @@
 -- One line more of a text, and what the lines still to come make of the bytes read so far.
-use Rattle.std.proofs.Common.{◌≡◌, ℕ, ◌+◌, ◌<◌, ◌≤◌, ◌==◌, nat_lt, Bool, true, false, cond, not, List, [], ◌∷◌, ◌++◌, length, filter, map, drop, get_or, position, Option, Some, None, option_map, is_err, refl, sym, ap, ◌∙◌, append_assoc, append-nil, arith, inl, inr}
+use Rattle.std.proofs.Common.{◌≡◌, ℕ, ◌+◌, ◌<◌, nat_lt, Bool, true, false, List, [], ◌∷◌, ◌++◌, length, filter, map, drop, get_or, Some, None, is_err, refl, sym, ap, ◌∙◌, append_assoc, append-nil, arith, inl, inr}
 use Rattle.std.specs.List.{slice_split, onto_first, flat_map, position_or_len}
 use Rattle.std.proofs.lemmas.Bool.{lt-ltb, le-ltb, eqb-true, cases_lt}
 use Rattle.std.proofs.lemmas.List.{drop_more, drop_all, get_or_default}

@@ -1,5 +1,4 @@
-use Rattle.std.proofs.Common.{rules, tests, arith, eqb, ap, sym, ◌∙◌, ◌≡◌, ◌++◌, ◌+◌, true, false, [], Some, not, is_err, map, length, drop}
-use Rattle.std.proofs.lemmas.Grind.{common_steps}
+use Rattle.std.proofs.Common.{rules, tests, arith, eqb, ap, sym, ◌∙◌, ◌≡◌, ◌++◌, ◌+◌, true, false, [], Some, not, is_err, map, length}
 use Rattle.std.proofs.lemmas.List.{length_push}
 use Rattle.std.proofs.lemmas.List.Sums.{count_by-le-length}
 use Rattle.std.proofs.lemmas.List.Splits.{length-slice_split}
@@ -7,8 +6,8 @@ use Rattle.std.proofs.lemmas.Iterator.Consumers.{YieldsList-turn, YieldsList-end
 use Rattle.std.proofs.lemmas.Iterator.Splits.{YieldsList-from_slice_split}
 use Rattle.std.specs.Result.{result_unwrap_or}
 use Rattle.hex.specs.Hex.{decode_of}
-use Rattle.mq_command.specs.Connections.{lines_of, digits_of, is_empty_line, is_not_hex}
-use Rattle.mq_command.proofs.LineSteps.{joined, joined-start, joined_over_empty_line, joined_over_line, joined_over_end, hex_more, empty_line_is_hex, at_line, first_bad, none_bad}
+use Rattle.mq_command.specs.Connections.{digits_of, is_empty_line, is_not_hex}
+use Rattle.mq_command.proofs.LineSteps.{joined-start, joined_over_empty_line, joined_over_line, joined_over_end, hex_more, empty_line_is_hex, at_line, first_bad, none_bad}
 use Rattle.mq_command.proofs.connections.read_connections.Goals as goal
 
 pub loop-line-init : goal.loop-line-init

@@ -1,4 +1,4 @@
-use Rattle.std.proofs.Common.{◌≡◌, [], ◌∷◌, sym, ◌∙◌}
+use Rattle.std.proofs.Common.{◌≡◌, [], ◌∷◌, ◌∙◌}
 use Rattle.hex.specs.Hex.{encode_lower}
 use Rattle.mq_command.proofs.Fronts.{front_first, front_later}
 use Rattle.mq_command.proofs.output.write_hex_line.Goals as goal

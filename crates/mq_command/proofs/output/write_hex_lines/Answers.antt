@@ -1,7 +1,6 @@
-use Rattle.std.proofs.Common.{◌≡◌, ◌∙◌, sym, ap, map, length}
+use Rattle.std.proofs.Common.{◌≡◌, ◌∙◌, ap, map}
 use Rattle.std.proofs.lemmas.Iterator.Adapters.{YieldsList-from_vec}
 use Rattle.std.proofs.lemmas.Iterator.Consumers.{YieldsList-so_far, YieldsList-turn}
-use Rattle.mq_command.specs.Output.{AppendsFront, hex_line}
 use Rattle.mq_command.proofs.Fronts.{front_of_line, around_place}
 use Rattle.mq_command.proofs.output.write_hex_lines.Goals as goal
 

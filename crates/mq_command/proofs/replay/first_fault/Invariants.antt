@@ -1,5 +1,4 @@
 use Rattle.std.proofs.Common.{◌≡◌, ◌+◌, drop}
-use Rattle.std.specs.List.{slice_get, enumerate_from}
 use Rattle.mq_command.specs.Replay.{faults_of, faults_from}
 use Rattle.mq_command.proofs.replay.first_fault.Given as goal
 

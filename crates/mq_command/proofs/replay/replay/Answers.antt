@@ -1,5 +1,4 @@
-use Rattle.std.proofs.Common.{◌≡◌, List, ℕ, [], sym, ap, ◌∙◌, map, rules}
-use Rattle.std.proofs.lemmas.Grind.{common_steps}
+use Rattle.std.proofs.Common.{◌≡◌, [], sym, ap, ◌∙◌, map, rules}
 use Rattle.std.specs.List.{slice_get}
 use Rattle.mq_command.specs.Replay.{faults_of}
 use Rattle.mq_command.proofs.EndSteps.{nothing_first}

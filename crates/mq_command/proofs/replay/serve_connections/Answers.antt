@@ -1,6 +1,4 @@
-use Rattle.std.proofs.Common.{◌≡◌, ◌≤◌, List, ℕ, sym, ap, ◌∙◌, map, length, arith, rules, subst}
-use Rattle.mq_server.specs.Connections.{wires, result_of, AreServed}
-use Rattle.mq_command.specs.Replay.{IsReplay}
+use Rattle.std.proofs.Common.{◌≡◌, ap, ◌∙◌, length, arith}
 use Rattle.mq_command.proofs.ReplaySteps.{of_serving, written_back}
 use Rattle.mq_command.proofs.replay.serve_connections.Goals as goal
 
