@@ -4,9 +4,8 @@ use Rattle.std.specs.Prelude.{IfErr}
 use Rattle.std.specs.Result.{IsErrAnd}
 use Rattle.std.specs.declared.net.SocketAddr.{SocketAddr}
 use Rattle.toml.specs.Data.{Members}
-use Rattle.log.specs.declared.level.LevelFilter.{LevelFilter}
 use Rattle.mq_settings.specs.Keys.{filter_keys, server_keys, HasOnly}
-use Rattle.mq_settings.specs.Settings.{Spells, IsTableRefusal, memory, IsHostAt, IsAddressAt, tries_at, timeout_at, default_at, offset_at, store_at, level_at, IsFilterFault, IsFilterRefusal, IsServerFault, IsServerRefusal}
+use Rattle.mq_settings.specs.Settings.{Spells, IsTableRefusal, memory, IsHostAt, IsAddressAt, tries_at, timeout_at, default_at, offset_at, store_at, level_at, IsFilterRefusal, IsServerRefusal}
 use Rattle.mq_settings.specs.declared.settings.key.Key.TheVariants.{Server, Listen}
 use Rattle.mq_settings.specs.declared.settings.value.Place.{Place}
 use Rattle.mq_settings.specs.declared.settings.fault.SettingsFault.{SettingsFault}

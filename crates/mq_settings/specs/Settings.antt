@@ -1,5 +1,5 @@
 -- What settings mean, read off the table that the text spells.
-use Rattle.std.specs.Prelude.{◌≡◌, ℕ, ℤ, pos, negsuc, nat_le, int_le, ◌&&◌, ◌⊎◌, List, [], ◌∷◌, codes, bytes_eq, Option, None, Some, Result, Ok, Err, MatchOption, MatchResult, IsOkAnd, String, string_bytes, if◌then◌else◌}
+use Rattle.std.specs.Prelude.{◌≡◌, ℕ, ℤ, pos, negsuc, nat_le, int_le, ◌&&◌, ◌⊎◌, List, codes, bytes_eq, Option, None, Some, Result, Ok, Err, MatchOption, MatchResult, IsOkAnd, String, string_bytes, if◌then◌else◌}
 use Rattle.std.specs.Borrow.{Bor}
 use Rattle.std.specs.Str.{IsUtf8}
 use Rattle.std.specs.declared.alloc.Global.{Global}

@@ -1,4 +1,4 @@
-use Rattle.std.proofs.Common.{rules, arith}
+use Rattle.std.proofs.Common.{rules}
 use Rattle.mq_settings.proofs.FileSteps.{whole_of}
 use Rattle.mq_settings.proofs.file.read_limited.Goals as goal
 

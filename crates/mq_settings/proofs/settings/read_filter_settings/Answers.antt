@@ -1,4 +1,4 @@
-use Rattle.std.proofs.Common.{sym, ◌∙◌}
+use Rattle.std.proofs.Common.{sym}
 use Rattle.toml.specs.View.{table_view}
 use Rattle.mq_settings.specs.Settings.{IsFilterRefusal}
 use Rattle.mq_settings.proofs.SettingsFaults.{of_error, filter_at_host, filter_at_tries, filter_at_timeout, filter_at_log}

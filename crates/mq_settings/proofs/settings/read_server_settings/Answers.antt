@@ -1,4 +1,4 @@
-use Rattle.std.proofs.Common.{sym, ◌∙◌}
+use Rattle.std.proofs.Common.{sym}
 use Rattle.toml.specs.View.{table_view}
 use Rattle.mq_settings.specs.Settings.{IsServerRefusal}
 use Rattle.mq_settings.proofs.SettingsFaults.{of_error, server_at_default, server_at_offset, server_at_timeout, server_at_log}

@@ -1,10 +1,10 @@
-use Rattle.std.proofs.Common.{◌≡◌, List, ℕ, Result, Ok, Err, true, false, sym, subst, ap, ◌∙◌, rules, String, Global, string_bytes}
-use Rattle.std.specs.Prelude.{IfErr, IsTrue}
+use Rattle.std.proofs.Common.{◌≡◌, List, ℕ, Result, Ok, Err, sym, subst, ◌∙◌, rules, string_bytes}
+use Rattle.std.specs.Prelude.{IfErr}
 use Rattle.std.specs.Result.{IsErrAnd}
 use Rattle.std.proofs.lemmas.Bool.{false≢true}
 use Rattle.toml.specs.View.{table_view}
 use Rattle.mq_settings.specs.Keys.{IsLeastUnknown}
-use Rattle.mq_settings.specs.Settings.{IsTableRefusal, Spells, memory, no_table, unknown_name}
+use Rattle.mq_settings.specs.Settings.{IsTableRefusal, memory, no_table, unknown_name}
 use Rattle.mq_settings.specs.declared.settings.key.Key.{Key}
 use Rattle.mq_settings.specs.declared.settings.fault.SettingsFault.{SettingsFault}
 use Rattle.mq_settings.specs.declared.settings.fault.SettingsFault.TheVariants.{Memory}
