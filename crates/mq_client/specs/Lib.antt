@@ -2,6 +2,7 @@ pub mod Link
 pub mod Exchanges
 pub mod Past
 pub mod Held
+pub mod Named
 pub mod Inside
 pub mod Filter
 pub mod Run

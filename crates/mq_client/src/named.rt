@@ -1,22 +1,27 @@
 //! How a warning names a request.
-use mq_frame::Request;
+ghost use Rattle.std.specs.Prelude.{Some};
+ghost use Rattle.std.specs.Fmt.{DisplaysOnOk};
+ghost use Rattle.mq_client.specs.Named.{name_of, request_name};
+
+use mq_frame::{Escaped, Id, Login, Request};
 use std::fmt;
 
-/// Bytes as text: visible ASCII but `\` as it is, any other byte as `\x` and two hexadecimal digits.
-#[derive(Clone, Copy)]
-struct Escaped<'a>(&'a [u8]);
-
-impl fmt::Display for Escaped<'_> {
-    fn fmt<W: fmt::Write>(&self, f: &mut fmt::Formatter<W>) -> fmt::Result {
-        for &byte in self.0 {
-            if byte >= 0x21 && byte <= 0x7e && byte != b'\\' {
-                write!(f, "{}", char::from(byte))?;
-            } else {
-                write!(f, "\\x{byte:02x}")?;
-            }
-        }
-        Ok(())
-    }
+fn write_name<W: fmt::Write>(
+    f: &mut fmt::Formatter<W>,
+    kind: &str,
+    id: &Id,
+    txn: u32,
+    login: &Login,
+) -> fmt::Result
+    ensures { DisplaysOnOk W.write_str_gives f.old result (Some (name_of kind.now id.now txn login.now)) f.new }
+{
+    let host = Escaped(id.host.as_slice());
+    let login = Escaped(login.as_slice());
+    write!(
+        f,
+        "{kind} {} of transaction {txn} (host {host}, login {login})",
+        id.seq
+    )
 }
 
 /// A request of a client by its kind and number, with the transaction, the host and the login, so that one line of a
@@ -25,19 +30,14 @@ impl fmt::Display for Escaped<'_> {
 pub struct Named<'a>(pub &'a Request);
 
 impl fmt::Display for Named<'_> {
+    ghost output = { λ named. Some (request_name named.0.now) };
+
     fn fmt<W: fmt::Write>(&self, f: &mut fmt::Formatter<W>) -> fmt::Result {
-        let (kind, id, txn, login) = match self.0 {
-            Request::Reserve { id, txn, login, .. } => ("reserve", id, *txn, login),
-            Request::Settle { id, txn, login, .. } => ("settle", id, *txn, login),
-            Request::Release { id, txn, login, .. } => ("release", id, *txn, login),
-            _ => return Ok(()),
-        };
-        let host = Escaped(id.host.as_slice());
-        let login = Escaped(login.as_slice());
-        write!(
-            f,
-            "{kind} {} of transaction {txn} (host {host}, login {login})",
-            id.seq
-        )
+        match self.0 {
+            Request::Reserve { id, txn, login, .. } => write_name(f, "reserve", id, *txn, login),
+            Request::Settle { id, txn, login, .. } => write_name(f, "settle", id, *txn, login),
+            Request::Release { id, txn, login, .. } => write_name(f, "release", id, *txn, login),
+            _ => Ok(()),
+        }
     }
 }

@@ -1,6 +1,5 @@
 pub mod Asking
 pub mod Connections
 pub mod Output
-pub mod Printed
 pub mod Replay
 pub mod Report

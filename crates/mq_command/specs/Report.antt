@@ -6,13 +6,13 @@ use Rattle.std.specs.Cmp.Lexicographic.{slice_cmp}
 use Rattle.std.specs.Fmt.{decimal}
 use Rattle.std.specs.Io.KnownBytes.{Appends, Keeps}
 use Rattle.std.specs.List.{flat_map}
+use Rattle.mq_frame.specs.Escaped.{escaped}
 use Rattle.mq_frame.specs.declared.message.Request.TheVariants as asks
 use Rattle.mq_frame.specs.declared.message.Reply.TheVariants as says
 use Rattle.mq_frame.specs.declared.usage.UsageRow.{UsageRow}
 use Rattle.mq_client.specs.declared.link.Told.{Told}
 use Rattle.mq_command.specs.Asking.{Asks, IsAnswered}
 use Rattle.mq_command.specs.Output.{AppendsFront}
-use Rattle.mq_command.specs.Printed.{login_bytes}
 use Rattle.mq_command.specs.declared.output.OutputFault.{OutputFault}
 use Rattle.mq_command.specs.declared.output.OutputFault.TheVariants as outputs
 use Rattle.mq_command.specs.declared.report.ReportFault.{ReportFault}
@@ -24,7 +24,7 @@ column n = replicate (7 - length (decimal n)) 32 ++ decimal n ++ 32 ∷ []
 
 -- the line of a login: what is settled and reserved, the limit, and the login
 abbrev pub row_line : UsageRow → List ℕ
-row_line row = column row.settled ++ column row.reserved ++ column row.cap ++ login_bytes row.login ++ 10 ∷ []
+row_line row = column row.settled ++ column row.reserved ++ column row.cap ++ escaped row.login ++ 10 ∷ []
 
 abbrev pub report_lines : List UsageRow → List ℕ
 report_lines rows = flat_map row_line rows

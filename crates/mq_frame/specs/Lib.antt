@@ -1,3 +1,4 @@
+pub mod Escaped
 pub mod Feed
 pub mod Flow
 pub mod Parts

@@ -6,6 +6,7 @@
 mod decode;
 mod encode;
 mod error;
+mod escaped;
 mod feed;
 mod fields;
 mod host;
@@ -25,6 +26,7 @@ mod usage;
 pub use decode::{DecodeFault, decode_reply, decode_request};
 pub use encode::{encode_reply, encode_request};
 pub use error::{Failed, Memory};
+pub use escaped::Escaped;
 pub use feed::{FrameFault, FrameFeed, REPLY_LIMIT, REQUEST_LIMIT};
 pub use host::Host;
 pub use login::Login;

@@ -1,8 +1,8 @@
 //! Frames and bodies from the format's worked examples, and what no contract says.
 use crate::{
-    DecodeFault, Failed, FrameFault, FrameFeed, FromRead, Host, Id, Login, Memory, REPLY_LIMIT,
-    REQUEST_LIMIT, Reply, Request, Sink, Source, ToWrite, UsageRow, UsageRows, decode_reply,
-    decode_request, encode_reply, encode_request, is_reply, is_request,
+    DecodeFault, Escaped, Failed, FrameFault, FrameFeed, FromRead, Host, Id, Login, Memory,
+    REPLY_LIMIT, REQUEST_LIMIT, Reply, Request, Sink, Source, ToWrite, UsageRow, UsageRows,
+    decode_reply, decode_request, encode_reply, encode_request, is_reply, is_request,
 };
 use std::alloc::{AllocError, Global};
 use std::io;
@@ -815,5 +815,20 @@ fn text_of_faults(rt: HostRuntime) -> Result<(), Fail> {
         format!(in alloc; "{}", DecodeFault::Memory)?.as_str(),
         "out of memory"
     );
+    Ok(())
+}
+
+#[test]
+fn bytes_that_others_chose(rt: HostRuntime) -> Result<(), Fail> {
+    let rows: [(&[u8], &str); 4] = [
+        (b"mx1.example-2", "mx1.example-2"),
+        (b"a b\\", "a\\x20b\\x5c"),
+        (b"\x20\x21\x7e\x7f", "\\x20!~\\x7f"),
+        (b"\x00\xff|\n", "\\x00\\xff|\\x0a"),
+    ];
+    for (bytes, text) in rows {
+        let printed = Escaped(bytes).to_string(rt.alloc())?;
+        assert_eq!(rt; printed.as_str(), text);
+    }
     Ok(())
 }

@@ -1,4 +1,4 @@
--- How a login is printed.
+-- How bytes that others chose are printed.
 use Rattle.std.specs.Prelude.{ℕ, ◌+◌, ◌/◌, ◌%◌, ◌&&◌, ◌==◌, not, nat_le, nat_lt, Bool, List, [], ◌∷◌, if◌then◌else◌}
 use Rattle.std.specs.List.{flat_map}
 
@@ -14,5 +14,5 @@ is_plain byte = nat_le 0x21 byte && nat_le byte 0x7e && not (byte == 92)
 abbrev pub byte_text : ℕ → List ℕ
 byte_text byte = if is_plain byte then byte ∷ [] else 92 ∷ 120 ∷ digit_text (byte / 16) ∷ digit_text (byte % 16) ∷ []
 
-abbrev pub login_bytes : List ℕ → List ℕ
-login_bytes login = flat_map byte_text login
+abbrev pub escaped : List ℕ → List ℕ
+escaped bytes = flat_map byte_text bytes
