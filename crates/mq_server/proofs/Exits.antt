@@ -1,25 +1,25 @@
 -- What stands at each way out of a connection.
 use Rattle.std.specs.Prelude.{IfOk, IfErr}
-use Rattle.std.proofs.Common.{◌≡◌, ◌≢◌, ℕ, ◌+◌, ◌<◌, ◌≤◌, List, [], ◌∷◌, ◌++◌, length, refl, sym, ap, subst, ◌∙◌, append-nil, append_assoc, length-append, arith, Option, Some, None, Result, Ok, Err}
-use Rattle.std.specs.Io.KnownBytes.{Appends, Consumes, IsAtEnd, Keeps}
+use Rattle.std.proofs.Common.{◌≡◌, ℕ, ◌+◌, ◌<◌, ◌≤◌, List, [], ◌∷◌, ◌++◌, length, refl, sym, ap, subst, ◌∙◌, append-nil, length-append, arith, Option, Some, None, Result, Ok, Err}
+use Rattle.std.specs.Io.KnownBytes.{Appends, Consumes, IsAtEnd}
 use Rattle.std.proofs.KnownBytes.{Appends-trans, Appends-kept, Consumes-trans}
 use Rattle.mq_frame.specs.declared.message.Reply.{Reply}
 use Rattle.mq_frame.specs.declared.message.Reply.TheVariants.{Bad}
-use Rattle.mq_frame.specs.Spelling.{SpellsRequest, frame, reply_body}
+use Rattle.mq_frame.specs.Spelling.{frame, reply_body}
 use Rattle.mq_frame.specs.Feed.{Front, Nothing, Cut, EmptyHead, LongHead, Whole}
 use Rattle.mq_ledger.specs.declared.entry.Entry.{Entry}
 use Rattle.mq_ledger.specs.Legal.{Book}
 use Rattle.mq_server.specs.declared.connection.Served.{Served}
-use Rattle.mq_server.specs.declared.connection.Served.TheVariants.{Ended, Enough, BadFrame, CutFrame}
+use Rattle.mq_server.specs.declared.connection.Served.TheVariants.{Enough, BadFrame}
 use Rattle.mq_server.specs.declared.fault.ServeFault.{ServeFault}
 use Rattle.mq_server.specs.declared.fault.ServeFault.TheVariants.{Read, Write, Memory, Store}
 use Rattle.mq_server.specs.Delivery.{Delivery, history_after, answer_to, answers}
-use Rattle.mq_server.specs.Connection.{Wire, Serves, Leaves}
-use Rattle.mq_server.specs.Exits.{IsPart, due}
+use Rattle.mq_server.specs.Connection.{Wire, Serves}
+use Rattle.mq_server.specs.Exits.{IsPart}
 use Rattle.mq_server.specs.Steps.{IsUnsent, Refills, Takes, end_at}
-use Rattle.mq_server.specs.Text.{Asks, IsBad, IsEnd, IsPartial, farewell, frames_of, next, served}
+use Rattle.mq_server.specs.Text.{IsBad, IsEnd, IsPartial, farewell, frames_of, next}
 use Rattle.mq_server.proofs.Heads.{partial_short, left_short}
-use Rattle.mq_server.proofs.Running.{Came, SoFar, Finds, came_read, came_more, due_here, frames_of_push, answered_more}
+use Rattle.mq_server.proofs.Running.{SoFar, Finds, came_read, came_more, due_here, frames_of_push, answered_more}
 
 -- the connection was served, and the ledger's history is the one after its deliveries
 abbrev pub Exits : Book → Wire → Wire → Result Served ServeFault → List Entry → Type 0

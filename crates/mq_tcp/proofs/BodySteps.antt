@@ -1,7 +1,7 @@
 -- What was read of one frame.
-use Rattle.std.proofs.Common.{◌≡◌, ℕ, ◌<◌, ◌≤◌, List, [], ◌∷◌, ◌++◌, Option, None, Some, IfSome, length, take, get_or, inl, inr, refl, sym, ◌∙◌, ap, subst, arith}
+use Rattle.std.proofs.Common.{◌≡◌, ℕ, ◌<◌, ◌≤◌, List, [], ◌∷◌, ◌++◌, Option, length, take, get_or, inl, inr, refl, sym, ◌∙◌, ap, subst, arith}
 use Rattle.std.proofs.lemmas.Bool.{cases_lt}
-use Rattle.std.proofs.lemmas.List.{take_all, take-append-le, length-take, get_or_past}
+use Rattle.std.proofs.lemmas.List.{take_all, take-append-le, get_or_past}
 use Rattle.std.proofs.KnownBytes.{Consumes-trans}
 use Rattle.mq_frame.specs.Spelling.{in_2_bytes}
 use Rattle.std.specs.Io.KnownBytes.{Consumes}

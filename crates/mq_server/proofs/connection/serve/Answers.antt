@@ -1,16 +1,12 @@
-use Rattle.std.proofs.Common.{◌≡◌, ℕ, ◌+◌, ◌<◌, List, [], ◌++◌, length, refl, sym, ap, subst, ◌∙◌, arith, rules, true, false, Ok, Err, Some, None, Result, Option, Bool, length-append}
+use Rattle.std.proofs.Common.{◌≡◌, ℕ, ◌+◌, List, [], ◌++◌, length, refl, ap, subst, ◌∙◌, arith, true, false, Ok, Err, Some, None, Option, Bool, length-append}
 use Rattle.std.proofs.lemmas.Result.{err_from_is_err_and}
-use Rattle.std.specs.Io.KnownBytes.{Consumes}
 use Rattle.mq_frame.specs.Feed.{Feed}
 use Rattle.mq_frame.specs.declared.message.Reply.{Reply}
-use Rattle.mq_ledger.specs.Legal.{Book}
 use Rattle.mq_server.specs.Steps.{Refills, Takes, end_at}
-use Rattle.mq_server.specs.Text.{next}
-use Rattle.mq_server.specs.declared.connection.Served.{Served}
 use Rattle.mq_server.specs.declared.fault.ServeFault.{ServeFault}
 use Rattle.mq_server.proofs.Heads.{Answers, bad_head, no_frame, no_frame_left, a_frame, same_limit, front_of, partial_short, left_short}
-use Rattle.mq_server.proofs.Running.{SoFar, Finds, start_empty, read_more}
-use Rattle.mq_server.proofs.Exits.{Exits, exits_as, refill_failed, input_ended, refused, no_request, take_failed, sent, send_failed, enough}
+use Rattle.mq_server.proofs.Running.{Finds, start_empty, read_more}
+use Rattle.mq_server.proofs.Exits.{exits_as, refill_failed, input_ended, refused, no_request, take_failed, sent, send_failed, enough}
 use Rattle.mq_server.proofs.connection.serve.Goals as goal
 
 no_fault : {A : Type 0} (x : A) (fault : ServeFault) → Ok x ≡ Err fault → ⊥

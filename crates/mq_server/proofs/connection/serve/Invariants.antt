@@ -1,5 +1,4 @@
-use Rattle.std.proofs.Common.{◌≡◌, ℕ, ◌+◌, ◌-◌, ◌*◌, ◌<◌, length, false}
-use Rattle.mq_server.specs.Connection.{Wire}
+use Rattle.std.proofs.Common.{◌≡◌, ◌+◌, ◌-◌, ◌*◌, ◌<◌, length, false}
 use Rattle.mq_server.proofs.Running.{SoFar}
 use Rattle.mq_server.proofs.connection.serve.Given as goal
 

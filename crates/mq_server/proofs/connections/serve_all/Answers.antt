@@ -1,5 +1,4 @@
-use Rattle.std.proofs.Common.{◌≡◌, ℕ, ◌+◌, ◌<◌, List, [], ◌∷◌, ◌++◌, length, map, take, get_or, set, refl, sym, ap, subst, ◌∙◌, arith, Ok, Err, true, Result}
-use Rattle.std.proofs.lemmas.Result.{err_from_is_err_and}
+use Rattle.std.proofs.Common.{◌≡◌, ◌+◌, ◌<◌, [], ◌∷◌, ◌++◌, length, map, take, get_or, set, sym, ap, ◌∙◌, arith, Err, Result}
 use Rattle.std.proofs.lemmas.List.{take_more_set, map-append, length-map, length-append, length-set}
 use Rattle.mq_server.specs.declared.connections.ConnectionEnd.{ConnectionEnd as End}
 use Rattle.mq_server.specs.declared.connection.Served.{Served}
@@ -7,7 +6,7 @@ use Rattle.mq_server.specs.declared.fault.ServeFault.{ServeFault}
 use Rattle.mq_server.specs.declared.fault.ServeFault.TheVariants.{Store}
 use Rattle.mq_server.specs.Connections.{result_of}
 use Rattle.mq_server.proofs.Deliveries.{Follows}
-use Rattle.mq_server.proofs.Turns.{All, turn, zip_push}
+use Rattle.mq_server.proofs.Turns.{turn, zip_push}
 use Rattle.mq_server.proofs.connections.serve_all.Goals as goal
 
 pub returns-in_err-end-clause-store : goal.returns-in_err-end-clause-store
