@@ -12,7 +12,7 @@ MANDIR = $(PREFIX)/share/man
 EXAMPLEDIR = $(PREFIX)/share/examples/mailquota
 DOCDIR = $(PREFIX)/share/doc/mailquota
 
-.PHONY: all build demo check program-tests smtpd install clean
+.PHONY: all build demo check edits program-tests smtpd install clean
 
 all: build
 
@@ -26,6 +26,10 @@ demo: build
 
 check:
 	@$(RT) ci
+
+# The must-fail edits that the gate leaves out for its time.
+edits:
+	@RT=$(RT) sh tests/edits/run.sh
 
 # The program over loopback, as peers, smtpd and administrators use it: Python 3 alone, about two minutes.
 program-tests:
