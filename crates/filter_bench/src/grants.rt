@@ -4,17 +4,8 @@ use mq_client::{Link, LinkFault};
 /// Grants, settles and releases whatever is asked.
 #[derive(Drop)]
 pub struct Grants {
-    exchanges: u64,
-}
-
-impl Grants {
-    pub fn new() -> Grants {
-        Grants { exchanges: 0 }
-    }
-
-    pub fn exchanges(&self) -> u64 {
-        self.exchanges
-    }
+    /// How many exchanges there were.
+    pub exchanges: u64,
 }
 
 /// The kind of reply to a kind of request.

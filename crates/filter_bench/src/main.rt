@@ -45,7 +45,7 @@ fn main(rt: HostRuntime) -> io::Result<()> {
     let Some(mut client) = client_of(alloc)? else {
         return Ok(());
     };
-    let mut link = Grants::new();
+    let mut link = Grants { exchanges: 0 };
     let mut input = FromRead::new(text.as_slice());
     let mut output = ToWrite::new(Vec::new(alloc));
     let ended = run_filter(
@@ -62,7 +62,7 @@ fn main(rt: HostRuntime) -> io::Result<()> {
     out.write_all(results.as_slice())?;
     match ended {
         Ok(ended) => {
-            let exchanges = link.exchanges();
+            let exchanges = link.exchanges;
             writeln!(
                 out,
                 "answers {} exchanges {exchanges} left {}",
