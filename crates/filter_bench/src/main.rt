@@ -7,35 +7,18 @@ mod grants;
 use crate::grants::Grants;
 use log::sink::Discard;
 use mq_client::{Client, run_filter};
-use mq_frame::{FromRead, Host, Id, Login, Request, ToWrite, is_request};
+use mq_frame::{FromRead, Host, ToWrite, is_host};
 use std::alloc::{AllocError, Global};
 use std::io;
 use std::io::{BufWriter, Read, Write};
 
-/// A request by this host, whose fields are in range where the host is.
-fn probe(alloc: Global, host: &[u8]) -> Result<Request, AllocError> {
-    Ok(Request::Release {
-        id: Id {
-            host: Host::from_slice(alloc, host)?,
-            run: 1,
-            seq: 1,
-        },
-        txn: 1,
-        at: 86_400,
-        login: Login::from_slice(alloc, b"u")?,
-    })
-}
-
 /// A client of the host mx1.
 fn client_of(alloc: Global) -> Result<Option<Client>, AllocError> {
-    let request = probe(alloc, b"mx1")?;
-    if !is_request(&request) {
+    let host = Host::from_slice(alloc, b"mx1")?;
+    if !is_host(host.as_slice()) {
         return Ok(None);
     }
-    let Request::Release { id, .. } = &request else {
-        return Ok(None);
-    };
-    Ok(Client::new(alloc, &id.host, 1, 3).ok())
+    Ok(Client::new(alloc, &host, 1, 3).ok())
 }
 
 fn main(rt: HostRuntime) -> io::Result<()> {

@@ -1,5 +1,5 @@
 //! What an administrator asks of the server: `limit` and `report`.
-ghost use Rattle.std.specs.Prelude.{◌≡◌, ◌↔◌, Err, IsTrue, IfOk, IfSome, MatchResult, option_map};
+ghost use Rattle.std.specs.Prelude.{◌≡◌, Err, IfOk, IfSome, MatchResult, option_map};
 ghost use Rattle.std.specs.Net.Grammar.{IsSocketText};
 ghost use Rattle.mq_frame.specs.Range.{IsHost, IsLogin, IsDay};
 ghost use Rattle.mq_frame.specs.declared.message.Request.TheVariants.{Limit};
@@ -9,8 +9,7 @@ use crate::arguments::{LimitArguments, ReportArguments};
 use crate::clock::run_number;
 use crate::fault::ProgramFault;
 use mq_command::{run_limit, run_report};
-use mq_frame::{Host, Id, Login, Request};
-use mq_settings::is_host;
+use mq_frame::{Host, Id, Login, Request, is_host, is_login};
 use mq_tcp::TcpLink;
 use std::alloc::{AllocError, Global};
 use std::io;
@@ -21,13 +20,6 @@ use std::time::Duration;
 
 /// How long a connect, a read or a write may take, in milliseconds.
 const TIMEOUT: u64 = 2_000;
-
-/// Whether the bytes are a login: 1 to 255 of any value.
-fn is_login(login: &[u8]) -> bool
-    ensures { IsTrue result ↔ IsLogin login.now }
-{
-    !login.is_empty() && login.len() <= 255
-}
 
 /// The numeric address and port that a text spells.
 fn address_of(text: &str) -> Result<SocketAddr, ProgramFault>

@@ -6,21 +6,18 @@ ghost use Rattle.std.specs.Time.{system_time_nanos};
 ghost use Rattle.mq_frame.specs.Range.{IsRun};
 
 use crate::fault::ProgramFault;
+use mq_frame::is_run;
 use std::rt::Clock;
 use std::time::{Duration, SystemTime, UNIX_EPOCH};
-
-/// The greatest number of a run.
-const GREATEST_RUN: u64 = 281_474_976_710_655;
 
 /// The whole milliseconds of a time, where they can be a run's number.
 fn run_of(time: Duration) -> Option<u64>
     ensures { SomeIff result (IsRun (as_nanos time / 1_000_000)) (as_nanos time / 1_000_000) }
 {
-    let millis = time.as_millis();
-    if millis >= 1 && millis <= u128::from(GREATEST_RUN) {
-        return Some(millis as u64);
+    match u64::try_from(time.as_millis()) {
+        Ok(millis) if is_run(millis) => Some(millis),
+        _ => None,
     }
-    None
 }
 
 /// The milliseconds from 1970 to this moment, where they can be a run's number.

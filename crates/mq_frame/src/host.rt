@@ -8,7 +8,7 @@ use std::marker::Model;
 /// The name of a mail host, as bytes.
 ///
 /// One of 1 to 64 bytes, each an ASCII letter, a digit, `.` or `-`, has a place in a frame;
-/// `is_request` and `is_reply` test that.
+/// `is_host` tests that.
 #[derive(Debug, Drop)]
 pub struct Host {
     bytes: Vec<u8>,

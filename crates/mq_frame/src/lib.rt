@@ -31,7 +31,7 @@ pub use feed::{FrameFault, FrameFeed, REPLY_LIMIT, REQUEST_LIMIT};
 pub use host::Host;
 pub use login::Login;
 pub use message::{Id, Reply, Request};
-pub use range::{is_reply, is_request};
+pub use range::{is_host, is_login, is_moment, is_reply, is_request, is_run};
 pub use sink::{Sink, ToWrite};
 pub use source::{FromRead, Source};
 pub use usage::{UsageRow, UsageRows};

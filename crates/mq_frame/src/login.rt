@@ -8,7 +8,7 @@ use std::marker::Model;
 /// The name that a user logged in by, as smtpd reports it: bytes of any value, compared byte for
 /// byte.
 ///
-/// One of 1 to 255 bytes has a place in a frame; `is_request` and `is_reply` test that.
+/// One of 1 to 255 bytes has a place in a frame; `is_login` tests that.
 #[derive(Debug, Drop)]
 pub struct Login {
     bytes: Vec<u8>,

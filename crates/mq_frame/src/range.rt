@@ -1,30 +1,23 @@
 //! Whether the fields of a value are in the ranges of the link's format.
 ghost use Rattle.std.specs.Prelude.{◌↔◌, IsTrue};
-ghost use Rattle.mq_frame.specs.Range.{IsWithin, IsHost, IsLogin, IsAfter, IsOrdinal, IsMoment, IsDay, IsCount, IsAmount, IsId, IsRow, IsPage, IsRequest, IsReply};
+ghost use Rattle.mq_frame.specs.Range.{IsHost, IsLogin, IsAfter, IsRun, IsOrdinal, IsMoment, IsDay, IsCount, IsAmount, IsId, IsRow, IsPage, IsRequest, IsReply};
 
 use crate::fields::are_host_bytes;
-use crate::host::Host;
 use crate::login::Login;
 use crate::message::{Id, Reply, Request};
 use crate::usage::{UsageRow, UsageRows};
 
-fn is_within(low: u64, high: u64, number: u64) -> bool
-    ensures { IsTrue result ↔ IsWithin low high number }
+/// Whether the bytes are a host's name: 1 to 64 bytes, each an ASCII letter, a digit, `.` or `-`.
+pub fn is_host(bytes: &[u8]) -> bool
+    ensures { IsTrue result ↔ IsHost bytes.now }
 {
-    low <= number && number <= high
-}
-
-fn is_host(host: &Host) -> bool
-    ensures { IsTrue result ↔ IsHost host.now }
-{
-    let bytes = host.as_slice();
     1 <= bytes.len() && bytes.len() <= 64 && are_host_bytes(bytes)
 }
 
-fn is_login(login: &Login) -> bool
-    ensures { IsTrue result ↔ IsLogin login.now }
+/// Whether the bytes are a login: 1 to 255 bytes of any value.
+pub fn is_login(bytes: &[u8]) -> bool
+    ensures { IsTrue result ↔ IsLogin bytes.now }
 {
-    let bytes = login.as_slice();
     1 <= bytes.len() && bytes.len() <= 255
 }
 
@@ -34,13 +27,22 @@ fn is_after(after: &Login) -> bool
     after.as_slice().len() <= 255
 }
 
+/// Whether the number can be a run's: of 48 bits, and not 0.
+pub fn is_run(run: u64) -> bool
+    ensures { IsTrue result ↔ IsRun run }
+{
+    1 <= run && run <= 281_474_976_710_655
+}
+
 fn is_ordinal(number: u32) -> bool
     ensures { IsTrue result ↔ IsOrdinal number }
 {
     1 <= number
 }
 
-fn is_moment(at: u64) -> bool
+/// Whether a moment, in seconds since 1970-01-01T00:00:00Z, lies from 1970-01-02T00:00:00Z to
+/// 3000-01-01T00:00:00Z, both included.
+pub fn is_moment(at: u64) -> bool
     ensures { IsTrue result ↔ IsMoment at }
 {
     86_400 <= at && at <= 32_503_680_000
@@ -67,13 +69,16 @@ fn is_amount(amount: u32) -> bool
 fn is_id(id: &Id) -> bool
     ensures { IsTrue result ↔ IsId id.now }
 {
-    is_host(&id.host) && is_within(1, 281_474_976_710_655, id.run) && is_ordinal(id.seq)
+    is_host(id.host.as_slice()) && is_run(id.run) && is_ordinal(id.seq)
 }
 
 fn is_row(row: &UsageRow) -> bool
     ensures { IsTrue result ↔ IsRow row.now }
 {
-    is_login(&row.login) && is_amount(row.settled) && is_amount(row.reserved) && is_amount(row.cap)
+    is_login(row.login.as_slice())
+        && is_amount(row.settled)
+        && is_amount(row.reserved)
+        && is_amount(row.cap)
 }
 
 fn is_page(rows: &UsageRows) -> bool
@@ -102,18 +107,22 @@ pub fn is_request(request: &Request) -> bool
             login,
             count,
         } => {
-            is_id(id) && is_ordinal(*txn) && is_moment(*at) && is_login(login) && is_count(*count)
+            is_id(id)
+                && is_ordinal(*txn)
+                && is_moment(*at)
+                && is_login(login.as_slice())
+                && is_count(*count)
         }
         Request::Release { id, txn, at, login } => {
-            is_id(id) && is_ordinal(*txn) && is_moment(*at) && is_login(login)
+            is_id(id) && is_ordinal(*txn) && is_moment(*at) && is_login(login.as_slice())
         }
         Request::Limit {
             id,
             from_day,
             cap,
             login,
-        } => is_id(id) && is_day(*from_day) && is_amount(*cap) && is_login(login),
-        Request::Usage { login, day } => is_login(login) && is_day(*day),
+        } => is_id(id) && is_day(*from_day) && is_amount(*cap) && is_login(login.as_slice()),
+        Request::Usage { login, day } => is_login(login.as_slice()) && is_day(*day),
         Request::List { day, after } => is_day(*day) && is_after(after),
     }
 }
@@ -140,7 +149,7 @@ pub fn is_reply(reply: &Reply) -> bool
             reserved,
             cap,
         } => {
-            is_login(login)
+            is_login(login.as_slice())
                 && is_day(*day)
                 && is_amount(*settled)
                 && is_amount(*reserved)

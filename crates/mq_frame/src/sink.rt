@@ -1,7 +1,8 @@
 //! Where bytes go: a sink, which fails for good once it has failed.
-ghost use Rattle.std.specs.Prelude.{◌≡◌, ℕ, ◌<◌, List, Bool, false, true, Option, None, IfOk, IsErr, is_err, length};
+ghost use Rattle.std.specs.Prelude.{◌≡◌, ◌≢◌, ℕ, ◌<◌, List, Bool, false, true, Option, None, Some, IfOk, OnOk, IsErr, is_err, length};
 ghost use Rattle.std.specs.Io.{WritesAtMost};
 ghost use Rattle.std.specs.Io.KnownBytes.{WriteAppends, Keeps};
+ghost use Rattle.mq_frame.specs.Flow.{IsFlushed};
 
 use crate::error::Failed;
 use std::io::Write;
@@ -12,6 +13,9 @@ pub trait Sink {
     // The bytes that it holds, where they are known.
     ghost contents: { Self → Option (List ℕ) } = { λ _. None };
 
+    // Whether all that it took was handed on, where it tells.
+    ghost has_flushed: { Self → Option Bool } = { λ _. None };
+
     // Whether a call has failed.
     ghost has_failed: { Self → Bool };
 
@@ -21,12 +25,14 @@ pub trait Sink {
         ensures bound { WritesAtMost result piece.now }
         ensures some { IfOk result (λ count. 0 < length piece.now → 0 < count) }
         ensures bytes { WriteAppends (contents self.old) (contents self.new) result piece.now }
+        ensures unflushed { IfOk result (λ count. 0 < count → has_flushed self.new ≢ Some true) }
         ensures failed { has_failed self.new ≡ is_err result }
         ensures for_good { has_failed self.old ≡ true → IsErr result };
 
     /// Hands on what was taken.
     fn flush(&mut self) -> Result<(), Failed>
         ensures bytes { Keeps (contents self.old) (contents self.new) }
+        ensures flushed { OnOk result (IsFlushed (has_flushed self.new)) }
         ensures failed { has_failed self.new ≡ is_err result }
         ensures for_good { has_failed self.old ≡ true → IsErr result };
 }

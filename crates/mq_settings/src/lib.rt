@@ -8,6 +8,6 @@ mod tests;
 
 pub use file::{FileFault, read_file, read_limited};
 pub use settings::{
-    FilterSettings, Key, Place, ServerSettings, SettingsFault, is_host, read_filter_settings,
+    FilterSettings, Key, Place, ServerSettings, SettingsFault, read_filter_settings,
     read_server_settings,
 };

@@ -14,7 +14,7 @@ use log::LevelFilter;
 use mq_frame::Host;
 use std::alloc::Global;
 use std::net::SocketAddr;
-pub use value::{Place, is_host};
+pub use value::Place;
 
 /// What the filter runs by.
 #[derive(Debug, Drop)]

@@ -1,14 +1,13 @@
 //! The value of one key of a table of settings.
-ghost use Rattle.std.specs.Prelude.{◌≡◌, ◌↔◌, ◌≤ℤ◌, pos, negsuc, Ok, Err, None, Some, ◌≢◌, IfOk, IfErr, IsTrue, ok_or};
+ghost use Rattle.std.specs.Prelude.{◌≡◌, ◌≤ℤ◌, pos, negsuc, Ok, Err, None, Some, ◌≢◌, IfOk, IfErr, ok_or};
 ghost use Rattle.toml.specs.View.{table_view};
-ghost use Rattle.mq_frame.specs.Range.{IsHost, IsHostByte};
 ghost use Rattle.mq_settings.specs.Settings.{IsTextAt, IsHostAt, IsAddressAt, count_at, count_in, offset_in, offset_at, level_named, level_at, store_named, store_at};
 
 use crate::settings::fault::SettingsFault;
 use crate::settings::key::Key;
 use crate::settings::table::value_at;
 use log::LevelFilter;
-use mq_frame::Host;
+use mq_frame::{Host, is_host};
 use std::alloc::Global;
 use std::net::SocketAddr;
 use toml::Table;
@@ -35,20 +34,6 @@ pub fn read_address(table: &Table, key: Key) -> Result<SocketAddr, SettingsFault
         Ok(address) => Ok(address),
         Err(_) => Err(SettingsFault::Bad(key)),
     }
-}
-
-/// Whether a byte may stand in a host's name.
-fn is_host_byte(byte: u8) -> bool
-    ensures { IsTrue result ↔ IsHostByte byte }
-{
-    byte.is_ascii_alphanumeric() || byte == b'.' || byte == b'-'
-}
-
-/// Whether the bytes are a host's name: 1 to 64 ASCII letters, digits, dots and hyphens.
-pub fn is_host(name: &[u8]) -> bool
-    ensures { IsTrue result ↔ IsHost name.now }
-{
-    !name.is_empty() && name.len() <= 64 && name.iter().all(|byte| is_host_byte(*byte))
 }
 
 /// The host's name, which has to be there.
