@@ -3,19 +3,18 @@ use Rattle.std.proofs.Common.{◌≡◌, ℕ, Bool, true, false, List, [], ◌�
 use Rattle.mq_line.specs.Grammar.{Meaning}
 use Rattle.mq_line.specs.Results.{registration}
 use Rattle.mq_line.specs.Text.{IsLine, IsTooLong, Holds, text_of, lines as all_lines, left as left_over}
-use Rattle.mq_client.specs.Past.{Source, Drain, Step, State, StandsAt as PastStandsAt, view, ArePlayed}
-use Rattle.mq_client.specs.Turns.{outcomes}
-use Rattle.mq_client.specs.Filter.{Filters, push, actions, endings, answer_count}
+use Rattle.mq_client.specs.Past.{Source, Drain, Step, drained, State, StandsAt as PastStandsAt, view, ArePlayed}
+use Rattle.mq_client.specs.Turns.{all_outcomes}
+use Rattle.mq_client.specs.Filter.{Filters, push, actions, answer_count}
 use Rattle.mq_client.specs.Run.{Stage, Waiting, Running, Reaches, HasText, Origin, StandsFirst, EndsWith, IsFound, IsInHand, StopsAt}
 use Rattle.mq_client.specs.Place.{is_of_input}
-use Rattle.mq_client.specs.Whole.{AreWhole, all_outcomes, drained}
 use Rattle.mq_client.specs.declared.faults.FilterFault.{FilterFault}
 use Rattle.mq_client.specs.declared.faults.FilterFault.TheVariants as at
 use Rattle.mq_client.specs.declared.filter.Ended.{Ended}
 use Rattle.mq_client.specs.declared.link.Told.{Told}
 use Rattle.mq_client.proofs.Looping.{is_line_none}
+use Rattle.mq_client.proofs.Turning.{OneReply}
 use Rattle.mq_client.proofs.Sameness.{cons_head, cons_tail, same_actions, same_texts, same_played, same_lines}
-use Rattle.mq_client.proofs.Wholes.{same_whole}
 use Rattle.mq_client.proofs.Placing.{Grammar, Front, Unread, Untracked, TooEarly, NeverReady, Over, InLine, Long, Fate, AtLine, AtEnd, true_false, some_is, none_some, same_place}
 
 -- how a text is cut into lines
@@ -148,23 +147,14 @@ stops_from G C o p bytes others rest more sink sink' read_failed write_failed re
           (steps ∙ done ∙ sym steps', text ∙ wrote ∙ sym text'),
     )
 
-pub same_stops : (G : Grammar) (C : Cutting) (o p : Origin) (bytes others rest more : List ℕ) (sink sink' : Option (List ℕ)) (read_failed write_failed read_failed' write_failed' : Bool) (told told' : Option (List Told)) (client client' : State) (f g : FilterFault)
+pub same_stops : OneReply → (G : Grammar) (C : Cutting) (o p : Origin) (bytes others rest more : List ℕ) (sink sink' : Option (List ℕ)) (read_failed write_failed read_failed' write_failed' : Bool) (told told' : Option (List Told)) (client client' : State) (f g : FilterFault)
     (h : StopsAt o bytes (Some rest) sink read_failed write_failed told client f) (i : StopsAt p others (Some more) sink' read_failed' write_failed' told' client' g)
     → bytes ++ rest ≡ others ++ more → is_of_input f ≡ true → is_of_input g ≡ true
-    → (f ≡ g) × (h.lines ≡ i.lines) × ((P : List Step) → PastStandsAt o.client P → p.client ≡ o.client → endings (push h.step h.steps) ≡ endings (push i.step i.steps)
+    → (f ≡ g) × (h.lines ≡ i.lines) × ((P : List Step) → PastStandsAt o.client P → p.client ≡ o.client → all_outcomes (push h.step h.steps) ≡ all_outcomes (push i.step i.steps)
     → (push h.step h.steps ≡ push i.step i.steps) × (h.text ++ h.front ≡ i.text ++ i.front))
-same_stops G C o p bytes others rest more sink sink' read_failed write_failed read_failed' write_failed' told told' client client' f g h i e of_f of_g =
+same_stops U G C o p bytes others rest more sink sink' read_failed write_failed read_failed' write_failed' told told' client client' f g h i e of_f of_g =
     let (fault, lines, done) = stops_from G C o p bytes others rest more sink sink' read_failed write_failed read_failed' write_failed' told told' client client' f g h i e of_f of_g in
-    (fault, lines, λ P st start ended. done P st start (λ m t acts. same_played o.client.source o.client.tries P (push h.step h.steps) (push i.step i.steps) m t acts ended))
-
-pub flat_stops : (G : Grammar) (C : Cutting) (o p : Origin) (bytes others rest more : List ℕ) (sink sink' : Option (List ℕ)) (read_failed write_failed read_failed' write_failed' : Bool) (told told' : Option (List Told)) (client client' : State) (f g : FilterFault) (P : List Step)
-    (h : StopsAt o bytes (Some rest) sink read_failed write_failed told client f) (i : StopsAt p others (Some more) sink' read_failed' write_failed' told' client' g)
-    → bytes ++ rest ≡ others ++ more → is_of_input f ≡ true → is_of_input g ≡ true → PastStandsAt o.client P → p.client ≡ o.client
-    → AreWhole o.client.source o.client.tries P (push h.step h.steps) → AreWhole o.client.source o.client.tries P (push i.step i.steps)
-    → all_outcomes (push h.step h.steps) ≡ all_outcomes (push i.step i.steps) → (push h.step h.steps ≡ push i.step i.steps) × (h.text ++ h.front ≡ i.text ++ i.front)
-flat_stops G C o p bytes others rest more sink sink' read_failed write_failed read_failed' write_failed' told told' client client' f g P h i e of_f of_g st start sent sent' ended =
-    let (fault, lines, done) = stops_from G C o p bytes others rest more sink sink' read_failed write_failed read_failed' write_failed' told told' client client' f g h i e of_f of_g in
-    done P st start (λ m t acts. same_whole o.client.source o.client.tries P (push h.step h.steps) (push i.step i.steps) m t sent sent' acts ended)
+    (fault, lines, λ P st start ended. done P st start (λ m t acts. same_played U o.client.source o.client.tries P (push h.step h.steps) (push i.step i.steps) m t acts ended))
 
 -- a run to the end of the input
 end_fate : (C : Cutting) (L : List Meaning) → Fate (Running L) (all_lines []) (left_over []) None
@@ -218,19 +208,10 @@ ends_from G C o p bytes sink sink' told told' client client' e f P h i st start 
     ∙ sym (i.left (theirs ++ P) (i.made.stands P st')) in
     (steps, group, same_texts i.after_ready h.steps i.steps h.results i.results steps filters i.filters, same_ended e f (h.answers ∙ ap answer_count past ∙ sym i.answers) left)
 
-pub same_ends : (G : Grammar) (C : Cutting) (o p : Origin) (bytes : List ℕ) (sink sink' : Option (List ℕ)) (told told' : Option (List Told)) (client client' : State) (e f : Ended) (P : List Step)
+pub same_ends : OneReply → (G : Grammar) (C : Cutting) (o p : Origin) (bytes : List ℕ) (sink sink' : Option (List ℕ)) (told told' : Option (List Told)) (client client' : State) (e f : Ended) (P : List Step)
     (h : EndsWith o bytes sink told client e) (i : EndsWith p bytes sink' told' client' f)
-    → PastStandsAt o.client P → p.client ≡ o.client → endings h.steps ≡ endings i.steps → outcomes h.group ≡ outcomes i.group
+    → PastStandsAt o.client P → p.client ≡ o.client → all_outcomes (drained h.group h.steps) ≡ all_outcomes (drained i.group i.steps)
     → (h.steps ≡ i.steps) × (h.group ≡ i.group) × (h.results ≡ i.results) × (e ≡ f)
-same_ends G C o p bytes sink sink' told told' client client' e f P h i st start ended drain =
-    let ends : endings (drained h.group h.steps) ≡ endings (drained i.group i.steps) = ap (λ x. x ∷ endings h.steps) drain ∙ ap (λ l. outcomes i.group ∷ l) ended in
+same_ends U G C o p bytes sink sink' told told' client client' e f P h i st start ended =
     ends_from G C o p bytes sink sink' told told' client client' e f P h i st start
-    (λ m t acts. same_played o.client.source o.client.tries P (drained h.group h.steps) (drained i.group i.steps) m t acts ends)
-
-pub flat_ends : (G : Grammar) (C : Cutting) (o p : Origin) (bytes : List ℕ) (sink sink' : Option (List ℕ)) (told told' : Option (List Told)) (client client' : State) (e f : Ended) (P : List Step)
-    (h : EndsWith o bytes sink told client e) (i : EndsWith p bytes sink' told' client' f) → PastStandsAt o.client P → p.client ≡ o.client
-    → AreWhole o.client.source o.client.tries P (drained h.group h.steps) → AreWhole o.client.source o.client.tries P (drained i.group i.steps)
-    → all_outcomes (drained h.group h.steps) ≡ all_outcomes (drained i.group i.steps) → (h.steps ≡ i.steps) × (h.group ≡ i.group) × (h.results ≡ i.results) × (e ≡ f)
-flat_ends G C o p bytes sink sink' told told' client client' e f P h i st start sent sent' ended =
-    ends_from G C o p bytes sink sink' told told' client client' e f P h i st start
-    (λ m t acts. same_whole o.client.source o.client.tries P (drained h.group h.steps) (drained i.group i.steps) m t sent sent' acts ended)
+    (λ m t acts. same_played U o.client.source o.client.tries P (drained h.group h.steps) (drained i.group i.steps) m t acts ended)

@@ -2,10 +2,11 @@
 use Rattle.std.proofs.Common.{◌≡◌, ℕ, ◌+◌, ◌-◌, ◌<◌, ◌≤◌, ◌==◌, ◌||◌, nat_le, Bool, false, true, List, [], ◌∷◌, ◌++◌, refl, sym, ◌∙◌, subst, arith, Option, None, Some, is_some, if◌then◌else◌}
 use Rattle.std.specs.List.{AllByRecursion}
 use Rattle.std.proofs.lemmas.Bool.{eqb-true, leb-false, ltb-false}
-use Rattle.mq_frame.specs.Range.{IsOrdinal, IsMoment, IsLogin, IsRequest}
-use Rattle.mq_frame.specs.declared.message.Request.{Request}
+use Rattle.mq_frame.specs.Range.{IsOrdinal, IsMoment, IsLogin}
 use Rattle.mq_client.specs.Past.{find, opened, let_through, refuses, is_other}
 use Rattle.mq_client.specs.Held.{IsHeld, AllHeld}
+use Rattle.mq_client.specs.Framed.{IsFramed}
+use Rattle.mq_client.specs.declared.tries.Framed.{Framed}
 use Rattle.mq_client.specs.declared.held.Asked.{Asked}
 use Rattle.mq_client.specs.declared.held.Asked.TheVariants as asked
 use Rattle.mq_client.specs.declared.held.Held.{Held}
@@ -70,6 +71,6 @@ has_room (Some h) live numbers waiting at login e places limit =
       few = λ at' login'. omega (arith, leb-false 1000 h.granted c);
     }
 
-pub in_range_push : (xs : List Request) (x : Request) → AllByRecursion IsRequest xs → IsRequest x → AllByRecursion IsRequest (xs ++ x ∷ [])
-in_range_push [] x all i = (i, tt)
-in_range_push (y ∷ xs) x all i = (all.0, in_range_push xs x all.1 i)
+pub framed_push : (xs : List Framed) (x : Framed) → AllByRecursion IsFramed xs → IsFramed x → AllByRecursion IsFramed (xs ++ x ∷ [])
+framed_push [] x all i = (i, tt)
+framed_push (y ∷ xs) x all i = (all.0, framed_push xs x all.1 i)

@@ -4,6 +4,7 @@ pub mod Counting
 pub mod Making
 pub mod Keeping
 pub mod Looping
+pub mod Refusing
 pub mod Bounding
 pub mod Turning
 pub mod ReadingOff
@@ -11,4 +12,3 @@ pub mod WaitingOff
 pub mod Sameness
 pub mod Placing
 pub mod Ending
-pub mod Wholes

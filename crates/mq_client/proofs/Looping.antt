@@ -14,12 +14,13 @@ use Rattle.mq_line.specs.declared.reading.Line.TheVariants as line
 use Rattle.mq_track.specs.Sessions.{closing, fault}
 use Rattle.mq_track.specs.State.{StandsAt, State as State'}
 use Rattle.mq_track.specs.declared.fault.TrackFault.{TrackFault}
+use Rattle.mq_track.specs.declared.fault.TrackFault.TheVariants as track
 use Rattle.mq_client.specs.Link.{Tells}
 use Rattle.mq_client.specs.Exchanges.{Exchange, told_all}
 use Rattle.mq_client.specs.Past.{Source, Drain, Step, State, StandsAt as PastStandsAt, view, Plays, Makes, MakesAll, told_steps}
 use Rattle.mq_client.specs.Filter.{Takes, Closes, push, is_filter, answer_count}
-use Rattle.mq_client.specs.Run.{IsEarly, is_early, IsReady, Stage, Waiting, Running, Origin, StandsFirst, EndsWith, IsFound, MayGo, IsInHand, StopsAt}
-use Rattle.mq_client.specs.Loop.{Does, MakesOne, told_one, IsAt, SoFar, Carries, IsCut, IsRefused, Replies}
+use Rattle.mq_client.specs.Run.{IsEarly, is_early, IsReady, Stage, Waiting, Running, Origin, StandsFirst, EndsWith, IsAtWork, IsFound, MayGo, IsInHand, StopsAt}
+use Rattle.mq_client.specs.Loop.{Does, MakesOne, told_one, IsAt, SoFar, Carries, IsCut, IsRefused, Replies, StopsWithin}
 use Rattle.mq_client.specs.declared.faults.FilterFault.{FilterFault}
 use Rattle.mq_client.specs.declared.faults.FilterFault.TheVariants as at
 use Rattle.mq_client.specs.declared.filter.Ended.{Ended}
@@ -215,17 +216,28 @@ stops o bytes left f source sink sink' read_failed write_failed told told' clien
   made = makes_push o.client client client' s.steps step s.made does.made;
 }
 
+-- a run that stops while lines are handled
+pub stops_within : (o : Origin) (bytes left : List ℕ) (f : Filter) (source sink sink' : Option (List ℕ)) (read_failed write_failed : Bool) (told told' : Option (List Told)) (client client' : State) (fault : FilterFault) (step : Option Step) (front rest : List ℕ)
+    → SoFar o bytes left f sink told client → Does sink sink' told told' client client' step front
+    → ((stage : Stage) → IsAt f stage → IsFound fault stage bytes left source read_failed write_failed)
+    → ((stage : Stage) → IsAt f stage → IsInHand fault stage left step (front ++ rest))
+    → ((stage : Stage) → IsAt f stage → fault ≡ at.Memory → IsAtWork stage left)
+    → StopsWithin o bytes source sink' read_failed write_failed told' client' fault
+unfolding stops
+stops_within o bytes left f source sink sink' read_failed write_failed told told' client client' fault step front rest s does found in_hand work =
+    (stops o bytes left f source sink sink' read_failed write_failed told told' client client' fault step front rest s does found in_hand, λ e. work s.stage s.is_at e)
+
 -- a fault that cuts a line's work short
-pub cut_found : (fault : FilterFault) (stage : Stage) (bytes left : List ℕ) (source : Option (List ℕ)) (read_failed write_failed : Bool) → IsCut fault write_failed → IsFound fault stage bytes left source read_failed write_failed
-cut_found at.Write stage bytes left source read_failed write_failed c = c
-cut_found at.Memory stage bytes left source read_failed write_failed c = tt
-cut_found (at.Line f) stage bytes left source read_failed write_failed c = absurd c
-cut_found (at.Track f) stage bytes left source read_failed write_failed c = absurd c
-cut_found at.NotReady stage bytes left source read_failed write_failed c = absurd c
-cut_found at.EndedEarly stage bytes left source read_failed write_failed c = absurd c
-cut_found at.CutLine stage bytes left source read_failed write_failed c = absurd c
-cut_found at.TooLong stage bytes left source read_failed write_failed c = absurd c
-cut_found at.Read stage bytes left source read_failed write_failed c = absurd c
+pub cut_found : (fault : FilterFault) (stage : Stage) (bytes left : List ℕ) (source : Option (List ℕ)) (read_failed write_failed : Bool) → IsCut fault write_failed → IsAtWork stage left → IsFound fault stage bytes left source read_failed write_failed
+cut_found at.Write stage bytes left source read_failed write_failed c w = c
+cut_found at.Memory stage bytes left source read_failed write_failed c w = inr w
+cut_found (at.Line f) stage bytes left source read_failed write_failed c w = absurd c
+cut_found (at.Track f) stage bytes left source read_failed write_failed c w = absurd c
+cut_found at.NotReady stage bytes left source read_failed write_failed c w = absurd c
+cut_found at.EndedEarly stage bytes left source read_failed write_failed c w = absurd c
+cut_found at.CutLine stage bytes left source read_failed write_failed c w = absurd c
+cut_found at.TooLong stage bytes left source read_failed write_failed c w = absurd c
+cut_found at.Read stage bytes left source read_failed write_failed c w = absurd c
 
 pub cut_in_hand : (fault : FilterFault) (stage : Stage) (left : List ℕ) (write_failed : Bool) (step : Option Step) (next : List ℕ) → IsCut fault write_failed → MayGo stage left step next → IsInHand fault stage left step next
 cut_in_hand at.Write stage left write_failed step next c h = h
@@ -276,14 +288,27 @@ may_go f stage line rest seconds subsystem phase session token more step next h 
     let (L, is, tracks, counted) = at_running f stage h a in
     rw is (inr (line, first_of line rest one, (FilterLine seconds subsystem phase session token more, reads, replies L tracks)))
 
+-- a request is at work
+pub request_works : (f : Filter) (stage : Stage) (line rest : List ℕ) (seconds : ℕ) (subsystem phase session token more : List ℕ) → f.is_ready ≡ true → IsAt f stage → IsLine line → Reads line (FilterLine seconds subsystem phase session token more)
+    → IsAtWork stage (line ++ 10 ∷ rest)
+request_works f stage line rest seconds subsystem phase session token more h a one reads =
+    let (L, is, tracks, counted) = at_running f stage h a in
+    rw is (FilterLine seconds subsystem phase session token more, line, first_of line rest one, reads, refl)
+
+track_apart : {e : TrackFault} → at.Track e ≡ at.Memory → ⊥
+track_apart h = cc (h)
+
 -- a line that wasn't noted
 pub refused_stops : (fault : FilterFault) (f : Filter) (stage : Stage) (bytes line rest : List ℕ) (m : Meaning) (source : Option (List ℕ)) (read_failed write_failed : Bool) → f.is_ready ≡ true → IsAt f stage → IsLine line → Reads line m
     → ((L : List Meaning) → StandsAt f.tracker L → IsRefused fault L m)
-    → IsFound fault stage bytes (line ++ 10 ∷ rest) source read_failed write_failed × IsInHand fault stage (line ++ 10 ∷ rest) None []
+    → IsFound fault stage bytes (line ++ 10 ∷ rest) source read_failed write_failed × IsInHand fault stage (line ++ 10 ∷ rest) None [] × (fault ≡ at.Memory → IsAtWork stage (line ++ 10 ∷ rest))
 refused_stops (at.Track e) f stage bytes line rest m source read_failed write_failed h a one reads refused =
     let (L, is, tracks, counted) = at_running f stage h a in
-    ((L, m, line, is, first_of line rest one, reads, refused L tracks), (refl, refl))
-refused_stops at.Memory f stage bytes line rest m source read_failed write_failed h a one reads refused = (tt, inl (refl, refl))
+    ((L, m, line, is, first_of line rest one, reads, refused L tracks), (refl, refl), λ e. absurd (track_apart e))
+refused_stops at.Memory f stage bytes line rest m source read_failed write_failed h a one reads refused =
+    let (L, is, tracks, counted) = at_running f stage h a in
+    let work : IsAtWork stage (line ++ 10 ∷ rest) = rw is (m, line, first_of line rest one, reads, refused L tracks) in
+    (inr work, inl (refl, refl), λ e. work)
 refused_stops (at.Line e) f stage bytes line rest m source read_failed write_failed h a one reads refused = let (L, is, tracks, counted) = at_running f stage h a in absurd (refused L tracks)
 refused_stops at.NotReady f stage bytes line rest m source read_failed write_failed h a one reads refused = let (L, is, tracks, counted) = at_running f stage h a in absurd (refused L tracks)
 refused_stops at.EndedEarly f stage bytes line rest m source read_failed write_failed h a one reads refused = let (L, is, tracks, counted) = at_running f stage h a in absurd (refused L tracks)

@@ -1,5 +1,6 @@
 -- A run depends on the bytes that were read, on what stood before it, and on how its exchanges ended.
-use Rattle.std.proofs.Common.{◌≡◌, ℕ, true, List, [], ◌∷◌, ◌++◌, refl, sym, ap, ◌∙◌, subst, Option, None, Some}
+use Rattle.std.proofs.Common.{◌≡◌, ℕ, true, List, [], ◌∷◌, ◌++◌, refl, sym, ap, ◌∙◌, subst, append_assoc, Option, None, Some}
+use Rattle.std.proofs.lemmas.List.{append_cancel_right}
 use Rattle.std.specs.List.{AllByRecursion}
 use Rattle.std.specs.Option.{option_map}
 use Rattle.mq_line.specs.Grammar.{Meaning, ConfigLine, ReadyLine, ReportLine, FilterLine, OtherLine, Reads}
@@ -7,12 +8,13 @@ use Rattle.mq_line.specs.Results.{result_text}
 use Rattle.mq_line.specs.declared.results.Decision.{Decision}
 use Rattle.mq_track.specs.Sessions.{closing}
 use Rattle.mq_track.specs.declared.closing.Closing.{Closing}
-use Rattle.mq_client.specs.Exchanges.{Exchange}
+use Rattle.mq_frame.specs.declared.message.Request.{Request}
+use Rattle.mq_client.specs.Exchanges.{Exchange, lacks_memory}
 use Rattle.mq_client.specs.Past.{Source, Action, Ask, Step, answer_of, view, held_for, ArePlayed}
-use Rattle.mq_client.specs.Turns.{outcomes, queue_of, ComeInTurn}
-use Rattle.mq_client.specs.Filter.{Query, Passes, Refuses, Asks, query, decision_of, Answers, Closes, Takes, push, Filters, actions, endings}
+use Rattle.mq_client.specs.Turns.{Ending, outcomes, all_outcomes, queue_of, next_of, ComeInTurn}
+use Rattle.mq_client.specs.Filter.{Query, Passes, Refuses, Asks, query, decision_of, Answers, Closes, Takes, push, Filters, actions}
 use Rattle.mq_client.specs.Run.{is_early, IsEarly, AreRead, IsReady}
-use Rattle.mq_client.proofs.Turning.{turns, same_turns}
+use Rattle.mq_client.proofs.Turning.{OneReply, turns, none_next, same_turns}
 
 pub cons_head : {A : Type 0} (x y : A) (xs ys : List A) → x ∷ xs ≡ y ∷ ys → x ≡ y
 cons_head x y xs ys e = cc
@@ -132,17 +134,46 @@ same_step x y e f =
     let B : List Exchange → Step = λ g. record { action = y.action; group = g } in
     ap A e ∙ ap B f
 
-pub same_played : (s : Source) (n : ℕ) (P steps others : List Step) → ArePlayed s n P steps → ArePlayed s n P others → actions steps ≡ actions others → endings steps ≡ endings others → steps ≡ others
-same_played s n P [] [] h i e f = refl
-same_played s n P [] (y ∷ others) h i e f = absurd (nil_cons y.action (actions others) e)
-same_played s n P (x ∷ steps) [] h i e f = absurd (nil_cons x.action (actions steps) (sym e))
-same_played s n P (x ∷ steps) (y ∷ others) h i e f =
-    let rest = same_played s n P steps others h.1 i.1 (cons_tail x.action y.action (actions steps) (actions others) e) (cons_tail (outcomes x.group) (outcomes y.group) (endings steps) (endings others) f) in
+-- steps of the same actions, whose exchanges ended alike one after another, are the same
+
+none_some : {A : Type 0} (x : A) → None ≡ Some x → ⊥
+none_some x e = cc
+
+-- no exchange comes in turn after the last one
+no_more : OneReply → (n : ℕ) (queue : List Request) (g h : List Exchange) (b : Ending) (D : List Ending) → ComeInTurn n queue g → ComeInTurn n queue h → next_of n queue h ≡ None → outcomes g ≡ b ∷ (D ++ outcomes h) → ⊥
+no_more U n queue [] h b D c d last e = nil_cons b (D ++ outcomes h) e
+no_more U n queue (x ∷ g) h b [] c d last e =
+    let same = same_turns U n queue g h c.2 d (cons_tail (record { outcome = x.outcome; lacked_memory = lacks_memory x.mark }) b (outcomes g) (outcomes h) e) in
+    none_some x.request (sym last ∙ sym (ap (next_of n queue) same) ∙ c.0)
+no_more U n queue (x ∷ g) h b (z ∷ D) c d last e = no_more U n queue g h z D c.2 d last (cons_tail (record { outcome = x.outcome; lacked_memory = lacks_memory x.mark }) b (outcomes g) (z ∷ D ++ outcomes h) e)
+
+same_groups : OneReply → (n : ℕ) (queue : List Request) (g h : List Exchange) (A B : List Ending) → ComeInTurn n queue g → ComeInTurn n queue h → next_of n queue g ≡ None → next_of n queue h ≡ None → A ++ outcomes g ≡ B ++ outcomes h → g ≡ h
+same_groups U n queue g h [] [] c d last last' e = same_turns U n queue g h c d e
+same_groups U n queue g h [] (b ∷ B) c d last last' e = absurd (no_more U n queue g h b B c d last' e)
+same_groups U n queue g h (a ∷ A) [] c d last last' e = absurd (no_more U n queue h g a A d c last (sym e))
+same_groups U n queue g h (a ∷ A) (b ∷ B) c d last last' e = same_groups U n queue g h A B c d last last' (cons_tail a b (A ++ outcomes g) (B ++ outcomes h) e)
+
+same_from : OneReply → (s : Source) (n : ℕ) (P steps others : List Step) (A B : List Ending) → ArePlayed s n P steps → ArePlayed s n P others → actions steps ≡ actions others
+    → A ++ all_outcomes steps ≡ B ++ all_outcomes others → steps ≡ others
+same_from U s n P [] [] A B h i e f = refl
+same_from U s n P [] (y ∷ others) A B h i e f = absurd (nil_cons y.action (actions others) e)
+same_from U s n P (x ∷ steps) [] A B h i e f = absurd (nil_cons x.action (actions steps) (sym e))
+same_from U s n P (x ∷ steps) (y ∷ others) A B h i e f =
+    let ends = append_assoc A (outcomes x.group) (all_outcomes steps) ∙ f ∙ sym (append_assoc B (outcomes y.group) (all_outcomes others)) in
+    let rest : steps ≡ others = same_from U s n P steps others (A ++ outcomes x.group) (B ++ outcomes y.group) h.1 i.1 (cons_tail x.action y.action (actions steps) (actions others) e) ends in
     let action = cons_head x.action y.action (actions steps) (actions others) e in
-    let ended = cons_head (outcomes x.group) (outcomes y.group) (endings steps) (endings others) f in
+    let E : List Step → Type 0 = λ l. (A ++ outcomes x.group) ++ all_outcomes l ≡ (B ++ outcomes y.group) ++ all_outcomes others in
+    let ended : A ++ outcomes x.group ≡ B ++ outcomes y.group = append_cancel_right (A ++ outcomes x.group) (B ++ outcomes y.group) (all_outcomes others) (subst E rest ends) in
     let F : List Step → Action → Type 0 = λ l a. ComeInTurn n (queue_of s (view s (l ++ P)) (held_for (view s (l ++ P)) a) a) x.group in
     let G : List Step → Type 0 = λ l. F l x.action in
     let H : Action → Type 0 = λ a. F others a in
     let mine : F others y.action = subst H action (subst G rest (turns s n (steps ++ P) x h.0)) in
-    let group = same_turns n _ x.group y.group mine (turns s n (others ++ P) y i.0) ended in
+    let L : List Step → Action → Type 0 = λ l a. next_of n (queue_of s (view s (l ++ P)) (held_for (view s (l ++ P)) a) a) x.group ≡ None in
+    let M : List Step → Type 0 = λ l. L l x.action in
+    let N : Action → Type 0 = λ a. L others a in
+    let last : L others y.action = subst N action (subst M rest (none_next s n (steps ++ P) x h.0)) in
+    let group = same_groups U n _ x.group y.group A B mine (turns s n (others ++ P) y i.0) last (none_next s n (others ++ P) y i.0) ended in
     ap (λ z. z ∷ steps) (same_step x y action group) ∙ ap (λ l. y ∷ l) rest
+
+pub same_played : OneReply → (s : Source) (n : ℕ) (P steps others : List Step) → ArePlayed s n P steps → ArePlayed s n P others → actions steps ≡ actions others → all_outcomes steps ≡ all_outcomes others → steps ≡ others
+same_played U s n P steps others h i e f = same_from U s n P steps others [] [] h i e f

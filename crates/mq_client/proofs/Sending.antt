@@ -2,17 +2,18 @@
 use Rattle.std.proofs.Common.{◌≡◌, ℕ, ◌<◌, true, false, List, [], ◌∷◌, ◌++◌, length, refl, sym, ap, ◌∙◌, subst, arith}
 use Rattle.std.specs.Prelude.{slice_index_or}
 use Rattle.mq_frame.specs.declared.message.Request.{Request}
+use Rattle.mq_client.specs.declared.tries.Framed.{Framed}
 use Rattle.mq_client.specs.Exchanges.{Exchange, IsSent, SendsSome, OneMore, Sends, SendsAll, StopsAt}
 
 -- the request in front
-pub starts_with : (now : List Request) (q : Request) → q ≡ slice_index_or now 0 q → 0 < length now → (rest : List Request) × (now ≡ q ∷ rest)
+pub starts_with : (now : List Framed) (q : Framed) → q ≡ slice_index_or now 0 q → 0 < length now → (rest : List Framed) × (now ≡ q ∷ rest)
 starts_with [] q e l = absurd (omega (arith, l))
 starts_with (x ∷ rest) q e l = (rest, ap (λ z. z ∷ rest) (sym e))
 
-pub front_is : (now rest : List Request) (q x : Request) → q ≡ slice_index_or now 0 q → now ≡ x ∷ rest → now ≡ q ∷ rest
+pub front_is : (now rest : List Framed) (q x : Framed) → q ≡ slice_index_or now 0 q → now ≡ x ∷ rest → now ≡ q ∷ rest
 front_is now rest q x e p = p ∙ ap (λ z. z ∷ rest) (sym (e ∙ ap (λ l. slice_index_or l 0 q) p))
 
-pub nil_from_length : (xs : List Request) → length xs ≡ 0 → xs ≡ []
+pub nil_from_length : (xs : List Framed) → length xs ≡ 0 → xs ≡ []
 nil_from_length [] e = refl
 nil_from_length (x ∷ xs) e = absurd (omega (arith, e))
 

@@ -7,7 +7,7 @@ use Rattle.mq_frame.specs.Spelling.{SpellsReply}
 use Rattle.mq_frame.specs.declared.message.Request.{Request}
 use Rattle.mq_frame.specs.declared.message.Reply.{Reply}
 use Rattle.mq_client.specs.Link.{Tells}
-use Rattle.mq_client.specs.Exchanges.{Exchange, Mark, Fails, Refused, Decides, decided_by, Brings, IsMarked, decides, deciding, request_frame, told_of, told_all}
+use Rattle.mq_client.specs.Exchanges.{Exchange, Mark, Fails, LacksMemory, Decides, decided_by, Brings, IsMarked, decides, deciding, request_frame, told_of, told_all}
 use Rattle.mq_client.specs.declared.link.Outcome.{Outcome}
 use Rattle.mq_client.specs.declared.link.Outcome.TheVariants.{Answered}
 use Rattle.mq_client.specs.declared.link.Told.{Told}
@@ -60,4 +60,4 @@ marked_by request bytes body (Ok found) e spells only memory = by_kind (decides 
     by_kind true so = (Decides found, (brought bytes body found e spells, so), sym (ap (λ (b : Bool). if b then Some found else None) so))
     by_kind false so = (Fails, fails_by request bytes body found e so only, sym (ap (λ (b : Bool). if b then Some found else None) so))
 marked_by request bytes body (Err fault.Bad) e spells only memory = (Fails, fails_bad request bytes body e (λ reply spelled. let no = only reply spelled in cc (no)), refl)
-marked_by request bytes body (Err fault.Memory) e spells only memory = let (reply, spelled) = memory refl in (Refused, (reply, brought bytes body reply e spelled), refl)
+marked_by request bytes body (Err fault.Memory) e spells only memory = let (reply, spelled) = memory refl in (LacksMemory, (reply, brought bytes body reply e spelled), refl)

@@ -1,14 +1,16 @@
--- The exchanges of a step come in turn.
+-- The exchanges of a step come in turn, until none is the next one.
 use Rattle.std.proofs.Common.{◌≡◌, ℕ, zero, suc, ◌+◌, ◌<◌, ◌≤◌, Bool, false, true, List, [], ◌∷◌, ◌++◌, length, drop, refl, sym, ap, ◌∙◌, subst, append-nil, arith, Option, None, Some, if◌then◌else◌, MatchBool}
-use Rattle.std.specs.Prelude.{slice_get}
-use Rattle.std.proofs.lemmas.Bool.{lt-leb}
+use Rattle.std.specs.Prelude.{slice_get, nat_le}
+use Rattle.std.proofs.lemmas.Bool.{lt-leb, le-leb}
 use Rattle.mq_frame.specs.declared.message.Request.{Request}
 use Rattle.mq_frame.specs.declared.message.Reply.{Reply}
-use Rattle.mq_client.specs.Exchanges.{Mark, Exchange, IsTry, IsMarked, AreFailed, AreTries, SendsSome, NoneYet, OneMore, Sends, SendsAll, StopsAt, decisions}
+use Rattle.mq_frame.specs.Spelling.{SpellsReply}
+use Rattle.mq_client.specs.Exchanges.{Mark, Fails, LacksMemory, Decides, Exchange, lacks_memory, Brings, IsTry, IsMarked, AreFailed, AreTries, SendsSome, NoneYet, OneMore, Sends, SendsAll, StopsAt, decisions}
 use Rattle.mq_client.specs.Past.{Source, Action, Ask, Close, Drain, Step, View, view, held_for, reserve_of, refuses, PlaysFrom, Plays}
-use Rattle.mq_client.specs.Turns.{failures, queue_of, next_of, ComeInTurn, Ending, outcomes}
+use Rattle.mq_client.specs.Turns.{failures, queue_of, next_of, next, ComeInTurn, Ending, outcomes}
 use Rattle.mq_client.specs.declared.held.Held.{Held}
 use Rattle.mq_client.specs.declared.link.Outcome.{Outcome}
+use Rattle.mq_client.specs.declared.link.Outcome.TheVariants.{Answered, Faulted}
 use Rattle.mq_client.proofs.Making.{some_left}
 
 -- the exchanges so far came in turn, and the last so many failed
@@ -97,15 +99,95 @@ turns_from s n v o Drain group (left, sends) = sends_come n v.waiting group left
 pub turns : (s : Source) (n : ℕ) (P : List Step) (x : Step) → Plays s n P x → ComeInTurn n (queue_of s (view s P) (held_for (view s P) x.action) x.action) x.group
 turns s n P x plays = turns_from s n (view s P) (held_for (view s P) x.action) x.action x.group plays
 
+-- ---- the end of a step
+
+none_by_tries : (n : ℕ) (queue : List Request) (group : List Exchange) → n ≤ failures group → next_of n queue group ≡ None
+none_by_tries n queue group h = rw (le-leb n (failures group) h) refl
+
+if_none : (b : Bool) (o : Option Request) → o ≡ None → (if b then None else o) ≡ None
+if_none true o e = refl
+if_none false o e = e
+
+none_by_queue : (n : ℕ) (queue : List Request) (group : List Exchange) → slice_get queue (decisions group) ≡ None → next_of n queue group ≡ None
+none_by_queue n queue group e = if_none (nat_le n (failures group)) (slice_get queue (decisions group)) e
+
+none_of_drop : (k : ℕ) (queue : List Request) → [] ≡ drop k queue → slice_get queue k ≡ None
+none_of_drop zero [] e = refl
+none_of_drop zero (x ∷ queue) e = let no : ⊥ = cc in absurd no
+none_of_drop (suc k) [] e = refl
+none_of_drop (suc k) (x ∷ queue) e = none_of_drop k queue e
+
+sends_end : (n : ℕ) (queue : List Request) (group : List Exchange) (left : List Request) → Sends n queue group left → next_of n queue group ≡ None
+sends_end n queue group left (SendsAll done s) = none_by_queue n queue group (none_of_drop (decisions group) queue (some_left n queue group [] s))
+sends_end n queue group left (StopsAt q more done tries s t) =
+    let c = all_failed n queue done tries q (decisions done) (some_come n queue done (q ∷ more) s) (front_of_drop (decisions done) queue more q (some_left n queue done (q ∷ more) s)) t.0 (omega (arith, t.1)) in
+    none_by_tries n queue (tries ++ done) (omega (arith, c.failed_is, t.1))
+
+tries_end : (n : ℕ) (q : Request) (group : List Exchange) (decided : Option Reply) → AreTries n q group decided → next_of n (q ∷ []) group ≡ None
+tries_end n q group None t =
+    let c = all_failed n (q ∷ []) [] group q 0 (nothing_yet n (q ∷ [])) refl t.0 (omega (arith, t.1)) in
+    let F : List Exchange → Type 0 = λ l. failures l ≡ length group in
+    let failed : failures group ≡ length group = subst F (append-nil group) c.failed_is in
+    none_by_tries n (q ∷ []) group (omega (arith, failed, t.1))
+tries_end n q [] (Some r) t = absurd t
+tries_end n q (x ∷ group) (Some r) t =
+    let c = tried n (q ∷ []) [] (x ∷ group) q r 0 (nothing_yet n (q ∷ [])) refl t in
+    let F : List Exchange → Type 0 = λ l. decisions l ≡ 1 in
+    let decided : decisions (x ∷ group) ≡ 1 = subst F (append-nil (x ∷ group)) c.decided_is in
+    none_by_queue n (q ∷ []) (x ∷ group) (ap (slice_get (q ∷ [])) decided)
+
+ask_ends : (b : Bool) (n : ℕ) (q : Request) (group : List Exchange) → MatchBool b (group ≡ []) ((decided : Option Reply) × AreTries n q group decided) → next_of n (if b then [] else q ∷ []) group ≡ None
+ask_ends true n q group e = rw e (none_by_queue n [] [] refl)
+ask_ends false n q group (decided, t) = tries_end n q group decided t
+
+end_from : (s : Source) (n : ℕ) (v : View) (o : Option Held) (a : Action) (group : List Exchange) → PlaysFrom s n o (length v.live) v.numbers v.waiting a group → next_of n (queue_of s v o a) group ≡ None
+end_from s n v o (Ask txn at login) group plays = ask_ends (refuses o (length v.live) v.numbers (length v.waiting) at login) n (reserve_of s (v.numbers + 1) txn at login) group plays
+end_from s n v None (Close txn end) group plays = rw plays (none_by_queue n [] [] refl)
+end_from s n v (Some h) (Close txn end) group (left, sends) = sends_end n _ group left sends
+end_from s n v o Drain group (left, sends) = sends_end n v.waiting group left sends
+
+-- after the exchanges of a step none is the next one
+pub none_next : (s : Source) (n : ℕ) (P : List Step) (x : Step) → Plays s n P x → next s n (view s P) x.action x.group ≡ None
+none_next s n P x plays = end_from s n (view s P) (held_for (view s P) x.action) x.action x.group plays
+
+-- ---- what follows from how exchanges ended
+
 some_is : {A : Type 0} (x y : A) → Some x ≡ Some y → x ≡ y
 some_is x y e = cc
 
-same_exchange : (x y : Exchange) → x.request ≡ y.request → x.outcome ≡ y.outcome → x.mark ≡ y.mark → x ≡ y
-same_exchange x y e f g =
+-- no body spells two replies
+abbrev pub OneReply : Type 0
+OneReply = (body : List ℕ) (reply other : Reply) → SpellsReply body reply → SpellsReply body other → reply ≡ other
+
+one_brought : OneReply → (o : Outcome) (r q : Reply) → Brings o r → Brings o q → r ≡ q
+one_brought U (Answered body) r q h i = U body r q h i
+one_brought U (Faulted fault) r q h i = absurd h
+
+true_not_false : {b : Bool} → b ≡ true → b ≡ false → ⊥
+true_not_false e f = cc (e, f)
+
+-- the mark of an exchange follows from its request, from its outcome and from whether memory was lacking
+same_mark : OneReply → (q : Request) (o : Outcome) (m n : Mark) → IsMarked q o m → IsMarked q o n → lacks_memory m ≡ lacks_memory n → m ≡ n
+same_mark U q o Fails Fails h i e = refl
+same_mark U q o Fails LacksMemory h i e = absurd (true_not_false refl (sym e))
+same_mark U q o Fails (Decides r) h i e = absurd (true_not_false i.1 (h r i.0))
+same_mark U q o LacksMemory Fails h i e = absurd (true_not_false refl e)
+same_mark U q o LacksMemory LacksMemory h i e = refl
+same_mark U q o LacksMemory (Decides r) h i e = absurd (true_not_false refl e)
+same_mark U q o (Decides r) Fails h i e = absurd (true_not_false h.1 (i r h.0))
+same_mark U q o (Decides r) LacksMemory h i e = absurd (true_not_false refl (sym e))
+same_mark U q o (Decides r) (Decides p) h i e = ap Decides (one_brought U o r p h.0 i.0)
+
+same_exchange : OneReply → (x y : Exchange) → x.request ≡ y.request → x.outcome ≡ y.outcome → lacks_memory x.mark ≡ lacks_memory y.mark
+    → IsMarked x.request x.outcome x.mark → IsMarked y.request y.outcome y.mark → x ≡ y
+same_exchange U x y e f g h i =
+    let F : Request → Type 0 = λ q. IsMarked q x.outcome x.mark in
+    let G : Outcome → Type 0 = λ o. IsMarked y.request o x.mark in
+    let mark : x.mark ≡ y.mark = same_mark U y.request y.outcome x.mark y.mark (subst G f (subst F e h)) i g in
     let A : Request → Exchange = λ q. record { request = q; outcome = x.outcome; mark = x.mark } in
     let B : Outcome → Exchange = λ o. record { request = y.request; outcome = o; mark = x.mark } in
     let C : Mark → Exchange = λ m. record { request = y.request; outcome = y.outcome; mark = m } in
-    ap A e ∙ ap B f ∙ ap C g
+    ap A e ∙ ap B f ∙ ap C mark
 
 cons_head : {A : Type 0} (x y : A) (xs ys : List A) → x ∷ xs ≡ y ∷ ys → x ≡ y
 cons_head x y xs ys e = cc
@@ -114,14 +196,14 @@ cons_tail : {A : Type 0} (x y : A) (xs ys : List A) → x ∷ xs ≡ y ∷ ys �
 cons_tail x y xs ys e = cc
 
 -- exchanges that came in turn and ended alike are the same
-pub same_turns : (n : ℕ) (queue : List Request) (g h : List Exchange) → ComeInTurn n queue g → ComeInTurn n queue h → outcomes g ≡ outcomes h → g ≡ h
-same_turns n queue [] [] c d e = refl
-same_turns n queue [] (y ∷ h) c d e = let no : ⊥ = cc in absurd no
-same_turns n queue (x ∷ g) [] c d e = let no : ⊥ = cc in absurd no
-same_turns n queue (x ∷ g) (y ∷ h) c d e =
-    let tail = same_turns n queue g h c.2 d.2 (cons_tail _ _ _ _ e) in
+pub same_turns : OneReply → (n : ℕ) (queue : List Request) (g h : List Exchange) → ComeInTurn n queue g → ComeInTurn n queue h → outcomes g ≡ outcomes h → g ≡ h
+same_turns U n queue [] [] c d e = refl
+same_turns U n queue [] (y ∷ h) c d e = let no : ⊥ = cc in absurd no
+same_turns U n queue (x ∷ g) [] c d e = let no : ⊥ = cc in absurd no
+same_turns U n queue (x ∷ g) (y ∷ h) c d e =
+    let tail = same_turns U n queue g h c.2 d.2 (cons_tail _ _ _ _ e) in
     let ending = cons_head _ _ (outcomes g) (outcomes h) e in
     let outcome : x.outcome ≡ y.outcome = ap (λ (z : Ending). z.outcome) ending in
-    let mark : x.mark ≡ y.mark = ap (λ (z : Ending). z.mark) ending in
+    let memory : lacks_memory x.mark ≡ lacks_memory y.mark = ap (λ (z : Ending). z.lacked_memory) ending in
     let request = some_is x.request y.request (sym c.0 ∙ ap (next_of n queue) tail ∙ d.0) in
-    ap (λ z. z ∷ g) (same_exchange x y request outcome mark) ∙ ap (λ l. y ∷ l) tail
+    ap (λ z. z ∷ g) (same_exchange U x y request outcome memory c.1 d.1) ∙ ap (λ l. y ∷ l) tail

@@ -16,7 +16,7 @@ use Rattle.mq_client.specs.declared.link.Told.{Told}
 -- was decoded, or it decides by a reply
 pub data Mark : Type 0 where
   Fails : Mark
-  Refused : Mark
+  LacksMemory : Mark
   Decides : (reply : Reply) → Mark
 
 pub record Exchange : Type 0 where
@@ -26,8 +26,13 @@ pub record Exchange : Type 0 where
 
 abbrev pub decided_by : Mark → Option Reply
 decided_by Fails = None
-decided_by Refused = None
+decided_by LacksMemory = None
 decided_by (Decides reply) = Some reply
+
+abbrev pub lacks_memory : Mark → Bool
+lacks_memory Fails = false
+lacks_memory LacksMemory = true
+lacks_memory (Decides reply) = false
 
 -- the kinds that answer a reserve, with its id
 abbrev pub answers_reserve : Id → Reply → Bool
@@ -69,7 +74,7 @@ Brings (Faulted fault) reply = ⊥
 -- decides, or a growth was refused
 abbrev pub IsMarked : Request → Outcome → Mark → Type 0
 IsMarked request outcome Fails = (reply : Reply) → Brings outcome reply → decides request reply ≡ false
-IsMarked request outcome Refused = (reply : Reply) × Brings outcome reply
+IsMarked request outcome LacksMemory = (reply : Reply) × Brings outcome reply
 IsMarked request outcome (Decides reply) = Brings outcome reply × (decides request reply ≡ true)
 
 -- an exchange of the request that fails, or that the reply decides
@@ -102,10 +107,9 @@ pub data SendsSome (n : ℕ) (queue : List Request) : List Exchange → List Req
   OneMore : (request : Request) (left : List Request) (group tries : List Exchange) (reply : Reply)
       → SendsSome n queue group (request ∷ left) → AreTries n request tries (Some reply) → SendsSome n queue (tries ++ group) left
 
--- no reply decides the request: all its tries fail, or a growth for its frame is refused
+-- no reply decides the request: all its tries fail
 abbrev pub IsUndecided : ℕ → Request → List Exchange → Type 0
-IsUndecided n request [] = Unit {0}
-IsUndecided n request (x ∷ tries) = AreTries n request (x ∷ tries) None
+IsUndecided n request tries = AreTries n request tries None
 
 -- sent from the front of the queue until it is empty, or until no reply decides a request, which stays first
 pub data Sends (n : ℕ) (queue : List Request) : List Exchange → List Request → Type 0 where

@@ -10,7 +10,6 @@ use Rattle.mq_track.specs.Sessions.{Position, Unknown, LoggedIn, Sending, positi
 use Rattle.mq_track.specs.declared.closing.Closing.{Closing}
 use Rattle.mq_client.specs.Exchanges.{Exchange}
 use Rattle.mq_client.specs.Past.{Action, Ask, Close, Step, answer_of}
-use Rattle.mq_client.specs.Turns.{Ending, outcomes}
 use Rattle.mq_client.specs.declared.held.Asked.{Asked}
 use Rattle.mq_client.specs.declared.held.Asked.TheVariants as asked
 
@@ -75,11 +74,7 @@ is_filter _ = false
 abbrev pub answer_count : List Meaning → ℕ
 answer_count L = count_by is_filter L
 
--- what some steps did, and how the exchanges of each ended
+-- what some steps did
 abbrev pub actions : List Step → List Action
 actions [] = []
 actions (x ∷ steps) = x.action ∷ actions steps
-
-abbrev pub endings : List Step → List (List Ending)
-endings [] = []
-endings (x ∷ steps) = outcomes x.group ∷ endings steps

@@ -1,9 +1,10 @@
 -- What is so of every client, and what its callers see.
 use Rattle.std.specs.Prelude.{◌+◌, ◌≤◌, length}
 use Rattle.std.specs.List.{AllByRecursion}
-use Rattle.mq_frame.specs.Range.{IsWithin, IsHost, IsRun, IsRequest}
+use Rattle.mq_frame.specs.Range.{IsWithin, IsHost, IsRun}
 use Rattle.mq_client.specs.Past.{State}
 use Rattle.mq_client.specs.Held.{AllHeld}
+use Rattle.mq_client.specs.Framed.{IsFramed, requests_of}
 use Rattle.mq_client.specs.declared.client.Client.TheInside.{Inside}
 
 abbrev pub state_of : Inside → State
@@ -12,7 +13,7 @@ state_of c = record {
   tries = c.tries;
   held = c.held.entries;
   numbers = c.numbers;
-  waiting = c.outbox.items;
+  waiting = requests_of c.outbox.items;
 }
 
 pub record IsInside (c : Inside) : Type 0 where
@@ -22,4 +23,4 @@ pub record IsInside (c : Inside) : Type 0 where
   pub places : length c.held.entries + length c.outbox.items ≤ 4096
   pub numbers : c.numbers + length c.held.entries ≤ 4294967295
   pub held : AllHeld c.held.entries
-  pub outbox : AllByRecursion IsRequest c.outbox.items
+  pub outbox : AllByRecursion IsFramed c.outbox.items

@@ -1,13 +1,15 @@
 pub mod Link
+pub mod Script
 pub mod Exchanges
 pub mod Past
+pub mod Framed
 pub mod Held
 pub mod Named
+pub mod Warnings
 pub mod Inside
 pub mod Filter
 pub mod Run
 pub mod Loop
 pub mod Place
-pub mod Whole
 pub mod Reading
 pub mod Turns

@@ -13,7 +13,7 @@ use Rattle.mq_client.specs.Link.{Tells}
 use Rattle.mq_client.specs.Exchanges.{told_all}
 use Rattle.mq_client.specs.Past.{Step, State, Makes, MakesAll, told_steps}
 use Rattle.mq_client.specs.Filter.{query, Answers, answer_count}
-use Rattle.mq_client.specs.Run.{Stage, Waiting, Running, Reaches, HasText, Origin, StopsAt, is_early, is_stamped}
+use Rattle.mq_client.specs.Run.{Stage, Waiting, Running, Reaches, HasText, Origin, IsAtWork, StopsAt, is_early, is_stamped}
 use Rattle.mq_client.specs.declared.faults.FilterFault.{FilterFault}
 use Rattle.mq_client.specs.declared.faults.FilterFault.TheVariants as fault
 use Rattle.mq_client.specs.declared.filter.Early.{Early}
@@ -85,8 +85,13 @@ filter_fault track.Memory = fault.Memory
 -- why a line isn't noted
 abbrev pub IsRefused : FilterFault → List Meaning → Meaning → Type 0
 IsRefused (fault.Track f) L m = track_fault L m ≡ Some f
-IsRefused fault.Memory L m = Unit {0}
+IsRefused fault.Memory L m = track_fault L m ≡ None
 IsRefused f L m = ⊥
+
+-- a run that stopped while lines were handled: for want of memory only at the work of a line
+abbrev pub StopsWithin : Origin → (bytes : List ℕ) → (source sink : Option (List ℕ)) → (read_failed write_failed : Bool) → Option (List Told) → State → FilterFault → Type 0
+StopsWithin o bytes source sink read_failed write_failed told client f =
+    (h : StopsAt o bytes source sink read_failed write_failed told client f) × (f ≡ fault.Memory → IsAtWork h.stage h.left)
 
 -- a line that says m was handled: the filter has come further
 abbrev pub Carries : Meaning → (f f' : Filter) (sink sink' : Option (List ℕ)) (told told' : Option (List Told)) (client client' : State) → Type 0
@@ -96,7 +101,7 @@ Carries m f f' sink sink' told told' client client' = (o : Origin) (bytes line r
 -- the filter stopped at a line that says m
 abbrev pub Halts : Meaning → FilterFault → Filter → (sink sink' : Option (List ℕ)) (write_failed : Bool) (told told' : Option (List Told)) (client client' : State) → Type 0
 Halts m fault f sink sink' write_failed told told' client client' = (o : Origin) (bytes line rest : List ℕ) (source : Option (List ℕ)) (read_failed : Bool) → IsLine line → Reads line m
-    → SoFar o bytes (line ++ 10 ∷ rest) f sink told client → StopsAt o bytes source sink' read_failed write_failed told' client' fault
+    → SoFar o bytes (line ++ 10 ∷ rest) f sink told client → StopsWithin o bytes source sink' read_failed write_failed told' client' fault
 
 -- some of the bytes that are held were handled
 abbrev pub CarriesHeld : (held held' : List ℕ) (f f' : Filter) (sink sink' : Option (List ℕ)) (told told' : Option (List Told)) (client client' : State) → Type 0
@@ -105,4 +110,4 @@ CarriesHeld held held' f f' sink sink' told told' client client' = (o : Origin) 
 -- the filter stopped among the bytes that are held
 abbrev pub HaltsHeld : (held : List ℕ) → FilterFault → Filter → (sink sink' : Option (List ℕ)) (write_failed : Bool) (told told' : Option (List Told)) (client client' : State) → Type 0
 HaltsHeld held fault f sink sink' write_failed told told' client client' = (o : Origin) (bytes : List ℕ) (source : Option (List ℕ)) (read_failed : Bool)
-    → SoFar o bytes held f sink told client → StopsAt o bytes source sink' read_failed write_failed told' client' fault
+    → SoFar o bytes held f sink told client → StopsWithin o bytes source sink' read_failed write_failed told' client' fault

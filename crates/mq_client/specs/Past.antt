@@ -33,6 +33,10 @@ pub record Step : Type 0 where
   pub action : Action
   pub group : List Exchange
 
+-- all steps of a run to the end of its input: the last one sends what waits
+abbrev pub drained : List Exchange → List Step → List Step
+drained group steps = record { action = Drain; group = group } ∷ steps
+
 -- the answer to an ask, by the reply that decided it
 abbrev pub answer_by : Option Reply → Asked
 answer_by (Some (reply.Granted id used)) = asked.Granted

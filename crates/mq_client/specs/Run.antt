@@ -8,7 +8,7 @@ use Rattle.mq_line.specs.Text.{IsLine, IsTooLong, Holds}
 use Rattle.mq_track.specs.Sessions.{fault as track_fault}
 use Rattle.mq_client.specs.Link.{Tells}
 use Rattle.mq_client.specs.Exchanges.{Exchange}
-use Rattle.mq_client.specs.Past.{Step, Drain, State, StandsAt, view, MakesAll, told_steps}
+use Rattle.mq_client.specs.Past.{Step, drained, State, StandsAt, view, MakesAll, told_steps}
 use Rattle.mq_client.specs.Filter.{Takes, push, Filters, answer_count}
 use Rattle.mq_client.specs.declared.faults.FilterFault.{FilterFault}
 use Rattle.mq_client.specs.declared.faults.FilterFault.TheVariants as at
@@ -82,8 +82,8 @@ pub record EndsWith (o : Origin) (bytes : List ℕ) (sink : Option (List ℕ)) (
   pub ready : IsReady lines after_ready
   pub filters : Filters after_ready steps results
   pub written : Appends o.sink sink (registration ++ results)
-  pub exchanged : Tells o.told told (told_steps (record { action = Drain; group = group } ∷ steps))
-  pub made : MakesAll o.client client (record { action = Drain; group = group } ∷ steps)
+  pub exchanged : Tells o.told told (told_steps (drained group steps))
+  pub made : MakesAll o.client client (drained group steps)
   pub answers : e.answers ≡ answer_count after_ready
   pub left : (P : List Step) → StandsAt client P → e.left ≡ length (view client.source P).waiting
 
@@ -92,6 +92,20 @@ pub record StandsFirst (line left : List ℕ) : Type 0 where
   pub is_line : IsLine line
   pub rest : List ℕ
   pub whole : left ≡ line ++ 10 ∷ rest
+
+-- bytes are left, and all but the beginning of a line came with one read of at most 4,096 bytes
+pub record IsFed (left : List ℕ) : Type 0 where
+  pub held : List ℕ
+  pub piece : List ℕ
+  pub whole : left ≡ held ++ piece
+  pub is_line : IsLine held
+  pub some : 1 ≤ length piece
+  pub few : length piece ≤ 4096
+
+-- the line in front may ask for memory: `config|ready`, or a line after it that isn't refused
+abbrev pub IsAtWork : Stage → (left : List ℕ) → Type 0
+IsAtWork Waiting left = (line : List ℕ) × StandsFirst line left × Reads line ReadyLine
+IsAtWork (Running L) left = (m : Meaning) × (line : List ℕ) × StandsFirst line left × Reads line m × (track_fault L m ≡ None)
 
 -- what is found where a run stops, after the lines that were handled
 abbrev pub IsFound : FilterFault → Stage → (bytes left : List ℕ) → (source : Option (List ℕ)) → (read_failed write_failed : Bool) → Type 0
@@ -103,7 +117,7 @@ IsFound at.CutLine stage bytes left source read_failed write_failed = (left ≢ 
 IsFound at.TooLong stage bytes left source read_failed write_failed = IsTooLong left
 IsFound at.Read stage bytes left source read_failed write_failed = IsLine left × ((read_failed ≡ true) ⊎ (1099511627776 ≤ length bytes))
 IsFound at.Write stage bytes left source read_failed write_failed = write_failed ≡ true
-IsFound at.Memory stage bytes left source read_failed write_failed = Unit {0}
+IsFound at.Memory stage bytes left source read_failed write_failed = IsFed left ⊎ IsAtWork stage left
 
 -- the step that the line in front makes, and what is written for it
 abbrev pub Goes : Stage → (line : List ℕ) → Option Step → List ℕ → Type 0

@@ -1,8 +1,8 @@
--- The next exchange of a step.
-use Rattle.std.specs.Prelude.{◌≡◌, ℕ, ◌+◌, List, [], ◌∷◌, ◌++◌, length, nat_le, if◌then◌else◌, Option, None, Some, is_some, slice_get}
+-- The next exchange of a step, and how exchanges ended.
+use Rattle.std.specs.Prelude.{◌≡◌, ℕ, ◌+◌, List, [], ◌∷◌, ◌++◌, length, Bool, nat_le, if◌then◌else◌, Option, None, Some, is_some, slice_get}
 use Rattle.mq_frame.specs.declared.message.Request.{Request}
-use Rattle.mq_client.specs.Exchanges.{Mark, Exchange, decided_by, decisions, IsMarked}
-use Rattle.mq_client.specs.Past.{Source, Action, Ask, Close, Drain, View, reserve_of, closing_of, refuses, held_for}
+use Rattle.mq_client.specs.Exchanges.{Exchange, decided_by, lacks_memory, decisions, IsMarked}
+use Rattle.mq_client.specs.Past.{Source, Action, Ask, Close, Drain, Step, View, reserve_of, closing_of, refuses, held_for}
 use Rattle.mq_client.specs.declared.held.Held.{Held}
 use Rattle.mq_client.specs.declared.link.Outcome.{Outcome}
 
@@ -31,11 +31,16 @@ abbrev pub ComeInTurn : (tries : ℕ) → List Request → List Exchange → Typ
 ComeInTurn tries queue [] = Unit {0}
 ComeInTurn tries queue (x ∷ group) = (next_of tries queue group ≡ Some x.request) × IsMarked x.request x.outcome x.mark × ComeInTurn tries queue group
 
--- how an exchange ended, and whether it decided
+-- how an exchange ended, and whether a growth was refused while what came was decoded
 pub record Ending : Type 0 where
   pub outcome : Outcome
-  pub mark : Mark
+  pub lacked_memory : Bool
 
 abbrev pub outcomes : List Exchange → List Ending
 outcomes [] = []
-outcomes (x ∷ group) = record { outcome = x.outcome; mark = x.mark } ∷ outcomes group
+outcomes (x ∷ group) = record { outcome = x.outcome; lacked_memory = lacks_memory x.mark } ∷ outcomes group
+
+-- how the exchanges of all the steps ended, of which the newest comes first
+abbrev pub all_outcomes : List Step → List Ending
+all_outcomes [] = []
+all_outcomes (x ∷ steps) = outcomes x.group ++ all_outcomes steps

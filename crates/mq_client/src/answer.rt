@@ -1,6 +1,7 @@
 //! The answer to one request of smtpd.
 ghost use Rattle.std.specs.Prelude.{◌≡◌, ◌≢◌, ◌<◌, ◌++◌, ◌&&◌, ◌⊎◌, [], ℕ, List, Option, None, Err, false, codes, IfOk, OnOk, OnErr, IfErr};
 ghost use Rattle.std.specs.Str.{bytes_eq};
+ghost use Rattle.mq_frame.specs.Flow.{IsFlushed};
 ghost use Rattle.mq_track.specs.Sessions.{Sending};
 ghost use Rattle.mq_track.specs.State.{StandsAt};
 ghost use Rattle.mq_line.specs.Grammar.{Meaning};
@@ -15,7 +16,7 @@ use crate::held::Asked;
 use crate::link::Link;
 use crate::put::put;
 use log::Log;
-use mq_frame::{Failed, Sink};
+use mq_frame::{Failed, Sink, is_login, is_moment};
 use mq_line::{Decision, write_result};
 use mq_track::{Standing, Tracker};
 use std::alloc::Global;
@@ -33,7 +34,7 @@ pub struct Inquiry<'a> {
 fn may_ask(name: &[u8], at: u64) -> bool
     ensures { result ≡ (is_login name.now && is_moment at) }
 {
-    !name.is_empty() && name.len() <= 255 && at >= 86_400 && at <= 32_503_680_000
+    is_login(name) && is_moment(at)
 }
 
 fn is_recipient(subsystem: &[u8], phase: &[u8]) -> bool
@@ -115,6 +116,7 @@ pub fn answer<R: Log, W: Sink, K: Link>(
         × ((L : List Meaning) → StandsAt tracker.now L → Replies L inquiry.entry.subsystem.now inquiry.entry.phase.now inquiry.entry.session.now inquiry.entry.token.now step text)) }
     ensures fault { IfErr result (λ f. IsCut f (W.has_failed output.new)) }
     ensures works { W.has_failed output.old ≡ false → result ≢ Err FilterFault.Write → W.has_failed output.new ≡ false }
+    ensures flushed { IsFlushed (W.has_flushed output.old) → result ≢ Err FilterFault.Write → IsFlushed (W.has_flushed output.new) }
     ensures cut { OnErr result ((step : Option Step) × (front : List ℕ) × (rest : List ℕ)
         × Does (W.contents output.old) (W.contents output.new) (K.told link.old) (K.told link.new) client.old client.new step front
         × (((step ≡ None) × (front ++ rest ≡ [])) ⊎ ((L : List Meaning) → StandsAt tracker.now L →

@@ -10,9 +10,9 @@ use crate::held::{
     Asked, Held, answer_to, closing_request, count, hold, refuses, release, reserve_request,
 };
 use crate::link::Link;
-use crate::tries::{send_all, try_all};
+use crate::tries::{Framed, send_all, try_all};
 use log::Log;
-use mq_frame::{Host, Request, encode_request};
+use mq_frame::{Host, encode_request};
 use mq_track::Closing;
 use std::alloc::Global;
 use std::collections::{BTreeMap, VecDeque};
@@ -30,7 +30,7 @@ pub struct Client {
     tries: u32,
     held: BTreeMap<u32, Held>,
     numbers: u32,
-    outbox: VecDeque<Request>,
+    outbox: VecDeque<Framed>,
 }
 
 impl Model for Client {
@@ -121,8 +121,8 @@ impl Client {
         Ok(answer)
     }
 
-    /// Closes a transaction, if it is held, and sends what waits. On `Memory` nothing has changed and
-    /// no exchange was made.
+    /// Closes a transaction and sends what waits; one that isn't held changes and sends nothing. On
+    /// `Memory` nothing has changed and no exchange was made.
     pub fn close<R: Log, L: Link>(
         &mut self,
         rt: &R,
@@ -141,7 +141,9 @@ impl Client {
         };
         let seq = self.numbers + 1;
         let request = closing_request(&self.host, self.run, seq, closing.txn, closing.end, known)?;
-        self.outbox.push_back(request)?;
+        let mut frame = Vec::new(self.alloc);
+        encode_request(self.alloc, &request, &mut frame)?;
+        self.outbox.push_back(Framed { request, frame })?;
         release(&mut self.held, closing.txn);
         self.numbers = seq;
         send_all(rt, self.alloc, link, &mut self.outbox, self.tries);

@@ -1,6 +1,7 @@
 //! The filter: what smtpd writes is read, and each of its requests is answered.
 ghost use Rattle.std.specs.Prelude.{◌≡◌, ◌≢◌, ◌≤◌, ◌<◌, ◌+◌, ◌*◌, ◌^◌, ◌++◌, ◌∷◌, [], ℕ, List, Option, Bool, None, Some, true, false, length, IfOk, OnOk, OnErr, IfErr, MatchBool, MatchResult};
 ghost use Rattle.std.specs.Io.KnownBytes.{Appends, Consumes, IsAtEnd};
+ghost use Rattle.mq_frame.specs.Flow.{IsFlushed};
 ghost use Rattle.mq_line.specs.Grammar.{Meaning, ReadyLine, meaning};
 ghost use Rattle.mq_line.specs.Results.{registration};
 ghost use Rattle.mq_line.specs.Text.{IsLine};
@@ -54,6 +55,7 @@ fn register<W: Sink>(alloc: Global, output: &mut W) -> Result<(), FilterFault>
     ensures written { OnOk result (W.has_failed output.new ≡ false) }
     ensures fault { IfErr result (λ f. IsCut f (W.has_failed output.new)) }
     ensures works { W.has_failed output.old ≡ false → result ≢ Err FilterFault.Write → W.has_failed output.new ≡ false }
+    ensures flushed { IsFlushed (W.has_flushed output.old) → result ≢ Err FilterFault.Write → IsFlushed (W.has_flushed output.new) }
     ensures cut { OnErr result ((front : List ℕ) × (rest : List ℕ) × (registration ≡ front ++ rest) × Appends (W.contents output.old) (W.contents output.new) front) }
 {
     let mut text = Vec::new(alloc);
@@ -149,6 +151,7 @@ fn wait<W: Sink>(
     ensures count { OnOk result (filter.new.answers ≡ filter.old.answers) }
     ensures written { OnOk result (SinkWorks filter.new (W.has_failed output.new)) }
     ensures works { W.has_failed output.old ≡ false → result ≢ Err FilterFault.Write → W.has_failed output.new ≡ false }
+    ensures flushed { IsFlushed (W.has_flushed output.old) → result ≢ Err FilterFault.Write → IsFlushed (W.has_flushed output.new) }
     ensures fault { IfErr result (λ f. (told : Option (List Told)) (client : State) →
         Halts (meaning line.now) f filter.old (W.contents output.old) (W.contents output.new) (W.has_failed output.new) told told client client) }
 {
@@ -180,6 +183,7 @@ fn take<R: Log, W: Sink, K: Link>(
     ensures ok { OnOk result (Carries (meaning line.now) filter.old filter.new (W.contents output.old) (W.contents output.new) (K.told link.old) (K.told link.new) client.old client.new) }
     ensures count { OnOk result (filter.new.answers ≤ filter.old.answers + 1) }
     ensures works { W.has_failed output.old ≡ false → result ≢ Err FilterFault.Write → W.has_failed output.new ≡ false }
+    ensures flushed { IsFlushed (W.has_flushed output.old) → result ≢ Err FilterFault.Write → IsFlushed (W.has_flushed output.new) }
     ensures fault { IfErr result (λ f. Halts (meaning line.now) f filter.old (W.contents output.old) (W.contents output.new) (W.has_failed output.new) (K.told link.old) (K.told link.new) client.old client.new) }
 {
     if let Line::Filter {
@@ -226,6 +230,7 @@ fn handle<R: Log, W: Sink, K: Link>(
     ensures count { OnOk result (filter.new.answers ≤ filter.old.answers + 1) }
     ensures written { OnOk result (SinkWorks filter.old (W.has_failed output.old) → SinkWorks filter.new (W.has_failed output.new)) }
     ensures works { W.has_failed output.old ≡ false → result ≢ Err FilterFault.Write → W.has_failed output.new ≡ false }
+    ensures flushed { IsFlushed (W.has_flushed output.old) → result ≢ Err FilterFault.Write → IsFlushed (W.has_flushed output.new) }
     ensures fault { IfErr result (λ f. (rest : List ℕ) → HaltsHeld (bytes.now ++ 10 ∷ rest) f filter.old (W.contents output.old) (W.contents output.new) (W.has_failed output.new) (K.told link.old) (K.told link.new) client.old client.new) }
 {
     let line = match read_line(bytes) {
@@ -261,6 +266,7 @@ fn take_lines<R: Log, W: Sink, K: Link>(
     ensures count { OnOk result (filter.new.answers + length feed.new ≤ filter.old.answers + length feed.old) }
     ensures written { OnOk result (SinkWorks filter.old (W.has_failed output.old) → SinkWorks filter.new (W.has_failed output.new)) }
     ensures works { W.has_failed output.old ≡ false → result ≢ Err FilterFault.Write → W.has_failed output.new ≡ false }
+    ensures flushed { IsFlushed (W.has_flushed output.old) → result ≢ Err FilterFault.Write → IsFlushed (W.has_flushed output.new) }
     ensures fault { IfErr result (λ f. HaltsHeld feed.old f filter.old (W.contents output.old) (W.contents output.new) (W.has_failed output.new) (K.told link.old) (K.told link.new) client.old client.new) }
 {
     'lines: loop {
@@ -327,6 +333,8 @@ pub fn run_filter<R: Log, S: Source, W: Sink, K: Link>(
     // A device that failed is always told.
     ensures written { OnOk result (W.has_failed output.new ≡ false) }
     ensures sink_works { W.has_failed output.old ≡ false → result ≢ Err FilterFault.Write → W.has_failed output.new ≡ false }
+    // What was written is handed on before the next read, and at every end but a failed write.
+    ensures flushed { IsFlushed (W.has_flushed output.old) → result ≢ Err FilterFault.Write → IsFlushed (W.has_flushed output.new) }
     ensures source_works { S.has_failed input.old ≡ false → result ≢ Err FilterFault.Read → S.has_failed input.new ≡ false }
     // Each of the reads takes at most 4,096 bytes.
     ensures reads { (bytes : List ℕ) × Consumes (S.remaining input.old) (S.remaining input.new) bytes × (length bytes ≤ 4096 * 1099511627776) }

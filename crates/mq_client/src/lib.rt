@@ -17,6 +17,7 @@ mod script;
 #[cfg(test)]
 mod tests;
 mod tries;
+mod warnings;
 
 pub use client::Client;
 pub use faults::{FilterFault, Memory};

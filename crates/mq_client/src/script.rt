@@ -1,13 +1,15 @@
 //! A link for tests: it ends each exchange as it was told to, and keeps the frames.
 ghost use Rattle.std.specs.Prelude.{◌≡◌, ◌∷◌, ◌++◌, [], true, false, List, OnErr};
 ghost use Rattle.mq_client.specs.Link.{outcome_of};
+ghost use Rattle.mq_client.specs.Script.{due, rest, EndsBy};
 
 use crate::link::{Bytes, Link, LinkFault, Outcome, Told};
 use std::alloc::Global;
 use std::collections::VecDeque;
 
 /// Ends each exchange by the next given outcome, is down after the last, and keeps the exchanges.
-/// It tells them as long as none was lost for want of memory.
+/// A body that finds no memory ends its exchange by `Memory`. The link tells its exchanges as long as
+/// none was lost for want of memory.
 #[derive(Drop)]
 pub struct ScriptLink {
     alloc: Global,
@@ -18,6 +20,7 @@ pub struct ScriptLink {
 
 impl ScriptLink {
     pub fn new(alloc: Global, script: VecDeque<Outcome>) -> ScriptLink
+        ensures script { result.script.items ≡ script.items }
         ensures kept { result.kept.items ≡ [] }
         ensures tells { result.tells ≡ true }
     {
@@ -51,6 +54,8 @@ fn keep(alloc: Global, kept: &mut Vec<Told>, frame: &[u8], outcome: Outcome) -> 
 /// The next outcome. A body that can't be copied is a fault.
 fn play(script: &mut VecDeque<Outcome>, reply: &mut Vec<u8>) -> (Outcome, Result<(), LinkFault>)
     ensures outcome { result.0 ≡ outcome_of result.1 reply.new.items }
+    ensures due { EndsBy (due script.old.items) result.0 }
+    ensures rest { script.new.items ≡ rest script.old.items }
     ensures empty { OnErr result.1 (reply.new.items ≡ []) }
 {
     reply.clear();
@@ -65,8 +70,9 @@ fn play(script: &mut VecDeque<Outcome>, reply: &mut Vec<u8>) -> (Outcome, Result
 }
 
 impl Link for ScriptLink {
-    ghost use Rattle.std.specs.Prelude.{◌≡◌, ◌<◌, ◌∷◌, [], List, OnErr, length, if◌then◌else◌, None, Some};
+    ghost use Rattle.std.specs.Prelude.{◌≡◌, ◌<◌, ◌⊎◌, ◌∷◌, ◌++◌, [], List, OnErr, length, if◌then◌else◌, None, Some};
     ghost use Rattle.mq_client.specs.Link.{Tells, outcome_of};
+    ghost use Rattle.mq_client.specs.Script.{due, rest, EndsBy};
 
     ghost told = { λ s. if s.tells then Some s.kept.items else None };
 
@@ -74,6 +80,10 @@ impl Link for ScriptLink {
         ensures told { Tells (if self.old.tells then Some self.old.kept.items else None) (if self.new.tells then Some self.new.kept.items else None)
             (record { frame = frame.now; outcome = outcome_of result reply.new.items } ∷ []) }
         ensures empty { OnErr result (reply.new.items ≡ []) }
+        ensures due { EndsBy (due self.old.script.items) (outcome_of result reply.new.items) }
+        ensures rest { self.new.script.items ≡ rest self.old.script.items }
+        ensures kept { (self.new.kept.items ≡ self.old.kept.items ++ record { frame = frame.now; outcome = outcome_of result reply.new.items } ∷ [])
+            ⊎ (self.new.kept.items ≡ self.old.kept.items) }
         // It still tells where it kept the exchange.
         ensures tells { length self.old.kept.items < length self.new.kept.items → self.new.tells ≡ self.old.tells }
     {

@@ -1,15 +1,15 @@
 //! One request, sent up to so many times, and a queue of requests, sent from its front.
 ghost use Rattle.std.specs.Prelude.{◌≡◌, ◌<◌, ◌≤◌, ◌∷◌, [], List, length};
 ghost use Rattle.std.specs.List.{AllByRecursion};
-ghost use Rattle.mq_frame.specs.Range.{IsRequest};
 ghost use Rattle.mq_client.specs.Link.{Tells};
 ghost use Rattle.mq_client.specs.Exchanges.{Exchange, IsTry, AreTries, IsSent, Sends, request_frame, told_of, told_all, answers_reserve as answers_reserve_lem, answers_closing as answers_closing_lem, decides as decides_lem, deciding as deciding_lem};
-ghost use Rattle.mq_frame.specs.declared.message.Request.{Request};
+ghost use Rattle.mq_client.specs.declared.tries.Framed.{Framed as AFramed};
+ghost use Rattle.mq_client.specs.Framed.{IsFramed, requests_of};
 
 use crate::link::Link;
-use crate::named::Named;
+use crate::warnings::{Refused, Unanswered, is_refusal};
 use log::{Log, warn};
-use mq_frame::{DecodeFault, Id, Reply, Request, decode_reply, encode_request};
+use mq_frame::{DecodeFault, Id, Reply, Request, decode_reply};
 use std::alloc::Global;
 use std::collections::VecDeque;
 
@@ -86,15 +86,10 @@ fn try_once<L: Link>(
     }
 }
 
-/// Warns that a request stays undecided. A closing then waits.
+/// Warns that a request stays undecided.
 fn warn_unanswered<R: Log>(rt: &R, request: &Request, tries: u32) {
-    let named = Named(request);
-    match request {
-        Request::Settle { .. } | Request::Release { .. } => {
-            warn!(rt; "{named}: no answer in {tries} tries, it waits");
-        }
-        _ => warn!(rt; "{named}: no answer in {tries} tries"),
-    }
+    let unanswered = Unanswered { request, tries };
+    warn!(rt; "{unanswered}");
 }
 
 /// Exchanges a request's frame until a reply decides it, up to so many times.
@@ -119,34 +114,30 @@ pub fn try_all<R: Log, L: Link>(
     None
 }
 
-/// Warns that the server closed a transaction in another way than was asked for.
+/// Warns where the server refused a closing.
 fn warn_refused<R: Log>(rt: &R, request: &Request, reply: &Reply) {
-    let named = Named(request);
-    match reply {
-        Reply::Closed { .. } => warn!(rt; "{named}: the transaction was closed before"),
-        Reply::Mismatch { .. } => {
-            warn!(rt; "{named}: the transaction has another login or moment");
-        }
-        Reply::TooMany { held, .. } => warn!(rt; "{named}: the transaction holds {held} only"),
-        Reply::Conflict { .. } => warn!(rt; "{named}: the number was used by another request"),
-        _ => {}
+    if is_refusal(reply) {
+        let refused = Refused { request, reply };
+        warn!(rt; "{refused}");
     }
 }
 
-/// Sends a closing up to so many times, and answers whether a reply decided it. A refused growth for
-/// its frame is a failed try.
-fn send<R: Log, L: Link>(rt: &R, alloc: Global, link: &mut L, request: &Request, tries: u32) -> bool
-    requires { IsRequest request.now }
-    ensures { (group : List Exchange) × Tells (L.told link.old) (L.told link.new) (told_all group) × IsSent tries request.now group result }
+/// A request with its frame, so that sending it asks for no memory.
+#[derive(Drop)]
+pub struct Framed {
+    pub request: Request,
+    pub frame: Vec<u8>,
+}
+
+/// Sends a closing up to so many times, and answers whether a reply decided it.
+fn send<R: Log, L: Link>(rt: &R, alloc: Global, link: &mut L, closing: &Framed, tries: u32) -> bool
+    requires { IsFramed closing.now }
+    ensures { (group : List Exchange) × Tells (L.told link.old) (L.told link.new) (told_all group) × IsSent tries closing.now.request group result }
 {
-    let mut frame = Vec::new(alloc);
-    if encode_request(alloc, request, &mut frame).is_err() {
-        warn_unanswered(rt, request, tries);
-        return false;
-    }
-    match try_all(rt, alloc, link, request, frame.as_slice(), tries) {
+    let frame = closing.frame.as_slice();
+    match try_all(rt, alloc, link, &closing.request, frame, tries) {
         Some(reply) => {
-            warn_refused(rt, request, &reply);
+            warn_refused(rt, &closing.request, &reply);
             true
         }
         None => false,
@@ -154,9 +145,9 @@ fn send<R: Log, L: Link>(rt: &R, alloc: Global, link: &mut L, request: &Request,
 }
 
 /// Takes the first request away.
-fn drop_front(outbox: &mut VecDeque<Request>)
+fn drop_front(outbox: &mut VecDeque<Framed>)
     requires { 0 < length outbox.old.items }
-    ensures { (x : Request) × (outbox.old.items ≡ x ∷ outbox.new.items) }
+    ensures { (x : AFramed) × (outbox.old.items ≡ x ∷ outbox.new.items) }
 {
     let _ = outbox.pop_front();
 }
@@ -166,16 +157,16 @@ pub fn send_all<R: Log, L: Link>(
     rt: &R,
     alloc: Global,
     link: &mut L,
-    outbox: &mut VecDeque<Request>,
+    outbox: &mut VecDeque<Framed>,
     tries: u32,
 )
-    requires { AllByRecursion IsRequest outbox.old.items }
-    ensures step { (group : List Exchange) × Tells (L.told link.old) (L.told link.new) (told_all group) × Sends tries outbox.old.items group outbox.new.items }
-    ensures in_range { AllByRecursion IsRequest outbox.new.items }
+    requires { AllByRecursion IsFramed outbox.old.items }
+    ensures step { (group : List Exchange) × Tells (L.told link.old) (L.told link.new) (told_all group) × Sends tries (requests_of outbox.old.items) group (requests_of outbox.new.items) }
+    ensures framed { AllByRecursion IsFramed outbox.new.items }
     ensures len { length outbox.new.items ≤ length outbox.old.items }
 {
-    while let Some(request) = outbox.front() {
-        if !send(rt, alloc, link, request, tries) {
+    while let Some(closing) = outbox.front() {
+        if !send(rt, alloc, link, closing, tries) {
             return;
         }
         drop_front(outbox);

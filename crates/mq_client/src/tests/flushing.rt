@@ -41,10 +41,16 @@ struct Flushing<'a> {
     flushed: &'a Cell<usize>,
     /// Whether each flush fails.
     is_stuck: bool,
+    /// All that was taken was flushed.
+    clean: bool,
     failed: bool,
 }
 
 impl Sink for Flushing<'_> {
+    ghost use Rattle.std.specs.Prelude.{Some};
+
+    ghost has_flushed = { λ sink. Some sink.clean };
+
     ghost has_failed = { λ sink. sink.failed };
 
     fn write(&mut self, piece: &[u8]) -> Result<usize, Failed> {
@@ -52,6 +58,7 @@ impl Sink for Flushing<'_> {
             self.failed = true;
             return Err(Failed);
         }
+        self.clean = self.clean && piece.is_empty();
         Ok(piece.len())
     }
 
@@ -61,6 +68,7 @@ impl Sink for Flushing<'_> {
             return Err(Failed);
         }
         self.flushed.set(self.taken.len());
+        self.clean = true;
         Ok(())
     }
 }
@@ -103,6 +111,7 @@ fn flushes_before_it_reads(rt: HostRuntime) -> Result<(), Fail> {
         taken: Vec::new(alloc),
         flushed: &flushed,
         is_stuck: false,
+        clean: true,
         failed: false,
     };
     let ended = run_filter(
@@ -142,6 +151,7 @@ fn a_flush_fails(rt: HostRuntime) -> Result<(), Fail> {
         taken: Vec::new(alloc),
         flushed: &flushed,
         is_stuck: true,
+        clean: true,
         failed: false,
     };
     let ended = run_filter(

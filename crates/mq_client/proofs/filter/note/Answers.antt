@@ -1,10 +1,13 @@
-use Rattle.std.proofs.Common.{subst, Option}
+use Rattle.std.proofs.Common.{subst, sym, Option}
 use Rattle.std.proofs.lemmas.Result.{on_ok_weaker}
 use Rattle.mq_line.specs.Grammar.{meaning}
 use Rattle.mq_track.specs.Sessions.{fault}
 use Rattle.mq_track.specs.declared.closing.Closing.{Closing}
 use Rattle.mq_client.specs.Filter.{Closes}
+use Rattle.mq_client.specs.Loop.{IsRefused}
+use Rattle.mq_client.specs.declared.faults.FilterFault.{FilterFault}
 use Rattle.mq_client.proofs.Looping.{accepted}
+use Rattle.mq_client.proofs.Refusing.{refused}
 use Rattle.mq_client.proofs.filter.note.Goals as goal
 
 pub returns-in-Ok-clause-ok : goal.returns-in-Ok-clause-ok
@@ -19,3 +22,8 @@ returns-in-Ok-clause-ok g c =
           let F : Option Closing → Type 0 = λ x. Closes x w.0 in
           (none, subst F (c.in-Ok.ensures.accepted L st none) w.3, c.in-Ok.ensures.stands L st),
     )) c.close.ensures.ok
+
+pub returns-in-Err-clause-fault : goal.returns-in-Err-clause-fault
+returns-in-Err-clause-fault g c = λ L st.
+    let F : FilterFault → Type 0 = λ f. IsRefused f L (meaning c.args.line.now) in
+    subst F (sym c.fault_of.ensures) (refused _ L (meaning c.args.line.now) c.in-Err.fault (c.in-Err.ensures.refused L st) (c.in-Err.ensures.accepted L st))

@@ -13,6 +13,7 @@ loop-read-init g c = record {
   held = is_line_none _ c.new-feed.ensures.empty;
   written = λ ready. cc (ready);
   sink_works = λ works. works;
+  flushed = λ flushed. flushed;
   source_works = λ works. works;
   reads = omega arith;
   most = omega arith;
@@ -32,12 +33,18 @@ returns-in-Err-clause-fault g c =
 pub returns-in-Err-feed-clause-fault : goal.returns-in-Err-feed-clause-fault
 returns-in-Err-feed-clause-fault g c =
     let i = c.loop-read.invariant in
-    let piece = take c.in-Ok.count c.read.new.piece in (
+    let n = c.in-Ok.count in
+    let piece = take n c.read.new.piece in
+    let fits : n ≤ length c.read.new.piece = search rules in
+    let small : n ≤ 4096 = omega arith in
+    let long = length-take-le n c.read.new.piece fits in
+    let few : length piece ≤ 4096 = omega (arith, long, small) in
+    let some : 1 ≤ length piece = omega (arith, long) in (
       i.bytes ++ piece,
       Consumes-trans _ _ _ _ _ i.consumed c.in-Ok.ensures.bytes.0,
       stops _ (i.bytes ++ piece) (c.loop-read.feed ++ piece) c.loop-read.filter _ _ _ _ _ _ _ _ _ at.Memory None [] []
           (so_far_fed _ i.bytes c.loop-read.feed (c.loop-read.feed ++ piece) piece c.loop-read.filter _ _ _ refl i.so_far) (Does-still _ _ _)
-          (λ stage a. tt)
+          (λ stage a. inl (record { held = c.loop-read.feed; piece = piece; whole = refl; is_line = i.held; some = some; few = few }))
           (λ stage a. inl (refl, refl)),
     )
 
@@ -48,7 +55,7 @@ returns-in-Err-take_lines-clause-fault g c =
     let fed : c.feed-in-loop-read.new.self ≡ c.loop-read.feed ++ piece = search rules in (
       i.bytes ++ piece,
       Consumes-trans _ _ _ _ _ i.consumed c.in-Ok.ensures.bytes.0,
-      c.in-Err-take_lines.ensures.fault _ (i.bytes ++ piece) _ _ (so_far_fed _ i.bytes c.loop-read.feed c.feed-in-loop-read.new.self piece c.loop-read.filter _ _ _ fed i.so_far),
+      (c.in-Err-take_lines.ensures.fault _ (i.bytes ++ piece) _ _ (so_far_fed _ i.bytes c.loop-read.feed c.feed-in-loop-read.new.self piece c.loop-read.filter _ _ _ fed i.so_far)).0,
     )
 
 pub loop-read-preserved : goal.loop-read-preserved
@@ -70,6 +77,7 @@ loop-read-preserved g c =
       held = c.in-Ok-take_lines.ensures.left;
       written = c.in-Ok-take_lines.ensures.written i.written;
       sink_works = λ works. c.in-Ok-take_lines.ensures.works (i.sink_works works) (λ no. cc (no));
+      flushed = λ flushed. c.in-Ok-take_lines.ensures.flushed (i.flushed flushed) (λ no. cc (no));
       source_works = λ works. c.in-Ok.ensures.failed;
       reads = omega (arith, i.reads, length-append i.bytes piece, long, some);
       most = omega (arith, i.most, length-append i.bytes piece, long, small);

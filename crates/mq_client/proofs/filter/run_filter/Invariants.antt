@@ -1,5 +1,6 @@
 use Rattle.std.proofs.Common.{◌≡◌, ◌+◌, ◌*◌, ◌≤◌, ℕ, List, length, false}
 use Rattle.std.specs.Io.KnownBytes.{Consumes}
+use Rattle.mq_frame.specs.Flow.{IsFlushed}
 use Rattle.mq_line.specs.Text.{IsLine}
 use Rattle.mq_client.specs.Loop.{SinkWorks, SoFar}
 use Rattle.mq_client.proofs.filter.run_filter.Given as goal
@@ -14,6 +15,7 @@ invariant-loop-read g l = record {
   held : IsLine l.feed;
   written : SinkWorks l.filter (g.W.Sink.has_failed l.output);
   sink_works : g.W.Sink.has_failed l.initial.output ≡ false → g.W.Sink.has_failed l.output ≡ false;
+  flushed : IsFlushed (g.W.Sink.has_flushed l.initial.output) → IsFlushed (g.W.Sink.has_flushed l.output);
   source_works : g.S.Source.has_failed l.initial.input ≡ false → g.S.Source.has_failed l.input ≡ false;
   reads : l._read ≤ length bytes;
   most : length bytes ≤ 4096 * l._read;

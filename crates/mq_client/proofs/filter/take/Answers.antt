@@ -1,6 +1,8 @@
 use Rattle.std.proofs.Common.{◌+◌, ◌++◌, ◌∷◌, [], sym, ap, ◌∙◌, None, arith}
 use Rattle.mq_line.specs.Grammar.{FilterLine, meaning}
-use Rattle.mq_client.proofs.Looping.{Appends-none, Does-nothing, carries_take, stops, cut_found, cut_in_hand, takes_noted, count_noted, tracks_filter, answer_counted, refused_stops, may_go}
+use Rattle.mq_client.specs.Loop.{IsAt}
+use Rattle.mq_client.specs.Run.{Stage, IsAtWork}
+use Rattle.mq_client.proofs.Looping.{Appends-none, Does-nothing, carries_take, stops_within, cut_found, cut_in_hand, takes_noted, count_noted, tracks_filter, answer_counted, request_works, refused_stops, may_go}
 use Rattle.mq_client.proofs.filter.take.Goals as goal
 
 pub returns-in-Ok-clause-ok : goal.returns-in-Ok-clause-ok
@@ -19,10 +21,12 @@ returns-in-Err-clause-fault g c =
     let f = c.args.filter.now in
     let fault = c.in-Err.fault in
     λ o bytes line rest source read_failed one reads s.
-    stops o bytes (line ++ 10 ∷ rest) f source _ _ read_failed _ _ _ _ _ fault step front more s does
-    (λ stage a. cut_found fault stage bytes _ source read_failed _ c.in-Err.ensures.fault)
+    let work : (stage : Stage) → IsAt f stage → IsAtWork stage (line ++ 10 ∷ rest) = λ stage a. request_works f stage line rest q.seconds _ _ _ _ _ c.requires.ready a one (rw (ap meaning q.is) at reads) in
+    stops_within o bytes (line ++ 10 ∷ rest) f source _ _ read_failed _ _ _ _ _ fault step front more s does
+    (λ stage a. cut_found fault stage bytes _ source read_failed _ c.in-Err.ensures.fault (work stage a))
     (λ stage a. cut_in_hand fault stage _ _ step _ c.in-Err.ensures.fault
     (may_go f stage line rest q.seconds _ _ _ _ _ step _ c.requires.ready a one (rw (ap meaning q.is) at reads) acts))
+    (λ stage a e. work stage a)
 
 pub returns-in-Ok-note : goal.returns-in-Ok-note
 returns-in-Ok-note g c =
@@ -36,6 +40,7 @@ returns-in-Ok-note g c =
           (λ L st. let n = notes L st in (takes_noted L l step apart n.0 n.1, n.2)) c.requires.ready (λ L e. e ∙ sym (count_noted L l apart));
       count = omega arith;
       works = λ works differs. works;
+      flushed = λ flushed differs. flushed;
       fault = tt;
     }
 
@@ -48,8 +53,10 @@ returns-in-Err-note g c =
       ok = tt;
       count = tt;
       works = λ works differs. works;
+      flushed = λ flushed differs. flushed;
       fault = λ o bytes line rest source read_failed one reads s.
-          stops o bytes (line ++ 10 ∷ rest) f source _ _ read_failed _ _ _ _ _ c.in-Err-note.fault None [] [] s (Does-nothing g.K.Link.told _ _ _ _ _ e.link e.client)
+          stops_within o bytes (line ++ 10 ∷ rest) f source _ _ read_failed _ _ _ _ _ c.in-Err-note.fault None [] [] s (Does-nothing g.K.Link.told _ _ _ _ _ e.link e.client)
           (λ stage a. (refused_stops c.in-Err-note.fault f stage bytes line rest (meaning l) source read_failed _ c.requires.ready a one reads e.fault).0)
-          (λ stage a. (refused_stops c.in-Err-note.fault f stage bytes line rest (meaning l) source read_failed (g.W.Sink.has_failed c.args.output.now) c.requires.ready a one reads e.fault).1);
+          (λ stage a. (refused_stops c.in-Err-note.fault f stage bytes line rest (meaning l) source read_failed (g.W.Sink.has_failed c.args.output.now) c.requires.ready a one reads e.fault).1)
+          (λ stage a. (refused_stops c.in-Err-note.fault f stage bytes line rest (meaning l) source read_failed (g.W.Sink.has_failed c.args.output.now) c.requires.ready a one reads e.fault).2);
     }

@@ -1,7 +1,7 @@
 use Rattle.std.proofs.Common.{[], ℕ, List, refl, subst, ap, Err, None}
 use Rattle.mq_client.specs.Loop.{SoFar}
 use Rattle.mq_client.specs.declared.faults.FilterFault.TheVariants as at
-use Rattle.mq_client.proofs.Looping.{Does-still, stops}
+use Rattle.mq_client.proofs.Looping.{Does-still, stops_within}
 use Rattle.mq_client.proofs.filter.take_lines.Goals as goal
 
 pub returns-in-Err-handle-clause-fault : goal.returns-in-Err-handle-clause-fault
@@ -12,6 +12,7 @@ returns-in-Err-handle-clause-fault g c = λ o bytes source read_failed s.
 
 pub returns-in-Err-clause-fault : goal.returns-in-Err-clause-fault
 returns-in-Err-clause-fault g c = λ o bytes source read_failed s.
-    stops o bytes c.lines.feed c.lines.filter source _ _ read_failed _ _ _ _ _ at.TooLong None [] [] (c.lines.invariant.carries o bytes s) (Does-still _ _ _)
+    stops_within o bytes c.lines.feed c.lines.filter source _ _ read_failed _ _ _ _ _ at.TooLong None [] [] (c.lines.invariant.carries o bytes s) (Does-still _ _ _)
     (λ stage a. c.in-Err.ensures.too_long.0 (ap Err c.in-Err.ensures.fault))
     (λ stage a. (refl, refl))
+    (λ stage a e. absurd (cc (e)))

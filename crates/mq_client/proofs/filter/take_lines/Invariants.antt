@@ -1,4 +1,5 @@
 use Rattle.std.proofs.Common.{◌≡◌, ◌+◌, ◌≤◌, length, false}
+use Rattle.mq_frame.specs.Flow.{IsFlushed}
 use Rattle.mq_client.specs.Loop.{CarriesHeld, SinkWorks}
 use Rattle.mq_client.proofs.filter.take_lines.Given as goal
 
@@ -7,6 +8,7 @@ invariant-lines g l = record {
   carries : CarriesHeld l.initial.feed l.feed l.initial.filter l.filter (g.W.Sink.contents l.initial.output) (g.W.Sink.contents l.output) (g.K.Link.told l.initial.link) (g.K.Link.told l.link) l.initial.client l.client;
   written : SinkWorks l.initial.filter (g.W.Sink.has_failed l.initial.output) → SinkWorks l.filter (g.W.Sink.has_failed l.output);
   works : g.W.Sink.has_failed l.initial.output ≡ false → g.W.Sink.has_failed l.output ≡ false;
+  flushed : IsFlushed (g.W.Sink.has_flushed l.initial.output) → IsFlushed (g.W.Sink.has_flushed l.output);
   count : l.filter.answers + length l.feed ≤ l.initial.filter.answers + length l.initial.feed;
 }
 

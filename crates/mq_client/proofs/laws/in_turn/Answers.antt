@@ -1,6 +1,8 @@
-use Rattle.mq_client.proofs.Turning.{turns, same_turns}
-use Rattle.mq_client.proofs.Wholes.{same_whole}
+use Rattle.mq_client.proofs.Turning.{OneReply, turns, none_next, same_turns}
+use Rattle.mq_client.proofs.Sameness.{same_played}
 use Rattle.mq_client.proofs.laws.in_turn.Goals as goal
 
 pub returns : goal.returns
-returns c = record { turns = turns; same = same_turns; whole = same_whole }
+returns c =
+    let U : OneReply = c.one_spelling.ensures.one_reply in
+    record { turns = turns; last = none_next; same = same_turns U; steps = same_played U }

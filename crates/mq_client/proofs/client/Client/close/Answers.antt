@@ -1,13 +1,15 @@
 use Rattle.std.proofs.Common.{◌≡◌, ◌+◌, List, [], ◌∷◌, ◌++◌, refl, sym, ap, ◌∙◌, subst, rules, arith, None, Some}
 use Rattle.std.specs.List.{AllByRecursion}
-use Rattle.mq_frame.specs.Range.{IsRequest}
+use Rattle.mq_client.specs.Framed.{IsFramed, requests_of}
 use Rattle.mq_frame.specs.declared.message.Request.{Request}
 use Rattle.mq_client.specs.Past.{State, Close, Makes, find}
 use Rattle.mq_client.specs.Exchanges.{Sends}
 use Rattle.mq_client.specs.Inside.{state_of}
+use Rattle.std.proofs.lemmas.List.{map-append}
+use Rattle.mq_client.specs.declared.tries.Framed.{Framed}
 use Rattle.mq_client.proofs.Telling.{Tells-none}
 use Rattle.mq_client.proofs.Making.{closed, closed_nothing}
-use Rattle.mq_client.proofs.Keeping.{closed_in_range, in_range_push}
+use Rattle.mq_client.proofs.Keeping.{closed_in_range, framed_push}
 use Rattle.mq_client.proofs.client.Client.close.Goals as goal
 
 pub returns-in_default-clause-ok : goal.returns-in_default-clause-ok
@@ -23,7 +25,7 @@ closing_request-requires-clause-held g c =
     c.self.invariant.held c.args.closing.txn c.in-Some.known.now there
 
 pub send_all-requires : goal.send_all-requires
-send_all-requires g c = subst (AllByRecursion IsRequest) (sym c.in_ok-push_back.ensures.items) (in_range_push c.self.inside.outbox.items c.in_ok-request.request c.self.invariant.outbox c.in_ok-request.ensures.in_range)
+send_all-requires g c = subst (AllByRecursion IsFramed) (sym c.in_ok-push_back.ensures.items) (framed_push c.self.inside.outbox.items _ c.self.invariant.outbox (search rules))
 
 pub invariant_of-self-2 : goal.invariant_of-self-2
 invariant_of-self-2 g c =
@@ -38,16 +40,16 @@ invariant_of-self-2 g c =
       places = omega (arith, i.places, len, left, pushed);
       numbers = omega (arith, i.numbers, len);
       held = closed_in_range c.self.inside.held.entries c.release.new.held.entries c.args.closing.txn c.release.ensures.find i.held;
-      outbox = c.send_all.ensures.in_range;
+      outbox = c.send_all.ensures.framed;
     }
 
 pub returns-clause-ok : goal.returns-clause-ok
 returns-clause-ok g c =
     let (group, told, sends) = c.send_all.ensures.step in
     let i = c.self.inside in
-    let d : State = record { source = record { host = i.host; run = i.run }; tries = i.tries; held = c.release.new.held.entries; numbers = i.numbers + 1; waiting = c.send_all.new.outbox.items } in
+    let d : State = record { source = record { host = i.host; run = i.run }; tries = i.tries; held = c.release.new.held.entries; numbers = i.numbers + 1; waiting = requests_of c.send_all.new.outbox.items } in
     let F : State → Type 0 = λ s. Makes s d (record { action = Close c.args.closing.txn c.args.closing.end; group = group }) in
     let there : find i.held.entries c.args.closing.txn ≡ Some c.in-Some.known.now = search rules in
-    let D : List Request → Type 0 = λ w. Sends i.tries w group c.send_all.new.outbox.items in
-    let pushed = c.in_ok-push_back.ensures.items ∙ ap (λ q. i.outbox.items ++ q ∷ []) c.in_ok-request.ensures.request in
+    let D : List Request → Type 0 = λ w. Sends i.tries w group (requests_of c.send_all.new.outbox.items) in
+    let pushed = ap requests_of c.in_ok-push_back.ensures.items ∙ map-append (λ (framed : Framed). framed.request) i.outbox.items _ ∙ ap (λ q. requests_of i.outbox.items ++ q ∷ []) c.in_ok-request.ensures.request in
     (group, told, subst F c.self.view_is (closed (state_of i) d c.args.closing.txn c.args.closing.end c.in-Some.known.now group refl refl there (subst D pushed sends) c.release.ensures.find c.release.ensures.len refl))

@@ -1,5 +1,8 @@
 use Rattle.std.proofs.Common.{◌≡◌, ℕ, ◌+◌, ◌==◌, [], length, refl, sym, ◌∙◌, subst, rules, true, false, Some, if◌then◌else◌}
 use Rattle.mq_client.specs.Past.{State, Ask, Makes, refuses, find, opened, let_through, answer_by}
+use Rattle.std.proofs.lemmas.List.{length-map}
+use Rattle.mq_client.specs.Framed.{requests_of}
+use Rattle.mq_client.specs.declared.tries.Framed.{Framed}
 use Rattle.mq_client.specs.Inside.{state_of}
 use Rattle.mq_client.specs.Held.{AllHeld}
 use Rattle.mq_client.proofs.Telling.{Tells-none}
@@ -12,7 +15,7 @@ returns-then-refuses-clause-ok g c =
     let F : State → Type 0 = λ s. Makes s s (record { action = Ask c.args.txn c.args.at c.args.login.now; group = [] }) in
     let i = c.self.inside in
     let h : refuses (find i.held.entries c.args.txn) (length i.held.entries) i.numbers (length i.outbox.items) c.args.at c.args.login.now ≡ true = search rules in
-    ([], Tells-none _, refl, subst F c.self.view_is (refused (state_of i) c.args.txn c.args.at c.args.login.now h))
+    ([], Tells-none _, refl, subst F c.self.view_is (refused (state_of i) c.args.txn c.args.at c.args.login.now (rw (length-map i.outbox.items (λ (framed : Framed). framed.request)) h)))
 
 pub invariant_of-self : goal.invariant_of-self
 invariant_of-self g c =
@@ -42,7 +45,7 @@ pub returns-clause-ok : goal.returns-clause-ok
 returns-clause-ok g c =
     let (group, told, tries) = c.try_all-decided.ensures in
     let i = c.self.inside in
-    let d : State = record { source = record { host = i.host; run = i.run }; tries = i.tries; held = c.count.new.held.entries; numbers = i.numbers + 1; waiting = i.outbox.items } in
+    let d : State = record { source = record { host = i.host; run = i.run }; tries = i.tries; held = c.count.new.held.entries; numbers = i.numbers + 1; waiting = requests_of i.outbox.items } in
     let F : State → Type 0 = λ s. Makes s d (record { action = Ask c.args.txn c.args.at c.args.login.now; group = group }) in
     let free : refuses (find i.held.entries c.args.txn) (length i.held.entries) i.numbers (length i.outbox.items) c.args.at c.args.login.now ≡ false = search rules in
     let found = held_and_counted c.args.txn c.args.at c.args.login.now c.answer_to-answer.result i.held.entries c.hold.new.held.entries c.count.new.held.entries c.in_ok-hold.ensures.find c.count.ensures.find in
@@ -51,6 +54,6 @@ returns-clause-ok g c =
       group,
       told,
       c.answer_to-answer.ensures ∙ sym (answer_of_tries i.tries _ group c.try_all-decided.result tries),
-      subst F c.self.view_is (asked (state_of i) d c.args.txn c.args.at c.args.login.now group c.try_all-decided.result c.self.invariant.tries.from refl refl free tries_of by
+      subst F c.self.view_is (asked (state_of i) d c.args.txn c.args.at c.args.login.now group c.try_all-decided.result c.self.invariant.tries.from refl refl (rw (length-map i.outbox.items (λ (framed : Framed). framed.request)) free) tries_of by
           (c.count.ensures.len ∙ c.in_ok-hold.ensures.len) refl refl),
     )

@@ -1,0 +1,12 @@
+-- The closings that wait, each with its frame.
+use Rattle.std.specs.Prelude.{◌≡◌, List, map}
+use Rattle.mq_frame.specs.declared.message.Request.{Request}
+use Rattle.mq_client.specs.Exchanges.{request_frame}
+use Rattle.mq_client.specs.declared.tries.Framed.{Framed}
+
+-- the frame is that of the request
+abbrev pub IsFramed : Framed → Type 0
+IsFramed framed = framed.frame.items ≡ request_frame framed.request
+
+abbrev pub requests_of : List Framed → List Request
+requests_of queue = map (λ framed. framed.request) queue
