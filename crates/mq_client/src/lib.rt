@@ -14,8 +14,6 @@ mod link;
 mod named;
 mod put;
 mod script;
-#[cfg(test)]
-mod tests;
 mod tries;
 mod warnings;
 

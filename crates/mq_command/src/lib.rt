@@ -8,8 +8,6 @@ mod output;
 mod printed;
 mod replay;
 mod report;
-#[cfg(test)]
-mod tests;
 
 pub use ask::AskFault;
 pub use connections::{TEXT_LIMIT, TextFault, read_connections};

@@ -19,8 +19,6 @@ mod reply_parts;
 mod request_parts;
 mod sink;
 mod source;
-#[cfg(test)]
-mod tests;
 mod usage;
 
 pub use decode::{DecodeFault, decode_reply, decode_request};

@@ -19,5 +19,3 @@ pub use entry::Entry;
 pub use plain::PlainLedger;
 pub use zone::{BadOffset, Zone};
 
-#[cfg(test)]
-mod tests;

@@ -11,8 +11,6 @@ mod fault;
 mod input;
 pub mod laws;
 mod output;
-#[cfg(test)]
-mod tests;
 
 pub use connection::{Served, serve};
 pub use connections::{ConnectionEnd, serve_all};

@@ -6,7 +6,7 @@ mod flushing;
 mod rows;
 mod sittings;
 
-use crate::{Bytes, Client, Ended, FilterFault, Outcome, ScriptLink, Told, run_filter};
+use mq_client::{Bytes, Client, Ended, FilterFault, Outcome, ScriptLink, Told, run_filter};
 use log::sink::Discard;
 use mq_frame::{FromRead, Host, ToWrite, is_host};
 use std::alloc::Global;

@@ -1,7 +1,7 @@
 //! Worked examples of the link, and what no contract says.
 mod devices;
 
-use crate::{ConnectionEnd, ServeFault, Served, serve, serve_all};
+use mq_server::{ConnectionEnd, ServeFault, Served, serve, serve_all};
 use devices::{Faulty, Flushing, Pieces, Room, Watching};
 use mq_frame::{FromRead, ToWrite};
 use mq_ledger::{LedgerFault, PlainLedger, Zone};

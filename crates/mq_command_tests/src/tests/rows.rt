@@ -1,6 +1,6 @@
 //! The worked examples of `replay`.
 
-use crate::replay::run_replay;
+use mq_command::run_replay;
 use mq_ledger::Zone;
 use std::alloc::Global;
 use std::process::Abort;

@@ -6,8 +6,8 @@ ghost use Rattle.mq_ledger.specs.Day.{day_of};
 ghost use Rattle.mq_ledger.specs.History.{requests as requests_of};
 
 use super::{granted, ledger, reserve, usage, used};
-use crate::laws::one_more_arrival;
-use crate::{Ledger, LedgerFault, Zone};
+use mq_ledger::laws::one_more_arrival;
+use mq_ledger::{Ledger, LedgerFault, Zone};
 use mq_frame::{Reply, Request};
 use std::alloc::{AllocError, Global};
 use std::test::*;

@@ -1,6 +1,6 @@
 //! How a run stops.
 use super::*;
-use crate::Memory;
+use mq_client::Memory;
 use mq_frame::{Failed, Sink, Source};
 use mq_line::LineFault;
 use mq_track::TrackFault;

@@ -1,5 +1,5 @@
 //! Frames and bodies from the format's worked examples, and what no contract says.
-use crate::{
+use mq_frame::{
     DecodeFault, Escaped, Failed, FrameFault, FrameFeed, FromRead, Host, Id, Login, Memory,
     REPLY_LIMIT, REQUEST_LIMIT, Reply, Request, Sink, Source, ToWrite, UsageRow, UsageRows,
     decode_reply, decode_request, encode_reply, encode_request, is_reply, is_request,

@@ -1,7 +1,7 @@
 //! What `limit` sends and prints.
 
 use super::links::{ServerLink, Short, answered, assert_sent, assert_told};
-use crate::limit::run_limit;
+use mq_command::run_limit;
 use mq_client::{Link, LinkFault, Outcome, ScriptLink};
 use mq_frame::{Host, Id, Login, Request, is_request};
 use std::alloc::Global;

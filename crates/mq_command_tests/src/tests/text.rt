@@ -1,8 +1,7 @@
 //! The text of `replay` and printed logins.
 
-use crate::connections::{TEXT_LIMIT, TextFault, read_connections};
-use crate::output::write_hex_line;
-use crate::printed::login_text;
+use mq_command::{TEXT_LIMIT, TextFault, read_connections};
+use mq_command::login_text;
 use std::alloc::Global;
 use std::test::Fail;
 

@@ -1,7 +1,7 @@
 //! What `report` asks and prints.
 
 use super::links::{PagesLink, ServerLink, Short, answered, assert_sent, assert_told, page_behind};
-use crate::report::run_report;
+use mq_command::run_report;
 use mq_client::{Bytes, Link, LinkFault, Outcome, ScriptLink};
 use mq_frame::Login;
 use std::alloc::Global;

@@ -1,6 +1,6 @@
 //! The calls of a client.
 use super::*;
-use crate::{Asked, LinkFault};
+use mq_client::{Asked, LinkFault};
 use log::sink::Memory as Kept;
 use mq_track::{CloseEnd, Closing};
 

@@ -5,7 +5,7 @@ ghost use Rattle.mq_frame.specs.Range.{IsWithin, IsOrdinal, IsCount, IsDay, IsAm
 
 mod callers;
 
-use crate::{BadOffset, Ledger, LedgerFault, PlainLedger, Zone};
+use mq_ledger::{BadOffset, Ledger, LedgerFault, PlainLedger, Zone};
 use mq_frame::{Host, Id, Login, Reply, Request, UsageRow, UsageRows};
 use std::alloc::AllocError;
 use std::process::Abort;

@@ -1,0 +1,4 @@
+//! Tests of `mq_server`: the worked examples, and what no contract says.
+#![tactic(auto)]
+#[cfg(test)]
+mod tests;
