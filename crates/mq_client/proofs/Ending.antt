@@ -14,8 +14,9 @@ use Rattle.mq_client.specs.declared.filter.Ended.{Ended}
 use Rattle.mq_client.specs.declared.link.Told.{Told}
 use Rattle.mq_client.proofs.Looping.{is_line_none}
 use Rattle.mq_client.proofs.Turning.{OneReply}
-use Rattle.mq_client.proofs.Sameness.{cons_head, cons_tail, same_actions, same_texts, same_played, same_lines}
-use Rattle.mq_client.proofs.Placing.{Grammar, Front, Unread, Untracked, TooEarly, NeverReady, Over, InLine, Long, Fate, AtLine, AtEnd, true_false, some_is, none_some, same_place}
+use Rattle.mq_client.proofs.Sameness.{same_actions, same_texts, same_played, same_lines}
+use Rattle.mq_client.proofs.Placing.{Grammar, Front, Unread, Untracked, TooEarly, NeverReady, Over, InLine, Long, Fate, AtLine, AtEnd, same_place}
+use Rattle.mq_client.proofs.Basics.{none_some, some_is, true_false, cons_head, cons_tail}
 
 -- how a text is cut into lines
 pub record Cutting : Type 0 where

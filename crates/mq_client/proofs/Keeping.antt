@@ -10,6 +10,7 @@ use Rattle.mq_client.specs.declared.tries.Framed.{Framed}
 use Rattle.mq_client.specs.declared.held.Asked.{Asked}
 use Rattle.mq_client.specs.declared.held.Asked.TheVariants as asked
 use Rattle.mq_client.specs.declared.held.Held.{Held}
+use Rattle.mq_client.proofs.Basics.{none_some, some_is}
 
 held_where : (old new : List (ℕ × Held)) (txn t : ℕ) (o : Option Held) (h : Held) (b : Bool) → (txn == t) ≡ b → find new t ≡ (if b then o else find old t) → AllHeld old → ((k : Held) → o ≡ Some k → IsHeld txn k) → find new t ≡ Some h → IsHeld t h
 held_where old new txn t o h true e n all here f = subst (λ (k : ℕ). IsHeld k h) (eqb-true txn t e) (here h (sym n ∙ f))
@@ -18,12 +19,6 @@ held_where old new txn t o h false e n all here f = all t h (sym n ∙ f)
 -- one transaction is written
 pub AllHeld-set : (old new : List (ℕ × Held)) (txn : ℕ) (o : Option Held) → ((t : ℕ) → find new t ≡ (if txn == t then o else find old t)) → AllHeld old → ((k : Held) → o ≡ Some k → IsHeld txn k) → AllHeld new
 AllHeld-set old new txn o n all here = λ t h f. held_where old new txn t o h (txn == t) refl (n t) all here f
-
-some_is : (h k : Held) → Some h ≡ Some k → h ≡ k
-some_is h k e = cc
-
-none_some : (k : Held) → None ≡ Some k → ⊥
-none_some k e = cc
 
 pub opened_in_range : (held : List (ℕ × Held)) (txn at : ℕ) (login : List ℕ) (o : Option Held) → find held txn ≡ o → AllHeld held → IsOrdinal txn → IsMoment at → IsLogin login → IsHeld txn (opened at login o)
 opened_in_range held txn at login None e all n m l = record { number = n; at = m; login = l; granted = omega arith }
@@ -70,7 +65,3 @@ has_room (Some h) live numbers waiting at login e places limit =
       numbers = λ new f. omega (arith, f, ltb-false (4294967295 - numbers) (1 + live) d);
       few = λ at' login'. omega (arith, leb-false 1000 h.granted c);
     }
-
-pub framed_push : (xs : List Framed) (x : Framed) → AllByRecursion IsFramed xs → IsFramed x → AllByRecursion IsFramed (xs ++ x ∷ [])
-framed_push [] x all i = (i, tt)
-framed_push (y ∷ xs) x all i = (all.0, framed_push xs x all.1 i)

@@ -1,3 +1,4 @@
+pub mod Basics
 pub mod Telling
 pub mod Sending
 pub mod Counting

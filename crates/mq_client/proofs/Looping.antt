@@ -14,7 +14,6 @@ use Rattle.mq_line.specs.declared.reading.Line.TheVariants as line
 use Rattle.mq_track.specs.Sessions.{closing, fault}
 use Rattle.mq_track.specs.State.{StandsAt, State as State'}
 use Rattle.mq_track.specs.declared.fault.TrackFault.{TrackFault}
-use Rattle.mq_track.specs.declared.fault.TrackFault.TheVariants as track
 use Rattle.mq_client.specs.Link.{Tells}
 use Rattle.mq_client.specs.Exchanges.{Exchange, told_all}
 use Rattle.mq_client.specs.Past.{Source, Drain, Step, State, StandsAt as PastStandsAt, view, Plays, Makes, MakesAll, told_steps}
@@ -27,6 +26,7 @@ use Rattle.mq_client.specs.declared.filter.Ended.{Ended}
 use Rattle.mq_client.specs.declared.filter.Filter.{Filter}
 use Rattle.mq_client.specs.declared.link.Told.{Told}
 use Rattle.mq_client.proofs.Telling.{Tells-none, Tells-trans}
+use Rattle.mq_client.proofs.Basics.{all_push}
 
 pub Appends-none : (o : Option (List ℕ)) → Appends o o []
 Appends-none None = tt
@@ -83,10 +83,6 @@ text_of-push : (taken : List (List ℕ)) (line : List ℕ) → text_of (taken ++
 text_of-push [] line = refl
 text_of-push (l ∷ taken) line = ap (λ (t : List ℕ). l ++ 10 ∷ t) (text_of-push taken line) ∙ sym (append_assoc l (10 ∷ text_of taken) (line ++ 10 ∷ []))
 
-each-push : (P : List ℕ → Type 0) (xs : List (List ℕ)) (x : List ℕ) → AllByRecursion P xs → P x → AllByRecursion P (xs ++ x ∷ [])
-each-push P [] x all h = (h, tt)
-each-push P (y ∷ xs) x all h = (all.0, each-push P xs x all.1 h)
-
 -- a line is taken from what is held
 pub holds_taken : (text : List ℕ) (taken : List (List ℕ)) (line rest : List ℕ) → IsLine line → Holds text taken (line ++ 10 ∷ rest) → Holds text (taken ++ line ∷ []) rest
 holds_taken text taken line rest one h = record {
@@ -94,11 +90,11 @@ holds_taken text taken line rest one h = record {
       ∙ ap (λ (l : List ℕ). text_of taken ++ l) (sym (append_assoc line (10 ∷ []) rest))
       ∙ sym (append_assoc (text_of taken) (line ++ 10 ∷ []) rest)
       ∙ ap (λ (l : List ℕ). l ++ rest) (sym (text_of-push taken line));
-  each = each-push IsLine taken line h.each one;
+  each = all_push IsLine taken line h.each one;
 }
 
 early_more : (lines : List (List ℕ)) (line : List ℕ) → AllByRecursion IsEarly lines → IsEarly line → AllByRecursion IsEarly (lines ++ line ∷ [])
-early_more lines line all h = each-push IsEarly lines line all h
+early_more lines line all h = all_push IsEarly lines line all h
 
 ready_new : (lines : List (List ℕ)) (line : List ℕ) → AllByRecursion IsEarly lines → Reads line ReadyLine → IsReady (lines ++ line ∷ []) []
 ready_new lines line all h = record { before = lines; ready = line; after = []; whole = refl; early = all; reads_ready = h; read = refl }

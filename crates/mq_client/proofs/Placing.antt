@@ -12,7 +12,8 @@ use Rattle.mq_client.specs.Filter.{Takes, Filters}
 use Rattle.mq_client.specs.Run.{is_early, is_stamped, IsEarly, AreRead, IsReady, Stage, Waiting, Running, Reaches, HasText}
 use Rattle.mq_client.specs.declared.faults.FilterFault.{FilterFault}
 use Rattle.mq_client.specs.declared.faults.FilterFault.TheVariants as at
-use Rattle.mq_client.proofs.Sameness.{cons_head, cons_tail, nil_cons, push_front, early_apart, same_after, same_read, same_lines}
+use Rattle.mq_client.proofs.Sameness.{push_front, early_apart, same_after, same_read, same_lines}
+use Rattle.mq_client.proofs.Basics.{none_some, some_is, true_false, nil_cons, cons_head, cons_tail}
 
 -- a line has one meaning, and none where it has a fault
 pub record Grammar : Type 0 where
@@ -38,20 +39,11 @@ pub data Fate (stage : Stage) (next : List (List ℕ)) (last : List ℕ) (o : Op
   AtLine : (line : List ℕ) (more : List (List ℕ)) → next ≡ line ∷ more → Front stage line o → Fate stage next last o
   AtEnd : next ≡ [] → End stage last o → Fate stage next last o
 
-pub none_some : {A : Type 0} (x : A) → None ≡ Some x → ⊥
-none_some x e = cc
-
-pub some_is : {A : Type 0} (x y : A) → Some x ≡ Some y → x ≡ y
-some_is x y e = cc
-
 running_is : (L M : List Meaning) → Running L ≡ Running M → L ≡ M
 running_is L M e = cc
 
 waiting_running : (L : List Meaning) → Waiting ≡ Running L → ⊥
 waiting_running L e = cc
-
-pub true_false : true ≡ false → ⊥
-true_false e = cc
 
 apart_stages : (stage : Stage) (L : List Meaning) → stage ≡ Waiting → stage ≡ Running L → ⊥
 apart_stages stage L e f = waiting_running L (sym e ∙ f)

@@ -15,15 +15,7 @@ use Rattle.mq_client.specs.Turns.{Ending, outcomes, all_outcomes, queue_of, next
 use Rattle.mq_client.specs.Filter.{Query, Passes, Refuses, Asks, query, decision_of, Answers, Closes, Takes, push, Filters, actions}
 use Rattle.mq_client.specs.Run.{is_early, IsEarly, AreRead, IsReady}
 use Rattle.mq_client.proofs.Turning.{OneReply, turns, none_next, same_turns}
-
-pub cons_head : {A : Type 0} (x y : A) (xs ys : List A) → x ∷ xs ≡ y ∷ ys → x ≡ y
-cons_head x y xs ys e = cc
-
-pub cons_tail : {A : Type 0} (x y : A) (xs ys : List A) → x ∷ xs ≡ y ∷ ys → xs ≡ ys
-cons_tail x y xs ys e = cc
-
-pub nil_cons : {A : Type 0} (x : A) (xs : List A) → [] ≡ x ∷ xs → ⊥
-nil_cons x xs e = cc
+use Rattle.mq_client.proofs.Basics.{none_some, nil_cons, cons_head, cons_tail}
 
 -- ---- the lines
 
@@ -135,9 +127,6 @@ same_step x y e f =
     ap A e ∙ ap B f
 
 -- steps of the same actions, whose exchanges ended alike one after another, are the same
-
-none_some : {A : Type 0} (x : A) → None ≡ Some x → ⊥
-none_some x e = cc
 
 -- no exchange comes in turn after the last one
 no_more : OneReply → (n : ℕ) (queue : List Request) (g h : List Exchange) (b : Ending) (D : List Ending) → ComeInTurn n queue g → ComeInTurn n queue h → next_of n queue h ≡ None → outcomes g ≡ b ∷ (D ++ outcomes h) → ⊥

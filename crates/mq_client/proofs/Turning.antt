@@ -12,6 +12,7 @@ use Rattle.mq_client.specs.declared.held.Held.{Held}
 use Rattle.mq_client.specs.declared.link.Outcome.{Outcome}
 use Rattle.mq_client.specs.declared.link.Outcome.TheVariants.{Answered, Faulted}
 use Rattle.mq_client.proofs.Making.{some_left}
+use Rattle.mq_client.proofs.Basics.{some_is, true_false, cons_head, cons_tail}
 
 -- the exchanges so far came in turn, and the last so many failed
 record Comes (n : ℕ) (queue : List Request) (group : List Exchange) (failed decided : ℕ) : Type 0 where
@@ -152,9 +153,6 @@ none_next s n P x plays = end_from s n (view s P) (held_for (view s P) x.action)
 
 -- ---- what follows from how exchanges ended
 
-some_is : {A : Type 0} (x y : A) → Some x ≡ Some y → x ≡ y
-some_is x y e = cc
-
 -- no body spells two replies
 abbrev pub OneReply : Type 0
 OneReply = (body : List ℕ) (reply other : Reply) → SpellsReply body reply → SpellsReply body other → reply ≡ other
@@ -163,19 +161,16 @@ one_brought : OneReply → (o : Outcome) (r q : Reply) → Brings o r → Brings
 one_brought U (Answered body) r q h i = U body r q h i
 one_brought U (Faulted fault) r q h i = absurd h
 
-true_not_false : {b : Bool} → b ≡ true → b ≡ false → ⊥
-true_not_false e f = cc (e, f)
-
 -- the mark of an exchange follows from its request, from its outcome and from whether memory was lacking
 same_mark : OneReply → (q : Request) (o : Outcome) (m n : Mark) → IsMarked q o m → IsMarked q o n → lacks_memory m ≡ lacks_memory n → m ≡ n
 same_mark U q o Fails Fails h i e = refl
-same_mark U q o Fails LacksMemory h i e = absurd (true_not_false refl (sym e))
-same_mark U q o Fails (Decides r) h i e = absurd (true_not_false i.1 (h r i.0))
-same_mark U q o LacksMemory Fails h i e = absurd (true_not_false refl e)
+same_mark U q o Fails LacksMemory h i e = absurd (true_false (sym e))
+same_mark U q o Fails (Decides r) h i e = absurd (true_false (sym i.1 ∙ h r i.0))
+same_mark U q o LacksMemory Fails h i e = absurd (true_false e)
 same_mark U q o LacksMemory LacksMemory h i e = refl
-same_mark U q o LacksMemory (Decides r) h i e = absurd (true_not_false refl e)
-same_mark U q o (Decides r) Fails h i e = absurd (true_not_false h.1 (i r h.0))
-same_mark U q o (Decides r) LacksMemory h i e = absurd (true_not_false refl (sym e))
+same_mark U q o LacksMemory (Decides r) h i e = absurd (true_false e)
+same_mark U q o (Decides r) Fails h i e = absurd (true_false (sym h.1 ∙ i r h.0))
+same_mark U q o (Decides r) LacksMemory h i e = absurd (true_false (sym e))
 same_mark U q o (Decides r) (Decides p) h i e = ap Decides (one_brought U o r p h.0 i.0)
 
 same_exchange : OneReply → (x y : Exchange) → x.request ≡ y.request → x.outcome ≡ y.outcome → lacks_memory x.mark ≡ lacks_memory y.mark
@@ -188,12 +183,6 @@ same_exchange U x y e f g h i =
     let B : Outcome → Exchange = λ o. record { request = y.request; outcome = o; mark = x.mark } in
     let C : Mark → Exchange = λ m. record { request = y.request; outcome = y.outcome; mark = m } in
     ap A e ∙ ap B f ∙ ap C mark
-
-cons_head : {A : Type 0} (x y : A) (xs ys : List A) → x ∷ xs ≡ y ∷ ys → x ≡ y
-cons_head x y xs ys e = cc
-
-cons_tail : {A : Type 0} (x y : A) (xs ys : List A) → x ∷ xs ≡ y ∷ ys → xs ≡ ys
-cons_tail x y xs ys e = cc
 
 -- exchanges that came in turn and ended alike are the same
 pub same_turns : OneReply → (n : ℕ) (queue : List Request) (g h : List Exchange) → ComeInTurn n queue g → ComeInTurn n queue h → outcomes g ≡ outcomes h → g ≡ h

@@ -17,6 +17,7 @@ use Rattle.mq_track.specs.declared.closing.CloseEnd.{CloseEnd}
 use Rattle.mq_client.specs.declared.held.Held.{Held}
 use Rattle.mq_client.proofs.Making.{sends_left}
 use Rattle.mq_client.proofs.ReadingOff.{live_read, numbers_read}
+use Rattle.mq_client.proofs.Basics.{all_push}
 
 -- ---- requests of closings
 
@@ -133,10 +134,6 @@ IsBefore q r = seq_of q < seq_of r
 abbrev Ascends : List Request → Type 0
 Ascends [] = Unit {0}
 Ascends (q ∷ qs) = AllByRecursion (λ r. seq_of q < seq_of r) qs × Ascends qs
-
-all_push : (P : Request → Type 0) (qs : List Request) (q : Request) → AllByRecursion P qs → P q → AllByRecursion P (qs ++ q ∷ [])
-all_push P [] q all h = (h, tt)
-all_push P (x ∷ qs) q all h = (all.0, all_push P qs q all.1 h)
 
 all_both : (P : Request → Type 0) (xs ys : List Request) → AllByRecursion P (xs ++ ys) → AllByRecursion P xs × AllByRecursion P ys
 all_both P [] ys all = (tt, all)

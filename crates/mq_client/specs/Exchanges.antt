@@ -29,6 +29,7 @@ decided_by Fails = None
 decided_by LacksMemory = None
 decided_by (Decides reply) = Some reply
 
+-- whether a growth was refused
 abbrev pub lacks_memory : Mark → Bool
 lacks_memory Fails = false
 lacks_memory LacksMemory = true

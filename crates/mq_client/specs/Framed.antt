@@ -8,5 +8,6 @@ use Rattle.mq_client.specs.declared.tries.Framed.{Framed}
 abbrev pub IsFramed : Framed → Type 0
 IsFramed framed = framed.frame.items ≡ request_frame framed.request
 
+-- the requests alone, in their order
 abbrev pub requests_of : List Framed → List Request
 requests_of queue = map (λ framed. framed.request) queue

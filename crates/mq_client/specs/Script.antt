@@ -9,10 +9,6 @@ abbrev pub due : List Outcome → Outcome
 due [] = Faulted Down
 due (outcome ∷ script) = outcome
 
-abbrev pub rest : List Outcome → List Outcome
-rest [] = []
-rest (outcome ∷ script) = script
-
 -- where the first outcome is due an exchange ends by the second: by that one, or by want of memory where a body is due
 abbrev pub EndsBy : Outcome → Outcome → Type 0
 EndsBy (Answered body) outcome = (outcome ≡ Answered body) ⊎ (outcome ≡ Faulted Memory)

@@ -8,6 +8,7 @@ use Rattle.mq_frame.specs.declared.message.Reply.{Reply}
 use Rattle.mq_frame.specs.declared.message.Reply.TheVariants.{Closed, Mismatch, TooMany, Conflict}
 use Rattle.mq_client.specs.Named.{request_name}
 
+-- after the request's name: in how many tries no reply decided it, and how the sentence ends
 abbrev pub unanswered : List ℕ → ℕ → List ℕ → List ℕ
 unanswered name tries end = concat (name ∷ codes ": no answer in " ∷ decimal tries ∷ end ∷ [])
 

@@ -12,7 +12,7 @@ use crate::held::{
 use crate::link::Link;
 use crate::tries::{Framed, send_all, try_all};
 use log::Log;
-use mq_frame::{Host, encode_request};
+use mq_frame::Host;
 use mq_track::Closing;
 use std::alloc::Global;
 use std::collections::{BTreeMap, VecDeque};
@@ -111,11 +111,10 @@ impl Client {
         }
         let seq = self.numbers + 1;
         let request = reserve_request(self.alloc, &self.host, self.run, seq, txn, at, login)?;
-        let mut frame = Vec::new(self.alloc);
-        encode_request(self.alloc, &request, &mut frame)?;
+        let reserve = Framed::new(self.alloc, request)?;
         hold(self.alloc, &mut self.held, txn, at, login)?;
         self.numbers = seq;
-        let decided = try_all(rt, self.alloc, link, &request, frame.as_slice(), self.tries);
+        let decided = try_all(rt, self.alloc, link, &reserve, self.tries);
         let answer = answer_to(&decided);
         count(&mut self.held, txn, answer);
         Ok(answer)
@@ -141,9 +140,8 @@ impl Client {
         };
         let seq = self.numbers + 1;
         let request = closing_request(&self.host, self.run, seq, closing.txn, closing.end, known)?;
-        let mut frame = Vec::new(self.alloc);
-        encode_request(self.alloc, &request, &mut frame)?;
-        self.outbox.push_back(Framed { request, frame })?;
+        let framed = Framed::new(self.alloc, request)?;
+        self.outbox.push_back(framed)?;
         release(&mut self.held, closing.txn);
         self.numbers = seq;
         send_all(rt, self.alloc, link, &mut self.outbox, self.tries);

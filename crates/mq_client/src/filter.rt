@@ -333,7 +333,7 @@ pub fn run_filter<R: Log, S: Source, W: Sink, K: Link>(
     // A device that failed is always told.
     ensures written { OnOk result (W.has_failed output.new ≡ false) }
     ensures sink_works { W.has_failed output.old ≡ false → result ≢ Err FilterFault.Write → W.has_failed output.new ≡ false }
-    // What was written is handed on before the next read, and at every end but a failed write.
+    // What was written is handed on at every end but a failed write, and so wherever a read fails.
     ensures flushed { IsFlushed (W.has_flushed output.old) → result ≢ Err FilterFault.Write → IsFlushed (W.has_flushed output.new) }
     ensures source_works { S.has_failed input.old ≡ false → result ≢ Err FilterFault.Read → S.has_failed input.new ≡ false }
     // Each of the reads takes at most 4,096 bytes.

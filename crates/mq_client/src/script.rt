@@ -1,7 +1,7 @@
 //! A link for tests: it ends each exchange as it was told to, and keeps the frames.
-ghost use Rattle.std.specs.Prelude.{◌≡◌, ◌∷◌, ◌++◌, [], true, false, List, OnErr};
+ghost use Rattle.std.specs.Prelude.{◌≡◌, ◌∷◌, ◌++◌, [], true, false, List, OnErr, drop};
 ghost use Rattle.mq_client.specs.Link.{outcome_of};
-ghost use Rattle.mq_client.specs.Script.{due, rest, EndsBy};
+ghost use Rattle.mq_client.specs.Script.{due, EndsBy};
 
 use crate::link::{Bytes, Link, LinkFault, Outcome, Told};
 use std::alloc::Global;
@@ -55,7 +55,7 @@ fn keep(alloc: Global, kept: &mut Vec<Told>, frame: &[u8], outcome: Outcome) -> 
 fn play(script: &mut VecDeque<Outcome>, reply: &mut Vec<u8>) -> (Outcome, Result<(), LinkFault>)
     ensures outcome { result.0 ≡ outcome_of result.1 reply.new.items }
     ensures due { EndsBy (due script.old.items) result.0 }
-    ensures rest { script.new.items ≡ rest script.old.items }
+    ensures rest { script.new.items ≡ drop 1 script.old.items }
     ensures empty { OnErr result.1 (reply.new.items ≡ []) }
 {
     reply.clear();
@@ -70,9 +70,9 @@ fn play(script: &mut VecDeque<Outcome>, reply: &mut Vec<u8>) -> (Outcome, Result
 }
 
 impl Link for ScriptLink {
-    ghost use Rattle.std.specs.Prelude.{◌≡◌, ◌<◌, ◌⊎◌, ◌∷◌, ◌++◌, [], List, OnErr, length, if◌then◌else◌, None, Some};
+    ghost use Rattle.std.specs.Prelude.{◌≡◌, ◌<◌, ◌⊎◌, ◌∷◌, ◌++◌, [], List, OnErr, length, drop, if◌then◌else◌, None, Some};
     ghost use Rattle.mq_client.specs.Link.{Tells, outcome_of};
-    ghost use Rattle.mq_client.specs.Script.{due, rest, EndsBy};
+    ghost use Rattle.mq_client.specs.Script.{due, EndsBy};
 
     ghost told = { λ s. if s.tells then Some s.kept.items else None };
 
@@ -81,7 +81,7 @@ impl Link for ScriptLink {
             (record { frame = frame.now; outcome = outcome_of result reply.new.items } ∷ []) }
         ensures empty { OnErr result (reply.new.items ≡ []) }
         ensures due { EndsBy (due self.old.script.items) (outcome_of result reply.new.items) }
-        ensures rest { self.new.script.items ≡ rest self.old.script.items }
+        ensures rest { self.new.script.items ≡ drop 1 self.old.script.items }
         ensures kept { (self.new.kept.items ≡ self.old.kept.items ++ record { frame = frame.now; outcome = outcome_of result reply.new.items } ∷ [])
             ⊎ (self.new.kept.items ≡ self.old.kept.items) }
         // It still tells where it kept the exchange.

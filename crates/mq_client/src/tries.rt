@@ -1,17 +1,38 @@
 //! One request, sent up to so many times, and a queue of requests, sent from its front.
-ghost use Rattle.std.specs.Prelude.{◌≡◌, ◌<◌, ◌≤◌, ◌∷◌, [], List, length};
+ghost use Rattle.std.specs.Prelude.{◌≡◌, ◌<◌, ◌≤◌, ◌∷◌, [], List, length, IfOk};
+ghost use Rattle.mq_frame.specs.Range.{IsRequest};
 ghost use Rattle.std.specs.List.{AllByRecursion};
 ghost use Rattle.mq_client.specs.Link.{Tells};
-ghost use Rattle.mq_client.specs.Exchanges.{Exchange, IsTry, AreTries, IsSent, Sends, request_frame, told_of, told_all, answers_reserve as answers_reserve_lem, answers_closing as answers_closing_lem, decides as decides_lem, deciding as deciding_lem};
+ghost use Rattle.mq_client.specs.Exchanges.{Exchange, IsTry, AreTries, IsSent, Sends, told_of, told_all, answers_reserve as answers_reserve_lem, answers_closing as answers_closing_lem, decides as decides_lem, deciding as deciding_lem};
 ghost use Rattle.mq_client.specs.declared.tries.Framed.{Framed as AFramed};
 ghost use Rattle.mq_client.specs.Framed.{IsFramed, requests_of};
 
+use crate::faults::Memory;
 use crate::link::Link;
 use crate::warnings::{Refused, Unanswered, is_refusal};
 use log::{Log, warn};
-use mq_frame::{DecodeFault, Id, Reply, Request, decode_reply};
+use mq_frame::{DecodeFault, Id, Reply, Request, decode_reply, encode_request};
 use std::alloc::Global;
 use std::collections::VecDeque;
+
+/// A request with its frame, so that sending it asks for no memory.
+#[derive(Drop)]
+pub struct Framed {
+    pub request: Request,
+    pub frame: Vec<u8>,
+}
+
+impl Framed {
+    pub fn new(alloc: Global, request: Request) -> Result<Framed, Memory>
+        requires { IsRequest request }
+        ensures request { IfOk result (λ framed. framed.request ≡ request) }
+        ensures frame { IfOk result IsFramed }
+    {
+        let mut frame = Vec::new(alloc);
+        encode_request(alloc, &request, &mut frame)?;
+        Ok(Framed { request, frame })
+    }
+}
 
 /// Whether a reply answers the reserve with this id.
 fn answers_reserve(id: &Id, reply: &Reply) -> bool
@@ -69,19 +90,18 @@ fn deciding(request: &Request, decoded: Result<Reply, DecodeFault>) -> Option<Re
     }
 }
 
-/// One exchange of a request's frame, and the reply that decides it, where one does.
+/// One exchange of a framed request, and the reply that decides it, where one does.
 fn try_once<L: Link>(
     alloc: Global,
     link: &mut L,
-    request: &Request,
-    frame: &[u8],
+    framed: &Framed,
     body: &mut Vec<u8>,
 ) -> Option<Reply>
-    requires { frame.now ≡ request_frame request.now }
-    ensures { (x : Exchange) × Tells (L.told link.old) (L.told link.new) (told_of x ∷ []) × IsTry request.now x result }
+    requires { IsFramed framed.now }
+    ensures { (x : Exchange) × Tells (L.told link.old) (L.told link.new) (told_of x ∷ []) × IsTry framed.now.request x result }
 {
-    match link.exchange(frame, body) {
-        Ok(()) => deciding(request, decode_reply(alloc, body.as_slice())),
+    match link.exchange(framed.frame.as_slice(), body) {
+        Ok(()) => deciding(&framed.request, decode_reply(alloc, body.as_slice())),
         Err(_fault) => None,
     }
 }
@@ -92,25 +112,24 @@ fn warn_unanswered<R: Log>(rt: &R, request: &Request, tries: u32) {
     warn!(rt; "{unanswered}");
 }
 
-/// Exchanges a request's frame until a reply decides it, up to so many times.
+/// Exchanges a framed request until a reply decides it, up to so many times.
 pub fn try_all<R: Log, L: Link>(
     rt: &R,
     alloc: Global,
     link: &mut L,
-    request: &Request,
-    frame: &[u8],
+    framed: &Framed,
     tries: u32,
 ) -> Option<Reply>
-    requires { frame.now ≡ request_frame request.now }
-    ensures { (group : List Exchange) × Tells (L.told link.old) (L.told link.new) (told_all group) × AreTries tries request.now group result }
+    requires { IsFramed framed.now }
+    ensures { (group : List Exchange) × Tells (L.told link.old) (L.told link.new) (told_all group) × AreTries tries framed.now.request group result }
 {
     let mut body = Vec::new(alloc);
     for _attempt in 0..tries {
-        if let Some(reply) = try_once(alloc, link, request, frame, &mut body) {
+        if let Some(reply) = try_once(alloc, link, framed, &mut body) {
             return Some(reply);
         }
     }
-    warn_unanswered(rt, request, tries);
+    warn_unanswered(rt, &framed.request, tries);
     None
 }
 
@@ -122,20 +141,12 @@ fn warn_refused<R: Log>(rt: &R, request: &Request, reply: &Reply) {
     }
 }
 
-/// A request with its frame, so that sending it asks for no memory.
-#[derive(Drop)]
-pub struct Framed {
-    pub request: Request,
-    pub frame: Vec<u8>,
-}
-
 /// Sends a closing up to so many times, and answers whether a reply decided it.
 fn send<R: Log, L: Link>(rt: &R, alloc: Global, link: &mut L, closing: &Framed, tries: u32) -> bool
     requires { IsFramed closing.now }
     ensures { (group : List Exchange) × Tells (L.told link.old) (L.told link.new) (told_all group) × IsSent tries closing.now.request group result }
 {
-    let frame = closing.frame.as_slice();
-    match try_all(rt, alloc, link, &closing.request, frame, tries) {
+    match try_all(rt, alloc, link, closing, tries) {
         Some(reply) => {
             warn_refused(rt, &closing.request, &reply);
             true

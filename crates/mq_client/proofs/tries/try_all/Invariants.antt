@@ -8,6 +8,6 @@ abbrev pub invariant-loop-attempt : goal.invariant-loop-attempt
 invariant-loop-attempt g l = record {
   done : List Exchange;
   told : Tells (g.L.Link.told l.initial.link) (g.L.Link.told l.link) (told_all done);
-  failed : AreFailed l.request done;
+  failed : AreFailed l.framed.request done;
   count : length done ≡ l._attempt;
 }

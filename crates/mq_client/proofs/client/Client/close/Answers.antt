@@ -9,8 +9,9 @@ use Rattle.std.proofs.lemmas.List.{map-append}
 use Rattle.mq_client.specs.declared.tries.Framed.{Framed}
 use Rattle.mq_client.proofs.Telling.{Tells-none}
 use Rattle.mq_client.proofs.Making.{closed, closed_nothing}
-use Rattle.mq_client.proofs.Keeping.{closed_in_range, framed_push}
+use Rattle.mq_client.proofs.Keeping.{closed_in_range}
 use Rattle.mq_client.proofs.client.Client.close.Goals as goal
+use Rattle.mq_client.proofs.Basics.{all_push}
 
 pub returns-in_default-clause-ok : goal.returns-in_default-clause-ok
 returns-in_default-clause-ok g c =
@@ -25,7 +26,7 @@ closing_request-requires-clause-held g c =
     c.self.invariant.held c.args.closing.txn c.in-Some.known.now there
 
 pub send_all-requires : goal.send_all-requires
-send_all-requires g c = subst (AllByRecursion IsFramed) (sym c.in_ok-push_back.ensures.items) (framed_push c.self.inside.outbox.items _ c.self.invariant.outbox (search rules))
+send_all-requires g c = subst (AllByRecursion IsFramed) (sym c.in_ok-push_back.ensures.items) (all_push IsFramed c.self.inside.outbox.items _ c.self.invariant.outbox (search rules))
 
 pub invariant_of-self-2 : goal.invariant_of-self-2
 invariant_of-self-2 g c =
@@ -51,5 +52,5 @@ returns-clause-ok g c =
     let F : State → Type 0 = λ s. Makes s d (record { action = Close c.args.closing.txn c.args.closing.end; group = group }) in
     let there : find i.held.entries c.args.closing.txn ≡ Some c.in-Some.known.now = search rules in
     let D : List Request → Type 0 = λ w. Sends i.tries w group (requests_of c.send_all.new.outbox.items) in
-    let pushed = ap requests_of c.in_ok-push_back.ensures.items ∙ map-append (λ (framed : Framed). framed.request) i.outbox.items _ ∙ ap (λ q. requests_of i.outbox.items ++ q ∷ []) c.in_ok-request.ensures.request in
+    let pushed = ap requests_of c.in_ok-push_back.ensures.items ∙ map-append (λ (framed : Framed). framed.request) i.outbox.items _ ∙ ap (λ q. requests_of i.outbox.items ++ q ∷ []) (c.in_ok-framed.ensures.request ∙ c.in_ok-request.ensures.request) in
     (group, told, subst F c.self.view_is (closed (state_of i) d c.args.closing.txn c.args.closing.end c.in-Some.known.now group refl refl there (subst D pushed sends) c.release.ensures.find c.release.ensures.len refl))

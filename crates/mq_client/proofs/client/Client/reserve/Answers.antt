@@ -50,7 +50,7 @@ returns-clause-ok g c =
     let free : refuses (find i.held.entries c.args.txn) (length i.held.entries) i.numbers (length i.outbox.items) c.args.at c.args.login.now ≡ false = search rules in
     let found = held_and_counted c.args.txn c.args.at c.args.login.now c.answer_to-answer.result i.held.entries c.hold.new.held.entries c.count.new.held.entries c.in_ok-hold.ensures.find c.count.ensures.find in
     let by : (t : ℕ) → find c.count.new.held.entries t ≡ (if c.args.txn == t then Some (let_through (answer_by c.try_all-decided.result) (opened c.args.at c.args.login.now (find i.held.entries c.args.txn))) else find i.held.entries t) = rw c.answer_to-answer.ensures at found in
-    let tries_of = rw c.in_ok-request.ensures.request at tries in (
+    let tries_of = rw (c.in_ok-reserve.ensures.request ∙ c.in_ok-request.ensures.request) at tries in (
       group,
       told,
       c.answer_to-answer.ensures ∙ sym (answer_of_tries i.tries _ group c.try_all-decided.result tries),
