@@ -4,6 +4,7 @@ ghost use Rattle.mq_server.specs.Connection.{Serves};
 ghost use Rattle.mq_server.specs.Delivery.{Delivery, history_after, answer_to};
 ghost use Rattle.mq_server.specs.Steps.{end_at};
 ghost use Rattle.mq_frame.specs.Feed.{front};
+ghost use Rattle.mq_frame.specs.Flow.{IsFlushed};
 
 use crate::answer::take;
 use crate::fault::ServeFault;
@@ -60,6 +61,8 @@ pub fn serve<S: Source, W: Sink, L: Ledger>(
     ensures source_works { S.has_failed input.old ≡ false → result ≢ Err ServeFault.Read → S.has_failed input.new ≡ false }
     ensures write { result ≡ Err ServeFault.Write → W.has_failed output.new ≡ true }
     ensures sink_works { W.has_failed output.old ≡ false → result ≢ Err ServeFault.Write → W.has_failed output.new ≡ false }
+    // What was written is handed on at every end but a failed write, and so wherever a read fails.
+    ensures flushed { IsFlushed (W.has_flushed output.old) → result ≢ Err ServeFault.Write → IsFlushed (W.has_flushed output.new) }
     ensures same_zone { (L.book ledger.new).zone ≡ (L.book ledger.old).zone }
     ensures same_default { (L.book ledger.new).default ≡ (L.book ledger.old).default }
     ensures kept { L.has_kept ledger.new → L.has_kept ledger.old }

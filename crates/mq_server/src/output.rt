@@ -1,6 +1,7 @@
 //! Writing to a sink.
 ghost use Rattle.std.specs.Prelude.{◌≡◌, ◌≢◌, true, false, is_err, OnOk, OnErr, IfOk, IfErr, Err};
 ghost use Rattle.std.specs.Io.KnownBytes.{Appends};
+ghost use Rattle.mq_frame.specs.Flow.{IsFlushed};
 ghost use Rattle.mq_frame.specs.Range.{IsReply};
 ghost use Rattle.mq_frame.specs.Spelling.{frame, reply_body};
 ghost use Rattle.mq_server.specs.Steps.{AppendsPart, IsUnsent};
@@ -15,6 +16,7 @@ fn write_all<W: Sink>(output: &mut W, bytes: &[u8]) -> Result<(), Failed>
     ensures ok { OnOk result (Appends (W.contents output.old) (W.contents output.new) bytes.now) }
     ensures err { OnErr result (AppendsPart (W.contents output.old) (W.contents output.new) bytes.now) }
     ensures failed { W.has_failed output.new ≡ is_err result }
+    ensures flushed { OnOk result (IsFlushed (W.has_flushed output.new)) }
 {
     let mut rest = bytes;
     while !rest.is_empty() {
@@ -33,6 +35,7 @@ pub fn send<W: Sink>(alloc: Global, reply: &Reply, output: &mut W) -> Result<(),
     ensures err { IfErr result (IsUnsent (W.contents output.old) (W.contents output.new) (frame (reply_body reply.now))) }
     ensures failed { result ≡ Err ServeFault.Write → W.has_failed output.new ≡ true }
     ensures works { W.has_failed output.old ≡ false → result ≢ Err ServeFault.Write → W.has_failed output.new ≡ false }
+    ensures flushed { IsFlushed (W.has_flushed output.old) → result ≢ Err ServeFault.Write → IsFlushed (W.has_flushed output.new) }
 {
     let mut bytes = Vec::new(alloc);
     encode_reply(alloc, reply, &mut bytes)?;
@@ -49,6 +52,7 @@ pub fn refuse<W: Sink>(alloc: Global, output: &mut W) -> Result<Served, ServeFau
     ensures err { IfErr result (IsUnsent (W.contents output.old) (W.contents output.new) (frame (reply_body Reply.Bad))) }
     ensures failed { result ≡ Err ServeFault.Write → W.has_failed output.new ≡ true }
     ensures works { W.has_failed output.old ≡ false → result ≢ Err ServeFault.Write → W.has_failed output.new ≡ false }
+    ensures flushed { IsFlushed (W.has_flushed output.old) → result ≢ Err ServeFault.Write → IsFlushed (W.has_flushed output.new) }
 {
     send(alloc, &Reply::Bad, output)?;
     Ok(Served::BadFrame)

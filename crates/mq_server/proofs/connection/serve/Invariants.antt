@@ -1,4 +1,5 @@
 use Rattle.std.proofs.Common.{◌≡◌, ◌+◌, ◌-◌, ◌*◌, ◌<◌, length, false}
+use Rattle.mq_frame.specs.Flow.{IsFlushed}
 use Rattle.mq_server.proofs.Running.{SoFar}
 use Rattle.mq_server.proofs.connection.serve.Given as goal
 
@@ -13,6 +14,7 @@ invariant-frames g l =
       ahead : length l.feed.rest < 4610;
       source_works : g.S.Source.has_failed l.fn.input ≡ false → g.S.Source.has_failed l.input ≡ false;
       sink_works : g.W.Sink.has_failed l.fn.output ≡ false → g.W.Sink.has_failed l.output ≡ false;
+      flushed : IsFlushed (g.W.Sink.has_flushed l.fn.output) → IsFlushed (g.W.Sink.has_flushed l.output);
       same_zone : (book l.ledger).zone ≡ (book l.fn.ledger).zone;
       same_default : (book l.ledger).default ≡ (book l.fn.ledger).default;
       was_kept : kept l.ledger → kept l.fn.ledger;
