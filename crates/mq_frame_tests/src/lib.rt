@@ -2,4 +2,14 @@
 #![tactic(auto)]
 
 #[cfg(test)]
-mod frames;
+mod devices;
+#[cfg(test)]
+mod feed;
+#[cfg(test)]
+mod fixtures;
+#[cfg(test)]
+mod replies;
+#[cfg(test)]
+mod requests;
+#[cfg(test)]
+mod values;
