@@ -1,4 +1,5 @@
 //! Tests of `mq_ledger`: the worked examples, and what no contract says.
 #![tactic(auto)]
+
 #[cfg(test)]
 mod tests;

@@ -1,22 +1,16 @@
 //! The worked examples of `docs/LEDGER.md`, with values worked out on paper, and the printed texts.
-ghost use Rattle.std.specs.Prelude.{IfOk};
-ghost use Rattle.std.specs.Result.{ForOk};
-ghost use Rattle.mq_frame.specs.Range.{IsWithin, IsOrdinal, IsCount, IsDay, IsAmount, IsId, IsLogin, IsRequest};
+ghost use Rattle.mq_frame.specs.Range.{IsAmount, IsMoment};
 
 mod callers;
 
+use mq_frame::{Host, Id, Login, Reply, Request, UsageRow, UsageRows, is_request};
 use mq_ledger::{BadOffset, Ledger, LedgerFault, PlainLedger, Zone};
-use mq_frame::{Host, Id, Login, Reply, Request, UsageRow, UsageRows};
 use std::alloc::AllocError;
 use std::process::Abort;
 use std::test::*;
 
 /// The number `seq` of run 1 of a host whose name is one small letter.
-fn number(rt: &HostRuntime, host: u8, seq: u32) -> Result<Id, AllocError>
-    requires host { IsWithin 97 122 host }
-    requires seq { IsOrdinal seq }
-    ensures { IfOk result IsId }
-{
+fn number(rt: &HostRuntime, host: u8, seq: u32) -> Result<Id, AllocError> {
     Ok(Id {
         host: Host::from_slice(rt.alloc(), &[host])?,
         run: 1,
@@ -25,17 +19,12 @@ fn number(rt: &HostRuntime, host: u8, seq: u32) -> Result<Id, AllocError>
 }
 
 /// The number `seq` of run 1 of host `a`.
-fn a(rt: &HostRuntime, seq: u32) -> Result<Id, AllocError>
-    requires { IsOrdinal seq }
-    ensures { IfOk result IsId }
-{
+fn a(rt: &HostRuntime, seq: u32) -> Result<Id, AllocError> {
     number(rt, b'a', seq)
 }
 
 /// The login whose name is that byte.
-fn login(rt: &HostRuntime, name: u8) -> Result<Login, AllocError>
-    ensures { IfOk result IsLogin }
-{
+fn login(rt: &HostRuntime, name: u8) -> Result<Login, AllocError> {
     Login::from_slice(rt.alloc(), &[name])
 }
 
@@ -47,13 +36,7 @@ fn reserve_of(
     seq: u32,
     txn: u32,
     count: u32,
-) -> Result<Request, AllocError>
-    requires host { IsWithin 97 122 host }
-    requires seq { IsOrdinal seq }
-    requires txn { IsOrdinal txn }
-    requires count { IsCount count }
-    ensures { IfOk result IsRequest }
-{
+) -> Result<Request, AllocError> {
     Ok(Request::Reserve {
         id: number(rt, host, seq)?,
         txn,
@@ -64,21 +47,12 @@ fn reserve_of(
 }
 
 /// A reserve of host `a` and login `u`.
-fn reserve(rt: &HostRuntime, seq: u32, txn: u32, count: u32) -> Result<Request, AllocError>
-    requires seq { IsOrdinal seq }
-    requires txn { IsOrdinal txn }
-    requires count { IsCount count }
-    ensures { IfOk result IsRequest }
-{
+fn reserve(rt: &HostRuntime, seq: u32, txn: u32, count: u32) -> Result<Request, AllocError> {
     reserve_of(rt, b'a', b'u', seq, txn, count)
 }
 
 /// A settle of transaction 1 of host `a` and login `u`.
-fn settle(rt: &HostRuntime, seq: u32, count: u32) -> Result<Request, AllocError>
-    requires seq { IsOrdinal seq }
-    requires count { IsCount count }
-    ensures { IfOk result IsRequest }
-{
+fn settle(rt: &HostRuntime, seq: u32, count: u32) -> Result<Request, AllocError> {
     Ok(Request::Settle {
         id: a(rt, seq)?,
         txn: 1,
@@ -89,10 +63,7 @@ fn settle(rt: &HostRuntime, seq: u32, count: u32) -> Result<Request, AllocError>
 }
 
 /// A release of transaction 1 of host `a` and login `u`.
-fn release(rt: &HostRuntime, seq: u32) -> Result<Request, AllocError>
-    requires { IsOrdinal seq }
-    ensures { IfOk result IsRequest }
-{
+fn release(rt: &HostRuntime, seq: u32) -> Result<Request, AllocError> {
     Ok(Request::Release {
         id: a(rt, seq)?,
         txn: 1,
@@ -102,12 +73,7 @@ fn release(rt: &HostRuntime, seq: u32) -> Result<Request, AllocError>
 }
 
 /// A limit of login `u`.
-fn limit(rt: &HostRuntime, seq: u32, from_day: u32, cap: u32) -> Result<Request, AllocError>
-    requires seq { IsOrdinal seq }
-    requires from_day { IsDay from_day }
-    requires cap { IsAmount cap }
-    ensures { IfOk result IsRequest }
-{
+fn limit(rt: &HostRuntime, seq: u32, from_day: u32, cap: u32) -> Result<Request, AllocError> {
     Ok(Request::Limit {
         id: a(rt, seq)?,
         from_day,
@@ -117,9 +83,7 @@ fn limit(rt: &HostRuntime, seq: u32, from_day: u32, cap: u32) -> Result<Request,
 }
 
 /// What login `u` has used on day 1.
-fn usage(rt: &HostRuntime) -> Result<Request, AllocError>
-    ensures { IfOk result IsRequest }
-{
+fn usage(rt: &HostRuntime) -> Result<Request, AllocError> {
     Ok(Request::Usage {
         login: login(rt, b'u')?,
         day: 1,
@@ -137,18 +101,14 @@ fn used(rt: &HostRuntime, settled: u32, reserved: u32) -> Result<Reply, AllocErr
     })
 }
 
-fn granted(rt: &HostRuntime, seq: u32, used: u32) -> Result<Reply, AllocError>
-    requires { IsOrdinal seq }
-{
+fn granted(rt: &HostRuntime, seq: u32, used: u32) -> Result<Reply, AllocError> {
     Ok(Reply::Granted {
         id: a(rt, seq)?,
         used,
     })
 }
 
-fn full(rt: &HostRuntime, seq: u32, used: u32, cap: u32) -> Result<Reply, AllocError>
-    requires { IsOrdinal seq }
-{
+fn full(rt: &HostRuntime, seq: u32, used: u32, cap: u32) -> Result<Reply, AllocError> {
     Ok(Reply::Full {
         id: a(rt, seq)?,
         used,
@@ -156,15 +116,11 @@ fn full(rt: &HostRuntime, seq: u32, used: u32, cap: u32) -> Result<Reply, AllocE
     })
 }
 
-fn closed(rt: &HostRuntime, seq: u32) -> Result<Reply, AllocError>
-    requires { IsOrdinal seq }
-{
+fn closed(rt: &HostRuntime, seq: u32) -> Result<Reply, AllocError> {
     Ok(Reply::Closed { id: a(rt, seq)? })
 }
 
-fn over(rt: &HostRuntime, seq: u32, day: u32, used: u32) -> Result<Reply, AllocError>
-    requires { IsOrdinal seq }
-{
+fn over(rt: &HostRuntime, seq: u32, day: u32, used: u32) -> Result<Reply, AllocError> {
     Ok(Reply::Over {
         id: a(rt, seq)?,
         day,
@@ -179,16 +135,25 @@ fn ledger(rt: &HostRuntime, default: u32) -> Result<PlainLedger, BadOffset>
     Ok(PlainLedger::new(rt.alloc(), Zone::of_offset(0)?, default))
 }
 
+/// What the ledger replies. Without clauses, so that a long test stays cheap to prove.
+fn reply_to(
+    rt: &impl Abort,
+    ledger: &mut impl Ledger,
+    request: &Request,
+) -> Result<Reply, LedgerFault> {
+    assert!(rt; is_request(request));
+    ledger.apply(request)
+}
+
 /// Gives the request to the ledger, and compares what it replies.
 fn check(
     rt: &impl Abort,
     ledger: &mut PlainLedger,
     request: Result<Request, AllocError>,
     reply: Result<Reply, AllocError>,
-) -> Result<(), Fail>
-    requires { ForOk request IsRequest }
-{
-    assert_eq!(rt; ledger.apply(&request?)?, reply?);
+) -> Result<(), Fail> {
+    let replied = reply_to(rt, ledger, &request?)?;
+    assert_eq!(rt; replied, reply?);
     Ok(())
 }
 
@@ -268,30 +233,33 @@ fn reserve_twice_settle_once(rt: HostRuntime) -> Result<(), Fail> {
     check(&rt, &mut ledger, settle(&rt, 4, 1), closed(&rt, 4))
 }
 
-#[test]
-fn the_list_page(rt: HostRuntime) -> Result<(), Fail> {
-    let mut ledger = ledger(&rt, 3)?;
-    check(&rt, &mut ledger, reserve(&rt, 1, 1, 1), granted(&rt, 1, 1))?;
-    let first = Request::List {
-        day: 1,
-        after: Login::new(Vec::new(rt.alloc())),
-    };
+/// The logins of day 1 behind that one.
+fn list(after: Login) -> Request {
+    Request::List { day: 1, after }
+}
+
+/// The page of day 1 on which login `u` has reserved 1 of 3.
+fn page_of_one(rt: &HostRuntime) -> Result<Reply, AllocError> {
     let mut rows = Vec::new(rt.alloc());
     rows.push(UsageRow {
-        login: login(&rt, b'u')?,
+        login: login(rt, b'u')?,
         settled: 0,
         reserved: 1,
         cap: 3,
     })?;
-    let one = Reply::List {
+    Ok(Reply::List {
         day: 1,
         rows: UsageRows::new(rows),
-    };
-    check(&rt, &mut ledger, Ok(first), Ok(one))?;
-    let rest = Request::List {
-        day: 1,
-        after: login(&rt, b'u')?,
-    };
+    })
+}
+
+#[test]
+fn the_list_page(rt: HostRuntime) -> Result<(), Fail> {
+    let mut ledger = ledger(&rt, 3)?;
+    check(&rt, &mut ledger, reserve(&rt, 1, 1, 1), granted(&rt, 1, 1))?;
+    let first = list(Login::new(Vec::new(rt.alloc())));
+    check(&rt, &mut ledger, Ok(first), page_of_one(&rt))?;
+    let rest = list(login(&rt, b'u')?);
     let none = Reply::List {
         day: 1,
         rows: UsageRows::new(Vec::new(rt.alloc())),
@@ -319,17 +287,28 @@ fn a_cap_of_nothing(rt: HostRuntime) -> Result<(), Fail> {
     check(&rt, &mut ledger, reserve(&rt, 1, 1, 1), full(&rt, 1, 0, 0))
 }
 
+/// The day of a moment where clocks are so many minutes ahead of UTC.
+fn day_at(offset: i32, at: u64) -> Result<u32, BadOffset>
+    requires { IsMoment at }
+{
+    Ok(Zone::of_offset(offset)?.day(at))
+}
+
 #[test]
 fn days_at_the_offsets(rt: HostRuntime) -> Result<(), Fail> {
-    let utc = Zone::of_offset(0)?;
-    assert_eq!(rt; utc.day(1_576_108_799), 18_241);
-    assert_eq!(rt; utc.day(1_576_108_800), 18_242);
-    assert_eq!(rt; Zone::of_offset(60)?.day(1_576_105_200), 18_242);
-    assert_eq!(rt; Zone::of_offset(-1_439)?.day(86_400), 0);
-    assert_eq!(rt; Zone::of_offset(1_439)?.day(32_503_680_000), 376_200);
-    assert_eq!(rt; Zone::of_offset(1_440), Err(BadOffset));
-    assert_eq!(rt; Zone::of_offset(-1_440), Err(BadOffset));
+    assert_eq!(rt; day_at(0, 1_576_108_799)?, 18_241);
+    assert_eq!(rt; day_at(0, 1_576_108_800)?, 18_242);
+    assert_eq!(rt; day_at(60, 1_576_105_200)?, 18_242);
+    assert_eq!(rt; day_at(-1_439, 86_400)?, 0);
+    assert_eq!(rt; day_at(1_439, 32_503_680_000)?, 376_200);
     Ok(())
+}
+
+#[test]
+fn offsets_of_a_whole_day(rt: HostRuntime) {
+    for offset in [1_440, -1_440] {
+        assert_eq!(rt; Zone::of_offset(offset), Err(BadOffset), "at {offset}");
+    }
 }
 
 #[test]
@@ -344,9 +323,11 @@ fn what_it_was_made_with(rt: HostRuntime) -> Result<(), Fail> {
 
 #[test]
 fn texts_of_faults(rt: HostRuntime) -> Result<(), Fail> {
-    let memory = format!(in rt.alloc(); "{}", LedgerFault::Memory)?;
-    assert_eq!(rt; memory.as_str(), "out of memory");
-    let store = format!(in rt.alloc(); "{}", LedgerFault::Store)?;
-    assert_eq!(rt; store.as_str(), "store failed");
+    for (fault, text) in [
+        (LedgerFault::Memory, "out of memory"),
+        (LedgerFault::Store, "store failed"),
+    ] {
+        assert_eq!(rt; format!(in rt.alloc(); "{fault}")?.as_str(), text);
+    }
     Ok(())
 }

@@ -1,4 +1,5 @@
 //! Tests of `mq_server`: the worked examples, and what no contract says.
 #![tactic(auto)]
+
 #[cfg(test)]
 mod tests;

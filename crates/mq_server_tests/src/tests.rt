@@ -1,12 +1,13 @@
 //! Worked examples of the link, and what no contract says.
 mod devices;
 
-use mq_server::{ConnectionEnd, ServeFault, Served, serve, serve_all};
 use devices::{Faulty, Flushing, Pieces, Room, Watching};
-use mq_frame::{FromRead, ToWrite};
-use mq_ledger::{LedgerFault, PlainLedger, Zone};
+use mq_frame::{FromRead, Sink, Source, ToWrite};
+use mq_ledger::{BadOffset, Ledger, LedgerFault, PlainLedger, Zone};
+use mq_server::{ConnectionEnd, ServeFault, Served, serve, serve_all};
 use std::alloc::{AllocError, Global};
 use std::cell::Cell;
+use std::process::Abort;
 use std::test::Fail;
 
 /// One recipient reserved for the login `u` under the number 1 of run 1 of host `a`, and its reply.
@@ -17,6 +18,12 @@ const GRANTED: &str = "0013 81 0161 0000000000000001 00000001 00000001";
 
 /// What the login `u` has used on day 1.
 const USAGE: &str = "0007 05 0175 00000001";
+
+/// The reply to it where nothing was reserved.
+const NONE_USED: &str = "0013 8b 0175 00000001 00000000 00000000 00000003";
+
+/// The reply to it where one recipient is reserved.
+const ONE_USED: &str = "0013 8b 0175 00000001 00000000 00000001 00000003";
 
 /// A recipient reserved twice, one of the two settled, what is used, and the settling under another
 /// number.
@@ -66,51 +73,136 @@ fn bytes_of_first(alloc: Global, texts: &[&str], count: usize) -> Result<Vec<u8>
     Ok(bytes)
 }
 
+/// The bytes of texts, one behind the other.
+fn bytes_of_all(alloc: Global, texts: &[&str]) -> Result<Vec<u8>, AllocError> {
+    bytes_of_first(alloc, texts, texts.len())
+}
+
+/// The bytes of each of some texts.
+fn each_bytes_of(alloc: Global, texts: &[&str]) -> Result<Vec<Vec<u8>>, AllocError> {
+    let mut all = Vec::new(alloc);
+    for text in texts {
+        all.push(bytes_of(alloc, text)?)?;
+    }
+    Ok(all)
+}
+
 /// An empty ledger of UTC days, whose logins may send 3 recipients a day.
-fn ledger(alloc: Global) -> Result<PlainLedger, Fail> {
-    let zone = Zone::of_offset(0).ok().ok_or("an offset")?;
-    Ok(PlainLedger::new(alloc, zone, 3))
+fn ledger(alloc: Global) -> Result<PlainLedger, BadOffset> {
+    Ok(PlainLedger::new(alloc, Zone::of_offset(0)?, 3))
+}
+
+/// Serves one connection. Without clauses, so that a long test stays cheap to prove.
+fn run<S: Source, W: Sink, L: Ledger>(
+    alloc: Global,
+    input: &mut S,
+    output: &mut W,
+    ledger: &mut L,
+) -> Result<Served, ServeFault> {
+    serve(alloc, input, output, ledger)
+}
+
+/// Serves several connections in turn, likewise without clauses.
+fn run_all<S: Source, W: Sink, L: Ledger>(
+    rt: &impl Abort,
+    alloc: Global,
+    inputs: &mut [S],
+    outputs: &mut [W],
+    ledger: &mut L,
+) -> Result<Vec<ConnectionEnd>, ServeFault> {
+    assert!(rt; inputs.len() == outputs.len());
+    serve_all(alloc, inputs, outputs, ledger)
 }
 
 /// One connection over memory: how it ended, and what was written on it.
 fn served(
     alloc: Global,
-    ledger: &mut PlainLedger,
+    ledger: &mut impl Ledger,
     input: &[u8],
 ) -> (Result<Served, ServeFault>, Vec<u8>) {
     let mut output = ToWrite::new(Vec::new(alloc));
-    let end = serve(alloc, &mut FromRead::new(input), &mut output, ledger);
+    let end = run(alloc, &mut FromRead::new(input), &mut output, ledger);
     (end, output.into_inner())
 }
+
+/// Serves the input over memory: it ends so, and so much is written.
+fn check_served(
+    rt: &impl Abort,
+    alloc: Global,
+    ledger: &mut impl Ledger,
+    input: &[u8],
+    wanted: Served,
+    output: &[u8],
+) {
+    let (end, text) = served(alloc, ledger, input);
+    assert_eq!(rt; end, Ok(wanted), "at {input:?}");
+    assert_eq!(rt; text.as_slice(), output, "at {input:?}");
+}
+
+/// Sinks with so much room each.
+fn rooms(alloc: Global, sizes: &[usize]) -> Result<Vec<Room>, AllocError> {
+    let mut rooms = Vec::new(alloc);
+    for size in sizes {
+        rooms.push(Room::new(Vec::new(alloc), *size))?;
+    }
+    Ok(rooms)
+}
+
+/// So much was written to each output.
+fn check_outputs(rt: &impl Abort, outputs: &[Room], wanted: &[Vec<u8>]) {
+    assert_eq!(rt; outputs.len(), wanted.len());
+    for (output, bytes) in outputs.iter().zip(wanted) {
+        assert_eq!(rt; output.bytes, *bytes);
+    }
+}
+
+/// Inputs, and what is written and how the connection ends on each.
+const ENDS_BY_INPUT: [(&str, &str, Served); 9] = [
+    ("", "", Served::Ended),
+    (RESERVE, GRANTED, Served::Ended),
+    ("00", "", Served::CutFrame),
+    ("002101", "", Served::CutFrame),
+    ("0000", "0001 8e", Served::BadFrame),
+    ("0201", "0001 8e", Served::BadFrame),
+    ("0008 05 0175 00000001 00", "0001 8e", Served::BadFrame),
+    (
+        "0021 01 0161 0000000000000001 00000001 00000001 000000000001517f 0175 00000001",
+        "0001 8e",
+        Served::BadFrame,
+    ),
+    (
+        "0007 05 0175 00000001 0000 0007 05 0175 00000001",
+        "0013 8b 0175 00000001 00000000 00000000 00000003 0001 8e",
+        Served::BadFrame,
+    ),
+];
 
 /// Each end of a connection that comes by its input.
 #[test]
 fn ends_by_the_input(rt: HostRuntime) -> Result<(), Fail> {
     let alloc = rt.alloc();
-    for (input, output, end) in [
-        ("", "", Served::Ended),
-        (RESERVE, GRANTED, Served::Ended),
-        ("00", "", Served::CutFrame),
-        ("002101", "", Served::CutFrame),
-        ("0000", "0001 8e", Served::BadFrame),
-        ("0201", "0001 8e", Served::BadFrame),
-        ("0008 05 0175 00000001 00", "0001 8e", Served::BadFrame),
-        (
-            "0021 01 0161 0000000000000001 00000001 00000001 000000000001517f 0175 00000001",
-            "0001 8e",
-            Served::BadFrame,
-        ),
-        (
-            "0007 05 0175 00000001 0000 0007 05 0175 00000001",
-            "0013 8b 0175 00000001 00000000 00000000 00000003 0001 8e",
-            Served::BadFrame,
-        ),
-    ] {
+    for (input, output, end) in ENDS_BY_INPUT {
         let input = bytes_of(alloc, input)?;
-        let (ended, text) = served(alloc, &mut ledger(alloc)?, &input);
-        assert_eq!(rt; ended, Ok(end), "at {input:?}");
-        assert_eq!(rt; text, bytes_of(alloc, output)?, "at {input:?}");
+        let output = bytes_of(alloc, output)?;
+        check_served(&rt, alloc, &mut ledger(alloc)?, &input, end, &output);
     }
+    Ok(())
+}
+
+/// Serves frames that come and are answered in short pieces: so much is written.
+fn check_pieces(
+    rt: &impl Abort,
+    alloc: Global,
+    frames: &[&str],
+    replies: &[&str],
+) -> Result<(), Fail> {
+    let input = bytes_of_all(alloc, frames)?;
+    let output = bytes_of_all(alloc, replies)?;
+    let mut ledger = ledger(alloc)?;
+    let mut sink = Room::new(Vec::new(alloc), usize::MAX);
+    let end = run(alloc, &mut Pieces::new(&input, 1), &mut sink, &mut ledger);
+    assert_eq!(rt; end, Ok(Served::Ended));
+    assert_eq!(rt; sink.bytes, output);
     Ok(())
 }
 
@@ -118,31 +210,15 @@ fn ends_by_the_input(rt: HostRuntime) -> Result<(), Fail> {
 #[test]
 fn pieces_of_one_byte(rt: HostRuntime) -> Result<(), Fail> {
     let alloc = rt.alloc();
-    for (input, output) in [
-        (bytes_of(alloc, RESERVE)?, bytes_of(alloc, GRANTED)?),
-        (
-            bytes_of_first(alloc, &SETTLING, 5)?,
-            bytes_of_first(alloc, &SETTLED, 5)?,
-        ),
-    ] {
-        let mut sink = Room::new(Vec::new(alloc), usize::MAX);
-        let end = serve(
-            alloc,
-            &mut Pieces::new(&input, 1),
-            &mut sink,
-            &mut ledger(alloc)?,
-        );
-        assert_eq!(rt; end, Ok(Served::Ended));
-        assert_eq!(rt; sink.bytes, output);
-    }
-    Ok(())
+    check_pieces(&rt, alloc, &[RESERVE], &[GRANTED])?;
+    check_pieces(&rt, alloc, &SETTLING, &SETTLED)
 }
 
 /// Each answer is flushed before the next read.
 #[test]
 fn flushes_before_it_reads(rt: HostRuntime) -> Result<(), Fail> {
     let alloc = rt.alloc();
-    let input = bytes_of_first(alloc, &SETTLING, 5)?;
+    let input = bytes_of_all(alloc, &SETTLING)?;
     let unflushed = Cell::new(false);
     let mut source = Watching {
         rest: &input,
@@ -152,61 +228,75 @@ fn flushes_before_it_reads(rt: HostRuntime) -> Result<(), Fail> {
     let mut sink = Flushing {
         unflushed: &unflushed,
     };
-    let end = serve(alloc, &mut source, &mut sink, &mut ledger(alloc)?);
+    let end = run(alloc, &mut source, &mut sink, &mut ledger(alloc)?);
     assert_eq!(rt; end, Ok(Served::Ended));
     assert!(rt; !source.early);
     Ok(())
+}
+
+/// Serves two inputs over memory in turn: how that ended, and what was written on each.
+fn served_both(
+    rt: &impl Abort,
+    alloc: Global,
+    ledger: &mut impl Ledger,
+    first: &[u8],
+    second: &[u8],
+) -> Result<(Result<Vec<ConnectionEnd>, ServeFault>, Vec<Room>), AllocError> {
+    let mut inputs = [FromRead::new(first), FromRead::new(second)];
+    let mut outputs = rooms(alloc, &[usize::MAX, usize::MAX])?;
+    let ends = run_all(rt, alloc, &mut inputs, &mut outputs, ledger);
+    Ok((ends, outputs))
 }
 
 /// The frames sent again get their replies again, also on another connection.
 #[test]
 fn repeats_over_two_connections(rt: HostRuntime) -> Result<(), Fail> {
     let alloc = rt.alloc();
-    let first = bytes_of_first(alloc, &[RESERVE, RESERVE, RESERVE], 3)?;
-    let second = bytes_of_first(alloc, &[RESERVE, USAGE], 2)?;
-    let mut inputs = [
-        FromRead::new(first.as_slice()),
-        FromRead::new(second.as_slice()),
-    ];
-    let mut outputs = [
-        Room::new(Vec::new(alloc), usize::MAX),
-        Room::new(Vec::new(alloc), usize::MAX),
-    ];
-    let ends = serve_all(alloc, &mut inputs, &mut outputs, &mut ledger(alloc)?)?;
+    let first = bytes_of_all(alloc, &[RESERVE, RESERVE, RESERVE])?;
+    let second = bytes_of_all(alloc, &[RESERVE, USAGE])?;
+    let (ends, outputs) = served_both(&rt, alloc, &mut ledger(alloc)?, &first, &second)?;
     let ended = ConnectionEnd::Served(Served::Ended);
-    assert_eq!(rt; ends.as_slice(), [ended, ended].as_slice());
-    let used = "0013 8b 0175 00000001 00000000 00000001 00000003";
-    let texts = [
-        bytes_of_first(alloc, &[GRANTED, GRANTED, GRANTED], 3)?,
-        bytes_of_first(alloc, &[GRANTED, used], 2)?,
+    assert_eq!(rt; ends?.as_slice(), [ended, ended].as_slice());
+    let wanted = [
+        bytes_of_all(alloc, &[GRANTED, GRANTED, GRANTED])?,
+        bytes_of_all(alloc, &[GRANTED, ONE_USED])?,
     ];
-    for (output, text) in outputs.iter().zip(&texts) {
-        assert_eq!(rt; output.bytes, *text);
-    }
+    check_outputs(&rt, &outputs, &wanted);
     Ok(())
+}
+
+/// The bytes of a text, so many times over.
+fn repeated(alloc: Global, text: &str, count: usize) -> Result<Vec<u8>, AllocError> {
+    let once = bytes_of(alloc, text)?;
+    let mut bytes = Vec::new(alloc);
+    for _ in 0..count {
+        bytes.extend_from_slice(&once)?;
+    }
+    Ok(bytes)
 }
 
 /// 10,000 frames are answered on a connection, and no more is read for a further one.
 #[test]
 fn ten_thousand_frames(rt: HostRuntime) -> Result<(), Fail> {
     let alloc = rt.alloc();
-    let frame = bytes_of(alloc, USAGE)?;
-    let mut input = Vec::new(alloc);
-    let mut output = Vec::new(alloc);
-    let reply = bytes_of(alloc, "0013 8b 0175 00000001 00000000 00000000 00000003")?;
-    for _ in 0..10_000 {
-        input.extend_from_slice(&frame)?;
-        output.extend_from_slice(&reply)?;
-    }
+    let input = repeated(alloc, USAGE, 10_000)?;
+    let output = repeated(alloc, NONE_USED, 10_000)?;
     // 90,000 bytes are 22 reads of at most 4,096, and a further one would fail.
     let mut source = Pieces::new(&input, usize::MAX);
     source.reads = 22;
     let mut sink = ToWrite::new(Vec::new(alloc));
-    let end = serve(alloc, &mut source, &mut sink, &mut ledger(alloc)?);
+    let end = run(alloc, &mut source, &mut sink, &mut ledger(alloc)?);
     assert_eq!(rt; end, Ok(Served::Enough));
     assert!(rt; sink.into_inner() == output);
+    Ok(())
+}
 
-    input.extend_from_slice(&frame)?;
+/// Of 10,001 frames the last gets no answer.
+#[test]
+fn a_frame_too_many(rt: HostRuntime) -> Result<(), Fail> {
+    let alloc = rt.alloc();
+    let input = repeated(alloc, USAGE, 10_001)?;
+    let output = repeated(alloc, NONE_USED, 10_000)?;
     let (end, text) = served(alloc, &mut ledger(alloc)?, &input);
     assert_eq!(rt; end, Ok(Served::Enough));
     assert!(rt; text == output);
@@ -217,25 +307,14 @@ fn ten_thousand_frames(rt: HostRuntime) -> Result<(), Fail> {
 #[test]
 fn ledger_out_of_memory_once(rt: HostRuntime) -> Result<(), Fail> {
     let alloc = rt.alloc();
-    let input = bytes_of_first(alloc, &[RESERVE, RESERVE, USAGE], 3)?;
+    let input = bytes_of_all(alloc, &[RESERVE, RESERVE, USAGE])?;
+    let output = bytes_of_all(alloc, &["0001 8d", GRANTED, ONE_USED])?;
     let mut faulty = Faulty {
         inner: ledger(alloc)?,
         before: 0,
         fault: LedgerFault::Memory,
     };
-    let mut sink = ToWrite::new(Vec::new(alloc));
-    let end = serve(
-        alloc,
-        &mut FromRead::new(input.as_slice()),
-        &mut sink,
-        &mut faulty,
-    );
-    assert_eq!(rt; end, Ok(Served::Ended));
-    let used = "0013 8b 0175 00000001 00000000 00000001 00000003";
-    assert_eq!(rt;
-        sink.into_inner(),
-        bytes_of_first(alloc, &["0001 8d", GRANTED, used], 3)?
-    );
+    check_served(&rt, alloc, &mut faulty, &input, Served::Ended, &output);
     Ok(())
 }
 
@@ -243,27 +322,31 @@ fn ledger_out_of_memory_once(rt: HostRuntime) -> Result<(), Fail> {
 #[test]
 fn store_fails(rt: HostRuntime) -> Result<(), Fail> {
     let alloc = rt.alloc();
-    let [first, second, _, _, _] = SETTLING;
-    let input = bytes_of_first(alloc, &[first, second], 2)?;
+    let input = bytes_of_all(alloc, &SETTLING[..2])?;
     let mut faulty = Faulty {
         inner: ledger(alloc)?,
         before: 1,
         fault: LedgerFault::Store,
     };
-    let mut inputs = [
-        FromRead::new(input.as_slice()),
-        FromRead::new(input.as_slice()),
-    ];
-    let mut outputs = [
-        Room::new(Vec::new(alloc), usize::MAX),
-        Room::new(Vec::new(alloc), usize::MAX),
-    ];
-    let ends = serve_all(alloc, &mut inputs, &mut outputs, &mut faulty);
+    let (ends, outputs) = served_both(&rt, alloc, &mut faulty, &input, &input)?;
     assert!(rt; matches!(&ends, Err(ServeFault::Store)));
-    for (output, text) in outputs.iter().zip([GRANTED, ""]) {
-        assert_eq!(rt; output.bytes, bytes_of(alloc, text)?);
-    }
+    check_outputs(&rt, &outputs, &each_bytes_of(alloc, &[GRANTED, ""])?);
     Ok(())
+}
+
+/// Serves the input with room for so many bytes of answers: these are written, and no more.
+fn check_writer_failing(
+    rt: &impl Abort,
+    alloc: Global,
+    ledger: &mut impl Ledger,
+    input: &[u8],
+    written: &[u8],
+) {
+    let count = written.len();
+    let mut sink = Room::new(Vec::new(alloc), count);
+    let end = run(alloc, &mut FromRead::new(input), &mut sink, ledger);
+    assert_eq!(rt; end, Err(ServeFault::Write), "after {count}");
+    assert_eq!(rt; sink.bytes.as_slice(), written, "after {count}");
 }
 
 /// A writer that fails leaves a part of the answer, and the request in the ledger.
@@ -271,32 +354,26 @@ fn store_fails(rt: HostRuntime) -> Result<(), Fail> {
 fn writer_fails_after_ten_bytes(rt: HostRuntime) -> Result<(), Fail> {
     let alloc = rt.alloc();
     let input = bytes_of(alloc, RESERVE)?;
+    let part = bytes_of(alloc, "00138101610000000000")?;
     let mut ledger = ledger(alloc)?;
-    let mut sink = Room::new(Vec::new(alloc), 10);
-    let end = serve(
-        alloc,
-        &mut FromRead::new(input.as_slice()),
-        &mut sink,
-        &mut ledger,
-    );
-    assert_eq!(rt; end, Err(ServeFault::Write));
-    assert_eq!(rt; sink.bytes, bytes_of(alloc, "00138101610000000000")?);
-
-    let (end, text) = served(alloc, &mut ledger, &input);
-    assert_eq!(rt; end, Ok(Served::Ended));
-    assert_eq!(rt; text, bytes_of(alloc, GRANTED)?);
-    let (_, text) = served(alloc, &mut ledger, &bytes_of(alloc, USAGE)?);
-    assert_eq!(rt;
-        text,
-        bytes_of(alloc, "0013 8b 0175 00000001 00000000 00000001 00000003")?
-    );
+    check_writer_failing(&rt, alloc, &mut ledger, &input, &part);
+    for (input, output) in [(RESERVE, GRANTED), (USAGE, ONE_USED)] {
+        let input = bytes_of(alloc, input)?;
+        let output = bytes_of(alloc, output)?;
+        check_served(&rt, alloc, &mut ledger, &input, Served::Ended, &output);
+    }
     Ok(())
 }
 
-/// The bytes of frames, and how many of the first ones are whole in so many bytes.
-fn whole_frames(frames: &[&str], alloc: Global, count: usize) -> Result<usize, AllocError> {
+/// How many bytes the first of some frames have.
+fn length_of_first(alloc: Global, frames: &[&str], count: usize) -> Result<usize, AllocError> {
+    Ok(bytes_of_first(alloc, frames, count)?.len())
+}
+
+/// How many of the first frames are whole in so many bytes.
+fn whole_frames(alloc: Global, frames: &[&str], count: usize) -> Result<usize, AllocError> {
     for whole in 0..frames.len() {
-        if count < bytes_of_first(alloc, frames, whole + 1)?.len() {
+        if count < length_of_first(alloc, frames, whole + 1)? {
             return Ok(whole);
         }
     }
@@ -308,60 +385,63 @@ fn whole_frames(frames: &[&str], alloc: Global, count: usize) -> Result<usize, A
 #[test]
 fn writer_fails_anywhere(rt: HostRuntime) -> Result<(), Fail> {
     let alloc = rt.alloc();
-    let input = bytes_of_first(alloc, &SETTLING, 5)?;
-    let output = bytes_of_first(alloc, &SETTLED, 5)?;
+    let input = bytes_of_all(alloc, &SETTLING)?;
+    let output = bytes_of_all(alloc, &SETTLED)?;
     for count in 0..output.len() {
         let mut ledger = ledger(alloc)?;
-        let mut sink = Room::new(Vec::new(alloc), count);
-        let end = serve(
-            alloc,
-            &mut FromRead::new(input.as_slice()),
-            &mut sink,
-            &mut ledger,
-        );
-        assert_eq!(rt; end, Err(ServeFault::Write), "after {count}");
-        assert_eq!(rt; sink.bytes.as_slice(), &output[..count], "after {count}");
-        let (end, text) = served(alloc, &mut ledger, &input);
-        assert_eq!(rt; end, Ok(Served::Ended), "after {count}");
-        assert_eq!(rt; text, output, "after {count}");
+        check_writer_failing(&rt, alloc, &mut ledger, &input, &output[..count]);
+        check_served(&rt, alloc, &mut ledger, &input, Served::Ended, &output);
     }
     Ok(())
 }
 
-/// Every front of an input, as a whole input and before a read that fails: just its whole frames
-/// are answered, and sent again all is as it would have been.
+/// Serves the input from a reader that fails after so many bytes: just this is answered.
+fn check_reader_failing(
+    rt: &impl Abort,
+    alloc: Global,
+    ledger: &mut impl Ledger,
+    input: &[u8],
+    count: usize,
+    told: &[u8],
+) {
+    let mut source = Pieces::failing(input, count);
+    let mut sink = Room::new(Vec::new(alloc), usize::MAX);
+    let end = run(alloc, &mut source, &mut sink, ledger);
+    assert_eq!(rt; end, Err(ServeFault::Read), "after {count}");
+    assert_eq!(rt; sink.bytes.as_slice(), told, "after {count}");
+}
+
+/// Before a read that fails just the whole frames are answered, and sent again all is as it would
+/// have been.
 #[test]
 fn reader_fails_anywhere(rt: HostRuntime) -> Result<(), Fail> {
     let alloc = rt.alloc();
-    let input = bytes_of_first(alloc, &SETTLING, 5)?;
-    let output = bytes_of_first(alloc, &SETTLED, 5)?;
+    let input = bytes_of_all(alloc, &SETTLING)?;
+    let output = bytes_of_all(alloc, &SETTLED)?;
     for count in 0..input.len() {
-        let whole = whole_frames(&SETTLING, alloc, count)?;
+        let whole = whole_frames(alloc, &SETTLING, count)?;
         let told = bytes_of_first(alloc, &SETTLED, whole)?;
-        let at_frame = bytes_of_first(alloc, &SETTLING, whole)?.len() == count;
-
-        let (end, text) = served(alloc, &mut ledger(alloc)?, &input[..count]);
-        assert_eq!(rt;
-            end,
-            Ok(if at_frame {
-                Served::Ended
-            } else {
-                Served::CutFrame
-            }),
-            "after {count}"
-        );
-        assert_eq!(rt; text, told, "after {count}");
-
         let mut ledger = ledger(alloc)?;
-        let mut source = Pieces::new(&input, 1);
-        source.reads = count;
-        let mut sink = Room::new(Vec::new(alloc), usize::MAX);
-        let end = serve(alloc, &mut source, &mut sink, &mut ledger);
-        assert_eq!(rt; end, Err(ServeFault::Read), "after {count}");
-        assert_eq!(rt; sink.bytes, told, "after {count}");
-        let (end, text) = served(alloc, &mut ledger, &input);
-        assert_eq!(rt; end, Ok(Served::Ended), "after {count}");
-        assert_eq!(rt; text, output, "after {count}");
+        check_reader_failing(&rt, alloc, &mut ledger, &input, count, &told);
+        check_served(&rt, alloc, &mut ledger, &input, Served::Ended, &output);
+    }
+    Ok(())
+}
+
+/// Of every front of an input just the whole frames are answered.
+#[test]
+fn input_ends_anywhere(rt: HostRuntime) -> Result<(), Fail> {
+    let alloc = rt.alloc();
+    let input = bytes_of_all(alloc, &SETTLING)?;
+    for count in 0..input.len() {
+        let whole = whole_frames(alloc, &SETTLING, count)?;
+        let told = bytes_of_first(alloc, &SETTLED, whole)?;
+        let end = if length_of_first(alloc, &SETTLING, whole)? == count {
+            Served::Ended
+        } else {
+            Served::CutFrame
+        };
+        check_served(&rt, alloc, &mut ledger(alloc)?, &input[..count], end, &told);
     }
     Ok(())
 }
@@ -373,23 +453,15 @@ fn goes_on_after_an_end(rt: HostRuntime) -> Result<(), Fail> {
     let whole = bytes_of(alloc, RESERVE)?;
     let bad = bytes_of(alloc, "0000")?;
     let cut = bytes_of(alloc, "002101")?;
-    let mut fails = Pieces::new(&whole, 1);
-    fails.reads = 7;
     let mut inputs = [
-        fails,
+        Pieces::failing(&whole, 7),
         Pieces::new(&whole, 7),
         Pieces::new(&bad, 7),
         Pieces::new(&cut, 7),
         Pieces::new(&whole, 7),
     ];
-    let mut outputs = [
-        Room::new(Vec::new(alloc), 100),
-        Room::new(Vec::new(alloc), 4),
-        Room::new(Vec::new(alloc), 100),
-        Room::new(Vec::new(alloc), 100),
-        Room::new(Vec::new(alloc), 100),
-    ];
-    let ends = serve_all(alloc, &mut inputs, &mut outputs, &mut ledger(alloc)?)?;
+    let mut outputs = rooms(alloc, &[100, 4, 100, 100, 100])?;
+    let ends = run_all(&rt, alloc, &mut inputs, &mut outputs, &mut ledger(alloc)?)?;
     let wanted = [
         ConnectionEnd::Read,
         ConnectionEnd::Write,
@@ -399,9 +471,7 @@ fn goes_on_after_an_end(rt: HostRuntime) -> Result<(), Fail> {
     ];
     assert_eq!(rt; ends.as_slice(), wanted.as_slice());
     let texts = ["", "00138101", "0001 8e", "", GRANTED];
-    for (output, text) in outputs.iter().zip(texts) {
-        assert_eq!(rt; output.bytes, bytes_of(alloc, text)?);
-    }
+    check_outputs(&rt, &outputs, &each_bytes_of(alloc, &texts)?);
     Ok(())
 }
 

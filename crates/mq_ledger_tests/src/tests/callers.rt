@@ -6,10 +6,11 @@ ghost use Rattle.mq_ledger.specs.Day.{day_of};
 ghost use Rattle.mq_ledger.specs.History.{requests as requests_of};
 
 use super::{granted, ledger, reserve, usage, used};
+use mq_frame::{Reply, Request, is_request};
 use mq_ledger::laws::one_more_arrival;
 use mq_ledger::{Ledger, LedgerFault, Zone};
-use mq_frame::{Reply, Request};
 use std::alloc::{AllocError, Global};
+use std::process::Abort;
 use std::test::*;
 
 /// Applies requests in order, and gives their replies.
@@ -77,25 +78,43 @@ impl<L: Ledger> Ledger for FailsOnce<L> {
     }
 }
 
-/// Two requests: a reserve, and what was used then.
-fn two(rt: &HostRuntime) -> Result<Vec<Request>, AllocError>
-    ensures { IfOk result (λ v. All IsRequest v.items) }
-{
-    let mut requests = Vec::new(rt.alloc());
-    requests.push(reserve(rt, 1, 1, 1)?)?;
-    requests.push(usage(rt)?)?;
-    Ok(requests)
+/// A reserve, and what was used then.
+fn two(rt: &HostRuntime) -> Result<[Request; 2], AllocError> {
+    Ok([reserve(rt, 1, 1, 1)?, usage(rt)?])
+}
+
+/// The replies to two requests. Without clauses, so that its callers stay cheap to prove.
+fn replies_to<L: Ledger>(
+    rt: &impl Abort,
+    alloc: Global,
+    ledger: &mut L,
+    requests: &[Request; 2],
+) -> Result<Vec<Reply>, LedgerFault> {
+    let [first, second] = requests;
+    assert!(rt; is_request(first));
+    assert!(rt; is_request(second));
+    apply_all(alloc, ledger, requests)
+}
+
+fn check_reply(
+    rt: &impl Abort,
+    replies: &[Reply],
+    place: usize,
+    wanted: Result<Reply, AllocError>,
+) -> Result<(), Fail> {
+    assert!(rt; place < replies.len());
+    assert_eq!(rt; replies[place], wanted?);
+    Ok(())
 }
 
 #[test]
 fn over_any_ledger(rt: HostRuntime) -> Result<(), Fail> {
     let requests = two(&rt)?;
     let mut plain = ledger(&rt, 3)?;
-    let replies = apply_all(rt.alloc(), &mut plain, &requests)?;
+    let replies = replies_to(&rt, rt.alloc(), &mut plain, &requests)?;
     assert_eq!(rt; replies.len(), 2);
-    assert_eq!(rt; replies[0], granted(&rt, 1, 1)?);
-    assert_eq!(rt; replies[1], used(&rt, 0, 1)?);
-    Ok(())
+    check_reply(&rt, &replies, 0, granted(&rt, 1, 1))?;
+    check_reply(&rt, &replies, 1, used(&rt, 0, 1))
 }
 
 #[test]
@@ -107,12 +126,12 @@ fn over_a_ledger_that_fails_once(rt: HostRuntime) -> Result<(), Fail> {
         has_failed: false,
     };
     assert_eq!(rt;
-        apply_all(rt.alloc(), &mut failing, &requests).err(),
+        replies_to(&rt, rt.alloc(), &mut failing, &requests).err(),
         Some(LedgerFault::Store)
     );
-    let again = apply_all(rt.alloc(), &mut failing, &requests)?;
+    let again = replies_to(&rt, rt.alloc(), &mut failing, &requests)?;
     assert_eq!(rt; again.len(), 2);
-    assert_eq!(rt; again[0], granted(&rt, 1, 1)?);
+    check_reply(&rt, &again, 0, granted(&rt, 1, 1))?;
     assert_eq!(rt; failing.default_cap(), 3);
     assert_eq!(rt; failing.zone().minutes(), 0);
     Ok(())

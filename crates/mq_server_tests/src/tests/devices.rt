@@ -24,6 +24,16 @@ impl<'a> Pieces<'a> {
             failed: false,
         }
     }
+
+    /// A source of single bytes that fails behind so many.
+    pub fn failing(rest: &'a [u8], reads: usize) -> Pieces<'a> {
+        Pieces {
+            rest,
+            size: 1,
+            reads,
+            failed: false,
+        }
+    }
 }
 
 impl Source for Pieces<'_> {

@@ -7,7 +7,7 @@ use Rattle.mq_ledger.specs.Answer.{reply, replies_after, taken, history_of}
 use Rattle.mq_ledger.specs.Day.{day_of}
 use Rattle.mq_ledger.specs.History.{requests}
 use Rattle.mq_ledger.specs.Legal.{IsLegal}
-use Rattle.mq_ledger.proofs.tests.callers.apply_all.Goals as goal
+use Rattle.mq_ledger_tests.proofs.tests.callers.apply_all.Goals as goal
 
 -- an arrival at the ledger is one more arrival of all
 history_step : (day : ℕ → ℕ) (default : ℕ) (A xs : List Request) (r : Request) (H K : List Entry) → H ≡ history_of day default (A ++ xs) → K ≡ history_of day default (requests H ++ r ∷ []) → history_of day default (requests H ++ r ∷ []) ≡ taken day default H r → history_of day default ((A ++ xs) ++ r ∷ []) ≡ taken day default (history_of day default (A ++ xs)) r → K ≡ history_of day default (A ++ (xs ++ r ∷ []))

@@ -2,7 +2,7 @@ use Rattle.std.proofs.Common.{◌≡◌, ◌++◌, take, drop}
 use Rattle.mq_ledger.specs.Answer.{history_of, replies_after}
 use Rattle.mq_ledger.specs.Day.{day_of}
 use Rattle.mq_ledger.specs.History.{requests}
-use Rattle.mq_ledger.proofs.tests.callers.apply_all.Given as goal
+use Rattle.mq_ledger_tests.proofs.tests.callers.apply_all.Given as goal
 
 abbrev pub invariant-loop-request : goal.invariant-loop-request
 invariant-loop-request g l =
