@@ -18,4 +18,3 @@ pub use contract::{Ledger, LedgerFault};
 pub use entry::Entry;
 pub use plain::PlainLedger;
 pub use zone::{BadOffset, Zone};
-
