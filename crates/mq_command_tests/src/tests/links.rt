@@ -1,6 +1,8 @@
 //! Links of the tests' own to a quota server, and what they share.
+//!
+//! The helpers have no clauses, so that a long test stays cheap to prove.
 
-use mq_client::{Bytes, Link, LinkFault, Outcome, Told};
+use mq_client::{Bytes, Link, LinkFault, Outcome, ScriptLink};
 use mq_frame::{
     FromRead, Login, Reply, Request, ToWrite, UsageRow, UsageRows, decode_request, encode_reply,
     is_reply,
@@ -9,34 +11,99 @@ use mq_ledger::{PlainLedger, Zone};
 use mq_server::{Served, serve};
 use std::alloc::{AllocError, Global};
 use std::cmp::Ordering;
+use std::collections::VecDeque;
 use std::io;
 use std::io::{ErrorKind, Write};
 use std::process::Abort;
 use std::test::Fail;
 
-/// The bytes of hexadecimal digits. Spaces and line feeds are passed over.
-pub fn bytes_of(alloc: Global, text: &str) -> Result<Vec<u8>, Fail> {
+/// A text without its spaces, which are for the reader alone.
+pub fn without_spaces(alloc: Global, text: &str) -> Result<String, AllocError> {
     let mut digits = String::new(alloc);
     for c in text.chars() {
-        if c != ' ' && c != '\n' {
+        if c != ' ' {
             digits.push(c)?;
         }
     }
+    Ok(digits)
+}
+
+/// The bytes of hexadecimal digits. Spaces are passed over.
+fn bytes_of(alloc: Global, text: &str) -> Result<Vec<u8>, Fail> {
+    let digits = without_spaces(alloc, text)?;
     match hex::decode(alloc, digits.as_bytes()) {
         Ok(bytes) => Ok(bytes),
         Err(_) => Err("no hexadecimal".into()),
     }
 }
 
-/// An exchange that brings this body, as a script has it.
-pub fn answered(alloc: Global, body: &str) -> Result<Outcome, Fail> {
-    Ok(Outcome::Answered(Bytes::new(bytes_of(alloc, body)?)))
+/// Appends the bytes as a line of hexadecimal.
+pub fn push_line(alloc: Global, lines: &mut String, bytes: &[u8]) -> Result<(), AllocError> {
+    lines.push_str(hex::encode(alloc, bytes)?.as_str())?;
+    lines.push('\n')
 }
 
-/// A copy of the frame's bytes.
-fn keep(alloc: Global, frames: &mut Vec<Vec<u8>>, frame: &[u8]) -> Result<(), AllocError> {
-    frames.push(Vec::from_slice(alloc, frame)?)?;
-    Ok(())
+/// The text of what was written.
+pub fn text_of(bytes: Vec<u8>) -> Result<String, Fail> {
+    Ok(String::from_utf8(bytes)?)
+}
+
+/// What a subcommand printed, what it said on `errors`, and its status.
+#[derive(Drop)]
+pub struct Ended {
+    pub printed: String,
+    pub said: String,
+    pub status: u8,
+}
+
+impl Ended {
+    /// Asserts what was printed and said, and that the status is 0 where nothing was said and 1
+    /// elsewhere.
+    pub fn assert_is(&self, rt: &impl Abort, printed: &str, said: &str, at: &str) {
+        let status = if said.is_empty() { 0 } else { 1 };
+        assert_eq!(rt;
+            (self.printed.as_str(), self.said.as_str(), self.status),
+            (printed, said, status),
+            "at {at}"
+        );
+    }
+}
+
+/// How a script ends an exchange.
+#[derive(Clone, Copy)]
+pub enum Answer<'a> {
+    /// By this body in hexadecimal.
+    Body(&'a str),
+    /// By the full page of the first hundred logins of day 1.
+    FullPage,
+    Fault(LinkFault),
+}
+
+/// The outcome of an exchange that ends so.
+fn outcome_of(alloc: Global, answer: Answer) -> Result<Outcome, Fail> {
+    match answer {
+        Answer::Body(body) => Ok(Outcome::Answered(Bytes::new(bytes_of(alloc, body)?))),
+        Answer::FullPage => full_page(alloc),
+        Answer::Fault(fault) => Ok(Outcome::Faulted(fault)),
+    }
+}
+
+/// An exchange that brings the full page of the first hundred logins of day 1.
+fn full_page(alloc: Global) -> Result<Outcome, Fail> {
+    let frame = page_behind(alloc, 1, b"", 200)?;
+    match frame.as_slice().get(2..) {
+        Some(body) => Ok(Outcome::Answered(Bytes::from_slice(alloc, body)?)),
+        None => Err("no page".into()),
+    }
+}
+
+/// A link whose exchanges end so, in order.
+pub fn scripted(alloc: Global, answers: &[Answer]) -> Result<ScriptLink, Fail> {
+    let mut script = VecDeque::new(alloc);
+    for answer in answers {
+        script.push_back(outcome_of(alloc, *answer)?)?;
+    }
+    Ok(ScriptLink::new(alloc, script))
 }
 
 /// Puts what follows the two bytes of a frame's length into `reply`.
@@ -54,7 +121,8 @@ pub struct ServerLink {
     alloc: Global,
     ledger: PlainLedger,
     pub lost: u32,
-    pub frames: Vec<Vec<u8>>,
+    /// The frames that came, a line of hexadecimal each.
+    pub frames: String,
 }
 
 impl ServerLink {
@@ -66,7 +134,7 @@ impl ServerLink {
             alloc,
             ledger: PlainLedger::new(alloc, zone, 3),
             lost: 0,
-            frames: Vec::new(alloc),
+            frames: String::new(alloc),
         })
     }
 
@@ -96,7 +164,7 @@ fn reply_to(alloc: Global, ledger: &mut PlainLedger, frames: &[u8]) -> Option<Ve
 impl Link for ServerLink {
     fn exchange(&mut self, frame: &[u8], reply: &mut Vec<u8>) -> Result<(), LinkFault> {
         reply.clear();
-        if keep(self.alloc, &mut self.frames, frame).is_err() {
+        if push_line(self.alloc, &mut self.frames, frame).is_err() {
             return Err(LinkFault::Memory);
         }
         let Some(written) = reply_to(self.alloc, &mut self.ledger, frame) else {
@@ -116,37 +184,41 @@ impl Link for ServerLink {
     }
 }
 
-/// The frame of the page behind a login, where each of the logins `u0001`, `u0002` and so on up to
-/// a number has reserved one recipient of three.
-pub fn page_behind(
-    alloc: Global,
-    day: u32,
-    after: &[u8],
-    logins: u32,
-) -> Result<Vec<u8>, AllocError> {
+/// The row of a login, by its number from 1 on, that has reserved one recipient of three.
+fn row_of(alloc: Global, number: u32) -> Result<UsageRow, AllocError> {
+    let name = format!(in alloc; "u{number:04}")?;
+    let login = Login::from_slice(alloc, name.as_bytes())?;
+    Ok(UsageRow {
+        login,
+        settled: 0,
+        reserved: 1,
+        cap: 3,
+    })
+}
+
+/// The rows of a page behind a login, where the logins are `u0001`, `u0002` and so on up to a
+/// number.
+fn rows_behind(alloc: Global, after: &[u8], logins: u32) -> Result<UsageRows, AllocError> {
     let mut rows = Vec::new(alloc);
-    for number in 0..logins {
-        let name = format!(in alloc; "u{:04}", number.wrapping_add(1))?;
-        let login = Login::from_slice(alloc, name.as_bytes())?;
-        if rows.len() < 100 && matches!(after.cmp(login.as_slice()), Ordering::Less) {
-            rows.push(UsageRow {
-                login,
-                settled: 0,
-                reserved: 1,
-                cap: 3,
-            })?;
+    for before in 0..logins {
+        let row = row_of(alloc, before.wrapping_add(1))?;
+        if rows.len() < 100 && matches!(after.cmp(row.login.as_slice()), Ordering::Less) {
+            rows.push(row)?;
         }
     }
+    Ok(UsageRows::new(rows))
+}
+
+/// The frame of the page behind a login, where each of the logins `u0001`, `u0002` and so on up to
+/// a number has reserved one recipient of three.
+fn page_behind(alloc: Global, day: u32, after: &[u8], logins: u32) -> Result<Vec<u8>, AllocError> {
     let reply = Reply::List {
         day,
-        rows: UsageRows::new(rows),
+        rows: rows_behind(alloc, after, logins)?,
     };
     let mut frame = Vec::new(alloc);
-    if is_reply(&reply) {
-        match encode_reply(alloc, &reply, &mut frame) {
-            Ok(()) => {}
-            Err(_) => return Err(AllocError),
-        }
+    if is_reply(&reply) && encode_reply(alloc, &reply, &mut frame).is_err() {
+        return Err(AllocError);
     }
     Ok(frame)
 }
@@ -156,7 +228,8 @@ pub fn page_behind(
 pub struct PagesLink {
     alloc: Global,
     logins: u32,
-    pub frames: Vec<Vec<u8>>,
+    /// The frames that came, a line of hexadecimal each.
+    pub frames: String,
 }
 
 impl PagesLink {
@@ -164,7 +237,7 @@ impl PagesLink {
         PagesLink {
             alloc,
             logins,
-            frames: Vec::new(alloc),
+            frames: String::new(alloc),
         }
     }
 }
@@ -172,7 +245,7 @@ impl PagesLink {
 impl Link for PagesLink {
     fn exchange(&mut self, frame: &[u8], reply: &mut Vec<u8>) -> Result<(), LinkFault> {
         reply.clear();
-        if keep(self.alloc, &mut self.frames, frame).is_err() {
+        if push_line(self.alloc, &mut self.frames, frame).is_err() {
             return Err(LinkFault::Memory);
         }
         let Some(body) = frame.get(2..) else {
@@ -194,18 +267,19 @@ impl Link for PagesLink {
     }
 }
 
-/// Asserts that these frames were sent, in order.
+/// Asserts that these frames were sent, in order: `sent` has a line of hexadecimal for each.
 pub fn assert_sent(
     rt: &impl Abort,
     alloc: Global,
-    sent: &[Vec<u8>],
+    sent: &str,
     frames: &[&str],
 ) -> Result<(), Fail> {
-    assert_eq!(rt; sent.len(), frames.len());
-    for (bytes, frame) in sent.iter().zip(frames) {
-        let wanted = bytes_of(alloc, frame)?;
-        assert_eq!(rt; bytes.as_slice(), wanted.as_slice());
+    let mut wanted = String::new(alloc);
+    for frame in frames {
+        wanted.push_str(without_spaces(alloc, frame)?.as_str())?;
+        wanted.push('\n')?;
     }
+    assert_eq!(rt; sent, wanted.as_str());
     Ok(())
 }
 
@@ -213,15 +287,14 @@ pub fn assert_sent(
 pub fn assert_told(
     rt: &impl Abort,
     alloc: Global,
-    told: &[Told],
+    link: &ScriptLink,
     frames: &[&str],
 ) -> Result<(), Fail> {
-    assert_eq!(rt; told.len(), frames.len());
-    for (one, frame) in told.iter().zip(frames) {
-        let wanted = bytes_of(alloc, frame)?;
-        assert_eq!(rt; one.frame.as_slice(), wanted.as_slice());
+    let mut sent = String::new(alloc);
+    for one in link.kept() {
+        push_line(alloc, &mut sent, one.frame.as_slice())?;
     }
-    Ok(())
+    assert_sent(rt, alloc, sent.as_str(), frames)
 }
 
 /// An output that takes so many bytes, and then nothing; its flush fails where it is told to.

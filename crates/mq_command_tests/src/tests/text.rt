@@ -1,7 +1,7 @@
 //! The text of `replay` and printed logins.
 
-use mq_command::{TEXT_LIMIT, TextFault, read_connections};
-use mq_command::login_text;
+use super::links::push_line;
+use mq_command::{TEXT_LIMIT, TextFault, login_text, read_connections};
 use std::alloc::Global;
 use std::test::Fail;
 
@@ -9,35 +9,42 @@ use std::test::Fail;
 fn shown(alloc: Global, text: &[u8]) -> Result<String, Fail> {
     match read_connections(alloc, text) {
         Ok(connections) => {
-            let mut lines = Vec::new(alloc);
+            let mut lines = String::new(alloc);
             for connection in &connections {
-                write_hex_line(alloc, &mut lines, connection.as_slice())?;
+                push_line(alloc, &mut lines, connection.as_slice())?;
             }
-            Ok(String::from_utf8(lines)?)
+            Ok(lines)
         }
         Err(fault) => Ok(fault.to_string(alloc)?),
     }
 }
 
+/// Texts, and their connections or why they are refused.
+const TEXTS: [(&str, &str); 10] = [
+    ("", ""),
+    ("\n \n\n", ""),
+    ("00 21\n0A", "00210a\n"),
+    ("aB c D\n\n  \nff\n", "abcd\nff\n"),
+    ("\n00", "00\n"),
+    ("0g", "line 1: not hex"),
+    ("00\n0", "line 2: not hex"),
+    ("00\n\n\n\t11", "line 4: not hex"),
+    ("00\r\n", "line 1: not hex"),
+    ("0 0\n1 1 1\n0g", "line 2: not hex"),
+];
+
 #[test]
 fn connections(rt: HostRuntime) -> Result<(), Fail> {
-    let rows: [(&[u8], &str); 10] = [
-        (b"", ""),
-        (b"\n \n\n", ""),
-        (b"00 21\n0A", "00210a\n"),
-        (b"aB c D\n\n  \nff\n", "abcd\nff\n"),
-        (b"\n00", "00\n"),
-        (b"0g", "line 1: not hex"),
-        (b"00\n0", "line 2: not hex"),
-        (b"00\n\n\n\t11", "line 4: not hex"),
-        (b"00\r\n", "line 1: not hex"),
-        (b"0 0\n1 1 1\n0g", "line 2: not hex"),
-    ];
-    for (text, lines) in rows {
-        let found = shown(rt.alloc(), text)?;
+    for (text, lines) in TEXTS {
+        let found = shown(rt.alloc(), text.as_bytes())?;
         assert_eq!(rt; found.as_str(), lines);
     }
     Ok(())
+}
+
+/// Whether a text is refused as too large.
+fn is_too_large(alloc: Global, text: &[u8]) -> bool {
+    matches!(read_connections(alloc, text), Err(TextFault::TooLarge))
 }
 
 #[test]
@@ -45,10 +52,7 @@ fn largest_text(rt: HostRuntime) -> Result<(), Fail> {
     let mut text = vec![in rt.alloc(); b' '; TEXT_LIMIT]?;
     assert_eq!(rt; shown(rt.alloc(), text.as_slice())?.as_str(), "");
     text.push(b'\n')?;
-    assert_eq!(rt;
-        read_connections(rt.alloc(), text.as_slice()).err(),
-        Some(TextFault::TooLarge)
-    );
+    assert!(rt; is_too_large(rt.alloc(), text.as_slice()));
     Ok(())
 }
 
