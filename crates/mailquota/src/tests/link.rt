@@ -133,9 +133,13 @@ fn what_a_peer_answers(rt: HostRuntime) -> Result<(), Fail> {
         link.send(ONE_RESERVE)?;
         let frame = answer(alloc, &listener, bytes)?;
         assert_eq!(rt; frame.as_slice(), ONE_RESERVE);
-        let received = link.receive(&mut reply);
-        assert_eq!(rt; received, wanted.map(|_| ()), "{bytes:?}");
-        assert_eq!(rt; reply.as_slice(), wanted.unwrap_or(b""), "{bytes:?}");
+        match link.receive(&mut reply) {
+            Ok(()) => assert_eq!(rt; Ok(reply.as_slice()), wanted, "{bytes:?}"),
+            Err(fault) => {
+                assert_eq!(rt; wanted, Err(fault), "{bytes:?}");
+                assert!(rt; reply.is_empty(), "{bytes:?}");
+            }
+        }
     }
     Ok(())
 }
@@ -155,8 +159,8 @@ fn the_longest_reply(rt: HostRuntime) -> Result<(), Fail> {
 }
 
 /// A peer that has sent these bytes and, unless it is to wait, ended its writing.
-fn peer<R: Net<Stream = TcpStream>>(
-    rt: &R,
+fn peer(
+    rt: &HostRuntime,
     address: SocketAddr,
     bytes: &[u8],
     waits: bool,

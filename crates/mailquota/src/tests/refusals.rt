@@ -5,6 +5,7 @@ use crate::program::run_words;
 use mq_client::FilterFault;
 use mq_command::{Ending, ReplayFault, ReportFault, TextFault};
 use mq_track::TrackFault;
+use std::fmt::Display;
 use std::net::{Net, TcpListener, TcpStream};
 use std::process::Abort;
 use std::rt::{Clock, Files};
@@ -33,28 +34,38 @@ where
     Ok(())
 }
 
-/// The words of `limit` with these.
-fn limit<'a>(server: &'a str, host: &'a str, login: &'a str) -> [&'a str; 11] {
-    [
+/// Asserts why `limit` is refused with these.
+fn assert_limit_refused<R>(
+    rt: &R,
+    server: &str,
+    host: &str,
+    login: &str,
+    text: &str,
+) -> Result<(), Fail>
+where
+    R: Files + Clock + Net<Listener = TcpListener, Stream = TcpStream>,
+    R: Input + Print + Eprint + AllocGlobal + Abort,
+{
+    let words = [
         "limit", "--server", server, "--host", host, "--login", login, "--from", "1", "--cap", "2",
-    ]
+    ];
+    assert_refused(rt, &words, 2, text)
 }
 
 #[test]
 fn words_of_limit(rt: HostRuntime) -> Result<(), Fail> {
     let rows = [
-        (limit("mail:7025", "mx 1", ""), "bad host"),
-        (limit("mail:7025", "", "u"), "bad host"),
-        (limit("mail:7025", LONG, "u"), "bad host"),
-        (limit("mail:7025", "mx1", ""), "bad login"),
-        (limit("mail:7025", "mx1", LONG), "bad login"),
-        (limit("mail:7025", "mx1", "u"), "bad address"),
-        (limit("127.0.0.1", "mx1", "u"), "bad address"),
-        (limit("", "mx1", "u"), "bad address"),
+        ("mail:7025", "mx 1", "", "mailquota: bad host\n"),
+        ("mail:7025", "", "u", "mailquota: bad host\n"),
+        ("mail:7025", LONG, "u", "mailquota: bad host\n"),
+        ("mail:7025", "mx1", "", "mailquota: bad login\n"),
+        ("mail:7025", "mx1", LONG, "mailquota: bad login\n"),
+        ("mail:7025", "mx1", "u", "mailquota: bad address\n"),
+        ("127.0.0.1", "mx1", "u", "mailquota: bad address\n"),
+        ("", "mx1", "u", "mailquota: bad address\n"),
     ];
-    for (words, text) in rows {
-        let line = format!(in rt.alloc(); "mailquota: {text}\n")?;
-        assert_refused(&rt, &words, 2, line.as_str())?;
+    for (server, host, login, text) in rows {
+        assert_limit_refused(&rt, server, host, login, text)?;
     }
     Ok(())
 }
@@ -62,15 +73,14 @@ fn words_of_limit(rt: HostRuntime) -> Result<(), Fail> {
 #[test]
 fn words_of_report(rt: HostRuntime) -> Result<(), Fail> {
     let rows = [
-        ("mail:7025", "", "bad login"),
-        ("mail:7025", LONG, "bad login"),
-        ("mail:7025", "u", "bad address"),
-        ("[::1]", "u", "bad address"),
+        ("mail:7025", "", "mailquota: bad login\n"),
+        ("mail:7025", LONG, "mailquota: bad login\n"),
+        ("mail:7025", "u", "mailquota: bad address\n"),
+        ("[::1]", "u", "mailquota: bad address\n"),
     ];
     for (server, login, text) in rows {
-        let line = format!(in rt.alloc(); "mailquota: {text}\n")?;
         let words = ["report", "--server", server, "--day", "1", "--login", login];
-        assert_refused(&rt, &words, 2, line.as_str())?;
+        assert_refused(&rt, &words, 2, text)?;
     }
     let words = ["report", "--server", "localhost:7025", "--day", "1"];
     assert_refused(&rt, &words, 2, "mailquota: bad address\n")
@@ -89,35 +99,31 @@ fn no_settings(rt: HostRuntime) -> Result<(), Fail> {
     Ok(())
 }
 
-#[test]
-fn texts_of_faults(rt: HostRuntime) -> Result<(), Fail> {
-    let alloc = rt.alloc();
-    let rows = [
-        (
-            ReportFault::TooManyPages.to_string(alloc)?,
-            "too many pages",
-        ),
-        (TextFault::TooLarge.to_string(alloc)?, "input too large"),
-        (
-            ReplayFault::Connection(1, Ending::Enough).to_string(alloc)?,
-            "connection 1: enough",
-        ),
-        (ProgramFault::Accept.to_string(alloc)?, "accept failed"),
-        (
-            ProgramFault::Words.to_string(alloc)?,
-            "arguments are not text",
-        ),
-        (
-            ProgramFault::Filter(FilterFault::Track(TrackFault::Auth)).to_string(alloc)?,
-            "report refused: auth",
-        ),
-        (
-            ProgramFault::Filter(FilterFault::Track(TrackFault::Message)).to_string(alloc)?,
-            "report refused: message",
-        ),
-    ];
-    for (text, wanted) in &rows {
-        assert_eq!(rt; text.as_str(), *wanted);
-    }
+/// Asserts how a fault is printed. Without clauses, so that its callers stay cheap to prove.
+fn assert_text(
+    rt: &(impl Abort + AllocGlobal),
+    fault: impl Display + Drop,
+    wanted: &str,
+) -> Result<(), Fail> {
+    let text = fault.to_string(rt.alloc())?;
+    assert_eq!(rt; text.as_str(), wanted);
     Ok(())
+}
+
+#[test]
+fn texts_of_commands_faults(rt: HostRuntime) -> Result<(), Fail> {
+    assert_text(&rt, ReportFault::TooManyPages, "too many pages")?;
+    assert_text(&rt, TextFault::TooLarge, "input too large")?;
+    let enough = ReplayFault::Connection(1, Ending::Enough);
+    assert_text(&rt, enough, "connection 1: enough")
+}
+
+#[test]
+fn texts_of_program_faults(rt: HostRuntime) -> Result<(), Fail> {
+    assert_text(&rt, ProgramFault::Accept, "accept failed")?;
+    assert_text(&rt, ProgramFault::Words, "arguments are not text")?;
+    let auth = ProgramFault::Filter(FilterFault::Track(TrackFault::Auth));
+    assert_text(&rt, auth, "report refused: auth")?;
+    let message = ProgramFault::Filter(FilterFault::Track(TrackFault::Message));
+    assert_text(&rt, message, "report refused: message")
 }
