@@ -1,4 +1,5 @@
 //! Tests of `mq_client`: the worked examples, real sessions, and what no contract says.
 #![tactic(auto)]
+
 #[cfg(test)]
 mod tests;

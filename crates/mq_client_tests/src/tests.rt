@@ -6,9 +6,11 @@ mod flushing;
 mod rows;
 mod sittings;
 
-use mq_client::{Bytes, Client, Ended, FilterFault, Outcome, ScriptLink, Told, run_filter};
 use log::sink::Discard;
-use mq_frame::{FromRead, Host, ToWrite, is_host};
+use mq_client::{
+    Bytes, Client, Ended, FilterFault, LinkFault, Outcome, ScriptLink, Told, run_filter,
+};
+use mq_frame::{FromRead, Host, Sink, Source, ToWrite, is_host};
 use std::alloc::Global;
 use std::collections::VecDeque;
 use std::process::Abort;
@@ -62,6 +64,9 @@ const SERVICE: &[u8] =
 const RESERVE: &str =
     "0027 01 036d7831 0000000000000001 00000001 00000001 000000005df21459 05616c696365 00000001";
 
+/// How the body of a grant begins, up to the number of its request.
+const GRANT: &str = "81 036d7831 0000000000000001";
+
 const RELEASE: &str =
     "0023 03 036d7831 0000000000000001 00000002 00000001 000000005df21459 05616c696365";
 
@@ -98,8 +103,35 @@ fn joined(alloc: Global, parts: &[&[u8]]) -> Result<Vec<u8>, Fail> {
     Ok(whole)
 }
 
-fn answered(alloc: Global, text: &str) -> Result<Outcome, Fail> {
-    Ok(Outcome::Answered(Bytes::new(bytes_of(alloc, text)?)))
+/// How an exchange ends: by a body of these hexadecimal digits, or by a fault.
+#[derive(Clone, Copy)]
+enum Reply<'a> {
+    Body(&'a str),
+    Fault(LinkFault),
+}
+
+fn outcome_of(alloc: Global, reply: Reply<'_>) -> Result<Outcome, Fail> {
+    match reply {
+        Reply::Body(text) => Ok(Outcome::Answered(Bytes::new(bytes_of(alloc, text)?))),
+        Reply::Fault(fault) => Ok(Outcome::Faulted(fault)),
+    }
+}
+
+/// The script of these replies, in order.
+fn script_of(alloc: Global, replies: &[Reply<'_>]) -> Result<VecDeque<Outcome>, Fail> {
+    let mut script = VecDeque::new(alloc);
+    for reply in replies {
+        script.push_back(outcome_of(alloc, *reply)?)?;
+    }
+    Ok(script)
+}
+
+/// The reply whose body begins so and goes on with that number and that count.
+fn numbered(alloc: Global, front: &str, seq: u32, count: u32) -> Result<Outcome, Fail> {
+    let mut body = bytes_of(alloc, front)?;
+    body.extend_from_slice(&seq.to_be_bytes())?;
+    body.extend_from_slice(&count.to_be_bytes())?;
+    Ok(Outcome::Answered(Bytes::new(body)))
 }
 
 /// A client of the host mx1 and run 1.
@@ -114,6 +146,17 @@ fn client_of(alloc: Global, tries: u32) -> Result<Client, Fail>
     Ok(Client::new(alloc, &host, 1, tries)?)
 }
 
+/// Runs the filter over these devices. Without clauses, so that its callers stay cheap to prove.
+fn filter<S: Source, W: Sink>(
+    alloc: Global,
+    input: &mut S,
+    output: &mut W,
+    link: &mut ScriptLink,
+    client: &mut Client,
+) -> Result<Ended, FilterFault> {
+    run_filter(&Discard, alloc, input, output, link, client)
+}
+
 /// What came of a run.
 #[derive(Drop)]
 struct Ran {
@@ -123,20 +166,14 @@ struct Ran {
     client: Client,
 }
 
+/// Runs the filter on these lines, its link answering by the script.
 fn run(alloc: Global, script: VecDeque<Outcome>, parts: &[&[u8]]) -> Result<Ran, Fail> {
     let whole = joined(alloc, parts)?;
     let mut client = client_of(alloc, 3)?;
     let mut link = ScriptLink::new(alloc, script);
     let mut input = FromRead::new(whole.as_slice());
     let mut output = ToWrite::new(Vec::new(alloc));
-    let ended = run_filter(
-        &Discard,
-        alloc,
-        &mut input,
-        &mut output,
-        &mut link,
-        &mut client,
-    );
+    let ended = filter(alloc, &mut input, &mut output, &mut link, &mut client);
     let _ = input.into_inner();
     Ok(Ran {
         ended,
@@ -144,6 +181,35 @@ fn run(alloc: Global, script: VecDeque<Outcome>, parts: &[&[u8]]) -> Result<Ran,
         link,
         client,
     })
+}
+
+/// A run of the filter that was worked on paper.
+#[derive(Clone, Copy)]
+struct Row<'a> {
+    name: &'a str,
+    /// What the server answers; it is down afterwards.
+    replies: &'a [Reply<'a>],
+    /// What smtpd writes.
+    lines: &'a [&'a [u8]],
+    ended: Result<Ended, FilterFault>,
+    /// What the filter writes.
+    text: &'a [&'a [u8]],
+    /// What is sent to the server.
+    frames: &'a [&'a str],
+}
+
+/// Asserts that the run comes out as it was worked.
+fn assert_row(rt: &impl Abort, alloc: Global, row: &Row<'_>) -> Result<Ran, Fail> {
+    let ran = run(alloc, script_of(alloc, row.replies)?, row.lines)?;
+    assert_eq!(rt; ran.ended, row.ended, "{}", row.name);
+    assert_text(rt, alloc, &ran.text, row.text)?;
+    assert_frames(rt, alloc, ran.link.kept(), row.frames)?;
+    Ok(ran)
+}
+
+/// The end of a run in which smtpd was answered so often and so many closings were left.
+fn ended(answers: u64, left: u32) -> Result<Ended, FilterFault> {
+    Ok(Ended { answers, left })
 }
 
 /// Asserts that the exchanges had these frames.

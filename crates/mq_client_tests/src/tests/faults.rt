@@ -1,17 +1,9 @@
 //! How a run stops.
 use super::*;
 use mq_client::Memory;
-use mq_frame::{Failed, Sink, Source};
+use mq_frame::Failed;
 use mq_line::LineFault;
 use mq_track::TrackFault;
-
-#[test]
-fn empty_input(rt: HostRuntime) -> Result<(), Fail> {
-    let alloc = rt.alloc();
-    let ran = run(alloc, VecDeque::new(alloc), &[])?;
-    assert_eq!(rt; ran.ended, Err(FilterFault::EndedEarly));
-    assert_text(&rt, alloc, &ran.text, &[])
-}
 
 const NO_RESULT: &[u8] = b"report|0.7|1576146008.006099|smtp-in|link-auth|s|alice\n";
 
@@ -33,44 +25,47 @@ fn assert_stops(
     Ok(())
 }
 
+const SHORT_LINE: FilterFault = FilterFault::Line(LineFault::Short);
+
+/// Inputs, how a run of each stops, and what it wrote until then.
+const STOPS: [(&[&[u8]], FilterFault, &[u8]); 10] = [
+    (&[], FilterFault::EndedEarly, b""),
+    (&[AUTH], FilterFault::NotReady, b""),
+    (&[RECIPIENT], FilterFault::NotReady, b""),
+    (&[SHORT, CONFIG], SHORT_LINE, b""),
+    (&[b"other\n"], FilterFault::EndedEarly, b""),
+    (&[b"config|x"], FilterFault::CutLine, b""),
+    (&[CONFIG, SHORT], SHORT_LINE, REGISTRATION),
+    (
+        &[CONFIG, NO_RESULT],
+        FilterFault::Track(TrackFault::Auth),
+        REGISTRATION,
+    ),
+    (
+        &[CONFIG, NO_MESSAGE],
+        FilterFault::Track(TrackFault::Message),
+        REGISTRATION,
+    ),
+    (&[CONFIG, b"config|x"], FilterFault::CutLine, REGISTRATION),
+];
+
 #[test]
-fn faults_before_ready(rt: HostRuntime) -> Result<(), Fail> {
-    let alloc = rt.alloc();
-    assert_stops(&rt, alloc, &[AUTH], FilterFault::NotReady, b"")?;
-    assert_stops(&rt, alloc, &[RECIPIENT], FilterFault::NotReady, b"")?;
-    let short = FilterFault::Line(LineFault::Short);
-    assert_stops(&rt, alloc, &[SHORT, CONFIG], short, b"")?;
-    assert_stops(&rt, alloc, &[b"other\n"], FilterFault::EndedEarly, b"")?;
-    assert_stops(&rt, alloc, &[b"config|x"], FilterFault::CutLine, b"")
+fn inputs_that_stop_a_run(rt: HostRuntime) -> Result<(), Fail> {
+    for (parts, fault, text) in STOPS {
+        assert_stops(&rt, rt.alloc(), parts, fault, text)?;
+    }
+    Ok(())
 }
 
 #[test]
-fn faults_after_ready(rt: HostRuntime) -> Result<(), Fail> {
+fn a_line_too_long(rt: HostRuntime) -> Result<(), Fail> {
     let alloc = rt.alloc();
-    let short = FilterFault::Line(LineFault::Short);
-    assert_stops(&rt, alloc, &[CONFIG, SHORT], short, REGISTRATION)?;
-    let auth = FilterFault::Track(TrackFault::Auth);
-    assert_stops(&rt, alloc, &[CONFIG, NO_RESULT], auth, REGISTRATION)?;
-    let message = FilterFault::Track(TrackFault::Message);
-    assert_stops(&rt, alloc, &[CONFIG, NO_MESSAGE], message, REGISTRATION)?;
-    assert_stops(
-        &rt,
-        alloc,
-        &[CONFIG, b"config|x"],
-        FilterFault::CutLine,
-        REGISTRATION,
-    )?;
     let mut long = joined(alloc, &[CONFIG])?;
     for _byte in 0..65_537u32 {
         long.push(b'a')?;
     }
-    assert_stops(
-        &rt,
-        alloc,
-        &[long.as_slice()],
-        FilterFault::TooLong,
-        REGISTRATION,
-    )
+    let parts = &[long.as_slice()];
+    assert_stops(&rt, alloc, parts, FilterFault::TooLong, REGISTRATION)
 }
 
 #[test]
@@ -180,9 +175,8 @@ struct Cut {
 /// after so many bytes.
 fn run_failing(alloc: Global, reads: usize, room: usize) -> Result<Cut, Fail> {
     let input = joined(alloc, &[CONFIG, AUTH, BEGIN, RECIPIENT])?;
-    let mut script = VecDeque::new(alloc);
-    script.push_back(answered(alloc, "81 036d7831 0000000000000001 00000001 00000001")?)?;
-    let mut link = ScriptLink::new(alloc, script);
+    let grant = Reply::Body("81 036d7831 0000000000000001 00000001 00000001");
+    let mut link = ScriptLink::new(alloc, script_of(alloc, &[grant])?);
     let mut client = client_of(alloc, 3)?;
     let mut source = Dropper {
         rest: input.as_slice(),
@@ -195,14 +189,7 @@ fn run_failing(alloc: Global, reads: usize, room: usize) -> Result<Cut, Fail> {
         room,
         failed: false,
     };
-    let ended = run_filter(
-        &Discard,
-        alloc,
-        &mut source,
-        &mut sink,
-        &mut link,
-        &mut client,
-    );
+    let ended = filter(alloc, &mut source, &mut sink, &mut link, &mut client);
     let exchanges = link.kept().len();
     Ok(Cut {
         ended,
@@ -211,44 +198,65 @@ fn run_failing(alloc: Global, reads: usize, room: usize) -> Result<Cut, Fail> {
     })
 }
 
+/// What a run writes and sends until a device fails.
+#[derive(Clone, Copy)]
+struct Until<'a> {
+    ended: Result<Ended, FilterFault>,
+    text: &'a [u8],
+    exchanges: usize,
+}
+
+/// Asserts what came of a run; `place` says where a device failed.
+fn assert_cut(rt: &impl Abort, cut: &Cut, wanted: &Until<'_>, place: usize) {
+    assert_eq!(rt; cut.ended, wanted.ended, "{place}");
+    assert_eq!(rt; cut.sink.taken.as_slice(), wanted.text, "{place}");
+    assert_eq!(rt; cut.exchanges, wanted.exchanges, "{place}");
+}
+
 #[test]
-fn each_read_and_each_write_fails(rt: HostRuntime) -> Result<(), Fail> {
+fn each_read_fails(rt: HostRuntime) -> Result<(), Fail> {
     let alloc = rt.alloc();
     let whole = joined(alloc, &[REGISTRATION, PROCEED])?;
     let bytes = joined(alloc, &[CONFIG, AUTH, BEGIN, RECIPIENT])?.len();
-    let config = CONFIG.len();
     for reads in 0..=bytes {
-        let cut = run_failing(alloc, reads, 10_000)?;
-        let wanted: &[u8] = if reads < config {
+        let text: &[u8] = if reads < CONFIG.len() {
             b""
         } else if reads < bytes {
             REGISTRATION
         } else {
             whole.as_slice()
         };
-        assert_eq!(rt; cut.ended, Err(FilterFault::Read), "{reads}");
-        assert_eq!(rt; cut.sink.taken.as_slice(), wanted, "{reads}");
+        let wanted = Until {
+            ended: Err(FilterFault::Read),
+            text,
+            exchanges: if reads == bytes { 1 } else { 0 },
+        };
+        let cut = run_failing(alloc, reads, 10_000)?;
+        assert_cut(&rt, &cut, &wanted, reads);
         // each answer was flushed before the next read
-        assert_eq!(rt; cut.sink.flushed, wanted.len(), "{reads}");
-        assert_eq!(rt; cut.exchanges == 1, reads == bytes, "{reads}");
+        assert_eq!(rt; cut.sink.flushed, text.len(), "{reads}");
     }
+    Ok(())
+}
+
+#[test]
+fn each_write_fails(rt: HostRuntime) -> Result<(), Fail> {
+    let alloc = rt.alloc();
+    let whole = joined(alloc, &[REGISTRATION, PROCEED])?;
     for room in 0..whole.len() {
-        let cut = run_failing(alloc, 10_000, room)?;
-        let text = cut.sink.taken.as_slice();
-        assert_eq!(rt; cut.ended, Err(FilterFault::Write), "{room}");
-        assert_eq!(rt; text.len(), room);
-        assert!(rt; whole.as_slice().starts_with(text), "{room}");
-        assert_eq!(rt; cut.exchanges == 1, room >= REGISTRATION.len(), "{room}");
+        let wanted = Until {
+            ended: Err(FilterFault::Write),
+            text: whole.get(..room).unwrap_or(b""),
+            exchanges: if room < REGISTRATION.len() { 0 } else { 1 },
+        };
+        assert_cut(&rt, &run_failing(alloc, 10_000, room)?, &wanted, room);
     }
-    let cut = run_failing(alloc, 10_000, whole.len())?;
-    assert_eq!(rt;
-        cut.ended,
-        Ok(Ended {
-            answers: 1,
-            left: 0
-        })
-    );
-    assert_eq!(rt; cut.sink.taken.as_slice(), whole.as_slice());
-    assert_eq!(rt; cut.exchanges, 1);
+    let wanted = Until {
+        ended: ended(1, 0),
+        text: whole.as_slice(),
+        exchanges: 1,
+    };
+    let room = whole.len();
+    assert_cut(&rt, &run_failing(alloc, 10_000, room)?, &wanted, room);
     Ok(())
 }

@@ -1,6 +1,6 @@
 //! Each answer is flushed before the next read.
 use super::*;
-use mq_frame::{Failed, Sink, Source};
+use mq_frame::Failed;
 use std::cell::Cell;
 
 /// Gives its bytes in pieces, and notes whether what those before ask for was flushed at each read, no
@@ -9,7 +9,7 @@ use std::cell::Cell;
 struct Watching<'a> {
     rest: &'a [u8],
     /// How many bytes each read gives, and how many the filter writes for them.
-    pieces: VecDeque<(usize, usize)>,
+    pieces: &'a [(usize, usize)],
     due: usize,
     flushed: &'a Cell<usize>,
     off: bool,
@@ -24,7 +24,13 @@ impl Source for Watching<'_> {
     fn read(&mut self, piece: &mut [u8]) -> Result<usize, Failed> {
         self.off = self.off || self.flushed.get() != self.due;
         self.most = self.most.max(piece.len());
-        let (size, asked) = self.pieces.pop_front().unwrap_or((0, 0));
+        let (size, asked) = match self.pieces.split_first() {
+            Some((first, later)) => {
+                self.pieces = later;
+                *first
+            }
+            None => (0, 0),
+        };
         let count = self.rest.len().min(size).min(piece.len());
         let (front, rest) = self.rest.split_at(count);
         piece[..count].copy_from_slice(front);
@@ -73,62 +79,55 @@ impl Sink for Flushing<'_> {
     }
 }
 
+impl<'a> Flushing<'a> {
+    fn new(alloc: Global, flushed: &'a Cell<usize>, is_stuck: bool) -> Flushing<'a> {
+        Flushing {
+            taken: Vec::new(alloc),
+            flushed,
+            is_stuck,
+            clean: true,
+            failed: false,
+        }
+    }
+}
+
+/// The reads of `flushes_before_it_reads`: the front, two answers in one read, a line in two pieces.
+const PIECES: [(usize, usize); 5] = [
+    (CONFIG.len(), REGISTRATION.len()),
+    (
+        AUTH.len() + BEGIN.len() + 2 * RECIPIENT.len(),
+        2 * PROCEED.len(),
+    ),
+    (40, 0),
+    (RECIPIENT.len() - 40, LIMIT.len()),
+    (COMMIT.len(), 0),
+];
+
 #[test]
 fn flushes_before_it_reads(rt: HostRuntime) -> Result<(), Fail> {
     let alloc = rt.alloc();
-    let input = joined(
-        alloc,
-        &[CONFIG, AUTH, BEGIN, RECIPIENT, RECIPIENT, RECIPIENT, COMMIT],
-    )?;
-    let two = joined(alloc, &[AUTH, BEGIN, RECIPIENT, RECIPIENT])?;
-    let answers = joined(alloc, &[PROCEED, PROCEED])?;
-    let mut pieces = VecDeque::new(alloc);
-    pieces.push_back((CONFIG.len(), REGISTRATION.len()))?;
-    pieces.push_back((two.len(), answers.len()))?;
-    // a line in two pieces
-    pieces.push_back((40, 0))?;
-    pieces.push_back((RECIPIENT.len().saturating_sub(40), LIMIT.len()))?;
-    pieces.push_back((COMMIT.len(), 0))?;
-    let mut script = VecDeque::new(alloc);
-    for reply in [
-        "81 036d7831 0000000000000001 00000001 00000001",
-        "81 036d7831 0000000000000001 00000002 00000002",
-        "82 036d7831 0000000000000001 00000003 00000002 00000002",
-        "83 036d7831 0000000000000001 00000004 00000002",
-    ] {
-        script.push_back(answered(alloc, reply)?)?;
-    }
+    let lines = &[CONFIG, AUTH, BEGIN, RECIPIENT, RECIPIENT, RECIPIENT, COMMIT];
+    let input = joined(alloc, lines)?;
+    let replies = [
+        Reply::Body("81 036d7831 0000000000000001 00000001 00000001"),
+        Reply::Body("81 036d7831 0000000000000001 00000002 00000002"),
+        Reply::Body("82 036d7831 0000000000000001 00000003 00000002 00000002"),
+        Reply::Body("83 036d7831 0000000000000001 00000004 00000002"),
+    ];
+    let mut link = ScriptLink::new(alloc, script_of(alloc, &replies)?);
+    let mut client = client_of(alloc, 3)?;
     let flushed = Cell::new(0);
     let mut source = Watching {
         rest: &input,
-        pieces,
+        pieces: &PIECES,
         due: 0,
         flushed: &flushed,
         off: false,
         most: 0,
     };
-    let mut sink = Flushing {
-        taken: Vec::new(alloc),
-        flushed: &flushed,
-        is_stuck: false,
-        clean: true,
-        failed: false,
-    };
-    let ended = run_filter(
-        &Discard,
-        alloc,
-        &mut source,
-        &mut sink,
-        &mut ScriptLink::new(alloc, script),
-        &mut client_of(alloc, 3)?,
-    );
-    assert_eq!(rt;
-        ended,
-        Ok(Ended {
-            answers: 3,
-            left: 0
-        })
-    );
+    let mut sink = Flushing::new(alloc, &flushed, false);
+    let end = filter(alloc, &mut source, &mut sink, &mut link, &mut client);
+    assert_eq!(rt; end, ended(3, 0));
     assert!(rt; source.pieces.is_empty());
     assert!(rt; !source.off);
     assert!(rt; source.most <= 4096);
@@ -144,26 +143,14 @@ fn flushes_before_it_reads(rt: HostRuntime) -> Result<(), Fail> {
 fn a_flush_fails(rt: HostRuntime) -> Result<(), Fail> {
     let alloc = rt.alloc();
     let input = joined(alloc, &[CONFIG, AUTH, BEGIN, RECIPIENT])?;
-    let flushed = Cell::new(0);
     let mut link = ScriptLink::new(alloc, VecDeque::new(alloc));
+    let mut client = client_of(alloc, 3)?;
+    let flushed = Cell::new(0);
     let mut source = FromRead::new(input.as_slice());
-    let mut sink = Flushing {
-        taken: Vec::new(alloc),
-        flushed: &flushed,
-        is_stuck: true,
-        clean: true,
-        failed: false,
-    };
-    let ended = run_filter(
-        &Discard,
-        alloc,
-        &mut source,
-        &mut sink,
-        &mut link,
-        &mut client_of(alloc, 3)?,
-    );
+    let mut sink = Flushing::new(alloc, &flushed, true);
+    let end = filter(alloc, &mut source, &mut sink, &mut link, &mut client);
     let _ = source.into_inner();
-    assert_eq!(rt; ended, Err(FilterFault::Write));
+    assert_eq!(rt; end, Err(FilterFault::Write));
     assert_text(&rt, alloc, &sink.taken, &[REGISTRATION])?;
     assert_frames(&rt, alloc, link.kept(), &[])
 }

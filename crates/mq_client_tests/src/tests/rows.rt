@@ -2,201 +2,240 @@
 use super::*;
 use mq_line::LineFault;
 
+const MAIL_FROM: &[u8] =
+    b"filter|0.7|1576146010.006099|smtp-in|mail-from|7641df9771b4ed00|1ef1c203cc576e5d|alice@example.org
+";
+
+const OUTGOING: &[u8] =
+    b"filter|0.7|1576146010.006099|smtp-out|rcpt-to|7641df9771b4ed00|1ef1c203cc576e5d|bob@example.org
+";
+
+const OLD_VERSION: &[u8] =
+    b"filter|0.6|1576146010.006099|smtp-in|mail-from|7641df9771b4ed00|1ef1c203cc576e5d|alice@example.org
+";
+
+/// A login without a name.
+const NAMELESS: &[u8] = b"report|0.7|1576146008.006099|smtp-in|link-auth|7641df9771b4ed00|pass
+";
+
+const EARLY: &[u8] = b"report|0.7|86399.006099|smtp-in|tx-begin|7641df9771b4ed00|4c56d3a1
+";
+
+const LATE: &[u8] = b"report|0.7|32503680001.0|smtp-in|tx-begin|7641df9771b4ed00|4c56d3a1
+";
+
+/// Replies to the first reserve, what smtpd is told then, and how often the reserve is sent.
+const FIRST_REPLIES: [(&str, &[u8], &[&str]); 8] = [
+    (
+        "81 036d7831 0000000000000001 00000001 00000001",
+        PROCEED,
+        &[RESERVE],
+    ),
+    (
+        "82 036d7831 0000000000000001 00000001 00000003 00000003",
+        LIMIT,
+        &[RESERVE],
+    ),
+    // a grant of another number, another run and another host
+    (
+        "81 036d7831 0000000000000001 00000002 00000001",
+        SERVICE,
+        &[RESERVE, RESERVE, RESERVE],
+    ),
+    (
+        "81 036d7831 0000000000000002 00000001 00000001",
+        SERVICE,
+        &[RESERVE, RESERVE, RESERVE],
+    ),
+    (
+        "81 036d7832 0000000000000001 00000001 00000001",
+        SERVICE,
+        &[RESERVE, RESERVE, RESERVE],
+    ),
+    // closed, mismatch and conflict
+    ("87 036d7831 0000000000000001 00000001", SERVICE, &[RESERVE]),
+    ("88 036d7831 0000000000000001 00000001", SERVICE, &[RESERVE]),
+    ("8a 036d7831 0000000000000001 00000001", SERVICE, &[RESERVE]),
+];
+
+/// Asserts what comes of that reply to the first reserve.
+fn assert_first_reply(
+    rt: &impl Abort,
+    alloc: Global,
+    reply: &str,
+    answer: &[u8],
+    frames: &[&str],
+) -> Result<(), Fail> {
+    let row = Row {
+        name: reply,
+        replies: &[Reply::Body(reply)],
+        lines: &[CONFIG, AUTH, BEGIN, RECIPIENT],
+        ended: ended(1, 0),
+        text: &[REGISTRATION, answer],
+        frames,
+    };
+    let ran = assert_row(rt, alloc, &row)?;
+    assert_eq!(rt; ran.client.held_count(), 1, "{reply}");
+    Ok(())
+}
+
 #[test]
 fn one_recipient(rt: HostRuntime) -> Result<(), Fail> {
-    let alloc = rt.alloc();
-    let cases = [
-        ("81 036d7831 0000000000000001 00000001 00000001", PROCEED),
-        (
-            "82 036d7831 0000000000000001 00000001 00000003 00000003",
-            LIMIT,
-        ),
-        // a grant of another number, another run and another host
-        ("81 036d7831 0000000000000001 00000002 00000001", SERVICE),
-        ("81 036d7831 0000000000000002 00000001 00000001", SERVICE),
-        ("81 036d7832 0000000000000001 00000001 00000001", SERVICE),
-        // closed, mismatch and conflict
-        ("87 036d7831 0000000000000001 00000001", SERVICE),
-        ("88 036d7831 0000000000000001 00000001", SERVICE),
-        ("8a 036d7831 0000000000000001 00000001", SERVICE),
-    ];
-    for (reply, result) in cases {
-        let mut script = VecDeque::new(alloc);
-        script.push_back(answered(alloc, reply)?)?;
-        let ran = run(alloc, script, &[CONFIG, AUTH, BEGIN, RECIPIENT])?;
-        assert_eq!(rt;
-            ran.ended,
-            Ok(Ended {
-                answers: 1,
-                left: 0
-            }),
-            "{reply}"
-        );
-        assert_text(&rt, alloc, &ran.text, &[REGISTRATION, result])?;
-        let frames: &[&str] = if reply.starts_with("81") && result == SERVICE {
-            &[RESERVE, RESERVE, RESERVE]
-        } else {
-            &[RESERVE]
-        };
-        assert_frames(&rt, alloc, ran.link.kept(), frames)?;
-        assert_eq!(rt; ran.client.held_count(), 1);
+    for (reply, result, frames) in FIRST_REPLIES {
+        assert_first_reply(&rt, rt.alloc(), reply, result, frames)?;
     }
     Ok(())
 }
 
 #[test]
 fn the_server_is_down(rt: HostRuntime) -> Result<(), Fail> {
-    let alloc = rt.alloc();
-    let ran = run(
-        alloc,
-        VecDeque::new(alloc),
-        &[CONFIG, AUTH, BEGIN, RECIPIENT, COMMIT],
-    )?;
-    assert_eq!(rt;
-        ran.ended,
-        Ok(Ended {
-            answers: 1,
-            left: 1
-        })
-    );
-    assert_text(&rt, alloc, &ran.text, &[REGISTRATION, SERVICE])?;
-    assert_frames(
-        &rt,
-        alloc,
-        ran.link.kept(),
-        &[
+    let row = Row {
+        name: "the server is down",
+        replies: &[],
+        lines: &[CONFIG, AUTH, BEGIN, RECIPIENT, COMMIT],
+        ended: ended(1, 1),
+        text: &[REGISTRATION, SERVICE],
+        frames: &[
             RESERVE, RESERVE, RESERVE, RELEASE, RELEASE, RELEASE, RELEASE, RELEASE, RELEASE,
         ],
-    )?;
+    };
+    let ran = assert_row(&rt, rt.alloc(), &row)?;
     assert_eq!(rt; ran.client.outbox_count(), 1);
     assert_eq!(rt; ran.client.held_count(), 0);
     Ok(())
 }
 
-#[test]
-fn no_login(rt: HostRuntime) -> Result<(), Fail> {
-    let alloc = rt.alloc();
-    let ran = run(alloc, VecDeque::new(alloc), &[CONFIG, BEGIN, RECIPIENT])?;
-    assert_eq!(rt;
-        ran.ended,
-        Ok(Ended {
-            answers: 1,
-            left: 0
-        })
-    );
-    assert_text(&rt, alloc, &ran.text, &[REGISTRATION, PROCEED])?;
-    assert_frames(&rt, alloc, ran.link.kept(), &[])
-}
+const ONE_ANSWER: Result<Ended, FilterFault> = Ok(Ended {
+    answers: 1,
+    left: 0,
+});
+
+const PROCEEDS: &[&[u8]] = &[REGISTRATION, PROCEED];
+
+const REFUSES: &[&[u8]] = &[REGISTRATION, SERVICE];
+
+const ROWS: [Row<'static>; 9] = [
+    Row {
+        name: "no login",
+        replies: &[],
+        lines: &[CONFIG, BEGIN, RECIPIENT],
+        ended: ONE_ANSWER,
+        text: PROCEEDS,
+        frames: &[],
+    },
+    Row {
+        name: "a commit settles and a reset does nothing",
+        replies: &[
+            Reply::Body("81 036d7831 0000000000000001 00000001 00000001"),
+            Reply::Body("83 036d7831 0000000000000001 00000002 00000001"),
+        ],
+        lines: &[CONFIG, AUTH, BEGIN, RECIPIENT, COMMIT, RESET],
+        ended: ONE_ANSWER,
+        text: PROCEEDS,
+        frames: &[RESERVE, SETTLE],
+    },
+    Row {
+        name: "another phase",
+        replies: &[],
+        lines: &[CONFIG, AUTH, BEGIN, MAIL_FROM],
+        ended: ONE_ANSWER,
+        text: PROCEEDS,
+        frames: &[],
+    },
+    Row {
+        name: "another subsystem",
+        replies: &[],
+        lines: &[CONFIG, AUTH, BEGIN, OUTGOING],
+        ended: ONE_ANSWER,
+        text: PROCEEDS,
+        frames: &[],
+    },
+    Row {
+        name: "another version",
+        replies: &[],
+        lines: &[CONFIG, AUTH, BEGIN, OLD_VERSION],
+        ended: Err(FilterFault::Line(LineFault::Version)),
+        text: &[REGISTRATION],
+        frames: &[],
+    },
+    Row {
+        name: "a login without a name",
+        replies: &[],
+        lines: &[CONFIG, NAMELESS, BEGIN, RECIPIENT],
+        ended: ONE_ANSWER,
+        text: REFUSES,
+        frames: &[],
+    },
+    Row {
+        name: "a moment too early",
+        replies: &[],
+        lines: &[CONFIG, AUTH, EARLY, RECIPIENT],
+        ended: ONE_ANSWER,
+        text: REFUSES,
+        frames: &[],
+    },
+    Row {
+        name: "a moment too late",
+        replies: &[],
+        lines: &[CONFIG, AUTH, LATE, RECIPIENT],
+        ended: ONE_ANSWER,
+        text: REFUSES,
+        frames: &[],
+    },
+    Row {
+        name: "no transaction",
+        replies: &[],
+        lines: &[CONFIG, AUTH, RECIPIENT],
+        ended: ONE_ANSWER,
+        text: REFUSES,
+        frames: &[],
+    },
+];
 
 #[test]
-fn commit_settles_and_reset_does_nothing(rt: HostRuntime) -> Result<(), Fail> {
-    let alloc = rt.alloc();
+fn worked_rows(rt: HostRuntime) -> Result<(), Fail> {
+    for row in ROWS {
+        assert_row(&rt, rt.alloc(), &row)?;
+    }
+    Ok(())
+}
+
+/// The grants of a thousand recipients of one transaction.
+fn thousand_grants(alloc: Global) -> Result<VecDeque<Outcome>, Fail> {
     let mut script = VecDeque::new(alloc);
-    script.push_back(answered(alloc, "81 036d7831 0000000000000001 00000001 00000001")?)?;
-    script.push_back(answered(alloc, "83 036d7831 0000000000000001 00000002 00000001")?)?;
-    let ran = run(
-        alloc,
-        script,
-        &[CONFIG, AUTH, BEGIN, RECIPIENT, COMMIT, RESET],
-    )?;
-    assert_eq!(rt;
-        ran.ended,
-        Ok(Ended {
-            answers: 1,
-            left: 0
-        })
-    );
-    assert_text(&rt, alloc, &ran.text, &[REGISTRATION, PROCEED])?;
-    assert_frames(&rt, alloc, ran.link.kept(), &[RESERVE, SETTLE])
+    for seq in 1..=1000u32 {
+        script.push_back(numbered(alloc, GRANT, seq, seq)?)?;
+    }
+    Ok(script)
 }
 
-#[test]
-fn another_phase_and_another_version(rt: HostRuntime) -> Result<(), Fail> {
-    let alloc = rt.alloc();
-    let sender: &[u8] =
-        b"filter|0.7|1576146010.006099|smtp-in|mail-from|7641df9771b4ed00|1ef1c203cc576e5d|alice@example.org\n";
-    let ran = run(alloc, VecDeque::new(alloc), &[CONFIG, AUTH, BEGIN, sender])?;
-    assert_eq!(rt;
-        ran.ended,
-        Ok(Ended {
-            answers: 1,
-            left: 0
-        })
-    );
-    assert_text(&rt, alloc, &ran.text, &[REGISTRATION, PROCEED])?;
-    assert_frames(&rt, alloc, ran.link.kept(), &[])?;
+/// The parts in front, a line a thousand times, and the last line.
+fn thousand_lines(
+    alloc: Global,
+    front: &[&[u8]],
+    line: &[u8],
+    last: &[u8],
+) -> Result<Vec<u8>, Fail> {
+    let mut text = joined(alloc, front)?;
+    for _count in 0..1000u32 {
+        text.extend_from_slice(line)?;
+    }
+    text.extend_from_slice(last)?;
+    Ok(text)
+}
 
-    let out: &[u8] =
-        b"filter|0.7|1576146010.006099|smtp-out|rcpt-to|7641df9771b4ed00|1ef1c203cc576e5d|bob@example.org\n";
-    let ran = run(alloc, VecDeque::new(alloc), &[CONFIG, AUTH, BEGIN, out])?;
-    assert_eq!(rt;
-        ran.ended,
-        Ok(Ended {
-            answers: 1,
-            left: 0
-        })
-    );
-    assert_text(&rt, alloc, &ran.text, &[REGISTRATION, PROCEED])?;
-
-    let old: &[u8] =
-        b"filter|0.6|1576146010.006099|smtp-in|mail-from|7641df9771b4ed00|1ef1c203cc576e5d|alice@example.org\n";
-    let ran = run(alloc, VecDeque::new(alloc), &[CONFIG, AUTH, BEGIN, old])?;
-    assert_eq!(rt; ran.ended, Err(FilterFault::Line(LineFault::Version)));
-    assert_text(&rt, alloc, &ran.text, &[REGISTRATION])
+/// A run over one recipient more than a transaction may have.
+fn run_a_thousand(alloc: Global) -> Result<Ran, Fail> {
+    let input = thousand_lines(alloc, &[CONFIG, AUTH, BEGIN], RECIPIENT, RECIPIENT)?;
+    run(alloc, thousand_grants(alloc)?, &[input.as_slice()])
 }
 
 #[test]
 fn a_thousand_recipients(rt: HostRuntime) -> Result<(), Fail> {
     let alloc = rt.alloc();
-    let mut script = VecDeque::new(alloc);
-    let mut input = joined(alloc, &[CONFIG, AUTH, BEGIN])?;
-    let mut wanted = joined(alloc, &[REGISTRATION])?;
-    for seq in 1..=1000u32 {
-        let mut body = bytes_of(alloc, "81 036d7831 0000000000000001")?;
-        body.extend_from_slice(&seq.to_be_bytes())?;
-        body.extend_from_slice(&seq.to_be_bytes())?;
-        script.push_back(Outcome::Answered(Bytes::new(body)))?;
-        input.extend_from_slice(RECIPIENT)?;
-        wanted.extend_from_slice(PROCEED)?;
-    }
-    input.extend_from_slice(RECIPIENT)?;
-    wanted.extend_from_slice(SERVICE)?;
-    let ran = run(alloc, script, &[input.as_slice()])?;
-    assert_eq!(rt;
-        ran.ended,
-        Ok(Ended {
-            answers: 1001,
-            left: 0
-        })
-    );
-    assert_eq!(rt; ran.text.as_slice(), wanted.as_slice());
+    let wanted = thousand_lines(alloc, &[REGISTRATION], PROCEED, SERVICE)?;
+    let ran = run_a_thousand(alloc)?;
+    assert_eq!(rt; ran.ended, ended(1001, 0));
     assert_eq!(rt; ran.link.kept().len(), 1000);
-    Ok(())
-}
-
-#[test]
-fn logins_and_moments_out_of_range(rt: HostRuntime) -> Result<(), Fail> {
-    let alloc = rt.alloc();
-    let no_name: &[u8] = b"report|0.7|1576146008.006099|smtp-in|link-auth|7641df9771b4ed00|pass\n";
-    let early: &[u8] = b"report|0.7|86399.006099|smtp-in|tx-begin|7641df9771b4ed00|4c56d3a1\n";
-    let late: &[u8] = b"report|0.7|32503680001.0|smtp-in|tx-begin|7641df9771b4ed00|4c56d3a1\n";
-    let cases: [&[&[u8]]; 4] = [
-        &[CONFIG, no_name, BEGIN, RECIPIENT],
-        &[CONFIG, AUTH, early, RECIPIENT],
-        &[CONFIG, AUTH, late, RECIPIENT],
-        &[CONFIG, AUTH, RECIPIENT],
-    ];
-    for parts in cases {
-        let ran = run(alloc, VecDeque::new(alloc), parts)?;
-        assert_eq!(rt;
-            ran.ended,
-            Ok(Ended {
-                answers: 1,
-                left: 0
-            })
-        );
-        assert_text(&rt, alloc, &ran.text, &[REGISTRATION, SERVICE])?;
-        assert_frames(&rt, alloc, ran.link.kept(), &[])?;
-    }
-    Ok(())
+    assert_text(&rt, alloc, &ran.text, &[wanted.as_slice()])
 }

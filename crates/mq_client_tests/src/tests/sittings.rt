@@ -47,116 +47,89 @@ report|0.7|1795329227.361306|smtp-in|link-disconnect|d1214ca6b2f3c582
 report|0.7|1795329227.361774|smtp-in|link-disconnect|d1214ca5ddd8451a
 ";
 
-/// The link answers by these bodies.
-fn sitting(alloc: Global, replies: &[&str], lines: &[u8]) -> Result<Ran, Fail> {
-    let mut script = VecDeque::new(alloc);
-    for reply in replies {
-        script.push_back(answered(alloc, reply)?)?;
-    }
-    run(alloc, script, &[FRONT, lines])
-}
-
-#[test]
-fn a_reset(rt: HostRuntime) -> Result<(), Fail> {
-    let alloc = rt.alloc();
-    let replies = [
-        "81 036d7831 0000000000000001 00000001 00000001",
-        "81 036d7831 0000000000000001 00000002 00000002",
-        "84 036d7831 0000000000000001 00000003 00000002",
-    ];
-    let ran = sitting(alloc, &replies, A_RESET)?;
-    assert_eq!(rt;
-        ran.ended,
-        Ok(Ended {
+const SITTINGS: [Row<'static>; 3] = [
+    Row {
+        name: "a reset",
+        replies: &[
+            Reply::Body("81 036d7831 0000000000000001 00000001 00000001"),
+            Reply::Body("81 036d7831 0000000000000001 00000002 00000002"),
+            Reply::Body("84 036d7831 0000000000000001 00000003 00000002"),
+        ],
+        lines: &[FRONT, A_RESET],
+        ended: Ok(Ended {
             answers: 2,
-            left: 0
-        })
-    );
-    let result: &[u8] = b"filter-result|37ab31835d776ace|6e5fd6102582181a|proceed\n";
-    assert_text(&rt, alloc, &ran.text, &[REGISTRATION, result, result])?;
-    assert_frames(
-        &rt,
-        alloc,
-        ran.link.kept(),
-        &[
+            left: 0,
+        }),
+        text: &[
+            REGISTRATION,
+            b"filter-result|37ab31835d776ace|6e5fd6102582181a|proceed\n",
+            b"filter-result|37ab31835d776ace|6e5fd6102582181a|proceed\n",
+        ],
+        frames: &[
             "002501036d783100000000000000010000000100000001000000006b028cc30375303100000001",
             "002501036d783100000000000000010000000200000001000000006b028cc30375303100000001",
             "002103036d783100000000000000010000000300000001000000006b028cc303753031",
         ],
-    )
-}
-
-#[test]
-fn a_second_mail(rt: HostRuntime) -> Result<(), Fail> {
-    let alloc = rt.alloc();
-    let replies = [
-        "81 036d7831 0000000000000001 00000001 00000001",
-        "83 036d7831 0000000000000001 00000002 00000001",
-        "82 036d7831 0000000000000001 00000003 00000001 00000001",
-        "84 036d7831 0000000000000001 00000004 00000000",
-    ];
-    let ran = sitting(alloc, &replies, A_SECOND_MAIL)?;
-    assert_eq!(rt;
-        ran.ended,
-        Ok(Ended {
+    },
+    Row {
+        name: "a second mail",
+        replies: &[
+            Reply::Body("81 036d7831 0000000000000001 00000001 00000001"),
+            Reply::Body("83 036d7831 0000000000000001 00000002 00000001"),
+            Reply::Body("82 036d7831 0000000000000001 00000003 00000001 00000001"),
+            Reply::Body("84 036d7831 0000000000000001 00000004 00000000"),
+        ],
+        lines: &[FRONT, A_SECOND_MAIL],
+        ended: Ok(Ended {
             answers: 2,
-            left: 0
-        })
-    );
-    assert_text(
-        &rt,
-        alloc,
-        &ran.text,
-        &[
+            left: 0,
+        }),
+        text: &[
             REGISTRATION,
             b"filter-result|8830003b8d1c8ffe|4d35946cb887bc94|proceed\n",
             b"filter-result|8830003b8d1c8ffe|4d35946cb887bc94|reject|550 daily recipient limit reached\n",
         ],
-    )?;
-    assert_frames(
-        &rt,
-        alloc,
-        ran.link.kept(),
-        &[
+        frames: &[
             "002501036d783100000000000000010000000100000001000000006b028cc40375303100000001",
             "002502036d783100000000000000010000000200000001000000006b028cc40375303100000001",
             "002501036d783100000000000000010000000300000002000000006b028cc40375303100000001",
             "002103036d783100000000000000010000000400000002000000006b028cc403753031",
         ],
-    )
-}
-
-#[test]
-fn two_sessions(rt: HostRuntime) -> Result<(), Fail> {
-    let alloc = rt.alloc();
-    let replies = [
-        "81 036d7831 0000000000000001 00000001 00000001",
-        "81 036d7831 0000000000000001 00000002 00000001",
-        "81 036d7831 0000000000000001 00000003 00000002",
-        "83 036d7831 0000000000000001 00000004 00000001",
-        "84 036d7831 0000000000000001 00000005 00000002",
-    ];
-    let ran = sitting(alloc, &replies, TWO_SESSIONS)?;
-    assert_eq!(rt;
-        ran.ended,
-        Ok(Ended {
+    },
+    Row {
+        name: "two sessions",
+        replies: &[
+            Reply::Body("81 036d7831 0000000000000001 00000001 00000001"),
+            Reply::Body("81 036d7831 0000000000000001 00000002 00000001"),
+            Reply::Body("81 036d7831 0000000000000001 00000003 00000002"),
+            Reply::Body("83 036d7831 0000000000000001 00000004 00000001"),
+            Reply::Body("84 036d7831 0000000000000001 00000005 00000002"),
+        ],
+        lines: &[FRONT, TWO_SESSIONS],
+        ended: Ok(Ended {
             answers: 3,
-            left: 0
-        })
-    );
-    let first: &[u8] = b"filter-result|d1214ca5ddd8451a|a90d6ef2fbf8626f|proceed\n";
-    let second: &[u8] = b"filter-result|d1214ca6b2f3c582|a90d6ef2fbf8626f|proceed\n";
-    assert_text(&rt, alloc, &ran.text, &[REGISTRATION, first, second, first])?;
-    assert_frames(
-        &rt,
-        alloc,
-        ran.link.kept(),
-        &[
+            left: 0,
+        }),
+        text: &[
+            REGISTRATION,
+            b"filter-result|d1214ca5ddd8451a|a90d6ef2fbf8626f|proceed\n",
+            b"filter-result|d1214ca6b2f3c582|a90d6ef2fbf8626f|proceed\n",
+            b"filter-result|d1214ca5ddd8451a|a90d6ef2fbf8626f|proceed\n",
+        ],
+        frames: &[
             "002501036d783100000000000000010000000100000001000000006b028ccb0375303100000001",
             "002501036d783100000000000000010000000200000002000000006b028ccb0375303200000001",
             "002501036d783100000000000000010000000300000001000000006b028ccb0375303100000001",
             "002502036d783100000000000000010000000400000002000000006b028ccb0375303200000001",
             "002103036d783100000000000000010000000500000001000000006b028ccb03753031",
         ],
-    )
+    },
+];
+
+#[test]
+fn real_sittings(rt: HostRuntime) -> Result<(), Fail> {
+    for row in SITTINGS {
+        assert_row(&rt, rt.alloc(), &row)?;
+    }
+    Ok(())
 }
