@@ -4,8 +4,8 @@
 #
 # usage: run.sh PROGRAM [SCRIPT [WORDS..]]
 #
-# Wants root, debootstrap, openssl, ip and python3, and once Debian's mirror: OpenSMTPD 7.6 speaks protocol 0.7, and
-# what older suites have doesn't. It is kept in SMTPD_ROOT (/var/tmp/mailquota-smtpd). Nothing outside that folder
+# Wants root, debootstrap, openssl, ip and python3, and once the mirror of Debian that the machine's own package list
+# names: OpenSMTPD 7.6 speaks protocol 0.7, and what older suites have doesn't. It is kept in SMTPD_ROOT (/var/tmp/mailquota-smtpd). Nothing outside that folder
 # is changed, no address but the loopback of a network namespace of its own is used, and all processes end with it.
 set -euo pipefail
 
@@ -22,8 +22,12 @@ if [ "$(id -u)" -ne 0 ]; then
     exit 1
 fi
 if [ ! -x "$root/usr/sbin/smtpd" ]; then
+    if [ -z "$mirror" ]; then
+        echo "run.sh: the machine's package list names no mirror of Debian, so there is no smtpd to fetch" >&2
+        exit 1
+    fi
     rm -rf "$root"
-    debootstrap --variant=minbase --include=opensmtpd,ca-certificates trixie "$root" "${mirror:-http://deb.debian.org/debian}" >&2
+    debootstrap --variant=minbase --include=opensmtpd,ca-certificates trixie "$root" "$mirror" >&2
 fi
 
 etc=$root/etc/mailquota
