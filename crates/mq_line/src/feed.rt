@@ -45,14 +45,16 @@ fn front_of(rest: &[u8], searched: usize) -> Front
 ///
 /// A contract sees of a feed `rest`, the bytes that were fed and not taken, and `held`, how many bytes it
 /// keeps. However the text is cut into pieces, the lines are the same. What was taken leaves at the next
-/// `feed`, and what is left then moves to the front. Where all whole lines are taken before each `feed`, no
-/// byte moves twice and none is searched twice, and the feed keeps at most one line more than its last piece.
+/// `feed`, and then the rest moves to the front; what was searched for an LF isn't searched again. So a caller
+/// that takes lines until `None` before each `feed` pays for a text by its length, however short its pieces
+/// are, and the feed keeps at most 65,536 bytes and a piece. One that leaves whole lines there pays once more
+/// for them at each `feed` that follows a line.
 #[derive(Drop)]
 pub struct LineFeed {
     // What was fed, from the first byte that wasn't taken before the last `feed`.
     bytes: Vec<u8>,
-    // How much of it was taken.
-    taken: usize,
+    // Where the bytes begin that weren't taken.
+    start: usize,
     // How many bytes of the rest have been searched for an LF, in vain.
     searched: usize,
 }
@@ -64,9 +66,9 @@ impl Model for LineFeed {
 
     ghost Value = { Feed };
 
-    ghost view = { λ f. record { rest = drop f.taken f.bytes.items; held = length f.bytes.items } };
+    ghost view = { λ f. record { rest = drop f.start f.bytes.items; held = length f.bytes.items } };
 
-    ghost invariant = { λ f. (f.taken ≤ length f.bytes.items) × IsSearched (drop f.taken f.bytes.items) f.searched };
+    ghost invariant = { λ f. (f.start ≤ length f.bytes.items) × IsSearched (drop f.start f.bytes.items) f.searched };
 }
 
 impl LineFeed {
@@ -78,7 +80,7 @@ impl LineFeed {
     {
         LineFeed {
             bytes: Vec::new(alloc),
-            taken: 0,
+            start: 0,
             searched: 0,
         }
     }
@@ -94,8 +96,8 @@ impl LineFeed {
         ensures held { OnOk result (self.new.held ≡ length self.new.rest) }
         ensures held_at_err { OnErr result (self.new.held ≤ self.old.held) }
     {
-        self.bytes.drain(..self.taken);
-        self.taken = 0;
+        self.bytes.drain(..self.start);
+        self.start = 0;
         self.bytes.extend_from_slice(piece)?;
         Ok(())
     }
@@ -133,10 +135,10 @@ impl LineFeed {
         ensures* left { sem 𝓛 (Rests the_row self.entry
             (λ feed. Leaves self.old.rest result feed.rest × (feed.held ≡ self.old.held))) }
     {
-        let rest = &self.bytes[self.taken..];
+        let rest = &self.bytes[self.start..];
         match front_of(rest, self.searched) {
             Front::Whole(length) => {
-                self.taken = self.taken + length + 1;
+                self.start = self.start + length + 1;
                 self.searched = 0;
                 Ok(Some(&rest[..length]))
             }
@@ -159,7 +161,7 @@ impl LineFeed {
         ensures all_taken { OnOk result (HasNoLine self.now.rest) }
         ensures cut_line { result ≡ Err FeedFault.CutLine → (self.now.rest ≢ []) × ¬ IsTooLong self.now.rest }
     {
-        let rest = &self.bytes[self.taken..];
+        let rest = &self.bytes[self.start..];
         if rest.is_empty() {
             return Ok(());
         }

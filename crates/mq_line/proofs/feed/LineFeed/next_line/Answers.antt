@@ -7,7 +7,7 @@ pub returns-in-Whole : goal.returns-in-Whole
 returns-in-Whole c =
     let here = c.in-Whole.ensures in
     let rest = same_rest _ _ c.self.view_is in
-    let same = rest_is _ _ _ c.self.inside.taken c.deref.ensures.value rest in
+    let same = rest_is _ _ _ c.self.inside.start c.deref.ensures.value rest in
     let cut = sym same ∙ here.1 in
     let leaves = line_leaves _ _ _ _ here.0 cut (rest_stays _ _ _ _ _ same rest) in (
       (refl, λ _. tt, (record { bytes = leaves.0; holds = leaves.1 }, same_held _ _ c.self.view_is)),
@@ -24,7 +24,7 @@ returns-in-Whole c =
 pub returns-in-Open : goal.returns-in-Open
 returns-in-Open c =
     let rest = same_rest _ _ c.self.view_is in
-    let same = rest_is _ _ _ c.self.inside.taken c.deref.ensures.value rest in
+    let same = rest_is _ _ _ c.self.inside.start c.deref.ensures.value rest in
     let is : IsLine c.args.self.now.rest = subst IsLine same c.in-Open.ensures in (
       (refl, λ _. tt, (record { bytes = sym rest; holds = none_leaves _ _ (sym rest) }, same_held _ _ c.self.view_is)),
       record {
@@ -40,7 +40,7 @@ returns-in-Open c =
 pub returns-in-Endless : goal.returns-in-Endless
 returns-in-Endless c =
     let rest = same_rest _ _ c.self.view_is in
-    let same = rest_is _ _ _ c.self.inside.taken c.deref.ensures.value rest in
+    let same = rest_is _ _ _ c.self.inside.start c.deref.ensures.value rest in
     let is : IsTooLong c.args.self.now.rest = subst IsTooLong same c.in-Endless.ensures.0 in (
       (refl, λ _. tt, (record { bytes = sym rest; holds = none_leaves _ _ (sym rest) }, same_held _ _ c.self.view_is)),
       record {
