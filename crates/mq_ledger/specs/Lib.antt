@@ -6,3 +6,4 @@ pub mod Legal
 pub mod Limits
 pub mod Over
 pub mod Page
+pub mod Told

@@ -4,17 +4,17 @@
 #![tactic(auto)]
 
 mod cap;
-mod contract;
 mod entry;
 mod first_over;
 pub mod laws;
+mod ledger;
 mod listing;
 mod plain;
 mod standing;
 mod totals;
 mod zone;
 
-pub use contract::{Ledger, LedgerFault};
 pub use entry::Entry;
+pub use ledger::{Ledger, LedgerFault, Told};
 pub use plain::PlainLedger;
 pub use zone::{BadOffset, Zone};

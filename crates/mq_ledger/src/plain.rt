@@ -10,8 +10,8 @@ ghost use Rattle.mq_ledger.specs.Legal.{IsLegalBook};
 
 mod answer;
 
-use crate::contract::{Ledger, LedgerFault};
 use crate::entry::{Entry, id_of, stored};
+use crate::ledger::{Ledger, LedgerFault};
 use crate::zone::Zone;
 use mq_frame::{Reply, Request};
 use std::alloc::{AllocError, Global};

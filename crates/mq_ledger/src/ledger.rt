@@ -24,13 +24,20 @@ pub enum LedgerFault {
 }
 
 impl From<AllocError> for LedgerFault {
-    ghost use Rattle.mq_ledger.specs.declared.contract.LedgerFault.TheVariants.{Memory};
+    ghost use Rattle.mq_ledger.specs.declared.ledger.LedgerFault.TheVariants.{Memory};
 
     ghost from_gives = { λ _ fault. fault ≡ Memory };
 
     fn from(_error: AllocError) -> LedgerFault {
         LedgerFault::Memory
     }
+}
+
+/// One call of `apply`, as a ledger tells it: what was asked, and how it was answered.
+#[derive(Debug, Drop)]
+pub struct Told {
+    pub request: Request,
+    pub answer: Result<Reply, LedgerFault>,
 }
 
 /// A ledger, by the list of the numbered requests that it applied, each with its reply, oldest
@@ -40,6 +47,13 @@ impl From<AllocError> for LedgerFault {
 /// zone and its default. What is promised of a reply is promised of a sound ledger whose store has
 /// still kept its premise as the call returns.
 pub trait Ledger {
+    ghost use Rattle.std.specs.Prelude.{◌∷◌, [], List, Option, None};
+    ghost use Rattle.mq_ledger.specs.Told.{Tells};
+    ghost use Rattle.mq_ledger.specs.declared.ledger.Told.{Told};
+
+    // The calls of `apply` so far, the oldest first, where the ledger tells them.
+    ghost told: { Self → Option (List Told) } = { λ _. None };
+
     /// Its zone, its default limit and its history.
     ghost book: { Self → Book };
 
@@ -66,6 +80,8 @@ pub trait Ledger {
         requires { IsRequest request.now }
 
         // Of any ledger, sound or not.
+        ensures told { Tells (told self.old) (told self.new)
+            (record { request = request.now; answer = result } ∷ []) }
         ensures in_range { IfOk result IsReply }
         ensures same_zone { (book self.new).zone ≡ (book self.old).zone }
         ensures same_default { (book self.new).default ≡ (book self.old).default }
