@@ -3,15 +3,10 @@
 //! `docs/LEDGER.md` tells the whole meaning, with examples.
 #![tactic(auto)]
 
-mod cap;
 mod entry;
-mod first_over;
 pub mod laws;
 mod ledger;
-mod listing;
 mod plain;
-mod standing;
-mod totals;
 mod zone;
 
 pub use entry::Entry;

@@ -5,8 +5,8 @@ use Rattle.mq_ledger.specs.Day.{day_of}
 use Rattle.mq_ledger.specs.Page.{below, login_on, nearer, logins_above}
 use Rattle.mq_ledger.proofs.Basics.{option_cases}
 use Rattle.mq_ledger.proofs.Pages.{head_push_none, head_push_not_above, head_push_above}
-use Rattle.mq_ledger.proofs.listing.next_login.Goals as goal
-use Rattle.mq_ledger.proofs.listing.next_login.Goals.{in-Some+then-below, in-Some+else-below, in_default}
+use Rattle.mq_ledger.proofs.plain.listing.next_login.Goals as goal
+use Rattle.mq_ledger.proofs.plain.listing.next_login.Goals.{in-Some+then-below, in-Some+else-below, in_default}
 
 pub loop-entry-init : goal.loop-entry-init
 unfolding logins_above

@@ -1,7 +1,7 @@
 use Rattle.std.proofs.Common.{ℕ, ◌<◌, ◌≤◌, ◌-◌}
 use Rattle.mq_ledger.specs.Day.{day_of}
 use Rattle.mq_ledger.specs.History.{used}
-use Rattle.mq_ledger.proofs.first_over.over.Given as goal
+use Rattle.mq_ledger.proofs.plain.first_over.over.Given as goal
 
 abbrev pub invariant-days : goal.invariant-days
 invariant-days l = record {

@@ -2,7 +2,7 @@ use Rattle.std.proofs.Common.{◌≡◌, take, IfSome}
 use Rattle.mq_frame.specs.Range.{IsDay}
 use Rattle.mq_ledger.specs.Day.{day_of}
 use Rattle.mq_ledger.specs.Over.{days_from, least}
-use Rattle.mq_ledger.proofs.first_over.next_day.Given as goal
+use Rattle.mq_ledger.proofs.plain.first_over.next_day.Given as goal
 
 abbrev pub invariant-loop-entry : goal.invariant-loop-entry
 invariant-loop-entry l = record {

@@ -6,8 +6,8 @@ use Rattle.mq_ledger.specs.Day.{day_of}
 use Rattle.mq_ledger.specs.Over.{lesser}
 use Rattle.mq_ledger.proofs.Basics.{either, option_cases}
 use Rattle.mq_ledger.proofs.Overs.{next_other, next_more}
-use Rattle.mq_ledger.proofs.first_over.next_day.Goals as goal
-use Rattle.mq_ledger.proofs.first_over.next_day.Goals.{in-Some, in_default}
+use Rattle.mq_ledger.proofs.plain.first_over.next_day.Goals as goal
+use Rattle.mq_ledger.proofs.plain.first_over.next_day.Goals.{in-Some, in_default}
 
 lesser_day : (d : ℕ) (o : Option ℕ) → IsDay d → IfSome o IsDay → IsDay (lesser d o)
 lesser_day d None h k = h

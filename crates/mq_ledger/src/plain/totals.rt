@@ -4,8 +4,9 @@ ghost use Rattle.mq_frame.specs.Range.{IsRequest};
 ghost use Rattle.mq_ledger.specs.Day.{day_of};
 ghost use Rattle.mq_ledger.specs.History.{concerns, is_open, reserved_of, settled_of, reserved, settled, used};
 
-use crate::entry::{Entry, counted, granted};
-use crate::standing::is_closed;
+use crate::entry::Entry;
+use crate::plain::entries::{counted, granted};
+use crate::plain::standing::is_closed;
 use crate::zone::Zone;
 use mq_frame::{Login, Request};
 

@@ -6,9 +6,9 @@ ghost use Rattle.mq_ledger.specs.Day.{day_of};
 ghost use Rattle.mq_ledger.specs.History.{used};
 ghost use Rattle.mq_ledger.specs.Page.{below, login_on, nearer, logins_above, page, row};
 
-use crate::cap::cap;
 use crate::entry::Entry;
-use crate::totals::{reserved, settled};
+use crate::plain::cap::cap;
+use crate::plain::totals::{reserved, settled};
 use crate::zone::Zone;
 use mq_frame::{Login, Reply, Request, UsageRow};
 use std::alloc::{AllocError, Global};

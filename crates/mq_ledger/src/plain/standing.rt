@@ -5,7 +5,8 @@ ghost use Rattle.mq_frame.specs.declared.message.Reply.{Reply as AnyReply};
 ghost use Rattle.mq_ledger.specs.Answer.{if_open};
 ghost use Rattle.mq_ledger.specs.History.{transaction, is_of, is_at, named, agrees, closed, granted_in, IsOpenTo};
 
-use crate::entry::{Entry, closes, granted};
+use crate::entry::Entry;
+use crate::plain::entries::{closes, granted};
 use mq_frame::{Id, Login, Reply, Request};
 use std::alloc::AllocError;
 

@@ -4,7 +4,7 @@ use Rattle.std.specs.Prelude.{slice_get}
 use Rattle.mq_ledger.specs.Day.{day_of}
 use Rattle.mq_ledger.specs.Page.{row, logins_above}
 use Rattle.mq_ledger.proofs.Pages.{rows_page, rows_more, rows_all}
-use Rattle.mq_ledger.proofs.listing.page.Goals as goal
+use Rattle.mq_ledger.proofs.plain.listing.page.Goals as goal
 
 pub rows-init : goal.rows-init
 rows-init c = rw c.new-rows.ensures.items (rows_page (row (day_of c.args.zone) c.args.default c.args.entries.now c.args.day) (day_of c.args.zone) c.args.entries.now c.args.day c.args.after.now)

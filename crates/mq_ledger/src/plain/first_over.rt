@@ -6,7 +6,7 @@ ghost use Rattle.mq_ledger.specs.History.{used};
 ghost use Rattle.mq_ledger.specs.Over.{day_from, days_from, lesser, least, over};
 
 use crate::entry::Entry;
-use crate::totals::used;
+use crate::plain::totals::used;
 use crate::zone::Zone;
 use mq_frame::{Login, Reply, Request};
 

@@ -3,7 +3,7 @@ use Rattle.std.specs.Prelude.{map}
 use Rattle.mq_ledger.specs.Day.{day_of}
 use Rattle.mq_ledger.specs.Page.{page, row}
 use Rattle.mq_ledger.proofs.Pages.{rows_of}
-use Rattle.mq_ledger.proofs.listing.page.Given as goal
+use Rattle.mq_ledger.proofs.plain.listing.page.Given as goal
 
 abbrev pub invariant-rows : goal.invariant-rows
 invariant-rows l =

@@ -5,7 +5,7 @@ use Rattle.mq_ledger.specs.History.{used}
 use Rattle.mq_ledger.specs.Over.{days_from, least}
 use Rattle.mq_ledger.proofs.Basics.{option_cases, le_or_lt}
 use Rattle.mq_ledger.proofs.Overs.{nothing_before, nothing_on, next_after, least_is_over}
-use Rattle.mq_ledger.proofs.first_over.over.Goals as goal
+use Rattle.mq_ledger.proofs.plain.first_over.over.Goals as goal
 
 pub returns-then-cap-used : goal.returns-then-cap-used
 returns-then-cap-used c =
