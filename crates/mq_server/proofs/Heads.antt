@@ -4,7 +4,7 @@ use Rattle.std.specs.Prelude.{◌⊎◌, nat_lt, ◌==◌}
 use Rattle.std.proofs.lemmas.Bool.Decides.{nat_tests}
 use Rattle.std.proofs.lemmas.List.{take-append-le, drop-append-le, length-append}
 use Rattle.mq_frame.specs.declared.feed.FrameFault.{FrameFault}
-use Rattle.mq_frame.specs.Feed.{Feed, Front, Nothing, Cut, EmptyHead, LongHead, Whole, front, front_behind, next_answer, left_by_next, BeginsWith}
+use Rattle.mq_frame.specs.Feed.{Feed, Front, Nothing, Cut, EmptyHead, LongHead, Whole, front, front_behind, next_answer, left_by_next, BeginsWith, Takes}
 use Rattle.mq_server.specs.Text.{IsBad, IsPartial, next}
 
 either : (b : Bool) → (b ≡ true) ⊎ (b ≡ false)
@@ -140,36 +140,28 @@ gave_err x (Whole a b) e = absurd (ok_err _ _ (sym e))
 abbrev pub Answers : Feed → Result (Option (List ℕ)) FrameFault → Type 0
 Answers feed r = r ≡ next_answer (front feed.limit feed.rest)
 
+at_next : (feed : Feed) (r : Result (Option (List ℕ)) FrameFault) → feed.limit ≡ 512 → Answers feed r → r ≡ next_answer (next feed.rest)
+at_next feed r e a = a ∙ ap (λ (n : ℕ). next_answer (front n feed.rest)) e
+
 -- what such a call leaves
-abbrev pub Left : Feed → Feed → Type 0
-Left old new = new ≡ record { limit = old.limit; rest = left_by_next (front old.limit old.rest) old.rest }
+left_at_next : (old new : Feed) → old.limit ≡ 512 → Takes old new → new.rest ≡ left_by_next (next old.rest) old.rest
+left_at_next old new e left = left.rest ∙ ap (λ (n : ℕ). left_by_next (front n old.rest) old.rest) e
 
-abbrev of_requests : List ℕ → Feed
-of_requests bytes = record { limit = 512; rest = bytes }
-
-is_of : (feed : Feed) → feed.limit ≡ 512 → feed ≡ of_requests feed.rest
-is_of feed e = λ i. record { limit = e i; rest = feed.rest }
-
-pub same_limit : (old new : Feed) → old.limit ≡ 512 → Left old new → new.limit ≡ 512
-same_limit old new e left = ap (λ (f : Feed). f.limit) left ∙ e
+pub same_limit : (old new : Feed) → old.limit ≡ 512 → Takes old new → new.limit ≡ 512
+same_limit old new e left = left.limit ∙ e
 
 pub bad_head : (feed : Feed) (x : FrameFault) → feed.limit ≡ 512 → Answers feed (Err x) → IsBad (next feed.rest)
-bad_head feed x e a = let P : Feed → Type 0 = λ f. Answers f (Err x) in gave_err x (next feed.rest) (subst P (is_of feed e) a)
+bad_head feed x e a = gave_err x (next feed.rest) (at_next feed (Err x) e a)
 
 pub no_frame : (feed : Feed) → feed.limit ≡ 512 → Answers feed (Ok None) → IsPartial (next feed.rest)
-no_frame feed e a = let P : Feed → Type 0 = λ f. Answers f (Ok None) in (gave_none feed.rest (next feed.rest) (subst P (is_of feed e) a)).0
+no_frame feed e a = (gave_none feed.rest (next feed.rest) (at_next feed (Ok None) e a)).0
 
-pub no_frame_left : (old new : Feed) → old.limit ≡ 512 → Answers old (Ok None) → Left old new → new.rest ≡ old.rest
-no_frame_left old new e a left =
-    let P : Feed → Type 0 = λ f. Answers f (Ok None) in
-    let Q : Feed → Type 0 = λ f. Left f new in
-    ap (λ (f : Feed). f.rest) (subst Q (is_of old e) left) ∙ (gave_none old.rest (next old.rest) (subst P (is_of old e) a)).1
+pub no_frame_left : (old new : Feed) → old.limit ≡ 512 → Answers old (Ok None) → Takes old new → new.rest ≡ old.rest
+no_frame_left old new e a left = left_at_next old new e left ∙ (gave_none old.rest (next old.rest) (at_next old (Ok None) e a)).1
 
-pub a_frame : (old new : Feed) (body : List ℕ) → old.limit ≡ 512 → Answers old (Ok (Some body)) → Left old new → next old.rest ≡ Whole body new.rest
+pub a_frame : (old new : Feed) (body : List ℕ) → old.limit ≡ 512 → Answers old (Ok (Some body)) → Takes old new → next old.rest ≡ Whole body new.rest
 a_frame old new body e a left =
-    let P : Feed → Type 0 = λ f. Answers f (Ok (Some body)) in
-    let Q : Feed → Type 0 = λ f. Left f new in
-    gave_some old.rest body (next old.rest) (subst P (is_of old e) a) ∙ ap (λ (f : Feed). Whole body f.rest) (sym (subst Q (is_of old e) left))
+    gave_some old.rest body (next old.rest) (at_next old (Ok (Some body)) e a) ∙ ap (Whole body) (sym (left_at_next old new e left))
 
 pub front_of : (feed : Feed) (bytes : List ℕ) → feed.limit ≡ 512 → feed.rest ≡ bytes → front feed.limit feed.rest ≡ next bytes
 front_of feed bytes e f = ap (λ (n : ℕ). front n feed.rest) e ∙ ap next f

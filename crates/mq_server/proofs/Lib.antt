@@ -4,3 +4,4 @@ pub mod Exits
 pub mod Heads
 pub mod Running
 pub mod Turns
+pub mod Telling

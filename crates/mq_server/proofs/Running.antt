@@ -10,12 +10,15 @@ use Rattle.mq_frame.specs.declared.message.Reply.{Reply}
 use Rattle.mq_frame.specs.Spelling.{SpellsRequest, frame, reply_body}
 use Rattle.mq_frame.specs.Feed.{Whole}
 use Rattle.mq_ledger.specs.declared.entry.Entry.{Entry}
+use Rattle.mq_ledger.specs.declared.ledger.Told.{Told}
 use Rattle.mq_ledger.specs.Legal.{Book, IsLegalBook}
-use Rattle.mq_server.specs.Delivery.{Delivery, asked, history_after, answer_to, answers}
+use Rattle.mq_ledger.specs.Told.{Tells}
+use Rattle.mq_server.specs.Delivery.{Delivery, asked, history_after, answer_to, answers, call, calls}
 use Rattle.mq_server.specs.Connection.{Wire}
 use Rattle.mq_server.specs.Text.{Asks, next, frames_of}
 use Rattle.mq_server.proofs.Deliveries.{Follows, history_none, history_more, answer_more, answers_push}
 use Rattle.mq_server.proofs.Heads.{frames_more, frames_push}
+use Rattle.mq_server.proofs.Telling.{Tells-none, told_push}
 
 -- Of the bytes read these deliveries came, and the ledger's history is the one after them.
 pub record Came (b : Book) (read held : List ℕ) (count : ℕ) (history : List Entry) (came : List Delivery) : Type 0 where
@@ -23,20 +26,23 @@ pub record Came (b : Book) (read held : List ℕ) (count : ℕ) (history : List 
   pub counted : length came ≡ count
   pub stored : history ≡ history_after b came
 
--- Between two wires bytes were read, the deliveries in them were answered, and these bytes are held.
-pub record SoFar (b : Book) (old new : Wire) (held : List ℕ) (count : ℕ) (history : List Entry) : Type 0 where
+-- Between two wires bytes were read, the deliveries in them were answered, and these bytes are held; and between the two
+-- the ledger told of the deliveries.
+pub record SoFar (b : Book) (before now : Option (List Told)) (old new : Wire) (held : List ℕ) (count : ℕ) (history : List Entry) : Type 0 where
   pub came : List Delivery
   pub read : List ℕ
   pub consumed : Consumes old.remaining new.remaining read
   pub written : Appends old.contents new.contents (frames_of (answers (answer_to b) came))
+  pub told : Tells before now (calls (answer_to b) came)
   pub all : Came b read held count history came
 
-pub start : (b : Book) (wire : Wire) → IsLegalBook b → SoFar b wire wire [] 0 b.history
-start b wire legal = record {
+pub start : (b : Book) (t : Option (List Told)) (wire : Wire) → IsLegalBook b → SoFar b t t wire wire [] 0 b.history
+start b t wire legal = record {
   came = [];
   read = [];
   consumed = Consumes-nil _;
   written = Appends-nil _;
+  told = Tells-none t;
   all = record {
     asks = record { bodies = []; frames = refl; each = tt };
     counted = refl;
@@ -44,8 +50,8 @@ start b wire legal = record {
   };
 }
 
-pub start_empty : (b : Book) (wire : Wire) (held : List ℕ) → held ≡ [] → IsLegalBook b → SoFar b wire wire held 0 b.history
-start_empty b wire held e legal = let P : List ℕ → Type 0 = λ q. SoFar b wire wire q 0 b.history in subst P (sym e) (start b wire legal)
+pub start_empty : (b : Book) (t : Option (List Told)) (wire : Wire) (held : List ℕ) → held ≡ [] → IsLegalBook b → SoFar b t t wire wire held 0 b.history
+start_empty b t wire held e legal = let P : List ℕ → Type 0 = λ q. SoFar b t t wire wire q 0 b.history in subst P (sym e) (start b t wire legal)
 
 -- ---- the bytes asked
 
@@ -69,15 +75,16 @@ asks_push bytes held body after ds d a e s =
 pub came_read : (b : Book) (read held piece : List ℕ) (count : ℕ) (history : List Entry) (came : List Delivery) → Came b read held count history came → Came b (read ++ piece) (held ++ piece) count history came
 came_read b read held piece count history came c = record { asks = asks_more read piece (asked came) held c.asks; counted = c.counted; stored = c.stored }
 
-pub read_more : (b : Book) (old mid : Wire) (left : Option (List ℕ)) (held now piece : List ℕ) (count : ℕ) (history : List Entry)
-    → SoFar b old mid held count history → Consumes mid.remaining left piece → now ≡ held ++ piece → SoFar b old (record { remaining = left; contents = mid.contents }) now count history
-read_more b old mid left held now piece count history s consumed e =
+pub read_more : (b : Book) (t u : Option (List Told)) (old mid : Wire) (left : Option (List ℕ)) (held now piece : List ℕ) (count : ℕ) (history : List Entry)
+    → SoFar b t u old mid held count history → Consumes mid.remaining left piece → now ≡ held ++ piece → SoFar b t u old (record { remaining = left; contents = mid.contents }) now count history
+read_more b t u old mid left held now piece count history s consumed e =
     let P : List ℕ → Type 0 = λ q. Came b (s.read ++ piece) q count history s.came in
     record {
       came = s.came;
       read = s.read ++ piece;
       consumed = Consumes-trans _ _ _ _ _ s.consumed consumed;
       written = s.written;
+      told = s.told;
       all = subst P (sym e) (came_read b s.read held piece count history s.came s.all);
     }
 
@@ -118,13 +125,14 @@ answer_written b k read held count came d x old mid new f c e before sent =
     let P : List ℕ → Type 0 = λ q. Appends old new q in
     subst P (sym told) (Appends-trans old mid new _ _ before sent)
 
-pub answered_more : (b k : Book) (old mid : Wire) (holds : Option (List ℕ)) (held body after : List ℕ) (count : ℕ) (history : List Entry) (d : Delivery) (x : Reply)
-    → Finds b k → SoFar b old mid held count k.history → next held ≡ Whole body after → SpellsRequest body d.request → x ≡ answer_to k [] d → history ≡ history_after k (d ∷ [])
-    → Appends mid.contents holds (frame (reply_body x)) → SoFar b old (record { remaining = mid.remaining; contents = holds }) after (count + 1) history
-answered_more b k old mid holds held body after count history d x f s e spelled a h sent = record {
+pub answered_more : (b k : Book) (t u v : Option (List Told)) (old mid : Wire) (holds : Option (List ℕ)) (held body after : List ℕ) (count : ℕ) (history : List Entry) (d : Delivery) (x : Reply)
+    → Finds b k → SoFar b t u old mid held count k.history → next held ≡ Whole body after → SpellsRequest body d.request → x ≡ answer_to k [] d → history ≡ history_after k (d ∷ [])
+    → Tells u v (call d x ∷ []) → Appends mid.contents holds (frame (reply_body x)) → SoFar b t v old (record { remaining = mid.remaining; contents = holds }) after (count + 1) history
+answered_more b k t u v old mid holds held body after count history d x f s e spelled a h tells sent = record {
   came = s.came ++ d ∷ [];
   read = s.read;
   consumed = s.consumed;
   written = answer_written b k s.read held count s.came d x old.contents mid.contents holds f s.all a s.written sent;
+  told = told_push (answer_to b) s.came d x t u v (due_here b k s.read held count s.came d x f s.all a) s.told tells;
   all = came_more b k s.read held body after count history s.came d f s.all e spelled h;
 }

@@ -1,16 +1,23 @@
 -- One connection more is served.
-use Rattle.std.proofs.Common.{◌≡◌, ℕ, zero, suc, ◌<◌, List, [], ◌∷◌, ◌++◌, length, map, get_or, set, refl, sym, ap, subst, ◌∙◌, arith, Option, Result}
+use Rattle.std.proofs.Common.{◌≡◌, ℕ, zero, suc, ◌<◌, List, [], ◌∷◌, ◌++◌, length, map, get_or, set, refl, sym, ap, subst, ◌∙◌, append-nil, append_assoc, arith, Option, Result, Ok, Err}
 use Rattle.std.specs.List.{AllZip}
 use Rattle.std.proofs.lemmas.List.{map-set, get_or-map, length-map}
 use Rattle.mq_frame.specs.declared.message.Reply.{Reply}
+use Rattle.mq_frame.specs.declared.message.Request.{Request}
 use Rattle.mq_ledger.specs.declared.entry.Entry.{Entry}
+use Rattle.mq_ledger.specs.declared.ledger.Told.{Told}
 use Rattle.mq_ledger.specs.Legal.{Book}
+use Rattle.mq_ledger.specs.Told.{Tells}
 use Rattle.mq_server.specs.declared.connection.Served.{Served}
+use Rattle.mq_server.specs.declared.connections.ConnectionEnd.{ConnectionEnd}
+use Rattle.mq_server.specs.declared.connections.ConnectionEnd.TheVariants as ends
 use Rattle.mq_server.specs.declared.fault.ServeFault.{ServeFault}
-use Rattle.mq_server.specs.Delivery.{Delivery, answer_to, history_after}
-use Rattle.mq_server.specs.Connection.{Wire, Serves}
-use Rattle.mq_server.specs.Connections.{wires, AreServed}
+use Rattle.mq_server.specs.declared.fault.ServeFault.TheVariants.{Read, Write, Memory, Store}
+use Rattle.mq_server.specs.Delivery.{Delivery, answer_to, history_after, calls, failed_call}
+use Rattle.mq_server.specs.Connection.{Wire, Serves, calls_of}
+use Rattle.mq_server.specs.Connections.{wires, result_of, AreServed}
 use Rattle.mq_server.proofs.Deliveries.{Follows, answer_more, history_more}
+use Rattle.mq_server.proofs.Telling.{Tells-trans, calls_more}
 
 abbrev wire : Option (List ℕ) → Option (List ℕ) → Wire
 wire left holds = record { remaining = left; contents = holds }
@@ -64,16 +71,12 @@ serves_from b k seen came old new result f s =
     subst P same s
 
 module _ {S W : Type 0} (left : S → Option (List ℕ)) (held : W → Option (List ℕ)) where
-  abbrev pub All : Book → List Wire → List S → List W → List (Result Served ServeFault) → List Entry → Type 0
-  All b olds inputs outputs results history =
-      (seen : List Delivery) × AreServed b [] olds (wires (map left inputs) (map held outputs)) results seen × (history ≡ history_after b seen)
-
   pub turn : (b k : Book) (olds : List Wire) (inputs : List S) (outputs : List W) (i : ℕ) (input input' : S) (output output' : W) (results all : List (Result Served ServeFault)) (result : Result Served ServeFault) (seen : List Delivery) (history : List Entry)
       → length inputs ≡ length outputs → i < length inputs → length results ≡ i → input ≡ get_or inputs i input → output ≡ get_or outputs i output
       → AreServed b [] olds (wires (map left inputs) (map held outputs)) results seen → Follows b k seen
-      → (came : List Delivery) × Serves (answer_to k) came (wire (left input) (held output)) (wire (left input') (held output')) result × (history ≡ history_after k came)
-      → results ++ result ∷ [] ≡ all → All b olds (set inputs i input') (set outputs i output') all history
-  turn b k olds inputs outputs i input input' output output' results all result seen history pairs here counted from_input from_output told f (came, served, stored) named =
+      → (came : List Delivery) → Serves (answer_to k) came (wire (left input) (held output)) (wire (left input') (held output')) result → history ≡ history_after k came
+      → results ++ result ∷ [] ≡ all → AreServed b [] olds (wires (map left (set inputs i input')) (map held (set outputs i output'))) all (seen ++ came) × (history ≡ history_after b (seen ++ came))
+  turn b k olds inputs outputs i input input' output output' results all result seen history pairs here counted from_input from_output told f came served stored named =
       let lefts = map left inputs in
       let holds = map held outputs in
       let same : length lefts ≡ length holds = omega (arith, length-map inputs left, length-map outputs held) in
@@ -87,10 +90,54 @@ module _ {S W : Type 0} (left : S → Option (List ℕ)) (held : W → Option (L
       let R : List Wire → Type 0 = λ ws. AreServed b [] olds ws (results ++ result ∷ []) (seen ++ came) in
       let N : List (Result Served ServeFault) → Type 0 = λ rs. AreServed b [] olds (wires (map left (set inputs i input')) (map held (set outputs i output'))) rs (seen ++ came) in
       let one = served_push b [] seen came olds (wires lefts holds) results (wire (left input) (held output)) (wire (left input') (held output')) result told (omega (arith, length-wires lefts holds same, length-map inputs left)) (subst P (sym counted) at) (serves_from b k seen came _ _ result f served) in (
-        seen ++ came,
         subst N named (subst R after (subst Q counted one)),
         stored ∙ history_more b k seen came f,
       )
+
+-- ---- what the ledger told
+
+same_answers : (b k : Book) (seen : List Delivery) → Follows b k seen → answer_to k ≡ from b seen
+same_answers b k seen f = λ i ds d. answer_more b k seen ds d f i
+
+calls_turn : (b k : Book) (seen came : List Delivery) → Follows b k seen → calls (answer_to b) seen ++ calls (answer_to k) came ≡ calls (answer_to b) (seen ++ came)
+calls_turn b k seen came f =
+    ap (λ (a : List Delivery → Delivery → Reply). calls (answer_to b) seen ++ calls a came) (same_answers b k seen f) ∙ sym (calls_more (answer_to b) seen came)
+
+-- the calls of a connection at which the store didn't fail are those of its deliveries
+calls_unfailed : {answer : List Delivery → Delivery → Reply} {came : List Delivery} {old new : Wire} (end : ConnectionEnd) (result : Result Served ServeFault) (s : Serves answer came old new result) → result_of end ≡ result → calls_of s ≡ calls answer came
+calls_unfailed {answer = answer} {came = came} end (Ok e) s is = append-nil (calls answer came)
+calls_unfailed {answer = answer} {came = came} end (Err Read) s is = append-nil (calls answer came)
+calls_unfailed {answer = answer} {came = came} end (Err Write) s is = append-nil (calls answer came)
+calls_unfailed {answer = answer} {came = came} end (Err Memory) s is = append-nil (calls answer came)
+calls_unfailed (ends.Served e) (Err Store) s is = cc
+calls_unfailed ends.Read (Err Store) s is = cc
+calls_unfailed ends.Write (Err Store) s is = cc
+calls_unfailed ends.Memory (Err Store) s is = cc
+
+-- and of one at which it failed, the failed call behind them
+calls_failed : {answer : List Delivery → Delivery → Reply} {came : List Delivery} {old new : Wire} (result : Result Served ServeFault) (s : Serves answer came old new result) → result ≡ Err Store → (request : Request) × (calls_of s ≡ calls answer came ++ failed_call request ∷ [])
+calls_failed (Ok e) s is = cc
+calls_failed (Err Read) s is = cc
+calls_failed (Err Write) s is = cc
+calls_failed (Err Memory) s is = cc
+calls_failed (Err Store) s is = (s.leaves.request, refl)
+
+pub told_turn : (b k : Book) (t u v : Option (List Told)) (seen came : List Delivery) {old new : Wire} (end : ConnectionEnd) (result : Result Served ServeFault) (s : Serves (answer_to k) came old new result)
+    → Follows b k seen → result_of end ≡ result → Tells t u (calls (answer_to b) seen) → Tells u v (calls_of s) → Tells t v (calls (answer_to b) (seen ++ came))
+told_turn b k t u v seen came end result s f is before tells =
+    let P : List Told → Type 0 = λ q. Tells u v q in
+    let Q : List Told → Type 0 = λ q. Tells t v q in
+    subst Q (calls_turn b k seen came f) (Tells-trans t u v _ _ before (subst P (calls_unfailed end result s is) tells))
+
+pub told_failed : (b k : Book) (t u v : Option (List Told)) (seen came : List Delivery) {old new : Wire} (result : Result Served ServeFault) (s : Serves (answer_to k) came old new result)
+    → Follows b k seen → result ≡ Err Store → Tells t u (calls (answer_to b) seen) → Tells u v (calls_of s) → (request : Request) × Tells t v (calls (answer_to b) (seen ++ came) ++ failed_call request ∷ [])
+told_failed b k t u v seen came result s f is before tells =
+    let (request, those) = calls_failed result s is in
+    let P : List Told → Type 0 = λ q. Tells u v q in
+    let Q : List Told → Type 0 = λ q. Tells t v q in
+    let all : calls (answer_to b) seen ++ (calls (answer_to k) came ++ failed_call request ∷ []) ≡ calls (answer_to b) (seen ++ came) ++ failed_call request ∷ [] =
+    sym (append_assoc (calls (answer_to b) seen) (calls (answer_to k) came) (failed_call request ∷ [])) ∙ ap (λ (q : List Told). q ++ failed_call request ∷ []) (calls_turn b k seen came f) in
+    (request, subst Q all (Tells-trans t u v _ _ before (subst P those tells)))
 
 -- ---- what holds of each end and its source or sink
 

@@ -1,14 +1,15 @@
 -- What the serving of one connection reads and writes.
-use Rattle.std.specs.Prelude.{◌≡◌, ℕ, ◌+◌, ◌<◌, List, length, Option, Result, Ok, Err}
+use Rattle.std.specs.Prelude.{◌≡◌, ℕ, ◌+◌, ◌<◌, List, [], ◌∷◌, ◌++◌, length, Option, Result, Ok, Err}
 use Rattle.std.specs.Io.KnownBytes.{Appends, Consumes}
 use Rattle.mq_frame.specs.declared.feed.TheConstants.{REQUEST_LIMIT}
 use Rattle.mq_frame.specs.declared.message.Reply.{Reply}
 use Rattle.mq_frame.specs.Feed.{Front}
+use Rattle.mq_ledger.specs.declared.ledger.Told.{Told}
 use Rattle.mq_server.specs.declared.connection.Served.{Served}
 use Rattle.mq_server.specs.declared.fault.ServeFault.{ServeFault}
 use Rattle.mq_server.specs.declared.fault.ServeFault.TheVariants.{Read, Write, Memory, Store}
 use Rattle.mq_server.specs.declared.input.TheConstants.{PIECE}
-use Rattle.mq_server.specs.Delivery.{Delivery, asked}
+use Rattle.mq_server.specs.Delivery.{Delivery, asked, calls, failed_call}
 use Rattle.mq_server.specs.Text.{Asks, IsEnd, next, served}
 use Rattle.mq_server.specs.Exits.{LeavesAtRead, LeavesAtWrite, LeavesAtMemory, LeavesAtStore}
 
@@ -36,3 +37,18 @@ pub record Serves (answer : List Delivery → Delivery → Reply) (came : List D
   pub asks : Asks read (asked came) rest
   pub ahead : length rest < REQUEST_LIMIT + 2 + PIECE
   pub leaves : Leaves answer came (next rest) text new.remaining result
+
+-- the call behind those of the deliveries: the one at which the store failed, where it did
+abbrev pub last_call : (answer : List Delivery → Delivery → Reply) (came : List Delivery) (behind : Front) (text : List ℕ)
+    (left : Option (List ℕ)) (result : Result Served ServeFault) → Leaves answer came behind text left result → List Told
+last_call answer came behind text left (Ok e) leaves = []
+last_call answer came behind text left (Err Read) leaves = []
+last_call answer came behind text left (Err Write) leaves = []
+last_call answer came behind text left (Err Memory) leaves = []
+last_call answer came behind text left (Err Store) leaves = failed_call leaves.request ∷ []
+
+-- the calls of `apply` that the serving of a connection made, each with its answer
+abbrev pub calls_of : {answer : List Delivery → Delivery → Reply} {came : List Delivery} {old new : Wire} {result : Result Served ServeFault}
+    → Serves answer came old new result → List Told
+calls_of {answer = answer} {came = came} {new = new} {result = result} s =
+    calls answer came ++ last_call answer came (next s.rest) s.text new.remaining result s.leaves

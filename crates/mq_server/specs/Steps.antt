@@ -6,12 +6,14 @@ use Rattle.mq_frame.specs.declared.message.Reply.{Reply}
 use Rattle.mq_frame.specs.Spelling.{SpellsRequest}
 use Rattle.mq_frame.specs.Feed.{Front, Nothing}
 use Rattle.mq_ledger.specs.declared.entry.Entry.{Entry}
+use Rattle.mq_ledger.specs.declared.ledger.Told.{Told}
 use Rattle.mq_ledger.specs.Legal.{Book}
+use Rattle.mq_ledger.specs.Told.{Tells}
 use Rattle.mq_server.specs.declared.connection.Served.{Served}
 use Rattle.mq_server.specs.declared.connection.Served.TheVariants.{Ended, CutFrame}
 use Rattle.mq_server.specs.declared.fault.ServeFault.{ServeFault}
 use Rattle.mq_server.specs.declared.fault.ServeFault.TheVariants.{Read, Write, Memory, Store}
-use Rattle.mq_server.specs.Delivery.{Delivery, answer_to, history_after}
+use Rattle.mq_server.specs.Delivery.{Delivery, answer_to, history_after, call, failed_call}
 use Rattle.mq_server.specs.Exits.{IsPart}
 use Rattle.mq_server.specs.Text.{SpellsNone}
 
@@ -36,15 +38,18 @@ Refills old new piece left (Err Memory) = new ≡ old
 Refills old new piece left (Err Write) = ⊥
 Refills old new piece left (Err Store) = ⊥
 
--- A body was put to a ledger of that book, which then has this history: its request came and has an answer; or it
--- spells none; or the request couldn't come.
-abbrev pub Takes : Book → List ℕ → Result (Option Reply) ServeFault → List Entry → Type 0
-Takes b body (Ok (Some answer)) history = (d : Delivery) × SpellsRequest body d.request × (answer ≡ answer_to b [] d) × (history ≡ history_after b (d ∷ []))
-Takes b body (Ok None) history = SpellsNone body × (history ≡ b.history)
-Takes b body (Err Memory) history = history ≡ b.history
-Takes b body (Err Store) history = (request : Request) × SpellsRequest body request × (history ≡ b.history)
-Takes b body (Err Read) history = ⊥
-Takes b body (Err Write) history = ⊥
+-- A body was put to a ledger of that book, which then has this history and tells that more: its request came and has
+-- an answer; or it spells none; or the request had no room, and wasn't put; or the store failed at it.
+abbrev pub Takes : Book → Option (List Told) → List ℕ → Result (Option Reply) ServeFault → List Entry → Option (List Told) → Type 0
+Takes b told body (Ok (Some answer)) history tells =
+    (d : Delivery) × SpellsRequest body d.request × (answer ≡ answer_to b [] d) × (history ≡ history_after b (d ∷ []))
+    × Tells told tells (call d answer ∷ [])
+Takes b told body (Ok None) history tells = SpellsNone body × (history ≡ b.history) × Tells told tells []
+Takes b told body (Err Memory) history tells = (history ≡ b.history) × Tells told tells []
+Takes b told body (Err Store) history tells =
+    (request : Request) × SpellsRequest body request × (history ≡ b.history) × Tells told tells (failed_call request ∷ [])
+Takes b told body (Err Read) history tells = ⊥
+Takes b told body (Err Write) history tells = ⊥
 
 -- how a connection ends whose input does, by what stands behind the frames that were answered
 abbrev pub end_at : Front → Served

@@ -28,7 +28,7 @@ pub fn take<L: Ledger>(
     // Of a sound one that has kept its premise.
     ensures sound { L.has_kept ledger.new → L.is_sound ledger.old → L.is_sound ledger.new }
     ensures takes { L.has_kept ledger.new → L.is_sound ledger.old →
-        Takes (L.book ledger.old) body.now result (L.book ledger.new).history }
+        Takes (L.book ledger.old) (L.told ledger.old) body.now result (L.book ledger.new).history (L.told ledger.new) }
 {
     let request = match decode_request(alloc, body) {
         Ok(request) => request,

@@ -1,6 +1,7 @@
 //! One connection: each whole frame is answered before the next read.
 ghost use Rattle.std.specs.Prelude.{◌≡◌, ◌≢◌, true, false, List, Err};
-ghost use Rattle.mq_server.specs.Connection.{Serves};
+ghost use Rattle.mq_ledger.specs.Told.{Tells};
+ghost use Rattle.mq_server.specs.Connection.{Serves, calls_of};
 ghost use Rattle.mq_server.specs.Delivery.{Delivery, history_after, answer_to};
 ghost use Rattle.mq_server.specs.Steps.{end_at};
 ghost use Rattle.mq_frame.specs.Feed.{front};
@@ -70,10 +71,11 @@ pub fn serve<S: Source, W: Sink, L: Ledger>(
     // Of a sound one that has kept its premise.
     ensures sound { L.has_kept ledger.new → L.is_sound ledger.old → L.is_sound ledger.new }
     ensures serves { L.has_kept ledger.new → L.is_sound ledger.old → (came : List Delivery)
-        × Serves (answer_to (L.book ledger.old)) came
+        × (s : Serves (answer_to (L.book ledger.old)) came
         (record { remaining = S.remaining input.old; contents = W.contents output.old })
-        (record { remaining = S.remaining input.new; contents = W.contents output.new }) result
-        × ((L.book ledger.new).history ≡ history_after (L.book ledger.old) came) }
+        (record { remaining = S.remaining input.new; contents = W.contents output.new }) result)
+        × ((L.book ledger.new).history ≡ history_after (L.book ledger.old) came)
+        × Tells (L.told ledger.old) (L.told ledger.new) (calls_of s) }
 {
     let mut feed = FrameFeed::new(alloc, REQUEST_LIMIT);
     let mut answered = 0;

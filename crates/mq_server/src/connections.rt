@@ -1,9 +1,11 @@
 //! Several connections, one after another.
 ghost use Rattle.std.specs.Prelude.{◌≡◌, ◌⊎◌, [], ◌∷◌, ◌++◌, true, length, map, List, Err, IfOk, IfErr, OnErr};
 ghost use Rattle.std.specs.List.{AllZip};
+ghost use Rattle.mq_frame.specs.declared.message.Request.{Request as AnyRequest};
+ghost use Rattle.mq_ledger.specs.Told.{Tells};
 ghost use Rattle.mq_server.specs.declared.connections.ConnectionEnd.{ConnectionEnd as AnEnd};
 ghost use Rattle.mq_server.specs.Connections.{wires, result_of, AreServed};
-ghost use Rattle.mq_server.specs.Delivery.{Delivery, history_after};
+ghost use Rattle.mq_server.specs.Delivery.{Delivery, answer_to, history_after, calls, failed_call};
 
 use crate::connection::{Served, serve};
 use crate::fault::ServeFault;
@@ -69,13 +71,16 @@ pub fn serve_all<S: Source, W: Sink, L: Ledger>(
         × AreServed (L.book ledger.old) []
         (wires (map S.remaining inputs.old) (map W.contents outputs.old))
         (wires (map S.remaining inputs.new) (map W.contents outputs.new)) (map result_of ends.items) seen
-        × ((L.book ledger.new).history ≡ history_after (L.book ledger.old) seen)) }
+        × ((L.book ledger.new).history ≡ history_after (L.book ledger.old) seen)
+        × Tells (L.told ledger.old) (L.told ledger.new) (calls (answer_to (L.book ledger.old)) seen)) }
     ensures store { L.has_kept ledger.new → L.is_sound ledger.old → result ≡ Err ServeFault.Store →
         (ends : List AnEnd) × (seen : List Delivery)
         × AreServed (L.book ledger.old) []
         (wires (map S.remaining inputs.old) (map W.contents outputs.old))
         (wires (map S.remaining inputs.new) (map W.contents outputs.new)) (map result_of ends ++ Err ServeFault.Store ∷ []) seen
-        × ((L.book ledger.new).history ≡ history_after (L.book ledger.old) seen) }
+        × ((L.book ledger.new).history ≡ history_after (L.book ledger.old) seen)
+        × ((request : AnyRequest) × Tells (L.told ledger.old) (L.told ledger.new)
+        (calls (answer_to (L.book ledger.old)) seen ++ failed_call request ∷ [])) }
 {
     let mut ends = Vec::with_capacity(alloc, inputs.len())?;
     for i in 0..inputs.len() {

@@ -1,6 +1,5 @@
 use Rattle.std.proofs.Common.{◌≡◌, ℕ, ◌+◌, List, [], ◌++◌, length, refl, ap, subst, ◌∙◌, arith, true, false, Ok, Err, Some, None, Option, Bool, length-append}
 use Rattle.std.proofs.lemmas.Result.{err_from_is_err_and}
-use Rattle.mq_frame.specs.Feed.{Feed}
 use Rattle.mq_frame.specs.declared.message.Reply.{Reply}
 use Rattle.mq_server.specs.Steps.{Refills, Takes, end_at}
 use Rattle.mq_server.specs.declared.fault.ServeFault.{ServeFault}
@@ -14,9 +13,9 @@ no_fault x fault e = cc
 
 pub frames-init : goal.frames-init
 frames-init g c =
-    let empty : c.new-feed.result.rest ≡ [] = ap (λ (f : Feed). f.rest) c.new-feed.ensures in
+    let empty : c.new-feed.result.rest ≡ [] = c.new-feed.ensures.rest in
     record {
-      limit = ap (λ (f : Feed). f.limit) c.new-feed.ensures;
+      limit = c.new-feed.ensures.limit;
       under = omega arith;
       ahead = omega (arith, ap length empty);
       source_works = λ w. w;
@@ -26,14 +25,14 @@ frames-init g c =
       same_default = refl;
       was_kept = λ k. k;
       stays_sound = λ k s. s;
-      so_far = λ k s. start_empty (g.L.Ledger.book c.args.ledger.now) _ c.new-feed.result.rest empty (g.met.L.Ledger.sound_is_legal c.args.ledger.now s);
+      so_far = λ k s. start_empty (g.L.Ledger.book c.args.ledger.now) _ _ c.new-feed.result.rest empty (g.met.L.Ledger.sound_is_legal c.args.ledger.now s);
     }
 
 pub returns-in-Err-clause-serves : goal.returns-in-Err-clause-serves
 returns-in-Err-clause-serves g c = λ kept sound.
     let i = c.frames.invariant in
     let bad = bad_head c.frames.feed c.in-Err.field-0 i.limit c.in-Err.ensures.answer in
-    refused (g.L.Ledger.book c.args.ledger.now) _ _ _ c.frames.feed.rest c.frames.answered _ c.refuse.result i.under i.ahead bad (i.so_far kept sound) c.refuse.ensures.ok c.refuse.ensures.err
+    refused (g.L.Ledger.book c.args.ledger.now) _ _ _ _ _ c.frames.feed.rest c.frames.answered _ c.refuse.result i.under i.ahead bad (i.so_far kept sound) c.refuse.ensures.ok c.refuse.ensures.err
 
 pub returns-in_err-refill-in-Ok-None-clause-serves : goal.returns-in_err-refill-in-Ok-None-clause-serves
 returns-in_err-refill-in-Ok-None-clause-serves g c = λ kept sound.
@@ -42,7 +41,7 @@ returns-in_err-refill-in-Ok-None-clause-serves g c = λ kept sound.
     let answer : Answers c.frames.feed (Ok None) = rw c.in-Ok-None.field-0-is at c.in-Ok-None.ensures.answer in
     let partial = no_frame c.frames.feed i.limit answer in
     let (piece, small, consumed, told) = c.in_err-refill-in-Ok-None.ensures.reads in
-    exits_as (g.L.Ledger.book c.args.ledger.now) _ _ _ _ _ (p.1 ∙ ap Err p.2) (refill_failed (g.L.Ledger.book c.args.ledger.now) _ _ _ c.frames.feed.rest _ _ piece c.frames.answered _ _ i.under partial small (i.so_far kept sound) consumed told)
+    exits_as (g.L.Ledger.book c.args.ledger.now) _ _ _ _ _ _ _ (p.1 ∙ ap Err p.2) (refill_failed (g.L.Ledger.book c.args.ledger.now) _ _ _ _ _ c.frames.feed.rest _ _ piece c.frames.answered _ _ i.under partial small (i.so_far kept sound) consumed told)
 
 pub returns-then-not-branch-clause-serves : goal.returns-then-not-branch-clause-serves
 returns-then-not-branch-clause-serves g c = λ kept sound.
@@ -54,7 +53,7 @@ returns-then-not-branch-clause-serves g c = λ kept sound.
     let ended : Refills c.next_body.follows.lender-at-none.rest c.refill.new.feed.rest piece (g.S.Source.remaining c.refill.new.input) (Ok false) = let P : Bool → Type 0 = λ b. Refills c.next_body.follows.lender-at-none.rest c.refill.new.feed.rest piece (g.S.Source.remaining c.refill.new.input) (Ok b) in subst P c.if-not-branch.true told in
     let limit = c.refill.ensures.same_limit ∙ same_limit c.frames.feed c.next_body.follows.lender-at-none i.limit c.next_body.follows.holds-at-none in
     let same = c.input_end.ensures ∙ ap end_at (front_of c.refill.new.feed c.frames.feed.rest limit (ended.2 ∙ still)) in
-    input_ended (g.L.Ledger.book c.args.ledger.now) _ _ _ c.frames.feed.rest piece c.frames.answered _ c.input_end.result i.under partial (i.so_far kept sound) consumed ended.0 ended.1 same
+    input_ended (g.L.Ledger.book c.args.ledger.now) _ _ _ _ _ c.frames.feed.rest piece c.frames.answered _ c.input_end.result i.under partial (i.so_far kept sound) consumed ended.0 ended.1 same
 
 pub frames-preserved-else-not-branch : goal.frames-preserved-else-not-branch
 frames-preserved-else-not-branch g c =
@@ -76,7 +75,7 @@ frames-preserved-else-not-branch g c =
       same_default = i.same_default;
       was_kept = i.was_kept;
       stays_sound = i.stays_sound;
-      so_far = λ k s. read_more (g.L.Ledger.book c.args.ledger.now) _ _ _ c.frames.feed.rest c.refill.new.feed.rest piece c.frames.answered _ (i.so_far k s) consumed grown;
+      so_far = λ k s. read_more (g.L.Ledger.book c.args.ledger.now) _ _ _ _ _ c.frames.feed.rest c.refill.new.feed.rest piece c.frames.answered _ (i.so_far k s) consumed grown;
     }
 
 pub frames-smaller-else-not-branch : goal.frames-smaller-else-not-branch
@@ -99,7 +98,7 @@ returns-in_err-take-in-Ok-Some-clause-serves g c = λ kept sound.
     let s = i.so_far before sound in
     let p = err_from_is_err_and c.from_residual-in_err-take-in-Ok-Some.result c.from_residual-in_err-take-in-Ok-Some.ensures.1 in
     let told = c.in_err-take-in-Ok-Some.ensures.takes kept (i.stays_sound before sound) in
-    exits_as (g.L.Ledger.book c.args.ledger.now) _ _ _ _ _ (p.1 ∙ ap Err p.2) (take_failed (g.L.Ledger.book c.args.ledger.now) (g.L.Ledger.book c.frames.ledger) _ _ c.in-Ok-Some.body.now _ c.frames.feed.rest c.frames.answered _ _ i.under i.ahead stands s told)
+    exits_as (g.L.Ledger.book c.args.ledger.now) _ _ _ _ _ _ _ (p.1 ∙ ap Err p.2) (take_failed (g.L.Ledger.book c.args.ledger.now) (g.L.Ledger.book c.frames.ledger) _ _ _ _ _ c.in-Ok-Some.body.now _ c.frames.feed.rest c.frames.answered _ _ i.under i.ahead stands s told)
 
 pub returns-in-None-clause-serves : goal.returns-in-None-clause-serves
 returns-in-None-clause-serves g c = λ kept sound.
@@ -107,10 +106,10 @@ returns-in-None-clause-serves g c = λ kept sound.
     let answer : Answers c.frames.feed (Ok (Some c.in-Ok-Some.body.now)) = rw c.in-Ok-Some.field-0-is at c.in-Ok-Some.ensures.answer in
     let stands = a_frame c.frames.feed c.next_body.follows.lender-at-none c.in-Ok-Some.body.now i.limit answer c.next_body.follows.holds-at-none in
     let before = c.take.ensures.kept kept in
-    let P : Option Reply → Type 0 = λ o. Takes (g.L.Ledger.book c.frames.ledger) c.in-Ok-Some.body.now (Ok o) (g.L.Ledger.book c.take.new.ledger).history in
+    let P : Option Reply → Type 0 = λ o. Takes (g.L.Ledger.book c.frames.ledger) (g.L.Ledger.told c.frames.ledger) c.in-Ok-Some.body.now (Ok o) (g.L.Ledger.book c.take.new.ledger).history (g.L.Ledger.told c.take.new.ledger) in
     let told = subst P c.in-None.is (c.in_ok-take-in-Ok-Some.ensures.takes kept (i.stays_sound before sound)) in
-    let (bad, s) = no_request (g.L.Ledger.book c.args.ledger.now) _ _ (g.L.Ledger.book c.frames.ledger) c.in-Ok-Some.body.now _ c.frames.feed.rest c.frames.answered _ stands told (i.so_far before sound) in
-    refused (g.L.Ledger.book c.args.ledger.now) _ _ _ c.frames.feed.rest c.frames.answered _ c.refuse-in-None.result i.under i.ahead bad s c.refuse-in-None.ensures.ok c.refuse-in-None.ensures.err
+    let (bad, s) = no_request (g.L.Ledger.book c.args.ledger.now) _ _ _ _ _ (g.L.Ledger.book c.frames.ledger) c.in-Ok-Some.body.now _ c.frames.feed.rest c.frames.answered _ stands told (i.so_far before sound) in
+    refused (g.L.Ledger.book c.args.ledger.now) _ _ _ _ _ c.frames.feed.rest c.frames.answered _ c.refuse-in-None.result i.under i.ahead bad s c.refuse-in-None.ensures.ok c.refuse-in-None.ensures.err
 
 pub returns-in_err-send-in-Some-clause-serves : goal.returns-in_err-send-in-Some-clause-serves
 returns-in_err-send-in-Some-clause-serves g c = λ kept sound.
@@ -118,12 +117,12 @@ returns-in_err-send-in-Some-clause-serves g c = λ kept sound.
     let answer : Answers c.frames.feed (Ok (Some c.in-Ok-Some.body.now)) = rw c.in-Ok-Some.field-0-is at c.in-Ok-Some.ensures.answer in
     let stands = a_frame c.frames.feed c.next_body.follows.lender-at-none c.in-Ok-Some.body.now i.limit answer c.next_body.follows.holds-at-none in
     let before = c.take.ensures.kept kept in
-    let P : Option Reply → Type 0 = λ o. Takes (g.L.Ledger.book c.frames.ledger) c.in-Ok-Some.body.now (Ok o) (g.L.Ledger.book c.take.new.ledger).history in
+    let P : Option Reply → Type 0 = λ o. Takes (g.L.Ledger.book c.frames.ledger) (g.L.Ledger.told c.frames.ledger) c.in-Ok-Some.body.now (Ok o) (g.L.Ledger.book c.take.new.ledger).history (g.L.Ledger.told c.take.new.ledger) in
     let told = subst P c.in-Some.is (c.in_ok-take-in-Ok-Some.ensures.takes kept (i.stays_sound before sound)) in
     let p = err_from_is_err_and c.from_residual-in_err-send-in-Some.result c.from_residual-in_err-send-in-Some.ensures.1 in
     let finds : Finds (g.L.Ledger.book c.args.ledger.now) (g.L.Ledger.book c.frames.ledger) = record { zone = i.same_zone; default = i.same_default; legal = g.met.L.Ledger.sound_is_legal c.frames.ledger (i.stays_sound before sound) } in
-    exits_as (g.L.Ledger.book c.args.ledger.now) _ _ _ _ _ (p.1 ∙ ap Err p.2)
-    (send_failed (g.L.Ledger.book c.args.ledger.now) (g.L.Ledger.book c.frames.ledger) _ _ _ c.frames.feed.rest c.in-Ok-Some.body.now _ c.frames.answered _ c.in-Some.reply _ i.under i.ahead finds (i.so_far before sound) stands told c.in_err-send-in-Some.ensures.err)
+    exits_as (g.L.Ledger.book c.args.ledger.now) _ _ _ _ _ _ _ (p.1 ∙ ap Err p.2)
+    (send_failed (g.L.Ledger.book c.args.ledger.now) (g.L.Ledger.book c.frames.ledger) _ _ _ _ _ _ c.frames.feed.rest c.in-Ok-Some.body.now _ c.frames.answered _ c.in-Some.reply _ i.under i.ahead finds (i.so_far before sound) stands told c.in_err-send-in-Some.ensures.err)
 
 pub returns-then-answered-eq-ENOUGH-clause-serves : goal.returns-then-answered-eq-ENOUGH-clause-serves
 returns-then-answered-eq-ENOUGH-clause-serves g c = λ kept sound.
@@ -131,11 +130,11 @@ returns-then-answered-eq-ENOUGH-clause-serves g c = λ kept sound.
     let answer : Answers c.frames.feed (Ok (Some c.in-Ok-Some.body.now)) = rw c.in-Ok-Some.field-0-is at c.in-Ok-Some.ensures.answer in
     let stands = a_frame c.frames.feed c.next_body.follows.lender-at-none c.in-Ok-Some.body.now i.limit answer c.next_body.follows.holds-at-none in
     let before = c.take.ensures.kept kept in
-    let P : Option Reply → Type 0 = λ o. Takes (g.L.Ledger.book c.frames.ledger) c.in-Ok-Some.body.now (Ok o) (g.L.Ledger.book c.take.new.ledger).history in
+    let P : Option Reply → Type 0 = λ o. Takes (g.L.Ledger.book c.frames.ledger) (g.L.Ledger.told c.frames.ledger) c.in-Ok-Some.body.now (Ok o) (g.L.Ledger.book c.take.new.ledger).history (g.L.Ledger.told c.take.new.ledger) in
     let told = subst P c.in-Some.is (c.in_ok-take-in-Ok-Some.ensures.takes kept (i.stays_sound before sound)) in
     let finds : Finds (g.L.Ledger.book c.args.ledger.now) (g.L.Ledger.book c.frames.ledger) = record { zone = i.same_zone; default = i.same_default; legal = g.met.L.Ledger.sound_is_legal c.frames.ledger (i.stays_sound before sound) } in
-    enough (g.L.Ledger.book c.args.ledger.now) _ _ c.next_body.follows.lender-at-none.rest (c.frames.answered + 1) _ c.if-answered-eq-ENOUGH.true (omega (arith, i.ahead, left_short 512 c.frames.feed.rest c.in-Ok-Some.body.now c.next_body.follows.lender-at-none.rest stands))
-    (sent (g.L.Ledger.book c.args.ledger.now) (g.L.Ledger.book c.frames.ledger) _ _ _ c.frames.feed.rest c.in-Ok-Some.body.now _ c.frames.answered _ c.in-Some.reply finds (i.so_far before sound) stands told c.in_ok-send-in-Some.ensures.ok)
+    enough (g.L.Ledger.book c.args.ledger.now) _ _ _ _ c.next_body.follows.lender-at-none.rest (c.frames.answered + 1) _ c.if-answered-eq-ENOUGH.true (omega (arith, i.ahead, left_short 512 c.frames.feed.rest c.in-Ok-Some.body.now c.next_body.follows.lender-at-none.rest stands))
+    (sent (g.L.Ledger.book c.args.ledger.now) (g.L.Ledger.book c.frames.ledger) _ _ _ _ _ _ c.frames.feed.rest c.in-Ok-Some.body.now _ c.frames.answered _ c.in-Some.reply finds (i.so_far before sound) stands told c.in_ok-send-in-Some.ensures.ok)
 
 pub frames-preserved : goal.frames-preserved
 frames-preserved g c =
@@ -155,8 +154,8 @@ frames-preserved g c =
       stays_sound = λ k s. c.take.ensures.sound k (i.stays_sound (c.take.ensures.kept k) s);
       so_far = λ k s.
           let before = c.take.ensures.kept k in
-          let P : Option Reply → Type 0 = λ o. Takes (g.L.Ledger.book c.frames.ledger) c.in-Ok-Some.body.now (Ok o) (g.L.Ledger.book c.take.new.ledger).history in
+          let P : Option Reply → Type 0 = λ o. Takes (g.L.Ledger.book c.frames.ledger) (g.L.Ledger.told c.frames.ledger) c.in-Ok-Some.body.now (Ok o) (g.L.Ledger.book c.take.new.ledger).history (g.L.Ledger.told c.take.new.ledger) in
           let told = subst P c.in-Some.is (c.in_ok-take-in-Ok-Some.ensures.takes k (i.stays_sound before s)) in
           let finds : Finds (g.L.Ledger.book c.args.ledger.now) (g.L.Ledger.book c.frames.ledger) = record { zone = i.same_zone; default = i.same_default; legal = g.met.L.Ledger.sound_is_legal c.frames.ledger (i.stays_sound before s) } in
-          sent (g.L.Ledger.book c.args.ledger.now) (g.L.Ledger.book c.frames.ledger) _ _ _ c.frames.feed.rest c.in-Ok-Some.body.now _ c.frames.answered _ c.in-Some.reply finds (i.so_far before s) stands told c.in_ok-send-in-Some.ensures.ok;
+          sent (g.L.Ledger.book c.args.ledger.now) (g.L.Ledger.book c.frames.ledger) _ _ _ _ _ _ c.frames.feed.rest c.in-Ok-Some.body.now _ c.frames.answered _ c.in-Some.reply finds (i.so_far before s) stands told c.in_ok-send-in-Some.ensures.ok;
     }

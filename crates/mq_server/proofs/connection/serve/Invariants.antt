@@ -19,7 +19,7 @@ invariant-frames g l =
       same_default : (book l.ledger).default ≡ (book l.fn.ledger).default;
       was_kept : kept l.ledger → kept l.fn.ledger;
       stays_sound : kept l.ledger → sound l.fn.ledger → sound l.ledger;
-      so_far : kept l.ledger → sound l.fn.ledger → SoFar (book l.fn.ledger)
+      so_far : kept l.ledger → sound l.fn.ledger → SoFar (book l.fn.ledger) (g.L.Ledger.told l.fn.ledger) (g.L.Ledger.told l.ledger)
           (record { remaining = g.S.Source.remaining l.fn.input; contents = g.W.Sink.contents l.fn.output })
           (record { remaining = g.S.Source.remaining l.input; contents = g.W.Sink.contents l.output })
           l.feed.rest l.answered (book l.ledger).history;

@@ -6,20 +6,20 @@ use Rattle.mq_server.specs.declared.fault.ServeFault.{ServeFault}
 use Rattle.mq_server.specs.declared.fault.ServeFault.TheVariants.{Store}
 use Rattle.mq_server.specs.Connections.{result_of}
 use Rattle.mq_server.proofs.Deliveries.{Follows}
-use Rattle.mq_server.proofs.Turns.{turn, zip_push}
+use Rattle.mq_server.proofs.Turns.{turn, told_turn, told_failed, zip_push}
 use Rattle.mq_server.proofs.connections.serve_all.Goals as goal
 
 pub returns-in_err-end-clause-store : goal.returns-in_err-end-clause-store
 returns-in_err-end-clause-store g c = λ kept sound _.
     let i = c.loop-i.invariant in
     let before = c.serve.ensures.kept kept in
-    let (seen, told, stored) = i.so_far before sound in
+    let (seen, told, stored, tells) = i.so_far before sound in
     let f : Follows (g.L.Ledger.book c.args.ledger.now) (g.L.Ledger.book c.loop-i.ledger) seen = record { zone = i.same_zone; default = i.same_default; legal = g.met.L.Ledger.sound_is_legal c.loop-i.ledger (i.stays_sound before sound); history = stored } in
     let counted : length (map result_of c.loop-i.ends.items) ≡ c.loop-i.i = length-map c.loop-i.ends.items result_of ∙ sym c.loop-i.ends.ok.0 ∙ i.counted in
-    let served = c.serve.ensures.serves kept (i.stays_sound before sound) in
+    let (came, served, after, more) = c.serve.ensures.serves kept (i.stays_sound before sound) in
     let failed : c.serve.result ≡ Err Store = c.in_err-end.ensures.store.1 in
-    let (all, told', stored') = turn g.S.Source.remaining g.W.Sink.contents (g.L.Ledger.book c.args.ledger.now) (g.L.Ledger.book c.loop-i.ledger) _ c.loop-i.inputs c.loop-i.outputs c.loop-i.i (get_or c.loop-i.inputs c.loop-i.i c.index-inputs-i.result) c.serve.new.input (get_or c.loop-i.outputs c.loop-i.i c.index-outputs-i.result) c.serve.new.output (map result_of c.loop-i.ends.items) _ c.serve.result seen _ i.pairs (omega (arith, c.loop-i-test.true)) counted (ap (get_or c.loop-i.inputs c.loop-i.i) c.index-inputs-i.is) (ap (get_or c.loop-i.outputs c.loop-i.i) c.index-outputs-i.is) told f served (ap (λ (r : Result Served ServeFault). map result_of c.loop-i.ends.items ++ r ∷ []) failed) in
-    (c.loop-i.ends.items, all, told', stored')
+    let (told', stored') = turn g.S.Source.remaining g.W.Sink.contents (g.L.Ledger.book c.args.ledger.now) (g.L.Ledger.book c.loop-i.ledger) _ c.loop-i.inputs c.loop-i.outputs c.loop-i.i (get_or c.loop-i.inputs c.loop-i.i c.index-inputs-i.result) c.serve.new.input (get_or c.loop-i.outputs c.loop-i.i c.index-outputs-i.result) c.serve.new.output (map result_of c.loop-i.ends.items) _ c.serve.result seen _ i.pairs (omega (arith, c.loop-i-test.true)) counted (ap (get_or c.loop-i.inputs c.loop-i.i) c.index-inputs-i.is) (ap (get_or c.loop-i.outputs c.loop-i.i) c.index-outputs-i.is) told f came served after (ap (λ (r : Result Served ServeFault). map result_of c.loop-i.ends.items ++ r ∷ []) failed) in
+    (c.loop-i.ends.items, seen ++ came, told', stored', told_failed (g.L.Ledger.book c.args.ledger.now) (g.L.Ledger.book c.loop-i.ledger) _ _ _ seen came c.serve.result served f failed tells more)
 
 pub loop-i-preserved : goal.loop-i-preserved
 loop-i-preserved g c =
@@ -43,11 +43,12 @@ loop-i-preserved g c =
       stays_sound = λ k s. c.serve.ensures.sound k (i.stays_sound (c.serve.ensures.kept k) s);
       so_far = λ kept sound.
           let before = c.serve.ensures.kept kept in
-          let (seen, told, stored) = i.so_far before sound in
+          let (seen, told, stored, tells) = i.so_far before sound in
           let f : Follows (g.L.Ledger.book c.args.ledger.now) (g.L.Ledger.book c.loop-i.ledger) seen = record { zone = i.same_zone; default = i.same_default; legal = g.met.L.Ledger.sound_is_legal c.loop-i.ledger (i.stays_sound before sound); history = stored } in
           let counted : length (map result_of c.loop-i.ends.items) ≡ c.loop-i.i = length-map c.loop-i.ends.items result_of ∙ sym c.loop-i.ends.ok.0 ∙ i.counted in
-          let served = c.serve.ensures.serves kept (i.stays_sound before sound) in
+          let (came, served, after, more) = c.serve.ensures.serves kept (i.stays_sound before sound) in
           let names : map result_of c.loop-i.ends.items ++ c.serve.result ∷ [] ≡ map result_of c.push.new.self.items =
           ap (λ (r : Result Served ServeFault). map result_of c.loop-i.ends.items ++ r ∷ []) (sym ended) ∙ sym (map-append result_of c.loop-i.ends.items (end ∷ [])) ∙ ap (map result_of) (sym grown) in
-          turn g.S.Source.remaining g.W.Sink.contents (g.L.Ledger.book c.args.ledger.now) (g.L.Ledger.book c.loop-i.ledger) _ c.loop-i.inputs c.loop-i.outputs c.loop-i.i (get_or c.loop-i.inputs c.loop-i.i c.index-inputs-i.result) c.serve.new.input (get_or c.loop-i.outputs c.loop-i.i c.index-outputs-i.result) c.serve.new.output (map result_of c.loop-i.ends.items) _ c.serve.result seen _ i.pairs here counted (ap (get_or c.loop-i.inputs c.loop-i.i) c.index-inputs-i.is) (ap (get_or c.loop-i.outputs c.loop-i.i) c.index-outputs-i.is) told f served names;
+          let (told', stored') = turn g.S.Source.remaining g.W.Sink.contents (g.L.Ledger.book c.args.ledger.now) (g.L.Ledger.book c.loop-i.ledger) _ c.loop-i.inputs c.loop-i.outputs c.loop-i.i (get_or c.loop-i.inputs c.loop-i.i c.index-inputs-i.result) c.serve.new.input (get_or c.loop-i.outputs c.loop-i.i c.index-outputs-i.result) c.serve.new.output (map result_of c.loop-i.ends.items) _ c.serve.result seen _ i.pairs here counted (ap (get_or c.loop-i.inputs c.loop-i.i) c.index-inputs-i.is) (ap (get_or c.loop-i.outputs c.loop-i.i) c.index-outputs-i.is) told f came served after names in
+          (seen ++ came, told', stored', told_turn (g.L.Ledger.book c.args.ledger.now) (g.L.Ledger.book c.loop-i.ledger) _ _ _ seen came end c.serve.result served f ended tells more);
     }

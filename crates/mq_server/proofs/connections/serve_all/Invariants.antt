@@ -1,8 +1,9 @@
 use Rattle.std.proofs.Common.{◌≡◌, ◌≤◌, true, List, [], length, map, take, vec_len, vec_capacity}
 use Rattle.std.specs.List.{AllZip}
+use Rattle.mq_ledger.specs.Told.{Tells}
 use Rattle.mq_server.specs.declared.connections.ConnectionEnd.TheVariants as ends
 use Rattle.mq_server.specs.Connections.{wires, result_of, AreServed}
-use Rattle.mq_server.specs.Delivery.{Delivery, history_after}
+use Rattle.mq_server.specs.Delivery.{Delivery, answer_to, history_after, calls}
 use Rattle.mq_server.proofs.connections.serve_all.Given as goal
 
 abbrev pub invariant-loop-i : goal.invariant-loop-i
@@ -24,5 +25,6 @@ invariant-loop-i g l =
       stays_sound : kept l.ledger → sound l.fn.ledger → sound l.ledger;
       so_far : kept l.ledger → sound l.fn.ledger → (seen : List Delivery)
           × AreServed (book l.fn.ledger) [] (wires (map left l.fn.inputs) (map held l.fn.outputs)) (wires (map left l.inputs) (map held l.outputs)) (map result_of l.ends.items) seen
-          × ((book l.ledger).history ≡ history_after (book l.fn.ledger) seen);
+          × ((book l.ledger).history ≡ history_after (book l.fn.ledger) seen)
+          × Tells (g.L.Ledger.told l.fn.ledger) (g.L.Ledger.told l.ledger) (calls (answer_to (book l.fn.ledger)) seen);
     }
