@@ -10,7 +10,7 @@ use Rattle.mq_frame.specs.declared.message.Id.{Id}
 use Rattle.mq_frame.specs.declared.message.Request.{Request}
 use Rattle.mq_frame.specs.declared.message.Request.TheVariants.{Reserve, Settle, Release, Limit, Usage, List as ListRequest}
 use Rattle.mq_frame.specs.declared.message.Reply.{Reply}
-use Rattle.mq_client.specs.Exchanges.{Exchange, AreFailed, AreTries, IsUndecided, SendsSome, NoneYet, OneMore, Sends, SendsAll, StopsAt, decided_by}
+use Rattle.mq_client.specs.Exchanges.{Exchange, AreFailed, AreTries, IsUndecided, SendsSome, NoneYet, OneMore, Sends, SendsAll, StopsAt}
 use Rattle.mq_client.specs.Past.{Source, Action, Ask, Close, Drain, Step, View, view, after, after_close, held_by, held_for, reserve_of, closing_of, PlaysFrom, IsPlayed}
 use Rattle.mq_client.specs.Reading.{live_in, numbers_in, closing_under, closings_in, is_decided_by, is_decided_in, waiting_in}
 use Rattle.mq_track.specs.declared.closing.CloseEnd.{CloseEnd}
@@ -119,7 +119,7 @@ tries_decide n r [] reply q t = absurd t
 tries_decide n r (x ∷ tries) reply q t = rw (t.0.decided_is, t.0.request_is) (and_true (same_request r q) (is_decided_by tries q) (failed_none r tries q t.1))
 
 group_append : (tries group : List Exchange) (q : Request) → is_decided_by (tries ++ group) q ≡ (is_decided_by tries q || is_decided_by group q)
-group_append tries group q = list_any-append (λ x. same_request x.request q && is_some (decided_by x.mark)) tries group
+group_append tries group q = list_any-append (λ x. same_request x.request q && is_some (x.decided)) tries group
 
 -- an ask decides no closing
 ask_none : (n : ℕ) (s : Source) (k txn at : ℕ) (login : List ℕ) (group : List Exchange) (d : Option Reply) (q : Request) → AreTries n (reserve_of s k txn at login) group d → IsClosing q → is_decided_by group q ≡ false

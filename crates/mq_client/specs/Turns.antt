@@ -1,7 +1,7 @@
 -- The next exchange of a step, and how exchanges ended.
-use Rattle.std.specs.Prelude.{◌≡◌, ℕ, ◌+◌, List, [], ◌∷◌, ◌++◌, length, Bool, nat_le, if◌then◌else◌, Option, None, Some, is_some, slice_get}
+use Rattle.std.specs.Prelude.{◌≡◌, ℕ, ◌+◌, List, [], ◌∷◌, ◌++◌, length, nat_le, if◌then◌else◌, Option, None, Some, is_some, slice_get}
 use Rattle.mq_frame.specs.declared.message.Request.{Request}
-use Rattle.mq_client.specs.Exchanges.{Exchange, decided_by, lacks_memory, decisions, IsMarked}
+use Rattle.mq_client.specs.Exchanges.{Exchange, decisions, IsDecision}
 use Rattle.mq_client.specs.Past.{Source, Action, Ask, Close, Drain, Step, View, reserve_of, closing_of, refuses, held_for}
 use Rattle.mq_client.specs.declared.held.Held.{Held}
 use Rattle.mq_client.specs.declared.link.Outcome.{Outcome}
@@ -9,7 +9,7 @@ use Rattle.mq_client.specs.declared.link.Outcome.{Outcome}
 -- how many exchanges failed since the last one that decided
 abbrev pub failures : List Exchange → ℕ
 failures [] = 0
-failures (x ∷ group) = if is_some (decided_by x.mark) then 0 else failures group + 1
+failures (x ∷ group) = if is_some (x.decided) then 0 else failures group + 1
 
 -- the requests that an action sends, in order
 abbrev pub queue_of : Source → View → Option Held → Action → List Request
@@ -29,18 +29,14 @@ next s tries v action group = next_of tries (queue_of s v (held_for v action) ac
 -- each exchange was the next one when it came
 abbrev pub ComeInTurn : (tries : ℕ) → List Request → List Exchange → Type 0
 ComeInTurn tries queue [] = Unit {0}
-ComeInTurn tries queue (x ∷ group) = (next_of tries queue group ≡ Some x.request) × IsMarked x.request x.outcome x.mark × ComeInTurn tries queue group
+ComeInTurn tries queue (x ∷ group) = (next_of tries queue group ≡ Some x.request) × IsDecision x.request x.outcome x.decided × ComeInTurn tries queue group
 
--- how an exchange ended, and whether a growth was refused while what came was decoded
-pub record Ending : Type 0 where
-  pub outcome : Outcome
-  pub lacked_memory : Bool
-
-abbrev pub outcomes : List Exchange → List Ending
+-- how exchanges ended
+abbrev pub outcomes : List Exchange → List Outcome
 outcomes [] = []
-outcomes (x ∷ group) = record { outcome = x.outcome; lacked_memory = lacks_memory x.mark } ∷ outcomes group
+outcomes (x ∷ group) = x.outcome ∷ outcomes group
 
 -- how the exchanges of all the steps ended, of which the newest comes first
-abbrev pub all_outcomes : List Step → List Ending
+abbrev pub all_outcomes : List Step → List Outcome
 all_outcomes [] = []
 all_outcomes (x ∷ steps) = outcomes x.group ++ all_outcomes steps
