@@ -1,18 +1,18 @@
 -- The exchanges of a step come in turn, until none is the next one.
 use Rattle.std.proofs.Common.{◌≡◌, ℕ, zero, suc, ◌+◌, ◌<◌, ◌≤◌, Bool, false, true, List, [], ◌∷◌, ◌++◌, length, drop, refl, sym, ap, ◌∙◌, subst, append-nil, arith, Option, None, Some, if◌then◌else◌, MatchBool}
 use Rattle.std.specs.Prelude.{slice_get, nat_le}
-use Rattle.std.proofs.lemmas.Bool.{lt-leb, le-leb}
+use Rattle.std.proofs.lemmas.Bool.{lt-leb, le-leb, leb-false}
 use Rattle.mq_frame.specs.declared.message.Request.{Request}
 use Rattle.mq_frame.specs.declared.message.Reply.{Reply}
 use Rattle.mq_frame.specs.Spelling.{SpellsReply}
 use Rattle.mq_client.specs.Exchanges.{Exchange, Brings, IsTry, IsDecision, AreFailed, AreTries, SendsSome, NoneYet, OneMore, Sends, SendsAll, StopsAt, decisions}
-use Rattle.mq_client.specs.Past.{Source, Action, Ask, Close, Drain, Step, View, view, held_for, reserve_of, refuses, PlaysFrom, Plays}
-use Rattle.mq_client.specs.Turns.{failures, queue_of, next_of, next, ComeInTurn, outcomes}
+use Rattle.mq_client.specs.Past.{Source, Action, Ask, Close, Drain, Step, View, view, held_for, reserve_of, refuses, PlaysFrom, Plays, IsPlayed}
+use Rattle.mq_client.specs.Turns.{failures, queue_of, next_of, next, ComeInTurn, IsUnderway, AreUnderway, outcomes}
 use Rattle.mq_client.specs.declared.held.Held.{Held}
 use Rattle.mq_client.specs.declared.link.Outcome.{Outcome}
 use Rattle.mq_client.specs.declared.link.Outcome.TheVariants.{Answered, Faulted}
 use Rattle.mq_client.proofs.Making.{some_left}
-use Rattle.mq_client.proofs.Basics.{some_is, true_false, cons_head, cons_tail}
+use Rattle.mq_client.proofs.Basics.{none_some, some_is, true_false, cons_head, cons_tail}
 
 -- the exchanges so far came in turn, and the last so many failed
 record Comes (n : ℕ) (queue : List Request) (group : List Exchange) (failed decided : ℕ) : Type 0 where
@@ -97,8 +97,20 @@ turns_from s n v (Some h) (Close txn end) group (left, sends) = sends_come n _ g
 turns_from s n v o Drain group (left, sends) = sends_come n v.waiting group left sends
 
 -- each exchange of a step is the next one
-pub turns : (s : Source) (n : ℕ) (P : List Step) (x : Step) → Plays s n P x → ComeInTurn n (queue_of s (view s P) (held_for (view s P) x.action) x.action) x.group
+pub turns : (s : Source) (n : ℕ) (P : List Step) (x : Step) → Plays s n P x → IsUnderway s n P x
 turns s n P x plays = turns_from s n (view s P) (held_for (view s P) x.action) x.action x.group plays
+
+pub all_turns : (s : Source) (n : ℕ) (P : List Step) → IsPlayed s n P → AreUnderway s n P
+all_turns s n [] played = tt
+all_turns s n (x ∷ P) played = (turns s n P x played.0, all_turns s n P played.1)
+
+-- the next request stands in the queue
+pub next_in_queue : (n : ℕ) (queue : List Request) (group : List Exchange) (q : Request) → next_of n queue group ≡ Some q → (failures group < n) × (slice_get queue (decisions group) ≡ Some q)
+next_in_queue n queue group q e = by_tries (nat_le n (failures group)) refl e
+  where
+    by_tries : (b : Bool) → nat_le n (failures group) ≡ b → (if b then None else slice_get queue (decisions group)) ≡ Some q → (failures group < n) × (slice_get queue (decisions group) ≡ Some q)
+    by_tries true f e = absurd (none_some q e)
+    by_tries false f e = (leb-false n (failures group) f, e)
 
 -- ---- the end of a step
 

@@ -2,7 +2,7 @@
 use Rattle.std.specs.Prelude.{◌≡◌, ℕ, ◌+◌, List, [], ◌∷◌, ◌++◌, length, nat_le, if◌then◌else◌, Option, None, Some, is_some, slice_get}
 use Rattle.mq_frame.specs.declared.message.Request.{Request}
 use Rattle.mq_client.specs.Exchanges.{Exchange, decisions, IsDecision}
-use Rattle.mq_client.specs.Past.{Source, Action, Ask, Close, Drain, Step, View, reserve_of, closing_of, refuses, held_for}
+use Rattle.mq_client.specs.Past.{Source, Action, Ask, Close, Drain, Step, View, view, reserve_of, closing_of, refuses, held_for}
 use Rattle.mq_client.specs.declared.held.Held.{Held}
 use Rattle.mq_client.specs.declared.link.Outcome.{Outcome}
 
@@ -30,6 +30,15 @@ next s tries v action group = next_of tries (queue_of s v (held_for v action) ac
 abbrev pub ComeInTurn : (tries : ℕ) → List Request → List Exchange → Type 0
 ComeInTurn tries queue [] = Unit {0}
 ComeInTurn tries queue (x ∷ group) = (next_of tries queue group ≡ Some x.request) × IsDecision x.request x.outcome x.decided × ComeInTurn tries queue group
+
+-- a step so far: each of its exchanges was the next one, and more may be to come
+abbrev pub IsUnderway : Source → (tries : ℕ) → List Step → Step → Type 0
+IsUnderway s tries P x = let v = view s P in ComeInTurn tries (queue_of s v (held_for v x.action) x.action) x.group
+
+-- the same of each step of a past
+abbrev pub AreUnderway : Source → (tries : ℕ) → List Step → Type 0
+AreUnderway s tries [] = Unit {0}
+AreUnderway s tries (x ∷ P) = IsUnderway s tries P x × AreUnderway s tries P
 
 -- how exchanges ended
 abbrev pub outcomes : List Exchange → List Outcome
