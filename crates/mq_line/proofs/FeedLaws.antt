@@ -1,14 +1,22 @@
--- What a feed gives, by the bytes that it holds.
+-- What a feed gives, by the bytes that weren't taken.
 use Rattle.std.proofs.Common.{◌≡◌, eqb, true, ℕ, ◌+◌, ◌-◌, ◌<◌, List, [], ◌∷◌, ◌++◌, length, get_or, take, drop, refl, sym, ap, ◌∙◌, subst, arith, append_assoc, append-nil, inl, inr}
 use Rattle.std.specs.Prelude.{Some, None, slice_get}
 use Rattle.std.proofs.lemmas.Bool.{eqb-true}
 use Rattle.std.proofs.lemmas.List.{take_rest, drop-drop, length-append, get_or_at, get_or_append_left}
+use Rattle.mq_line.specs.Feed.{Feed}
 use Rattle.mq_line.specs.Text.{IsLine, IsTooLong, Holds, HasNoLine, lines, left}
 use Rattle.mq_line.proofs.TextLaws.{next-of, lines-line, lines-open, holds-taken, splits-only}
 
--- what is held, as the code cuts it off
-pub held_is : (items all held : List ℕ) (place : ℕ) → all ≡ items → drop place items ≡ held → take (length all - place) (drop place all) ≡ held
-held_is items all held place same is = take_rest all place ∙ ap (drop place) same ∙ is
+-- what two feeds that are one show
+pub same_rest : (f g : Feed) → f ≡ g → f.rest ≡ g.rest
+same_rest f g e = ap (λ (feed : Feed). feed.rest) e
+
+pub same_held : (f g : Feed) → f ≡ g → f.held ≡ g.held
+same_held f g e = ap (λ (feed : Feed). feed.held) e
+
+-- the rest, as the code cuts it off
+pub rest_is : (items all rest : List ℕ) (place : ℕ) → all ≡ items → drop place items ≡ rest → take (length all - place) (drop place all) ≡ rest
+rest_is items all rest place same is = take_rest all place ∙ ap (drop place) same ∙ is
 
 -- a line and its LF leave, and the rest stays
 pub rest_stays : (items held front : List ℕ) (place n : ℕ) → front ≡ held → drop place items ≡ held → drop (n + 1) front ≡ drop (place + n + 1) items

@@ -1,5 +1,6 @@
 -- What a line of smtpd says, and which fault it has where it says nothing.
-use Rattle.std.specs.Prelude.{◌≡◌, ◌≢◌, ◌==◌, ◌&&◌, ℕ, List, [], ◌∷◌, length, codes, not, nat_lt, nat_le, is_none, if◌then◌else◌, Bool, Option, None, Some}
+use Rattle.std.specs.Prelude.{◌≡◌, ◌≢◌, ◌==◌, ◌&&◌, ℕ, List, [], ◌∷◌, length, codes, not, nat_lt}
+use Rattle.std.specs.Prelude.{nat_le, is_none, if◌then◌else◌, Bool, Option, None, Some}
 use Rattle.std.specs.List.{AllByRecursion, list_any, list_all}
 use Rattle.std.specs.Str.{bytes_eq}
 use Rattle.std.specs.Char.{is_ascii_digit}
@@ -22,17 +23,28 @@ pub data Meaning : Type 0 where
 abbrev pub meaning : Line → Meaning
 meaning (Config key value) = ConfigLine key.now value.now
 meaning Ready = ReadyLine
-meaning (Report seconds subsystem event session params) = ReportLine seconds subsystem.now event.now session.now params.now
-meaning (Filter seconds subsystem phase session token rest) = FilterLine seconds subsystem.now phase.now session.now token.now rest.now
+meaning (Report seconds subsystem event session params) =
+    ReportLine seconds subsystem.now event.now session.now params.now
+meaning (Filter seconds subsystem phase session token rest) =
+    FilterLine seconds subsystem.now phase.now session.now token.now rest.now
 meaning Other = OtherLine
+
+-- the most digits of a time before its point
+abbrev pub max_second_digits : ℕ
+max_second_digits = 18
+
+-- and behind it
+abbrev pub max_fraction_digits : ℕ
+max_fraction_digits = 9
 
 -- one decimal digit or more, and at most so many
 abbrev pub is_number : ℕ → List ℕ → Bool
 is_number most digits = nat_lt 0 (length digits) && (nat_le (length digits) most && list_all is_ascii_digit digits)
 
--- the number before the point, of 1 to 18 digits, where 1 to 9 digits follow it
+-- the number before the point, where it and what follows it have as many digits as they may
 abbrev pub seconds_around : List (List ℕ) → Option ℕ
-seconds_around (whole ∷ fraction ∷ []) = if is_number 18 whole && is_number 9 fraction then Some (digits_value 10 whole) else None
+seconds_around (whole ∷ fraction ∷ []) =
+    if is_number max_second_digits whole && is_number max_fraction_digits fraction then Some (digits_value 10 whole) else None
 seconds_around _ = None
 
 -- the seconds of a time, which has one point (46)
@@ -78,12 +90,14 @@ config_fault (key ∷ first ∷ more) = None
 
 -- of those after `report`
 abbrev pub report_fault : List (List ℕ) → Option LineFault
-report_fault (version ∷ time ∷ subsystem ∷ event ∷ session ∷ more) = stamp_fault version time (subsystem ∷ event ∷ session ∷ [])
+report_fault (version ∷ time ∷ subsystem ∷ event ∷ session ∷ more) =
+    stamp_fault version time (subsystem ∷ event ∷ session ∷ [])
 report_fault _ = Some Short
 
 -- and of those after `filter`
 abbrev pub filter_fault : List (List ℕ) → Option LineFault
-filter_fault (version ∷ time ∷ subsystem ∷ phase ∷ session ∷ token ∷ more) = stamp_fault version time (subsystem ∷ phase ∷ session ∷ token ∷ [])
+filter_fault (version ∷ time ∷ subsystem ∷ phase ∷ session ∷ token ∷ more) =
+    stamp_fault version time (subsystem ∷ phase ∷ session ∷ token ∷ [])
 filter_fault _ = Some Short
 
 -- the first fault of some fields

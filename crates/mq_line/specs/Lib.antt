@@ -3,4 +3,5 @@ pub mod Grammar
 pub mod Parameters
 pub mod Results
 pub mod Text
+pub mod Feed
 pub mod Search

@@ -7,13 +7,17 @@ use Rattle.std.specs.List.{All, slice_split, join_with_byte}
 abbrev pub pieces : ℕ → List ℕ → List (List ℕ)
 pieces c bytes = slice_split (λ b. b == c) bytes
 
+-- what parts the fields of a line
+abbrev pub bar : ℕ
+bar = 124
+
 -- the fields of a line: its pieces between bars
 abbrev pub fields : List ℕ → List (List ℕ)
-fields line = pieces 124 line
+fields line = pieces bar line
 
 -- some fields with a bar between each two
 abbrev pub joined : List (List ℕ) → List ℕ
-joined fs = join_with_byte 124 fs
+joined fs = join_with_byte bar fs
 
 -- the byte c isn't among them
 abbrev pub Lacks : ℕ → List ℕ → Type 0

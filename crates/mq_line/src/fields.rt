@@ -18,7 +18,8 @@ pub(crate) fn first_field<'a>(text: &'a [u8]) -> (&'a [u8], Option<&'a [u8]>)
 
 /// What stands before the last bar, if anything does, and the last field.
 pub(crate) fn last_field<'a>(text: &'a [u8]) -> (&'a [u8], &'a [u8])
-    ensures { (others : List (List ℕ)) × (fields text.now ≡ others ++ result.1.now ∷ []) × (result.0.now ≡ joined others) }
+    ensures { (others : List (List ℕ)) × (fields text.now ≡ others ++ result.1.now ∷ [])
+        × (result.0.now ≡ joined others) }
 {
     match text.rfind_byte(b'|') {
         Some(bar) => (&text[..bar], &text[bar + 1..]),

@@ -22,13 +22,14 @@ pub fn one_splitting()
 
 /// Later bytes change no line that is there, so a text has the same lines however it is cut.
 pub fn any_cutting()
-    // The lines of a text are those that were taken and those of what is held.
-    ensures held { (text : List ℕ) (taken : List (List ℕ)) (held : List ℕ) →
-        Holds text taken held → (lines text ≡ taken ++ lines held) × (left text ≡ left held) }
+    // The lines of a text are those that were taken and those of the rest.
+    ensures held { (text : List ℕ) (taken : List (List ℕ)) (rest : List ℕ) →
+        Holds text taken rest → (lines text ≡ taken ++ lines rest) × (left text ≡ left rest) }
     ensures more { (text more : List ℕ) →
-        (lines (text ++ more) ≡ lines text ++ lines (left text ++ more)) × (left (text ++ more) ≡ left (left text ++ more)) }
+        (lines (text ++ more) ≡ lines text ++ lines (left text ++ more))
+        × (left (text ++ more) ≡ left (left text ++ more)) }
     // What is too long stays so, whatever comes.
-    ensures too_long { (held more : List ℕ) → IsTooLong held → IsTooLong (held ++ more) }
+    ensures too_long { (rest more : List ℕ) → IsTooLong rest → IsTooLong (rest ++ more) }
     // Lines that are taken after each piece are those of the whole text.
     ensures pieces { (pieces : List (List ℕ)) →
         (lines_by_piece [] pieces ≡ lines (concat pieces)) × (left_by_piece [] pieces ≡ left (concat pieces)) }

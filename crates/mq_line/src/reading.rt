@@ -1,9 +1,11 @@
 //! Lines, taken apart.
-ghost use Rattle.std.specs.Prelude.{◌≡◌, ◌==◌, ◌∷◌, length, ℕ, List, Option, Some, None, IfOk, IfErr, IsOkAnd, IsErrOf, MatchResult, map, codes};
+ghost use Rattle.std.specs.Prelude.{◌≡◌, ◌==◌, ◌∷◌, length, ℕ, List, Some, IfOk, IfErr, IsOkAnd, MatchResult, map, codes};
 ghost use Rattle.std.specs.List.{list_all, list_any};
 ghost use Rattle.std.specs.Char.{is_ascii_digit};
 ghost use Rattle.mq_line.specs.Pieces.{fields_left};
-ghost use Rattle.mq_line.specs.Grammar.{Meaning, meaning, Means, Reads, is_number, seconds_of as seconds_lem, IsStamp, stamp_fault, config_fault, report_fault, filter_fault, fault as fault_lem};
+ghost use Rattle.mq_line.specs.Grammar.{Meaning, meaning, Means, Reads, fault as fault_lem};
+ghost use Rattle.mq_line.specs.Grammar.{is_number, max_fraction_digits, seconds_of as seconds_lem};
+ghost use Rattle.mq_line.specs.Grammar.{IsStamp, stamp_fault, config_fault, report_fault, filter_fault};
 
 use crate::faults::LineFault;
 use crate::fields::{first_field, next_field, rest_of};
@@ -57,7 +59,7 @@ fn are_digits(bytes: &[u8]) -> bool
 
 /// Whether these may stand behind the point of a time.
 fn is_fraction(digits: &[u8]) -> bool
-    ensures { result ≡ is_number 9 digits.now }
+    ensures { result ≡ is_number max_fraction_digits digits.now }
 {
     if digits.is_empty() || digits.len() > MAX_FRACTION_DIGITS {
         return false;

@@ -59,7 +59,8 @@ fn push_result(
 ) -> Result<(), Memory>
     ensures ok { OnOk result (out.new.items ≡ out.old.items ++ result_text session.now token.now decision) }
     ensures front { take (vec_len out.old) out.new.items ≡ out.old.items }
-    ensures full { OnErr result (vec_capacity out.old < vec_len out.old + length (result_text session.now token.now decision)) }
+    ensures full { OnErr result
+        (vec_capacity out.old < vec_len out.old + length (result_text session.now token.now decision)) }
 {
     out.extend_from_slice(b"filter-result|")?;
     out.extend_from_slice(session)?;
@@ -82,7 +83,8 @@ pub fn write_result(
     ensures ok { OnOk result (out.new.items ≡ out.old.items ++ result_text session.now token.now decision) }
     ensures err { OnErr result (out.new.items ≡ out.old.items) }
     // Memory is answered only where the vector had to grow.
-    ensures full { OnErr result (vec_capacity out.old < vec_len out.old + length (result_text session.now token.now decision)) }
+    ensures full { OnErr result
+        (vec_capacity out.old < vec_len out.old + length (result_text session.now token.now decision)) }
 {
     let before = out.len();
     match push_result(out, session, token, decision) {

@@ -78,6 +78,18 @@ fn long_lines(rt: HostRuntime) -> Result<(), Fail> {
 }
 
 #[test]
+fn what_a_feed_holds(rt: HostRuntime) -> Result<(), Fail> {
+    let mut feed = LineFeed::new(rt.alloc());
+    feed.feed(b"ab\ncd")?;
+    assert_eq!(rt; feed.held(), 5);
+    assert_eq!(rt; feed.next_line(), Ok(Some(b"ab".as_slice())));
+    assert_eq!(rt; feed.next_line(), Ok(None));
+    feed.feed(b"e")?;
+    assert_eq!(rt; feed.held(), 3);
+    Ok(())
+}
+
+#[test]
 fn what_a_filter_writes(rt: HostRuntime) -> Result<(), Fail> {
     let mut out = Vec::new(rt.alloc());
     write_registration(&mut out)?;
