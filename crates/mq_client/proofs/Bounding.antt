@@ -1,20 +1,23 @@
--- In every played past few transactions are live or waiting, numbers are left to close the live ones, and a step
--- makes few exchanges.
-use Rattle.std.proofs.Common.{◌≡◌, ℕ, suc, ◌+◌, ◌*◌, ◌≤◌, Bool, false, true, List, [], ◌∷◌, ◌++◌, length, refl, ap, arith, length-append, length-drop, Option, None, Some, is_some, if◌then◌else◌, MatchBool}
+-- However a client was used, few transactions are live or waiting, numbers are left to close the live ones, and a
+-- step makes few exchanges.
+use Rattle.std.proofs.Common.{◌≡◌, ℕ, zero, suc, ◌+◌, ◌*◌, ◌<◌, ◌≤◌, Bool, false, true, List, [], ◌∷◌, ◌++◌, length, refl, ap, subst, arith, length-append, length-drop, Option, None, Some, is_some, if◌then◌else◌}
+use Rattle.std.specs.Prelude.{slice_get}
 use Rattle.std.proofs.Math.Nat.{mul-le-mul_left}
 use Rattle.mq_frame.specs.declared.message.Request.{Request}
-use Rattle.mq_frame.specs.declared.message.Reply.{Reply}
-use Rattle.mq_client.specs.Exchanges.{Exchange, AreTries, IsUndecided, SendsSome, NoneYet, OneMore, Sends, SendsAll, StopsAt, decisions}
-use Rattle.mq_client.specs.Past.{Source, Action, Ask, Close, Drain, Step, View, view, after, after_close, held_by, held_for, with_asked, reserve_of, closing_of, refuses, PlaysFrom, Plays, IsPlayed, IsBounded}
+use Rattle.mq_client.specs.Exchanges.{Exchange, decisions}
+use Rattle.mq_client.specs.Turns.{failures, queue_of, next_of, ComeInTurn, AreUnderway}
+use Rattle.mq_client.specs.Past.{Source, Action, Ask, Close, Drain, Step, View, view, after, after_close, held_by, held_for, with_asked, reserve_of, closing_of, refuses, IsBounded}
 use Rattle.mq_track.specs.declared.closing.CloseEnd.{CloseEnd}
 use Rattle.mq_client.specs.declared.held.Held.{Held}
 use Rattle.mq_client.proofs.Counting.{AreCounted, counted, length_closed}
 use Rattle.mq_client.proofs.Keeping.{has_room}
+use Rattle.mq_client.proofs.Turning.{next_in_queue}
+use Rattle.mq_client.proofs.Basics.{none_some}
 
 -- an ask with an exchange isn't refused
-asked_free : (b : Bool) (x : Exchange) (group : List Exchange) (B : Type 0) → MatchBool b (x ∷ group ≡ []) B → b ≡ false
-asked_free false x group B m = refl
-asked_free true x group B m = let no : ⊥ = cc in absurd no
+asked_free : (b : Bool) (n : ℕ) (q r : Request) (group : List Exchange) → next_of n (if b then [] else q ∷ []) group ≡ Some r → b ≡ false
+asked_free false n q r group e = refl
+asked_free true n q r group e = absurd (none_some r (next_in_queue n [] group r e).1)
 
 length_asked : (o : Option Held) (txn : ℕ) (live : List ℕ) → length (with_asked txn o live) ≡ (if is_some o then length live else length live + 1)
 length_asked None txn live = omega arith
@@ -37,66 +40,57 @@ close_bounded s v txn end group (Some h) e all b =
       numbers = omega (arith, b.numbers, one);
     }
 
-bounded_step : (s : Source) (n : ℕ) (v : View) (a : Action) (group : List Exchange) → PlaysFrom s n (held_for v a) (length v.live) v.numbers v.waiting a group → AreCounted v → IsBounded v → IsBounded (after s v a group)
-bounded_step s n v (Ask txn at login) [] plays all b = b
-bounded_step s n v (Ask txn at login) (x ∷ group) plays all b = ask_bounded s n v txn at login x group (asked_free _ x group _ plays) b
-bounded_step s n v (Close txn end) group plays all b = close_bounded s v txn end group (held_by (v.standing txn)) refl all b
-bounded_step s n v Drain group plays all b = record { places = omega (arith, b.places, length-drop (decisions group) v.waiting); numbers = b.numbers }
+bounded_step : (s : Source) (n : ℕ) (v : View) (a : Action) (group : List Exchange) → ComeInTurn n (queue_of s v (held_for v a) a) group → AreCounted v → IsBounded v → IsBounded (after s v a group)
+bounded_step s n v (Ask txn at login) [] turns all b = b
+bounded_step s n v (Ask txn at login) (x ∷ group) turns all b = ask_bounded s n v txn at login x group (asked_free _ n (reserve_of s (v.numbers + 1) txn at login) x.request group turns.0) b
+bounded_step s n v (Close txn end) group turns all b = close_bounded s v txn end group (held_by (v.standing txn)) refl all b
+bounded_step s n v Drain group turns all b = record { places = omega (arith, b.places, length-drop (decisions group) v.waiting); numbers = b.numbers }
 
--- in every played past
-pub bounded : (s : Source) (n : ℕ) (P : List Step) → IsPlayed s n P → IsBounded (view s P)
-bounded s n [] p = record { places = omega arith; numbers = omega arith }
-bounded s n (x ∷ P) p = bounded_step s n (view s P) x.action x.group p.0 (counted s P) (bounded s n P p.1)
+-- however a client was used
+pub bounded : (s : Source) (n : ℕ) (P : List Step) → AreUnderway s n P → IsBounded (view s P)
+bounded s n [] u = record { places = omega arith; numbers = omega arith }
+bounded s n (x ∷ P) u = bounded_step s n (view s P) x.action x.group u.0 (counted s P) (bounded s n P u.1)
 
 -- ---- exchanges of a step
 
-tries_length : (n : ℕ) (q : Request) (group : List Exchange) (decided : Option Reply) → AreTries n q group decided → length group ≤ n
-tries_length n q group None t = omega (arith, t.1)
-tries_length n q [] (Some r) t = absurd t
-tries_length n q (x ∷ group) (Some r) t = omega (arith, t.2)
+-- so many exchanges, by the decisions among them and the failures since the last one
+record IsFew (n queued made decided failed : ℕ) : Type 0 where
+  few : made ≤ n * decided + failed
+  room : n * decided + failed ≤ n * queued
 
-undecided_length : (n : ℕ) (q : Request) (group : List Exchange) → IsUndecided n q group → length group ≤ n
-undecided_length n q [] t = omega arith
-undecided_length n q (x ∷ group) t = omega (arith, t.1)
+one_more : (n l c d f : ℕ) (b : Bool) → IsFew n l c d f → f < n → d < l → IsFew n l (c + 1) (if b then d + 1 else d) (if b then 0 else f + 1)
+one_more n l c d f true i h k = let m : n * (d + 1) ≤ n * l = mul-le-mul_left n (omega (arith, k)) in record { few = omega (arith, i.few, h); room = omega (arith, m) }
+one_more n l c d f false i h k = let m : n * (d + 1) ≤ n * l = mul-le-mul_left n (omega (arith, k)) in record { few = omega (arith, i.few); room = omega (arith, m, h) }
 
-some_length : (n : ℕ) (queue : List Request) (group : List Exchange) (left : List Request) → SendsSome n queue group left → length group + n * length left ≤ n * length queue
-some_length n queue group left NoneYet = omega arith
-some_length n queue group left (OneMore q more done tries r s t) =
-    let before = some_length n queue done (q ∷ left) s in
-    let fewer = tries_length n q tries (Some r) t in
-    let long = length-append tries done in
-    one_less n (length left) (length queue) (length tries) (length done) (length (tries ++ done)) long fewer before
-  where
-    one_less : (n l k a b c : ℕ) → c ≡ a + b → a ≤ n → b + n * (suc l) ≤ n * k → c + n * l ≤ n * k
-    one_less n l k a b c e f h = omega (arith, e, f, h)
+in_queue : (queue : List Request) (k : ℕ) (q : Request) → slice_get queue k ≡ Some q → k < length queue
+in_queue [] k q e = absurd (none_some q e)
+in_queue (x ∷ queue) zero q e = omega arith
+in_queue (x ∷ queue) (suc k) q e = let h = in_queue queue k q e in omega (arith, h)
 
-sends_length : (n : ℕ) (queue : List Request) (group : List Exchange) (left : List Request) → Sends n queue group left → length group ≤ n * length queue
-sends_length n queue group left (SendsAll done s) = let h = some_length n queue group [] s in omega (arith, h)
-sends_length n queue group left (StopsAt q more done tries s t) =
-    let h = some_length n queue done (q ∷ more) s in
-    last n (length more) (length queue) (length tries) (length done) (length (tries ++ done)) (length-append tries done) (undecided_length n q tries t) h
-  where
-    last : (n l k a b c : ℕ) → c ≡ a + b → a ≤ n → b + n * (suc l) ≤ n * k → c ≤ n * k
-    last n l k a b c e f h = omega (arith, e, f, h)
+few_in_turn : (n : ℕ) (queue : List Request) (group : List Exchange) → ComeInTurn n queue group → IsFew n (length queue) (length group) (decisions group) (failures group)
+few_in_turn n queue [] turns = record { few = omega arith; room = omega arith }
+few_in_turn n queue (x ∷ group) turns =
+    let (h, e) = next_in_queue n queue group x.request turns.0 in
+    let more : length group + 1 ≡ length (x ∷ group) = omega arith in
+    let F : ℕ → Type 0 = λ c. IsFew n (length queue) c (decisions (x ∷ group)) (failures (x ∷ group)) in
+    subst F more (one_more n (length queue) (length group) (decisions group) (failures group) (is_some x.decided) (few_in_turn n queue group turns.2) h (in_queue queue (decisions group) x.request e))
 
-few : (n k c : ℕ) → c ≤ n * k → k ≤ 4096 → c ≤ 4096 * n
-few n k c h i = omega (arith, h, mul-le-mul_left n i)
+ask_queue : (b : Bool) (q : Request) → length (if b then [] else q ∷ []) ≤ 4096
+ask_queue true q = omega arith
+ask_queue false q = omega arith
 
-ask_length : (b : Bool) (n : ℕ) (x : Exchange) (group : List Exchange) (T : Option Reply → Type 0) → MatchBool b (x ∷ group ≡ []) ((decided : Option Reply) × T decided) → ((decided : Option Reply) → T decided → length (x ∷ group) ≤ n) → length (x ∷ group) ≤ 4096 * n
-ask_length true n x group T m f = let no : ⊥ = cc in absurd no
-ask_length false n x group T (decided, t) f = let h = f decided t in omega (arith, h)
-
-step_length : (s : Source) (n : ℕ) (v : View) (a : Action) (group : List Exchange) (o : Option Held) → held_for v a ≡ o → PlaysFrom s n o (length v.live) v.numbers v.waiting a group → AreCounted v → IsBounded v → length group ≤ 4096 * n
-step_length s n v (Ask txn at login) [] o e plays all b = omega arith
-step_length s n v (Ask txn at login) (x ∷ group) o e plays all b =
-    ask_length (refuses o (length v.live) v.numbers (length v.waiting) at login) n x group (AreTries n (reserve_of s (v.numbers + 1) txn at login) (x ∷ group)) plays (λ r t. tries_length n (reserve_of s (v.numbers + 1) txn at login) (x ∷ group) r t)
-step_length s n v (Close txn end) group None e plays all b = rw plays (omega arith)
-step_length s n v (Close txn end) group (Some h) e (left, sends) all b =
+queue_length : (s : Source) (v : View) (a : Action) (o : Option Held) → held_for v a ≡ o → AreCounted v → IsBounded v → length (queue_of s v o a) ≤ 4096
+queue_length s v (Ask txn at login) o e all b = ask_queue (refuses o (length v.live) v.numbers (length v.waiting) at login) (reserve_of s (v.numbers + 1) txn at login)
+queue_length s v (Close txn end) None e all b = omega arith
+queue_length s v (Close txn end) (Some h) e all b =
     let q = closing_of s (v.numbers + 1) txn end h in
-    few n (length (v.waiting ++ q ∷ [])) (length group) (sends_length n _ group left sends)
-    (omega (arith, b.places, length_closed v txn all (ap is_some e), length-append v.waiting (q ∷ [])))
-step_length s n v Drain group o e (left, sends) all b = few n (length v.waiting) (length group) (sends_length n v.waiting group left sends) (omega (arith, b.places))
+    omega (arith, b.places, length_closed v txn all (ap is_some e), length-append v.waiting (q ∷ []))
+queue_length s v Drain o e all b = omega (arith, b.places)
 
--- in every played past, the next step
-pub few_exchanges : (s : Source) (n : ℕ) (P : List Step) (x : Step) → IsPlayed s n P → Plays s n P x → length x.group ≤ 4096 * n
-few_exchanges s n P x p plays = step_length s n (view s P) x.action x.group (held_for (view s P) x.action) refl plays (counted s P) (bounded s n P p)
+-- however a client was used, the newest step
+pub few_exchanges : (s : Source) (n : ℕ) (P : List Step) (x : Step) → AreUnderway s n (x ∷ P) → length x.group ≤ 4096 * n
+few_exchanges s n P x u =
+    let v = view s P in
+    let few = few_in_turn n (queue_of s v (held_for v x.action) x.action) x.group u.0 in
+    let short : length (queue_of s v (held_for v x.action) x.action) ≤ 4096 = queue_length s v x.action (held_for v x.action) refl (counted s P) (bounded s n P u.1) in
+    omega (arith, few.few, few.room, mul-le-mul_left n short)

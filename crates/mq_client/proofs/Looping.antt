@@ -289,7 +289,7 @@ pub request_works : (f : Filter) (stage : Stage) (line rest : List ℕ) (seconds
     → IsAtWork stage (line ++ 10 ∷ rest)
 request_works f stage line rest seconds subsystem phase session token more h a one reads =
     let (L, is, tracks, counted) = at_running f stage h a in
-    rw is (FilterLine seconds subsystem phase session token more, line, first_of line rest one, reads, refl)
+    rw is (FilterLine seconds subsystem phase session token more, line, first_of line rest one, reads, refl, refl)
 
 track_apart : {e : TrackFault} → at.Track e ≡ at.Memory → ⊥
 track_apart h = cc (h)
@@ -303,7 +303,8 @@ refused_stops (at.Track e) f stage bytes line rest m source read_failed write_fa
     ((L, m, line, is, first_of line rest one, reads, refused L tracks), (refl, refl), λ e. absurd (track_apart e))
 refused_stops at.Memory f stage bytes line rest m source read_failed write_failed h a one reads refused =
     let (L, is, tracks, counted) = at_running f stage h a in
-    let work : IsAtWork stage (line ++ 10 ∷ rest) = rw is (m, line, first_of line rest one, reads, refused L tracks) in
+    let (none, may) = refused L tracks in
+    let work : IsAtWork stage (line ++ 10 ∷ rest) = rw is (m, line, first_of line rest one, reads, none, may) in
     (inr work, inl (refl, refl), λ e. work)
 refused_stops (at.Line e) f stage bytes line rest m source read_failed write_failed h a one reads refused = let (L, is, tracks, counted) = at_running f stage h a in absurd (refused L tracks)
 refused_stops at.NotReady f stage bytes line rest m source read_failed write_failed h a one reads refused = let (L, is, tracks, counted) = at_running f stage h a in absurd (refused L tracks)

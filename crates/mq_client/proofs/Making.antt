@@ -4,7 +4,7 @@ use Rattle.std.proofs.lemmas.Bool.{eq-eqb}
 use Rattle.std.proofs.lemmas.List.{drop-drop}
 use Rattle.mq_frame.specs.declared.message.Request.{Request}
 use Rattle.mq_frame.specs.declared.message.Reply.{Reply}
-use Rattle.mq_client.specs.Exchanges.{Exchange, AreFailed, AreTries, IsUndecided, SendsSome, NoneYet, OneMore, Sends, SendsAll, StopsAt, decided_by, decisions}
+use Rattle.mq_client.specs.Exchanges.{Exchange, AreFailed, AreTries, IsUndecided, SendsSome, NoneYet, OneMore, Sends, SendsAll, StopsAt, decisions}
 use Rattle.mq_client.specs.Past.{Source, Action, Ask, Close, Drain, Standing, Live, Ended, View, view, held_by, opened, let_through, answer_of, answer_by, reserve_of, closing_of, with_asked, refuses, PlaysFrom, State, find, Makes}
 use Rattle.mq_track.specs.declared.closing.CloseEnd.{CloseEnd}
 use Rattle.mq_client.specs.declared.held.Asked.{Asked}
@@ -98,7 +98,7 @@ held_and_counted txn at login answer old mid new h n t =
 
 decisions-append : (later done : List Exchange) → decisions (later ++ done) ≡ decisions later + decisions done
 decisions-append [] done = omega arith
-decisions-append (x ∷ later) done = count_more (is_some (decided_by x.mark)) (decisions (later ++ done)) (decisions later) (decisions done) (decisions-append later done)
+decisions-append (x ∷ later) done = count_more (is_some (x.decided)) (decisions (later ++ done)) (decisions later) (decisions done) (decisions-append later done)
   where
     count_more : (b : Bool) (n m k : ℕ) → n ≡ m + k → (if b then n + 1 else n) ≡ (if b then m + 1 else m) + k
     count_more true n m k e = omega (arith, e)

@@ -1,15 +1,21 @@
 -- A line that the tracker refuses.
-use Rattle.std.proofs.Common.{◌≡◌, ℕ, Bool, true, false, List, refl, sym, ap, ◌∙◌, subst, Option, None, Some, if◌then◌else◌}
-use Rattle.std.specs.Prelude.{Result, Ok, Err, IfSome, is_none, codes}
+use Rattle.std.proofs.Common.{◌≡◌, ℕ, Bool, true, false, ◌||◌, List, refl, sym, ap, ◌∙◌, subst, Option, None, Some, is_some, if◌then◌else◌}
+use Rattle.std.specs.Prelude.{Result, Ok, Err, IfSome, IfErr, OnErr, is_none, codes}
 use Rattle.std.specs.Option.{option_or}
 use Rattle.std.specs.Str.{bytes_eq}
 use Rattle.mq_line.specs.Grammar.{Meaning, ConfigLine, ReadyLine, ReportLine, FilterLine, OtherLine}
 use Rattle.mq_line.specs.Parameters.{auth, message}
 use Rattle.mq_track.specs.Events.{event, has_message, report_fault, unreadable}
-use Rattle.mq_track.specs.Sessions.{fault, begin_count, is_exhausted}
+use Rattle.mq_track.specs.Sessions.{closing, fault, begin_count, is_exhausted}
 use Rattle.mq_track.specs.declared.fault.TrackFault.{TrackFault}
 use Rattle.mq_track.specs.declared.fault.TrackFault.TheVariants as track
+use Rattle.mq_track.specs.declared.closing.Closing.{Closing}
+use Rattle.mq_track.specs.Steps.{needs_memory}
+use Rattle.mq_client.specs.Filter.{is_filter}
+use Rattle.mq_client.specs.Run.{may_ask_for_memory}
 use Rattle.mq_client.specs.Loop.{IsRefused, filter_fault}
+use Rattle.mq_client.specs.declared.faults.FilterFault.{FilterFault}
+use Rattle.mq_client.specs.declared.faults.FilterFault.TheVariants as at
 
 -- no want of memory
 abbrev IsTold : Option TrackFault → Type 0
@@ -58,13 +64,34 @@ refused_by L m track.Message is = is
 refused_by L m track.Exhausted is = is
 refused_by L m track.Memory is = absurd (told_fault L m is)
 
-wants_memory : (L : List Meaning) (m : Meaning) (e : TrackFault) → e ≡ track.Memory → fault L m ≡ None → IsRefused (filter_fault e) L m
-wants_memory L m e is none = let F : TrackFault → Type 0 = λ x. IsRefused (filter_fault x) L m in subst F (sym is) none
+wants_memory : (L : List Meaning) (m : Meaning) (e : TrackFault) → e ≡ track.Memory → fault L m ≡ None → may_ask_for_memory L m ≡ true → IsRefused (filter_fault e) L m
+wants_memory L m e is none may = let F : TrackFault → Type 0 = λ x. IsRefused (filter_fault x) L m in subst F (sym is) (none, may)
+
+pub may_by_tracker : (L : List Meaning) (m : Meaning) → needs_memory (event m) ≡ true → may_ask_for_memory L m ≡ true
+may_by_tracker L m e = last (is_filter m) (is_some (closing L m)) (needs_memory (event m)) e
+  where
+    last : (a b c : Bool) → c ≡ true → (a || (b || c)) ≡ true
+    last true b c e = refl
+    last false true c e = refl
+    last false false c e = e
+
+pub may_by_closing : (L : List Meaning) (m : Meaning) (c : Option Closing) → closing L m ≡ c → is_some c ≡ true → may_ask_for_memory L m ≡ true
+may_by_closing L m c e is = middle (is_filter m) (is_some (closing L m)) (needs_memory (event m)) (ap is_some e ∙ is)
+  where
+    middle : (a b c : Bool) → b ≡ true → (a || (b || c)) ≡ true
+    middle true b c e = refl
+    middle false true c e = refl
+    middle false false c e = let no : ⊥ = cc in absurd no
 
 -- why a line is refused, by the tracker's contract
-pub refused : (X : Type 0) (L : List Meaning) (m : Meaning) (e : TrackFault) → IfSome (fault L m) (λ f. ◌≡◌ {A = Result X TrackFault} (Err e) (Err f)) → (fault L m ≡ None → e ≡ track.Memory) → IsRefused (filter_fault e) L m
-refused X L m e told memory = by_fault (fault L m) refl told
+pub refused : (X : Type 0) (L : List Meaning) (m : Meaning) (e : TrackFault) → IfSome (fault L m) (λ f. ◌≡◌ {A = Result X TrackFault} (Err e) (Err f)) → (fault L m ≡ None → e ≡ track.Memory) → (e ≡ track.Memory → needs_memory (event m) ≡ true) → IsRefused (filter_fault e) L m
+refused X L m e told memory needs = by_fault (fault L m) refl told
   where
     by_fault : (o : Option TrackFault) → fault L m ≡ o → IfSome o (λ f. ◌≡◌ {A = Result X TrackFault} (Err e) (Err f)) → IsRefused (filter_fault e) L m
-    by_fault None is h = wants_memory L m e (memory is) is
+    by_fault None is h = wants_memory L m e (memory is) is (may_by_tracker L m (needs (memory is)))
     by_fault (Some f) is h = let same : e ≡ f = cc (h) in refused_by L m e (is ∙ ap Some (sym same))
+
+-- a closing that wasn't made
+pub closing_refused : {X : Type 0} (r : Result X FilterFault) (B : Type 0) (P : FilterFault → Type 0) → OnErr r ((r ≡ Err at.Memory) × B) → (B → P at.Memory) → IfErr r P
+closing_refused (Ok x) B P h f = tt
+closing_refused (Err e) B P h f = let same : e ≡ at.Memory = cc (h.0) in subst P (sym same) (f h.1)

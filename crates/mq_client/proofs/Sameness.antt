@@ -9,11 +9,12 @@ use Rattle.mq_line.specs.declared.results.Decision.{Decision}
 use Rattle.mq_track.specs.Sessions.{closing}
 use Rattle.mq_track.specs.declared.closing.Closing.{Closing}
 use Rattle.mq_frame.specs.declared.message.Request.{Request}
-use Rattle.mq_client.specs.Exchanges.{Exchange, lacks_memory}
+use Rattle.mq_client.specs.Exchanges.{Exchange}
 use Rattle.mq_client.specs.Past.{Source, Action, Ask, Step, answer_of, view, held_for, ArePlayed}
-use Rattle.mq_client.specs.Turns.{Ending, outcomes, all_outcomes, queue_of, next_of, ComeInTurn}
+use Rattle.mq_client.specs.Turns.{outcomes, all_outcomes, queue_of, next_of, ComeInTurn}
 use Rattle.mq_client.specs.Filter.{Query, Passes, Refuses, Asks, query, decision_of, Answers, Closes, Takes, push, Filters, actions}
 use Rattle.mq_client.specs.Run.{is_early, IsEarly, AreRead, IsReady}
+use Rattle.mq_client.specs.declared.link.Outcome.{Outcome}
 use Rattle.mq_client.proofs.Turning.{OneReply, turns, none_next, same_turns}
 use Rattle.mq_client.proofs.Basics.{none_some, nil_cons, cons_head, cons_tail}
 
@@ -129,20 +130,20 @@ same_step x y e f =
 -- steps of the same actions, whose exchanges ended alike one after another, are the same
 
 -- no exchange comes in turn after the last one
-no_more : OneReply → (n : ℕ) (queue : List Request) (g h : List Exchange) (b : Ending) (D : List Ending) → ComeInTurn n queue g → ComeInTurn n queue h → next_of n queue h ≡ None → outcomes g ≡ b ∷ (D ++ outcomes h) → ⊥
+no_more : OneReply → (n : ℕ) (queue : List Request) (g h : List Exchange) (b : Outcome) (D : List Outcome) → ComeInTurn n queue g → ComeInTurn n queue h → next_of n queue h ≡ None → outcomes g ≡ b ∷ (D ++ outcomes h) → ⊥
 no_more U n queue [] h b D c d last e = nil_cons b (D ++ outcomes h) e
 no_more U n queue (x ∷ g) h b [] c d last e =
-    let same = same_turns U n queue g h c.2 d (cons_tail (record { outcome = x.outcome; lacked_memory = lacks_memory x.mark }) b (outcomes g) (outcomes h) e) in
+    let same = same_turns U n queue g h c.2 d (cons_tail x.outcome b (outcomes g) (outcomes h) e) in
     none_some x.request (sym last ∙ sym (ap (next_of n queue) same) ∙ c.0)
-no_more U n queue (x ∷ g) h b (z ∷ D) c d last e = no_more U n queue g h z D c.2 d last (cons_tail (record { outcome = x.outcome; lacked_memory = lacks_memory x.mark }) b (outcomes g) (z ∷ D ++ outcomes h) e)
+no_more U n queue (x ∷ g) h b (z ∷ D) c d last e = no_more U n queue g h z D c.2 d last (cons_tail x.outcome b (outcomes g) (z ∷ D ++ outcomes h) e)
 
-same_groups : OneReply → (n : ℕ) (queue : List Request) (g h : List Exchange) (A B : List Ending) → ComeInTurn n queue g → ComeInTurn n queue h → next_of n queue g ≡ None → next_of n queue h ≡ None → A ++ outcomes g ≡ B ++ outcomes h → g ≡ h
+same_groups : OneReply → (n : ℕ) (queue : List Request) (g h : List Exchange) (A B : List Outcome) → ComeInTurn n queue g → ComeInTurn n queue h → next_of n queue g ≡ None → next_of n queue h ≡ None → A ++ outcomes g ≡ B ++ outcomes h → g ≡ h
 same_groups U n queue g h [] [] c d last last' e = same_turns U n queue g h c d e
 same_groups U n queue g h [] (b ∷ B) c d last last' e = absurd (no_more U n queue g h b B c d last' e)
 same_groups U n queue g h (a ∷ A) [] c d last last' e = absurd (no_more U n queue h g a A d c last (sym e))
 same_groups U n queue g h (a ∷ A) (b ∷ B) c d last last' e = same_groups U n queue g h A B c d last last' (cons_tail a b (A ++ outcomes g) (B ++ outcomes h) e)
 
-same_from : OneReply → (s : Source) (n : ℕ) (P steps others : List Step) (A B : List Ending) → ArePlayed s n P steps → ArePlayed s n P others → actions steps ≡ actions others
+same_from : OneReply → (s : Source) (n : ℕ) (P steps others : List Step) (A B : List Outcome) → ArePlayed s n P steps → ArePlayed s n P others → actions steps ≡ actions others
     → A ++ all_outcomes steps ≡ B ++ all_outcomes others → steps ≡ others
 same_from U s n P [] [] A B h i e f = refl
 same_from U s n P [] (y ∷ others) A B h i e f = absurd (nil_cons y.action (actions others) e)

@@ -1,13 +1,12 @@
 -- What a link tells of several exchanges, and how tries add up.
-use Rattle.std.proofs.Common.{◌≡◌, ℕ, Bool, true, false, List, [], ◌∷◌, ◌++◌, refl, sym, ap, ◌∙◌, subst, append_assoc, append-nil, Option, None, Some, if◌then◌else◌}
-use Rattle.std.specs.Prelude.{Result, Ok, Err, IfOk, MatchResult}
-use Rattle.mq_frame.specs.declared.decode.DecodeFault.{DecodeFault}
-use Rattle.mq_frame.specs.declared.decode.DecodeFault.TheVariants as fault
+use Rattle.std.proofs.Common.{◌≡◌, ℕ, ◌<◌, Bool, true, false, List, [], ◌∷◌, ◌++◌, length, refl, sym, ap, ◌∙◌, subst, append_assoc, append-nil, Option, None, Some, if◌then◌else◌}
 use Rattle.mq_frame.specs.Spelling.{SpellsReply}
 use Rattle.mq_frame.specs.declared.message.Request.{Request}
 use Rattle.mq_frame.specs.declared.message.Reply.{Reply}
 use Rattle.mq_client.specs.Link.{Tells}
-use Rattle.mq_client.specs.Exchanges.{Exchange, Mark, Fails, LacksMemory, Decides, decided_by, Brings, IsMarked, decides, deciding, request_frame, told_of, told_all}
+use Rattle.mq_client.specs.Exchanges.{Exchange, IsDecision, IsTry, AreFailed, AreTries, IsSent, decides, request_frame, told_of, told_all}
+use Rattle.mq_client.specs.Verdict.{IsVerdict, deciding}
+use Rattle.mq_client.specs.declared.verdict.Verdict.{Verdict}
 use Rattle.mq_client.specs.declared.link.Outcome.{Outcome}
 use Rattle.mq_client.specs.declared.link.Outcome.TheVariants.{Answered}
 use Rattle.mq_client.specs.declared.link.Told.{Told}
@@ -38,26 +37,29 @@ told_all-append (x ∷ later) done = ap (λ l. l ++ told_of x ∷ []) (told_all-
 pub told_both : (a b c : Option (List Told)) (done later : List Exchange) → Tells a b (told_all done) → Tells b c (told_all later) → Tells a c (told_all (later ++ done))
 told_both a b c done later h i = rw (told_all-append later done) (Tells-trans a b c (told_all done) (told_all later) h i)
 
--- an exchange that brought a body
-pub brought : (bytes body : List ℕ) (reply : Reply) → bytes ≡ body → SpellsReply bytes reply → Brings (Answered body) reply
-brought bytes body reply e h = subst (λ (b : List ℕ). SpellsReply b reply) e h
-
--- the body spells one reply, and that doesn't decide
-pub fails_by : (request : Request) (bytes body : List ℕ) (found : Reply) → bytes ≡ body → decides request found ≡ false → ((reply : Reply) → SpellsReply bytes reply → found ≡ reply) → IsMarked request (Answered body) Fails
-fails_by request bytes body found e n only = λ reply spelled. ap (decides request) (sym (only reply (subst (λ (b : List ℕ). SpellsReply b reply) (sym e) spelled))) ∙ n
-
--- the body spells none
-pub fails_bad : (request : Request) (bytes body : List ℕ) → bytes ≡ body → ((reply : Reply) → SpellsReply bytes reply → ⊥) → IsMarked request (Answered body) Fails
-fails_bad request bytes body e bad = λ reply spelled. absurd (bad reply (subst (λ (b : List ℕ). SpellsReply b reply) (sym e) spelled))
-
--- what the decoding of a body decides
-pub marked_by : (request : Request) (bytes body : List ℕ) (r : Result Reply DecodeFault) → bytes ≡ body → IfOk r (λ reply. SpellsReply bytes reply)
-    → ((reply : Reply) → SpellsReply bytes reply → MatchResult r (λ found. found ≡ reply) (λ f. f ≡ fault.Memory)) → (r ≡ Err fault.Memory → (reply : Reply) × SpellsReply bytes reply)
-    → (mark : Mark) × IsMarked request (Answered body) mark × (decided_by mark ≡ deciding request r)
-marked_by request bytes body (Ok found) e spells only memory = by_kind (decides request found) refl
+-- what a body that spells this reply comes to
+pub decision_by : (request : Request) (body : List ℕ) (found : Reply) → SpellsReply body found → ((reply : Reply) → SpellsReply body reply → found ≡ reply) → IsDecision request (Answered body) (deciding request found)
+decision_by request body found spelled only = by_kind (decides request found) refl
   where
-    by_kind : (b : Bool) → decides request found ≡ b → (mark : Mark) × IsMarked request (Answered body) mark × (decided_by mark ≡ deciding request (Ok found))
-    by_kind true so = (Decides found, (brought bytes body found e spells, so), sym (ap (λ (b : Bool). if b then Some found else None) so))
-    by_kind false so = (Fails, fails_by request bytes body found e so only, sym (ap (λ (b : Bool). if b then Some found else None) so))
-marked_by request bytes body (Err fault.Bad) e spells only memory = (Fails, fails_bad request bytes body e (λ reply spelled. let no = only reply spelled in cc (no)), refl)
-marked_by request bytes body (Err fault.Memory) e spells only memory = let (reply, spelled) = memory refl in (LacksMemory, (reply, brought bytes body reply e spelled), refl)
+    by_kind : (b : Bool) → decides request found ≡ b → IsDecision request (Answered body) (if b then Some found else None)
+    by_kind true so = (spelled, so)
+    by_kind false so = λ reply h. ap (decides request) (sym (only reply h)) ∙ so
+
+-- an exchange without a verdict fails
+pub undecided : (request : Request) (x : Exchange) (decided : Option Reply) → IsTry request x decided → IsVerdict decided None → IsTry request x None
+undecided request x None t v = t
+undecided request x (Some reply) t v = absurd v
+
+-- one with a verdict ends the tries
+pub decided_by_last : (n : ℕ) (request : Request) (x : Exchange) (done : List Exchange) (decided : Option Reply) (v : Verdict) → IsTry request x decided → IsVerdict decided (Some v) → AreFailed request done → length done < n → AreTries n request (x ∷ done) decided
+decided_by_last n request x done None v t none failed few = absurd none
+decided_by_last n request x done (Some reply) v t says failed few = (t, failed, few)
+
+-- whether a closing was decided is told by its verdict
+pub sent_decided : (n : ℕ) (request : Request) (group : List Exchange) (decided : Option Reply) (v : Verdict) → AreTries n request group decided → IsVerdict decided (Some v) → IsSent n request group true
+sent_decided n request group None v t none = absurd none
+sent_decided n request group (Some reply) v t says = (reply, t)
+
+pub sent_undecided : (n : ℕ) (request : Request) (group : List Exchange) (decided : Option Reply) → AreTries n request group decided → IsVerdict decided None → IsSent n request group false
+sent_undecided n request group None t v = t
+sent_undecided n request group (Some reply) t v = absurd v

@@ -1,18 +1,18 @@
 -- The exchanges of a step come in turn, until none is the next one.
 use Rattle.std.proofs.Common.{◌≡◌, ℕ, zero, suc, ◌+◌, ◌<◌, ◌≤◌, Bool, false, true, List, [], ◌∷◌, ◌++◌, length, drop, refl, sym, ap, ◌∙◌, subst, append-nil, arith, Option, None, Some, if◌then◌else◌, MatchBool}
 use Rattle.std.specs.Prelude.{slice_get, nat_le}
-use Rattle.std.proofs.lemmas.Bool.{lt-leb, le-leb}
+use Rattle.std.proofs.lemmas.Bool.{lt-leb, le-leb, leb-false}
 use Rattle.mq_frame.specs.declared.message.Request.{Request}
 use Rattle.mq_frame.specs.declared.message.Reply.{Reply}
 use Rattle.mq_frame.specs.Spelling.{SpellsReply}
-use Rattle.mq_client.specs.Exchanges.{Mark, Fails, LacksMemory, Decides, Exchange, lacks_memory, Brings, IsTry, IsMarked, AreFailed, AreTries, SendsSome, NoneYet, OneMore, Sends, SendsAll, StopsAt, decisions}
-use Rattle.mq_client.specs.Past.{Source, Action, Ask, Close, Drain, Step, View, view, held_for, reserve_of, refuses, PlaysFrom, Plays}
-use Rattle.mq_client.specs.Turns.{failures, queue_of, next_of, next, ComeInTurn, Ending, outcomes}
+use Rattle.mq_client.specs.Exchanges.{Exchange, Brings, IsTry, IsDecision, AreFailed, AreTries, SendsSome, NoneYet, OneMore, Sends, SendsAll, StopsAt, decisions}
+use Rattle.mq_client.specs.Past.{Source, Action, Ask, Close, Drain, Step, View, view, held_for, reserve_of, refuses, PlaysFrom, Plays, IsPlayed}
+use Rattle.mq_client.specs.Turns.{failures, queue_of, next_of, next, ComeInTurn, IsUnderway, AreUnderway, outcomes}
 use Rattle.mq_client.specs.declared.held.Held.{Held}
 use Rattle.mq_client.specs.declared.link.Outcome.{Outcome}
 use Rattle.mq_client.specs.declared.link.Outcome.TheVariants.{Answered, Faulted}
 use Rattle.mq_client.proofs.Making.{some_left}
-use Rattle.mq_client.proofs.Basics.{some_is, true_false, cons_head, cons_tail}
+use Rattle.mq_client.proofs.Basics.{none_some, some_is, true_false, cons_head, cons_tail}
 
 -- the exchanges so far came in turn, and the last so many failed
 record Comes (n : ℕ) (queue : List Request) (group : List Exchange) (failed decided : ℕ) : Type 0 where
@@ -23,12 +23,12 @@ record Comes (n : ℕ) (queue : List Request) (group : List Exchange) (failed de
 next_is : (n : ℕ) (queue : List Request) (group : List Exchange) (q : Request) → failures group < n → slice_get queue (decisions group) ≡ Some q → next_of n queue group ≡ Some q
 next_is n queue group q h e = rw (lt-leb n (failures group) h) e
 
-marked : (q : Request) (x : Exchange) (d : Option Reply) → IsTry q x d → IsMarked x.request x.outcome x.mark
-marked q x d t = subst (λ (r : Request). IsMarked r x.outcome x.mark) (sym t.request_is) t.marked
+decision_is : (q : Request) (x : Exchange) (d : Option Reply) → IsTry q x d → IsDecision x.request x.outcome x.decided
+decision_is q x d t = subst (λ (r : Request). IsDecision r x.outcome x.decided) (sym t.request_is) t.decision
 
 come_next : (n : ℕ) (queue : List Request) (group : List Exchange) (q : Request) (x : Exchange) (d : Option Reply) (f k : ℕ) → Comes n queue group f k → f < n → slice_get queue k ≡ Some q → IsTry q x d → ComeInTurn n queue (x ∷ group)
 come_next n queue group q x d f k c h e t =
-    (next_is n queue group q (omega (arith, h, c.failed_is)) (ap (slice_get queue) c.decided_is ∙ e) ∙ ap Some (sym t.request_is), marked q x d t, c.in_turn)
+    (next_is n queue group q (omega (arith, h, c.failed_is)) (ap (slice_get queue) c.decided_is ∙ e) ∙ ap Some (sym t.request_is), decision_is q x d t, c.in_turn)
 
 come_failed : (n : ℕ) (queue : List Request) (group : List Exchange) (q : Request) (x : Exchange) (f k : ℕ) → Comes n queue group f k → f < n → slice_get queue k ≡ Some q → IsTry q x None → Comes n queue (x ∷ group) (f + 1) k
 come_failed n queue group q x f k c h e t = record {
@@ -97,8 +97,20 @@ turns_from s n v (Some h) (Close txn end) group (left, sends) = sends_come n _ g
 turns_from s n v o Drain group (left, sends) = sends_come n v.waiting group left sends
 
 -- each exchange of a step is the next one
-pub turns : (s : Source) (n : ℕ) (P : List Step) (x : Step) → Plays s n P x → ComeInTurn n (queue_of s (view s P) (held_for (view s P) x.action) x.action) x.group
+pub turns : (s : Source) (n : ℕ) (P : List Step) (x : Step) → Plays s n P x → IsUnderway s n P x
 turns s n P x plays = turns_from s n (view s P) (held_for (view s P) x.action) x.action x.group plays
+
+pub all_turns : (s : Source) (n : ℕ) (P : List Step) → IsPlayed s n P → AreUnderway s n P
+all_turns s n [] played = tt
+all_turns s n (x ∷ P) played = (turns s n P x played.0, all_turns s n P played.1)
+
+-- the next request stands in the queue
+pub next_in_queue : (n : ℕ) (queue : List Request) (group : List Exchange) (q : Request) → next_of n queue group ≡ Some q → (failures group < n) × (slice_get queue (decisions group) ≡ Some q)
+next_in_queue n queue group q e = by_tries (nat_le n (failures group)) refl e
+  where
+    by_tries : (b : Bool) → nat_le n (failures group) ≡ b → (if b then None else slice_get queue (decisions group)) ≡ Some q → (failures group < n) × (slice_get queue (decisions group) ≡ Some q)
+    by_tries true f e = absurd (none_some q e)
+    by_tries false f e = (leb-false n (failures group) f, e)
 
 -- ---- the end of a step
 
@@ -161,28 +173,22 @@ one_brought : OneReply → (o : Outcome) (r q : Reply) → Brings o r → Brings
 one_brought U (Answered body) r q h i = U body r q h i
 one_brought U (Faulted fault) r q h i = absurd h
 
--- the mark of an exchange follows from its request, from its outcome and from whether memory was lacking
-same_mark : OneReply → (q : Request) (o : Outcome) (m n : Mark) → IsMarked q o m → IsMarked q o n → lacks_memory m ≡ lacks_memory n → m ≡ n
-same_mark U q o Fails Fails h i e = refl
-same_mark U q o Fails LacksMemory h i e = absurd (true_false (sym e))
-same_mark U q o Fails (Decides r) h i e = absurd (true_false (sym i.1 ∙ h r i.0))
-same_mark U q o LacksMemory Fails h i e = absurd (true_false e)
-same_mark U q o LacksMemory LacksMemory h i e = refl
-same_mark U q o LacksMemory (Decides r) h i e = absurd (true_false e)
-same_mark U q o (Decides r) Fails h i e = absurd (true_false (sym h.1 ∙ i r h.0))
-same_mark U q o (Decides r) LacksMemory h i e = absurd (true_false (sym e))
-same_mark U q o (Decides r) (Decides p) h i e = ap Decides (one_brought U o r p h.0 i.0)
+-- which reply decided follows from the request and from how its exchange ended
+same_decision : OneReply → (q : Request) (o : Outcome) (d e : Option Reply) → IsDecision q o d → IsDecision q o e → d ≡ e
+same_decision U q o None None h i = refl
+same_decision U q o None (Some r) h i = absurd (true_false (sym i.1 ∙ h r i.0))
+same_decision U q o (Some r) None h i = absurd (true_false (sym h.1 ∙ i r h.0))
+same_decision U q o (Some r) (Some p) h i = ap Some (one_brought U o r p h.0 i.0)
 
-same_exchange : OneReply → (x y : Exchange) → x.request ≡ y.request → x.outcome ≡ y.outcome → lacks_memory x.mark ≡ lacks_memory y.mark
-    → IsMarked x.request x.outcome x.mark → IsMarked y.request y.outcome y.mark → x ≡ y
-same_exchange U x y e f g h i =
-    let F : Request → Type 0 = λ q. IsMarked q x.outcome x.mark in
-    let G : Outcome → Type 0 = λ o. IsMarked y.request o x.mark in
-    let mark : x.mark ≡ y.mark = same_mark U y.request y.outcome x.mark y.mark (subst G f (subst F e h)) i g in
-    let A : Request → Exchange = λ q. record { request = q; outcome = x.outcome; mark = x.mark } in
-    let B : Outcome → Exchange = λ o. record { request = y.request; outcome = o; mark = x.mark } in
-    let C : Mark → Exchange = λ m. record { request = y.request; outcome = y.outcome; mark = m } in
-    ap A e ∙ ap B f ∙ ap C mark
+same_exchange : OneReply → (x y : Exchange) → x.request ≡ y.request → x.outcome ≡ y.outcome → IsDecision x.request x.outcome x.decided → IsDecision y.request y.outcome y.decided → x ≡ y
+same_exchange U x y e f h i =
+    let F : Request → Type 0 = λ q. IsDecision q x.outcome x.decided in
+    let G : Outcome → Type 0 = λ o. IsDecision y.request o x.decided in
+    let decided : x.decided ≡ y.decided = same_decision U y.request y.outcome x.decided y.decided (subst G f (subst F e h)) i in
+    let A : Request → Exchange = λ q. record { request = q; outcome = x.outcome; decided = x.decided } in
+    let B : Outcome → Exchange = λ o. record { request = y.request; outcome = o; decided = x.decided } in
+    let C : Option Reply → Exchange = λ d. record { request = y.request; outcome = y.outcome; decided = d } in
+    ap A e ∙ ap B f ∙ ap C decided
 
 -- exchanges that came in turn and ended alike are the same
 pub same_turns : OneReply → (n : ℕ) (queue : List Request) (g h : List Exchange) → ComeInTurn n queue g → ComeInTurn n queue h → outcomes g ≡ outcomes h → g ≡ h
@@ -191,8 +197,6 @@ same_turns U n queue [] (y ∷ h) c d e = let no : ⊥ = cc in absurd no
 same_turns U n queue (x ∷ g) [] c d e = let no : ⊥ = cc in absurd no
 same_turns U n queue (x ∷ g) (y ∷ h) c d e =
     let tail = same_turns U n queue g h c.2 d.2 (cons_tail _ _ _ _ e) in
-    let ending = cons_head _ _ (outcomes g) (outcomes h) e in
-    let outcome : x.outcome ≡ y.outcome = ap (λ (z : Ending). z.outcome) ending in
-    let memory : lacks_memory x.mark ≡ lacks_memory y.mark = ap (λ (z : Ending). z.lacked_memory) ending in
+    let outcome = cons_head x.outcome y.outcome (outcomes g) (outcomes h) e in
     let request = some_is x.request y.request (sym c.0 ∙ ap (next_of n queue) tail ∙ d.0) in
-    ap (λ z. z ∷ g) (same_exchange U x y request outcome memory c.1 d.1) ∙ ap (λ l. y ∷ l) tail
+    ap (λ z. z ∷ g) (same_exchange U x y request outcome c.1 d.1) ∙ ap (λ l. y ∷ l) tail

@@ -1,5 +1,7 @@
 -- What waits is what is read off the whole past: the closings that no exchange decided.
-use Rattle.std.proofs.Common.{◌≡◌, ℕ, ◌+◌, ◌<◌, ◌≤◌, ◌==◌, ◌&&◌, ◌||◌, not, Bool, false, true, List, [], ◌∷◌, ◌++◌, length, refl, sym, ap, ◌∙◌, subst, arith, append_assoc, append-nil, Option, None, Some, is_some, if◌then◌else◌, MatchBool, filter}
+use Rattle.std.proofs.Common.{◌≡◌, ℕ, zero, suc, ◌+◌, ◌<◌, ◌≤◌, ◌==◌, ◌&&◌, ◌||◌, not, Bool, false, true, List, [], ◌∷◌, ◌++◌, length, refl, sym, ap, ◌∙◌, subst, arith, append_assoc, append-nil, Option, None, Some, is_some, if◌then◌else◌, filter}
+use Rattle.std.specs.Prelude.{drop, slice_get}
+use Rattle.std.proofs.lemmas.List.{drop-drop}
 use Rattle.std.specs.List.{AllByRecursion}
 use Rattle.std.proofs.lemmas.Bool.{eq-eqb, ne_eqb}
 use Rattle.std.proofs.lemmas.Cmp.{nat_list_eq_equiv}
@@ -9,15 +11,15 @@ use Rattle.mq_frame.specs.Same.{same_text, same_id, same_request}
 use Rattle.mq_frame.specs.declared.message.Id.{Id}
 use Rattle.mq_frame.specs.declared.message.Request.{Request}
 use Rattle.mq_frame.specs.declared.message.Request.TheVariants.{Reserve, Settle, Release, Limit, Usage, List as ListRequest}
-use Rattle.mq_frame.specs.declared.message.Reply.{Reply}
-use Rattle.mq_client.specs.Exchanges.{Exchange, AreFailed, AreTries, IsUndecided, SendsSome, NoneYet, OneMore, Sends, SendsAll, StopsAt, decided_by}
-use Rattle.mq_client.specs.Past.{Source, Action, Ask, Close, Drain, Step, View, view, after, after_close, held_by, held_for, reserve_of, closing_of, PlaysFrom, IsPlayed}
+use Rattle.mq_client.specs.Exchanges.{Exchange, decisions}
+use Rattle.mq_client.specs.Turns.{queue_of, ComeInTurn, AreUnderway}
+use Rattle.mq_client.specs.Past.{Source, Action, Ask, Close, Drain, Step, View, view, after, after_close, held_by, held_for, reserve_of, closing_of}
 use Rattle.mq_client.specs.Reading.{live_in, numbers_in, closing_under, closings_in, is_decided_by, is_decided_in, waiting_in}
 use Rattle.mq_track.specs.declared.closing.CloseEnd.{CloseEnd}
 use Rattle.mq_client.specs.declared.held.Held.{Held}
-use Rattle.mq_client.proofs.Making.{sends_left}
+use Rattle.mq_client.proofs.Turning.{next_in_queue}
 use Rattle.mq_client.proofs.ReadingOff.{live_read, numbers_read}
-use Rattle.mq_client.proofs.Basics.{all_push}
+use Rattle.mq_client.proofs.Basics.{none_some, some_is, all_push}
 
 -- ---- requests of closings
 
@@ -100,31 +102,38 @@ closing_at s n txn at count login false = (tt, refl)
 closing_is : (s : Source) (n txn : ℕ) (end : CloseEnd) (h : Held) → IsClosing (closing_of s n txn end h) × (seq_of (closing_of s n txn end h) ≡ n)
 closing_is s n txn end h = closing_at s n txn h.at h.granted h.login _
 
+or_true : (a b : Bool) → b ≡ true → (a || b) ≡ true
+or_true true b e = refl
+or_true false b e = e
+
+or_first : (a b : Bool) → a ≡ true → (a || b) ≡ true
+or_first true b e = refl
+or_first false b e = let no : ⊥ = cc in absurd no
+
+or_false : (a b : Bool) → a ≡ false → b ≡ false → (a || b) ≡ false
+or_false true b e f = e
+or_false false b e f = f
+
 -- ---- which requests a group decided
 
-failed_none : (r : Request) (tries : List Exchange) (q : Request) → AreFailed r tries → is_decided_by tries q ≡ false
-failed_none r [] q f = refl
-failed_none r (x ∷ tries) q f = rw (f.0.decided_is, second_false (same_request x.request q) false refl) (failed_none r tries q f.1)
+unmarked : (b c : Bool) → ((b && false) || c) ≡ c
+unmarked true c = refl
+unmarked false c = refl
 
-undecided_none : (n : ℕ) (r : Request) (tries : List Exchange) (q : Request) → IsUndecided n r tries → is_decided_by tries q ≡ false
-undecided_none n r [] q t = refl
-undecided_none n r (x ∷ tries) q t = failed_none r (x ∷ tries) q t.0
+-- an exchange that fails decides nothing
+failed_more : (x : Exchange) (group : List Exchange) (q : Request) → is_some x.decided ≡ false → is_decided_by (x ∷ group) q ≡ is_decided_by group q
+failed_more x group q e = rw e (unmarked (same_request x.request q) (is_decided_by group q))
 
-and_true : (b c : Bool) → c ≡ false → ((b && true) || c) ≡ b
-and_true true c e = refl
-and_true false c e = e
-
-tries_decide : (n : ℕ) (r : Request) (tries : List Exchange) (reply : Reply) (q : Request) → AreTries n r tries (Some reply) → is_decided_by tries q ≡ same_request r q
-tries_decide n r [] reply q t = absurd t
-tries_decide n r (x ∷ tries) reply q t = rw (t.0.decided_is, t.0.request_is) (and_true (same_request r q) (is_decided_by tries q) (failed_none r tries q t.1))
-
-group_append : (tries group : List Exchange) (q : Request) → is_decided_by (tries ++ group) q ≡ (is_decided_by tries q || is_decided_by group q)
-group_append tries group q = list_any-append (λ x. same_request x.request q && is_some (decided_by x.mark)) tries group
+the_only : (k : ℕ) (q r : Request) → slice_get (q ∷ []) k ≡ Some r → r ≡ q
+the_only zero q r e = sym (some_is q r e)
+the_only (suc k) q r e = absurd (none_some r e)
 
 -- an ask decides no closing
-ask_none : (n : ℕ) (s : Source) (k txn at : ℕ) (login : List ℕ) (group : List Exchange) (d : Option Reply) (q : Request) → AreTries n (reserve_of s k txn at login) group d → IsClosing q → is_decided_by group q ≡ false
-ask_none n s k txn at login group None q t c = failed_none _ group q t.0
-ask_none n s k txn at login group (Some r) q t c = tries_decide n _ group r q t ∙ reserve_other s k txn at login q c
+ask_none : (n : ℕ) (r : Request) (group : List Exchange) (q : Request) → ComeInTurn n (r ∷ []) group → same_request r q ≡ false → is_decided_by group q ≡ false
+ask_none n r [] q turns other = refl
+ask_none n r (x ∷ group) q turns other =
+    let is : x.request ≡ r = the_only (decisions group) r x.request (next_in_queue n (r ∷ []) group x.request turns.0).1 in
+    or_false _ _ (first_false (same_request x.request q) (is_some x.decided) (ap (λ p. same_request p q) is ∙ other)) (ask_none n r group q turns.2 other)
 
 -- ---- lists of closings, the earlier numbers first
 
@@ -179,45 +188,42 @@ record Splits (queue : List Request) (group : List Exchange) (left : List Reques
   decided : AllByRecursion (λ q. is_decided_by group q ≡ true) done
   others : (q : Request) → IsClosing q → ComesAfter done q → is_decided_by group q ≡ false
 
-or_true : (a b : Bool) → b ≡ true → (a || b) ≡ true
-or_true true b e = refl
-or_true false b e = e
+-- what stands at a place of a list begins what is left from there on
+starts_at : (k : ℕ) (queue : List Request) (q : Request) → slice_get queue k ≡ Some q → drop k queue ≡ q ∷ drop 1 (drop k queue)
+starts_at zero [] q e = absurd (none_some q e)
+starts_at zero (x ∷ queue) q e = ap (λ z. z ∷ queue) (some_is x q e)
+starts_at (suc k) [] q e = absurd (none_some q e)
+starts_at (suc k) (x ∷ queue) q e = starts_at k queue q e
 
-or_first : (a b : Bool) → a ≡ true → (a || b) ≡ true
-or_first true b e = refl
-or_first false b e = let no : ⊥ = cc in absurd no
-
-or_false : (a b : Bool) → a ≡ false → b ≡ false → (a || b) ≡ false
-or_false true b e f = e
-or_false false b e f = f
-
-splits_some : (n : ℕ) (queue : List Request) (group : List Exchange) (left : List Request) → AllByRecursion IsClosing queue → SendsSome n queue group left → Splits queue group left
-splits_some n queue group left all NoneYet = record { done = []; whole = refl; decided = tt; others = λ q c h. refl }
-splits_some n queue group left all (OneMore r more before tries reply s t) =
-    let p = splits_some n queue before (r ∷ left) all s in
-    let all_parts : AllByRecursion IsClosing (p.done ++ (r ∷ left)) = subst (AllByRecursion IsClosing) p.whole all in
-    let closing = (all_both IsClosing p.done (r ∷ left) all_parts).1.0 in
+splits_more : (n : ℕ) (queue : List Request) (x : Exchange) (group : List Exchange) (b : Bool) → is_some x.decided ≡ b → AllByRecursion IsClosing queue → slice_get queue (decisions group) ≡ Some x.request
+    → Splits queue group (drop (decisions group) queue) → Splits queue (x ∷ group) (drop (if b then decisions group + 1 else decisions group) queue)
+splits_more n queue x group false e all at p = record {
+  done = p.done;
+  whole = p.whole;
+  decided = all_map (λ q. is_decided_by group q ≡ true) (λ q. is_decided_by (x ∷ group) q ≡ true) p.done (λ q h. failed_more x group q e ∙ h) p.decided;
+  others = λ q c h. failed_more x group q e ∙ p.others q c h;
+}
+splits_more n queue x group true e all at p =
+    let r = x.request in
+    let left = drop (decisions group + 1) queue in
+    let front : drop (decisions group) queue ≡ r ∷ left = starts_at (decisions group) queue r at ∙ ap (λ l. r ∷ l) (drop-drop 1 (decisions group) queue) in
+    let parts : queue ≡ p.done ++ r ∷ left = p.whole ∙ ap (λ l. p.done ++ l) front in
+    let closing = (all_both IsClosing p.done (r ∷ left) (subst (AllByRecursion IsClosing) parts all)).1.0 in
     record {
       done = p.done ++ r ∷ [];
-      whole = p.whole ∙ sym (append_assoc p.done (r ∷ []) left);
-      decided = all_push (λ q. is_decided_by (tries ++ before) q ≡ true) p.done r
-          (all_map (λ q. is_decided_by before q ≡ true) (λ q. is_decided_by (tries ++ before) q ≡ true) p.done (λ q e. group_append tries before q ∙ or_true (is_decided_by tries q) _ e) p.decided)
-          (group_append tries before r ∙ or_first _ (is_decided_by before r) (tries_decide n r tries reply r t ∙ request_itself r closing));
+      whole = parts ∙ sym (append_assoc p.done (r ∷ []) left);
+      decided = all_push (λ q. is_decided_by (x ∷ group) q ≡ true) p.done r
+          (all_map (λ q. is_decided_by group q ≡ true) (λ q. is_decided_by (x ∷ group) q ≡ true) p.done (λ q h. or_true _ (is_decided_by group q) h) p.decided)
+          (or_first _ (is_decided_by group r) (rw (request_itself r closing) e));
       others = λ q c h.
-          let (front, last) = all_both (λ x. seq_of x < seq_of q) p.done (r ∷ []) h in
-          group_append tries before q ∙ or_false _ _ (tries_decide n r tries reply q t ∙ other_request r q c last.0) (p.others q c front);
+          let (first, last) = all_both (λ y. seq_of y < seq_of q) p.done (r ∷ []) h in
+          or_false _ _ (first_false (same_request r q) (is_some x.decided) (other_request r q c last.0)) (p.others q c first);
     }
 
-splits : (n : ℕ) (queue : List Request) (group : List Exchange) (left : List Request) → AllByRecursion IsClosing queue → Sends n queue group left → Splits queue group left
-splits n queue group left all (SendsAll done s) = splits_some n queue group [] all s
-splits n queue group left all (StopsAt r more before tries s t) =
-    let p = splits_some n queue before (r ∷ more) all s in
-    record {
-      done = p.done;
-      whole = p.whole;
-      decided = all_map (λ q. is_decided_by before q ≡ true) (λ q. is_decided_by (tries ++ before) q ≡ true) p.done (λ q e. group_append tries before q ∙ or_true (is_decided_by tries q) _ e) p.decided;
-      others = λ q c h. group_append tries before q ∙ or_false _ _ (undecided_none n r tries q t) (p.others q c h);
-    }
+splits : (n : ℕ) (queue : List Request) (group : List Exchange) → AllByRecursion IsClosing queue → ComeInTurn n queue group → Splits queue group (drop (decisions group) queue)
+splits n queue [] all turns = record { done = []; whole = refl; decided = tt; others = λ q c h. refl }
+splits n queue (x ∷ group) all turns =
+    splits_more n queue x group (is_some x.decided) refl all (next_in_queue n queue group x.request turns.0).1 (splits n queue group all turns.2)
 
 -- ---- what waits in a past
 
@@ -287,39 +293,41 @@ waits_asked dec closings waiting n m group w le quiet =
 abbrev WaitsIn : Source → View → List Step → Type 0
 WaitsIn s v P = Waits (is_decided_in P) (closings_in s P) v.waiting v.numbers
 
-ask_waits : (s : Source) (n : ℕ) (v : View) (P : List Step) (txn at : ℕ) (login : List ℕ) (group : List Exchange) (b : Bool) → MatchBool b (group ≡ []) ((d : Option Reply) × AreTries n (reserve_of s (v.numbers + 1) txn at login) group d) → (m : ℕ) → v.numbers ≤ m → WaitsIn s v P
+ask_waits : (s : Source) (n : ℕ) (v : View) (P : List Step) (txn at : ℕ) (login : List ℕ) (group : List Exchange) (b : Bool) → ComeInTurn n (if b then [] else reserve_of s (v.numbers + 1) txn at login ∷ []) group → (m : ℕ) → v.numbers ≤ m → WaitsIn s v P
     → Waits (λ q. is_decided_by group q || is_decided_in P q) (closings_in s P ++ []) v.waiting m
-ask_waits s n v P txn at login group true e m le w = rw append-nil (waits_asked _ _ _ v.numbers m group w le (λ q c. rw e refl))
-ask_waits s n v P txn at login group false (d, t) m le w = rw append-nil (waits_asked _ _ _ v.numbers m group w le (λ q c. ask_none n s (v.numbers + 1) txn at login group d q t c))
+ask_waits s n v P txn at login [] b turns m le w = rw append-nil (waits_asked _ _ _ v.numbers m [] w le (λ q c. refl))
+ask_waits s n v P txn at login (x ∷ group) true turns m le w = absurd (none_some x.request (next_in_queue n [] group x.request turns.0).1)
+ask_waits s n v P txn at login (x ∷ group) false turns m le w =
+    rw append-nil (waits_asked _ _ _ v.numbers m (x ∷ group) w le (λ q c. ask_none n (reserve_of s (v.numbers + 1) txn at login) (x ∷ group) q turns (reserve_other s (v.numbers + 1) txn at login q c)))
+
+nothing_sent : (n : ℕ) (group : List Exchange) → ComeInTurn n [] group → group ≡ []
+nothing_sent n [] turns = refl
+nothing_sent n (x ∷ group) turns = absurd (none_some x.request (next_in_queue n [] group x.request turns.0).1)
 
 close_waits : (s : Source) (n : ℕ) (v : View) (P : List Step) (txn : ℕ) (end : CloseEnd) (group : List Exchange) (o : Option Held) → v.numbers ≡ numbers_in P → live_in P txn ≡ o
-    → PlaysFrom s n o (length v.live) v.numbers v.waiting (Close txn end) group → WaitsIn s v P
+    → ComeInTurn n (queue_of s v o (Close txn end)) group → WaitsIn s v P
     → Waits (λ q. is_decided_by group q || is_decided_in P q) (closings_in s P ++ closing_under s (numbers_in P + 1) txn end (live_in P txn)) (after_close s txn end group v o).waiting (after_close s txn end group v o).numbers
-close_waits s n v P txn end group None same live plays w =
-    rw (live, append-nil) (waits_asked (is_decided_in P) (closings_in s P) v.waiting v.numbers v.numbers group w (omega arith) (λ q c. rw plays refl))
-close_waits s n v P txn end group (Some h) same live (left, sends) w =
+close_waits s n v P txn end group None same live turns w =
+    rw (live, append-nil) (waits_asked (is_decided_in P) (closings_in s P) v.waiting v.numbers v.numbers group w (omega arith) (λ q c. rw (nothing_sent n group turns) refl))
+close_waits s n v P txn end group (Some h) same live turns w =
     let q = closing_of s (v.numbers + 1) txn end h in
     let (closing, seq) = closing_is s (v.numbers + 1) txn end h in
     let more = waits_more (is_decided_in P) (closings_in s P) v.waiting v.numbers q w closing seq in
     let queue_closing = (all_both IsClosing more.done (v.waiting ++ q ∷ []) (subst (AllByRecursion IsClosing) more.whole more.closing)).1 in
-    let sent = waits_sent (is_decided_in P) (closings_in s P ++ q ∷ []) (v.waiting ++ q ∷ []) left (v.numbers + 1) group more (splits n (v.waiting ++ q ∷ []) group left queue_closing sends) in
-    let F : List Request → Type 0 = λ l. Waits (λ r. is_decided_by group r || is_decided_in P r) (closings_in s P ++ q ∷ []) l (v.numbers + 1) in
-    rw (live, ← same) (subst F (sends_left n (v.waiting ++ q ∷ []) group left sends) sent)
+    rw (live, ← same) (waits_sent (is_decided_in P) (closings_in s P ++ q ∷ []) (v.waiting ++ q ∷ []) (drop (decisions group) (v.waiting ++ q ∷ [])) (v.numbers + 1) group more (splits n (v.waiting ++ q ∷ []) group queue_closing turns))
 
 waits_step : (s : Source) (n : ℕ) (v : View) (P : List Step) (a : Action) (group : List Exchange) → v.numbers ≡ numbers_in P → ((t : ℕ) → held_by (v.standing t) ≡ live_in P t)
-    → PlaysFrom s n (held_for v a) (length v.live) v.numbers v.waiting a group → WaitsIn s v P → WaitsIn s (after s v a group) (record { action = a; group = group } ∷ P)
-waits_step s n v P (Ask txn at login) [] same live plays w = ask_waits s n v P txn at login [] _ plays v.numbers (omega arith) w
-waits_step s n v P (Ask txn at login) (x ∷ group) same live plays w = ask_waits s n v P txn at login (x ∷ group) _ plays (v.numbers + 1) (omega arith) w
-waits_step s n v P (Close txn end) group same live plays w = close_waits s n v P txn end group (held_by (v.standing txn)) same (sym (live txn)) plays w
-waits_step s n v P Drain group same live (left, sends) w =
+    → ComeInTurn n (queue_of s v (held_for v a) a) group → WaitsIn s v P → WaitsIn s (after s v a group) (record { action = a; group = group } ∷ P)
+waits_step s n v P (Ask txn at login) [] same live turns w = ask_waits s n v P txn at login [] true turns v.numbers (omega arith) w
+waits_step s n v P (Ask txn at login) (x ∷ group) same live turns w = ask_waits s n v P txn at login (x ∷ group) _ turns (v.numbers + 1) (omega arith) w
+waits_step s n v P (Close txn end) group same live turns w = close_waits s n v P txn end group (held_by (v.standing txn)) same (sym (live txn)) turns w
+waits_step s n v P Drain group same live turns w =
     let queue_closing = (all_both IsClosing w.done v.waiting (subst (AllByRecursion IsClosing) w.whole w.closing)).1 in
-    let sent = waits_sent (is_decided_in P) (closings_in s P) v.waiting left v.numbers group w (splits n v.waiting group left queue_closing sends) in
-    let F : List Request → Type 0 = λ l. Waits (λ r. is_decided_by group r || is_decided_in P r) (closings_in s P) l v.numbers in
-    rw append-nil (subst F (sends_left n v.waiting group left sends) sent)
+    rw append-nil (waits_sent (is_decided_in P) (closings_in s P) v.waiting (drop (decisions group) v.waiting) v.numbers group w (splits n v.waiting group queue_closing turns))
 
-waits : (s : Source) (n : ℕ) (P : List Step) → IsPlayed s n P → WaitsIn s (view s P) P
-waits s n [] p = record { done = []; whole = refl; decided = tt; undecided = tt; closing = tt; ascends = tt; below = tt; beyond = λ q c h. refl }
-waits s n (x ∷ P) p = waits_step s n (view s P) P x.action x.group (numbers_read s P) (live_read s P) p.0 (waits s n P p.1)
+waits : (s : Source) (n : ℕ) (P : List Step) → AreUnderway s n P → WaitsIn s (view s P) P
+waits s n [] u = record { done = []; whole = refl; decided = tt; undecided = tt; closing = tt; ascends = tt; below = tt; beyond = λ q c h. refl }
+waits s n (x ∷ P) u = waits_step s n (view s P) P x.action x.group (numbers_read s P) (live_read s P) u.0 (waits s n P u.1)
 
 none_kept : (dec : Request → Bool) (qs : List Request) → AllByRecursion (λ q. dec q ≡ true) qs → filter (λ q. not (dec q)) qs ≡ []
 none_kept dec [] all = refl
@@ -329,9 +337,9 @@ all_kept : (dec : Request → Bool) (qs : List Request) → AllByRecursion (λ q
 all_kept dec [] all = refl
 all_kept dec (q ∷ qs) all = rw all.0 (ap (λ l. q ∷ l) (all_kept dec qs all.1))
 
--- in every played past
-pub waiting_read : (s : Source) (n : ℕ) (P : List Step) → IsPlayed s n P → (view s P).waiting ≡ waiting_in s P
-waiting_read s n P p =
-    let w = waits s n P p in
+-- however a client was used
+pub waiting_read : (s : Source) (n : ℕ) (P : List Step) → AreUnderway s n P → (view s P).waiting ≡ waiting_in s P
+waiting_read s n P u =
+    let w = waits s n P u in
     sym (ap (filter (λ q. not (is_decided_in P q))) w.whole ∙ filter-append (λ q. not (is_decided_in P q)) w.done (view s P).waiting
     ∙ ap (λ l. l ++ filter (λ q. not (is_decided_in P q)) (view s P).waiting) (none_kept (is_decided_in P) w.done w.decided) ∙ all_kept (is_decided_in P) (view s P).waiting w.undecided)

@@ -1,8 +1,7 @@
 -- The exchanges of one request: what each brought, and which reply decides.
-use Rattle.std.specs.Prelude.{◌≡◌, ℕ, ◌<◌, List, [], ◌∷◌, ◌++◌, length, Bool, true, false, Option, None, Some, is_some, if◌then◌else◌, ◌+◌, Result, Ok, Err}
+use Rattle.std.specs.Prelude.{◌≡◌, ℕ, ◌<◌, List, [], ◌∷◌, ◌++◌, length, Bool, true, false, Option, None, Some, is_some, if◌then◌else◌, ◌+◌}
 use Rattle.mq_frame.specs.Same.{same_id}
 use Rattle.mq_frame.specs.declared.message.Id.{Id}
-use Rattle.mq_frame.specs.declared.decode.DecodeFault.{DecodeFault}
 use Rattle.mq_frame.specs.declared.message.Request.{Request}
 use Rattle.mq_frame.specs.declared.message.Request.TheVariants.{Reserve, Settle, Release}
 use Rattle.mq_frame.specs.declared.message.Reply.{Reply}
@@ -12,28 +11,11 @@ use Rattle.mq_client.specs.declared.link.Outcome.{Outcome}
 use Rattle.mq_client.specs.declared.link.Outcome.TheVariants.{Answered, Faulted}
 use Rattle.mq_client.specs.declared.link.Told.{Told}
 
--- whether an exchange decides: it fails by what came, or since a growth was refused while what came
--- was decoded, or it decides by a reply
-pub data Mark : Type 0 where
-  Fails : Mark
-  LacksMemory : Mark
-  Decides : (reply : Reply) → Mark
-
+-- an exchange of a request: how it ended, and the reply that decided the request, where one did
 pub record Exchange : Type 0 where
   pub request : Request
   pub outcome : Outcome
-  pub mark : Mark
-
-abbrev pub decided_by : Mark → Option Reply
-decided_by Fails = None
-decided_by LacksMemory = None
-decided_by (Decides reply) = Some reply
-
--- whether a growth was refused
-abbrev pub lacks_memory : Mark → Bool
-lacks_memory Fails = false
-lacks_memory LacksMemory = true
-lacks_memory (Decides reply) = false
+  pub decided : Option Reply
 
 -- the kinds that answer a reserve, with its id
 abbrev pub answers_reserve : Id → Reply → Bool
@@ -61,28 +43,21 @@ decides (Settle id txn at login count) reply = answers_closing id reply
 decides (Release id txn at login) reply = answers_closing id reply
 decides _ reply = false
 
--- the reply that decides the request, of what was decoded
-abbrev pub deciding : Request → Result Reply DecodeFault → Option Reply
-deciding request (Ok reply) = if decides request reply then Some reply else None
-deciding request (Err fault) = None
-
 -- a body came that spells the reply
 abbrev pub Brings : Outcome → Reply → Type 0
 Brings (Answered body) reply = SpellsReply body reply
 Brings (Faulted fault) reply = ⊥
 
--- what an exchange of the request that ended so may be marked: it fails only where nothing came that
--- decides, or a growth was refused
-abbrev pub IsMarked : Request → Outcome → Mark → Type 0
-IsMarked request outcome Fails = (reply : Reply) → Brings outcome reply → decides request reply ≡ false
-IsMarked request outcome LacksMemory = (reply : Reply) × Brings outcome reply
-IsMarked request outcome (Decides reply) = Brings outcome reply × (decides request reply ≡ true)
+-- what an exchange of the request that ended so comes to: a reply that came decides it, or none came that does
+abbrev pub IsDecision : Request → Outcome → Option Reply → Type 0
+IsDecision request outcome (Some reply) = Brings outcome reply × (decides request reply ≡ true)
+IsDecision request outcome None = (reply : Reply) → Brings outcome reply → decides request reply ≡ false
 
 -- an exchange of the request that fails, or that the reply decides
 pub record IsTry (request : Request) (x : Exchange) (decided : Option Reply) : Type 0 where
   pub request_is : x.request ≡ request
-  pub marked : IsMarked request x.outcome x.mark
-  pub decided_is : decided_by x.mark ≡ decided
+  pub decision : IsDecision request x.outcome x.decided
+  pub decided_is : x.decided ≡ decided
 
 -- In a group of exchanges the newest comes first.
 
@@ -99,7 +74,7 @@ AreTries n request (x ∷ group) (Some reply) = IsTry request x (Some reply) × 
 -- how many of the exchanges decide
 abbrev pub decisions : List Exchange → ℕ
 decisions [] = 0
-decisions (x ∷ group) = if is_some (decided_by x.mark) then decisions group + 1 else decisions group
+decisions (x ∷ group) = if is_some (x.decided) then decisions group + 1 else decisions group
 
 -- From the front of a queue, each request is tried, and the next one only where a reply decides. So far
 -- the exchanges are these, and these requests are left.

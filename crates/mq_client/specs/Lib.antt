@@ -1,11 +1,10 @@
 pub mod Link
 pub mod Script
 pub mod Exchanges
+pub mod Verdict
 pub mod Past
 pub mod Framed
 pub mod Held
-pub mod Named
-pub mod Warnings
 pub mod Inside
 pub mod Filter
 pub mod Run

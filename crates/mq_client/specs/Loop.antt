@@ -13,7 +13,7 @@ use Rattle.mq_client.specs.Link.{Tells}
 use Rattle.mq_client.specs.Exchanges.{told_all}
 use Rattle.mq_client.specs.Past.{Step, State, Makes, MakesAll, told_steps}
 use Rattle.mq_client.specs.Filter.{query, Answers, answer_count}
-use Rattle.mq_client.specs.Run.{Stage, Waiting, Running, Reaches, HasText, Origin, IsAtWork, StopsAt, is_early, is_stamped}
+use Rattle.mq_client.specs.Run.{Stage, Waiting, Running, Reaches, HasText, Origin, may_ask_for_memory, IsAtWork, StopsAt, is_early, is_stamped}
 use Rattle.mq_client.specs.declared.faults.FilterFault.{FilterFault}
 use Rattle.mq_client.specs.declared.faults.FilterFault.TheVariants as fault
 use Rattle.mq_client.specs.declared.filter.Early.{Early}
@@ -85,7 +85,7 @@ filter_fault track.Memory = fault.Memory
 -- why a line isn't noted
 abbrev pub IsRefused : FilterFault → List Meaning → Meaning → Type 0
 IsRefused (fault.Track f) L m = track_fault L m ≡ Some f
-IsRefused fault.Memory L m = track_fault L m ≡ None
+IsRefused fault.Memory L m = (track_fault L m ≡ None) × (may_ask_for_memory L m ≡ true)
 IsRefused f L m = ⊥
 
 -- a run that stopped while lines were handled: for want of memory only at the work of a line

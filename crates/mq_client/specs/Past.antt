@@ -9,7 +9,7 @@ use Rattle.mq_frame.specs.declared.message.Request.{Request}
 use Rattle.mq_frame.specs.declared.message.Request.TheVariants.{Reserve, Settle, Release}
 use Rattle.mq_frame.specs.declared.message.Reply.{Reply}
 use Rattle.mq_frame.specs.declared.message.Reply.TheVariants as reply
-use Rattle.mq_client.specs.Exchanges.{Exchange, AreTries, Sends, decided_by, decisions, told_all}
+use Rattle.mq_client.specs.Exchanges.{Exchange, AreTries, Sends, decisions, told_all}
 use Rattle.mq_track.specs.declared.closing.CloseEnd.{CloseEnd}
 use Rattle.mq_track.specs.declared.closing.CloseEnd.TheVariants as ending
 use Rattle.mq_client.specs.declared.held.Asked.{Asked}
@@ -46,7 +46,7 @@ answer_by _ = asked.Unavailable
 -- the answer to an ask with these exchanges
 abbrev pub answer_of : List Exchange → Asked
 answer_of [] = asked.Unavailable
-answer_of (x ∷ group) = answer_by (decided_by x.mark)
+answer_of (x ∷ group) = answer_by (x.decided)
 
 -- an ask that was answered Granted lets one recipient through
 abbrev pub let_through : Asked → Held → Held

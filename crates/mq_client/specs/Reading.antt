@@ -3,7 +3,7 @@ use Rattle.std.specs.Prelude.{ℕ, ◌+◌, List, [], ◌∷◌, ◌++◌, Bool,
 use Rattle.std.specs.List.{filter_map, list_any}
 use Rattle.mq_frame.specs.Same.{same_request}
 use Rattle.mq_frame.specs.declared.message.Request.{Request}
-use Rattle.mq_client.specs.Exchanges.{Exchange, decided_by}
+use Rattle.mq_client.specs.Exchanges.{Exchange}
 use Rattle.mq_client.specs.Past.{Source, Action, Ask, Close, Drain, Step, Standing, Never, Live, Ended, answer_of, closing_of}
 use Rattle.mq_track.specs.declared.closing.CloseEnd.{CloseEnd}
 use Rattle.mq_client.specs.declared.held.Asked.{Asked}
@@ -111,7 +111,7 @@ closings_in s (x ∷ P) = closings_in s P ++ closing_by s P x.action
 
 -- an exchange of the request decided it
 abbrev pub is_decided_by : List Exchange → Request → Bool
-is_decided_by group request = list_any (λ x. same_request x.request request && is_some (decided_by x.mark)) group
+is_decided_by group request = list_any (λ x. same_request x.request request && is_some (x.decided)) group
 
 abbrev pub is_decided_in : List Step → Request → Bool
 is_decided_in P request = list_any (λ x. is_decided_by x.group request) P

@@ -1,15 +1,17 @@
 -- A run of the filter: the bytes that it read, what it wrote, the steps that its client made, and how it ended.
-use Rattle.std.specs.Prelude.{◌≡◌, ◌≢◌, ◌⊎◌, ℕ, ◌≤◌, List, [], ◌∷◌, ◌++◌, length, Bool, true, false, Option, None, Some}
+use Rattle.std.specs.Prelude.{◌≡◌, ◌≢◌, ◌⊎◌, ℕ, ◌≤◌, List, [], ◌∷◌, ◌++◌, length, Bool, true, false, ◌||◌, Option, None, Some, is_some}
 use Rattle.std.specs.List.{AllByRecursion}
 use Rattle.std.specs.Io.KnownBytes.{Appends, IsAtEnd}
 use Rattle.mq_line.specs.Grammar.{Meaning, ConfigLine, ReadyLine, ReportLine, FilterLine, OtherLine, Reads, fault}
 use Rattle.mq_line.specs.Results.{registration}
 use Rattle.mq_line.specs.Text.{IsLine, IsTooLong, Holds}
-use Rattle.mq_track.specs.Sessions.{fault as track_fault}
+use Rattle.mq_track.specs.Events.{event}
+use Rattle.mq_track.specs.Sessions.{closing, fault as track_fault}
+use Rattle.mq_track.specs.Steps.{needs_memory}
 use Rattle.mq_client.specs.Link.{Tells}
 use Rattle.mq_client.specs.Exchanges.{Exchange}
 use Rattle.mq_client.specs.Past.{Step, drained, State, StandsAt, view, MakesAll, told_steps}
-use Rattle.mq_client.specs.Filter.{Takes, push, Filters, answer_count}
+use Rattle.mq_client.specs.Filter.{Takes, push, Filters, is_filter, answer_count}
 use Rattle.mq_client.specs.declared.faults.FilterFault.{FilterFault}
 use Rattle.mq_client.specs.declared.faults.FilterFault.TheVariants as at
 use Rattle.mq_client.specs.declared.filter.Ended.{Ended}
@@ -102,10 +104,15 @@ pub record IsFed (left : List ℕ) : Type 0 where
   pub some : 1 ≤ length piece
   pub few : length piece ≤ 4096
 
--- the line in front may ask for memory: `config|ready`, or a line after it that isn't refused
+-- the lines that may ask for memory, by those before them: requests, those that close a transaction, and those of
+-- which the tracker keeps something
+abbrev pub may_ask_for_memory : List Meaning → Meaning → Bool
+may_ask_for_memory L m = is_filter m || (is_some (closing L m) || needs_memory (event m))
+
+-- the line in front may ask for memory: `config|ready`, or such a line after it that isn't refused
 abbrev pub IsAtWork : Stage → (left : List ℕ) → Type 0
 IsAtWork Waiting left = (line : List ℕ) × StandsFirst line left × Reads line ReadyLine
-IsAtWork (Running L) left = (m : Meaning) × (line : List ℕ) × StandsFirst line left × Reads line m × (track_fault L m ≡ None)
+IsAtWork (Running L) left = (m : Meaning) × (line : List ℕ) × StandsFirst line left × Reads line m × (track_fault L m ≡ None) × (may_ask_for_memory L m ≡ true)
 
 -- what is found where a run stops, after the lines that were handled
 abbrev pub IsFound : FilterFault → Stage → (bytes left : List ℕ) → (source : Option (List ℕ)) → (read_failed write_failed : Bool) → Type 0

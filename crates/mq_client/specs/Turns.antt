@@ -1,15 +1,15 @@
 -- The next exchange of a step, and how exchanges ended.
-use Rattle.std.specs.Prelude.{◌≡◌, ℕ, ◌+◌, List, [], ◌∷◌, ◌++◌, length, Bool, nat_le, if◌then◌else◌, Option, None, Some, is_some, slice_get}
+use Rattle.std.specs.Prelude.{◌≡◌, ℕ, ◌+◌, List, [], ◌∷◌, ◌++◌, length, nat_le, if◌then◌else◌, Option, None, Some, is_some, slice_get}
 use Rattle.mq_frame.specs.declared.message.Request.{Request}
-use Rattle.mq_client.specs.Exchanges.{Exchange, decided_by, lacks_memory, decisions, IsMarked}
-use Rattle.mq_client.specs.Past.{Source, Action, Ask, Close, Drain, Step, View, reserve_of, closing_of, refuses, held_for}
+use Rattle.mq_client.specs.Exchanges.{Exchange, decisions, IsDecision}
+use Rattle.mq_client.specs.Past.{Source, Action, Ask, Close, Drain, Step, View, view, reserve_of, closing_of, refuses, held_for}
 use Rattle.mq_client.specs.declared.held.Held.{Held}
 use Rattle.mq_client.specs.declared.link.Outcome.{Outcome}
 
 -- how many exchanges failed since the last one that decided
 abbrev pub failures : List Exchange → ℕ
 failures [] = 0
-failures (x ∷ group) = if is_some (decided_by x.mark) then 0 else failures group + 1
+failures (x ∷ group) = if is_some (x.decided) then 0 else failures group + 1
 
 -- the requests that an action sends, in order
 abbrev pub queue_of : Source → View → Option Held → Action → List Request
@@ -29,18 +29,23 @@ next s tries v action group = next_of tries (queue_of s v (held_for v action) ac
 -- each exchange was the next one when it came
 abbrev pub ComeInTurn : (tries : ℕ) → List Request → List Exchange → Type 0
 ComeInTurn tries queue [] = Unit {0}
-ComeInTurn tries queue (x ∷ group) = (next_of tries queue group ≡ Some x.request) × IsMarked x.request x.outcome x.mark × ComeInTurn tries queue group
+ComeInTurn tries queue (x ∷ group) = (next_of tries queue group ≡ Some x.request) × IsDecision x.request x.outcome x.decided × ComeInTurn tries queue group
 
--- how an exchange ended, and whether a growth was refused while what came was decoded
-pub record Ending : Type 0 where
-  pub outcome : Outcome
-  pub lacked_memory : Bool
+-- a step so far: each of its exchanges was the next one, and more may be to come
+abbrev pub IsUnderway : Source → (tries : ℕ) → List Step → Step → Type 0
+IsUnderway s tries P x = let v = view s P in ComeInTurn tries (queue_of s v (held_for v x.action) x.action) x.group
 
-abbrev pub outcomes : List Exchange → List Ending
+-- the same of each step of a past
+abbrev pub AreUnderway : Source → (tries : ℕ) → List Step → Type 0
+AreUnderway s tries [] = Unit {0}
+AreUnderway s tries (x ∷ P) = IsUnderway s tries P x × AreUnderway s tries P
+
+-- how exchanges ended
+abbrev pub outcomes : List Exchange → List Outcome
 outcomes [] = []
-outcomes (x ∷ group) = record { outcome = x.outcome; lacked_memory = lacks_memory x.mark } ∷ outcomes group
+outcomes (x ∷ group) = x.outcome ∷ outcomes group
 
 -- how the exchanges of all the steps ended, of which the newest comes first
-abbrev pub all_outcomes : List Step → List Ending
+abbrev pub all_outcomes : List Step → List Outcome
 all_outcomes [] = []
 all_outcomes (x ∷ steps) = outcomes x.group ++ all_outcomes steps

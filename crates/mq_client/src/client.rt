@@ -114,8 +114,8 @@ impl Client {
         let reserve = Framed::new(self.alloc, request)?;
         hold(self.alloc, &mut self.held, txn, at, login)?;
         self.numbers = seq;
-        let decided = try_all(rt, self.alloc, link, &reserve, self.tries);
-        let answer = answer_to(&decided);
+        let verdict = try_all(rt, self.alloc, link, &reserve, self.tries);
+        let answer = answer_to(verdict);
         count(&mut self.held, txn, answer);
         Ok(answer)
     }

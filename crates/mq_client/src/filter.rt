@@ -1,5 +1,5 @@
 //! The filter: what smtpd writes is read, and each of its requests is answered.
-ghost use Rattle.std.specs.Prelude.{◌≡◌, ◌≢◌, ◌≤◌, ◌<◌, ◌+◌, ◌*◌, ◌^◌, ◌++◌, ◌∷◌, [], ℕ, List, Option, Bool, None, Some, true, false, length, IfOk, OnOk, OnErr, IfErr, MatchBool, MatchResult};
+ghost use Rattle.std.specs.Prelude.{◌≡◌, ◌≢◌, ◌≤◌, ◌<◌, ◌+◌, ◌*◌, ◌^◌, ◌++◌, ◌∷◌, [], ℕ, List, Option, Bool, None, Some, true, false, length, is_some, IfOk, OnOk, OnErr, IfErr, MatchBool, MatchResult};
 ghost use Rattle.std.specs.Io.KnownBytes.{Appends, Consumes, IsAtEnd};
 ghost use Rattle.mq_frame.specs.Flow.{IsFlushed};
 ghost use Rattle.mq_line.specs.Grammar.{Meaning, ReadyLine, meaning};
@@ -104,7 +104,7 @@ fn close<R: Log, K: Link>(
     client: &mut Client,
 ) -> Result<(), FilterFault>
     ensures ok { OnOk result ((step : Option Step) × Tells (K.told link.old) (K.told link.new) (told_one step) × MakesOne client.old client.new step × Closes closing step) }
-    ensures memory { OnErr result (result ≡ Err FilterFault.Memory) }
+    ensures memory { OnErr result ((result ≡ Err FilterFault.Memory) × (is_some closing ≡ true)) }
     ensures client { OnErr result (client.new ≡ client.old) }
     ensures link { OnErr result (link.new ≡ link.old) }
 {

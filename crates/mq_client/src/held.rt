@@ -1,11 +1,14 @@
 //! Held transactions, and when a recipient is asked for.
-ghost use Rattle.std.specs.Prelude.{true, ◌≡◌, ◌+◌, ◌==◌, ◌<◌, ◌≤◌, ◌^◌, ℕ, length, is_some, Some, None, IfOk, OnOk, OnErr, IfSome, if◌then◌else◌};
+ghost use Rattle.std.specs.Prelude.{true, ◌≡◌, ◌+◌, ◌==◌, ◌<◌, ◌≤◌, ◌^◌, ℕ, length, is_some, Option, Some, None, IfOk, OnOk, OnErr, IfSome, if◌then◌else◌};
 ghost use Rattle.mq_frame.specs.Range.{IsHost, IsRun, IsOrdinal, IsMoment, IsLogin, IsRequest};
 ghost use Rattle.mq_client.specs.Past.{find, is_other as is_other_lem, refuses as refuses_lem, answer_by, reserve_of, opened, let_through, closing_of};
 ghost use Rattle.mq_client.specs.Held.{IsHeld};
+ghost use Rattle.mq_client.specs.Verdict.{IsVerdict};
+ghost use Rattle.mq_frame.specs.declared.message.Reply.{Reply};
 ghost use Rattle.mq_client.specs.declared.held.Held.{Held};
 
-use mq_frame::{Host, Id, Login, Reply, Request};
+use crate::verdict::Verdict;
+use mq_frame::{Host, Id, Login, Request};
 use mq_track::CloseEnd;
 use std::alloc::{AllocError, Global};
 use std::collections::BTreeMap;
@@ -69,13 +72,13 @@ pub fn refuses(
     }
 }
 
-/// The answer to an ask, by the reply that decided it.
-pub fn answer_to(decided: &Option<Reply>) -> Asked
-    ensures { result ≡ answer_by decided.now }
+/// The answer to an ask, by what was decided about it.
+pub fn answer_to(verdict: Option<Verdict>) -> Asked
+    ensures { (decided : Option Reply) → IsVerdict decided verdict → result ≡ answer_by decided }
 {
-    match decided {
-        Some(Reply::Granted { .. }) => Asked::Granted,
-        Some(Reply::Full { .. }) => Asked::Full,
+    match verdict {
+        Some(Verdict::Granted) => Asked::Granted,
+        Some(Verdict::Full) => Asked::Full,
         _ => Asked::Unavailable,
     }
 }

@@ -1,10 +1,10 @@
 //! Laws of a client's past. The functions compute nothing.
-ghost use Rattle.std.specs.Prelude.{◌≡◌, ◌==◌, ◌≤◌, ◌*◌, ◌++◌, ℕ, List, Bool, Option, true, false, None, Some, length, count_by, is_some, if◌then◌else◌};
+ghost use Rattle.std.specs.Prelude.{◌≡◌, ◌==◌, ◌≤◌, ◌*◌, ◌++◌, ◌∷◌, ℕ, List, Bool, Option, true, false, None, Some, length, count_by, is_some, if◌then◌else◌};
 ghost use Rattle.mq_frame.specs.declared.message.Request.{Request};
 ghost use Rattle.mq_client.specs.Exchanges.{Exchange};
-ghost use Rattle.mq_client.specs.Past.{Source, Step, drained, State, StandsAt, view, held_for, Plays, ArePlayed, IsPlayed, IsBounded};
+ghost use Rattle.mq_client.specs.Past.{Source, Step, drained, State, StandsAt, view, Plays, ArePlayed, IsPlayed, IsBounded};
 ghost use Rattle.mq_client.specs.Reading.{live_in, standing_in, numbers_in, waiting_in};
-ghost use Rattle.mq_client.specs.Turns.{queue_of, next, ComeInTurn, outcomes, all_outcomes};
+ghost use Rattle.mq_client.specs.Turns.{next, ComeInTurn, IsUnderway, AreUnderway, outcomes, all_outcomes};
 ghost use Rattle.mq_client.specs.Filter.{push, actions};
 ghost use Rattle.mq_client.specs.Run.{Origin, EndsWith, StopsAt};
 ghost use Rattle.mq_client.specs.Place.{is_of_input};
@@ -15,11 +15,12 @@ ghost use Rattle.mq_client.specs.declared.link.Told.{Told};
 use mq_frame::laws::one_spelling;
 use mq_line::{any_cutting, one_meaning, one_splitting};
 
-/// However a client was used, few transactions are live or waiting, each live one has a number left
-/// for its closing, and no call makes more than 4,096 exchanges for each try.
+/// However a client was used, also while an exchange is under way, few transactions are live or
+/// waiting, each live one has a number left for its closing, and no call makes more than 4,096
+/// exchanges for each try.
 pub fn few_at_a_time()
-    ensures bounded { (s : Source) (tries : ℕ) (P : List Step) → IsPlayed s tries P → IsBounded (view s P) }
-    ensures exchanges { (s : Source) (tries : ℕ) (P : List Step) (x : Step) → IsPlayed s tries P → Plays s tries P x → length x.group ≤ 4096 * tries }
+    ensures bounded { (s : Source) (tries : ℕ) (P : List Step) → AreUnderway s tries P → IsBounded (view s P) }
+    ensures exchanges { (s : Source) (tries : ℕ) (P : List Step) (x : Step) → AreUnderway s tries (x ∷ P) → length x.group ≤ 4096 * tries }
 {}
 
 /// What a past leaves is what one reads off the whole list of its steps.
@@ -28,14 +29,14 @@ pub fn readings()
     // The live transactions are listed, each once.
     ensures live { (s : Source) (P : List Step) (t : ℕ) → count_by (λ u. u == t) (view s P).live ≡ (if is_some (live_in P t) then 1 else 0) }
     ensures numbers { (s : Source) (P : List Step) → (view s P).numbers ≡ numbers_in P }
-    ensures waiting { (s : Source) (tries : ℕ) (P : List Step) → IsPlayed s tries P → (view s P).waiting ≡ waiting_in s P }
+    ensures waiting { (s : Source) (tries : ℕ) (P : List Step) → AreUnderway s tries P → (view s P).waiting ≡ waiting_in s P }
 {}
 
 /// Each exchange of a step is the next one: its request follows from what stood before the step and
 /// from how its exchanges ended so far. A step ends where none is the next one.
 pub fn in_turn()
-    ensures turns { (s : Source) (tries : ℕ) (P : List Step) (x : Step) → Plays s tries P x →
-        ComeInTurn tries (queue_of s (view s P) (held_for (view s P) x.action) x.action) x.group }
+    ensures turns { (s : Source) (tries : ℕ) (P : List Step) (x : Step) → Plays s tries P x → IsUnderway s tries P x }
+    ensures all_turns { (s : Source) (tries : ℕ) (P : List Step) → IsPlayed s tries P → AreUnderway s tries P }
     ensures last { (s : Source) (tries : ℕ) (P : List Step) (x : Step) → Plays s tries P x → next s tries (view s P) x.action x.group ≡ None }
     ensures same { (tries : ℕ) (queue : List Request) (g h : List Exchange) →
         ComeInTurn tries queue g → ComeInTurn tries queue h → outcomes g ≡ outcomes h → g ≡ h }

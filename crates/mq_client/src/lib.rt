@@ -15,6 +15,7 @@ mod named;
 mod put;
 mod script;
 mod tries;
+mod verdict;
 mod warnings;
 
 pub use client::Client;

@@ -1,8 +1,4 @@
 //! How a warning names a request.
-ghost use Rattle.std.specs.Prelude.{Some};
-ghost use Rattle.std.specs.Fmt.{DisplaysOnOk};
-ghost use Rattle.mq_client.specs.Named.{name_of, request_name};
-
 use mq_frame::{Escaped, Id, Login, Request};
 use std::fmt;
 
@@ -12,9 +8,7 @@ fn write_name<W: fmt::Write>(
     id: &Id,
     txn: u32,
     login: &Login,
-) -> fmt::Result
-    ensures { DisplaysOnOk W.write_str_gives f.old result (Some (name_of kind.now id.now txn login.now)) f.new }
-{
+) -> fmt::Result {
     let host = Escaped(id.host.as_slice());
     let login = Escaped(login.as_slice());
     write!(
@@ -30,8 +24,6 @@ fn write_name<W: fmt::Write>(
 pub struct Named<'a>(pub &'a Request);
 
 impl fmt::Display for Named<'_> {
-    ghost output = { λ named. Some (request_name named.0.now) };
-
     fn fmt<W: fmt::Write>(&self, f: &mut fmt::Formatter<W>) -> fmt::Result {
         match self.0 {
             Request::Reserve { id, txn, login, .. } => write_name(f, "reserve", id, *txn, login),

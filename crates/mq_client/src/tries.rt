@@ -1,17 +1,20 @@
 //! One request, sent up to so many times, and a queue of requests, sent from its front.
-ghost use Rattle.std.specs.Prelude.{◌≡◌, ◌<◌, ◌≤◌, ◌∷◌, [], List, length, IfOk};
+ghost use Rattle.std.specs.Prelude.{◌≡◌, ◌<◌, ◌≤◌, ◌∷◌, [], List, Option, length, IfOk};
 ghost use Rattle.mq_frame.specs.Range.{IsRequest};
 ghost use Rattle.std.specs.List.{AllByRecursion};
 ghost use Rattle.mq_client.specs.Link.{Tells};
-ghost use Rattle.mq_client.specs.Exchanges.{Exchange, IsTry, AreTries, IsSent, Sends, told_of, told_all, answers_reserve as answers_reserve_lem, answers_closing as answers_closing_lem, decides as decides_lem, deciding as deciding_lem};
+ghost use Rattle.mq_client.specs.Exchanges.{Exchange, IsTry, AreTries, IsSent, Sends, told_of, told_all};
+ghost use Rattle.mq_client.specs.Verdict.{IsVerdict};
+ghost use Rattle.mq_frame.specs.declared.message.Reply.{Reply};
 ghost use Rattle.mq_client.specs.declared.tries.Framed.{Framed as AFramed};
 ghost use Rattle.mq_client.specs.Framed.{IsFramed, requests_of};
 
 use crate::faults::Memory;
 use crate::link::Link;
+use crate::verdict::{Verdict, verdict_in};
 use crate::warnings::{Refused, Unanswered, is_refusal};
 use log::{Log, warn};
-use mq_frame::{DecodeFault, Id, Reply, Request, decode_reply, encode_request};
+use mq_frame::{Request, encode_request};
 use std::alloc::Global;
 use std::collections::VecDeque;
 
@@ -34,74 +37,14 @@ impl Framed {
     }
 }
 
-/// Whether a reply answers the reserve with this id.
-fn answers_reserve(id: &Id, reply: &Reply) -> bool
-    ensures { result ≡ answers_reserve_lem id.now reply.now }
-{
-    match reply {
-        Reply::Granted { id: other, .. }
-        | Reply::Full { id: other, .. }
-        | Reply::Closed { id: other }
-        | Reply::Mismatch { id: other }
-        | Reply::Conflict { id: other } => id.is_same(other),
-        _ => false,
-    }
-}
-
-/// Whether a reply answers the settle or release with this id.
-fn answers_closing(id: &Id, reply: &Reply) -> bool
-    ensures { result ≡ answers_closing_lem id.now reply.now }
-{
-    match reply {
-        Reply::Settled { id: other, .. }
-        | Reply::Released { id: other, .. }
-        | Reply::Closed { id: other }
-        | Reply::Mismatch { id: other }
-        | Reply::TooMany { id: other, .. }
-        | Reply::Conflict { id: other } => id.is_same(other),
-        _ => false,
-    }
-}
-
-/// Whether a reply decides a request: it carries the request's id and is of a kind that answers it.
-fn decides(request: &Request, reply: &Reply) -> bool
-    ensures { result ≡ decides_lem request.now reply.now }
-{
-    match request {
-        Request::Reserve { id, .. } => answers_reserve(id, reply),
-        Request::Settle { id, .. } | Request::Release { id, .. } => answers_closing(id, reply),
-        _ => false,
-    }
-}
-
-/// The reply that decides a request, where one was decoded that does. A refused growth is none.
-fn deciding(request: &Request, decoded: Result<Reply, DecodeFault>) -> Option<Reply>
-    ensures { result ≡ deciding_lem request.now decoded }
-{
-    match decoded {
-        Ok(reply) => {
-            if decides(request, &reply) {
-                Some(reply)
-            } else {
-                None
-            }
-        }
-        Err(_fault) => None,
-    }
-}
-
-/// One exchange of a framed request, and the reply that decides it, where one does.
-fn try_once<L: Link>(
-    alloc: Global,
-    link: &mut L,
-    framed: &Framed,
-    body: &mut Vec<u8>,
-) -> Option<Reply>
+/// One exchange of a framed request, and what the reply decides.
+fn try_once<L: Link>(link: &mut L, framed: &Framed, body: &mut Vec<u8>) -> Option<Verdict>
     requires { IsFramed framed.now }
-    ensures { (x : Exchange) × Tells (L.told link.old) (L.told link.new) (told_of x ∷ []) × IsTry framed.now.request x result }
+    ensures { (x : Exchange) × (decided : Option Reply) × Tells (L.told link.old) (L.told link.new) (told_of x ∷ [])
+        × IsTry framed.now.request x decided × IsVerdict decided result }
 {
     match link.exchange(framed.frame.as_slice(), body) {
-        Ok(()) => deciding(&framed.request, decode_reply(alloc, body.as_slice())),
+        Ok(()) => verdict_in(&framed.request, body.as_slice()),
         Err(_fault) => None,
     }
 }
@@ -119,14 +62,15 @@ pub fn try_all<R: Log, L: Link>(
     link: &mut L,
     framed: &Framed,
     tries: u32,
-) -> Option<Reply>
+) -> Option<Verdict>
     requires { IsFramed framed.now }
-    ensures { (group : List Exchange) × Tells (L.told link.old) (L.told link.new) (told_all group) × AreTries tries framed.now.request group result }
+    ensures { (group : List Exchange) × (decided : Option Reply) × Tells (L.told link.old) (L.told link.new) (told_all group)
+        × AreTries tries framed.now.request group decided × IsVerdict decided result }
 {
     let mut body = Vec::new(alloc);
     for _attempt in 0..tries {
-        if let Some(reply) = try_once(alloc, link, framed, &mut body) {
-            return Some(reply);
+        if let Some(verdict) = try_once(link, framed, &mut body) {
+            return Some(verdict);
         }
     }
     warn_unanswered(rt, &framed.request, tries);
@@ -134,9 +78,9 @@ pub fn try_all<R: Log, L: Link>(
 }
 
 /// Warns where the server refused a closing.
-fn warn_refused<R: Log>(rt: &R, request: &Request, reply: &Reply) {
-    if is_refusal(reply) {
-        let refused = Refused { request, reply };
+fn warn_refused<R: Log>(rt: &R, request: &Request, verdict: Verdict) {
+    if is_refusal(verdict) {
+        let refused = Refused { request, verdict };
         warn!(rt; "{refused}");
     }
 }
@@ -147,8 +91,8 @@ fn send<R: Log, L: Link>(rt: &R, alloc: Global, link: &mut L, closing: &Framed, 
     ensures { (group : List Exchange) × Tells (L.told link.old) (L.told link.new) (told_all group) × IsSent tries closing.now.request group result }
 {
     match try_all(rt, alloc, link, closing, tries) {
-        Some(reply) => {
-            warn_refused(rt, &closing.request, &reply);
+        Some(verdict) => {
+            warn_refused(rt, &closing.request, verdict);
             true
         }
         None => false,

@@ -1,9 +1,7 @@
 //! What the warnings of a client say.
-ghost use Rattle.std.specs.Prelude.{◌≡◌, Some};
-ghost use Rattle.mq_client.specs.Warnings.{is_refusal as is_refusal_lem, refused_text, unanswered_text};
-
 use crate::named::Named;
-use mq_frame::{Reply, Request};
+use crate::verdict::Verdict;
+use mq_frame::Request;
 use std::fmt;
 
 /// A request that no reply decided in so many tries. A closing then waits.
@@ -14,8 +12,6 @@ pub struct Unanswered<'a> {
 }
 
 impl fmt::Display for Unanswered<'_> {
-    ghost output = { λ u. Some (unanswered_text u.request.now u.tries) };
-
     fn fmt<W: fmt::Write>(&self, f: &mut fmt::Formatter<W>) -> fmt::Result {
         let named = Named(self.request);
         let tries = self.tries;
@@ -29,15 +25,10 @@ impl fmt::Display for Unanswered<'_> {
 }
 
 /// Whether the server refused a closing.
-pub fn is_refusal(reply: &Reply) -> bool
-    ensures { result ≡ is_refusal_lem reply.now }
-{
+pub fn is_refusal(verdict: Verdict) -> bool {
     matches!(
-        reply,
-        Reply::Closed { .. }
-            | Reply::Mismatch { .. }
-            | Reply::TooMany { .. }
-            | Reply::Conflict { .. }
+        verdict,
+        Verdict::Closed | Verdict::Mismatch | Verdict::TooMany(_) | Verdict::Conflict
     )
 }
 
@@ -45,25 +36,19 @@ pub fn is_refusal(reply: &Reply) -> bool
 #[derive(Clone, Copy)]
 pub struct Refused<'a> {
     pub request: &'a Request,
-    pub reply: &'a Reply,
+    pub verdict: Verdict,
 }
 
 impl fmt::Display for Refused<'_> {
-    ghost output = { λ r. Some (refused_text r.request.now r.reply.now) };
-
     fn fmt<W: fmt::Write>(&self, f: &mut fmt::Formatter<W>) -> fmt::Result {
         let named = Named(self.request);
-        match self.reply {
-            Reply::Closed { .. } => write!(f, "{named}: the transaction was closed before"),
-            Reply::Mismatch { .. } => {
+        match self.verdict {
+            Verdict::Closed => write!(f, "{named}: the transaction was closed before"),
+            Verdict::Mismatch => {
                 write!(f, "{named}: the transaction has another login or moment")
             }
-            Reply::TooMany { held, .. } => {
-                write!(f, "{named}: the transaction holds {held} only")
-            }
-            Reply::Conflict { .. } => {
-                write!(f, "{named}: the number was used by another request")
-            }
+            Verdict::TooMany(held) => { write!(f, "{named}: the transaction holds {held} only") }
+            Verdict::Conflict => { write!(f, "{named}: the number was used by another request") }
             _ => Ok(()),
         }
     }

@@ -3,6 +3,7 @@
 //! `docs/FRAMES.md` has the format.
 #![tactic(auto)]
 
+mod borrowed;
 mod decode;
 mod encode;
 mod error;
@@ -21,15 +22,18 @@ mod sink;
 mod source;
 mod usage;
 
+pub use borrowed::read_reply;
 pub use decode::{DecodeFault, decode_reply, decode_request};
 pub use encode::{encode_reply, encode_request};
 pub use error::{Failed, Memory};
 pub use escaped::Escaped;
 pub use feed::{FrameFault, FrameFeed, REPLY_LIMIT, REQUEST_LIMIT};
+pub use fields::IdParts;
 pub use host::Host;
 pub use login::Login;
 pub use message::{Id, Reply, Request};
 pub use range::{is_host, is_login, is_moment, is_reply, is_request, is_run};
+pub use reply_parts::ReplyParts;
 pub use sink::{Sink, ToWrite, write_and_flush};
 pub use source::{FromRead, Source};
 pub use usage::{UsageRow, UsageRows};

@@ -43,17 +43,18 @@ invariant_of-self-2 g c =
 
 pub returns-clause-ok : goal.returns-clause-ok
 returns-clause-ok g c =
-    let (group, told, tries) = c.try_all-decided.ensures in
+    let (group, decided, told, tries, verdict) = c.try_all-verdict.ensures in
+    let answer : c.answer_to-answer.result ≡ answer_by decided = c.answer_to-answer.ensures decided verdict in
     let i = c.self.inside in
     let d : State = record { source = record { host = i.host; run = i.run }; tries = i.tries; held = c.count.new.held.entries; numbers = i.numbers + 1; waiting = requests_of i.outbox.items } in
     let F : State → Type 0 = λ s. Makes s d (record { action = Ask c.args.txn c.args.at c.args.login.now; group = group }) in
     let free : refuses (find i.held.entries c.args.txn) (length i.held.entries) i.numbers (length i.outbox.items) c.args.at c.args.login.now ≡ false = search rules in
     let found = held_and_counted c.args.txn c.args.at c.args.login.now c.answer_to-answer.result i.held.entries c.hold.new.held.entries c.count.new.held.entries c.in_ok-hold.ensures.find c.count.ensures.find in
-    let by : (t : ℕ) → find c.count.new.held.entries t ≡ (if c.args.txn == t then Some (let_through (answer_by c.try_all-decided.result) (opened c.args.at c.args.login.now (find i.held.entries c.args.txn))) else find i.held.entries t) = rw c.answer_to-answer.ensures at found in
+    let by : (t : ℕ) → find c.count.new.held.entries t ≡ (if c.args.txn == t then Some (let_through (answer_by decided) (opened c.args.at c.args.login.now (find i.held.entries c.args.txn))) else find i.held.entries t) = rw answer at found in
     let tries_of = rw (c.in_ok-reserve.ensures.request ∙ c.in_ok-request.ensures.request) at tries in (
       group,
       told,
-      c.answer_to-answer.ensures ∙ sym (answer_of_tries i.tries _ group c.try_all-decided.result tries),
-      subst F c.self.view_is (asked (state_of i) d c.args.txn c.args.at c.args.login.now group c.try_all-decided.result c.self.invariant.tries.from refl refl (rw (length-map i.outbox.items (λ (framed : Framed). framed.request)) free) tries_of by
+      answer ∙ sym (answer_of_tries i.tries _ group decided tries),
+      subst F c.self.view_is (asked (state_of i) d c.args.txn c.args.at c.args.login.now group decided c.self.invariant.tries.from refl refl (rw (length-map i.outbox.items (λ (framed : Framed). framed.request)) free) tries_of by
           (c.count.ensures.len ∙ c.in_ok-hold.ensures.len) refl refl),
     )

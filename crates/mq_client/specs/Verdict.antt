@@ -1,0 +1,30 @@
+-- What a client keeps of a reply that decides a request.
+use Rattle.std.specs.Prelude.{◌≡◌, Option, Some, None, if◌then◌else◌}
+use Rattle.mq_frame.specs.declared.message.Request.{Request}
+use Rattle.mq_frame.specs.declared.message.Reply.{Reply}
+use Rattle.mq_frame.specs.declared.message.Reply.TheVariants as reply
+use Rattle.mq_client.specs.Exchanges.{decides}
+use Rattle.mq_client.specs.declared.verdict.Verdict.{Verdict}
+use Rattle.mq_client.specs.declared.verdict.Verdict.TheVariants as verdict
+
+-- the verdict is what the reply says
+abbrev pub Says : Reply → Verdict → Type 0
+Says (reply.Granted id used) v = v ≡ verdict.Granted
+Says (reply.Full id used cap) v = v ≡ verdict.Full
+Says (reply.Settled id count) v = v ≡ verdict.Settled
+Says (reply.Released id held) v = v ≡ verdict.Released
+Says (reply.Closed id) v = v ≡ verdict.Closed
+Says (reply.Mismatch id) v = v ≡ verdict.Mismatch
+Says (reply.TooMany id held) v = v ≡ verdict.TooMany held
+Says (reply.Conflict id) v = v ≡ verdict.Conflict
+Says _ v = ⊥
+
+-- a verdict is kept where a reply decided, and says what that says
+abbrev pub IsVerdict : Option Reply → Option Verdict → Type 0
+IsVerdict (Some reply) (Some v) = Says reply v
+IsVerdict None None = Unit {0}
+IsVerdict _ _ = ⊥
+
+-- the reply, where it decides the request
+abbrev pub deciding : Request → Reply → Option Reply
+deciding request reply = if decides request reply then Some reply else None
