@@ -109,12 +109,12 @@ abbrev pub freed : ℕ → ℕ → Option UsageRecord → Write UsageRecord
 freed count held None = Keep
 freed count held (Some u) = if held == 0 then Keep else Update (record u { settled = u.settled + count; reserved = u.reserved - held })
 
--- usage
-abbrev pub usage_write : (ℕ → ℕ) → Request → Reply → Found → Write UsageRecord
-usage_write day (Reserve id txn at login count) (Granted id' used) f = reserved_more login (day at) count f.usage
-usage_write day (Settle id txn at login count) (Settled id' count') f = freed count (held_by f.transaction) f.usage
-usage_write day (Release id txn at login) (Released id' held) f = freed 0 (held_by f.transaction) f.usage
-usage_write day _ _ f = Keep
+-- usage, where the transaction held so many
+abbrev pub usage_write : (ℕ → ℕ) → Request → Reply → ℕ → Option UsageRecord → Write UsageRecord
+usage_write day (Reserve id txn at login count) (Granted id' used) held u = reserved_more login (day at) count u
+usage_write day (Settle id txn at login count) (Settled id' settled) held u = freed count held u
+usage_write day (Release id txn at login) (Released id' released) held u = freed 0 held u
+usage_write day _ _ held u = Keep
 
 -- the limit of that login and day is set
 abbrev pub set_ceiling_to : List ℕ → ℕ → ℕ → Option CeilingRecord → Write CeilingRecord
@@ -133,7 +133,7 @@ written day arrivals r f a = record {
   answer = answer_row (arrivals + 1) (record { request = r; reply = a });
   arrivals = arrivals + 1;
   transaction = transaction_write day r a f.transaction;
-  usage = usage_write day r a f;
+  usage = usage_write day r a (held_by f.transaction) f.usage;
   ceiling = ceiling_write r a f.ceiling;
 }
 

@@ -5,9 +5,9 @@
 #![tactic(auto)]
 
 mod body;
-mod decide;
 mod plan;
 mod record;
+mod reply;
 mod write;
 
 pub use body::Body;
@@ -15,3 +15,4 @@ pub use plan::{Found, Plan, Write};
 pub use record::{
     AnswerRecord, CeilingRecord, SettingRecord, TransactionRecord, UsageRecord, VERSION,
 };
+pub use write::decide;
