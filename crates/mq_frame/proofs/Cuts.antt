@@ -1,6 +1,6 @@
 -- However a stream is cut into pieces, its frames are the same.
 use Rattle.std.proofs.Common.{◌≡◌, ℕ, ◌+◌, ◌*◌, ◌/◌, ◌%◌, ◌<◌, ◌≤◌, Bool, true, false, List, [], ◌∷◌, ◌++◌, length, take, drop, refl, sym, ap, subst, ◌∙◌, append_assoc, append-nil, arith, inl, inr}
-use Rattle.std.specs.Prelude.{Some, Ok, ◌⊎◌, nat_lt, ◌==◌}
+use Rattle.std.specs.Prelude.{Some, None, Ok, ◌⊎◌, nat_lt, ◌==◌}
 use Rattle.std.specs.List.{All, flat_map}
 use Rattle.std.proofs.lemmas.Bool.{cases_lt, ltb-true, le-ltb, lt-ltb}
 use Rattle.std.proofs.lemmas.Bool.Decides.{nat_tests, Decides-eqb}
@@ -250,3 +250,26 @@ gives_whole bytes body Cut e = absurd cc
 gives_whole bytes body EmptyHead e = absurd cc
 gives_whole bytes body LongHead e = absurd cc
 gives_whole bytes body (Whole a b) e = let p : a ≡ body = cc in ap (λ (l : List ℕ). Whole l b) p
+
+-- ---- what waits for the rest of its frame
+
+abbrev GivesNone : Front → Type 0
+GivesNone at = next_answer at ≡ Ok None
+
+part_behind : (limit n : ℕ) (bytes : List ℕ) → GivesNone (front_behind limit n bytes) → length bytes < limit
+part_behind limit n bytes e =
+    elim (either (n == 0)) [
+      | inl t ↦ (let h : GivesNone EmptyHead = rw t at e in absurd cc)
+      | inr f ↦ elim (either (nat_lt limit n)) [
+        | inl t ↦ (let h : GivesNone LongHead = rw (f, t) at e in absurd cc)
+        | inr g ↦ elim (either (nat_lt (length bytes) n)) [
+          | inl t ↦ grind (arith, nat_tests)
+          | inr t ↦ (let h : GivesNone (Whole (take n bytes) (drop n bytes)) = rw (f, g, t) at e in absurd cc)
+        ]
+      ]
+    ]
+
+pub part_short : (limit : ℕ) (bytes : List ℕ) → GivesNone (front limit bytes) → length bytes ≤ limit + 1
+part_short limit [] e = omega arith
+part_short limit (a ∷ []) e = omega arith
+part_short limit (a ∷ b ∷ bytes) e = let h = part_behind limit (256 * a + b) bytes e in omega (arith, h)

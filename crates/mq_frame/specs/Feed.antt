@@ -3,10 +3,11 @@ use Rattle.std.specs.Prelude.{◌≡◌, ℕ, ◌+◌, ◌*◌, List, [], ◌∷
 use Rattle.mq_frame.specs.declared.feed.FrameFault.{FrameFault}
 use Rattle.mq_frame.specs.declared.feed.FrameFault.TheVariants.{TooLong, Empty, CutFrame}
 
--- a feed: the longest body that it gives, and the bytes that it was fed and that weren't taken
+-- a feed: the longest body that it gives, the bytes that it was fed and that weren't taken, and how many bytes its buffer holds
 pub record Feed : Type 0 where
   pub limit : ℕ
   pub rest : List ℕ
+  pub held : ℕ
 
 -- what stands at the front of some bytes: nothing; a part of a frame; the head of a frame with an empty body, or with a
 -- body above the limit; or a whole frame, with its body and the bytes behind it
@@ -44,6 +45,12 @@ left_by_next Cut bytes = bytes
 left_by_next EmptyHead bytes = bytes
 left_by_next LongHead bytes = bytes
 left_by_next (Whole body after) bytes = after
+
+-- a call for the next body takes a whole frame from the front, and nothing else changes
+pub record Takes (old new : Feed) : Type 0 where
+  pub limit : new.limit ≡ old.limit
+  pub rest : new.rest ≡ left_by_next (front old.limit old.rest) old.rest
+  pub held : new.held ≡ old.held
 
 -- what is said at the end of the stream
 abbrev pub finish_answer : Front → Result (Unit {0}) FrameFault

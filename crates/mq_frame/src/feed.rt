@@ -1,9 +1,9 @@
 //! The frames of a stream, in whatever pieces it comes.
-ghost use Rattle.std.specs.Prelude.{◌≡◌, ◌↔◌, [], ◌++◌, OnOk, OnErr, IsOk, Ok, Err, MatchResult};
+ghost use Rattle.std.specs.Prelude.{◌≡◌, ◌≤◌, ◌↔◌, [], ◌++◌, length, OnOk, OnErr, IsOk, Ok, Err, MatchResult};
 ghost use Rattle.std.specs.Option.{option_copied};
 ghost use Rattle.std.specs.Borrow.{sem};
 ghost use Rattle.std.specs.Io.BufRead.{Rests};
-ghost use Rattle.mq_frame.specs.Feed.{front, next_answer, left_by_next, finish_answer};
+ghost use Rattle.mq_frame.specs.Feed.{Takes, front, next_answer, finish_answer};
 ghost use Rattle.mq_frame.specs.contracts.feed.FrameFeed.{the_row};
 
 use crate::error::Memory;
@@ -35,10 +35,16 @@ pub enum FrameFault {
 ///
 /// A frame is two bytes, the length of its body with the high byte first, and then the body
 /// (`docs/FRAMES.md`). How the stream is cut into pieces changes nothing.
+///
+/// The bytes of a frame that was taken are given up at the next `feed`, which then moves those
+/// that are left to the front. So a caller that takes until `None` before it feeds holds at most
+/// one byte more than the limit beside the piece, and has each byte moved at most once. One that
+/// leaves frames behind has them moved again at each `feed` that comes after a frame was taken.
 #[derive(Drop)]
 pub struct FrameFeed {
     limit: u16,
     bytes: Vec<u8>,
+    // How many of the bytes were taken.
     taken: usize,
 }
 
@@ -48,7 +54,11 @@ impl Model for FrameFeed {
 
     ghost Value = { Feed };
 
-    ghost view = { λ feed. record { limit = feed.limit; rest = drop feed.taken feed.bytes.items } };
+    ghost view = { λ feed. record {
+      limit = feed.limit;
+      rest = drop feed.taken feed.bytes.items;
+      held = length feed.bytes.items;
+    } };
 
     ghost invariant = { λ feed. feed.taken ≤ length feed.bytes.items };
 }
@@ -57,7 +67,9 @@ impl FrameFeed {
     /// A feed that was fed nothing. `limit` is the length of the longest body that it gives:
     /// `REQUEST_LIMIT` or `REPLY_LIMIT`.
     pub fn new(alloc: Global, limit: u16) -> FrameFeed
-        ensures { result ≡ record { limit = limit; rest = [] } }
+        ensures limit { result.limit ≡ limit }
+        ensures rest { result.rest ≡ [] }
+        ensures held { result.held ≡ 0 }
     {
         FrameFeed {
             limit,
@@ -66,14 +78,43 @@ impl FrameFeed {
         }
     }
 
-    /// Adds a piece of the stream. After an `Err` the feed is as before.
+    /// Adds a piece of the stream, and gives up the bytes that were taken. After an `Err` the
+    /// bodies to come are as before.
     pub fn feed(&mut self, piece: &[u8]) -> Result<(), Memory>
-        ensures ok { OnOk result (self.new
-            ≡ record { limit = self.old.limit; rest = self.old.rest ++ piece.now }) }
-        ensures err { OnErr result (self.new ≡ self.old) }
+        ensures limit { self.new.limit ≡ self.old.limit }
+        ensures ok { OnOk result (self.new.rest ≡ self.old.rest ++ piece.now) }
+        ensures err { OnErr result (self.new.rest ≡ self.old.rest) }
+
+        // What is held is what wasn't taken, and after a refused growth no more than before.
+        ensures held { OnOk result (self.new.held ≡ length self.new.rest) }
+        ensures held_at_err { OnErr result (self.new.held ≤ self.old.held) }
     {
+        self.give_up_taken();
         self.bytes.extend_from_slice(piece)?;
         Ok(())
+    }
+
+    /// Moves what wasn't taken to the front.
+    fn give_up_taken(&mut self)
+        ensures limit { self.new.limit ≡ self.old.limit }
+        ensures rest { self.new.rest ≡ self.old.rest }
+        ensures held { self.new.held ≡ length self.new.rest }
+        ensures less { self.new.held ≤ self.old.held }
+    {
+        if self.taken > 0 {
+            let end = self.bytes.len();
+            self.bytes.copy_within(self.taken..end, 0);
+            self.bytes.truncate(end - self.taken);
+            self.taken = 0;
+        }
+    }
+
+    /// How many bytes the buffer holds: after a `feed` those that were fed and weren't taken before
+    /// it. The two bytes of a head belong to what is taken.
+    pub fn held(&self) -> usize
+        ensures { result ≡ self.now.held }
+    {
+        self.bytes.len()
     }
 
     /// Takes the next frame and gives its body, `None` where no whole frame is there yet.
@@ -81,10 +122,7 @@ impl FrameFeed {
     /// At a head of length 0 it is `Empty`, and at one above the limit `TooLong`, as soon as both
     /// bytes of the head are there; the feed is then as before, and answers that again.
     pub fn next_body(&mut self) -> Result<Option<&[u8]>, FrameFault>
-        ensures* after { sem 𝓛 (Rests the_row self.entry (λ feed. feed ≡ record {
-          limit = self.old.limit;
-          rest = left_by_next (front self.old.limit self.old.rest) self.old.rest;
-        })) }
+        ensures* after { sem 𝓛 (Rests the_row self.entry (Takes self.old)) }
         ensures answer { MatchResult result
             (λ body. Ok (option_copied body) ≡ next_answer (front self.old.limit self.old.rest))
             (λ fault. Err fault ≡ next_answer (front self.old.limit self.old.rest)) }

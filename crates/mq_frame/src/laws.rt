@@ -1,5 +1,5 @@
 //! Laws of the link's format. Each is the contract of a function that does nothing.
-ghost use Rattle.std.specs.Prelude.{◌≡◌, ◌↔◌, ℕ, ◌+◌, ◌<◌, ◌≤◌, List, [], ◌∷◌, ◌++◌, length, true, Some, Ok, All, ◌⊎◌};
+ghost use Rattle.std.specs.Prelude.{◌≡◌, ◌↔◌, ℕ, ◌+◌, ◌<◌, ◌≤◌, List, [], ◌∷◌, ◌++◌, length, true, Some, None, Ok, All, ◌⊎◌};
 ghost use Rattle.std.specs.List.{flat_map};
 ghost use Rattle.mq_frame.specs.Range.{IsWithin, IsRequest, IsReply};
 ghost use Rattle.mq_frame.specs.Same.{same_id, same_request};
@@ -121,4 +121,10 @@ pub fn frames_stay()
     ensures one_list { (limit : ℕ) (bytes : List ℕ) (bodies others : List (List ℕ)) (rest end : List ℕ)
         → Frames limit bytes bodies rest → Frames limit bytes others end → (bodies ≡ others)
         × (rest ≡ end) }
+{}
+
+/// What waits for the rest of its frame is shorter than a head and the longest body.
+pub fn part_of_a_frame()
+    ensures { (limit : ℕ) (bytes : List ℕ) → next_answer (front limit bytes) ≡ Ok None
+        → length bytes ≤ limit + 1 }
 {}

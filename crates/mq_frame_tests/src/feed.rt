@@ -81,3 +81,18 @@ fn pieces_of_one_byte(rt: HostRuntime) {
     assert_eq!(rt; bodies[0].as_slice(), [0x8d].as_slice());
     assert_eq!(rt; bodies[1].as_slice(), [0x8e, 0x00].as_slice());
 }
+
+/// A frame that was taken is given up with the next piece, and what is left of the bytes is held.
+#[test]
+fn held_bytes(rt: HostRuntime) {
+    let mut stream = Stream::new(&rt, REQUEST_LIMIT);
+    assert_eq!(rt; stream.held(), 0);
+    stream.feed(&rt, &[0x00, 0x01, 0x8e, 0x00]);
+    assert_eq!(rt; stream.whole_body(&rt).as_slice(), [0x8e].as_slice());
+    assert_eq!(rt; stream.held(), 4);
+    stream.feed(&rt, &[0x01]);
+    assert_eq!(rt; stream.held(), 2);
+    stream.feed(&rt, &[0x8d]);
+    assert_eq!(rt; stream.whole_body(&rt).as_slice(), [0x8d].as_slice());
+    assert_eq!(rt; stream.held(), 3);
+}

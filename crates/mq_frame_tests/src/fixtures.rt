@@ -96,6 +96,10 @@ impl Stream {
         }
     }
 
+    pub fn held(&self) -> usize {
+        self.feed.held()
+    }
+
     pub fn finish(&self) -> Result<(), FrameFault> {
         self.feed.finish()
     }

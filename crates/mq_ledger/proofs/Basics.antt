@@ -1,6 +1,6 @@
 -- Tests, texts, lists and sums.
-use Rattle.std.proofs.Common.{◌≡◌, ℕ, ◌+◌, ◌<◌, ◌≤◌, List, [], ◌∷◌, ◌++◌, Bool, true, false, refl, ◌∙◌, ap, sym, inl, inr, arith}
-use Rattle.std.specs.Prelude.{sum_by, filter, ◌&&◌, ◌==◌, ◌⊎◌, Option, Some, None}
+use Rattle.std.proofs.Common.{◌≡◌, ℕ, ◌+◌, ◌<◌, ◌≤◌, List, [], ◌∷◌, ◌++◌, Bool, true, false, refl, ◌∙◌, ap, sym, subst, inl, inr, arith, append_assoc, append-nil}
+use Rattle.std.specs.Prelude.{sum_by, filter, ◌&&◌, ◌==◌, ◌⊎◌, if◌then◌else◌, Option, Some, None}
 use Rattle.std.specs.List.{AllByRecursion, filter_map}
 use Rattle.std.specs.Cmp.Lexicographic.{bytes_decides}
 use Rattle.std.proofs.lemmas.Bool.Decides.{Decides-eqb}
@@ -142,3 +142,34 @@ some_part f (x ∷ xs) h = elim (zero_or_more (f x)) [
       let r = some_part f xs rest in
       record { at = r.at; among = inr r.among; some = r.some })
 ]
+
+pub two_sums_are : {X : Type 0} (P : X → Type 0) (f g k : X → ℕ) → ((x : X) → P x → f x + g x ≡ k x) → (xs : List X) → AllByRecursion P xs → sum_by f xs + sum_by g xs ≡ sum_by k xs
+two_sums_are P f g k h [] all = refl
+two_sums_are P f g k h (x ∷ xs) all = omega (arith, sum_by-cons f x xs, sum_by-cons g x xs, sum_by-cons k x xs, h x all.0, two_sums_are P f g k h xs all.1)
+
+pub sums_are : {X : Type 0} (P : X → Type 0) (f g : X → ℕ) → ((x : X) → P x → f x ≡ g x) → (xs : List X) → AllByRecursion P xs → sum_by f xs ≡ sum_by g xs
+sums_are P f g h [] all = refl
+sums_are P f g h (x ∷ xs) all = omega (arith, sum_by-cons f x xs, sum_by-cons g x xs, h x all.0, sums_are P f g h xs all.1)
+
+pub sum_of_none : {X : Type 0} (xs : List X) → sum_by (λ (_ : X). 0) xs ≡ 0
+sum_of_none [] = refl
+sum_of_none (x ∷ xs) = omega (arith, sum_by-cons (λ _. 0) x xs, sum_of_none xs)
+
+-- a sum under one condition
+pub sum_if : {X : Type 0} (c : Bool) (f : X → ℕ) (xs : List X) → sum_by (λ x. if c then f x else 0) xs ≡ (if c then sum_by f xs else 0)
+sum_if true f xs = refl
+sum_if false f xs = sum_of_none xs
+
+-- sums over two lists, the one in the other
+pub sums_swap : {X Y : Type 0} (f : X → Y → ℕ) (xs : List X) (ys : List Y) → sum_by (λ x. sum_by (f x) ys) xs ≡ sum_by (λ y. sum_by (λ x. f x y) xs) ys
+sums_swap f [] ys = sym (sum_of_none ys)
+sums_swap f (x ∷ xs) ys =
+    let both = two_sums_are (λ _. Unit {0}) (f x) (λ y. sum_by (λ x. f x y) xs) (λ y. sum_by (λ x. f x y) (x ∷ xs)) (λ y _. sym (sum_by-cons (λ x. f x y) x xs)) ys (always ys) in
+    omega (arith, sum_by-cons (λ x. sum_by (f x) ys) x xs, sums_swap f xs ys, both)
+
+-- from the empty list on, by one element behind
+pub by_pushes : {X : Type 0} (P : List X → Type 0) → P [] → ((xs : List X) (x : X) → P xs → P (xs ++ x ∷ [])) → (xs : List X) → P xs
+by_pushes P none more xs = by_pushes_from P more [] xs none where
+  by_pushes_from : {X : Type 0} (P : List X → Type 0) → ((xs : List X) (x : X) → P xs → P (xs ++ x ∷ [])) → (done xs : List X) → P done → P (done ++ xs)
+  by_pushes_from P more done [] p = subst P (sym (append-nil done)) p
+  by_pushes_from P more done (x ∷ xs) p = subst P (append_assoc done (x ∷ []) xs) (by_pushes_from P more (done ++ x ∷ []) xs (more done x p))

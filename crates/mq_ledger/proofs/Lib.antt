@@ -9,3 +9,8 @@ pub mod PageFacts
 pub mod Ranges
 pub mod Clocks
 pub mod Books
+pub mod Entries
+pub mod Governing
+pub mod Suiting
+pub mod Freeing
+pub mod Summing

@@ -39,19 +39,19 @@ newest_push_older default es e older =
     let m : latest (es ++ e ∷ []) ≡ latest es = grind (arith, nat_tests, latest_push es e) in
     rw m (last_before default _ es e older)
 
-latest_push_newer : (es : List Entry) (e : Entry) → latest es ≤ from_of e.request → latest (es ++ e ∷ []) ≡ from_of e.request
+pub latest_push_newer : (es : List Entry) (e : Entry) → latest es ≤ from_of e.request → latest (es ++ e ∷ []) ≡ from_of e.request
 latest_push_newer es e newer = grind (arith, nat_tests, latest_push es e)
 
-latest_push_older : (es : List Entry) (e : Entry) → from_of e.request < latest es → latest (es ++ e ∷ []) ≡ latest es
+pub latest_push_older : (es : List Entry) (e : Entry) → from_of e.request < latest es → latest (es ++ e ∷ []) ≡ latest es
 latest_push_older es e older = grind (arith, nat_tests, latest_push es e)
 
 limits_push : (H : List Entry) (l : List ℕ) (d : ℕ) (e : Entry) → limits (H ++ e ∷ []) l d ≡ (if governs l d e then limits H l d ++ e ∷ [] else limits H l d)
 limits_push H l d e = grind (arith, nat_tests, filter-append (governs l d) H (e ∷ []), append-nil)
 
-limits_other : (H : List Entry) (l : List ℕ) (d : ℕ) (e : Entry) → governs l d e ≡ false → limits (H ++ e ∷ []) l d ≡ limits H l d
+pub limits_other : (H : List Entry) (l : List ℕ) (d : ℕ) (e : Entry) → governs l d e ≡ false → limits (H ++ e ∷ []) l d ≡ limits H l d
 limits_other H l d e f = rw (limits_push H l d e, f) refl
 
-limits_more : (H : List Entry) (l : List ℕ) (d : ℕ) (e : Entry) → governs l d e ≡ true → limits (H ++ e ∷ []) l d ≡ limits H l d ++ e ∷ []
+pub limits_more : (H : List Entry) (l : List ℕ) (d : ℕ) (e : Entry) → governs l d e ≡ true → limits (H ++ e ∷ []) l d ≡ limits H l d ++ e ∷ []
 limits_more H l d e t = rw (limits_push H l d e, t) refl
 
 -- an entry that doesn't govern the day leaves the limit

@@ -8,10 +8,10 @@ use Rattle.mq_frame.specs.declared.message.Id.{Id}
 use Rattle.mq_frame.specs.declared.message.Request.{Request}
 use Rattle.mq_frame.specs.declared.message.Request.TheVariants.{Reserve, Settle, Release, Limit, Usage, List as ListRequest}
 use Rattle.mq_frame.specs.declared.message.Reply.{Reply}
-use Rattle.mq_frame.specs.declared.message.Reply.TheVariants.{Granted}
+use Rattle.mq_frame.specs.declared.message.Reply.TheVariants.{Granted, Settled}
 use Rattle.mq_frame.specs.Same.{same_text, same_id}
 use Rattle.mq_ledger.specs.declared.entry.Entry.{Entry}
-use Rattle.mq_ledger.specs.History.{Transaction, transaction, same_transaction, is_of, is_at, closes, closed, named, agrees, granted, granted_in, concerns, is_open, reserved_of, reserved}
+use Rattle.mq_ledger.specs.History.{Transaction, transaction, same_transaction, is_of, is_at, closes, closed, named, agrees, granted, granted_in, counted, concerns, is_open, reserved_of, reserved}
 use Rattle.mq_ledger.proofs.Basics.{either, first_so, second_so, both_so, option_cases, zero_or_more, text_is, text_itself, number_is, number_itself, all_push, always, sums_le, two_sums_le}
 
 abbrev pub entry : Request → Reply → Entry
@@ -66,10 +66,13 @@ reserved_of_falls day H e l d x =
 pub reserved_falls : (day : ℕ → ℕ) (H : List Entry) (e : Entry) (l : List ℕ) (d : ℕ) → sum_by (reserved_of day (H ++ e ∷ []) l d) H ≤ reserved day H l d
 reserved_falls day H e l d = sums_le (λ _. Unit {0}) (reserved_of day (H ++ e ∷ []) l d) (reserved_of day H l d) (λ x _. reserved_of_falls day H e l d x) H (always H)
 
--- Each granted reserve has its transaction's login and moment.
+-- Each granted reserve and each settled settle has its transaction's login and moment.
+
+abbrev pub moved : Request → Reply → ℕ
+moved r a = granted r a + counted r a
 
 abbrev pub IsUniformAt : Transaction → ℕ → List ℕ → Entry → Type 0
-IsUniformAt t at login x = is_of t x.request ≡ true → 0 < granted x.request x.reply → is_at at login x.request ≡ true
+IsUniformAt t at login x = is_of t x.request ≡ true → 0 < moved x.request x.reply → is_at at login x.request ≡ true
 
 abbrev pub IsUniform : List Entry → Type 0
 IsUniform H = (t : Transaction) (at : ℕ) (login : List ℕ) → agrees at login (named H t) ≡ true → AllByRecursion (IsUniformAt t at login) H
@@ -81,7 +84,7 @@ both_at a b at l m login h g = (
 )
 
 -- a request has one moment and one login
-one_place : (a b : ℕ) (l m : List ℕ) (r : Request) → is_at a l r ≡ true → is_at b m r ≡ true → (a ≡ b) × (l ≡ m)
+pub one_place : (a b : ℕ) (l m : List ℕ) (r : Request) → is_at a l r ≡ true → is_at b m r ≡ true → (a ≡ b) × (l ≡ m)
 one_place a b l m (Reserve id txn at login count) h g = both_at a b at l m login h g
 one_place a b l m (Settle id txn at login count) h g = both_at a b at l m login h g
 one_place a b l m (Release id txn at login) h g = both_at a b at l m login h g
@@ -89,18 +92,23 @@ one_place a b l m (Limit id from c login) h g = cc
 one_place a b l m (Usage login d) h g = cc
 one_place a b l m (ListRequest d after) h g = cc
 
--- what a granted reserve was checked for
+-- what a granted reserve and a settled settle were checked for
 abbrev pub IsAgreed : List Entry → Request → Reply → Type 0
 IsAgreed H (Reserve id txn at login count) (Granted id' n) = agrees at login (named H (transaction id txn)) ≡ true
+IsAgreed H (Settle id txn at login count) (Settled id' n) = agrees at login (named H (transaction id txn)) ≡ true
 IsAgreed H _ _ = Unit {0}
 
-new_is_uniform : (H : List Entry) (t : Transaction) (at : ℕ) (login : List ℕ) (x : Entry) → named H t ≡ Some x → is_at at login x.request ≡ true → (r : Request) (a : Reply) → IsAgreed H r a → is_of t r ≡ true → 0 < granted r a → is_at at login r ≡ true
-new_is_uniform H t at login x naming here (Reserve id txn at' login' count) (Granted id' n) agreed mine some =
-    let same : t ≡ transaction id txn = transaction_is t (transaction id txn) mine in
+new_is_uniform_at : (H : List Entry) (t u : Transaction) (at at' : ℕ) (login login' : List ℕ) (x : Entry) → named H t ≡ Some x → is_at at login x.request ≡ true → agrees at' login' (named H u) ≡ true → same_transaction t u ≡ true → ((at == at') && same_text login login') ≡ true
+new_is_uniform_at H t u at at' login login' x naming here agreed mine =
+    let same : t ≡ u = transaction_is t u mine in
     let P : Transaction → Type 0 = λ u. named H u ≡ Some x in
     let here' : is_at at' login' x.request ≡ true = rw (subst P same naming) at agreed in
     let p = one_place at at' login login' x.request here here' in
     both_so (at == at') (same_text login login') (rw (← p.0) (number_itself at)) (rw (← p.1) (text_itself login))
+
+new_is_uniform : (H : List Entry) (t : Transaction) (at : ℕ) (login : List ℕ) (x : Entry) → named H t ≡ Some x → is_at at login x.request ≡ true → (r : Request) (a : Reply) → IsAgreed H r a → is_of t r ≡ true → 0 < moved r a → is_at at login r ≡ true
+new_is_uniform H t at login x naming here (Reserve id txn at' login' count) (Granted id' n) agreed mine some = new_is_uniform_at H t (transaction id txn) at at' login login' x naming here agreed mine
+new_is_uniform H t at login x naming here (Settle id txn at' login' count) (Settled id' n) agreed mine some = new_is_uniform_at H t (transaction id txn) at at' login login' x naming here agreed mine
 new_is_uniform H t at login x naming here r a agreed mine some = absurd (omega arith)
 
 pub uniform_push : (H : List Entry) (e : Entry) → IsAgreed H e.request e.reply → IsUniform H → IsUniform (H ++ e ∷ [])
@@ -120,10 +128,10 @@ record Goes (day : ℕ → ℕ) (H : List Entry) (e : Entry) (at : ℕ) (login :
   before : is_open H r ≡ true
   after : is_open (H ++ e ∷ []) r ≡ false
 
-closed_now : (H : List Entry) (e : Entry) (t u : Transaction) → t ≡ u → is_of t e.request ≡ true → closes e.reply ≡ true → not (closed (H ++ e ∷ []) u) ≡ false
+pub closed_now : (H : List Entry) (e : Entry) (t u : Transaction) → t ≡ u → is_of t e.request ≡ true → closes e.reply ≡ true → not (closed (H ++ e ∷ []) u) ≡ false
 closed_now H e t u same mine closing = let P : Transaction → Type 0 = λ v. not (closed (H ++ e ∷ []) v) ≡ false in subst P same (grind (arith, closed_push H e t, mine, closing))
 
-open_then : (H : List Entry) (t u : Transaction) → t ≡ u → closed H t ≡ false → not (closed H u) ≡ true
+pub open_then : (H : List Entry) (t u : Transaction) → t ≡ u → closed H t ≡ false → not (closed H u) ≡ true
 open_then H t u same f = let P : Transaction → Type 0 = λ v. not (closed H v) ≡ true in subst P same (ap not f)
 
 same_day : (day : ℕ → ℕ) (a b : ℕ) → (a == b) ≡ true → (day b == day a) ≡ true
@@ -137,7 +145,7 @@ goes day H e t at login mine closing shut (Reserve id txn at' login' count) (Gra
 }
 goes day H e t at login mine closing shut r a of some here = absurd (omega arith)
 
-abbrev held_of : Transaction → Entry → ℕ
+abbrev pub held_of : Transaction → Entry → ℕ
 held_of t x = if is_of t x.request then granted x.request x.reply else 0
 
 held_goes_at : (day : ℕ → ℕ) (H : List Entry) (e : Entry) (t : Transaction) (at : ℕ) (login : List ℕ) → is_of t e.request ≡ true → closes e.reply ≡ true → closed H t ≡ false → (x : Entry) → IsUniformAt t at login x →
@@ -147,7 +155,7 @@ held_goes_at day H e t at login mine closing shut x uniform =
       | inr f ↦ (let falls = reserved_of_falls day H e login (day at) x in rw f (omega (arith, falls)))
       | inl of ↦ elim (zero_or_more (granted x.request x.reply)) [
         | inl none ↦ grind (arith, none)
-        | inr some ↦ (let g = goes day H e t at login mine closing shut x.request x.reply of some (uniform of some) in rw (of, g.concerns, g.after, g.before) (omega arith))
+        | inr some ↦ (let g = goes day H e t at login mine closing shut x.request x.reply of some (uniform of (omega (arith, some))) in rw (of, g.concerns, g.after, g.before) (omega arith))
       ]
     ]
 

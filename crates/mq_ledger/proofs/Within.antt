@@ -137,7 +137,7 @@ good_settle day default H id txn at login count good true eb false es false ef =
     let enough : count ≤ held H t = grind (arith, nat_tests, ef) in
     record {
       within = within_settled day default H id id txn at login count count (good.uniform t at login eb) es (omega (arith, have, enough)) good.within;
-      uniform = uniform_push H (entry (Settle id txn at login count) (Settled id count)) tt good.uniform;
+      uniform = uniform_push H (entry (Settle id txn at login count) (Settled id count)) eb good.uniform;
     }
 
 good_release : (day : ℕ → ℕ) (default : ℕ) (H : List Entry) (id : Id) (txn at : ℕ) (login : List ℕ) → IsGood day default H → (b s : Bool) →

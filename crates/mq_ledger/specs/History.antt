@@ -90,6 +90,10 @@ granted_in H t = sum_by (λ e. if is_of t e.request then granted e.request e.rep
 abbrev pub held : List Entry → Transaction → ℕ
 held H t = if closed H t then 0 else granted_in H t
 
+-- the sum of counts of the transaction's settled settles: a legal history has one of them at most
+abbrev pub settled_in : List Entry → Transaction → ℕ
+settled_in H t = sum_by (λ e. if is_of t e.request then counted e.request e.reply else 0) H
+
 -- the request is a reserve or settle of that login and day
 abbrev pub concerns : (ℕ → ℕ) → List ℕ → ℕ → Request → Bool
 concerns day l d (Reserve id txn at login count) = same_text l login && (day at == d)
@@ -120,3 +124,13 @@ settled day H l d = sum_by (settled_of day l d) H
 -- what the login has used on that day
 abbrev pub used : (ℕ → ℕ) → List Entry → List ℕ → ℕ → ℕ
 used day H l d = reserved day H l d + settled day H l d
+
+-- what an entry behind H grants to that login on that day
+abbrev pub gained : (ℕ → ℕ) → List ℕ → ℕ → Request → Reply → ℕ
+gained day l d r a = if concerns day l d r then granted r a else 0
+
+-- what an entry behind H ends of what the login has reserved on that day: what its transaction holds, where it closes it
+abbrev pub freed : (ℕ → ℕ) → List Entry → List ℕ → ℕ → Request → Reply → ℕ
+freed day H l d (Settle id txn at login count) (Settled id' count') = if same_text l login && (day at == d) then held H (transaction id txn) else 0
+freed day H l d (Release id txn at login) (Released id' n) = if same_text l login && (day at == d) then held H (transaction id txn) else 0
+freed day H l d _ _ = 0

@@ -6,3 +6,6 @@ pub mod Legal
 pub mod Limits
 pub mod Over
 pub mod Page
+pub mod Suits
+pub mod Sums
+pub mod Told

@@ -1,5 +1,5 @@
 -- The limit of a login on a day.
-use Rattle.std.specs.Prelude.{ℕ, List, filter, fold, Bool, false, ◌==◌, ◌&&◌, nat_lt, nat_le, if◌then◌else◌}
+use Rattle.std.specs.Prelude.{ℕ, List, filter, fold, Bool, false, ◌==◌, ◌&&◌, nat_lt, nat_le, if◌then◌else◌, Option, Some, None}
 use Rattle.mq_frame.specs.declared.message.Request.{Request}
 use Rattle.mq_frame.specs.declared.message.Request.TheVariants.{Limit}
 use Rattle.mq_frame.specs.declared.message.Reply.{Reply}
@@ -45,3 +45,11 @@ last_cap default es = fold (λ _ e. cap_of e.request) default es
 -- of those with the greatest from-day, the last
 abbrev pub cap : ℕ → List Entry → List ℕ → ℕ → ℕ
 cap default H l d = last_cap default (filter (λ e. from_of e.request == latest (limits H l d)) (limits H l d))
+
+-- a limit of the login that was set from that very day on
+abbrev pub sets_from : List ℕ → ℕ → Entry → Bool
+sets_from l d e = sets l e.request e.reply && (from_of e.request == d)
+
+-- the cap of the last limit of the login that was set from that very day on
+abbrev pub set_cap : List Entry → List ℕ → ℕ → Option ℕ
+set_cap H l d = fold (λ c e. if sets_from l d e then Some (cap_of e.request) else c) None H

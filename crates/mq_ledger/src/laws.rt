@@ -1,18 +1,23 @@
 //! Laws of the definitions, for whoever builds on a ledger. Each function does nothing: its
 //! contract is the law.
-ghost use Rattle.std.specs.Prelude.{◌≡◌, ◌≤◌, ℕ, ℤ, List, [], ◌∷◌, ◌++◌, Option, Some, All};
+ghost use Rattle.std.specs.Prelude.{◌≡◌, ◌≤◌, ◌<◌, ◌+◌, ℕ, ℤ, List, [], ◌∷◌, ◌++◌, Option, Some, None, All, true, false, ◌&&◌, ◌||◌, nat_le, if◌then◌else◌, sum_by};
+ghost use Rattle.std.specs.Option.{option_or};
 ghost use Rattle.mq_frame.specs.declared.message.Id.{Id};
 ghost use Rattle.mq_frame.specs.declared.message.Request.{Request as AnyRequest};
 ghost use Rattle.mq_frame.specs.Range.{IsRequest, IsReply, IsAmount};
 ghost use Rattle.mq_ledger.specs.declared.entry.Entry.{Entry as AnyEntry};
-ghost use Rattle.mq_ledger.specs.Answer.{stored, reply, taken, history_of};
+ghost use Rattle.mq_ledger.specs.Answer.{answer, stored, reply, taken, history_of};
 ghost use Rattle.mq_ledger.specs.Arrivals.{id_of};
 ghost use Rattle.mq_ledger.specs.Day.{IsOffset, IsDayRule, day_of};
-ghost use Rattle.mq_ledger.specs.History.{requests, used};
+ghost use Rattle.mq_ledger.specs.History.{requests, Transaction, same_transaction, is_of, named, agrees, closes, closed, granted, counted, held, settled_in, settled_of, reserved, settled, used, gained, freed};
 ghost use Rattle.mq_ledger.specs.Legal.{IsLegal};
-ghost use Rattle.mq_ledger.specs.Limits.{cap};
+ghost use Rattle.mq_ledger.specs.Limits.{from_of, cap_of, governs, limits, latest, cap, sets_from, set_cap};
 ghost use Rattle.mq_ledger.specs.Over.{over, IsLeastOver};
-ghost use Rattle.mq_ledger.specs.Page.{page, IsPage};
+ghost use Rattle.mq_ledger.specs.Page.{page, IsPage, is_login, login_on, has_reserve};
+ghost use Rattle.mq_ledger.specs.Suits.{Suits};
+ghost use Rattle.mq_ledger.specs.Sums.{held_on, settled_on, AreDistinct, HasAllNamed};
+
+use mq_frame::laws::same_is_equal;
 
 /// In every legal history no login has used more on a day than its limit.
 pub fn within_limits()
@@ -79,4 +84,120 @@ pub fn page_is_first()
         IsPage day H d after (page day H d after) }
     ensures only { (day : ℕ → ℕ) (H : List AnyEntry) (d : ℕ) (after : List ℕ)
         (ls : List (List ℕ)) → IsPage day H d after ls → ls ≡ page day H d after }
+{}
+
+/// What one more entry does to a transaction, in any history.
+pub fn one_more_of_a_transaction()
+    ensures named { (H : List AnyEntry) (e : AnyEntry) (t : Transaction) →
+        named (H ++ e ∷ []) t ≡ option_or (named H t) (if is_of t e.request then Some e else None) }
+    ensures closed { (H : List AnyEntry) (e : AnyEntry) (t : Transaction) →
+        closed (H ++ e ∷ []) t ≡ (closed H t || (is_of t e.request && closes e.reply)) }
+    ensures held { (H : List AnyEntry) (e : AnyEntry) (t : Transaction) →
+        held (H ++ e ∷ []) t ≡ (if closed H t || (is_of t e.request && closes e.reply) then 0
+        else held H t + (if is_of t e.request then granted e.request e.reply else 0)) }
+    ensures settled { (H : List AnyEntry) (e : AnyEntry) (t : Transaction) →
+        settled_in (H ++ e ∷ []) t
+        ≡ settled_in H t + (if is_of t e.request then counted e.request e.reply else 0) }
+{}
+
+/// A transaction with no entry holds and settled nothing, and one that isn't closed settled nothing.
+/// Host, run and number say which transaction it is.
+pub fn open_transactions()
+    ensures unheard { (H : List AnyEntry) (t : Transaction) → named H t ≡ None →
+        (closed H t ≡ false) × (held H t ≡ 0) × (settled_in H t ≡ 0) }
+    ensures open { (H : List AnyEntry) (t : Transaction) →
+        closed H t ≡ false → settled_in H t ≡ 0 }
+    ensures same { (t u : Transaction) → same_transaction t u ≡ true → t ≡ u }
+    ensures itself { (t : Transaction) → same_transaction t t ≡ true }
+{}
+
+/// What one more entry does to a login and day: in a legal history the entry of an answer, in any
+/// history any entry to what is settled, and to which logins have a granted reserve.
+pub fn one_more_on_a_day()
+    ensures reserved { (day : ℕ → ℕ) (default : ℕ) (H : List AnyEntry) (e : AnyEntry)
+        (l : List ℕ) (d : ℕ) →
+        IsLegal day default H → e.reply ≡ answer day default H e.request →
+        reserved day (H ++ e ∷ []) l d + freed day H l d e.request e.reply
+        ≡ reserved day H l d + gained day l d e.request e.reply }
+    ensures settled { (day : ℕ → ℕ) (H : List AnyEntry) (e : AnyEntry) (l : List ℕ) (d : ℕ) →
+        settled day (H ++ e ∷ []) l d ≡ settled day H l d + settled_of day l d e }
+    ensures has_reserve { (day : ℕ → ℕ) (H : List AnyEntry) (e : AnyEntry)
+        (l : List ℕ) (d : ℕ) →
+        has_reserve day (H ++ e ∷ []) d l
+        ≡ (has_reserve day H d l || is_login l (login_on day d e.request e.reply)) }
+{}
+
+/// What one more entry does to the limits of a login, in any history.
+pub fn one_more_limit()
+    ensures set_cap { (H : List AnyEntry) (e : AnyEntry) (l : List ℕ) (d : ℕ) →
+        set_cap (H ++ e ∷ []) l d
+        ≡ (if sets_from l d e then Some (cap_of e.request) else set_cap H l d) }
+    ensures cap { (default : ℕ) (H : List AnyEntry) (e : AnyEntry) (l : List ℕ) (d : ℕ) →
+        cap default (H ++ e ∷ []) l d
+        ≡ (if governs l d e && nat_le (latest (limits H l d)) (from_of e.request)
+        then cap_of e.request else cap default H l d) }
+{}
+
+/// The limit on a day is the one that was set from the latest day up to it, in any history.
+pub fn latest_limit_governs()
+    ensures none { (default : ℕ) (H : List AnyEntry) (l : List ℕ) (d : ℕ) →
+        ((from : ℕ) → from ≤ d → set_cap H l from ≡ None) → cap default H l d ≡ default }
+    ensures latest { (default : ℕ) (H : List AnyEntry) (l : List ℕ) (d from c : ℕ) →
+        from ≤ d → set_cap H l from ≡ Some c →
+        ((later : ℕ) → from < later → later ≤ d → set_cap H l later ≡ None) →
+        cap default H l d ≡ c }
+{}
+
+/// Each reply is one to its request, with its number.
+pub fn replies_suit()
+    ensures answer { (day : ℕ → ℕ) (default : ℕ) (H : List AnyEntry) (r : AnyRequest) →
+        Suits r (answer day default H r) }
+    ensures stored { (day : ℕ → ℕ) (default : ℕ) (H : List AnyEntry) →
+        IsLegal day default H → All (λ e. Suits e.request e.reply) H }
+    ensures reply { (day : ℕ → ℕ) (default : ℕ) (H : List AnyEntry) (r : AnyRequest) →
+        IsLegal day default H → Suits r (reply day default H r) }
+{
+    same_is_equal();
+}
+
+/// In a legal history what a login has reserved and settled on a day is what its transactions hold
+/// and settled: no distinct ones have more, and all that have an entry together have as much.
+pub fn sums_over_transactions()
+    ensures held { (day : ℕ → ℕ) (default : ℕ) (H : List AnyEntry) (l : List ℕ) (d : ℕ)
+        (ts : List Transaction) → IsLegal day default H → AreDistinct ts →
+        sum_by (held_on day H l d) ts ≤ reserved day H l d }
+    ensures settled { (day : ℕ → ℕ) (default : ℕ) (H : List AnyEntry) (l : List ℕ) (d : ℕ)
+        (ts : List Transaction) → IsLegal day default H → AreDistinct ts →
+        sum_by (settled_on day H l d) ts ≤ settled day H l d }
+    ensures all_held { (day : ℕ → ℕ) (default : ℕ) (H : List AnyEntry) (l : List ℕ) (d : ℕ)
+        (ts : List Transaction) → IsLegal day default H → AreDistinct ts → HasAllNamed H ts →
+        sum_by (held_on day H l d) ts ≡ reserved day H l d }
+    ensures all_settled { (day : ℕ → ℕ) (default : ℕ) (H : List AnyEntry) (l : List ℕ) (d : ℕ)
+        (ts : List Transaction) → IsLegal day default H → AreDistinct ts → HasAllNamed H ts →
+        sum_by (settled_on day H l d) ts ≡ settled day H l d }
+{}
+
+/// In a legal history what a transaction holds is reserved for its login and day, what it settled
+/// is settled there, and only a login and day with a granted reserve has used any.
+pub fn used_where_reserved()
+    ensures held { (day : ℕ → ℕ) (default : ℕ) (H : List AnyEntry) (t : Transaction)
+        (at : ℕ) (login : List ℕ) → IsLegal day default H → agrees at login (named H t) ≡ true →
+        held H t ≤ reserved day H login (day at) }
+    ensures settled { (day : ℕ → ℕ) (default : ℕ) (H : List AnyEntry) (t : Transaction)
+        (at : ℕ) (login : List ℕ) → IsLegal day default H → agrees at login (named H t) ≡ true →
+        settled_in H t ≤ settled day H login (day at) }
+    ensures none { (day : ℕ → ℕ) (default : ℕ) (H : List AnyEntry) (l : List ℕ) (d : ℕ) →
+        IsLegal day default H → has_reserve day H d l ≡ false →
+        (reserved day H l d ≡ 0) × (settled day H l d ≡ 0) }
+{}
+
+/// In a legal history the numbers of a login and day, and those of a transaction, are amounts.
+pub fn amounts_in_range()
+    ensures used { (day : ℕ → ℕ) (default : ℕ) (H : List AnyEntry) (l : List ℕ) (d : ℕ) →
+        IsAmount default → IsDayRule day → IsLegal day default H →
+        IsAmount (used day H l d) × IsAmount (reserved day H l d) × IsAmount (settled day H l d)
+        × IsAmount (cap default H l d) }
+    ensures held { (day : ℕ → ℕ) (default : ℕ) (H : List AnyEntry) (t : Transaction) →
+        IsAmount default → IsDayRule day → IsLegal day default H →
+        IsAmount (held H t) × IsAmount (settled_in H t) }
 {}

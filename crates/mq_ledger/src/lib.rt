@@ -3,18 +3,13 @@
 //! `docs/LEDGER.md` tells the whole meaning, with examples.
 #![tactic(auto)]
 
-mod cap;
-mod contract;
 mod entry;
-mod first_over;
 pub mod laws;
-mod listing;
+mod ledger;
 mod plain;
-mod standing;
-mod totals;
 mod zone;
 
-pub use contract::{Ledger, LedgerFault};
 pub use entry::Entry;
+pub use ledger::{Ledger, LedgerFault, Told};
 pub use plain::PlainLedger;
 pub use zone::{BadOffset, Zone};

@@ -9,9 +9,16 @@ ghost use Rattle.mq_ledger.specs.History.{requests};
 ghost use Rattle.mq_ledger.specs.Legal.{IsLegalBook};
 
 mod answer;
+mod cap;
+mod entries;
+mod first_over;
+mod listing;
+mod standing;
+mod totals;
 
-use crate::contract::{Ledger, LedgerFault};
-use crate::entry::{Entry, id_of, stored};
+use crate::entry::Entry;
+use crate::ledger::{Ledger, LedgerFault};
+use crate::plain::entries::{id_of, stored};
 use crate::zone::Zone;
 use mq_frame::{Reply, Request};
 use std::alloc::{AllocError, Global};

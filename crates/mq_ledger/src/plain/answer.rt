@@ -4,12 +4,12 @@ ghost use Rattle.mq_frame.specs.Range.{IsRequest};
 ghost use Rattle.mq_ledger.specs.Answer.{answer, granted_or_full};
 ghost use Rattle.mq_ledger.specs.Day.{day_of};
 
-use crate::cap::cap;
-use crate::first_over::over;
-use crate::listing::{page, row};
 use crate::plain::PlainLedger;
-use crate::standing::{granted_in, refusal};
-use crate::totals::used;
+use crate::plain::cap::cap;
+use crate::plain::first_over::over;
+use crate::plain::listing::{page, row};
+use crate::plain::standing::{granted_in, refusal};
+use crate::plain::totals::used;
 use mq_frame::{Id, Login, Reply, Request, UsageRow, UsageRows};
 use std::alloc::AllocError;
 

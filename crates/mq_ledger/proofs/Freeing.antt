@@ -1,0 +1,160 @@
+-- What one more entry does to what a login has reserved on a day.
+use Rattle.std.proofs.Common.{◌≡◌, ℕ, ◌+◌, ◌<◌, List, [], ◌∷◌, ◌++◌, Bool, true, false, refl, ◌∙◌, ap, sym, subst, inl, inr, arith}
+use Rattle.std.specs.Prelude.{if◌then◌else◌, sum_by, ◌&&◌, ◌==◌, not, Some, None}
+use Rattle.std.specs.List.{AllByRecursion}
+use Rattle.std.proofs.lemmas.List.Sums.{sum_by_push}
+use Rattle.mq_frame.specs.declared.message.Id.{Id}
+use Rattle.mq_frame.specs.declared.message.Request.{Request}
+use Rattle.mq_frame.specs.declared.message.Request.TheVariants.{Reserve, Settle, Release, Limit, Usage, List as ListRequest}
+use Rattle.mq_frame.specs.declared.message.Reply.{Reply}
+use Rattle.mq_frame.specs.declared.message.Reply.TheVariants.{Granted, Settled, Released}
+use Rattle.mq_frame.specs.Same.{same_text}
+use Rattle.mq_ledger.specs.declared.entry.Entry.{Entry}
+use Rattle.mq_ledger.specs.Answer.{answer}
+use Rattle.mq_ledger.specs.History.{Transaction, transaction, same_transaction, is_of, is_at, closes, closed, named, agrees, granted, granted_in, held, concerns, is_open, reserved_of, reserved, gained, freed, IsOpenTo}
+use Rattle.mq_ledger.specs.Legal.{IsLegal}
+use Rattle.mq_ledger.specs.Suits.{Suits}
+use Rattle.mq_ledger.proofs.Basics.{either, first_so, second_so, zero_or_more, text_is, number_is, always, sums_are, two_sums_are, sum_if}
+use Rattle.mq_ledger.proofs.Ranges.{legal_good}
+use Rattle.mq_ledger.proofs.Suiting.{Opens, answer_suits, answer_opens}
+use Rattle.mq_ledger.proofs.Transactions.{entry, transaction_is, transaction_itself, closed_push, closed_now, open_then, IsUniformAt, IsUniform, held_of, moved}
+
+-- An entry that doesn't close leaves what is reserved.
+
+open_same : (H : List Entry) (e : Entry) → closes e.reply ≡ false → (r : Request) → is_open (H ++ e ∷ []) r ≡ is_open H r
+open_same H e shut (Reserve id txn at login count) = grind (arith, closed_push H e (transaction id txn), shut)
+open_same H e shut (Settle id txn at login count) = refl
+open_same H e shut (Release id txn at login) = refl
+open_same H e shut (Limit id from c login) = refl
+open_same H e shut (Usage login d) = refl
+open_same H e shut (ListRequest d after) = refl
+
+reserved_stays : (day : ℕ → ℕ) (H : List Entry) (e : Entry) (l : List ℕ) (d : ℕ) → closes e.reply ≡ false → sum_by (reserved_of day (H ++ e ∷ []) l d) H ≡ reserved day H l d
+reserved_stays day H e l d shut = sums_are (λ _. Unit {0}) (reserved_of day (H ++ e ∷ []) l d) (reserved_of day H l d) (λ x _. (let same = open_same H e shut x.request in rw same refl)) H (always H)
+
+-- One that closes a transaction ends what it holds.
+
+of_one : (t u : Transaction) (r : Request) → is_of t r ≡ true → is_of u r ≡ true → t ≡ u
+of_one t u (Reserve id txn at login count) h g = transaction_is t (transaction id txn) h ∙ sym (transaction_is u (transaction id txn) g)
+of_one t u (Settle id txn at login count) h g = transaction_is t (transaction id txn) h ∙ sym (transaction_is u (transaction id txn) g)
+of_one t u (Release id txn at login) h g = transaction_is t (transaction id txn) h ∙ sym (transaction_is u (transaction id txn) g)
+of_one t u (Limit id from c login) h g = cc
+of_one t u (Usage login d) h g = cc
+of_one t u (ListRequest d after) h g = cc
+
+pub of_another : (t u : Transaction) (r : Request) → is_of t r ≡ true → same_transaction t u ≡ false → is_of u r ≡ false
+of_another t u r h other = elim (either (is_of u r)) [
+  | inr f ↦ f
+  | inl g ↦ absurd (let same = of_one t u r h g in
+      let itself : same_transaction t u ≡ true = (let P : Transaction → Type 0 = λ v. same_transaction t v ≡ true in subst P same (transaction_itself t)) in
+      let clash : true ≡ false = sym itself ∙ other in cc)
+]
+
+open_elsewhere : (H : List Entry) (e : Entry) (t : Transaction) → is_of t e.request ≡ true → (r : Request) → is_of t r ≡ false → is_open (H ++ e ∷ []) r ≡ is_open H r
+open_elsewhere H e t mine (Reserve id txn at login count) other = (let apart = of_another t (transaction id txn) e.request mine other in grind (arith, closed_push H e (transaction id txn), apart))
+open_elsewhere H e t mine (Settle id txn at login count) other = refl
+open_elsewhere H e t mine (Release id txn at login) other = refl
+open_elsewhere H e t mine (Limit id from c login) other = refl
+open_elsewhere H e t mine (Usage login d) other = refl
+open_elsewhere H e t mine (ListRequest d after) other = refl
+
+concerned_at : (day : ℕ → ℕ) (at at' : ℕ) (login login' l : List ℕ) (d : ℕ) → ((at == at') && same_text login login') ≡ true → (same_text l login' && (day at' == d)) ≡ (same_text l login && (day at == d))
+concerned_at day at at' login login' l d here =
+    let moment : at ≡ at' = number_is at at' (first_so (at == at') (same_text login login') here) in
+    let name : login ≡ login' = text_is login login' (second_so (at == at') (same_text login login') here) in
+    rw (moment, name) refl
+
+-- what was granted or settled for that moment and login is of its day and login
+pub concerned : (day : ℕ → ℕ) (at : ℕ) (login : List ℕ) (r : Request) (a : Reply) → 0 < moved r a → is_at at login r ≡ true → (l : List ℕ) (d : ℕ) → concerns day l d r ≡ (same_text l login && (day at == d))
+concerned day at login (Reserve id txn at' login' count) (Granted id' n) some here l d = concerned_at day at at' login login' l d here
+concerned day at login (Settle id txn at' login' count) (Settled id' n) some here l d = concerned_at day at at' login login' l d here
+concerned day at login r a some here l d = absurd (omega arith)
+
+-- a granted reserve of the transaction that the entry closes: of its login and day, open before, and then not
+record Ends (day : ℕ → ℕ) (H : List Entry) (e : Entry) (at : ℕ) (login : List ℕ) (r : Request) : Type 0 where
+  concerns : (l : List ℕ) (d : ℕ) → concerns day l d r ≡ (same_text l login && (day at == d))
+  before : is_open H r ≡ true
+  after : is_open (H ++ e ∷ []) r ≡ false
+
+ends : (day : ℕ → ℕ) (H : List Entry) (e : Entry) (t : Transaction) (at : ℕ) (login : List ℕ) → is_of t e.request ≡ true → closes e.reply ≡ true → closed H t ≡ false → (r : Request) (a : Reply) → is_of t r ≡ true → 0 < granted r a → is_at at login r ≡ true → Ends day H e at login r
+ends day H e t at login mine closing shut (Reserve id txn at' login' count) (Granted id' n) of some here = record {
+  concerns = λ l d. concerned_at day at at' login login' l d here;
+  before = open_then H t (transaction id txn) (transaction_is t (transaction id txn) of) shut;
+  after = closed_now H e t (transaction id txn) (transaction_is t (transaction id txn) of) mine closing;
+}
+ends day H e t at login mine closing shut r a of some here = absurd (omega arith)
+
+ends_at : (day : ℕ → ℕ) (H : List Entry) (e : Entry) (t : Transaction) (at : ℕ) (login l : List ℕ) (d : ℕ) → is_of t e.request ≡ true → closes e.reply ≡ true → closed H t ≡ false → (x : Entry) → IsUniformAt t at login x →
+    reserved_of day (H ++ e ∷ []) l d x + (if same_text l login && (day at == d) then held_of t x else 0) ≡ reserved_of day H l d x
+ends_at day H e t at login l d mine closing shut x uniform =
+    elim (either (is_of t x.request)) [
+      | inr other ↦ (let same = open_elsewhere H e t mine x.request other in rw (same, other) (grind arith))
+      | inl of ↦ elim (zero_or_more (granted x.request x.reply)) [
+        | inl none ↦ grind (arith, none)
+        | inr some ↦ (let g = ends day H e t at login mine closing shut x.request x.reply of some (uniform of (omega (arith, some))) in
+            rw (of, g.concerns l d, g.after, g.before) (grind arith))
+      ]
+    ]
+
+reserved_ends : (day : ℕ → ℕ) (H : List Entry) (e : Entry) (t : Transaction) (at : ℕ) (login l : List ℕ) (d : ℕ) → is_of t e.request ≡ true → closes e.reply ≡ true → closed H t ≡ false → AllByRecursion (IsUniformAt t at login) H →
+    sum_by (reserved_of day (H ++ e ∷ []) l d) H + (if same_text l login && (day at == d) then granted_in H t else 0) ≡ reserved day H l d
+reserved_ends day H e t at login l d mine closing shut uniform =
+    let c : Bool = same_text l login && (day at == d) in
+    let part = sum_if c (held_of t) H in
+    let both = two_sums_are (IsUniformAt t at login) (reserved_of day (H ++ e ∷ []) l d) (λ x. if c then held_of t x else 0) (reserved_of day H l d) (ends_at day H e t at login l d mine closing shut) H uniform in
+    omega (arith, part, both)
+
+-- The equation.
+
+own_part : (day : ℕ → ℕ) (H : List Entry) (e : Entry) (l : List ℕ) (d : ℕ) → reserved day (H ++ e ∷ []) l d ≡ sum_by (reserved_of day (H ++ e ∷ []) l d) H + reserved_of day (H ++ e ∷ []) l d e
+own_part day H e l d = sum_by_push (reserved_of day (H ++ e ∷ []) l d) H e
+
+pub nothing_either_way : (b : Bool) (n : ℕ) → n ≡ 0 → (if b then n else 0) ≡ 0
+nothing_either_way true n none = none
+nothing_either_way false n none = refl
+
+quiet : (day : ℕ → ℕ) (H : List Entry) (r : Request) (a : Reply) (l : List ℕ) (d : ℕ) → closes a ≡ false → granted r a ≡ 0 → reserved day (H ++ entry r a ∷ []) l d ≡ reserved day H l d
+quiet day H r a l d shut none =
+    let own : reserved_of day (H ++ entry r a ∷ []) l d (entry r a) ≡ 0 = nothing_either_way (concerns day l d r && is_open (H ++ entry r a ∷ []) r) (granted r a) none in
+    omega (arith, own, own_part day H (entry r a) l d, reserved_stays day H (entry r a) l d shut)
+
+closing : (day : ℕ → ℕ) (H : List Entry) (r : Request) (a : Reply) (t : Transaction) (at : ℕ) (login l : List ℕ) (d : ℕ) → IsUniform H → is_of t r ≡ true → closes a ≡ true → granted r a ≡ 0 → IsOpenTo at login H t →
+    reserved day (H ++ entry r a ∷ []) l d + (if same_text l login && (day at == d) then held H t else 0) ≡ reserved day H l d
+closing day H r a t at login l d uniform mine shuts none o =
+    let own : reserved_of day (H ++ entry r a ∷ []) l d (entry r a) ≡ 0 = nothing_either_way (concerns day l d r && is_open (H ++ entry r a ∷ []) r) (granted r a) none in
+    let ended = reserved_ends day H (entry r a) t at login l d mine shuts o.open_still (uniform t at login o.agreed) in
+    let all : reserved day (H ++ entry r a ∷ []) l d + (if same_text l login && (day at == d) then granted_in H t else 0) ≡ reserved day H l d = omega (arith, own, ended, own_part day H (entry r a) l d) in
+    rw o.open_still all
+
+granting : (day : ℕ → ℕ) (H : List Entry) (id id' : Id) (txn at : ℕ) (login : List ℕ) (count n : ℕ) (l : List ℕ) (d : ℕ) → IsOpenTo at login H (transaction id txn) →
+    reserved day (H ++ entry (Reserve id txn at login count) (Granted id' n) ∷ []) l d ≡ reserved day H l d + (if same_text l login && (day at == d) then count else 0)
+granting day H id id' txn at login count n l d o =
+    let e : Entry = entry (Reserve id txn at login count) (Granted id' n) in
+    let still : closed (H ++ e ∷ []) (transaction id txn) ≡ false = grind (arith, closed_push H e (transaction id txn), o.open_still) in
+    let own : reserved_of day (H ++ e ∷ []) l d e ≡ (if same_text l login && (day at == d) then count else 0) = rw still (grind arith) in
+    omega (arith, own, own_part day H e l d, reserved_stays day H e l d refl)
+
+reserved_entry : (day : ℕ → ℕ) (H : List Entry) (l : List ℕ) (d : ℕ) → IsUniform H → (r : Request) (a : Reply) → Suits r a → Opens H r a → reserved day (H ++ entry r a ∷ []) l d + freed day H l d r a ≡ reserved day H l d + gained day l d r a
+reserved_entry day H l d uniform (Reserve id txn at login count) (Granted id' n) suits o = omega (arith, granting day H id id' txn at login count n l d o)
+reserved_entry day H l d uniform (Settle id txn at login count) (Settled id' n) suits o =
+    let none : gained day l d (Settle id txn at login count) (Settled id' n) ≡ 0 = grind arith in
+    omega (arith, none, closing day H (Settle id txn at login count) (Settled id' n) (transaction id txn) at login l d uniform (transaction_itself (transaction id txn)) refl refl o.0)
+reserved_entry day H l d uniform (Release id txn at login) (Released id' n) suits o =
+    omega (arith, closing day H (Release id txn at login) (Released id' n) (transaction id txn) at login l d uniform (transaction_itself (transaction id txn)) refl refl o)
+reserved_entry day H l d uniform (Reserve id txn at login count) (Settled id' n) suits o = absurd suits
+reserved_entry day H l d uniform (Reserve id txn at login count) (Released id' n) suits o = absurd suits
+reserved_entry day H l d uniform (Settle id txn at login count) (Released id' n) suits o = absurd suits
+reserved_entry day H l d uniform (Release id txn at login) (Settled id' n) suits o = absurd suits
+reserved_entry day H l d uniform (Limit id from c login) (Settled id' n) suits o = absurd suits
+reserved_entry day H l d uniform (Limit id from c login) (Released id' n) suits o = absurd suits
+reserved_entry day H l d uniform (Usage login d') (Settled id' n) suits o = absurd suits
+reserved_entry day H l d uniform (Usage login d') (Released id' n) suits o = absurd suits
+reserved_entry day H l d uniform (ListRequest d' after) (Settled id' n) suits o = absurd suits
+reserved_entry day H l d uniform (ListRequest d' after) (Released id' n) suits o = absurd suits
+reserved_entry day H l d uniform r a suits o =
+    let none : gained day l d r a ≡ 0 = grind arith in
+    omega (arith, none, quiet day H r a l d refl refl)
+
+pub reserved_more : (day : ℕ → ℕ) (default : ℕ) (H : List Entry) (e : Entry) (l : List ℕ) (d : ℕ) → IsLegal day default H → e.reply ≡ answer day default H e.request → reserved day (H ++ e ∷ []) l d + freed day H l d e.request e.reply ≡ reserved day H l d + gained day l d e.request e.reply
+reserved_more day default H e l d legal is =
+    reserved_entry day H l d (legal_good day default H legal).uniform e.request e.reply (subst (Suits e.request) (sym is) (answer_suits day default H e.request)) (subst (Opens H e.request) (sym is) (answer_opens day default H e.request))

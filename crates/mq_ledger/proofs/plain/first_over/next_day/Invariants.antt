@@ -1,0 +1,11 @@
+use Rattle.std.proofs.Common.{◌≡◌, take, IfSome}
+use Rattle.mq_frame.specs.Range.{IsDay}
+use Rattle.mq_ledger.specs.Day.{day_of}
+use Rattle.mq_ledger.specs.Over.{days_from, least}
+use Rattle.mq_ledger.proofs.plain.first_over.next_day.Given as goal
+
+abbrev pub invariant-loop-entry : goal.invariant-loop-entry
+invariant-loop-entry l = record {
+  so_far : l.found ≡ least (days_from (day_of l.zone) (take l.entry-index l.entries) l.login l.from);
+  in_range : IfSome l.found IsDay;
+}

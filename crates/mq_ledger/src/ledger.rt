@@ -1,0 +1,105 @@
+//! What every ledger keeps to.
+ghost use Rattle.std.specs.Prelude.{◌≡◌, [], ◌∷◌, ◌++◌, IfOk, OnOk, OnErr};
+ghost use Rattle.mq_frame.specs.Range.{IsRequest, IsReply};
+ghost use Rattle.mq_ledger.specs.Answer.{build, reply};
+ghost use Rattle.mq_ledger.specs.Arrivals.{first};
+ghost use Rattle.mq_ledger.specs.Day.{day_of};
+ghost use Rattle.mq_ledger.specs.History.{requests};
+ghost use Rattle.mq_ledger.specs.Legal.{Book, IsLegalBook};
+
+use crate::zone::Zone;
+use mq_frame::{Reply, Request};
+use std::alloc::AllocError;
+use thiserror::Error;
+
+/// Why a ledger couldn't take a request.
+#[derive(Clone, Copy, Debug, PartialEq, Eq, Error)]
+pub enum LedgerFault {
+    /// A growth was refused.
+    #[error("out of memory")]
+    Memory,
+    /// The store failed, and takes no more requests.
+    #[error("store failed")]
+    Store,
+}
+
+impl From<AllocError> for LedgerFault {
+    ghost use Rattle.mq_ledger.specs.declared.ledger.LedgerFault.TheVariants.{Memory};
+
+    ghost from_gives = { λ _ fault. fault ≡ Memory };
+
+    fn from(_error: AllocError) -> LedgerFault {
+        LedgerFault::Memory
+    }
+}
+
+/// One call of `apply`, as a ledger tells it: what was asked, and how it was answered.
+#[derive(Debug, Drop)]
+pub struct Told {
+    pub request: Request,
+    pub answer: Result<Reply, LedgerFault>,
+}
+
+/// A ledger, by the list of the numbered requests that it applied, each with its reply, oldest
+/// first.
+///
+/// A ledger is sound while its store has kept its premise and its history is a legal one, with its
+/// zone and its default. What is promised of a reply is promised of a sound ledger whose store has
+/// still kept its premise as the call returns.
+pub trait Ledger {
+    ghost use Rattle.std.specs.Prelude.{◌∷◌, [], List, Option, None};
+    ghost use Rattle.mq_ledger.specs.Told.{Tells};
+    ghost use Rattle.mq_ledger.specs.declared.ledger.Told.{Told};
+
+    // The calls of `apply` so far, the oldest first, where the ledger tells them.
+    ghost told: { Self → Option (List Told) } = { λ _. None };
+
+    /// Its zone, its default limit and its history.
+    ghost book: { Self → Book };
+
+    /// Its store has kept its premise so far: nobody else wrote it, and it gave back what was
+    /// written.
+    ghost has_kept: { Self → Type 0 };
+
+    /// It has kept it, and its history is legal.
+    ghost is_sound: { Self → Type 0 };
+
+    /// What its days go by.
+    fn zone(&self) -> Zone
+        ensures { result ≡ (book self.now).zone };
+
+    /// The limit of a login that has none for a day: recipients, 0 to 1,000,000.
+    fn default_cap(&self) -> u32
+        ensures { result ≡ (book self.now).default };
+
+    /// Replies to a request.
+    ///
+    /// A number that comes again gets its stored reply, or `Conflict` where the request differs; so
+    /// a request may be sent until its reply comes.
+    fn apply(&mut self, request: &Request) -> Result<Reply, LedgerFault>
+        requires { IsRequest request.now }
+
+        // Of any ledger, sound or not.
+        ensures told { Tells (told self.old) (told self.new)
+            (record { request = request.now; answer = result } ∷ []) }
+        ensures in_range { IfOk result IsReply }
+        ensures same_zone { (book self.new).zone ≡ (book self.old).zone }
+        ensures same_default { (book self.new).default ≡ (book self.old).default }
+        ensures kept { has_kept self.new → has_kept self.old }
+
+        // Of a sound one that has kept its premise.
+        ensures reply { has_kept self.new → is_sound self.old → (let b = book self.old in
+            IfOk result (λ r. r ≡ reply (day_of b.zone) b.default b.history request.now)) }
+        ensures history { has_kept self.new → is_sound self.old → (let b = book self.old in
+            OnOk result ((book self.new).history
+            ≡ build (day_of b.zone) b.default (first (requests b.history ++ request.now ∷ [])))) }
+        ensures fault { has_kept self.new → is_sound self.old →
+            OnErr result ((book self.new).history ≡ (book self.old).history) }
+        ensures sound { has_kept self.new → is_sound self.old → is_sound self.new };
+
+    /// A sound ledger has kept its premise.
+    ghost sound_is_kept: { (s : Self) → is_sound s → has_kept s };
+
+    /// The history of a sound ledger is legal.
+    ghost sound_is_legal: { (s : Self) → is_sound s → IsLegalBook (book s) };
+}

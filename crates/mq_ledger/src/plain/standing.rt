@@ -1,0 +1,120 @@
+//! How a transaction stands: who it belongs to, whether it is closed, and what it was granted.
+ghost use Rattle.std.specs.Prelude.{◌≡◌, ◌<◌, ◌^◌, IfOk};
+ghost use Rattle.std.specs.Option.{option_copied, MatchOption};
+ghost use Rattle.mq_frame.specs.declared.message.Reply.{Reply as AnyReply};
+ghost use Rattle.mq_ledger.specs.Answer.{if_open};
+ghost use Rattle.mq_ledger.specs.History.{transaction, is_of, is_at, named, agrees, closed, granted_in, IsOpenTo};
+
+use crate::entry::Entry;
+use crate::plain::entries::{closes, granted};
+use mq_frame::{Id, Login, Reply, Request};
+use std::alloc::AllocError;
+
+/// Whether the request is of the transaction.
+fn is_of(request: &Request, id: &Id, txn: u32) -> bool
+    ensures { result ≡ is_of (transaction id.now txn) request.now }
+{
+    match request {
+        Request::Reserve {
+            id: other,
+            txn: number,
+            ..
+        }
+        | Request::Settle {
+            id: other,
+            txn: number,
+            ..
+        }
+        | Request::Release {
+            id: other,
+            txn: number,
+            ..
+        } => id.host == other.host && id.run == other.run && txn == *number,
+        _ => false,
+    }
+}
+
+/// Whether the request is of that moment and login.
+fn is_at(request: &Request, at: u64, login: &Login) -> bool
+    ensures { result ≡ is_at at login.now request.now }
+{
+    match request {
+        Request::Reserve {
+            at: moment,
+            login: other,
+            ..
+        }
+        | Request::Settle {
+            at: moment,
+            login: other,
+            ..
+        }
+        | Request::Release {
+            at: moment,
+            login: other,
+            ..
+        } => at == *moment && *login == *other,
+        _ => false,
+    }
+}
+
+/// The first entry of the transaction.
+fn named<'a>(entries: &'a [Entry], id: &Id, txn: u32) -> Option<&'a Entry>
+    ensures { option_copied result ≡ named entries.now (transaction id.now txn) }
+{
+    entries.iter().find(|entry| is_of(&entry.request, id, txn))
+}
+
+/// Whether the transaction has that moment and login, or no entry yet.
+fn agrees(entries: &[Entry], id: &Id, txn: u32, at: u64, login: &Login) -> bool
+    ensures { result ≡ agrees at login.now (named entries.now (transaction id.now txn)) }
+{
+    match named(entries, id, txn) {
+        None => true,
+        Some(entry) => is_at(&entry.request, at, login),
+    }
+}
+
+/// Whether the transaction is closed.
+pub fn is_closed(entries: &[Entry], id: &Id, txn: u32) -> bool
+    ensures { result ≡ closed entries.now (transaction id.now txn) }
+{
+    entries.iter().any(|entry| is_of(&entry.request, id, txn) && closes(&entry.reply))
+}
+
+/// The reply to a request whose transaction isn't open to it: it has another moment or login, or is
+/// closed.
+pub fn refusal(
+    entries: &[Entry],
+    id: &Id,
+    txn: u32,
+    at: u64,
+    login: &Login,
+) -> Result<Option<Reply>, AllocError>
+    ensures { IfOk result (λ refused. MatchOption refused
+        (IsOpenTo at login.now entries.now (transaction id.now txn))
+        (λ reply. (a : AnyReply) → reply ≡ if_open entries.now id.now txn at login.now a)) }
+{
+    if !agrees(entries, id, txn, at, login) {
+        return Ok(Some(Reply::Mismatch { id: id.clone()? }));
+    }
+    if is_closed(entries, id, txn) {
+        return Ok(Some(Reply::Closed { id: id.clone()? }));
+    }
+    Ok(None)
+}
+
+/// What the transaction's reserves were granted: what it holds while it is open.
+pub fn granted_in(entries: &[Entry], id: &Id, txn: u32) -> u32
+    requires { granted_in entries.now (transaction id.now txn) < 2 ^ 32 }
+    ensures { result ≡ granted_in entries.now (transaction id.now txn) }
+{
+    entries
+        .iter()
+        .map(|entry| if is_of(&entry.request, id, txn) {
+            granted(entry)
+        } else {
+            0
+        })
+        .sum()
+}
