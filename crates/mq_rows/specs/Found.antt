@@ -1,0 +1,48 @@
+-- What is read of the tables for a request.
+use Rattle.std.specs.Prelude.{◌≡◌, ℕ, ◌+◌, ◌≤◌, List, find, Bool, true, false, ◌&&◌, nat_lt, nat_le, Option, Some, None, Contains}
+use Rattle.std.specs.List.{AllByRecursion}
+use Rattle.mq_frame.specs.declared.message.Request.{Request}
+use Rattle.mq_frame.specs.declared.message.Request.TheVariants.{Reserve, Settle, Release, Limit, Usage, List as ListRequest}
+use Rattle.mq_frame.specs.Same.{same_text}
+use Rattle.mq_ledger.specs.History.{transaction}
+use Rattle.mq_rows.specs.declared.record.UsageRecord.{UsageRecord}
+use Rattle.mq_rows.specs.declared.record.CeilingRecord.{CeilingRecord}
+use Rattle.mq_rows.specs.declared.plan.Found.{Found}
+use Rattle.mq_rows.specs.Rows.{is_transaction, is_usage, is_ceiling}
+use Rattle.mq_rows.specs.Tables.{Tables}
+
+-- the limit is the login's, and holds from that day or an earlier one on
+abbrev pub is_due : List ℕ → ℕ → CeilingRecord → Bool
+is_due login day c = same_text login c.login && nat_le c.day day
+
+-- of the rows that are due it is the latest; none where none is due
+abbrev pub IsGoverning : List ℕ → ℕ → List CeilingRecord → Option CeilingRecord → Type 0
+IsGoverning login day rows None = AllByRecursion (λ c. is_due login day c ≡ false) rows
+IsGoverning login day rows (Some c) = Contains rows c × (is_due login day c ≡ true) × AllByRecursion (λ other. is_due login day other ≡ true → other.day ≤ c.day) rows
+
+-- the day is the login's, that one or a later one, and more than the cap is used
+abbrev pub is_over : List ℕ → ℕ → ℕ → UsageRecord → Bool
+is_over login from cap u = same_text login u.login && (nat_le from u.day && nat_lt cap (u.reserved + u.settled))
+
+-- of the rows that are over it is that of the first day; none where none is over
+abbrev pub IsFirstOver : List ℕ → ℕ → ℕ → List UsageRecord → Option UsageRecord → Type 0
+IsFirstOver login from cap rows None = AllByRecursion (λ u. is_over login from cap u ≡ false) rows
+IsFirstOver login from cap rows (Some u) = Contains rows u × (is_over login from cap u ≡ true) × AllByRecursion (λ other. is_over login from cap other ≡ true → u.day ≤ other.day) rows
+
+-- what was found is what the tables have about the request
+abbrev pub IsFound : (ℕ → ℕ) → Tables → Request → Found → Type 0
+IsFound day t (Reserve id txn at login count) f =
+    (f.transaction ≡ find (is_transaction (transaction id txn)) t.transactions)
+    × (f.usage ≡ find (is_usage login (day at)) t.usage)
+    × IsGoverning login (day at) t.ceilings f.governing
+IsFound day t (Settle id txn at login count) f =
+    (f.transaction ≡ find (is_transaction (transaction id txn)) t.transactions)
+    × (f.usage ≡ find (is_usage login (day at)) t.usage)
+IsFound day t (Release id txn at login) f =
+    (f.transaction ≡ find (is_transaction (transaction id txn)) t.transactions)
+    × (f.usage ≡ find (is_usage login (day at)) t.usage)
+IsFound day t (Limit id from_day asked login) f =
+    IsFirstOver login from_day asked t.usage f.over
+    × (f.ceiling ≡ find (is_ceiling login from_day) t.ceilings)
+IsFound day t (Usage login d) f = Unit {0}
+IsFound day t (ListRequest d after) f = Unit {0}

@@ -1,0 +1,173 @@
+-- The reply to a numbered request whose number is new, and what is written with it, by what was
+-- found in the tables.
+use Rattle.std.specs.Prelude.{◌≡◌, ℕ, ◌+◌, ◌-◌, List, ◌∷◌, Bool, true, false, not, ◌==◌, ◌&&◌, ◌||◌, nat_lt, nat_le, if◌then◌else◌, Option, Some, None}
+use Rattle.std.specs.List.{AllByRecursion}
+use Rattle.std.specs.List.Sorted.{IsPermutation}
+use Rattle.mq_frame.specs.declared.message.Id.{Id}
+use Rattle.mq_frame.specs.declared.message.Request.{Request}
+use Rattle.mq_frame.specs.declared.message.Request.TheVariants.{Reserve, Settle, Release, Limit, Usage, List as ListRequest}
+use Rattle.mq_frame.specs.declared.message.Reply.{Reply}
+use Rattle.mq_frame.specs.declared.message.Reply.TheVariants.{Granted, Settled, Released, LimitSet, Over, Closed, Mismatch, Bad}
+use Rattle.mq_frame.specs.Same.{same_text}
+use Rattle.mq_ledger.specs.Answer.{granted_or_full, settled_or_too_many}
+use Rattle.mq_rows.specs.declared.record.TransactionRecord.{TransactionRecord}
+use Rattle.mq_rows.specs.declared.record.UsageRecord.{UsageRecord}
+use Rattle.mq_rows.specs.declared.record.CeilingRecord.{CeilingRecord}
+use Rattle.mq_rows.specs.declared.plan.Found.{Found}
+use Rattle.mq_rows.specs.declared.plan.Plan.{Plan}
+use Rattle.mq_rows.specs.declared.plan.Write.{Write}
+use Rattle.mq_rows.specs.declared.plan.Write.TheVariants.{Keep, Insert, Update}
+use Rattle.mq_rows.specs.Rows.{answer_row}
+
+-- What was found, as numbers: nothing where there is no row.
+
+-- no row has another login or moment
+abbrev pub agrees_with : ℕ → List ℕ → Option TransactionRecord → Bool
+agrees_with at login None = true
+agrees_with at login (Some t) = (at == t.moment) && same_text login t.login
+
+abbrev pub is_closed : Option TransactionRecord → Bool
+is_closed None = false
+is_closed (Some t) = t.closed
+
+abbrev pub held_by : Option TransactionRecord → ℕ
+held_by None = 0
+held_by (Some t) = t.held
+
+abbrev pub reserved_by : Option UsageRecord → ℕ
+reserved_by None = 0
+reserved_by (Some u) = u.reserved
+
+abbrev pub used_by : Option UsageRecord → ℕ
+used_by None = 0
+used_by (Some u) = u.reserved + u.settled
+
+-- the limit that governs, or the default
+abbrev pub cap_by : ℕ → Option CeilingRecord → ℕ
+cap_by default None = default
+cap_by default (Some c) = c.cap
+
+-- The reply.
+
+-- Mismatch where the row has another login or moment, Closed where it is closed, else that reply
+abbrev pub if_row_open : Id → ℕ → List ℕ → Option TransactionRecord → Reply → Reply
+if_row_open id at login t a = if not (agrees_with at login t) then Mismatch id else (if is_closed t then Closed id else a)
+
+-- a limit, where that row is the first with more used
+abbrev pub set_or_over_by : Id → Option UsageRecord → Reply
+set_or_over_by id None = LimitSet id
+set_or_over_by id (Some u) = Over id u.day (u.reserved + u.settled)
+
+-- the reply to a numbered request
+abbrev pub decided : ℕ → Request → Found → Reply
+decided default (Reserve id txn at login count) f = if_row_open id at login f.transaction (granted_or_full id (used_by f.usage) (cap_by default f.governing) count)
+decided default (Settle id txn at login count) f = if_row_open id at login f.transaction (settled_or_too_many id (held_by f.transaction) count)
+decided default (Release id txn at login) f = if_row_open id at login f.transaction (Released id (held_by f.transaction))
+decided default (Limit id from_day asked login) f = set_or_over_by id f.over
+decided default (Usage login day) f = Bad
+decided default (ListRequest day after) f = Bad
+
+-- What is written with it: a refusal changes no row, and a transaction's first request makes its row.
+
+-- the row of a transaction before its first request is answered
+abbrev pub fresh : (ℕ → ℕ) → Id → ℕ → ℕ → List ℕ → TransactionRecord
+fresh day id txn at login = record { host = id.host; run = id.run; txn = txn; login = login; moment = at; day = day at; held = 0; settled = 0; closed = false }
+
+-- the reply changes how its transaction stands
+abbrev pub moves : Reply → Bool
+moves (Granted id used) = true
+moves (Settled id count) = true
+moves (Released id held) = true
+moves _ = false
+
+-- the row of a transaction after the reply to a request of that count: a refusal changes nothing
+abbrev pub moved : ℕ → Reply → TransactionRecord → TransactionRecord
+moved count (Granted id used) t = record t { held = t.held + count }
+moved count (Settled id settled) t = record t { held = 0; settled = count; closed = true }
+moved count (Released id held) t = record t { held = 0; closed = true }
+moved count _ t = t
+
+-- a row that isn't there is made, and one that is there is updated where it changes
+abbrev pub moved_or_made : ℕ → Reply → TransactionRecord → Option TransactionRecord → Write TransactionRecord
+moved_or_made count a new None = Insert (moved count a new)
+moved_or_made count a new (Some t) = if moves a then Update (moved count a t) else Keep
+
+-- trans
+abbrev pub transaction_write : (ℕ → ℕ) → Request → Reply → Option TransactionRecord → Write TransactionRecord
+transaction_write day (Reserve id txn at login count) a t = moved_or_made count a (fresh day id txn at login) t
+transaction_write day (Settle id txn at login count) a t = moved_or_made count a (fresh day id txn at login) t
+transaction_write day (Release id txn at login) a t = moved_or_made 0 a (fresh day id txn at login) t
+transaction_write day _ a t = Keep
+
+-- so many more are reserved
+abbrev pub reserved_more : List ℕ → ℕ → ℕ → Option UsageRecord → Write UsageRecord
+reserved_more login day count None = Insert (record { login = login; day = day; settled = 0; reserved = count })
+reserved_more login day count (Some u) = Update (record u { reserved = u.reserved + count })
+
+-- of what was held so many are settled, and none of it is reserved any more
+abbrev pub freed : ℕ → ℕ → Option UsageRecord → Write UsageRecord
+freed count held None = Keep
+freed count held (Some u) = if held == 0 then Keep else Update (record u { settled = u.settled + count; reserved = u.reserved - held })
+
+-- usage, where the transaction held so many
+abbrev pub usage_write : (ℕ → ℕ) → Request → Reply → ℕ → Option UsageRecord → Write UsageRecord
+usage_write day (Reserve id txn at login count) (Granted id' used) held u = reserved_more login (day at) count u
+usage_write day (Settle id txn at login count) (Settled id' settled) held u = freed count held u
+usage_write day (Release id txn at login) (Released id' released) held u = freed 0 held u
+usage_write day _ _ held u = Keep
+
+-- the limit of that login and day is set
+abbrev pub set_ceiling_to : List ℕ → ℕ → ℕ → Option CeilingRecord → Write CeilingRecord
+set_ceiling_to login day cap None = Insert (record { login = login; day = day; cap = cap })
+set_ceiling_to login day cap (Some c) = Update (record c { cap = cap })
+
+-- ceiling
+abbrev pub ceiling_write : Request → Reply → Option CeilingRecord → Write CeilingRecord
+ceiling_write (Limit id from_day asked login) (LimitSet id') c = set_ceiling_to login from_day asked c
+ceiling_write _ _ c = Keep
+
+-- all that is written with that reply
+abbrev pub written : (ℕ → ℕ) → ℕ → Request → Found → Reply → Plan
+written day arrivals r f a = record {
+  reply = a;
+  answer = answer_row (arrivals + 1) (record { request = r; reply = a });
+  arrivals = arrivals + 1;
+  transaction = transaction_write day r a f.transaction;
+  usage = usage_write day r a (held_by f.transaction) f.usage;
+  ceiling = ceiling_write r a f.ceiling;
+}
+
+-- what a numbered request whose number is new comes to, where so many were answered
+abbrev pub planned : (ℕ → ℕ) → ℕ → ℕ → Request → Found → Plan
+planned day default arrivals r f = written day arrivals r f (decided default r f)
+
+-- Rows that no legal history has.
+
+-- what is used is in range, and what the transaction holds is reserved
+abbrev pub fits : Option TransactionRecord → Option UsageRecord → Bool
+fits t u = nat_le (used_by u) 1000000 && nat_le (held_by t) (reserved_by u)
+
+-- so they are where the transaction is open to the request, and the limit is in range
+abbrev pub fits_if_open : ℕ → List ℕ → ℕ → Option TransactionRecord → Option UsageRecord → Bool
+fits_if_open at login cap t u = if agrees_with at login t && not (is_closed t) then fits t u && nat_le cap 1000000 else true
+
+-- the day and what is used on it are in range
+abbrev pub is_day_over : Option UsageRecord → Bool
+is_day_over None = true
+is_day_over (Some u) = nat_le u.day 376200 && nat_le (u.reserved + u.settled) 1000000
+
+-- the rows that were found may be those of a legal history
+abbrev pub may_be_found : ℕ → Request → Found → Bool
+may_be_found default (Reserve id txn at login count) f = fits_if_open at login (cap_by default f.governing) f.transaction f.usage
+may_be_found default (Settle id txn at login count) f = fits_if_open at login 0 f.transaction f.usage
+may_be_found default (Release id txn at login) f = fits_if_open at login 0 f.transaction f.usage
+may_be_found default (Limit id from_day asked login) f = is_day_over f.over
+may_be_found default _ f = true
+
+-- What a write makes of the rows of a table.
+
+-- After the write P holds of the rows. `same` compares keys, and `set` is the old row with what an update sets.
+abbrev pub Leads : {R : Type 0} → (R → R → Bool) → (R → R → R) → Write R → List R → (List R → Type 0) → Type 0
+Leads same set Keep rows P = P rows
+Leads same set (Insert r) rows P = P (r ∷ rows)
+Leads {R} same set (Update r) rows P = (was : R) (rest : List R) → IsPermutation (was ∷ rest) rows → same r was ≡ true → AllByRecursion (λ other. same r other ≡ false) rest → P (set r was ∷ rest)

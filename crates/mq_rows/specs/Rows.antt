@@ -1,0 +1,92 @@
+-- The rows of a history: for each table a rule over the whole of it.
+--
+-- `day` gives the day of a moment. A table but the answers has at most one row under a key, and the
+-- rule gives the row of each key, where there is one.
+use Rattle.std.specs.Prelude.{ℕ, List, [], map, length, Bool, ◌==◌, ◌&&◌, if◌then◌else◌, Option, Some, None, option_map, unwrap_or}
+use Rattle.std.specs.List.{enumerate_from}
+use Rattle.mq_frame.specs.declared.message.Id.{Id}
+use Rattle.mq_frame.specs.declared.message.Request.{Request}
+use Rattle.mq_frame.specs.declared.message.Request.TheVariants.{Reserve, Settle, Release}
+use Rattle.mq_frame.specs.Same.{same_text}
+use Rattle.mq_frame.specs.Spelling.{request_body, reply_body}
+use Rattle.mq_ledger.specs.declared.entry.Entry.{Entry}
+use Rattle.mq_ledger.specs.Arrivals.{id_of}
+use Rattle.mq_ledger.specs.History.{Transaction, same_transaction, named, closed, held, settled, reserved}
+use Rattle.mq_ledger.specs.Legal.{Book}
+use Rattle.mq_ledger.specs.Page.{has_reserve}
+use Rattle.mq_rows.specs.Later.{settled_in, set_cap}
+use Rattle.mq_rows.specs.declared.record.SettingRecord.{SettingRecord}
+use Rattle.mq_rows.specs.declared.record.AnswerRecord.{AnswerRecord}
+use Rattle.mq_rows.specs.declared.record.TransactionRecord.{TransactionRecord}
+use Rattle.mq_rows.specs.declared.record.UsageRecord.{UsageRecord}
+use Rattle.mq_rows.specs.declared.record.CeilingRecord.{CeilingRecord}
+
+-- setting: version 1, the zone, the default limit, and the length of the history
+abbrev pub setting_row : Book → SettingRecord
+setting_row b = record { version = 1; minutes = b.zone; cap = b.default; arrivals = length b.history }
+
+-- the number of a request; every request of a history has one
+abbrev pub number_of : Request → Id
+number_of r = unwrap_or (id_of r) (record { host = []; run = 0; seq = 0 })
+
+-- answer: the n-th entry's number, and the bodies that spell its request and its reply
+abbrev pub answer_row : ℕ → Entry → AnswerRecord
+answer_row n e = record { n = n; id = number_of e.request; request = request_body e.request; reply = reply_body e.reply }
+
+-- the rows of all entries, in their order, from n = 1 on
+abbrev pub answer_rows : List Entry → List AnswerRecord
+answer_rows H = map (λ p. answer_row p.0 p.1) (enumerate_from 1 H)
+
+-- the login of a reserve, settle or release
+abbrev pub login_of : Request → List ℕ
+login_of (Reserve id txn at login count) = login
+login_of (Settle id txn at login count) = login
+login_of (Release id txn at login) = login
+login_of _ = []
+
+-- the moment of a reserve, settle or release
+abbrev pub moment_of : Request → ℕ
+moment_of (Reserve id txn at login count) = at
+moment_of (Settle id txn at login count) = at
+moment_of (Release id txn at login) = at
+moment_of _ = 0
+
+-- the row of a transaction that the entry is the first of
+abbrev pub transaction_of : (ℕ → ℕ) → List Entry → Transaction → Entry → TransactionRecord
+transaction_of day H t e = record {
+  host = t.host;
+  run = t.run;
+  txn = t.txn;
+  login = login_of e.request;
+  moment = moment_of e.request;
+  day = day (moment_of e.request);
+  held = held H t;
+  settled = settled_in H t;
+  closed = closed H t;
+}
+
+-- trans: a row for each transaction that has an entry, with the login and the moment of the first
+abbrev pub transaction_row : (ℕ → ℕ) → List Entry → Transaction → Option TransactionRecord
+transaction_row day H t = option_map (transaction_of day H t) (named H t)
+
+-- usage: a row for each login and day that has a granted reserve
+abbrev pub usage_row : (ℕ → ℕ) → List Entry → List ℕ → ℕ → Option UsageRecord
+usage_row day H l d =
+    if has_reserve day H d l then Some (record { login = l; day = d; settled = settled day H l d; reserved = reserved day H l d })
+    else None
+
+-- ceiling: a row for each login and day from which a limit was set, with the cap of the last of them
+abbrev pub ceiling_row : List Entry → List ℕ → ℕ → Option CeilingRecord
+ceiling_row H l d = option_map (λ c. record { login = l; day = d; cap = c }) (set_cap H l d)
+
+-- the row is of that transaction
+abbrev pub is_transaction : Transaction → TransactionRecord → Bool
+is_transaction t r = same_transaction t (record { host = r.host; run = r.run; txn = r.txn })
+
+-- the row is of that login and day
+abbrev pub is_usage : List ℕ → ℕ → UsageRecord → Bool
+is_usage l d r = same_text l r.login && (d == r.day)
+
+-- the row is of that login and day
+abbrev pub is_ceiling : List ℕ → ℕ → CeilingRecord → Bool
+is_ceiling l d r = same_text l r.login && (d == r.day)

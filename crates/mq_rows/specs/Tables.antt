@@ -1,0 +1,45 @@
+-- The five tables, and when they are the rows of a history.
+use Rattle.std.specs.Prelude.{◌≡◌, ℕ, List, [], ◌∷◌, filter, Option, Some, None}
+use Rattle.mq_ledger.specs.declared.entry.Entry.{Entry}
+use Rattle.mq_ledger.specs.Day.{day_of}
+use Rattle.mq_ledger.specs.History.{Transaction}
+use Rattle.mq_ledger.specs.Legal.{Book}
+use Rattle.mq_rows.specs.declared.record.SettingRecord.{SettingRecord}
+use Rattle.mq_rows.specs.declared.record.AnswerRecord.{AnswerRecord}
+use Rattle.mq_rows.specs.declared.record.TransactionRecord.{TransactionRecord}
+use Rattle.mq_rows.specs.declared.record.UsageRecord.{UsageRecord}
+use Rattle.mq_rows.specs.declared.record.CeilingRecord.{CeilingRecord}
+use Rattle.mq_rows.specs.Rows.{setting_row, answer_rows, transaction_row, usage_row, ceiling_row, is_transaction, is_usage, is_ceiling}
+
+-- the tables' rows: the answers in the order of n, the rows of the last three in any order
+pub record Tables : Type 0 where
+  pub setting : SettingRecord
+  pub answers : List AnswerRecord
+  pub transactions : List TransactionRecord
+  pub usage : List UsageRecord
+  pub ceilings : List CeilingRecord
+
+-- the one, or none
+abbrev pub those : {R : Type 0} → Option R → List R
+those None = []
+those (Some r) = r ∷ []
+
+-- the rows are those of the history's transactions: of each the one, once, and no others
+abbrev pub AreTransactions : (ℕ → ℕ) → List Entry → List TransactionRecord → Type 0
+AreTransactions day H rows = (t : Transaction) → filter (is_transaction t) rows ≡ those (transaction_row day H t)
+
+-- the rows are those of what the logins have used on their days: of each pair the one, once, and no others
+abbrev pub AreUsage : (ℕ → ℕ) → List Entry → List UsageRecord → Type 0
+AreUsage day H rows = (l : List ℕ) (d : ℕ) → filter (is_usage l d) rows ≡ those (usage_row day H l d)
+
+-- the rows are those of the limits that were set: of each login and day the one, once, and no others
+abbrev pub AreCeilings : List Entry → List CeilingRecord → Type 0
+AreCeilings H rows = (l : List ℕ) (d : ℕ) → filter (is_ceiling l d) rows ≡ those (ceiling_row H l d)
+
+-- the tables are the rows of the history, with its zone and its default limit
+pub record AreRows (b : Book) (t : Tables) : Type 0 where
+  pub setting : t.setting ≡ setting_row b
+  pub answers : t.answers ≡ answer_rows b.history
+  pub transactions : AreTransactions (day_of b.zone) b.history t.transactions
+  pub usage : AreUsage (day_of b.zone) b.history t.usage
+  pub ceilings : AreCeilings b.history t.ceilings

@@ -1,0 +1,74 @@
+//! The rows of the ledger's tables, a type for each table. Fields stand in the order of the columns.
+use crate::body::Body;
+use mq_frame::{Host, Id, Login};
+
+/// The version of the tables.
+pub const VERSION: u32 = 1;
+
+/// The one row of `setting`: what the ledger goes by, and how many requests it has answered.
+#[derive(Clone, Copy, Debug)]
+pub struct SettingRecord {
+    /// The version of the tables.
+    pub version: u32,
+    /// The minutes of the ledger's zone east of UTC, -1,439 to 1,439.
+    pub minutes: i32,
+    /// The limit of a login that has none for a day: recipients, 0 to 1,000,000.
+    pub cap: u32,
+    /// The numbered requests that were answered: the rows of `answer`.
+    pub arrivals: u64,
+}
+
+/// A row of `answer`: a numbered request and the reply that its number keeps.
+#[derive(Debug, Drop)]
+pub struct AnswerRecord {
+    /// The place among all that were answered, from 1 on.
+    pub n: u64,
+    pub id: Id,
+    /// The body that spells the request.
+    pub request: Body,
+    /// The body that spells the reply.
+    pub reply: Body,
+}
+
+/// A row of `trans`: how a transaction stands.
+#[derive(Debug, Drop)]
+pub struct TransactionRecord {
+    pub host: Host,
+    /// The run of the host's filter, 1 to 281,474,976,710,655.
+    pub run: u64,
+    /// The transaction's number in the run, 1 to 4,294,967,295.
+    pub txn: u32,
+    pub login: Login,
+    /// When it began: seconds since 1970-01-01T00:00:00Z.
+    pub moment: u64,
+    /// The ledger day of that moment.
+    pub day: u32,
+    /// The recipients that it holds, 0 once it is closed.
+    pub held: u32,
+    /// The recipients that it was settled with, 0 where it wasn't.
+    pub settled: u32,
+    /// Whether it was settled or released.
+    pub closed: bool,
+}
+
+/// A row of `usage`: what a login has used on a day.
+#[derive(Debug, Drop)]
+pub struct UsageRecord {
+    pub login: Login,
+    /// The ledger day.
+    pub day: u32,
+    /// Recipients of settled transactions.
+    pub settled: u32,
+    /// Recipients that open transactions hold.
+    pub reserved: u32,
+}
+
+/// A row of `ceiling`: a limit of a login that was set.
+#[derive(Debug, Drop)]
+pub struct CeilingRecord {
+    pub login: Login,
+    /// The ledger day from which it holds.
+    pub day: u32,
+    /// Recipients a day, 0 to 1,000,000.
+    pub cap: u32,
+}

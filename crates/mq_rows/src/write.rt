@@ -1,0 +1,293 @@
+//! What a numbered request whose number is new comes to: its reply, and what is written with it.
+ghost use Rattle.std.specs.Prelude.{◌≡◌, ◌+◌, ◌<◌, ◌≤◌, ◌^◌, true, false, Some, IfOk, IfErr};
+ghost use Rattle.mq_frame.specs.Range.{IsRequest, IsReply, IsCount};
+ghost use Rattle.mq_frame.specs.Spelling.{request_body, reply_body};
+ghost use Rattle.mq_ledger.specs.Arrivals.{id_of};
+ghost use Rattle.mq_ledger.specs.Day.{day_of};
+ghost use Rattle.mq_rows.specs.Rows.{number_of, answer_row};
+ghost use Rattle.mq_rows.specs.Plan.{moves, moved, fresh, moved_or_made, transaction_write, reserved_more, freed, usage_write, set_ceiling_to, ceiling_write, held_by, reserved_by, used_by, planned, may_be_found};
+
+use crate::body::Body;
+use crate::plan::{Found, Plan, Write};
+use crate::record::{AnswerRecord, CeilingRecord, TransactionRecord, UsageRecord};
+use mq_frame::{Id, Login, Memory, Reply, Request, encode_reply, encode_request};
+use mq_ledger::{LedgerFault, Zone};
+use std::alloc::{AllocError, Global};
+
+/// So many answers are stored at most.
+const MOST_ANSWERS: u64 = 4_611_686_018_427_387_904;
+
+/// The bytes of a frame's length, which stand before its body.
+const HEAD: usize = 2;
+
+/// The row of a transaction before its first request is answered.
+fn fresh(
+    day: u32,
+    id: &Id,
+    txn: u32,
+    at: u64,
+    login: &Login,
+) -> Result<TransactionRecord, AllocError>
+    ensures { IfOk result (λ row. row ≡ fresh (λ _. day) id.now txn at login.now) }
+{
+    Ok(TransactionRecord {
+        host: id.host.clone()?,
+        run: id.run,
+        txn,
+        login: login.clone()?,
+        moment: at,
+        day,
+        held: 0,
+        settled: 0,
+        closed: false,
+    })
+}
+
+fn moves(reply: &Reply) -> bool
+    ensures { result ≡ moves reply.now }
+{
+    matches!(
+        reply,
+        Reply::Granted { .. } | Reply::Settled { .. } | Reply::Released { .. }
+    )
+}
+
+/// The row of a transaction after the reply to a request of that count.
+fn moved(count: u32, reply: &Reply, mut row: TransactionRecord) -> TransactionRecord
+    requires { moves reply.now ≡ true → row.held + count < 2 ^ 32 }
+    ensures { result ≡ moved count reply.now row }
+{
+    match reply {
+        Reply::Granted { .. } => row.held += count,
+        Reply::Settled { .. } => {
+            row.held = 0;
+            row.settled = count;
+            row.closed = true;
+        }
+        Reply::Released { .. } => {
+            row.held = 0;
+            row.closed = true;
+        }
+        _ => {}
+    }
+    row
+}
+
+/// What becomes of the row of the request's transaction.
+fn transaction_write(
+    zone: Zone,
+    request: &Request,
+    reply: &Reply,
+    row: Option<TransactionRecord>,
+) -> Result<Write<TransactionRecord>, AllocError>
+    requires in_range { IsRequest request.now }
+    requires room { moves reply.now ≡ true → held_by row ≤ 1000000 }
+    ensures { IfOk result (λ write. write ≡ transaction_write (day_of zone) request.now reply.now row) }
+{
+    let (id, txn, at, login, count) = match request {
+        Request::Reserve {
+            id,
+            txn,
+            at,
+            login,
+            count,
+        }
+        | Request::Settle {
+            id,
+            txn,
+            at,
+            login,
+            count,
+        } => (id, *txn, *at, login, *count),
+        Request::Release { id, txn, at, login } => (id, *txn, *at, login, 0),
+        _ => return Ok(Write::Keep),
+    };
+    match row {
+        None => {
+            let row = fresh(zone.day(at), id, txn, at, login)?;
+            Ok(Write::Insert(moved(count, reply, row)))
+        }
+        Some(row) if moves(reply) => Ok(Write::Update(moved(count, reply, row))),
+        Some(_) => Ok(Write::Keep),
+    }
+}
+
+/// What becomes of a login's row of a day where so many more are reserved.
+fn reserved_more(
+    login: &Login,
+    day: u32,
+    count: u32,
+    row: Option<UsageRecord>,
+) -> Result<Write<UsageRecord>, AllocError>
+    requires { reserved_by row + count < 2 ^ 32 }
+    ensures { IfOk result (λ write. write ≡ reserved_more login.now day count row) }
+{
+    match row {
+        None => Ok(Write::Insert(UsageRecord {
+            login: login.clone()?,
+            day,
+            settled: 0,
+            reserved: count,
+        })),
+        Some(row) => Ok(Write::Update(UsageRecord {
+            reserved: row.reserved + count,
+            ..row
+        })),
+    }
+}
+
+/// What becomes of a login's row of a day where a transaction that held so many is closed, with so
+/// many settled.
+fn freed(count: u32, held: u32, row: Option<UsageRecord>) -> Write<UsageRecord>
+    requires held { held ≤ reserved_by row }
+    requires room { used_by row + count < 2 ^ 32 }
+    ensures { result ≡ freed count held row }
+{
+    match row {
+        Some(row) if held != 0 => Write::Update(UsageRecord {
+            settled: row.settled + count,
+            reserved: row.reserved - held,
+            ..row
+        }),
+        _ => Write::Keep,
+    }
+}
+
+/// What becomes of the row of the request's login and day. `held` is what its transaction held.
+fn usage_write(
+    zone: Zone,
+    request: &Request,
+    reply: &Reply,
+    held: u32,
+    row: Option<UsageRecord>,
+) -> Result<Write<UsageRecord>, AllocError>
+    requires in_range { IsRequest request.now }
+    requires used { moves reply.now ≡ true → used_by row ≤ 1000000 }
+    requires held { moves reply.now ≡ true → held ≤ reserved_by row }
+    ensures { IfOk result (λ write. write ≡ usage_write (day_of zone) request.now reply.now held row) }
+{
+    match (request, reply) {
+        (Request::Reserve { at, login, count, .. }, Reply::Granted { .. }) => {
+            reserved_more(login, zone.day(*at), *count, row)
+        }
+        (Request::Settle { count, .. }, Reply::Settled { .. }) => Ok(freed(*count, held, row)),
+        (Request::Release { .. }, Reply::Released { .. }) => Ok(freed(0, held, row)),
+        _ => Ok(Write::Keep),
+    }
+}
+
+/// What becomes of the row of the request's login and day among the limits.
+fn ceiling_write(
+    request: &Request,
+    reply: &Reply,
+    row: Option<CeilingRecord>,
+) -> Result<Write<CeilingRecord>, AllocError>
+    ensures { IfOk result (λ write. write ≡ ceiling_write request.now reply.now row) }
+{
+    match (request, reply) {
+        (
+            Request::Limit {
+                from_day,
+                cap,
+                login,
+                ..
+            },
+            Reply::LimitSet { .. },
+        ) => match row {
+            None => Ok(Write::Insert(CeilingRecord {
+                login: login.clone()?,
+                day: *from_day,
+                cap: *cap,
+            })),
+            Some(row) => Ok(Write::Update(CeilingRecord { cap: *cap, ..row })),
+        },
+        _ => Ok(Write::Keep),
+    }
+}
+
+/// The body of the request's frame.
+fn request_body(alloc: Global, request: &Request) -> Result<Body, Memory>
+    requires { IsRequest request.now }
+    ensures { IfOk result (λ body. body ≡ request_body request.now) }
+{
+    let mut frame = Vec::new(alloc);
+    encode_request(alloc, request, &mut frame)?;
+    Ok(Body::from_slice(alloc, &frame[HEAD..])?)
+}
+
+/// The body of the reply's frame.
+fn reply_body(alloc: Global, reply: &Reply) -> Result<Body, Memory>
+    requires { IsReply reply.now }
+    ensures { IfOk result (λ body. body ≡ reply_body reply.now) }
+{
+    let mut frame = Vec::new(alloc);
+    encode_reply(alloc, reply, &mut frame)?;
+    Ok(Body::from_slice(alloc, &frame[HEAD..])?)
+}
+
+/// The row of the n-th answer.
+fn answer_row(
+    alloc: Global,
+    n: u64,
+    id: &Id,
+    request: &Request,
+    reply: &Reply,
+) -> Result<AnswerRecord, Memory>
+    requires request { IsRequest request.now }
+    requires reply { IsReply reply.now }
+    requires number { id_of request.now ≡ Some id.now }
+    ensures { IfOk result (λ row. row ≡ answer_row n (record { request = request.now; reply = reply.now })) }
+{
+    Ok(AnswerRecord {
+        n,
+        id: id.clone()?,
+        request: request_body(alloc, request)?,
+        reply: reply_body(alloc, reply)?,
+    })
+}
+
+/// The reply to a numbered request, and what is written with it, where no row has its number.
+///
+/// `arrivals` is how many were answered, and `found` what the tables have about the request. The
+/// fault is `Memory`, or `Store` where the tables are the rows of no legal history, or where
+/// 4,611,686,018,427,387,904 answers are stored.
+pub fn decide(
+    alloc: Global,
+    zone: Zone,
+    default: u32,
+    arrivals: u64,
+    id: &Id,
+    request: &Request,
+    found: Found,
+) -> Result<Plan, LedgerFault>
+    requires in_range { IsRequest request.now }
+    requires number { id_of request.now ≡ Some id.now }
+    ensures plan { IfOk result (λ plan. plan ≡ planned (day_of zone) default arrivals request.now found) }
+    ensures in_range { IfOk result (λ plan. IsReply plan.reply) }
+    ensures store { IfErr result (λ fault. fault ≡ LedgerFault.Store
+        → arrivals < 4611686018427387904 → may_be_found default request.now found ≡ false) }
+{
+    if MOST_ANSWERS <= arrivals {
+        return Err(LedgerFault::Store);
+    }
+    let reply = found.reply(default, request)?;
+    let held = found.held();
+    let Ok(answer) = answer_row(alloc, arrivals + 1, id, request, &reply) else {
+        return Err(LedgerFault::Memory);
+    };
+    let Found {
+        transaction,
+        usage,
+        governing: _,
+        over: _,
+        ceiling,
+    } = found;
+    Ok(Plan {
+        answer,
+        arrivals: arrivals + 1,
+        transaction: transaction_write(zone, request, &reply, transaction)?,
+        usage: usage_write(zone, request, &reply, held, usage)?,
+        ceiling: ceiling_write(request, &reply, ceiling)?,
+        reply,
+    })
+}
