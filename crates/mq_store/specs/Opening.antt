@@ -1,0 +1,53 @@
+-- What `open` answers to what the store answers.
+use Rattle.std.specs.Prelude.{◌≡◌, ◌⊎◌, ℕ, ℤ, pos, if◌then◌else◌, Option, Some, None, Result, Ok, Err}
+use Rattle.std.specs.Ordering.{int_eq}
+use Rattle.sqlite.specs.State.{State}
+use Rattle.sqlite.specs.declared.error.ErrorCode.{ErrorCode}
+use Rattle.sqlite.specs.declared.error.ErrorCode.TheVariants.{OutOfMemory, SystemIoFailure, DatabaseCorrupt, DiskFull, Closed, TooBig}
+use Rattle.sqlite.specs.declared.error.Error.{Error}
+use Rattle.sqlite.specs.declared.error.Error.TheVariants.{SqliteFailure}
+use Rattle.mq_ledger.specs.declared.zone.Zone.{Zone}
+use Rattle.mq_tables.specs.declared.setting.Setting.{Setting}
+use Rattle.mq_tables.specs.declared.setting.NewSetting.{NewSetting}
+use Rattle.mq_tables.specs.Reading.{IsRead}
+use Rattle.mq_tables.specs.Settings.{SettingRow, shown_of}
+use Rattle.mq_store.specs.declared.fault.OpenFault.{OpenFault}
+use Rattle.mq_store.specs.declared.fault.OpenFault.TheVariants.{NotOurs, ZoneDiffers, DefaultDiffers, Memory, Store}
+
+-- what the tables are made with
+abbrev pub made_with : Zone → ℕ → NewSetting
+made_with zone default = record { minutes = zone; cap = default }
+
+-- memory and the disk, and any other cause
+abbrev pub fault_of_code : ErrorCode → OpenFault
+fault_of_code OutOfMemory = Memory
+fault_of_code SystemIoFailure = Store
+fault_of_code DatabaseCorrupt = Store
+fault_of_code DiskFull = Store
+fault_of_code Closed = Store
+fault_of_code TooBig = Store
+fault_of_code _ = NotOurs
+
+abbrev pub fault_of : Error → OpenFault
+fault_of (SqliteFailure c) = fault_of_code c
+fault_of _ = NotOurs
+
+-- version, offset and default, checked in this order
+abbrev pub fault_in : Zone → ℕ → Setting → Option OpenFault
+fault_in zone default s =
+    if int_eq s.version (pos 1) then (if int_eq s.minutes zone then (if int_eq s.cap (pos default) then None else Some DefaultDiffers) else Some ZoneDiffers) else Some NotOurs
+
+abbrev pub judged : Zone → ℕ → Result (Option Setting) Error → Option OpenFault
+judged zone default (Ok (Some s)) = fault_in zone default s
+judged zone default (Ok None) = Some NotOurs
+judged zone default (Err e) = Some (fault_of e)
+
+-- the fault is that of what was read
+pub record IsJudged (zone : Zone) (default : ℕ) (old new : State) (fault : Option OpenFault) : Type 0 where
+  pub read : Result (Option Setting) Error
+  pub is_read : IsRead old new read
+  pub fault_is : fault ≡ judged zone default read
+
+-- the fault is that of this row, or memory or the disk stopped the reading
+abbrev pub IsOf : Zone → ℕ → SettingRow → Option OpenFault → Type 0
+IsOf zone default s fault = (fault ≡ fault_in zone default (shown_of s)) ⊎ ((fault ≡ Some Memory) ⊎ (fault ≡ Some Store))

@@ -1,0 +1,88 @@
+ghost use Rattle.std.specs.Prelude.{◌≡◌};
+ghost use Rattle.mq_store.specs.Opening.{fault_of, fault_of_code, fault_in, judged};
+
+use mq_ledger::Zone;
+use mq_tables::setting::Setting;
+use sqlite::{Alter, Connection, Error, ErrorCode};
+use thiserror::Error as Described;
+
+/// Why a store isn't opened, or isn't made a ledger's.
+#[derive(Debug, Drop, PartialEq, Eq, Described)]
+pub enum OpenFault {
+    /// To make: a table of one of the five names is there. To open: the row of settings can't be
+    /// read, or isn't there, or is one of another version.
+    #[error("store is not this ledger")]
+    NotOurs,
+    /// It was made with another offset.
+    #[error("store has another offset")]
+    ZoneDiffers,
+    /// It was made with another default.
+    #[error("store has another default")]
+    DefaultDiffers,
+    /// A growth was refused.
+    #[error("out of memory")]
+    Memory,
+    /// The store failed.
+    #[error("store failed")]
+    Store,
+}
+
+/// A refusal, with the connection as it was lent.
+#[derive(Drop)]
+pub struct OpenRefused<S: Alter> {
+    pub fault: OpenFault,
+    pub connection: Connection<S>,
+}
+
+fn fault_of_code(code: ErrorCode) -> OpenFault
+    ensures { result ≡ fault_of_code code }
+{
+    match code {
+        ErrorCode::OutOfMemory => OpenFault::Memory,
+        ErrorCode::SystemIoFailure
+        | ErrorCode::DatabaseCorrupt
+        | ErrorCode::DiskFull
+        | ErrorCode::Closed
+        | ErrorCode::TooBig => OpenFault::Store,
+        _ => OpenFault::NotOurs,
+    }
+}
+
+fn fault_of(error: &Error) -> OpenFault
+    ensures { result ≡ fault_of error.now }
+{
+    match error {
+        Error::SqliteFailure(code) => fault_of_code(*code),
+        _ => OpenFault::NotOurs,
+    }
+}
+
+fn fault_in(zone: Zone, default: u32, setting: &Setting) -> Option<OpenFault>
+    ensures { result ≡ fault_in zone default setting.now }
+{
+    if setting.version != 1 {
+        return Some(OpenFault::NotOurs);
+    }
+    if setting.minutes != i64::from(zone.minutes()) {
+        return Some(OpenFault::ZoneDiffers);
+    }
+    if setting.cap != i64::from(default) {
+        return Some(OpenFault::DefaultDiffers);
+    }
+    None
+}
+
+/// Why a ledger of that zone and default isn't opened where its settings read so, if it isn't.
+pub(crate) fn judged(
+    zone: Zone,
+    default: u32,
+    read: &Result<Option<Setting>, Error>,
+) -> Option<OpenFault>
+    ensures { result ≡ judged zone default read.now }
+{
+    match read {
+        Ok(Some(setting)) => fault_in(zone, default, setting),
+        Ok(None) => Some(OpenFault::NotOurs),
+        Err(error) => Some(fault_of(error)),
+    }
+}

@@ -1,0 +1,203 @@
+ghost use Rattle.std.specs.Prelude.{◌≡◌, ◌≢◌, ◌⊎◌, false, None, Some, IsTrue, IfOk, IfErr};
+ghost use Rattle.sqlite.specs.Held.{state};
+ghost use Rattle.sqlite.specs.State.{HasCleanDisk};
+ghost use Rattle.sqlite.specs.Tree.{Trees};
+ghost use Rattle.mq_frame.specs.Range.{IsAmount};
+ghost use Rattle.mq_tables.specs.Making.{has_ledger_table, IsMadeOver, AreMadeOver};
+ghost use Rattle.mq_tables.specs.Reading.{Spares};
+ghost use Rattle.mq_tables.specs.Settings.{SettingRow, HasSetting};
+ghost use Rattle.mq_store.specs.Opening.{made_with, IsJudged, IsOf};
+ghost use Rattle.mq_store.specs.declared.fault.OpenFault.TheVariants.{NotOurs};
+
+use crate::fault::{OpenFault, OpenRefused, judged};
+use mq_ledger::Zone;
+use mq_tables::create::make_ledger;
+use mq_tables::names::has_ledger_table;
+use mq_tables::setting::{NewSetting, read_setting};
+use sqlite::{Alter, Connection, Error, ErrorCode};
+use std::marker::Model;
+
+/// A ledger in five tables of a store, which may hold others too.
+#[derive(Drop)]
+pub struct SqlLedger<S: Alter> {
+    connection: Connection<S>,
+    zone: Zone,
+    default: u32,
+}
+
+impl<S: Alter> Model for SqlLedger<S> {
+    ghost use Rattle.mq_store.specs.View.{LedgerView, view_code, IsReady};
+
+    ghost Value = { LedgerView S };
+
+    ghost coded = { view_code S.code };
+
+    ghost view = { λ l. record { connection = l.connection; zone = l.zone; default = l.default } };
+
+    ghost invariant = { λ l. IsReady (record { connection = l.connection; zone = l.zone; default = l.default }) };
+}
+
+/// Why the store isn't opened, if it isn't.
+fn fault_in_store<S: Alter>(
+    connection: &mut Connection<S>,
+    zone: Zone,
+    default: u32,
+) -> Option<OpenFault>
+    requires autocommit { connection.old.in_transaction ≡ false }
+    ensures autocommit { connection.new.in_transaction ≡ false }
+    ensures unlimited { connection.new.step_limit ≡ None }
+    ensures judged { HasCleanDisk (state S.Store connection.new)
+        → IsJudged zone default (state S.Store connection.old) (state S.Store connection.new) result }
+    ensures exact { HasCleanDisk (state S.Store connection.new) → (s : SettingRow)
+        → HasSetting (state S.Store connection.old).now s → IsOf zone default s result }
+    ensures spares { HasCleanDisk (state S.Store connection.new)
+        → Spares (state S.Store connection.old) (state S.Store connection.new) }
+{
+    let read = read_setting(connection);
+    judged(zone, default, &read)
+}
+
+/// What a refusal to make the tables is answered by.
+fn create_fault(error: &Error) -> OpenFault
+    ensures { result ≢ NotOurs }
+{
+    match error {
+        Error::SqliteFailure(ErrorCode::OutOfMemory) => OpenFault::Memory,
+        _ => OpenFault::Store,
+    }
+}
+
+impl<S: Alter> SqlLedger<S> {
+    /// Makes the tables of a ledger that has applied nothing, in one transaction, over whatever the
+    /// store holds. The default is the limit of a login that has none for a day: 0 to 1,000,000.
+    ///
+    /// Refused, the store has the tables that it had. `NotOurs` comes exactly where a table of one
+    /// of the five names is there. A connection within a transaction is `Store`.
+    pub fn create(
+        connection: Connection<S>,
+        zone: Zone,
+        default: u32,
+    ) -> Result<SqlLedger<S>, OpenRefused<S>>
+        requires { IsAmount default }
+        ensures lent { IfOk result (λ l. (l.zone ≡ zone) × (l.default ≡ default)) }
+        ensures made { IfOk result (λ l. HasCleanDisk (state S.Store l.connection)
+            → IsMadeOver (made_with zone default) (state S.Store connection).now (state S.Store l.connection).now) }
+        ensures open { IfOk result (λ l. HasCleanDisk (state S.Store l.connection)
+            → IsTrue (state S.Store l.connection).is_open) }
+        ensures not_ours { IfErr result (λ e. e.fault ≡ NotOurs
+            → IsTrue (has_ledger_table (state S.Store connection).now.schema)) }
+        ensures ours_ok { IfOk result (λ _. has_ledger_table (state S.Store connection).now.schema ≡ false) }
+        ensures ours_err { IfErr result (λ e. connection.in_transaction ≡ false
+            → IsTrue (has_ledger_table (state S.Store connection).now.schema) → e.fault ≡ NotOurs) }
+        ensures err { IfErr result (λ e. HasCleanDisk (state S.Store e.connection)
+            → IsTrue (state S.Store e.connection).is_open
+            → (state S.Store e.connection).now ≡ (state S.Store connection).now) }
+
+        // What an open after a crash may find: all five tables, or none of them.
+        ensures crash_ok { IfOk result (λ l. HasCleanDisk (state S.Store l.connection) → (db : Trees)
+            → (state S.Store l.connection).may_leave db → db ≡ (state S.Store l.connection).now.trees) }
+        ensures crash_err { IfErr result (λ e. HasCleanDisk (state S.Store e.connection) → (db : Trees)
+            → (state S.Store e.connection).may_leave db → (state S.Store connection).may_leave db
+            ⊎ AreMadeOver (made_with zone default) (state S.Store connection).now db) }
+    {
+        let mut connection = connection;
+        if !connection.is_autocommit() {
+            let fault = OpenFault::Store;
+            return Err(OpenRefused { fault, connection });
+        }
+        if has_ledger_table(connection.schema()) {
+            let fault = OpenFault::NotOurs;
+            return Err(OpenRefused { fault, connection });
+        }
+        connection.set_step_limit(None);
+        let made_with = NewSetting {
+            minutes: zone.minutes(),
+            cap: default,
+        };
+        match make_ledger(&mut connection, &made_with) {
+            Ok(()) => Ok(SqlLedger {
+                connection,
+                zone,
+                default,
+            }),
+            Err(error) => Err(OpenRefused {
+                fault: create_fault(&error),
+                connection,
+            }),
+        }
+    }
+
+    /// Opens the ledger that a store holds. It writes nothing. The default is 0 to 1,000,000.
+    ///
+    /// The faults for content come in this order: `NotOurs`, `ZoneDiffers`, `DefaultDiffers`;
+    /// `Memory` and `Store` stop the reading. A connection within a transaction is `Store`.
+    pub fn open(
+        connection: Connection<S>,
+        zone: Zone,
+        default: u32,
+    ) -> Result<SqlLedger<S>, OpenRefused<S>>
+        requires { IsAmount default }
+        ensures lent { IfOk result (λ l. (l.zone ≡ zone) × (l.default ≡ default)) }
+
+        // Over any store: what the store answers to the one query decides.
+        ensures ok { IfOk result (λ l. HasCleanDisk (state S.Store l.connection)
+            → IsJudged zone default (state S.Store connection) (state S.Store l.connection) None) }
+        ensures err { IfErr result (λ e. HasCleanDisk (state S.Store e.connection)
+            → connection.in_transaction ≡ false
+            → IsJudged zone default (state S.Store connection) (state S.Store e.connection) (Some e.fault)) }
+
+        // Over a store with our table of settings, wherever it stands: its row decides.
+        ensures exact_ok { IfOk result (λ l. HasCleanDisk (state S.Store l.connection) → (s : SettingRow)
+            → HasSetting (state S.Store connection).now s → IsOf zone default s None) }
+        ensures exact_err { IfErr result (λ e. HasCleanDisk (state S.Store e.connection)
+            → connection.in_transaction ≡ false → (s : SettingRow)
+            → HasSetting (state S.Store connection).now s → IsOf zone default s (Some e.fault)) }
+
+        // Nothing is written.
+        ensures spares_ok { IfOk result (λ l. HasCleanDisk (state S.Store l.connection)
+            → Spares (state S.Store connection) (state S.Store l.connection)) }
+        ensures spares_err { IfErr result (λ e. HasCleanDisk (state S.Store e.connection)
+            → Spares (state S.Store connection) (state S.Store e.connection)) }
+    {
+        let mut connection = connection;
+        if !connection.is_autocommit() {
+            let fault = OpenFault::Store;
+            return Err(OpenRefused { fault, connection });
+        }
+        match fault_in_store(&mut connection, zone, default) {
+            None => Ok(SqlLedger {
+                connection,
+                zone,
+                default,
+            }),
+            Some(fault) => Err(OpenRefused { fault, connection }),
+        }
+    }
+
+    /// What its days go by.
+    pub fn zone(&self) -> Zone
+        ensures { result ≡ self.now.zone }
+    {
+        self.zone
+    }
+
+    /// The limit of a login that has none for a day: recipients, 0 to 1,000,000.
+    pub fn default_cap(&self) -> u32
+        ensures value { result ≡ self.now.default }
+        ensures in_range { IsAmount result }
+    {
+        self.default
+    }
+
+    /// The connection, with the tables as they are.
+    pub fn into_connection(self) -> Connection<S>
+        ensures { result ≡ self.connection }
+    {
+        let SqlLedger {
+            connection,
+            zone: _,
+            default: _,
+        } = self;
+        connection
+    }
+}

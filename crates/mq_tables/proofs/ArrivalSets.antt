@@ -1,0 +1,198 @@
+-- The UPDATE of the row of settings, over any schema that has the table at some place.
+use Rattle.std.proofs.Common.{append-nil, ◌≡◌, ℕ, ℤ, ◌^◌, nat_le, pos, List, [], ◌∷◌, ◌==◌, find, true, false, Some, None, Ok, Err, Result, OnOk, codes, slice_get, refl, sym, ap, subst, ◌∙◌}
+use Rattle.std.specs.List.Sorted.{IsPermutation}
+use Rattle.sqlite_ast.specs.declared.Expr.{Expr, out-Expr}
+use Rattle.sqlite_ast.specs.declared.Expr.TheOpen.{Expr-F}
+use Rattle.sqlite_ast.specs.declared.Binary.TheVariants as binary
+use Rattle.sqlite.specs.Schema.{Schema}
+use Rattle.sqlite.specs.Table.{Table}
+use Rattle.sqlite.specs.Order.{Row, value_cmp}
+use Rattle.sqlite.specs.Ops.{binary}
+use Rattle.sqlite.specs.declared.types.Value.TheVariants.{Null, Int}
+use Rattle.sqlite.specs.declared.error.Error.{Error}
+use Rattle.sqlite.specs.Term.{Term, lit, col, op2, eval_all}
+use Rattle.sqlite.specs.Tree.{Trees}
+use Rattle.sqlite.specs.Edit.{edit_of, edited}
+use Rattle.sqlite.specs.Rowids.TheVariants.{Given}
+use Rattle.sqlite_rules.specs.Calls.{ids_of}
+use Rattle.sqlite.specs.State.{Executes, ExecutesInside}
+use Rattle.sqlite.specs.State as state
+use Rattle.sqlite_schema.specs.Names.{same_name, table_named, column_named}
+use Rattle.sqlite_value.specs.declared.keys.Collation.TheVariants.{Binary}
+use Rattle.sqlite_sql.specs.declared.ops.BinaryOp.TheVariants.{Compare}
+use Rattle.sqlite_sql.specs.declared.ops.CompareOp.TheVariants.{Eq}
+use Rattle.sqlite_draft.specs.declared.join.Step.TheVariants.{Inner}
+use Rattle.sqlite_draft.specs.declared.query.Draft.{Draft}
+use Rattle.sqlite_resolve.specs.declared.scope.Bound.{Bound}
+use Rattle.sqlite_resolve.specs.declared.state.State.{State}
+use Rattle.sqlite_resolve.specs.Lowering.{fresh, max_budget, nothing, chosen, alone, first_found}
+use Rattle.sqlite_resolve.specs.Scope.{Context}
+use Rattle.sqlite_resolve.specs.Body.{tests}
+use Rattle.sqlite_resolve.specs.Expr.{lower}
+use Rattle.sqlite_resolve.specs.Literal.{integer}
+use Rattle.sqlite_resolve.specs.Compare.{compared, affinity_of, of_column, converted, may_be_text}
+use Rattle.sqlite_resolve.specs.Write.{over, sets_from, with_place, row, simple, updated}
+use Rattle.sqlite_resolve.specs.Compile.{first}
+use Rattle.sqlite_typing.specs.Types.{accepts_program}
+use Rattle.sqlite.specs.Listing.{understood}
+use Rattle.sqlite.proofs.Callers.{IsPlain, command_of, one_permutation}
+use Rattle.sqlite_tied.specs.Compute.{everything}
+use Rattle.mq_tables.specs.Tables.{setting_table, keyed}
+use Rattle.mq_tables.specs.Settings.{SettingRow, setting_fields}
+use Rattle.mq_tables.specs.Places.{IsSettingIn, IsUnreferred}
+use Rattle.mq_tables.specs.Written.{plain_query, chosen as chosen_rows, Updated}
+use Rattle.mq_tables.specs.Updates.{HasSetArrivals, SetsArrivals}
+use Rattle.mq_tables.specs.Inside.{GoesOn}
+use Rattle.sqlite.specs.Command.TheVariants.{Update}
+use Rattle.mq_tables.proofs.Plain.{parsed_in}
+use Rattle.mq_tables.proofs.Makes.{cast_int, cast_null}
+use Rattle.mq_tables.proofs.Selecting.{column_lowered, integer_lowered, parameter_lowered, equal_lowered, tested}
+use Rattle.mq_tables.proofs.Updating.{IsUpdate, set_next, updated_is, understood_update, nothing_acts}
+use Rattle.mq_tables.proofs.Statements.{updates}
+
+abbrev pub arrivals_text : List ℕ
+arrivals_text = codes "UPDATE setting SET arrivals = ?1 WHERE id = 1"
+
+parses : first arrivals_text ≡ Ok (parsed_in (first arrivals_text))
+unfolding everything
+parses = refl
+
+-- how the text is written
+record IsWritten : Type 0 where
+  update : IsUpdate (parsed_in (first arrivals_text))
+  value : Expr
+  test : Expr
+  key : Expr
+  number : Expr
+  name : update.name ≡ codes "setting"
+  assignments : update.assignments ≡ (codes "arrivals", value) ∷ []
+  filter : update.test ≡ Some test
+  value_is : out-Expr value ≡ Expr-F.Parameter 1
+  test_is : out-Expr test ≡ Expr-F.Binary binary.Eq key number
+  key_is : out-Expr key ≡ Expr-F.Column None (codes "id")
+  number_is : out-Expr number ≡ Expr-F.Integer (codes "1")
+  reads : integer false (codes "1") ≡ Ok (Int (pos 1))
+
+written_so : IsWritten
+unfolding everything
+written_so = record {
+  update = record { name = _; assignments = _; test = _; statement = refl; timeless = refl };
+  value = _;
+  test = _;
+  key = _;
+  number = _;
+  name = refl;
+  assignments = refl;
+  filter = refl;
+  value_is = refl;
+  test_is = refl;
+  key_is = refl;
+  number_is = refl;
+  reads = refl;
+}
+
+abbrev pub arrivals_tests : List Term
+arrivals_tests = op2 (Compare Eq Binary) (col 1 0) (lit (Int (pos 1))) ∷ []
+
+abbrev pub arrivals_shown : List Term
+arrivals_shown = col 1 0 ∷ col 1 0 ∷ lit Null ∷ col 1 2 ∷ col 1 3 ∷ col 1 4 ∷ col 0 0 ∷ []
+
+abbrev draft : ℕ → Draft
+draft t = simple (Inner t ∷ []) arrivals_tests arrivals_shown
+
+abbrev start : State
+start = fresh 2 max_budget
+
+abbrev at_budget : ℕ → State
+at_budget budget = record start { budget = budget; written = None; last = nothing }
+
+placed : (t : ℕ) → with_place (record setting_table { tree = t }) [] (codes "arrivals") ≡ Ok (5 ∷ [])
+unfolding everything
+placed t = refl
+
+laid : (t : ℕ) → row (record setting_table { tree = t }) None (5 ∷ []) (col 1 0 ∷ []) (col 0 0 ∷ []) ≡ Ok arrivals_shown
+unfolding everything
+laid t = refl
+
+id_found : (t : ℕ) → column_named (record setting_table { tree = t }) (codes "id") ≡ Some 0
+unfolding same_name
+id_found t = refl
+
+module _ (s : Schema) (at t : ℕ) (named : table_named s (codes "setting") ≡ Some at) (there : slice_get s.tables at ≡ Some (record setting_table { tree = t })) where
+  abbrev table : Table
+  table = record setting_table { tree = t }
+
+  abbrev cx : Context
+  cx = over s at (codes "setting")
+
+  abbrev b : Bound
+  b = record { name = codes "setting"; table = at; slot = 1; shared = [] }
+
+  sets_are : sets_from cx table ([], []) written_so.update.assignments start ≡ Ok ((5 ∷ [], col 0 0 ∷ []), at_budget 99999)
+  sets_are =
+      rw written_so.assignments (set_next cx table ([], []) (codes "arrivals") written_so.value [] (5 ∷ []) (col 0 0) start (at_budget 99999) ((5 ∷ [], col 0 0 ∷ []), at_budget 99999)
+      (placed t) (parameter_lowered cx 699 written_so.value 1 written_so.value_is start refl refl) refl)
+
+  compared_is : compared cx (Compare Eq (chosen nothing nothing)) (col 1 0) (lit (Int (pos 1))) ≡ op2 (Compare Eq Binary) (col 1 0) (lit (Int (pos 1)))
+  unfolding compared affinity_of of_column converted may_be_text chosen alone first_found
+  compared_is = refl
+
+  test_is : tests lower cx [] written_so.update.test (at_budget 99999) ≡ Ok (arrivals_tests, at_budget 99996)
+  test_is =
+      let key = column_lowered cx b [] table refl refl there (codes "id") 0 (keyed (codes "id")) (id_found t) refl written_so.key written_so.key_is 698 (at_budget 99998) refl refl in
+      let one = integer_lowered cx 698 written_so.number (codes "1") (Int (pos 1)) written_so.number_is written_so.reads (at_budget 99997) refl refl in
+      let whole = equal_lowered cx 699 written_so.test written_so.key written_so.number (col 1 0) (lit (Int (pos 1))) (at_budget 99999) (at_budget 99997) (at_budget 99996) written_so.test_is refl refl key one refl in
+      rw written_so.filter (tested cx written_so.test (op2 (Compare Eq Binary) (col 1 0) (lit (Int (pos 1)))) [] (at_budget 99999) (at_budget 99996) (whole ∙ ap (λ x. Ok (x, at_budget 99996)) compared_is))
+
+  updated_so : updated s at table written_so.update.assignments written_so.update.test ≡ Ok (draft t)
+  updated_so = updated_is s at table written_so.update.assignments written_so.update.test (5 ∷ []) (col 0 0 ∷ []) arrivals_shown arrivals_tests (at_budget 99999) (at_budget 99996) sets_are (laid t) test_is
+
+  pub means_arrivals : nat_le (2 ^ 31) t ≡ false → find (λ (x : Table). x.tree == t) s.tables ≡ Some table
+      → (command_of (understood s arrivals_text) ≡ Update at (record { lets = []; body = plain_query t arrivals_tests arrivals_shown })) × IsPlain (understood s arrivals_text)
+  means_arrivals low found =
+      let accepted : accepts_program s [] (plain_query t arrivals_tests arrivals_shown) [] ≡ true = rw (low, found) in
+      let name : table_named s written_so.update.name ≡ Some at = rw written_so.name named in
+      let is = understood_update arrivals_text parses written_so.update s at table (draft t) name there updated_so accepted in
+      (ap command_of is, subst IsPlain (sym is) (refl, refl))
+
+-- ---- what it leaves
+
+pub goes_so : (old new : state.State) → state.Shows old new new.now old.committed true → GoesOn old new
+goes_so old new h = record { committed = h.committed_is; inside = h.mode; was_open = h.was_open; is_open = h.is_open }
+
+module _ (old new : state.State) (n : ℤ) (t : ℕ) (place' : IsSettingIn old.now.schema t) where
+  abbrev in_tree : Table
+  in_tree = record setting_table { tree = t }
+
+  one_edit : (db : Trees) (s : SettingRow) (hits : List Row) → hits ≡ eval_all arrivals_shown ((Int n ∷ []) ∷ setting_fields s ∷ []) ∷ []
+      → edit_of db in_tree (ids_of hits) Given 1 hits ≡ record { table = in_tree; gone = pos 1 ∷ []; news = setting_fields (record s { arrivals = n }) ∷ [] }
+  one_edit db s hits one = rw one (rw (cast_null, cast_int (pos 1), cast_int s.version, cast_int s.minutes, cast_int s.cap, cast_int n) refl)
+
+  chosen_is : (s : SettingRow) → chosen_rows arrivals_tests arrivals_shown (Int n ∷ []) (setting_fields s ∷ []) ≡ eval_all arrivals_shown ((Int n ∷ []) ∷ setting_fields s ∷ []) ∷ []
+  unfolding binary value_cmp lib.Ieee.is_nan lib.Ieee.lt
+  chosen_is s = refl
+
+  edited_is : (s : SettingRow) (db : Trees) → db t ≡ setting_fields s ∷ [] → edited db (record { table = in_tree; gone = pos 1 ∷ []; news = setting_fields (record s { arrivals = n }) ∷ [] }) ≡ setting_fields (record s { arrivals = n }) ∷ []
+  unfolding value_cmp lib.Ieee.is_nan lib.Ieee.lt
+  edited_is s db only = rw only
+
+  left_so : Updated old.now.schema in_tree arrivals_tests arrivals_shown (Int n ∷ []) old new → HasSetArrivals n t old.now new.now
+  left_so made = record {
+    schema = made.schema_is;
+    row = λ s only.
+        let seen = ap (chosen_rows arrivals_tests arrivals_shown (Int n ∷ [])) only ∙ chosen_is s in
+        let hits = one_permutation _ made.hits (subst (λ xs. IsPermutation xs made.hits) seen made.found) in
+        made.rows ∙ ap (edited old.now.trees) (one_edit old.now.trees s made.hits hits) ∙ edited_is s old.now.trees only;
+    others = made.tables;
+  }
+
+  pub set_so : IsUnreferred old.now.schema t → (count : ℕ) → Executes arrivals_text (Int n ∷ []) old new (Ok count) → HasSetArrivals n t old.now new.now
+  set_so apart count h =
+      let means = means_arrivals old.now.schema place'.at t place'.named place'.there place'.stored place'.found in
+      left_so (updates arrivals_text (Int n ∷ []) old new old.now.schema refl place'.at in_tree
+      (record { place = place'.there; uncounted = refl; timeless = append-nil; unreferred = nothing_acts old.now.schema t apart [] })
+      (nothing_acts old.now.schema t apart) (record { lets = []; body = plain_query t arrivals_tests arrivals_shown }) arrivals_tests arrivals_shown means.0 (refl, refl) means.1 (rw place'.stored) count h)
+
+pub sets_arrivals : (old new : state.State) (n : ℤ) (r : Result ℕ Error) → ExecutesInside 0 arrivals_text (Int n ∷ []) old new r → OnOk r (GoesOn old new) × OnOk r (SetsArrivals n old new)
+sets_arrivals old new n (Err e) h = (tt, tt)
+sets_arrivals old new n (Ok count) h = (goes_so old new h.1, λ t place' apart. set_so old new n t place' apart count h.0)

@@ -1,0 +1,142 @@
+-- The tables of a new ledger are found, and hold the rows of the empty history.
+use Rattle.std.proofs.Common.{◌≡◌, ℕ, ◌<◌, ◌==◌, find, List, [], ◌∷◌, Bool, true, false, Some, true≢false, refl, sym, ap, subst, ◌∙◌}
+use Rattle.std.specs.Prelude.{if◌then◌else◌, ⊤}
+use Rattle.std.specs.List.{AllByRecursion}
+use Rattle.std.proofs.lemmas.Bool.{or_parts}
+use Rattle.std.proofs.lemmas.List.Sorted.{IsPermutation-refl}
+use Rattle.sqlite_trees.proofs.ListLemmas.{all_weaker}
+use Rattle.sqlite_schema.specs.declared.schema.Reference.{Reference}
+use Rattle.sqlite_schema.specs.Names.{same_name}
+use Rattle.sqlite.specs.Order.{Row}
+use Rattle.sqlite.specs.Schema.{Schema}
+use Rattle.sqlite.specs.Table.{Table}
+use Rattle.sqlite.specs.Change.{created, next_tree}
+use Rattle.sqlite.specs.Effect.{Database, IsDatabase}
+use Rattle.sqlite.specs.State.{State}
+use Rattle.mq_tables.specs.Tables.{setting_table, answer_table, trans_table, usage_table, ceiling_table}
+use Rattle.mq_tables.specs.declared.setting.NewSetting.{NewSetting}
+use Rattle.mq_tables.specs.Places.{IsTableIn, IsUnreferred, is_tree, refers}
+use Rattle.mq_tables.specs.Records.{Holds}
+use Rattle.mq_tables.specs.Ledger.{HasLedger, IsLedgerIn}
+use Rattle.mq_tables.specs.Making.{chain, trees_for, is_ours, AllFree, AreUnnamed, other_tables, ledger_over, setting_row, new_rows, HasStarted, HasAdded, IsMade}
+use Rattle.mq_tables.proofs.Chains.{all_joined, all_both, of_chain}
+use Rattle.mq_tables.proofs.Found.{IsFound, apart, begun, still_all, in_database}
+use Rattle.mq_tables.proofs.Places.{all_below}
+
+names_selves : (same_name setting_table.name setting_table.name ≡ true) × (same_name answer_table.name answer_table.name ≡ true) × (same_name trans_table.name trans_table.name ≡ true)
+    × (same_name usage_table.name usage_table.name ≡ true) × (same_name ceiling_table.name ceiling_table.name ≡ true)
+unfolding same_name
+names_selves = (refl, refl, refl, refl, refl)
+
+-- ---- no foreign key refers to a new table
+
+abbrev AllMade : (Table → Type 0) → Schema → List Table → Type 0
+AllMade P s [] = ⊤
+AllMade P s (t ∷ more) = P (record t { tree = next_tree s }) × AllMade P (created s t) more
+
+all_chain : (P : Table → Type 0) (made : List Table) (s : Schema) → AllByRecursion P s.tables → AllMade P s made → AllByRecursion P (chain s made).tables
+all_chain P [] s h k = h
+all_chain P (t ∷ more) s h k = all_chain P more (created s t) (all_joined P s.tables _ h (k.0, tt)) k.1
+
+find_apart : (p : Table → Bool) (tree : ℕ) (xs : List Table) → AllByRecursion (λ (t : Table). p t ≡ true → (t.tree == tree) ≡ false) xs → is_tree tree (find p xs) ≡ false
+find_apart p tree [] h = refl
+find_apart p tree (x ∷ xs) h = go (p x) refl (find_apart p tree xs h.1)
+  where
+    go : (b : Bool) → p x ≡ b → is_tree tree (find p xs) ≡ false → is_tree tree (if b then Some x else find p xs) ≡ false
+    go true e more = h.0 e
+    go false e more = more
+
+unlike : {P : Type 0} (b : Bool) → b ≡ false → b ≡ true → P
+unlike b not_so is = absurd (true≢false (sym is ∙ not_so))
+
+module _ (s : Schema) (before : List Table) where
+  abbrev tree : ℕ
+  tree = next_tree (chain s before)
+
+  older : AllByRecursion (λ (t : Table). t.tree < tree) s.tables
+  older = (of_chain (λ n. n < tree) before s (all_below (chain s before))).0
+
+  not_referred : (ref : Reference) → is_ours ref.parent ≡ false → refers (ledger_over s) tree ref ≡ false
+  not_referred ref others =
+      let p : Table → Bool = λ t. same_name t.name ref.parent in
+      let a = or_parts _ _ others in
+      let b = or_parts _ _ a.1 in
+      let c = or_parts _ _ b.1 in
+      let d = or_parts _ _ c.1 in
+      find_apart p tree (ledger_over s).tables
+      (all_chain (λ (t : Table). p t ≡ true → (t.tree == tree) ≡ false) (setting_table ∷ other_tables) s (all_weaker (λ (t : Table). t.tree < tree) (λ (t : Table). p t ≡ true → (t.tree == tree) ≡ false) (λ t low hit. apart t.tree tree low) s.tables older)
+      (unlike _ a.0, (unlike _ b.0, (unlike _ c.0, (unlike _ d.0, (unlike _ d.1, tt))))))
+
+  pub alone : AreUnnamed s → IsUnreferred (ledger_over s) tree
+  alone unnamed =
+      all_chain (λ (t : Table). AllByRecursion (λ ref. refers (ledger_over s) tree ref ≡ false) t.references) (setting_table ∷ other_tables) s
+      (all_weaker (λ (t : Table). AllByRecursion (λ ref. is_ours ref.parent ≡ false) t.references) (λ (t : Table). AllByRecursion (λ ref. refers (ledger_over s) tree ref ≡ false) t.references)
+      (λ t refs. all_weaker (λ ref. is_ours ref.parent ≡ false) (λ ref. refers (ledger_over s) tree ref ≡ false) not_referred t.references refs) s.tables unnamed) (tt, (tt, (tt, (tt, (tt, tt)))))
+
+-- ---- what they hold
+
+holds_none : {R : Type 0} (fields : R → Row) (rows : List Row) → rows ≡ [] → Holds 1 fields rows []
+holds_none fields rows none = subst (λ rs. Holds 1 fields rs []) (sym none) (record { numbered = search; same = IsPermutation-refl _ })
+
+module _ (made_with : NewSetting) (old new : Database) (sound : IsDatabase new) (schema : new.schema ≡ ledger_over old.schema) (free : AllFree old.schema (setting_table ∷ other_tables)) where
+  abbrev s : Schema
+  s = old.schema
+
+  abbrev s1 : Schema
+  s1 = created s setting_table
+
+  abbrev s2 : Schema
+  s2 = created s1 answer_table
+
+  abbrev s3 : Schema
+  s3 = created s2 trans_table
+
+  abbrev s4 : Schema
+  s4 = created s3 usage_table
+
+  at_place : (made : Table) (tree : ℕ) → IsFound (ledger_over s).tables (record made { tree = tree }) → IsTableIn new.schema made tree
+  at_place made tree found = in_database made tree new sound (subst (λ (x : Schema). IsFound x.tables (record made { tree = tree })) (sym schema) found)
+
+  setting_place : IsTableIn new.schema setting_table (next_tree s)
+  setting_place = at_place setting_table (next_tree s) (still_all _ other_tables s1 (begun setting_table names_selves.0 s free.0))
+
+  left_alone : AreUnnamed s → (before : List Table) → IsUnreferred new.schema (next_tree (chain s before))
+  left_alone unnamed before = subst (λ x. IsUnreferred x (next_tree (chain s before))) (sym schema) (alone s before unnamed)
+
+  ledger_in : AreUnnamed s → IsLedgerIn new.schema (record { setting = next_tree s; answer = next_tree s1; trans = next_tree s2; usage = next_tree s3; ceiling = next_tree s4 })
+  ledger_in unnamed = record {
+    setting = setting_place;
+    answer = at_place answer_table (next_tree s1) (still_all _ (trans_table ∷ usage_table ∷ ceiling_table ∷ []) s2 (begun answer_table names_selves.1 s1 free.1.0));
+    trans = at_place trans_table (next_tree s2) (still_all _ (usage_table ∷ ceiling_table ∷ []) s3 (begun trans_table names_selves.2 s2 free.1.1.0));
+    usage = at_place usage_table (next_tree s3) (still_all _ (ceiling_table ∷ []) s4 (begun usage_table names_selves.3 s3 free.1.1.1.0));
+    ceiling = at_place ceiling_table (next_tree s4) (begun ceiling_table names_selves.4 s4 free.1.1.1.1.0);
+    setting_alone = left_alone unnamed [];
+    trans_alone = left_alone unnamed (setting_table ∷ answer_table ∷ []);
+    usage_alone = left_alone unnamed (setting_table ∷ answer_table ∷ trans_table ∷ []);
+    ceiling_alone = left_alone unnamed (setting_table ∷ answer_table ∷ trans_table ∷ usage_table ∷ []);
+  }
+
+  ledger_held : new.trees (next_tree s) ≡ setting_row made_with ∷ [] → AllByRecursion (λ n. new.trees n ≡ []) (trees_for s1 other_tables) → AreUnnamed s → HasLedger new (new_rows made_with)
+  ledger_held row empty unnamed = record {
+    at = _;
+    tables = ledger_in unnamed;
+    holds = record { setting = row; answers = empty.0; trans = holds_none _ _ empty.1.0; usage = holds_none _ _ empty.1.1.0; ceilings = holds_none _ _ empty.1.1.1.0 };
+  }
+
+pub made_whole : (made_with : NewSetting) (a b c : State) → HasStarted made_with a b → HasAdded other_tables b c → IsMade made_with a.now c.now
+made_whole made_with a b c p q =
+    let kept : AllByRecursion (λ t. c.now.trees t.tree ≡ b.now.trees t.tree) (created a.now.schema setting_table).tables = subst (λ (s : Schema). AllByRecursion (λ t. c.now.trees t.tree ≡ b.now.trees t.tree) s.tables) p.schema q.others in
+    let parts = of_chain (λ n. c.now.trees n ≡ b.now.trees n) (setting_table ∷ []) a.now.schema kept in
+    let schema : c.now.schema ≡ ledger_over a.now.schema = q.schema ∙ ap (λ s. chain s other_tables) p.schema in
+    let free : AllFree a.now.schema (setting_table ∷ other_tables) = (p.free, subst (λ s. AllFree s other_tables) p.schema q.free) in
+    let row : c.now.trees (next_tree a.now.schema) ≡ setting_row made_with ∷ [] = parts.1.0 ∙ p.setting in
+    let empty : AllByRecursion (λ n. c.now.trees n ≡ []) (trees_for (created a.now.schema setting_table) other_tables) = subst (λ s. AllByRecursion (λ n. c.now.trees n ≡ []) (trees_for s other_tables)) p.schema q.empty in
+    record {
+      sound = q.sound;
+      schema = schema;
+      row = row;
+      empty = empty;
+      setting = record { tree = next_tree a.now.schema; table = setting_place made_with a.now c.now q.sound schema free; row = row };
+      ledger = ledger_held made_with a.now c.now q.sound schema free row empty;
+      others = all_both _ _ _ (λ t later before. later ∙ before) a.now.schema.tables parts.0 p.others;
+    }

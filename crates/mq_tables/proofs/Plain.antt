@@ -1,0 +1,88 @@
+-- What a text is, whatever the schema.
+use Rattle.std.proofs.Common.{◌≡◌, ℕ, List, [], Bool, true, false, None, Ok, Err, refl, sym, ap, ◌∙◌}
+use Rattle.std.specs.Prelude.{if◌then◌else◌}
+use Rattle.sqlite_ast.specs.declared.Statement.TheVariants as written
+use Rattle.sqlite_ast.specs.declared.Select as written_select
+use Rattle.sqlite_syntax.specs.declared.statement.Parsed.{Parsed}
+use Rattle.sqlite_schema.specs.declared.command.Command.{Command}
+use Rattle.sqlite.specs.Schema.{Schema}
+use Rattle.sqlite_resolve.specs.declared.compiled.Compiled.{Compiled}
+use Rattle.sqlite_resolve.specs.declared.error.CompileError.TheVariants.{NoSuchTable}
+use Rattle.sqlite_resolve.specs.Lowering.{Checked, and_then}
+use Rattle.sqlite_resolve.specs.Compile.{first, compiled, planned, meaning, returning, timed, command, with_command}
+use Rattle.sqlite.specs.Listing.{understood, reads_listing, if_select, listing_schema}
+use Rattle.sqlite_tied.specs.Compute.{everything}
+use Rattle.mq_tables.specs.Reading.{setting_text}
+
+abbrev pub no_text : Parsed
+no_text = record { statement = written.Empty; names = []; formats = []; start = 0; end = 0; tail = 0 }
+
+abbrev pub parsed_in : Checked Parsed → Parsed
+parsed_in (Ok p) = p
+parsed_in (Err e) = no_text
+
+-- a query has no RETURNING, and no time of its own
+abbrev pub IsQuery : Parsed → Type 0
+IsQuery p = (s : written_select.Select) × (p.statement ≡ written.Select s) × (p.formats ≡ [])
+
+abbrev pub IsBare : Compiled → Type 0
+IsBare c = (c.returning ≡ None) × (c.formats ≡ [])
+
+bare_plan : (formats : List (List ℕ)) (p : Parsed) (c : Compiled) (r : Checked Command)
+    → and_then (and_then (and_then r (λ k. Ok (k, None))) (λ found. Ok (formats, found))) (λ plan. Ok (with_command p plan)) ≡ Ok c → formats ≡ [] → IsBare c
+bare_plan formats p c (Ok k) h none =
+    let e : ◌≡◌ {A = Checked Compiled} (Ok (with_command p (formats, (k, None)))) (Ok c) = h in
+    let same : with_command p (formats, (k, None)) ≡ c = cc in
+    (sym (ap (λ (x : Compiled). x.returning) same), sym (ap (λ (x : Compiled). x.formats) same) ∙ none)
+bare_plan formats p c (Err e) h none = absurd (cc)
+
+query_bare : (s : Schema) (p : Parsed) (c : Compiled) → IsQuery p → and_then (planned s p) (λ plan. Ok (with_command p plan)) ≡ Ok c → IsBare c
+unfolding planned meaning returning timed
+query_bare s p c (sel, is, none) h = bare_plan p.formats p c (command s p.formats _ (written.Select sel)) (rw is at h) none
+
+pub setting_parsed : first setting_text ≡ Ok (parsed_in (first setting_text))
+unfolding everything
+setting_parsed = refl
+
+unfoldable pub setting_query : IsQuery (parsed_in (first setting_text))
+unfolding everything
+setting_query = (_, refl, refl)
+
+compiled_bare : (s : Schema) (c : Compiled) → compiled s setting_text ≡ Ok c → IsBare c
+unfolding compiled
+compiled_bare s c h = query_bare s (parsed_in (first setting_text)) c setting_query (rw setting_parsed at h)
+
+pub unlisted : if_select (compiled listing_schema setting_text) ≡ Err NoSuchTable
+unfolding everything listing_schema
+unlisted = refl
+
+-- whatever the schema, the query of a setting returns nothing of a write, and reads no time
+pub setting_bare : (s : Schema) (c : Compiled) → understood s setting_text ≡ Ok c → IsBare c
+unfolding understood
+setting_bare s c h = go (reads_listing s setting_text) h
+  where
+    go : (b : Bool) → (if b then if_select (compiled listing_schema setting_text) else compiled s setting_text) ≡ Ok c → IsBare c
+    go true e = absurd (let none = sym unlisted ∙ e in cc)
+    go false e = compiled_bare s c e
+
+-- the same of any query that names a table of ours
+module _ (text : List ℕ) (parses : first text ≡ Ok (parsed_in (first text))) (query : IsQuery (parsed_in (first text))) (unlisted' : if_select (compiled listing_schema text) ≡ Err NoSuchTable) where
+  text_bare : (s : Schema) (c : Compiled) → compiled s text ≡ Ok c → IsBare c
+  unfolding compiled
+  text_bare s c h = query_bare s (parsed_in (first text)) c query (rw parses at h)
+
+  pub any_bare : (s : Schema) (c : Compiled) → understood s text ≡ Ok c → IsBare c
+  unfolding understood
+  any_bare s c h = go (reads_listing s text) h
+    where
+      go : (b : Bool) → (if b then if_select (compiled listing_schema text) else compiled s text) ≡ Ok c → IsBare c
+      go true e = absurd (let none = sym unlisted' ∙ e in cc)
+      go false e = text_bare s c e
+
+  pub any_apart : (s : Schema) (c : Compiled) → understood s text ≡ Ok c → reads_listing s text ≡ false
+  unfolding understood
+  any_apart s c h = go (reads_listing s text) h
+    where
+      go : (b : Bool) → (if b then if_select (compiled listing_schema text) else compiled s text) ≡ Ok c → b ≡ false
+      go true e = absurd (let none = sym unlisted' ∙ e in cc)
+      go false e = refl

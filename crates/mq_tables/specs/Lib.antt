@@ -1,0 +1,12 @@
+pub mod Tables
+pub mod Places
+pub mod Settings
+pub mod Answers
+pub mod Records
+pub mod Ledger
+pub mod Reading
+pub mod Making
+pub mod Written
+pub mod Inside
+pub mod Updates
+pub mod Lent

@@ -1,0 +1,130 @@
+-- The tables as they are made, over whatever the store holds already.
+use Rattle.std.specs.Prelude.{◌≡◌, ◌≢◌, slice_get, ℕ, pos, List, [], ◌∷◌, IsTrue, Bool, false, ◌&&◌, ◌||◌, Option, Some, None, ⊤}
+use Rattle.std.specs.List.{AllByRecursion, list_any}
+use Rattle.sqlite.specs.declared.types.Value.TheVariants.{Int}
+use Rattle.sqlite.specs.Order.{Row}
+use Rattle.sqlite.specs.Table.{Table}
+use Rattle.sqlite.specs.Schema.{Schema}
+use Rattle.sqlite_schema.specs.declared.schema.View.{View as Stored}
+use Rattle.sqlite_schema.specs.Names.{same_name, table_named}
+use Rattle.sqlite.specs.Change.{created, next_tree}
+use Rattle.sqlite.specs.Does.{lacks_sequence}
+use Rattle.sqlite_catalog.specs.Change.{is_used}
+use Rattle.sqlite.specs.Effect.{Database, IsDatabase}
+use Rattle.sqlite.specs.State.{State}
+use Rattle.sqlite.specs.Tree.{Trees}
+use Rattle.mq_tables.specs.Tables.{setting_table, answer_table, trans_table, usage_table, ceiling_table}
+use Rattle.mq_tables.specs.declared.setting.NewSetting.{NewSetting}
+use Rattle.mq_tables.specs.Settings.{HasSetting, setting_fields, setting_after}
+use Rattle.mq_tables.specs.Ledger.{LedgerRows, HasLedger}
+use Rattle.mq_tables.specs.Written.{Created}
+
+-- the schema after each CREATE, in turn
+abbrev pub chain : Schema → List Table → Schema
+chain s [] = s
+chain s (t ∷ more) = chain (created s t) more
+
+-- where their rows go
+abbrev pub trees_for : Schema → List Table → List ℕ
+trees_for s [] = []
+trees_for s (t ∷ more) = next_tree s ∷ trees_for (created s t) more
+
+-- each name was free as its table was made
+abbrev pub AllFree : Schema → List Table → Type 0
+AllFree s [] = ⊤
+AllFree s (t ∷ more) = (is_used s t.name ≡ false) × AllFree (created s t) more
+
+-- these tables are new and empty, and each that was there has its rows
+pub record HasAdded (tables : List Table) (old new : State) : Type 0 where
+  pub schema : new.now.schema ≡ chain old.now.schema tables
+  pub free : AllFree old.now.schema tables
+  pub empty : AllByRecursion (λ n. new.now.trees n ≡ []) (trees_for old.now.schema tables)
+  pub others : AllByRecursion (λ t. new.now.trees t.tree ≡ old.now.trees t.tree) old.now.schema.tables
+  pub counters : lacks_sequence new.now.schema ≡ false
+  pub sound : IsDatabase new.now
+
+-- A table with AUTOINCREMENT has the table that counts for it.
+abbrev pub HasCounters : State → Type 0
+HasCounters s = lacks_sequence s.now.schema ≡ false
+
+-- the row of settings of a new ledger
+abbrev pub setting_row : NewSetting → Row
+setting_row made_with = setting_fields (setting_after (pos 0) made_with)
+
+-- the rows of a new ledger
+abbrev pub new_rows : NewSetting → LedgerRows
+new_rows made_with = record { setting = setting_after (pos 0) made_with; answers = []; trans = []; usage = []; ceilings = [] }
+
+abbrev pub setting_params : NewSetting → Row
+setting_params made_with = Int made_with.minutes ∷ Int (pos made_with.cap) ∷ []
+
+abbrev pub other_tables : List Table
+other_tables = answer_table ∷ trans_table ∷ usage_table ∷ ceiling_table ∷ []
+
+-- What one CREATE leaves, and that the transaction goes on.
+abbrev pub Makes : Table → State → State → Type 0
+Makes table old new = IsTrue new.in_transaction × (HasCounters old → Created old.now.schema table old new × HasCounters new)
+
+-- the table of settings, whose rows are in this tree, has its row
+pub record HasPut (tree : ℕ) (made_with : NewSetting) (old new : State) : Type 0 where
+  pub schema : new.now.schema ≡ old.now.schema
+  pub row : new.now.trees tree ≡ setting_row made_with ∷ []
+  pub others : AllByRecursion (λ t. t.tree ≢ tree → new.now.trees t.tree ≡ old.now.trees t.tree) old.now.schema.tables
+
+-- What the INSERT leaves, where the table of settings is at some place and empty.
+abbrev pub Puts : NewSetting → State → State → Type 0
+Puts made_with old new =
+    IsTrue new.in_transaction
+    × ((at tree : ℕ) → table_named old.now.schema setting_table.name ≡ Some at → slice_get old.now.schema.tables at ≡ Some (record setting_table { tree = tree }) → old.now.trees tree ≡ [] → HasPut tree made_with old new)
+
+-- the table of settings is new, and has its row
+pub record HasStarted (made_with : NewSetting) (old new : State) : Type 0 where
+  pub free : is_used old.now.schema setting_table.name ≡ false
+  pub schema : new.now.schema ≡ created old.now.schema setting_table
+  pub setting : new.now.trees (next_tree old.now.schema) ≡ setting_row made_with ∷ []
+  pub others : AllByRecursion (λ t. new.now.trees t.tree ≡ old.now.trees t.tree) old.now.schema.tables
+  pub counters : lacks_sequence new.now.schema ≡ false
+
+abbrev pub ledger_over : Schema → Schema
+ledger_over s = chain s (setting_table ∷ other_tables)
+
+abbrev pub is_ours : List ℕ → Bool
+is_ours name = same_name setting_table.name name || (same_name answer_table.name name || (same_name trans_table.name name || (same_name usage_table.name name || same_name ceiling_table.name name)))
+
+-- no foreign key of a table that is there names one of the five
+abbrev pub AreUnnamed : Schema → Type 0
+AreUnnamed s = AllByRecursion (λ t. AllByRecursion (λ ref. is_ours ref.parent ≡ false) t.references) s.tables
+
+-- The five tables stand behind those that were there, and hold the rows of a new ledger. Each table that was there has its rows.
+pub record IsMade (made_with : NewSetting) (old new : Database) : Type 0 where
+  pub sound : IsDatabase new
+  pub schema : new.schema ≡ ledger_over old.schema
+  pub row : new.trees (next_tree old.schema) ≡ setting_row made_with ∷ []
+  pub empty : AllByRecursion (λ n. new.trees n ≡ []) (trees_for (created old.schema setting_table) other_tables)
+  pub setting : HasSetting new (setting_after (pos 0) made_with)
+  pub ledger : AreUnnamed old.schema → HasLedger new (new_rows made_with)
+  pub others : AllByRecursion (λ t. new.trees t.tree ≡ old.trees t.tree) old.schema.tables
+
+-- a table of this name is there, and may be one that SQL here doesn't understand
+abbrev pub is_owner : List ℕ → Option (List ℕ) → Bool
+is_owner name None = false
+is_owner name (Some owner) = same_name owner name
+
+abbrev pub is_aside : List ℕ → Stored → Bool
+is_aside name view = same_name view.name name && is_owner name view.foreign
+
+abbrev pub has_table : Schema → List ℕ → Bool
+has_table s name = list_any (λ t. same_name t.name name) s.tables || list_any (is_aside name) s.views
+
+abbrev pub has_ledger_table : Schema → Bool
+has_ledger_table s = has_table s setting_table.name || (has_table s answer_table.name || (has_table s trans_table.name || (has_table s usage_table.name || has_table s ceiling_table.name)))
+
+-- the same, where each table with AUTOINCREMENT had the table that counts for it
+pub record IsMadeOver (made_with : NewSetting) (old new : Database) : Type 0 where
+  pub made : lacks_sequence old.schema ≡ false → IsMade made_with old new
+
+-- these trees are what the whole call leaves
+pub record AreMadeOver (made_with : NewSetting) (old : Database) (trees : Trees) : Type 0 where
+  pub new : Database
+  pub made : IsMadeOver made_with old new
+  pub trees_are : new.trees ≡ trees

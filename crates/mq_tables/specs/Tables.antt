@@ -1,0 +1,95 @@
+-- The tables as the schema has them.
+use Rattle.sqlite.specs.Collation.TheVariants.{Binary}
+use Rattle.std.specs.Prelude.{true, false, [], ◌∷◌, Some, None, codes, List, ℕ}
+use Rattle.sqlite.specs.declared.types.Value.TheVariants.{Null}
+use Rattle.sqlite.specs.Table.{Table}
+use Rattle.sqlite.specs.Kind.{Kind}
+use Rattle.sqlite.specs.Kind.TheVariants.{Integer, Blob}
+use Rattle.sqlite_schema.specs.declared.schema.Column.{Column}
+use Rattle.sqlite_value.specs.Keys.{plain}
+
+abbrev pub required : List ℕ → Kind → Column
+required name kind = record { name = name; kind = kind; is_strict = true; not_null = true; default = Null; collation = Binary }
+
+abbrev pub keyed : List ℕ → Column
+keyed name = record { name = name; kind = Integer; is_strict = true; not_null = false; default = Null; collation = Binary }
+
+abbrev pub setting_table : Table
+setting_table = record {
+  name = codes "setting";
+  tree = 0;
+  columns = keyed (codes "id") ∷ required (codes "version") Integer ∷ required (codes "minutes") Integer ∷ required (codes "cap") Integer ∷ required (codes "arrivals") Integer ∷ [];
+  key = Some 0;
+  primary = 0 ∷ [];
+  uniques = [];
+  orders = [];
+  checks = [];
+  references = [];
+  computed = [];
+  stamps = record { places = []; terms = []; formats = [] };
+  is_counted = false;
+}
+
+abbrev pub answer_table : Table
+answer_table = record {
+  name = codes "answer";
+  tree = 0;
+  columns = keyed (codes "n") ∷ required (codes "host") Blob ∷ required (codes "run") Integer ∷ required (codes "seq") Integer ∷ required (codes "request") Blob ∷ required (codes "reply") Blob ∷ [];
+  key = Some 0;
+  primary = 0 ∷ [];
+  uniques = (2 ∷ 3 ∷ 4 ∷ []) ∷ [];
+  orders = plain ∷ [];
+  checks = [];
+  references = [];
+  computed = [];
+  stamps = record { places = []; terms = []; formats = [] };
+  is_counted = false;
+}
+
+abbrev pub trans_table : Table
+trans_table = record {
+  name = codes "trans";
+  tree = 0;
+  columns = required (codes "host") Blob ∷ required (codes "run") Integer ∷ required (codes "txn") Integer ∷ required (codes "login") Blob ∷ required (codes "moment") Integer ∷ required (codes "day") Integer ∷ required (codes "held") Integer ∷ required (codes "settled") Integer ∷ required (codes "closed") Integer ∷ [];
+  key = None;
+  primary = 1 ∷ 2 ∷ 3 ∷ [];
+  uniques = (1 ∷ 2 ∷ 3 ∷ []) ∷ [];
+  orders = plain ∷ [];
+  checks = [];
+  references = [];
+  computed = [];
+  stamps = record { places = []; terms = []; formats = [] };
+  is_counted = false;
+}
+
+abbrev pub usage_table : Table
+usage_table = record {
+  name = codes "usage";
+  tree = 0;
+  columns = required (codes "login") Blob ∷ required (codes "day") Integer ∷ required (codes "settled") Integer ∷ required (codes "reserved") Integer ∷ [];
+  key = None;
+  primary = 1 ∷ 2 ∷ [];
+  uniques = (1 ∷ 2 ∷ []) ∷ [];
+  orders = plain ∷ [];
+  checks = [];
+  references = [];
+  computed = [];
+  stamps = record { places = []; terms = []; formats = [] };
+  is_counted = false;
+}
+
+abbrev pub ceiling_table : Table
+ceiling_table = record {
+  name = codes "ceiling";
+  tree = 0;
+  columns = required (codes "login") Blob ∷ required (codes "day") Integer ∷ required (codes "cap") Integer ∷ [];
+  key = None;
+  primary = 1 ∷ 2 ∷ [];
+  uniques = (1 ∷ 2 ∷ []) ∷ [];
+  orders = plain ∷ [];
+  checks = [];
+  references = [];
+  computed = [];
+  stamps = record { places = []; terms = []; formats = [] };
+  is_counted = false;
+}

@@ -1,0 +1,217 @@
+//! The tables, made in one transaction over whatever the store holds already.
+
+ghost use Rattle.std.specs.Prelude.{◌≡◌, ◌⊎◌, false, IsTrue, OnOk, OnErr};
+ghost use Rattle.sqlite.specs.State.{HasCleanDisk, KeepsCommit, Survives};
+ghost use Rattle.sqlite.specs.Held.{state};
+ghost use Rattle.sqlite.specs.Tree.{Trees};
+ghost use Rattle.sqlite.specs.Values.{bound};
+ghost use Rattle.mq_tables.specs.Tables.{setting_table, answer_table, trans_table, usage_table, ceiling_table};
+ghost use Rattle.mq_tables.specs.Making.{Makes, Puts, HasCounters, HasStarted, HasAdded, IsMadeOver};
+ghost use Rattle.mq_tables.specs.Making.{AreMadeOver, other_tables, setting_params};
+
+use crate::setting::NewSetting;
+use sqlite::types::ValueRef;
+use sqlite::{Alter, Connection, Error, Transaction};
+
+fn create_setting<S: Alter>(tx: &mut Transaction<'_, S>) -> Result<usize, Error>
+    requires inside { HasCleanDisk (state S.Store tx.old.conn.now)
+        → IsTrue (state S.Store tx.old.conn.now).in_transaction }
+    ensures same_reference { tx.new.conn.ghost_name ≡ tx.old.conn.ghost_name }
+    ensures made { HasCleanDisk (state S.Store tx.new.conn.now)
+        → OnOk result (Makes setting_table (state S.Store tx.old.conn.now) (state S.Store tx.new.conn.now)) }
+    ensures kept { HasCleanDisk (state S.Store tx.new.conn.now)
+        → KeepsCommit (state S.Store tx.old.conn.now) (state S.Store tx.new.conn.now) }
+    ensures survives { Survives (state S.Store tx.old.conn.now) (state S.Store tx.new.conn.now) (λ _. ⊥) }
+{
+    tx.execute(
+        "CREATE TABLE setting (id INTEGER PRIMARY KEY, version INTEGER NOT NULL, \
+            minutes INTEGER NOT NULL, cap INTEGER NOT NULL, arrivals INTEGER NOT NULL) STRICT",
+        &[],
+    )
+}
+
+fn create_answer<S: Alter>(tx: &mut Transaction<'_, S>) -> Result<usize, Error>
+    requires inside { HasCleanDisk (state S.Store tx.old.conn.now)
+        → IsTrue (state S.Store tx.old.conn.now).in_transaction }
+    ensures same_reference { tx.new.conn.ghost_name ≡ tx.old.conn.ghost_name }
+    ensures made { HasCleanDisk (state S.Store tx.new.conn.now)
+        → OnOk result (Makes answer_table (state S.Store tx.old.conn.now) (state S.Store tx.new.conn.now)) }
+    ensures kept { HasCleanDisk (state S.Store tx.new.conn.now)
+        → KeepsCommit (state S.Store tx.old.conn.now) (state S.Store tx.new.conn.now) }
+    ensures survives { Survives (state S.Store tx.old.conn.now) (state S.Store tx.new.conn.now) (λ _. ⊥) }
+{
+    tx.execute(
+        "CREATE TABLE answer (n INTEGER PRIMARY KEY, host BLOB NOT NULL, run INTEGER NOT NULL, \
+            seq INTEGER NOT NULL, request BLOB NOT NULL, reply BLOB NOT NULL, UNIQUE (host, run, seq)) STRICT",
+        &[],
+    )
+}
+
+fn create_trans<S: Alter>(tx: &mut Transaction<'_, S>) -> Result<usize, Error>
+    requires inside { HasCleanDisk (state S.Store tx.old.conn.now)
+        → IsTrue (state S.Store tx.old.conn.now).in_transaction }
+    ensures same_reference { tx.new.conn.ghost_name ≡ tx.old.conn.ghost_name }
+    ensures made { HasCleanDisk (state S.Store tx.new.conn.now)
+        → OnOk result (Makes trans_table (state S.Store tx.old.conn.now) (state S.Store tx.new.conn.now)) }
+    ensures kept { HasCleanDisk (state S.Store tx.new.conn.now)
+        → KeepsCommit (state S.Store tx.old.conn.now) (state S.Store tx.new.conn.now) }
+    ensures survives { Survives (state S.Store tx.old.conn.now) (state S.Store tx.new.conn.now) (λ _. ⊥) }
+{
+    tx.execute(
+        "CREATE TABLE trans (host BLOB NOT NULL, run INTEGER NOT NULL, txn INTEGER NOT NULL, \
+            login BLOB NOT NULL, moment INTEGER NOT NULL, day INTEGER NOT NULL, \
+            held INTEGER NOT NULL, settled INTEGER NOT NULL, closed INTEGER NOT NULL, \
+            PRIMARY KEY (host, run, txn)) STRICT",
+        &[],
+    )
+}
+
+fn create_usage<S: Alter>(tx: &mut Transaction<'_, S>) -> Result<usize, Error>
+    requires inside { HasCleanDisk (state S.Store tx.old.conn.now)
+        → IsTrue (state S.Store tx.old.conn.now).in_transaction }
+    ensures same_reference { tx.new.conn.ghost_name ≡ tx.old.conn.ghost_name }
+    ensures made { HasCleanDisk (state S.Store tx.new.conn.now)
+        → OnOk result (Makes usage_table (state S.Store tx.old.conn.now) (state S.Store tx.new.conn.now)) }
+    ensures kept { HasCleanDisk (state S.Store tx.new.conn.now)
+        → KeepsCommit (state S.Store tx.old.conn.now) (state S.Store tx.new.conn.now) }
+    ensures survives { Survives (state S.Store tx.old.conn.now) (state S.Store tx.new.conn.now) (λ _. ⊥) }
+{
+    tx.execute(
+        "CREATE TABLE usage (login BLOB NOT NULL, day INTEGER NOT NULL, \
+            settled INTEGER NOT NULL, reserved INTEGER NOT NULL, PRIMARY KEY (login, day)) STRICT",
+        &[],
+    )
+}
+
+fn create_ceiling<S: Alter>(tx: &mut Transaction<'_, S>) -> Result<usize, Error>
+    requires inside { HasCleanDisk (state S.Store tx.old.conn.now)
+        → IsTrue (state S.Store tx.old.conn.now).in_transaction }
+    ensures same_reference { tx.new.conn.ghost_name ≡ tx.old.conn.ghost_name }
+    ensures made { HasCleanDisk (state S.Store tx.new.conn.now)
+        → OnOk result (Makes ceiling_table (state S.Store tx.old.conn.now) (state S.Store tx.new.conn.now)) }
+    ensures kept { HasCleanDisk (state S.Store tx.new.conn.now)
+        → KeepsCommit (state S.Store tx.old.conn.now) (state S.Store tx.new.conn.now) }
+    ensures survives { Survives (state S.Store tx.old.conn.now) (state S.Store tx.new.conn.now) (λ _. ⊥) }
+{
+    tx.execute(
+        "CREATE TABLE ceiling (login BLOB NOT NULL, day INTEGER NOT NULL, cap INTEGER NOT NULL, \
+            PRIMARY KEY (login, day)) STRICT",
+        &[],
+    )
+}
+
+fn setting_params(made_with: &NewSetting) -> [ValueRef<'static>; 2]
+    ensures { bound result ≡ setting_params made_with.now }
+{
+    [
+        ValueRef::Int(i64::from(made_with.minutes)),
+        ValueRef::Int(i64::from(made_with.cap)),
+    ]
+}
+
+fn put_setting<S: Alter>(
+    tx: &mut Transaction<'_, S>,
+    made_with: &NewSetting,
+) -> Result<usize, Error>
+    requires inside { HasCleanDisk (state S.Store tx.old.conn.now)
+        → IsTrue (state S.Store tx.old.conn.now).in_transaction }
+    ensures same_reference { tx.new.conn.ghost_name ≡ tx.old.conn.ghost_name }
+    ensures put { HasCleanDisk (state S.Store tx.new.conn.now)
+        → OnOk result (Puts made_with.now (state S.Store tx.old.conn.now) (state S.Store tx.new.conn.now)) }
+    ensures kept { HasCleanDisk (state S.Store tx.new.conn.now)
+        → KeepsCommit (state S.Store tx.old.conn.now) (state S.Store tx.new.conn.now) }
+    ensures survives { Survives (state S.Store tx.old.conn.now) (state S.Store tx.new.conn.now) (λ _. ⊥) }
+{
+    tx.execute(
+        "INSERT INTO setting (id, version, minutes, cap, arrivals) VALUES (1, 1, ?1, ?2, 0)",
+        &setting_params(made_with),
+    )
+}
+
+#[tactic(auto, using(crate::proofs::Chain::survives_both, crate::proofs::Chain::keeps_both))]
+fn begin_setting<S: Alter>(
+    tx: &mut Transaction<'_, S>,
+    made_with: &NewSetting,
+) -> Result<usize, Error>
+    requires inside { HasCleanDisk (state S.Store tx.old.conn.now)
+        → IsTrue (state S.Store tx.old.conn.now).in_transaction }
+    ensures same_reference { tx.new.conn.ghost_name ≡ tx.old.conn.ghost_name }
+    ensures inside { HasCleanDisk (state S.Store tx.new.conn.now)
+        → OnOk result (IsTrue (state S.Store tx.new.conn.now).in_transaction) }
+    ensures started { HasCleanDisk (state S.Store tx.new.conn.now)
+        → OnOk result (HasCounters (state S.Store tx.old.conn.now)
+        → HasStarted made_with.now (state S.Store tx.old.conn.now) (state S.Store tx.new.conn.now)) }
+    ensures kept { HasCleanDisk (state S.Store tx.new.conn.now)
+        → KeepsCommit (state S.Store tx.old.conn.now) (state S.Store tx.new.conn.now) }
+    ensures survives { Survives (state S.Store tx.old.conn.now) (state S.Store tx.new.conn.now) (λ _. ⊥) }
+{
+    create_setting(tx)?;
+    put_setting(tx, made_with)
+}
+
+#[tactic(auto, using(crate::proofs::Chain::survives_both, crate::proofs::Chain::keeps_both))]
+fn create_others<S: Alter>(tx: &mut Transaction<'_, S>) -> Result<usize, Error>
+    requires inside { HasCleanDisk (state S.Store tx.old.conn.now)
+        → IsTrue (state S.Store tx.old.conn.now).in_transaction }
+    ensures same_reference { tx.new.conn.ghost_name ≡ tx.old.conn.ghost_name }
+    ensures inside { HasCleanDisk (state S.Store tx.new.conn.now)
+        → OnOk result (IsTrue (state S.Store tx.new.conn.now).in_transaction) }
+    ensures added { HasCleanDisk (state S.Store tx.new.conn.now)
+        → OnOk result (HasCounters (state S.Store tx.old.conn.now)
+        → HasAdded other_tables (state S.Store tx.old.conn.now) (state S.Store tx.new.conn.now)) }
+    ensures kept { HasCleanDisk (state S.Store tx.new.conn.now)
+        → KeepsCommit (state S.Store tx.old.conn.now) (state S.Store tx.new.conn.now) }
+    ensures survives { Survives (state S.Store tx.old.conn.now) (state S.Store tx.new.conn.now) (λ _. ⊥) }
+{
+    create_answer(tx)?;
+    create_trans(tx)?;
+    create_usage(tx)?;
+    create_ceiling(tx)
+}
+
+#[tactic(auto, using(crate::proofs::Chain::survives_both, crate::proofs::Chain::keeps_both))]
+fn make_tables<S: Alter>(
+    tx: &mut Transaction<'_, S>,
+    made_with: &NewSetting,
+) -> Result<usize, Error>
+    requires inside { HasCleanDisk (state S.Store tx.old.conn.now)
+        → IsTrue (state S.Store tx.old.conn.now).in_transaction }
+    ensures same_reference { tx.new.conn.ghost_name ≡ tx.old.conn.ghost_name }
+    ensures inside { HasCleanDisk (state S.Store tx.new.conn.now)
+        → OnOk result (IsTrue (state S.Store tx.new.conn.now).in_transaction) }
+    ensures made { HasCleanDisk (state S.Store tx.new.conn.now)
+        → OnOk result (IsMadeOver made_with.now (state S.Store tx.old.conn.now).now
+        (state S.Store tx.new.conn.now).now) }
+    ensures kept { HasCleanDisk (state S.Store tx.new.conn.now)
+        → KeepsCommit (state S.Store tx.old.conn.now) (state S.Store tx.new.conn.now) }
+    ensures survives { Survives (state S.Store tx.old.conn.now) (state S.Store tx.new.conn.now) (λ _. ⊥) }
+{
+    begin_setting(tx, made_with)?;
+    create_others(tx)
+}
+
+/// Makes the five tables of a ledger that has applied nothing, in one transaction, or leaves all as it was.
+///
+/// An error is the store's.
+pub fn make_ledger<S: Alter>(conn: &mut Connection<S>, made_with: &NewSetting) -> Result<(), Error>
+    requires autocommit { conn.old.in_transaction ≡ false }
+    ensures autocommit { conn.new.in_transaction ≡ false }
+    ensures limit { conn.new.step_limit ≡ conn.old.step_limit }
+    ensures made { HasCleanDisk (state S.Store conn.new) → OnOk result
+        (IsMadeOver made_with.now (state S.Store conn.old).now (state S.Store conn.new).now) }
+    ensures open { HasCleanDisk (state S.Store conn.new) → OnOk result (IsTrue (state S.Store conn.new).is_open) }
+    ensures err { HasCleanDisk (state S.Store conn.new) → IsTrue (state S.Store conn.new).is_open
+        → OnErr result ((state S.Store conn.new).now ≡ (state S.Store conn.old).now) }
+
+    // What an open after a crash may find: all five tables, or none of them.
+    ensures crash_ok { HasCleanDisk (state S.Store conn.new) → OnOk result ((db : Trees)
+        → (state S.Store conn.new).may_leave db → db ≡ (state S.Store conn.new).now.trees) }
+    ensures crash_err { HasCleanDisk (state S.Store conn.new) → OnErr result ((db : Trees)
+        → (state S.Store conn.new).may_leave db
+        → (state S.Store conn.old).may_leave db ⊎ AreMadeOver made_with.now (state S.Store conn.old).now db) }
+{
+    let _settled = conn.is_autocommit();
+    let mut tx = conn.transaction();
+    make_tables(&mut tx, made_with)?;
+    tx.commit()
+}

@@ -1,0 +1,9 @@
+//! The five tables of a quota ledger: how they are made, and statements on them over any schema.
+#![tactic(auto)]
+
+pub mod answer;
+pub mod ceiling;
+pub mod create;
+pub mod names;
+pub mod setting;
+pub mod usage;

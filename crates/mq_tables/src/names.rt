@@ -1,0 +1,49 @@
+//! Which tables a store has.
+
+ghost use Rattle.std.specs.Prelude.{◌≡◌};
+ghost use Rattle.std.specs.List.{list_any};
+ghost use Rattle.sqlite_schema.specs.Names.{same_name};
+ghost use Rattle.mq_tables.specs.Making.{is_owner, is_aside, has_table, has_ledger_table};
+
+use sqlite_schema::names::same_name;
+use sqlite_schema::schema::{Schema, Table, View};
+
+fn is_aside(view: &View, name: &[u8]) -> bool
+    ensures { result ≡ is_aside name.now view.now }
+{
+    match &view.foreign {
+        Some(owner) => same_name(view.name.as_slice(), name) && same_name(owner.as_slice(), name),
+        None => false,
+    }
+}
+
+fn any_named(tables: &[Table], name: &[u8]) -> bool
+    ensures { result ≡ list_any (λ t. same_name t.name name.now) tables.now }
+{
+    tables
+        .iter()
+        .any(|table| same_name(table.name.as_slice(), name))
+}
+
+fn any_aside(views: &[View], name: &[u8]) -> bool
+    ensures { result ≡ list_any (is_aside name.now) views.now }
+{
+    views.iter().any(|view| is_aside(view, name))
+}
+
+fn has_table(schema: &Schema, name: &[u8]) -> bool
+    ensures { result ≡ has_table schema.now name.now }
+{
+    any_named(schema.tables.as_slice(), name) || any_aside(schema.views.as_slice(), name)
+}
+
+/// Whether a table of one of the ledger's five names is there.
+pub fn has_ledger_table(schema: &Schema) -> bool
+    ensures { result ≡ has_ledger_table schema.now }
+{
+    has_table(schema, b"setting")
+        || has_table(schema, b"answer")
+        || has_table(schema, b"trans")
+        || has_table(schema, b"usage")
+        || has_table(schema, b"ceiling")
+}

@@ -1,0 +1,112 @@
+//! The table `setting`, which has one row.
+
+ghost use Rattle.std.specs.Prelude.{◌≡◌, None, IsTrue, OnOk, [], ◌∷◌, false};
+ghost use Rattle.sqlite.specs.Held.{state};
+ghost use Rattle.sqlite.specs.Order.{column};
+ghost use Rattle.sqlite.specs.State.{HasCleanDisk, KeepsCommit, Survives};
+ghost use Rattle.sqlite.specs.Values.{bound};
+ghost use Rattle.sqlite.specs.declared.types.Value.TheVariants.{Int};
+ghost use Rattle.sqlite_value.specs.Value.{owned};
+ghost use Rattle.mq_tables.specs.Inside.{GoesOn};
+ghost use Rattle.mq_tables.specs.Reading.{IsRead, Spares};
+ghost use Rattle.mq_tables.specs.Settings.{SettingRow, HasSetting, IsOf, setting_of};
+ghost use Rattle.mq_tables.specs.Updates.{SetsArrivals};
+
+use sqlite::types::ValueRef;
+use sqlite::{Alter, Connection, Error, Row, Transaction};
+
+/// What a ledger is made with: minutes east of UTC, and the limit of a login that has none.
+#[derive(Clone, Copy, Debug, PartialEq, Eq)]
+pub struct NewSetting {
+    pub minutes: i32,
+    pub cap: u32,
+}
+
+/// What the row says of the ledger that it was made for.
+#[derive(Clone, Copy, Debug, PartialEq, Eq)]
+pub struct Setting {
+    /// Which tables these are: 1.
+    pub version: i64,
+    /// Minutes east of UTC.
+    pub minutes: i64,
+    /// The limit of a login that has none.
+    pub cap: i64,
+}
+
+/// A value of the row, where it has one there.
+fn value_at(row: &Row, at: usize) -> ValueRef<'_>
+    ensures { owned result ≡ column row.now at }
+{
+    match row.get_ref(at) {
+        Ok(value) => value,
+        Err(_) => ValueRef::Null,
+    }
+}
+
+fn setting_of(row: &Row) -> Option<Setting>
+    ensures { result ≡ setting_of row.now }
+{
+    match (value_at(row, 0), value_at(row, 1), value_at(row, 2)) {
+        (ValueRef::Int(version), ValueRef::Int(minutes), ValueRef::Int(cap)) => Some(Setting {
+            version,
+            minutes,
+            cap,
+        }),
+        _ => None,
+    }
+}
+
+/// Reads the row; `None` where what stands in its place isn't three whole numbers.
+///
+/// It lifts the limit on steps, and writes nothing. An error is the store's: `QueryReturnedNoRows`
+/// where the row is absent, one of SQL where there is no such table.
+pub fn read_setting<S: Alter>(connection: &mut Connection<S>) -> Result<Option<Setting>, Error>
+    requires autocommit { connection.old.in_transaction ≡ false }
+    ensures autocommit { connection.new.in_transaction ≡ false }
+    ensures unlimited { connection.new.step_limit ≡ None }
+
+    // Whatever the store holds.
+    ensures read { HasCleanDisk (state S.Store connection.new)
+        → IsRead (state S.Store connection.old) (state S.Store connection.new) result }
+    ensures spares { HasCleanDisk (state S.Store connection.new)
+        → Spares (state S.Store connection.old) (state S.Store connection.new) }
+
+    // Where our table is there, at any place.
+    ensures row { HasCleanDisk (state S.Store connection.new) → (s : SettingRow)
+        → HasSetting (state S.Store connection.old).now s → IsOf s result }
+{
+    connection.set_step_limit(None);
+    let _settled = connection.is_autocommit();
+    match connection.query_row(
+        "SELECT version, minutes, cap FROM setting WHERE id = 1",
+        &[],
+    ) {
+        Ok(row) => Ok(setting_of(&row)),
+        Err(error) => Err(error),
+    }
+}
+
+/// Writes the count of arrivals.
+pub fn set_arrivals<S: Alter>(tx: &mut Transaction<'_, S>, arrivals: i64) -> Result<usize, Error>
+    requires inside { HasCleanDisk (state S.Store tx.old.conn.now)
+        → IsTrue (state S.Store tx.old.conn.now).in_transaction }
+    ensures same_reference { tx.new.conn.ghost_name ≡ tx.old.conn.ghost_name }
+    ensures goes_on { HasCleanDisk (state S.Store tx.new.conn.now)
+        → OnOk result (GoesOn (state S.Store tx.old.conn.now) (state S.Store tx.new.conn.now)) }
+    ensures set { HasCleanDisk (state S.Store tx.new.conn.now)
+        → OnOk result (SetsArrivals arrivals (state S.Store tx.old.conn.now) (state S.Store tx.new.conn.now)) }
+    ensures kept { HasCleanDisk (state S.Store tx.new.conn.now)
+        → KeepsCommit (state S.Store tx.old.conn.now) (state S.Store tx.new.conn.now) }
+    ensures survives { Survives (state S.Store tx.old.conn.now) (state S.Store tx.new.conn.now) (λ _. ⊥) }
+{
+    tx.execute(
+        "UPDATE setting SET arrivals = ?1 WHERE id = 1",
+        &arrivals_params(arrivals),
+    )
+}
+
+fn arrivals_params(arrivals: i64) -> [ValueRef<'static>; 1]
+    ensures { bound result ≡ Int arrivals ∷ [] }
+{
+    [ValueRef::Int(arrivals)]
+}
