@@ -1,15 +1,10 @@
 //! A sending-quota filter for smtpd, and the quota server that its hosts share.
 #![tactic(auto)]
 
-mod admin;
-mod arguments;
-mod clock;
-mod fault;
-mod filter;
 mod program;
-mod server;
 #[cfg(test)]
 mod tests;
+mod words;
 
 use std::process::ExitCode;
 

@@ -1,6 +1,3 @@
-//! The command line, the texts of faults, and both ends over TCP.
+//! The command line.
 
-mod clock;
-mod link;
-mod refusals;
 mod words;

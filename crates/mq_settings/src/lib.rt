@@ -3,8 +3,6 @@
 
 mod file;
 mod settings;
-#[cfg(test)]
-mod tests;
 
 pub use file::{FileFault, read_file, read_limited};
 pub use settings::{

@@ -1,6 +1,7 @@
 //! The command line.
 
-use crate::arguments::{Arguments, ArgumentsFault, ReplayArguments, read_arguments};
+use crate::words::{WordsFault, read_arguments};
+use mq_program::{Arguments, ReplayArguments};
 use std::alloc::Global;
 use std::process::Abort;
 use std::test::Fail;
@@ -13,11 +14,11 @@ fn shown(alloc: Global, words: &[&str]) -> Result<(String, u8), Fail> {
     }
     match read_arguments(alloc, given.as_slice()) {
         Ok(arguments) => Ok((format!(in alloc; "{arguments:?}")?, 0)),
-        Err(ArgumentsFault::Words(error)) => {
+        Err(WordsFault::Words(error)) => {
             let status = if error.use_stderr() { 2 } else { 0 };
             Ok((error.to_string(alloc)?, status))
         }
-        Err(ArgumentsFault::Memory) => Ok((String::from_str(alloc, "out of memory")?, 1)),
+        Err(WordsFault::Memory) => Ok((String::from_str(alloc, "out of memory")?, 1)),
     }
 }
 

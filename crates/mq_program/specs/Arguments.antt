@@ -3,10 +3,10 @@ use Rattle.std.specs.Prelude.{ℕ, List, ◌≤◌, ◌≤ℤ◌, pos, negsuc, I
 use Rattle.std.specs.Net.Grammar.{IsSocketText}
 use Rattle.std.specs.declared.net.SocketAddr.{SocketAddr}
 use Rattle.mq_frame.specs.Range.{IsRun, IsDay, IsAmount, IsWithin}
-use Rattle.mailquota.specs.declared.arguments.ReplayArguments.{ReplayArguments}
-use Rattle.mailquota.specs.declared.arguments.LimitArguments.{LimitArguments}
-use Rattle.mailquota.specs.declared.arguments.Arguments.{Arguments}
-use Rattle.mailquota.specs.declared.arguments.Arguments.TheVariants.{Replay, Filter, Server, Limit, Report}
+use Rattle.mq_program.specs.declared.arguments.ReplayArguments.{ReplayArguments}
+use Rattle.mq_program.specs.declared.arguments.LimitArguments.{LimitArguments}
+use Rattle.mq_program.specs.declared.arguments.Arguments.{Arguments}
+use Rattle.mq_program.specs.declared.arguments.Arguments.TheVariants.{Replay, Filter, Server, Limit, Report}
 
 -- a limit of 0 to 1,000,000 and an offset of -1,439 to 1,439 minutes
 pub record IsReplayArguments (given : ReplayArguments) : Type 0 where

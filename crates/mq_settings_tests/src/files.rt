@@ -1,6 +1,6 @@
 //! The file of settings.
 
-use crate::file::{FileFault, read_file, read_limited};
+use mq_settings::{FileFault, read_file, read_limited};
 use std::test::Fail;
 
 #[test]

@@ -1,6 +1,6 @@
 //! The number of a run.
 
-use crate::clock::run_number;
+use mq_program::run_number;
 use std::alloc::Global;
 use std::io;
 use std::io::ErrorKind;

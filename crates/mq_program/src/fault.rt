@@ -1,5 +1,7 @@
 //! Why a subcommand isn't done.
 ghost use Rattle.std.specs.Prelude.{◌≡◌};
+ghost use Rattle.std.specs.IoError.{error_kind};
+ghost use Rattle.mq_program.specs.Faults.{or_memory_of};
 
 use mq_client::FilterFault;
 use mq_server::ServeFault;
@@ -45,7 +47,7 @@ pub enum ProgramFault {
 }
 
 impl ProgramFault {
-    ghost use Rattle.mailquota.specs.Faults.{fault_status};
+    ghost use Rattle.mq_program.specs.Faults.{fault_status};
 
     /// The exit status: 2 where the words are at fault, else 1.
     pub fn status(&self) -> u8
@@ -74,9 +76,11 @@ impl<T: Drop> From<AllocFailed<T>> for ProgramFault {
 }
 
 /// Want of memory, or else this fault.
-pub fn or_memory(error: &io::Error, fault: ProgramFault) -> ProgramFault {
-    if error.kind() == ErrorKind::OutOfMemory {
-        return ProgramFault::Memory;
+pub fn or_memory(error: &io::Error, fault: ProgramFault) -> ProgramFault
+    ensures { result ≡ or_memory_of (error_kind error.now) fault }
+{
+    match error.kind() {
+        ErrorKind::OutOfMemory => ProgramFault::Memory,
+        _ => fault,
     }
-    fault
 }

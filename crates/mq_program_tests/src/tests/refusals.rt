@@ -1,9 +1,12 @@
-//! What the program prints on standard error, with its status, where it does nothing.
+//! What the subcommands print on standard error, with the status, where they do nothing.
+ghost use Rattle.mq_program.specs.Arguments.{IsArguments};
 
-use crate::fault::ProgramFault;
-use crate::program::run_words;
 use mq_client::FilterFault;
 use mq_command::{Ending, ReplayFault, ReportFault, TextFault};
+use mq_program::{
+    Arguments, FilterArguments, LimitArguments, ProgramFault, ReportArguments, ServerArguments,
+    run_subcommand,
+};
 use mq_track::TrackFault;
 use std::fmt::Display;
 use std::net::{Net, TcpListener, TcpStream};
@@ -15,41 +18,19 @@ use std::test::Fail;
 const LONG: &str =
     "aaaaaaaaaaaaaaaaaaaaaaaaaaaaaaaaaaaaaaaaaaaaaaaaaaaaaaaaaaaaaaaaaaaaaaaaaaaaaaaaaaaaaaaaaaaaaaaaaaaaaaaaaaaaaaaaaaaaaaaaaaaaaaaaaaaaaaaaaaaaaaaaaaaaaaaaaaaaaaaaaaaaaaaaaaaaaaaaaaaaaaaaaaaaaaaaaaaaaaaaaaaaaaaaaaaaaaaaaaaaaaaaaaaaaaaaaaaaaaaaaaaaaaaaaaaaaaaa";
 
-/// What is printed for these words, with the status.
-fn assert_refused<R>(rt: &R, words: &[&str], status: u8, text: &str) -> Result<(), Fail>
+/// Asserts what is printed for a subcommand, with the status.
+fn assert_refused<R>(rt: &R, given: Arguments<'_>, status: u8, text: &str) -> Result<(), Fail>
 where
     R: Files + Clock + Net<Listener = TcpListener, Stream = TcpStream>,
     R: Input + Print + Eprint + AllocGlobal + Abort,
+    requires { IsArguments given }
 {
-    let mut given = Vec::new(rt.alloc());
-    given.push(String::from_str(rt.alloc(), "mailquota")?)?;
-    for word in words {
-        given.push(String::from_str(rt.alloc(), word)?)?;
-    }
     let mut errors = Vec::new(rt.alloc());
-    let ended = run_words(rt, given.as_slice(), &mut errors);
+    let ended = run_subcommand(rt, given, &mut errors);
     let printed = String::from_utf8(errors)?;
-    assert_eq!(rt; printed.as_str(), text, "{words:?}");
-    assert_eq!(rt; ended, status, "{words:?}");
+    assert_eq!(rt; printed.as_str(), text, "{given:?}");
+    assert_eq!(rt; ended, status, "{given:?}");
     Ok(())
-}
-
-/// Asserts why `limit` is refused with these.
-fn assert_limit_refused<R>(
-    rt: &R,
-    server: &str,
-    host: &str,
-    login: &str,
-    text: &str,
-) -> Result<(), Fail>
-where
-    R: Files + Clock + Net<Listener = TcpListener, Stream = TcpStream>,
-    R: Input + Print + Eprint + AllocGlobal + Abort,
-{
-    let words = [
-        "limit", "--server", server, "--host", host, "--login", login, "--from", "1", "--cap", "2",
-    ];
-    assert_refused(rt, &words, 2, text)
 }
 
 #[test]
@@ -65,7 +46,15 @@ fn words_of_limit(rt: HostRuntime) -> Result<(), Fail> {
         ("", "mx1", "u", "mailquota: bad address\n"),
     ];
     for (server, host, login, text) in rows {
-        assert_limit_refused(&rt, server, host, login, text)?;
+        let given = LimitArguments {
+            server,
+            host,
+            login,
+            from: 1,
+            cap: 2,
+            run: None,
+        };
+        assert_refused(&rt, Arguments::Limit(given), 2, text)?;
     }
     Ok(())
 }
@@ -73,27 +62,36 @@ fn words_of_limit(rt: HostRuntime) -> Result<(), Fail> {
 #[test]
 fn words_of_report(rt: HostRuntime) -> Result<(), Fail> {
     let rows = [
-        ("mail:7025", "", "mailquota: bad login\n"),
-        ("mail:7025", LONG, "mailquota: bad login\n"),
-        ("mail:7025", "u", "mailquota: bad address\n"),
-        ("[::1]", "u", "mailquota: bad address\n"),
+        ("mail:7025", Some(""), "mailquota: bad login\n"),
+        ("mail:7025", Some(LONG), "mailquota: bad login\n"),
+        ("mail:7025", Some("u"), "mailquota: bad address\n"),
+        ("[::1]", Some("u"), "mailquota: bad address\n"),
+        ("localhost:7025", None, "mailquota: bad address\n"),
     ];
     for (server, login, text) in rows {
-        let words = ["report", "--server", server, "--day", "1", "--login", login];
-        assert_refused(&rt, &words, 2, text)?;
+        let given = ReportArguments {
+            server,
+            day: 1,
+            login,
+        };
+        assert_refused(&rt, Arguments::Report(given), 2, text)?;
     }
-    let words = ["report", "--server", "localhost:7025", "--day", "1"];
-    assert_refused(&rt, &words, 2, "mailquota: bad address\n")
+    Ok(())
 }
 
 #[test]
 fn no_settings(rt: HostRuntime) -> Result<(), Fail> {
-    for path in ["/", "/no/such/file"] {
-        for words in [
-            ["filter", "--config", path, "--run=1"],
-            ["server", "--config", path, "--connections=1"],
-        ] {
-            assert_refused(&rt, &words, 1, "mailquota: settings can't be read\n")?;
+    for config in ["/", "/no/such/file"] {
+        let filter = FilterArguments {
+            config,
+            run: Some(1),
+        };
+        let server = ServerArguments {
+            config,
+            connections: 1,
+        };
+        for given in [Arguments::Filter(filter), Arguments::Server(server)] {
+            assert_refused(&rt, given, 1, "mailquota: settings can't be read\n")?;
         }
     }
     Ok(())

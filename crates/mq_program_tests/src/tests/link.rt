@@ -1,11 +1,11 @@
 //! The link and the server over the loopback, both ends in one process, one after the other.
 
-use crate::server::{listen, serve_connections};
 use log::LevelFilter;
 use log::sink::{Discard, Memory};
 use mq_client::{Link, LinkFault};
 use mq_frame::{FromRead, ToWrite};
 use mq_ledger::{PlainLedger, Zone};
+use mq_program::{listen, serve_connections};
 use mq_server::{Served, serve};
 use mq_settings::{Place, ServerSettings};
 use mq_tcp::TcpLink;
@@ -196,7 +196,7 @@ fn connections_in_turn(rt: HostRuntime) -> Result<(), Fail> {
         if !end.is_empty() {
             let from = stream.local_addr()?;
             lines.push(format!(in alloc;
-                "[WARN  mailquota::server] connection of {from}: {end}"
+                "[WARN  mq_program::server] connection of {from}: {end}"
             )?)?;
         }
         peers.push(stream)?;

@@ -1,7 +1,7 @@
 //! The settings of both files.
 
-use crate::settings::{Place, read_filter_settings, read_server_settings};
 use log::LevelFilter;
+use mq_settings::{Place, read_filter_settings, read_server_settings};
 use std::test::Fail;
 
 #[test]

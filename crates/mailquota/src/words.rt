@@ -1,101 +1,40 @@
 //! The words of the command line.
 ghost use Rattle.std.specs.Prelude.{◌≤◌, IfOk, IfSome};
 ghost use Rattle.mq_frame.specs.Range.{IsRun, IsWithin};
-ghost use Rattle.mailquota.specs.Arguments.{IsArguments, IsReplayArguments};
+ghost use Rattle.mq_program.specs.Arguments.{IsArguments, IsReplayArguments};
 
 use clap::error::ErrorKind;
 use clap::{Arg, ArgAction, ArgMatches, Command, Error, value_parser};
+use mq_program::{
+    Arguments, FilterArguments, LimitArguments, ReplayArguments, ReportArguments, ServerArguments,
+};
 use std::alloc::{AllocError, Global};
-
-/// What `replay` is given.
-#[derive(Clone, Copy, Debug, PartialEq)]
-pub struct ReplayArguments {
-    /// The limit of a login that has none of its own, 0 to 1,000,000 recipients a day.
-    pub default: u32,
-    /// How far the ledger's days are east of UTC, in minutes: -1,439 to 1,439.
-    pub offset: i32,
-}
-
-/// What `filter` is given.
-#[derive(Clone, Copy, Debug, PartialEq)]
-pub struct FilterArguments<'a> {
-    /// The file of settings.
-    pub config: &'a str,
-    /// The number of the run, or the clock's.
-    pub run: Option<u64>,
-}
-
-/// What `server` is given.
-#[derive(Clone, Copy, Debug, PartialEq)]
-pub struct ServerArguments<'a> {
-    /// The file of settings.
-    pub config: &'a str,
-    /// How many connections are served, 1 to 1,000,000.
-    pub connections: u32,
-}
-
-/// What `limit` is given.
-#[derive(Clone, Copy, Debug, PartialEq)]
-pub struct LimitArguments<'a> {
-    pub server: &'a str,
-    pub host: &'a str,
-    pub login: &'a str,
-    /// The day number from which on the limit governs, 0 to 376,200.
-    pub from: u32,
-    /// Recipients a day, 0 to 1,000,000.
-    pub cap: u32,
-    /// The number of the run, or the clock's.
-    pub run: Option<u64>,
-}
-
-/// What `report` is given.
-#[derive(Clone, Copy, Debug, PartialEq)]
-pub struct ReportArguments<'a> {
-    pub server: &'a str,
-    /// The day number that is reported, 0 to 376,200.
-    pub day: u32,
-    /// The one login that is reported, or all.
-    pub login: Option<&'a str>,
-}
-
-/// What the words ask for.
-#[derive(Clone, Copy, Debug, PartialEq)]
-pub enum Arguments<'a> {
-    Replay(ReplayArguments),
-    Filter(FilterArguments<'a>),
-    Server(ServerArguments<'a>),
-    Limit(LimitArguments<'a>),
-    Report(ReportArguments<'a>),
-}
 
 /// Why the words ask for nothing that can be done.
 #[derive(Drop)]
-pub enum ArgumentsFault {
+pub enum WordsFault {
     /// They ask for help, or are no usage of the program.
     Words(Error),
     Memory,
 }
 
-impl From<AllocError> for ArgumentsFault {
-    fn from(_error: AllocError) -> ArgumentsFault {
-        ArgumentsFault::Memory
+impl From<AllocError> for WordsFault {
+    fn from(_error: AllocError) -> WordsFault {
+        WordsFault::Memory
     }
 }
 
-impl From<Error> for ArgumentsFault {
-    fn from(error: Error) -> ArgumentsFault {
+impl From<Error> for WordsFault {
+    fn from(error: Error) -> WordsFault {
         match error.kind() {
-            ErrorKind::OutOfMemory => ArgumentsFault::Memory,
-            _ => ArgumentsFault::Words(error),
+            ErrorKind::OutOfMemory => WordsFault::Memory,
+            _ => WordsFault::Words(error),
         }
     }
 }
 
 /// Reads the words of a command line, the program's name first.
-pub fn read_arguments<'a>(
-    alloc: Global,
-    words: &'a [String],
-) -> Result<Arguments<'a>, ArgumentsFault>
+pub fn read_arguments<'a>(alloc: Global, words: &'a [String]) -> Result<Arguments<'a>, WordsFault>
     ensures { IfOk result IsArguments }
 {
     let mut program = program(alloc)?;
@@ -123,7 +62,7 @@ pub fn read_arguments<'a>(
             login: found.get_str("login"),
         })),
         Some((_, found)) => Ok(Arguments::Replay(replay_of(found))),
-        None => Err(ArgumentsFault::Words(program.error(
+        None => Err(WordsFault::Words(program.error(
             ErrorKind::MissingSubcommand,
             "a subcommand is required",
         )?)),

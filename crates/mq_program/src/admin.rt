@@ -3,7 +3,7 @@ ghost use Rattle.std.specs.Prelude.{◌≡◌, Err, IfOk, IfSome, MatchResult, o
 ghost use Rattle.std.specs.Net.Grammar.{IsSocketText};
 ghost use Rattle.mq_frame.specs.Range.{IsHost, IsLogin, IsDay};
 ghost use Rattle.mq_frame.specs.declared.message.Request.TheVariants.{Limit};
-ghost use Rattle.mailquota.specs.Arguments.{IsLimitArguments, IsNoAddress};
+ghost use Rattle.mq_program.specs.Arguments.{IsLimitArguments, IsNoAddress};
 
 use crate::arguments::{LimitArguments, ReportArguments};
 use crate::clock::run_number;

@@ -1,5 +1,5 @@
 use Rattle.std.proofs.Common.{◌≡◌}
-use Rattle.mailquota.proofs.server.serve_connections.Given as goal
+use Rattle.mq_program.proofs.server.serve_connections.Given as goal
 
 -- what each connection leaves of the ledger's promises
 abbrev pub invariant-loop-connection : goal.invariant-loop-connection

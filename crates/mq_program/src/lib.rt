@@ -1,0 +1,20 @@
+//! What the subcommands do with the files, the streams, the clock and the network of the process.
+#![tactic(auto)]
+
+mod admin;
+mod arguments;
+mod clock;
+mod fault;
+mod filter;
+mod replay;
+mod server;
+mod subcommand;
+
+pub use admin::{limit, report};
+pub use arguments::{
+    Arguments, FilterArguments, LimitArguments, ReplayArguments, ReportArguments, ServerArguments,
+};
+pub use clock::run_number;
+pub use fault::{ProgramFault, or_memory};
+pub use server::{listen, serve_connections};
+pub use subcommand::{refuse, run_subcommand};

@@ -1,0 +1,51 @@
+//! Which subcommand is run, and what is printed where it isn't done.
+ghost use Rattle.std.specs.Prelude.{◌≡◌};
+ghost use Rattle.mq_program.specs.Arguments.{IsArguments};
+ghost use Rattle.mq_program.specs.Faults.{fault_status};
+
+use crate::admin::{limit, report};
+use crate::arguments::Arguments;
+use crate::fault::ProgramFault;
+use crate::filter::filter;
+use crate::replay::replay;
+use crate::server::server;
+use std::io::Write;
+use std::net::{Net, TcpListener, TcpStream};
+use std::rt::{Clock, Files};
+
+/// Runs a subcommand, prints on `errors` why it isn't done, and gives the exit status: 0 done,
+/// 1 fault, 2 usage.
+pub fn run_subcommand<R, E: Write>(rt: &R, given: Arguments<'_>, errors: &mut E) -> u8
+where
+    R: Files + Clock + Net<Listener = TcpListener, Stream = TcpStream>,
+    R: Input + Print + Eprint + AllocGlobal,
+    requires { IsArguments given }
+{
+    match status_of(rt, given, errors) {
+        Ok(status) => status,
+        Err(fault) => refuse(&fault, errors),
+    }
+}
+
+/// Prints a fault, and gives its exit status.
+pub fn refuse<E: Write>(fault: &ProgramFault, errors: &mut E) -> u8
+    ensures { result ≡ fault_status fault.now }
+{
+    let _ = writeln!(errors, "mailquota: {fault}");
+    fault.status()
+}
+
+fn status_of<R, E: Write>(rt: &R, given: Arguments<'_>, errors: &mut E) -> Result<u8, ProgramFault>
+where
+    R: Files + Clock + Net<Listener = TcpListener, Stream = TcpStream>,
+    R: Input + Print + Eprint + AllocGlobal,
+    requires { IsArguments given }
+{
+    match given {
+        Arguments::Replay(given) => replay(rt, given, errors),
+        Arguments::Filter(given) => filter(rt, given),
+        Arguments::Server(given) => server(rt, given),
+        Arguments::Limit(given) => limit(rt, given, errors),
+        Arguments::Report(given) => report(rt, given, errors),
+    }
+}

@@ -1,0 +1,5 @@
+//! The subcommands without a command line.
+
+mod clock;
+mod link;
+mod refusals;

@@ -1,4 +1,0 @@
-//! The settings files.
-
-mod files;
-mod settings;
