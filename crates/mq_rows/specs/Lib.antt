@@ -1,6 +1,7 @@
 pub mod Found
-pub mod Later
+pub mod Listing
 pub mod Meaning
 pub mod Plan
+pub mod Repeat
 pub mod Rows
 pub mod Tables

@@ -1,6 +1,6 @@
 -- The reply to a numbered request whose number is new, and what is written with it, by what was
 -- found in the tables.
-use Rattle.std.specs.Prelude.{◌≡◌, ℕ, ◌+◌, ◌-◌, List, ◌∷◌, Bool, true, false, not, ◌==◌, ◌&&◌, ◌||◌, nat_lt, nat_le, if◌then◌else◌, Option, Some, None}
+use Rattle.std.specs.Prelude.{◌≡◌, ℕ, ◌+◌, ◌-◌, List, ◌∷◌, Bool, true, false, not, ◌==◌, ◌&&◌, nat_le, if◌then◌else◌, Option, Some, None}
 use Rattle.std.specs.List.{AllByRecursion}
 use Rattle.std.specs.List.Sorted.{IsPermutation}
 use Rattle.mq_frame.specs.declared.message.Id.{Id}
@@ -17,7 +17,8 @@ use Rattle.mq_rows.specs.declared.plan.Found.{Found}
 use Rattle.mq_rows.specs.declared.plan.Plan.{Plan}
 use Rattle.mq_rows.specs.declared.plan.Write.{Write}
 use Rattle.mq_rows.specs.declared.plan.Write.TheVariants.{Keep, Insert, Update}
-use Rattle.mq_rows.specs.Rows.{answer_row}
+use Rattle.mq_ledger.specs.History.{Transaction}
+use Rattle.mq_rows.specs.Rows.{answer_row, is_transaction, is_usage, is_ceiling}
 
 -- What was found, as numbers: nothing where there is no row.
 
@@ -166,8 +167,45 @@ may_be_found default _ f = true
 
 -- What a write makes of the rows of a table.
 
--- After the write P holds of the rows. `same` compares keys, and `set` is the old row with what an update sets.
+-- One more row, whose key no row has; P holds of the rows then.
+pub record Inserts {R : Type 0} (same : R → R → Bool) (new : R) (rows : List R) (P : List R → Type 0) : Type 0 where
+  pub absent : AllByRecursion (λ other. same new other ≡ false) rows
+  pub after : P (new ∷ rows)
+
+-- One row has the key, and `set` makes it the new one; P holds of the rows then.
+pub record Updates {R : Type 0} (same : R → R → Bool) (set : R → R → R) (new : R) (rows : List R) (P : List R → Type 0) : Type 0 where
+  pub was : R
+  pub rest : List R
+  pub order : IsPermutation (was ∷ rest) rows
+  pub there : same new was ≡ true
+  pub alone : AllByRecursion (λ other. same new other ≡ false) rest
+  pub after : P (set new was ∷ rest)
+
+-- The write can be made, and P holds of the rows then. `same` compares keys, and `set` gives a row the new one's other fields.
 abbrev pub Leads : {R : Type 0} → (R → R → Bool) → (R → R → R) → Write R → List R → (List R → Type 0) → Type 0
 Leads same set Keep rows P = P rows
-Leads same set (Insert r) rows P = P (r ∷ rows)
-Leads {R} same set (Update r) rows P = (was : R) (rest : List R) → IsPermutation (was ∷ rest) rows → same r was ≡ true → AllByRecursion (λ other. same r other ≡ false) rest → P (set r was ∷ rest)
+Leads same set (Insert new) rows P = Inserts same new rows P
+Leads same set (Update new) rows P = Updates same set new rows P
+
+-- Keys, and what an update of a row sets.
+
+abbrev pub key_of : TransactionRecord → Transaction
+key_of r = record { host = r.host; run = r.run; txn = r.txn }
+
+abbrev pub same_key : TransactionRecord → TransactionRecord → Bool
+same_key new other = is_transaction (key_of new) other
+
+abbrev pub set_transaction : TransactionRecord → TransactionRecord → TransactionRecord
+set_transaction new was = record was { held = new.held; settled = new.settled; closed = new.closed }
+
+abbrev pub same_day : UsageRecord → UsageRecord → Bool
+same_day new other = is_usage new.login new.day other
+
+abbrev pub set_usage : UsageRecord → UsageRecord → UsageRecord
+set_usage new was = record was { settled = new.settled; reserved = new.reserved }
+
+abbrev pub same_from : CeilingRecord → CeilingRecord → Bool
+same_from new other = is_ceiling new.login new.day other
+
+abbrev pub set_ceiling : CeilingRecord → CeilingRecord → CeilingRecord
+set_ceiling new was = record was { cap = new.cap }

@@ -11,10 +11,10 @@ use Rattle.mq_frame.specs.Same.{same_text}
 use Rattle.mq_frame.specs.Spelling.{request_body, reply_body}
 use Rattle.mq_ledger.specs.declared.entry.Entry.{Entry}
 use Rattle.mq_ledger.specs.Arrivals.{id_of}
-use Rattle.mq_ledger.specs.History.{Transaction, same_transaction, named, closed, held, settled, reserved}
+use Rattle.mq_ledger.specs.History.{Transaction, same_transaction, named, closed, held, settled_in, settled, reserved}
 use Rattle.mq_ledger.specs.Legal.{Book}
+use Rattle.mq_ledger.specs.Limits.{set_cap}
 use Rattle.mq_ledger.specs.Page.{has_reserve}
-use Rattle.mq_rows.specs.Later.{settled_in, set_cap}
 use Rattle.mq_rows.specs.declared.record.SettingRecord.{SettingRecord}
 use Rattle.mq_rows.specs.declared.record.AnswerRecord.{AnswerRecord}
 use Rattle.mq_rows.specs.declared.record.TransactionRecord.{TransactionRecord}
@@ -85,8 +85,8 @@ is_transaction t r = same_transaction t (record { host = r.host; run = r.run; tx
 
 -- the row is of that login and day
 abbrev pub is_usage : List ℕ → ℕ → UsageRecord → Bool
-is_usage l d r = same_text l r.login && (d == r.day)
+is_usage l d r = same_text l r.login && (r.day == d)
 
 -- the row is of that login and day
 abbrev pub is_ceiling : List ℕ → ℕ → CeilingRecord → Bool
-is_ceiling l d r = same_text l r.login && (d == r.day)
+is_ceiling l d r = same_text l r.login && (r.day == d)

@@ -5,9 +5,13 @@
 #![tactic(auto)]
 
 mod body;
+pub mod laws;
 mod plan;
 mod record;
+mod repeat;
 mod reply;
+mod setting;
+mod usage;
 mod write;
 
 pub use body::Body;
@@ -15,4 +19,6 @@ pub use plan::{Found, Plan, Write};
 pub use record::{
     AnswerRecord, CeilingRecord, SettingRecord, TransactionRecord, UsageRecord, VERSION,
 };
+pub use repeat::stored_reply;
+pub use usage::{page_row, usage_reply};
 pub use write::decide;

@@ -1,0 +1,12 @@
+use Rattle.mq_rows.specs.Rows.{transaction_row, usage_row, ceiling_row, is_transaction, is_usage, is_ceiling}
+use Rattle.mq_rows.proofs.Lists.{in_any_order}
+use Rattle.mq_rows.proofs.laws.any_order.Goals as goal
+
+pub returns-clause-transactions : goal.returns-clause-transactions
+returns-clause-transactions c = λ day H rows others order are t. in_any_order (is_transaction t) rows others order (transaction_row day H t) (are t)
+
+pub returns-clause-usage : goal.returns-clause-usage
+returns-clause-usage c = λ day H rows others order are l d. in_any_order (is_usage l d) rows others order (usage_row day H l d) (are l d)
+
+pub returns-clause-ceilings : goal.returns-clause-ceilings
+returns-clause-ceilings c = λ H rows others order are l d. in_any_order (is_ceiling l d) rows others order (ceiling_row H l d) (are l d)
