@@ -12,8 +12,6 @@ mod laws;
 mod parameters;
 mod reading;
 mod results;
-#[cfg(test)]
-mod tests;
 
 pub use faults::{FeedFault, LineFault, Memory};
 pub use feed::{LineFeed, MAX_LINE};

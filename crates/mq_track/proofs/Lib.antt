@@ -3,3 +3,4 @@ pub mod Lookback
 pub mod Moves
 pub mod Numbers
 pub mod Vanishing
+mod Closings

@@ -128,14 +128,14 @@ gone (Left u) s n o t is h = absurd (left_gone (bytes_eq u s) o t is h)
 gone Nothing s n o t is h = absurd (false≢true is)
 
 -- the line ends the transaction o of s, whose number is n
-record Closes (past : List Meaning) (line : Meaning) (n : ℕ) : Type 0 where
-  s : List ℕ
-  o : Transaction
-  was : open_transaction past s ≡ Some o
-  number : n ≡ o.txn
-  ends_it : (begins s (event line) || ends s o.message (event line)) ≡ true
+pub record Closes (past : List Meaning) (line : Meaning) (n : ℕ) : Type 0 where
+  pub s : List ℕ
+  pub o : Transaction
+  pub was : open_transaction past s ≡ Some o
+  pub number : n ≡ o.txn
+  pub ends_it : (begins s (event line) || ends s o.message (event line)) ≡ true
 
-closes : (past : List Meaning) (line : Meaning) (closed : Closing) → closing past line ≡ Some closed → Closes past line closed.txn
+pub closes : (past : List Meaning) (line : Meaning) (closed : Closing) → closing past line ≡ Some closed → Closes past line closed.txn
 closes past line closed is =
     option_and_then_some (λ s. option_and_then (closing_of s (event line)) (open_transaction past s)) (session_of (event line)) closed is (λ s of h.
     option_and_then_some (closing_of s (event line)) (open_transaction past s) closed h (λ o was k.

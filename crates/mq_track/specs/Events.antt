@@ -48,12 +48,14 @@ report_event seconds name session params =
 
 -- what a line tells: only reports of the subsystem smtp-in tell something
 abbrev pub event : Meaning → Event
-event (ReportLine seconds subsystem name session params) = if bytes_eq subsystem (codes "smtp-in") then report_event seconds name session params else Nothing
+event (ReportLine seconds subsystem name session params) =
+    if bytes_eq subsystem (codes "smtp-in") then report_event seconds name session params else Nothing
 event _ = Nothing
 
 -- whether an event has to have a message id
 abbrev pub has_message : List ℕ → Bool
-has_message name = bytes_eq name (codes "tx-begin") || (bytes_eq name (codes "tx-commit") || bytes_eq name (codes "tx-rollback"))
+has_message name =
+    bytes_eq name (codes "tx-begin") || (bytes_eq name (codes "tx-commit") || bytes_eq name (codes "tx-rollback"))
 
 -- the fault in the parameters of a report
 abbrev pub report_fault : List ℕ → List ℕ → Option TrackFault
@@ -63,5 +65,6 @@ report_fault name params =
 
 -- the fault in the parameters of a line: reports of another subsystem have none
 abbrev pub unreadable : Meaning → Option TrackFault
-unreadable (ReportLine seconds subsystem name session params) = if bytes_eq subsystem (codes "smtp-in") then report_fault name params else None
+unreadable (ReportLine seconds subsystem name session params) =
+    if bytes_eq subsystem (codes "smtp-in") then report_fault name params else None
 unreadable _ = None

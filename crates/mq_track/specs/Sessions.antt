@@ -1,5 +1,6 @@
--- Login and open transaction of a session, found by looking back over the accepted lines, the newest of which comes first.
-use Rattle.std.specs.Prelude.{ℕ, ◌+◌, List, [], ◌∷◌, Bool, true, false, ◌&&◌, ◌||◌, nat_le, if◌then◌else◌, Option, None, Some}
+-- Login and open transaction of a session, found by looking back over the accepted lines. The newest comes first.
+use Rattle.std.specs.Prelude.{ℕ, ◌+◌, List, [], ◌∷◌, Bool, true, false, ◌&&◌, ◌||◌, nat_le, if◌then◌else◌}
+use Rattle.std.specs.Prelude.{Option, None, Some}
 use Rattle.std.specs.List.{list_any}
 use Rattle.std.specs.Option.{option_or, option_and_then}
 use Rattle.std.specs.Str.{bytes_eq}
@@ -43,7 +44,7 @@ abbrev pub is_named : Option (List ℕ) → List ℕ → Bool
 is_named None m = true
 is_named (Some message) m = bytes_eq message m
 
--- a link-disconnect of s, a tx-commit or tx-rollback of s with the message id m, or a tx-reset of s with m or without an id
+-- a link-disconnect of s, a tx-commit or tx-rollback of s with the message id m, or a tx-reset of s with m or no id
 abbrev pub ends : List ℕ → List ℕ → Event → Bool
 ends s m (Ended session message end) = bytes_eq session s && is_named message m
 ends s m (Left session) = bytes_eq session s
@@ -75,7 +76,8 @@ begin_count (line ∷ past) = if is_begin (event line) then begin_count past + 1
 
 -- the transaction that an event begins in s, under this number
 abbrev pub opened_by : List ℕ → ℕ → Event → Option Transaction
-opened_by s n (Began session message at) = if bytes_eq session s then Some (record { txn = n; message = message; at = at }) else None
+opened_by s n (Began session message at) =
+    if bytes_eq session s then Some (record { txn = n; message = message; at = at }) else None
 opened_by s n _ = None
 
 -- the last tx-begin of s: its number counts the tx-begins up to it
@@ -86,7 +88,8 @@ last_begin s (line ∷ past) = option_or (opened_by s (begin_count (line ∷ pas
 -- the same where none of the lines that follow it ends it
 abbrev pub open_transaction : List Meaning → List ℕ → Option Transaction
 open_transaction past s = option_and_then
-    (λ o. if list_any (λ line. ends s o.message (event line)) (since (λ line. begins s (event line)) past) then None else Some o)
+    (λ o. if list_any (λ line. ends s o.message (event line)) (since (λ line. begins s (event line)) past)
+    then None else Some o)
     (last_begin s past)
 
 -- ---- closings
@@ -106,21 +109,29 @@ end_of _ = Drop
 
 -- the closing of the transaction o of s that an event brings: a tx-begin of s brings it, and each line that ends o
 abbrev pub closing_of : List ℕ → Event → Transaction → Option Closing
-closing_of s e o = if begins s e || ends s o.message e then Some (record { txn = o.txn; end = end_of e }) else None
+closing_of s e o =
+    if begins s e || ends s o.message e then Some (record { txn = o.txn; end = end_of e }) else None
 
 -- the closing that a line brings after the past
 abbrev pub closing : List Meaning → Meaning → Option Closing
-closing past line = option_and_then (λ s. option_and_then (closing_of s (event line)) (open_transaction past s)) (session_of (event line))
+closing past line = option_and_then
+    (λ s. option_and_then (closing_of s (event line)) (open_transaction past s))
+    (session_of (event line))
 
 -- ---- faults
 
+-- the last number that a transaction may have
+abbrev pub last_number : ℕ
+last_number = 4294967295
+
 -- a tx-begin has no number left after so many of them
 abbrev pub is_exhausted : ℕ → Event → Bool
-is_exhausted count e = is_begin e && nat_le 4294967295 count
+is_exhausted count e = is_begin e && nat_le last_number count
 
 -- the first fault of a line after the past
 abbrev pub fault : List Meaning → Meaning → Option TrackFault
-fault past line = option_or (unreadable line) (if is_exhausted (begin_count past) (event line) then Some Exhausted else None)
+fault past line =
+    option_or (unreadable line) (if is_exhausted (begin_count past) (event line) then Some Exhausted else None)
 
 -- ---- standing
 

@@ -3,7 +3,8 @@ use Rattle.std.specs.Prelude.{◌≡◌, ◌<◌, ℕ, List, Option, None, unwra
 use Rattle.std.specs.Map.{lookup}
 use Rattle.std.specs.Str.{bytes_eq}
 use Rattle.mq_line.specs.Grammar.{Meaning}
-use Rattle.mq_track.specs.Sessions.{Transaction, Position, Unknown, LoggedIn, Sending, login, open_transaction, begin_count}
+use Rattle.mq_track.specs.Sessions.{Transaction, Position, Unknown, LoggedIn, Sending}
+use Rattle.mq_track.specs.Sessions.{login, open_transaction, begin_count}
 use Rattle.mq_track.specs.declared.standing.Standing.{Standing}
 use Rattle.mq_track.specs.declared.standing.Standing.TheVariants as standing
 
@@ -30,7 +31,8 @@ Learns old new s what = (q : List ℕ) → known new q ≡ (if bytes_eq s q then
 
 -- the tracker has the logins, the open transactions and the count that the past gives
 pub record StandsAt (state : State) (past : List Meaning) : Type 0 where
-  pub sessions : (s : List ℕ) → known state.sessions s ≡ record { login = login past s; transaction = open_transaction past s }
+  pub sessions : (s : List ℕ) →
+      known state.sessions s ≡ record { login = login past s; transaction = open_transaction past s }
   pub begins : state.begins ≡ begin_count past
 
 -- the same of an answer, by the bytes of its parts

@@ -34,12 +34,20 @@ Sets old new s what begins = Learns old.sessions new.sessions s what × (new.beg
 
 -- what an event changes
 abbrev pub Steps : State → State → Event → Type 0
-Steps old new (Passed s name) = Sets old new s (record { login = Some name; transaction = (known old.sessions s).transaction }) old.begins
+Steps old new (Passed s name) = Sets old new s
+    (record { login = Some name; transaction = (known old.sessions s).transaction })
+    old.begins
 Steps old new (Began s message at) = Sets old new s
-    (record { login = (known old.sessions s).login; transaction = Some (record { txn = old.begins + 1; message = message; at = at }) })
+    (record {
+      login = (known old.sessions s).login;
+      transaction = Some (record { txn = old.begins + 1; message = message; at = at });
+    })
     (old.begins + 1)
 Steps old new (Ended s message end) = Sets old new s
-    (record { login = (known old.sessions s).login; transaction = option_and_then (left_open message) (known old.sessions s).transaction })
+    (record {
+      login = (known old.sessions s).login;
+      transaction = option_and_then (left_open message) (known old.sessions s).transaction;
+    })
     old.begins
 Steps old new (Left s) = Sets old new s nothing old.begins
 Steps old new Nothing = new ≡ old

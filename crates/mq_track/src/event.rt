@@ -66,7 +66,8 @@ fn report_event<'a>(
     params: &'a [u8],
 ) -> Result<Event<'a>, TrackFault>
     ensures told { MatchResult result
-        (λ e. (report_fault name.now params.now ≡ None) × (told e ≡ report_event seconds name.now session.now params.now))
+        (λ e. (report_fault name.now params.now ≡ None)
+        × (told e ≡ report_event seconds name.now session.now params.now))
         (λ f. report_fault name.now params.now ≡ Some f) }
     ensures no_memory { IfErr result (λ f. f ≢ TrackFault.Memory) }
 {

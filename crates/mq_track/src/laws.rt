@@ -1,6 +1,7 @@
 //! What holds of sessions and transactions after any accepted lines. Each function states a law in
 //! its contract and does nothing.
-ghost use Rattle.mq_track.specs.Laws.{LoginsAreApart, TransactionsAreApart, AreNumbered, HaveOneSession, StayClosed, NoneVanishes};
+ghost use Rattle.mq_track.specs.Laws.{LoginsAreApart, TransactionsAreApart, AreNumbered, HaveOneSession};
+ghost use Rattle.mq_track.specs.Laws.{StayClosed, NoneVanishes, NoneStandsClosed, AreClosedOnce, ClosedBegan};
 
 /// Two sessions never disturb each other: a line that isn't of a session changes neither its login
 /// nor its open transaction.
@@ -24,4 +25,12 @@ pub fn closed_stays_closed()
 /// No transaction is forgotten: one that is open stays open, or the line brings its closing.
 pub fn none_vanishes()
     ensures { NoneVanishes }
+{}
+
+/// A closing is the last of its transaction: no session stands in one that was closed, so that nothing
+/// is asked for it again, and none is closed twice. What is closed has the number of a tx-begin.
+pub fn closings_are_last()
+    ensures standing { NoneStandsClosed }
+    ensures once { AreClosedOnce }
+    ensures began { ClosedBegan }
 {}

@@ -29,11 +29,12 @@ impl Model for Tracker {
 
 impl Tracker {
     ghost use Rattle.std.specs.Option.{option_copied};
-    ghost use Rattle.std.specs.Prelude.{◌≡◌, ◌<◌, ◌≤◌, List, ℕ, [], ◌∷◌, Err, Some, None, IfOk, IfErr, IfSome, OnOk, OnErr, MatchBool, MatchResult, IsTrue};
+    ghost use Rattle.std.specs.Prelude.{◌≡◌, ◌<◌, ◌≤◌, List, ℕ, [], ◌∷◌, Err, None};
+    ghost use Rattle.std.specs.Prelude.{IfSome, OnOk, OnErr, MatchBool, MatchResult, IsTrue};
     ghost use Rattle.mq_line.specs.Grammar.{Meaning, meaning};
     ghost use Rattle.mq_track.specs.Events.{event, Passed, Began, Ended, Left};
     ghost use Rattle.mq_track.specs.Told.{told};
-    ghost use Rattle.mq_track.specs.Sessions.{closing, fault, position, is_exhausted};
+    ghost use Rattle.mq_track.specs.Sessions.{closing, fault, position, is_exhausted, last_number};
     ghost use Rattle.mq_track.specs.State.{StandsAt, IsNumbered, shown};
     ghost use Rattle.mq_track.specs.Steps.{closing_in, brought, Steps, needs_memory};
 
@@ -66,7 +67,8 @@ impl Tracker {
             IfSome (fault past (meaning line.now)) (λ f. result ≡ Err f) }
         ensures accepted { (past : List Meaning) → StandsAt self.old past → fault past (meaning line.now) ≡ None →
             MatchResult result (λ c. c ≡ closing past (meaning line.now)) (λ f. f ≡ TrackFault.Memory) }
-        ensures stands { OnOk result ((past : List Meaning) → StandsAt self.old past → StandsAt self.new (meaning line.now ∷ past)) }
+        ensures stands { OnOk result ((past : List Meaning) →
+            StandsAt self.old past → StandsAt self.new (meaning line.now ∷ past)) }
         ensures memory { result ≡ Err TrackFault.Memory → IsTrue (needs_memory (event (meaning line.now))) }
         ensures unchanged { OnErr result (self.new ≡ self.old) }
     {
@@ -143,9 +145,10 @@ impl Tracker {
         message: &[u8],
         at: u64,
     ) -> Result<Option<Closing>, TrackFault>
-        ensures exhausted { 4294967295 ≤ self.old.begins → result ≡ Err TrackFault.Exhausted }
-        ensures ok { self.old.begins < 4294967295 → MatchResult result
-            (λ c. (c ≡ brought self.old (Began session.now message.now at)) × Steps self.old self.new (Began session.now message.now at))
+        ensures exhausted { last_number ≤ self.old.begins → result ≡ Err TrackFault.Exhausted }
+        ensures ok { self.old.begins < last_number → MatchResult result
+            (λ c. (c ≡ brought self.old (Began session.now message.now at))
+            × Steps self.old self.new (Began session.now message.now at))
             (λ f. f ≡ TrackFault.Memory) }
         ensures err { OnErr result (self.new ≡ self.old) }
     {
