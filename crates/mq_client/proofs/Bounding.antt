@@ -15,7 +15,7 @@ use Rattle.mq_client.proofs.Turning.{next_in_queue}
 use Rattle.mq_client.proofs.Basics.{none_some}
 
 -- an ask with an exchange isn't refused
-asked_free : (b : Bool) (n : ℕ) (q r : Request) (group : List Exchange) → next_of n (if b then [] else q ∷ []) group ≡ Some r → b ≡ false
+pub asked_free : (b : Bool) (n : ℕ) (q r : Request) (group : List Exchange) → next_of n (if b then [] else q ∷ []) group ≡ Some r → b ≡ false
 asked_free false n q r group e = refl
 asked_free true n q r group e = absurd (none_some r (next_in_queue n [] group r e).1)
 

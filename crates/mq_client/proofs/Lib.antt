@@ -13,3 +13,5 @@ pub mod WaitingOff
 pub mod Sameness
 pub mod Placing
 pub mod Ending
+pub mod Numbering
+pub mod Returning

@@ -60,7 +60,7 @@ same_lines U ls ms L M e h i =
 
 -- ---- what the lines ask for and write
 
-abbrev kind_of : Option Step → Option Action
+abbrev pub kind_of : Option Step → Option Action
 kind_of step = option_map (λ x. x.action) step
 
 -- a line makes one kind of step, and its text follows from the step
@@ -93,7 +93,7 @@ same_takes L ReadyLine s t text more h i = same_closes (closing L ReadyLine) s t
 same_takes L (ReportLine seconds subsystem event session params) s t text more h i = same_closes (closing L (ReportLine seconds subsystem event session params)) s t text more h.1 i.1 h.2 i.2
 same_takes L OtherLine s t text more h i = same_closes (closing L OtherLine) s t text more h.1 i.1 h.2 i.2
 
-actions_push : (step : Option Step) (steps : List Step) → actions (push step steps) ≡ push (kind_of step) (actions steps)
+pub actions_push : (step : Option Step) (steps : List Step) → actions (push step steps) ≡ push (kind_of step) (actions steps)
 actions_push None steps = refl
 actions_push (Some x) steps = refl
 

@@ -2,6 +2,7 @@
 -- steps, the newest comes first.
 use Rattle.std.specs.Prelude.{◌≡◌, ℕ, List, [], ◌∷◌, ◌++◌, length, codes, Bool, true, false, ◌&&◌, nat_le, if◌then◌else◌, Option, None, Some, count_by}
 use Rattle.std.specs.Str.{bytes_eq}
+use Rattle.std.specs.Option.{option_map}
 use Rattle.mq_line.specs.Grammar.{Meaning, FilterLine}
 use Rattle.mq_line.specs.Results.{result_text}
 use Rattle.mq_line.specs.declared.results.Decision.{Decision}
@@ -78,3 +79,21 @@ answer_count L = count_by is_filter L
 abbrev pub actions : List Step → List Action
 actions [] = []
 actions (x ∷ steps) = x.action ∷ actions steps
+
+-- what a request of smtpd asks the client
+abbrev pub asking_of : Query → Option Action
+asking_of (Asks txn at login) = Some (Ask txn at login)
+asking_of _ = None
+
+abbrev pub closing_of : Closing → Action
+closing_of c = Close c.txn c.end
+
+-- what a line has the client do, by the lines before it
+abbrev pub action_of : List Meaning → Meaning → Option Action
+action_of L (FilterLine seconds subsystem phase session token rest) = asking_of (query L subsystem phase session)
+action_of L line = option_map closing_of (closing L line)
+
+-- what the lines have the client do, the newest first
+abbrev pub actions_of : List Meaning → List Action
+actions_of [] = []
+actions_of (line ∷ L) = push (action_of L line) (actions_of L)

@@ -12,3 +12,4 @@ pub mod Loop
 pub mod Place
 pub mod Reading
 pub mod Turns
+pub mod Numbered

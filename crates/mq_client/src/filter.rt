@@ -260,14 +260,14 @@ fn take_lines<R: Log, W: Sink, K: Link>(
     link: &mut K,
     client: &mut Client,
 ) -> Result<(), FilterFault>
-    requires { filter.old.answers + length feed.old < 2 ^ 63 }
-    ensures ok { OnOk result (CarriesHeld feed.old feed.new filter.old filter.new (W.contents output.old) (W.contents output.new) (K.told link.old) (K.told link.new) client.old client.new) }
-    ensures left { OnOk result (IsLine feed.new) }
-    ensures count { OnOk result (filter.new.answers + length feed.new ≤ filter.old.answers + length feed.old) }
+    requires { filter.old.answers + length feed.old.rest < 2 ^ 63 }
+    ensures ok { OnOk result (CarriesHeld feed.old.rest feed.new.rest filter.old filter.new (W.contents output.old) (W.contents output.new) (K.told link.old) (K.told link.new) client.old client.new) }
+    ensures left { OnOk result (IsLine feed.new.rest) }
+    ensures count { OnOk result (filter.new.answers + length feed.new.rest ≤ filter.old.answers + length feed.old.rest) }
     ensures written { OnOk result (SinkWorks filter.old (W.has_failed output.old) → SinkWorks filter.new (W.has_failed output.new)) }
     ensures works { W.has_failed output.old ≡ false → result ≢ Err FilterFault.Write → W.has_failed output.new ≡ false }
     ensures flushed { IsFlushed (W.has_flushed output.old) → result ≢ Err FilterFault.Write → IsFlushed (W.has_flushed output.new) }
-    ensures fault { IfErr result (λ f. HaltsHeld feed.old f filter.old (W.contents output.old) (W.contents output.new) (W.has_failed output.new) (K.told link.old) (K.told link.new) client.old client.new) }
+    ensures fault { IfErr result (λ f. HaltsHeld feed.old.rest f filter.old (W.contents output.old) (W.contents output.new) (W.has_failed output.new) (K.told link.old) (K.told link.new) client.old client.new) }
 {
     'lines: loop {
         match feed.next_line() {
@@ -289,12 +289,12 @@ fn finish<R: Log, K: Link>(
     link: &mut K,
     client: &mut Client,
 ) -> Result<Ended, FilterFault>
-    requires { IsLine feed.now }
+    requires { IsLine feed.now.rest }
     ensures ok { IfOk result (λ e. (o : Origin) (bytes : List ℕ) (sink : Option (List ℕ)) →
-        SoFar o bytes feed.now filter.now sink (K.told link.old) client.old → EndsWith o bytes sink (K.told link.new) client.new e) }
+        SoFar o bytes feed.now.rest filter.now sink (K.told link.old) client.old → EndsWith o bytes sink (K.told link.new) client.new e) }
     ensures ready { OnOk result (filter.now.is_ready ≡ true) }
     ensures fault { IfErr result (λ f. (o : Origin) (bytes : List ℕ) (source sink : Option (List ℕ)) (read_failed write_failed : Bool) → IsAtEnd source →
-        SoFar o bytes feed.now filter.now sink (K.told link.old) client.old → StopsAt o bytes source sink read_failed write_failed (K.told link.new) client.new f) }
+        SoFar o bytes feed.now.rest filter.now sink (K.told link.old) client.old → StopsAt o bytes source sink read_failed write_failed (K.told link.new) client.new f) }
 {
     match feed.finish() {
         Ok(()) => {}

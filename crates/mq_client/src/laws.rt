@@ -5,7 +5,10 @@ ghost use Rattle.mq_client.specs.Exchanges.{Exchange};
 ghost use Rattle.mq_client.specs.Past.{Source, Step, drained, State, StandsAt, view, Plays, ArePlayed, IsPlayed, IsBounded};
 ghost use Rattle.mq_client.specs.Reading.{live_in, standing_in, numbers_in, waiting_in};
 ghost use Rattle.mq_client.specs.Turns.{next, ComeInTurn, IsUnderway, AreUnderway, outcomes, all_outcomes};
-ghost use Rattle.mq_client.specs.Filter.{push, actions};
+ghost use Rattle.mq_client.specs.Numbered.{id_in, txn_in, exchanges_in, request_under, IsNumbered, SettlesWhatWasLet, NoneReturns, Suits};
+ghost use Rattle.mq_client.specs.Filter.{push, Filters, actions, actions_of};
+ghost use Rattle.mq_line.specs.Grammar.{Meaning};
+ghost use Rattle.std.specs.List.{AllByRecursion};
 ghost use Rattle.mq_client.specs.Run.{Origin, EndsWith, StopsAt};
 ghost use Rattle.mq_client.specs.Place.{is_of_input};
 ghost use Rattle.mq_client.specs.declared.faults.FilterFault.{FilterFault};
@@ -14,6 +17,7 @@ ghost use Rattle.mq_client.specs.declared.link.Told.{Told};
 
 use mq_frame::laws::one_spelling;
 use mq_line::{any_cutting, one_meaning, one_splitting};
+use mq_track::laws::closed_stays_closed;
 
 /// However a client was used, also while an exchange is under way, few transactions are live or
 /// waiting, each live one has a number left for its closing, and no call makes more than 4,096
@@ -46,6 +50,33 @@ pub fn in_turn()
         actions steps ≡ actions others → all_outcomes steps ≡ all_outcomes others → steps ≡ others }
 {
     one_spelling();
+}
+
+/// Each number of a run is used for one request: two exchanges under one number are of one request,
+/// and each request that was sent, or that waits, is the one of its number.
+pub fn one_request_for_a_number()
+    ensures sent { (s : Source) (tries : ℕ) (P : List Step) → AreUnderway s tries P → AllByRecursion (λ x. IsNumbered s P x.request) (exchanges_in P) }
+    ensures waiting { (s : Source) (P : List Step) → AllByRecursion (IsNumbered s P) (view s P).waiting }
+    ensures one { (s : Source) (tries : ℕ) (P : List Step) → AreUnderway s tries P →
+        AllByRecursion (λ x. AllByRecursion (λ y. id_in x.request ≡ id_in y.request → x.request ≡ y.request) (exchanges_in P)) (exchanges_in P) }
+{}
+
+/// Each settle that was sent asks for what its close found let through.
+pub fn settles_are_of_what_was_let()
+    ensures settles { (s : Source) (tries : ℕ) (P : List Step) → AreUnderway s tries P → AllByRecursion (λ x. SettlesWhatWasLet P x.request) (exchanges_in P) }
+    // Where no closed transaction was asked for again, a transaction has reserves with its login and
+    // moment, and one closing.
+    ensures suits { (s : Source) (tries : ℕ) (P : List Step) → AreUnderway s tries P → NoneReturns s P →
+        (n txn : ℕ) (q : Request) → request_under s P n ≡ Some q → txn_in q ≡ Some txn → Suits s n txn ((view s P).standing txn) q }
+{}
+
+/// What the filter has its client do follows from the lines, and they never ask for a transaction
+/// that was closed.
+pub fn closed_is_not_asked_for()
+    ensures actions { (L : List Meaning) (steps : List Step) (text : List ℕ) → Filters L steps text → actions steps ≡ actions_of L }
+    ensures none_returns { (s : Source) (L : List Meaning) (P : List Step) → actions P ≡ actions_of L → NoneReturns s P }
+{
+    closed_stays_closed();
 }
 
 /// A run of the filter that no device and no want of memory ended follows from its whole input, from

@@ -22,6 +22,9 @@ pub use client::Client;
 pub use faults::{FilterFault, Memory};
 pub use filter::{Ended, run_filter};
 pub use held::{Asked, Held};
-pub use laws::{few_at_a_time, in_turn, one_run, readings};
+pub use laws::{
+    closed_is_not_asked_for, few_at_a_time, in_turn, one_request_for_a_number, one_run, readings,
+    settles_are_of_what_was_let,
+};
 pub use link::{Bytes, Link, LinkFault, Outcome, Told};
 pub use script::ScriptLink;

@@ -9,7 +9,7 @@ pub loop-read-init : goal.loop-read-init
 loop-read-init g c = record {
   bytes = [];
   consumed = Consumes-none _;
-  so_far = so_far_start _ _ c.args.client.now _ c.new-feed.result c.new-feed.ensures.empty refl c.new.ensures refl;
+  so_far = so_far_start _ _ c.args.client.now _ c.new-feed.result.rest c.new-feed.ensures.empty refl c.new.ensures refl;
   held = is_line_none _ c.new-feed.ensures.empty;
   written = λ ready. cc (ready);
   sink_works = λ works. works;
@@ -25,7 +25,7 @@ returns-in-Err-clause-fault g c =
     let i = c.loop-read.invariant in (
       i.bytes,
       Consumes-kept _ _ _ _ i.consumed c.in-Err.ensures.bytes,
-      stops _ i.bytes c.loop-read.feed c.loop-read.filter _ _ _ _ _ _ _ _ _ at.Read None [] [] i.so_far (Does-still _ _ _)
+      stops _ i.bytes c.loop-read.feed.rest c.loop-read.filter _ _ _ _ _ _ _ _ _ at.Read None [] [] i.so_far (Does-still _ _ _)
           (λ stage a. (i.held, inl (c.in-Err.ensures.failed)))
           (λ stage a. (refl, refl)),
     )
@@ -42,9 +42,9 @@ returns-in-Err-feed-clause-fault g c =
     let some : 1 ≤ length piece = omega (arith, long) in (
       i.bytes ++ piece,
       Consumes-trans _ _ _ _ _ i.consumed c.in-Ok.ensures.bytes.0,
-      stops _ (i.bytes ++ piece) (c.loop-read.feed ++ piece) c.loop-read.filter _ _ _ _ _ _ _ _ _ at.Memory None [] []
-          (so_far_fed _ i.bytes c.loop-read.feed (c.loop-read.feed ++ piece) piece c.loop-read.filter _ _ _ refl i.so_far) (Does-still _ _ _)
-          (λ stage a. inl (record { held = c.loop-read.feed; piece = piece; whole = refl; is_line = i.held; some = some; few = few }))
+      stops _ (i.bytes ++ piece) (c.loop-read.feed.rest ++ piece) c.loop-read.filter _ _ _ _ _ _ _ _ _ at.Memory None [] []
+          (so_far_fed _ i.bytes c.loop-read.feed.rest (c.loop-read.feed.rest ++ piece) piece c.loop-read.filter _ _ _ refl i.so_far) (Does-still _ _ _)
+          (λ stage a. inl (record { held = c.loop-read.feed.rest; piece = piece; whole = refl; is_line = i.held; some = some; few = few }))
           (λ stage a. inl (refl, refl)),
     )
 
@@ -52,10 +52,10 @@ pub returns-in-Err-take_lines-clause-fault : goal.returns-in-Err-take_lines-clau
 returns-in-Err-take_lines-clause-fault g c =
     let i = c.loop-read.invariant in
     let piece = take c.in-Ok.count c.read.new.piece in
-    let fed : c.feed-in-loop-read.new.self ≡ c.loop-read.feed ++ piece = search rules in (
+    let fed : c.feed-in-loop-read.new.self.rest ≡ c.loop-read.feed.rest ++ piece = search rules in (
       i.bytes ++ piece,
       Consumes-trans _ _ _ _ _ i.consumed c.in-Ok.ensures.bytes.0,
-      (c.in-Err-take_lines.ensures.fault _ (i.bytes ++ piece) _ _ (so_far_fed _ i.bytes c.loop-read.feed c.feed-in-loop-read.new.self piece c.loop-read.filter _ _ _ fed i.so_far)).0,
+      (c.in-Err-take_lines.ensures.fault _ (i.bytes ++ piece) _ _ (so_far_fed _ i.bytes c.loop-read.feed.rest c.feed-in-loop-read.new.self.rest piece c.loop-read.filter _ _ _ fed i.so_far)).0,
     )
 
 pub loop-read-preserved : goal.loop-read-preserved
@@ -63,7 +63,7 @@ loop-read-preserved g c =
     let i = c.loop-read.invariant in
     let n = c.in-Ok.count in
     let piece = take n c.read.new.piece in
-    let fed : c.feed-in-loop-read.new.self ≡ c.loop-read.feed ++ piece = search rules in
+    let fed : c.feed-in-loop-read.new.self.rest ≡ c.loop-read.feed.rest ++ piece = search rules in
     let fits : n ≤ length c.read.new.piece = search rules in
     let some : 0 < n = omega arith in
     let small : n ≤ 4096 = omega arith in
@@ -73,7 +73,7 @@ loop-read-preserved g c =
     record {
       bytes = i.bytes ++ piece;
       consumed = Consumes-trans _ _ _ _ _ i.consumed c.in-Ok.ensures.bytes.0;
-      so_far = c.in-Ok-take_lines.ensures.ok _ (i.bytes ++ piece) (so_far_fed _ i.bytes c.loop-read.feed c.feed-in-loop-read.new.self piece c.loop-read.filter _ _ _ fed i.so_far);
+      so_far = c.in-Ok-take_lines.ensures.ok _ (i.bytes ++ piece) (so_far_fed _ i.bytes c.loop-read.feed.rest c.feed-in-loop-read.new.self.rest piece c.loop-read.filter _ _ _ fed i.so_far);
       held = c.in-Ok-take_lines.ensures.left;
       written = c.in-Ok-take_lines.ensures.written i.written;
       sink_works = λ works. c.in-Ok-take_lines.ensures.works (i.sink_works works) (λ no. cc (no));
@@ -81,7 +81,7 @@ loop-read-preserved g c =
       source_works = λ works. c.in-Ok.ensures.failed;
       reads = omega (arith, i.reads, length-append i.bytes piece, long, some);
       most = omega (arith, i.most, length-append i.bytes piece, long, small);
-      count = omega (arith, i.count, count, before, length-append c.loop-read.feed piece, long, small);
+      count = omega (arith, i.count, count, before, length-append c.loop-read.feed.rest piece, long, small);
     }
 
 pub returns-clause-fault : goal.returns-clause-fault
@@ -90,7 +90,7 @@ returns-clause-fault g c =
     let all : 1099511627776 ≤ length i.bytes = omega (arith, i.reads) in (
       i.bytes,
       i.consumed,
-      stops _ i.bytes c.loop-read.feed c.loop-read.filter _ _ _ _ _ _ _ _ _ at.Read None [] [] i.so_far (Does-still _ _ _)
+      stops _ i.bytes c.loop-read.feed.rest c.loop-read.filter _ _ _ _ _ _ _ _ _ at.Read None [] [] i.so_far (Does-still _ _ _)
           (λ stage a. (i.held, inr all))
           (λ stage a. (refl, refl)),
     )

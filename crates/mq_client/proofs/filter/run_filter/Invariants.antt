@@ -10,14 +10,14 @@ abbrev pub invariant-loop-read : goal.invariant-loop-read
 invariant-loop-read g l = record {
   bytes : List ℕ;
   consumed : Consumes (g.S.Source.remaining l.initial.input) (g.S.Source.remaining l.input) bytes;
-  so_far : SoFar (record { sink = g.W.Sink.contents l.initial.output; told = g.K.Link.told l.initial.link; client = l.initial.client }) bytes l.feed l.filter
+  so_far : SoFar (record { sink = g.W.Sink.contents l.initial.output; told = g.K.Link.told l.initial.link; client = l.initial.client }) bytes l.feed.rest l.filter
       (g.W.Sink.contents l.output) (g.K.Link.told l.link) l.client;
-  held : IsLine l.feed;
+  held : IsLine l.feed.rest;
   written : SinkWorks l.filter (g.W.Sink.has_failed l.output);
   sink_works : g.W.Sink.has_failed l.initial.output ≡ false → g.W.Sink.has_failed l.output ≡ false;
   flushed : IsFlushed (g.W.Sink.has_flushed l.initial.output) → IsFlushed (g.W.Sink.has_flushed l.output);
   source_works : g.S.Source.has_failed l.initial.input ≡ false → g.S.Source.has_failed l.input ≡ false;
   reads : l._read ≤ length bytes;
   most : length bytes ≤ 4096 * l._read;
-  count : l.filter.answers + length l.feed ≤ 4096 * l._read;
+  count : l.filter.answers + length l.feed.rest ≤ 4096 * l._read;
 }

@@ -12,7 +12,7 @@ returns-in-Err-handle-clause-fault g c = λ o bytes source read_failed s.
 
 pub returns-in-Err-clause-fault : goal.returns-in-Err-clause-fault
 returns-in-Err-clause-fault g c = λ o bytes source read_failed s.
-    stops_within o bytes c.lines.feed c.lines.filter source _ _ read_failed _ _ _ _ _ at.TooLong None [] [] (c.lines.invariant.carries o bytes s) (Does-still _ _ _)
+    stops_within o bytes c.lines.feed.rest c.lines.filter source _ _ read_failed _ _ _ _ _ at.TooLong None [] [] (c.lines.invariant.carries o bytes s) (Does-still _ _ _)
     (λ stage a. c.in-Err.ensures.too_long.0 (ap Err c.in-Err.ensures.fault))
     (λ stage a. (refl, refl))
     (λ stage a e. absurd (cc (e)))

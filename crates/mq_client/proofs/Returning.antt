@@ -1,0 +1,201 @@
+-- What the lines have the client do: a transaction that was closed is never asked for again.
+use Rattle.std.proofs.Common.{◌≡◌, ◌≢◌, ℕ, ◌+◌, ◌==◌, ◌&&◌, Bool, false, true, List, [], ◌∷◌, ◌++◌, refl, sym, ap, ◌∙◌, subst, inl, inr, ◌⊎◌, Option, None, Some, if◌then◌else◌}
+use Rattle.std.specs.Prelude.{codes}
+use Rattle.std.specs.Option.{option_map}
+use Rattle.std.specs.Str.{bytes_eq}
+use Rattle.std.proofs.lemmas.Bool.{eqb-true}
+use Rattle.mq_line.specs.Grammar.{Meaning, ConfigLine, ReadyLine, ReportLine, FilterLine, OtherLine}
+use Rattle.mq_line.specs.declared.results.Decision.{Decision}
+use Rattle.mq_track.specs.Laws.{StayClosed}
+use Rattle.mq_track.specs.Sessions.{Transaction, login, open_transaction, closing, position_of}
+use Rattle.mq_track.specs.declared.closing.Closing.{Closing}
+use Rattle.mq_track.specs.declared.closing.CloseEnd.{CloseEnd}
+use Rattle.mq_client.specs.Exchanges.{Exchange}
+use Rattle.mq_client.specs.Past.{Source, Action, Ask, Close, Drain, Step, Standing, Never, Live, Ended, View, view, after, after_close, held_by}
+use Rattle.mq_client.specs.Filter.{Query, Passes, Refuses, Asks, is_login, is_moment, query_at, query, Answers, Closes, Takes, push, Filters, actions, asking_of, closing_of, action_of, actions_of}
+use Rattle.mq_client.specs.Numbered.{is_ended, AsksForNoEnded, NoneReturns}
+use Rattle.mq_client.specs.declared.held.Held.{Held}
+use Rattle.mq_client.proofs.Sameness.{kind_of, actions_push}
+use Rattle.mq_client.proofs.Basics.{none_some, some_is, nil_cons, cons_head, cons_tail}
+
+-- ---- the actions of lines
+
+asked_kind : (q : Query) (step : Option Step) (d : Decision) → Answers q step d → kind_of step ≡ asking_of q
+asked_kind Passes step d h = ap kind_of h.0
+asked_kind Refuses step d h = ap kind_of h.0
+asked_kind (Asks txn at name) step d (group, is, answer) = ap kind_of is
+
+closed_kind : (c : Option Closing) (step : Option Step) → Closes c step → kind_of step ≡ option_map closing_of c
+closed_kind None step h = ap kind_of h
+closed_kind (Some c) step (group, is) = ap kind_of is
+
+taken_kind : (L : List Meaning) (m : Meaning) (step : Option Step) (text : List ℕ) → Takes L m step text → kind_of step ≡ action_of L m
+taken_kind L (FilterLine seconds subsystem phase session token rest) step text (d, h, e) = asked_kind (query L subsystem phase session) step d h
+taken_kind L (ConfigLine key value) step text h = closed_kind (closing L (ConfigLine key value)) step h.1
+taken_kind L ReadyLine step text h = closed_kind (closing L ReadyLine) step h.1
+taken_kind L (ReportLine seconds subsystem name session params) step text h = closed_kind (closing L (ReportLine seconds subsystem name session params)) step h.1
+taken_kind L OtherLine step text h = closed_kind (closing L OtherLine) step h.1
+
+pub actions_are : (L : List Meaning) (steps : List Step) (text : List ℕ) → Filters L steps text → actions steps ≡ actions_of L
+actions_are [] steps text h = ap actions h.0
+actions_are (m ∷ L) steps text (s, before, written, next, h, takes, e, f) =
+    ap actions e ∙ actions_push s before ∙ ap (λ k. push k (actions before)) (taken_kind L m s next takes) ∙ ap (push (action_of L m)) (actions_are L before written h)
+
+-- ---- closings
+
+-- the transaction was closed among these actions
+abbrev IsClosedIn : ℕ → List Action → Type 0
+IsClosedIn t [] = ⊥
+IsClosedIn t (Ask txn at name ∷ acts) = IsClosedIn t acts
+IsClosedIn t (Close txn end ∷ acts) = (txn ≡ t) ⊎ IsClosedIn t acts
+IsClosedIn t (Drain ∷ acts) = IsClosedIn t acts
+
+-- a line among these closed it
+record WasClosed (L : List Meaning) (t : ℕ) : Type 0 where
+  later : List Meaning
+  line : Meaning
+  before : List Meaning
+  closed : Closing
+  whole : L ≡ later ++ line ∷ before
+  is : closing before line ≡ Some closed
+  txn_is : closed.txn ≡ t
+
+asks_no_close : (q : Query) (txn : ℕ) (end : CloseEnd) → asking_of q ≡ Some (Close txn end) → ⊥
+asks_no_close Passes txn end e = none_some (Close txn end) e
+asks_no_close Refuses txn end e = none_some (Close txn end) e
+asks_no_close (Asks u at name) txn end e = cc (e)
+
+closes_by : (o : Option Closing) (txn : ℕ) (end : CloseEnd) → option_map closing_of o ≡ Some (Close txn end) → (c : Closing) × (o ≡ Some c) × (c.txn ≡ txn)
+closes_by None txn end e = absurd (none_some (Close txn end) e)
+closes_by (Some c) txn end e = (c, refl, cc (e))
+
+closes_at : (L : List Meaning) (m : Meaning) (txn : ℕ) (end : CloseEnd) → action_of L m ≡ Some (Close txn end) → (c : Closing) × (closing L m ≡ Some c) × (c.txn ≡ txn)
+closes_at L (FilterLine seconds subsystem phase session token rest) txn end e = absurd (asks_no_close (query L subsystem phase session) txn end e)
+closes_at L (ConfigLine key value) txn end e = closes_by (closing L (ConfigLine key value)) txn end e
+closes_at L ReadyLine txn end e = closes_by (closing L ReadyLine) txn end e
+closes_at L (ReportLine seconds subsystem name session params) txn end e = closes_by (closing L (ReportLine seconds subsystem name session params)) txn end e
+closes_at L OtherLine txn end e = closes_by (closing L OtherLine) txn end e
+
+later_line : (m : Meaning) (L : List Meaning) (t : ℕ) → WasClosed L t → WasClosed (m ∷ L) t
+later_line m L t w = record { later = m ∷ w.later; line = w.line; before = w.before; closed = w.closed; whole = ap (λ l. m ∷ l) w.whole; is = w.is; txn_is = w.txn_is }
+
+closed_line : (L : List Meaning) (t : ℕ) → IsClosedIn t (actions_of L) → WasClosed L t
+closed_line [] t i = absurd i
+closed_line (m ∷ L) t i = by_action (λ j. later_line m L t (closed_line L t j)) (action_of L m) refl i
+  where
+    by_action : (IsClosedIn t (actions_of L) → WasClosed (m ∷ L) t) → (o : Option Action) → action_of L m ≡ o → IsClosedIn t (push o (actions_of L)) → WasClosed (m ∷ L) t
+    by_action earlier None e i = earlier i
+    by_action earlier (Some (Ask txn at name)) e i = earlier i
+    by_action earlier (Some Drain) e i = earlier i
+    by_action earlier (Some (Close txn end)) e (inr i) = earlier i
+    by_action earlier (Some (Close txn end)) e (inl same) =
+        let (c, is, of) = closes_at L m txn end e in
+        record { later = []; line = m; before = L; closed = c; whole = refl; is = is; txn_is = of ∙ same }
+
+-- ---- asks
+
+passes_no_ask : (txn at : ℕ) (name : List ℕ) → Passes ≡ Asks txn at name → ⊥
+passes_no_ask txn at name e = cc (e)
+
+refuses_no_ask : (txn at : ℕ) (name : List ℕ) → Refuses ≡ Asks txn at name → ⊥
+refuses_no_ask txn at name e = cc (e)
+
+asks_txn : (a b u v : ℕ) (n m : List ℕ) → Asks a u n ≡ Asks b v m → a ≡ b
+asks_txn a b u v n m e = cc (e)
+
+-- the transaction that is asked for is open
+asks_open : (b : Bool) (l : Option (List ℕ)) (o : Option Transaction) (txn at : ℕ) (name : List ℕ) → (if b then query_at (position_of l o) else Passes) ≡ Asks txn at name → (t : Transaction) × (o ≡ Some t) × (t.txn ≡ txn)
+asks_open false l o txn at name e = absurd (passes_no_ask txn at name e)
+asks_open true None o txn at name e = absurd (passes_no_ask txn at name e)
+asks_open true (Some n) None txn at name e = absurd (refuses_no_ask txn at name e)
+asks_open true (Some n) (Some t) txn at name e = by_range (is_login n && is_moment t.at) e
+  where
+    by_range : (c : Bool) → (if c then Asks t.txn t.at n else Refuses) ≡ Asks txn at name → (t' : Transaction) × (Some t ≡ Some t') × (t'.txn ≡ txn)
+    by_range true f = (t, refl, asks_txn t.txn txn t.at at n name f)
+    by_range false f = absurd (refuses_no_ask txn at name f)
+
+asking_asks : (q : Query) (txn at : ℕ) (name : List ℕ) → asking_of q ≡ Some (Ask txn at name) → q ≡ Asks txn at name
+asking_asks Passes txn at name e = absurd (none_some (Ask txn at name) e)
+asking_asks Refuses txn at name e = absurd (none_some (Ask txn at name) e)
+asking_asks (Asks u v n) txn at name e = cc (e)
+
+close_no_ask : (o : Option Closing) (txn at : ℕ) (name : List ℕ) → option_map closing_of o ≡ Some (Ask txn at name) → ⊥
+close_no_ask None txn at name e = none_some (Ask txn at name) e
+close_no_ask (Some c) txn at name e = cc (e)
+
+asked_open : (L : List Meaning) (m : Meaning) (txn at : ℕ) (name : List ℕ) → action_of L m ≡ Some (Ask txn at name) → (session : List ℕ) × (t : Transaction) × (open_transaction L session ≡ Some t) × (t.txn ≡ txn)
+asked_open L (FilterLine seconds subsystem phase session token rest) txn at name e =
+    let (t, is_open, txn_is) = asks_open (bytes_eq subsystem (codes "smtp-in") && bytes_eq phase (codes "rcpt-to")) (login L session) (open_transaction L session) txn at name (asking_asks (query L subsystem phase session) txn at name e) in
+    (session, t, is_open, txn_is)
+asked_open L (ConfigLine key value) txn at name e = absurd (close_no_ask (closing L (ConfigLine key value)) txn at name e)
+asked_open L ReadyLine txn at name e = absurd (close_no_ask (closing L ReadyLine) txn at name e)
+asked_open L (ReportLine seconds subsystem event session params) txn at name e = absurd (close_no_ask (closing L (ReportLine seconds subsystem event session params)) txn at name e)
+asked_open L OtherLine txn at name e = absurd (close_no_ask (closing L OtherLine) txn at name e)
+
+-- ---- what ended was closed
+
+abbrev EndedAreClosed : View → List Action → Type 0
+EndedAreClosed v acts = (t : ℕ) → is_ended (v.standing t) ≡ true → IsClosedIn t acts
+
+live_not_ended : (h : Held) → is_ended (Live h) ≡ true → ⊥
+live_not_ended h e = cc (e)
+
+ended_asked : (now : Held) (v : View) (txn t : ℕ) (b : Bool) (acts : List Action) → EndedAreClosed v acts → is_ended (if b then Live now else v.standing t) ≡ true → IsClosedIn t acts
+ended_asked now v txn t true acts all e = absurd (live_not_ended now e)
+ended_asked now v txn t false acts all e = all t e
+
+ended_closed : (s : Source) (txn : ℕ) (end : CloseEnd) (group : List Exchange) (v : View) (o : Option Held) (acts : List Action) → EndedAreClosed v acts → EndedAreClosed (after_close s txn end group v o) (Close txn end ∷ acts)
+ended_closed s txn end group v None acts all = λ t e. inr (all t e)
+ended_closed s txn end group v (Some h) acts all = λ t e. by_txn t (txn == t) refl e
+  where
+    by_txn : (t : ℕ) (b : Bool) → (txn == t) ≡ b → is_ended (if b then Ended end (v.numbers + 1) h else v.standing t) ≡ true → (txn ≡ t) ⊎ IsClosedIn t acts
+    by_txn t true f e = inl (eqb-true txn t f)
+    by_txn t false f e = inr (all t e)
+
+ended_step : (s : Source) (v : View) (a : Action) (group : List Exchange) (acts : List Action) → EndedAreClosed v acts → EndedAreClosed (after s v a group) (a ∷ acts)
+ended_step s v (Ask txn at name) [] acts all = all
+ended_step s v (Ask txn at name) (x ∷ group) acts all = λ t e. ended_asked _ v txn t (txn == t) acts all e
+ended_step s v (Close txn end) group acts all = ended_closed s txn end group v (held_by (v.standing txn)) acts all
+ended_step s v Drain group acts all = all
+
+never_not_ended : is_ended Never ≡ true → ⊥
+never_not_ended e = cc (e)
+
+ended_in : (s : Source) (P : List Step) → EndedAreClosed (view s P) (actions P)
+ended_in s [] = λ t e. absurd (never_not_ended e)
+ended_in s (x ∷ P) = ended_step s (view s P) x.action x.group (actions P) (ended_in s P)
+
+-- ---- the law
+
+none_ended : (S : StayClosed) (L : List Meaning) (session : List ℕ) (t : Transaction) → open_transaction L session ≡ Some t → IsClosedIn t.txn (actions_of L) → ⊥
+none_ended S L session t is_open i =
+    let w = closed_line L t.txn i in
+    S w.before w.line w.closed w.is w.later session t (ap (λ l. open_transaction l session) (sym w.whole) ∙ is_open) (sym w.txn_is)
+
+fresh_ask : (S : StayClosed) (s : Source) (L : List Meaning) (P : List Step) (session : List ℕ) (t : Transaction) → actions P ≡ actions_of L → open_transaction L session ≡ Some t → is_ended ((view s P).standing t.txn) ≡ false
+fresh_ask S s L P session t same is_open = by_standing (is_ended ((view s P).standing t.txn)) refl
+  where
+    by_standing : (b : Bool) → is_ended ((view s P).standing t.txn) ≡ b → b ≡ false
+    by_standing false e = refl
+    by_standing true e = absurd (none_ended S L session t is_open (subst (IsClosedIn t.txn) same (ended_in s P t.txn e)))
+
+asks_fresh : (S : StayClosed) (s : Source) (L : List Meaning) (m : Meaning) (P : List Step) (a : Action) → actions P ≡ actions_of L → action_of L m ≡ Some a → AsksForNoEnded (view s P) a
+asks_fresh S s L m P (Ask txn at name) same e =
+    let (session, t, is_open, is) = asked_open L m txn at name e in
+    let F : ℕ → Type 0 = λ u. is_ended ((view s P).standing u) ≡ false in
+    subst F is (fresh_ask S s L P session t same is_open)
+asks_fresh S s L m P (Close txn end) same e = tt
+asks_fresh S s L m P Drain same e = tt
+
+pub none_returns : (S : StayClosed) (s : Source) (L : List Meaning) (P : List Step) → actions P ≡ actions_of L → NoneReturns s P
+none_returns S s [] [] e = tt
+none_returns S s [] (x ∷ P) e = absurd (nil_cons x.action (actions P) (sym e))
+none_returns S s (m ∷ L) P e = by_action (none_returns S s L) P (action_of L m) refl e
+  where
+    by_action : ((Q : List Step) → actions Q ≡ actions_of L → NoneReturns s Q) → (P : List Step) (o : Option Action) → action_of L m ≡ o → actions P ≡ push o (actions_of L) → NoneReturns s P
+    by_action earlier P None f e = earlier P e
+    by_action earlier [] (Some a) f e = absurd (nil_cons a (actions_of L) e)
+    by_action earlier (x ∷ P) (Some a) f e =
+        let same = cons_tail x.action a (actions P) (actions_of L) e in
+        let is : x.action ≡ a = cons_head x.action a (actions P) (actions_of L) e in
+        (subst (AsksForNoEnded (view s P)) (sym is) (asks_fresh S s L m P a same f), earlier P same)
