@@ -1,5 +1,5 @@
 # mailquota: `make demo` shows one request and its reply, `make check` is the gate.
-# Both need the Rattle kit alone, with its command rt on the PATH.
+# Both need the Rattle kit, with its command rt on the PATH, and the gate Python 3, which rt needs too.
 
 RT = rt
 PROGRAM = crates/mailquota/out/mailquota
@@ -24,12 +24,13 @@ build:
 demo: build
 	@sh examples/demo.sh $(PROGRAM) examples/one-reserve.hex
 
+# docs/GATE.md says what it does. The last line is 'N passed, M failed'.
 check:
-	@$(RT) ci
+	@RT=$(RT) python3 tests/edits/run.py gate
 
-# The must-fail edits that the gate leaves out for its time.
+# The further must-fail edits, which the gate leaves out for its time.
 edits:
-	@RT=$(RT) sh tests/edits/run.sh
+	@RT=$(RT) python3 tests/edits/run.py further
 
 # The program over loopback, as peers, smtpd and administrators use it: Python 3 alone, about two minutes.
 program-tests:

@@ -2,9 +2,11 @@
 """Filter requests per second through `run_filter` over memory with a link that grants at once, beside filter_twin.rs (the
 same lines, sessions and numbers in plain Rust), by turns.
 
-usage: filter.py PROGRAM
-where PROGRAM is crates/filter_bench/out/filter_bench.
+usage: filter.py [PROGRAM]
+Without a program it proves and builds bench/filter_bench first, with rt on the PATH.
 """
+import shutil
+import subprocess
 import sys
 import tempfile
 from pathlib import Path
@@ -48,10 +50,25 @@ def sittings(mails, recipients, open_sessions=0):
     return ("\n".join(lines) + "\n").encode()
 
 
+def built_bench(here, folder):
+    """The program of filter_bench, built beside a copy of the crates: were it a crate of the repository, the gate would prove it."""
+    top, room = here.parent, Path(folder) / "repository"
+    shutil.copytree(top / "crates", room / "crates", ignore=shutil.ignore_patterns("incremental", "must-fail"))
+    shutil.copy(top / "HANDLES", room)
+    (room / ".git").mkdir()
+    (room / "crates.txt").write_text((top / "crates.txt").read_text() + "filter_bench: mq_client mq_line mq_track mq_frame log\n")
+    crate = room / "crates" / "filter_bench"
+    (crate / "src").mkdir(parents=True)
+    for source in (here / "filter_bench").glob("*.rattle"):
+        shutil.copy(source, crate / "src" / f"{source.stem}.rt")
+    subprocess.run(["rt", "run"], cwd=crate, stdin=subprocess.DEVNULL, stdout=subprocess.DEVNULL, check=True)
+    return str(crate / "out" / "filter_bench")
+
+
 def main():
-    program = sys.argv[1]
-    here = Path(__file__).parent
+    here = Path(__file__).resolve().parent
     with tempfile.TemporaryDirectory() as folder:
+        program = sys.argv[1] if sys.argv[1:] else built_bench(here, folder)
         twin = built(here / "filter_twin.rs", folder)
         print("median of 15 runs by turns, process start counted")
         for title, mails, recipients, idle in MIXES:

@@ -1,4 +1,4 @@
-//! The work of crates/filter_bench in plain Rust: smtpd's lines, sessions, numbered reserves, settles and releases, over
+//! The work of bench/filter_bench in plain Rust: smtpd's lines, sessions, numbered reserves, settles and releases, over
 //! a link that grants at once. It is the yardstick of bench/filter.py, and no part of mailquota.
 use std::collections::{HashMap, VecDeque};
 use std::io::{Read, Write};

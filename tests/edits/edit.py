@@ -1,0 +1,83 @@
+"""A must-fail edit: a small change of a crate's text that the prover must refuse.
+
+A file of lines 'file: PATH' and then pairs 'old: TEXT' and 'new: TEXT', as rt reads them: each old text stands once in the
+file as the pairs before left it. Lines 'function: module::Type::name' say which functions it is to spoil, where the text that
+it changes lies in none, as a constant's does. Any other line is a remark.
+"""
+import os
+import re
+
+import source
+
+
+class BadEdit(Exception):
+    """Why an edit can't be tried."""
+
+
+class Edit:
+    def __init__(self, file, folder):
+        """Reads the edit in `file` of the crate in `folder`."""
+        self.name = os.path.basename(file)
+        self.pairs, said = [], []
+        with open(file, encoding="utf-8") as lines:
+            path = old = None
+            for line in lines.read().split("\n"):
+                if line.startswith("file: "):
+                    path = line[6:].strip()
+                    if os.path.normpath(path) != path or not path.startswith(("src/", "specs/", "proofs/")):
+                        raise BadEdit("a 'file:' line names no file below src/, specs/ or proofs/")
+                elif line.startswith("old: "):
+                    old = line[5:]
+                elif line.startswith("new:"):
+                    if not path or not old:
+                        raise BadEdit("a 'new:' line stands before any 'file:' or 'old:' line")
+                    self.pairs.append((path, old, line[4:].removeprefix(" ")))
+                    old = None
+                elif line.startswith("function:"):
+                    said.append(line[9:].strip())
+        if not self.pairs:
+            raise BadEdit("it has no 'old:' and 'new:' pair")
+        self.changed = set()
+        self.apply(folder, {})
+        # what the prover must refuse
+        self.wanted = set(said) or self.changed
+        if not self.wanted:
+            raise BadEdit("what it changes lies in no function: name one by a line 'function: module::Type::name'")
+        # what stands for a change in the round
+        self.touched = self.wanted | self.changed
+
+    def apply(self, folder, texts):
+        """Returns these texts by path with the edit's changes, over the files of the crate in the folder."""
+        texts = dict(texts)
+        for path, old, new in self.pairs:
+            if path not in texts:
+                try:
+                    with open(f"{folder}/{path}", encoding="utf-8") as file:
+                        texts[path] = file.read()
+                except (OSError, UnicodeDecodeError):
+                    raise BadEdit(f"there is no file {path}") from None
+            found = texts[path].count(old)
+            if found != 1:
+                raise BadEdit(f"an 'old:' text is in {path} {found} times, and not once")
+            at = texts[path].index(old)
+            self.changed |= functions_between(path, texts[path], at, at + len(old))
+            texts[path] = texts[path].replace(old, new)
+        return texts
+
+
+def functions_between(path, text, begins, ends):
+    """Returns the names of the functions that hold the first and the last character between two places."""
+    if not path.startswith("src/"):
+        return set()
+    # (an old text may begin with the spaces before a function)
+    begins += len(text[begins:ends]) - len(text[begins:ends].lstrip())
+    return {source.function_at(path, text, it) for it in (begins, ends - 1)} - {None}
+
+
+def edits_in(place):
+    """Returns the files of a folder that are edits, and those that have no place there."""
+    if not os.path.isdir(place):
+        return [], []
+    files = sorted(os.path.relpath(f"{at}/{it}", place) for at, _, names in os.walk(place) for it in names)
+    good = [it for it in files if re.fullmatch(r"[A-Za-z0-9_-][A-Za-z0-9_.-]*\.edit", it)]
+    return good, [it for it in files if it not in good and not it.endswith(".md")]

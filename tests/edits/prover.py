@@ -1,0 +1,200 @@
+"""The one place that calls `rattle` and reads what it says.
+
+rt has no word for "a check of these functions over these texts", so this gives `rattle check` what rt itself gives it for a
+crate of crates.txt: the libraries as rlibs, and the kit's logic.
+"""
+import os
+import re
+import shutil
+import signal
+import subprocess
+import tempfile
+import threading
+from collections import namedtuple
+
+RT = os.environ.get("RT", "rt")
+KIT = os.path.dirname(os.path.dirname(os.path.realpath(shutil.which(RT) or f"/{RT}")))
+PARTS = ("src", "specs", "proofs")
+# A check takes a minute or two; one that takes so many seconds hangs.
+LONGEST = 45 * 60
+
+# How a command ended (below 0: by that signal; None: it took too long), what it printed, and its processor seconds.
+Ran = namedtuple("Ran", "status said seconds")
+
+
+class Ended(Exception):
+    """The program is to end, so it starts nothing more."""
+
+
+class Running:
+    """The commands that run, so that they end when the program does."""
+
+    pids, lock, is_over = set(), threading.Lock(), False
+
+    @classmethod
+    def end(cls):
+        with cls.lock:
+            cls.is_over = True
+            for pid in cls.pids:
+                os.killpg(pid, signal.SIGKILL)
+
+
+def run(words, folder, longest, tell=None):
+    """Runs a command in a process group of its own, for so many seconds at most, hands on its lines as they come, and returns how
+    it ended."""
+    with Running.lock:
+        if Running.is_over:
+            raise Ended
+        started = subprocess.Popen(words, cwd=folder, stdin=subprocess.DEVNULL, stdout=subprocess.PIPE, stderr=subprocess.STDOUT,
+                                   text=True, errors="replace", start_new_session=True)
+        Running.pids.add(started.pid)
+    late = threading.Event()
+
+    def stop():
+        late.set()
+        os.killpg(started.pid, signal.SIGKILL)
+
+    timer = threading.Timer(longest, stop)
+    timer.start()
+    said = []
+    with started.stdout:
+        for line in started.stdout:
+            said.append(line)
+            if tell:
+                tell(line.rstrip("\n"))
+    # (not reaped while its number is still among those that may be killed)
+    os.waitid(os.P_PID, started.pid, os.WEXITED | os.WNOWAIT)
+    timer.cancel()
+    with Running.lock:
+        Running.pids.discard(started.pid)
+    _, status, usage = os.wait4(started.pid, 0)
+    started.returncode = -os.WTERMSIG(status) if os.WIFSIGNALED(status) else os.WEXITSTATUS(status)
+    return Ran(None if late.is_set() else started.returncode, "".join(said), usage.ru_utime + usage.ru_stime)
+
+
+def rows_of(root):
+    """Returns the crates of crates.txt, each with the libraries that its line names."""
+    rows = {}
+    with open(f"{root}/crates.txt", encoding="utf-8") as lines:
+        for line in lines:
+            name, _, uses = line.partition("#")[0].partition(":")
+            if name.split():
+                rows[name.split()[0]] = [it for it in re.split(r"[\s,]+", uses) if it]
+    return rows
+
+
+def below(name, rows):
+    """Returns the repository's libraries that the crate stands on, lowest first."""
+    found = []
+    for it in rows[name]:
+        if it in rows:
+            found += [more for more in (*below(it, rows), it) if more not in found]
+    return found
+
+
+def lines_in(folder, ending):
+    files = [f"{at}/{it}" for part in PARTS for at, _, names in os.walk(f"{folder}/{part}") for it in names]
+    return sum(open(it, "rb").read().count(b"\n") for it in files if it.endswith(ending))
+
+
+class Crate:
+    """A crate of a repository whose libraries are built in crates/*/out."""
+
+    def __init__(self, root, name):
+        self.name, self.rows, self.crates = name, rows_of(root), f"{root}/crates"
+        self.folder, self.below = f"{root}/crates/{name}", below(name, self.rows)
+
+    def rlib(self, name):
+        return f"{self.crates}/{name}/out/rlib/{name}.rlib"
+
+    def words(self):
+        root = "main" if os.path.isfile(f"{self.folder}/src/main.rt") else "lib"
+        own = [it for it in self.rows[self.name] if it in self.rows]
+        words = ["--crate-name", self.name, f"src/{root}.rt", "-L", f"dependency={KIT}/rlibs"]
+        for it in ["std", *(it for it in self.rows[self.name] if it not in self.rows)]:
+            words += ["--extern", f"{it}={KIT}/rlibs/{it}.rlib"]
+        for it in own:
+            words += ["--extern", f"{it}={self.rlib(it)}"]
+        for it in self.below:
+            words += ["-L", f"dependency={os.path.dirname(self.rlib(it))}"]
+        return words + ["--antt-project", f"{KIT}/rattle/logic/antt-project.json", "--logic-built", f"{KIT}/logic_built"]
+
+    def memory(self):
+        """Returns the bytes that a check may take: for its lines, its proofs, the lines below it and the kit's libraries."""
+        of_kit = {it for name in (self.name, *self.below) for it in self.rows[name] if it not in self.rows}
+        loaded = [f"{KIT}/rlibs/{it}.rlib/toolchain/checked.a" for it in of_kit]
+        lines_below = sum(lines_in(f"{self.crates}/{it}", ".rt") for it in self.below)
+        return int(1e9 + 1e6 * lines_in(self.folder, ".rt") + 2e5 * lines_in(self.folder, ".antt") + 8e4 * lines_below
+                   + min(5 * sum(os.path.getsize(it) for it in loaded if os.path.isfile(it)), 2.5e9))
+
+    def check(self, texts, only, kept=None, holes=True):
+        """Checks these functions of a copy of the crate with these texts by path, over what `kept` holds where it is given. Under
+        `holes` a function that is refused is taken by its contract where it is called."""
+        with tempfile.TemporaryDirectory(prefix="edits-") as room:
+            for part in PARTS:
+                if os.path.isdir(f"{self.folder}/{part}"):
+                    shutil.copytree(f"{self.folder}/{part}", f"{room}/{part}")
+            for path, text in texts.items():
+                with open(f"{room}/{path}", "w", encoding="utf-8") as file:
+                    file.write(text)
+            words = [f"{KIT}/bin/rattle", "check", *self.words(), "--jobs", "1", *(["--allow-holes"] * holes)]
+            words += [word for it in only for word in ("--only", it)] + (["--incremental", kept] if kept else [])
+            return run(words, room, LONGEST)
+
+
+ERROR = re.compile(r"(?:\./)?(\S+?):\d+:\d+: error: (?:(`[^`]*`): )?(.*)")
+# What an error says of a text that can't be read, where one that is read and false says something else.
+UNREAD = re.compile(r"is not in scope|has no field|is no name|operand is missing|expected the end|cannot continue")
+# What an error in a proof file says where it names what an edit took away, or cites such a place.
+NAMES = re.compile(r"has no field|is not in scope|has no `|was not admitted")
+VERDICT = re.compile(r"(fn|impl|struct|enum|trait) (\S+): (.*)")
+
+
+class Told:
+    """What a check said: whether it came to its end, which functions it told of, which of them it refused for themselves, with
+    the line, and which of these only because a proof file names what isn't there."""
+
+    def __init__(self, ran, crate):
+        lines = ran.said.rstrip("\n").split("\n")
+        self.ended = ran.status in (0, 1) and bool(re.match(r"only=\d+ (holes|proved)=\d+\Z", lines[-1]))
+        self.unread = next((it for it in lines if self.is_unread(it)), "")
+        self.functions, self.refused, self.by_names = set(), {}, set()
+        wrong, goals = {}, 0
+        for line in lines:
+            error, verdict = ERROR.match(line), VERDICT.match(line)
+            if error and error[1].startswith("proofs/"):
+                wrong.setdefault(os.path.dirname(error[1])[len("proofs/"):], []).append(bool(NAMES.search(error[3])))
+            elif re.match(r"note: src/\S+: it is not proved", line):
+                # (such notes stand above the line of their function)
+                goals += 1
+            elif verdict:
+                name = verdict[2][len(crate) + 2:] if verdict[2].startswith(crate + "::") else verdict[2]
+                self.functions.add(name)
+                if self.is_for_itself(verdict[1], crate, name, verdict[3]):
+                    self.refused[name] = line
+                    errors = wrong.get(name.replace("::", "/"), [])
+                    if errors and all(errors) and not goals and "`search` did not prove" not in line:
+                        self.by_names.add(name)
+                goals = 0
+
+    @staticmethod
+    def is_unread(line):
+        error = ERROR.match(line)
+        return bool(error and error[1].startswith(("src/", "specs/")) and (not error[2] or UNREAD.search(error[3])))
+
+    @staticmethod
+    def is_for_itself(kind, crate, name, why):
+        """Returns whether a goal or an answer of its own was refused, and not only what it calls or stands on."""
+        if not why.startswith(("not proved", "no proof")):
+            return False
+        own = f"Rattle.{crate}.proofs.{name.replace('::', '.')}."
+        if "`search` did not prove" in why or "expected answers in" in why or own in why:
+            return True
+        return kind == "fn" and not re.search(r"it calls|it stands on", why)
+
+
+def is_part(told, function):
+    """Returns whether what the prover tells of is the function, or a closure in it."""
+    plain = told.replace("::fn::", "::").partition("+")[0]
+    ends = lambda it: it == function or it.endswith("::" + function)
+    return ends(told) or "::fn::" in told and any(ends(plain[:at.start()]) for at in re.finditer("::", plain))

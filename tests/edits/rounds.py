@@ -1,0 +1,167 @@
+"""Tries a crate's must-fail edits many at a time.
+
+A round is one check of the crate over texts in which each function is edited once at most. A refused function is taken by its
+contract where it is called, and of each function the prover says whether a goal of its own was refused, or whether it only
+calls or stands on what isn't proved. So an edit is refused where that is said of the very function that it changes.
+
+All this rests on the prover's words, so nothing else is believed of a round: an edit whose function isn't told of is tried
+alone, an unedited function that is refused is a failure, and the unedited functions must be proved over the same kept work.
+"""
+import tempfile
+from collections import namedtuple
+
+from edit import BadEdit, Edit, edits_in
+from prover import Told, is_part
+
+# What is to be said of an edit or a crate, and whether it is as it must be.
+Result = namedtuple("Result", "is_well name said")
+
+
+class Killed(Exception):
+    """A check was killed, most likely for memory."""
+
+
+def overlap(some, others):
+    """Returns whether two sets of functions share one, of which one may be named by its end alone."""
+    return any(a == b or a.endswith("::" + b) or b.endswith("::" + a) for a in some for b in others)
+
+
+class Rounds:
+    def __init__(self, crate, place):
+        """The edits of the crate that lie in the folder."""
+        self.crate, self.results, self.seconds, self.count = crate, [], 0.0, 0
+        self.edits = []
+        good, bad = edits_in(place)
+        for name in good:
+            try:
+                self.edits.append(Edit(f"{place}/{name}", crate.folder))
+            except (BadEdit, OSError, UnicodeDecodeError) as why:
+                self.say(False, name, f"BAD EDIT: {why}")
+        for name in bad:
+            self.say(False, name, "BAD EDIT: its name is of letters, digits, _, - and . and ends in .edit, right in the folder (or in "
+                     ".md, if it is only to be read)")
+        self.unread = list(self.results)
+
+    def say(self, is_well, name, said):
+        self.results.append(Result(is_well, f"{self.crate.name}/{name}", said))
+
+    def check(self, texts, only, kept, holes=True):
+        ran = self.crate.check(texts, only, kept, holes)
+        self.seconds += ran.seconds
+        if ran.status == -9:
+            raise Killed
+        return ran
+
+    def composed(self, edits):
+        texts = {}
+        for it in edits:
+            texts = it.apply(self.crate.folder, texts)
+        return texts
+
+    def planned(self):
+        """Returns the edits in rounds, in each of which they change different functions and can stand beside one another."""
+        rounds = []
+        for edit in self.edits:
+            for it in rounds:
+                if any(overlap(edit.touched, other.touched) for other in it):
+                    continue
+                try:
+                    self.composed([*it, edit])
+                except BadEdit:
+                    continue
+                it.append(edit)
+                break
+            else:
+                rounds.append([edit])
+        return rounds
+
+    def run(self):
+        """Tries all edits, and leaves what is to be said of them in results."""
+        self.results, self.bad = list(self.unread), []
+        with tempfile.TemporaryDirectory(prefix="edits-kept-") as kept:
+            for it in self.planned():
+                self.try_round(it, kept)
+            if self.is_proved(kept):
+                return
+        # what was refused over such work shows nothing
+        self.results = list(self.unread)
+        if not self.is_proved(None):
+            self.say(False, "", "the crate is not proved as it stands, so its edits show nothing")
+            return
+        for it in self.edits:
+            self.try_round([it], None)
+
+    def is_proved(self, kept):
+        """Returns whether the prover takes the functions as they stand, which were edited."""
+        only = set().union(*(it.wanted for it in self.edits if it not in self.bad))
+        return not only or self.check({}, sorted(only), kept, holes=False).status == 0
+
+    def try_round(self, edits, kept):
+        self.count += 1
+        ran = self.check(self.composed(edits), sorted(set().union(*(it.wanted for it in edits))), kept)
+        told = Told(ran, self.crate.name)
+        if told.ended and ran.status == 1 and not told.unread:
+            again = self.judge(edits, told)
+        elif len(edits) > 1:
+            left = self.sifted(edits, ran)
+            if left and left != edits:
+                self.try_round(left, kept)
+            again = left if left == edits else []
+        else:
+            self.say_unjudged(edits[0], ran, told)
+            again = []
+        for it in again:
+            self.try_round([it], kept)
+
+    def judge(self, edits, told):
+        """Says which edits were refused, and returns those to be tried alone."""
+        touched = set().union(*(it.touched for it in edits))
+        for name, line in told.refused.items():
+            if not any(is_part(name, it) or it.startswith(name + "::") for it in touched):
+                self.say(False, name, "refused, though no edit of its round changes it; if one does, name it there by a line "
+                         f"'function: {name}': {line[:200]}")
+        again = []
+        for edit in edits:
+            own = [it for it in told.refused if any(is_part(it, wanted) for wanted in edit.wanted)]
+            real = [it for it in own if it not in told.by_names]
+            if real:
+                self.say(True, edit.name, f"refused, as it must be: {told.refused[real[0]][:200]}")
+            elif len(edits) > 1:
+                again.append(edit)
+            elif own:
+                self.say(False, edit.name, "refused only because a proof file names what the edit took away, so it says nothing of the "
+                         f"contract: change a value and keep the names: {told.refused[own[0]][:200]}")
+            else:
+                self.say(False, edit.name, f"NOT REFUSED: no goal of {' or '.join(sorted(edit.wanted))} was refused")
+        return again
+
+    def sifted(self, edits, ran):
+        """Returns the edits of a round that came to no end without those of which it can be told that they can't be tried."""
+        complaints = [it for it in ran.said.split("\n") if it.startswith("rattle: error:")]
+        for edit in edits:
+            unknown = [it for it in complaints if any(f"`{name}`" in it for name in edit.wanted)]
+            if not unknown and complaints:
+                continue
+            # (a check of no function ends at once where the text compiles)
+            alone = None if unknown else self.check(self.composed([edit]), [""], None)
+            if unknown or not Told(alone, self.crate.name).ended:
+                self.spoil(edit, unknown[0] if unknown else alone.said)
+        return [it for it in edits if it not in self.bad]
+
+    def spoil(self, edit, said):
+        self.bad.append(edit)
+        first = " / ".join(it for it in said.split("\n") if "error" in it)[:400] or said[:400]
+        self.say(False, edit.name, f"BAD EDIT: it did not reach the prover: {first}")
+
+    def say_unjudged(self, edit, ran, told):
+        """Says what became of an edit that was tried alone and not refused in good order."""
+        if ran.status is None:
+            self.say(False, edit.name, "NOT REFUSED: the check took too long, and was ended")
+        elif told.unread:
+            self.say(False, edit.name, f"BAD EDIT: the prover cannot read the edited text: {told.unread[:200]}")
+        elif not told.ended and ran.status != 3:
+            self.spoil(edit, ran.said)
+        elif ran.status == 3:
+            self.say(False, edit.name, "NOT REFUSED: the prover could not tell")
+        else:
+            self.say(False, edit.name, f"NOT REFUSED: {' and '.join(sorted(edit.wanted))} stay proved")

@@ -1,0 +1,210 @@
+#!/usr/bin/env python3
+"""The gate, and the must-fail edits in rounds.
+
+usage: run.py gate [CRATE ..]        rt ci over a copy of the tree without its must-fail edits, then those edits in rounds over the
+                                     libraries that it built, and the test of the rounds. With names: these crates and those below
+       run.py must-fail [CRATE ..]   the gate's edits alone, over libraries that `rt lib` builds where they stand
+       run.py further [CRATE ..]     the same for the edits of tests/edits/CRATE, which the gate leaves out
+
+The last line is 'N passed, M failed', whatever happens, and the status 1 where anything failed.
+"""
+import collections
+import os
+import re
+import resource
+import shutil
+import signal
+import subprocess
+import sys
+import tempfile
+import traceback
+
+sys.dont_write_bytecode = True
+HERE = os.path.dirname(os.path.realpath(__file__))
+TOP = os.path.dirname(os.path.dirname(HERE))
+sys.path.insert(0, HERE)
+
+import minutes
+import own_test
+from lanes import Task, in_lanes
+from prover import RT, Crate, Running, below, lines_in, rows_of, run
+from rounds import Killed, Rounds
+
+# rt ci has the crates' proofs and tests to go through: so many seconds at most.
+LONGEST_CI = 170 * 60
+COUNTS = re.compile(r"(\d+) passed, (\d+) failed\Z")
+
+
+class Sum:
+    """What passed and failed so far, and the processor seconds by crate and kind of work."""
+
+    def __init__(self):
+        self.passed, self.failed, self.names, self.seconds = 0, 0, [], collections.Counter()
+
+    def add(self, results):
+        for it in results:
+            self.passed += it.is_well
+            if it.is_well:
+                print(f"{it.name}: {it.said}", flush=True)
+            else:
+                self.fail(it.name, it.said)
+
+    def fail(self, name, said, number=1):
+        print(f"FAILED {name}: {said}", flush=True)
+        self.failed += number
+        self.names.append(name)
+
+    def end(self):
+        """Prints the last lines, and returns the status."""
+        if self.names:
+            print(f"FAILED: {', '.join(self.names)}")
+        print(f"{self.passed} passed, {self.failed} failed", flush=True)
+        return 1 if self.failed else 0
+
+
+def files_of(tree):
+    """Returns the tree's files but for what git ignores, or in a tree without git what rt and Python made."""
+    if os.path.lexists(f"{tree}/.git"):
+        words = ["git", "-C", tree, "ls-files", "-z", "--cached", "--others", "--exclude-standard"]
+        listed = subprocess.run(words, stdout=subprocess.PIPE, check=True).stdout.decode(errors="surrogateescape").split("\0")
+    else:
+        listed = [os.path.relpath(f"{at}/{it}", tree) for at, _, names in os.walk(tree) for it in names]
+        listed = [it for it in listed if not re.match(r"crates/[^/]+/out/|(.*/)?__pycache__/", it)]
+    return sorted(it for it in {*listed} if it and os.path.lexists(f"{tree}/{it}"))
+
+
+def copy_tree(wanted, tree, edits):
+    """Copies the repository with the wanted crates, but for its must-fail edits, which go into a folder of their own."""
+    rows = rows_of(TOP)
+    for file in files_of(TOP):
+        parts = file.split("/")
+        if parts[0] == "crates" and parts[1] in rows and parts[1] not in wanted:
+            continue
+        is_edit = parts[0] == "crates" and parts[2:3] == ["must-fail"]
+        to = "/".join([edits, parts[1], *parts[3:]]) if is_edit else f"{tree}/{file}"
+        os.makedirs(os.path.dirname(to), exist_ok=True)
+        shutil.copy2(f"{TOP}/{file}", to, follow_symlinks=False)
+    with open(f"{TOP}/crates.txt", encoding="utf-8") as old, open(f"{tree}/crates.txt", "w", encoding="utf-8") as new:
+        named = lambda line: (line.partition("#")[0].partition(":")[0].split() or [None])[0]
+        new.writelines(it for it in old if named(it) is None or named(it) in wanted)
+    # (rt wants the top of a repository)
+    os.mkdir(f"{tree}/.git")
+
+
+def run_ci(tree, sum_):
+    """Runs rt ci over the tree, and adds what it counts and the time of each crate."""
+    lines = []
+
+    def tell(line):
+        # (the last line is to be ours)
+        lines.append(line)
+        print(f"rt ci: {line}" if COUNTS.match(line) else line, flush=True)
+
+    with minutes.Watch(tree) as watch:
+        ran = run([RT, "ci"], tree, LONGEST_CI, tell)
+    sum_.seconds.update(watch.by_crate())
+    counts = COUNTS.match(lines[-1]) if lines else None
+    passed, failed = map(int, counts.groups()) if counts else (0, 0)
+    sum_.passed += passed
+    if failed or ran.status != 0 or not counts:
+        sum_.fail("rt ci", f"it ended with status {ran.status} and {failed} failed", max(failed, 1))
+
+
+def try_edits(crates, place_of, sum_):
+    """Tries the edits of each crate in rounds, some crates side by side. What was killed is tried once more, alone."""
+    tasks = []
+    for crate in crates:
+        rounds = Rounds(crate, place_of(crate.name))
+        missing = [it for it in crate.below if not os.path.isdir(crate.rlib(it))]
+        if missing:
+            sum_.fail(crate.name, f"its edits were not tried, since its library {missing[0]} is not proved")
+        elif rounds.edits or rounds.results:
+            tasks.append(Task(rounds, (3 + len(rounds.edits)) * lines_in(crate.folder, ""), crate.memory(), rounds.run))
+    killed = [rounds for rounds, ended in in_lanes(tasks) if not is_done(rounds, ended.result, sum_)]
+    for rounds in killed:
+        print(f"== {rounds.crate.name}: a check was killed, most likely for memory: once more, alone", flush=True)
+        if not is_done(rounds, rounds.run, sum_):
+            sum_.fail(rounds.crate.name, "a check of its edits was killed twice, most likely for memory")
+
+
+def is_done(rounds, call, sum_):
+    """Returns whether the rounds came to their end, and adds what they found."""
+    try:
+        call()
+    except Killed:
+        return False
+    except Exception as why:
+        traceback.print_exc(file=sys.stdout)
+        sum_.fail(rounds.crate.name, f"the rounds of its edits broke off: {why!r}")
+    else:
+        print(f"== {rounds.crate.name}: {len(rounds.edits)} edits in {rounds.count} checks, {rounds.seconds:.0f} s", flush=True)
+        sum_.add(rounds.results)
+    sum_.seconds[rounds.crate.name, "edits"] += rounds.seconds
+    return True
+
+
+def gate(names, sum_):
+    rows = rows_of(TOP)
+    wanted = {*names}.union(*(below(it, rows) for it in names)) or {*rows}
+    with tempfile.TemporaryDirectory(prefix="gate-") as room:
+        tree, edits = f"{room}/tree", f"{room}/edits"
+        os.makedirs(edits)
+        copy_tree(wanted, tree, edits)
+        for it in {*os.listdir(edits)} - {*rows}:
+            sum_.fail(it, "it has must-fail edits, and is no crate of crates.txt")
+        run_ci(tree, sum_)
+        results, seconds = own_test.run()
+        sum_.add(results)
+        sum_.seconds["tests/edits", "test"] += seconds
+        try_edits([Crate(tree, it) for it in rows_of(tree)], lambda it: f"{edits}/{it}", sum_)
+    whole = resource.getrusage(resource.RUSAGE_CHILDREN)
+    print("\n".join(minutes.table(sum_.seconds, whole.ru_utime + whole.ru_stime)), flush=True)
+
+
+def alone(names, place_of, sum_):
+    """Tries edits over the libraries where they stand."""
+    rows = rows_of(TOP)
+    for it in {*names} - {*rows}:
+        sum_.fail(it, "it is no crate of crates.txt")
+    names = [it for it in names or rows if it in rows and os.path.isdir(place_of(it))]
+    for library in dict.fromkeys(it for name in names for it in below(name, rows)):
+        ran = run([RT, "lib"], f"{TOP}/crates/{library}", LONGEST_CI)
+        if ran.status:
+            print(ran.said)
+    try_edits([Crate(TOP, it) for it in names], place_of, sum_)
+
+
+def further():
+    return sorted(it for it in os.listdir(HERE) if os.path.isdir(f"{HERE}/{it}") and it != "__pycache__")
+
+
+def main(words):
+    sum_ = Sum()
+
+    def end(number, _):
+        Running.end()
+        raise Ended(f"signal {number}")
+
+    for it in (signal.SIGTERM, signal.SIGINT, signal.SIGHUP):
+        signal.signal(it, end)
+    try:
+        verb, names = (words[0], words[1:]) if words else ("", [])
+        if verb == "gate":
+            gate(names, sum_)
+        elif verb == "further":
+            alone(names or further(), lambda it: f"{HERE}/{it}", sum_)
+        elif verb == "must-fail":
+            alone(names, lambda it: f"{TOP}/crates/{it}/must-fail", sum_)
+        else:
+            print(__doc__)
+            sum_.fail("run.py", "it was called wrongly")
+    except BaseException as why:
+        traceback.print_exc(file=sys.stdout)
+        sum_.fail("run.py", f"it broke off: {why!r}")
+    finally:
+        Running.end()
+    return sum_.end()
+
+
+if __name__ == "__main__":
+    sys.exit(main(sys.argv[1:]))
