@@ -2,6 +2,7 @@
 #![tactic(auto)]
 
 mod program;
+mod subcommands;
 #[cfg(test)]
 mod tests;
 mod words;

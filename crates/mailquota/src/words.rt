@@ -3,6 +3,7 @@ ghost use Rattle.std.specs.Prelude.{◌≤◌, IfOk, IfSome};
 ghost use Rattle.mq_frame.specs.Range.{IsRun, IsWithin};
 ghost use Rattle.mq_program.specs.Arguments.{IsArguments, IsReplayArguments};
 
+use crate::subcommands::{CommandOption, SUBCOMMANDS, Subcommand, Takes, VERSION};
 use clap::error::ErrorKind;
 use clap::{Arg, ArgAction, ArgMatches, Command, Error, value_parser};
 use mq_program::{
@@ -69,147 +70,46 @@ pub fn read_arguments<'a>(alloc: Global, words: &'a [String]) -> Result<Argument
     }
 }
 
+/// What the program takes.
 fn program<'a>(alloc: Global) -> Result<Command<'a>, AllocError> {
-    Ok(
-        Command::new(alloc, "mailquota")
-            .about("Daily recipient limits for smtpd, shared by all outgoing hosts")
-            .subcommand_required(true)
-            .disable_help_subcommand(true)
-            .subcommand(replay_command(alloc)?)?
-            .subcommand(filter_command(alloc)?)?
-            .subcommand(server_command(alloc)?)?
-            .subcommand(limit_command(alloc)?)?
-            .subcommand(report_command(alloc)?)?,
-    )
+    let mut program = Command::new(alloc, "mailquota")
+        .about("Daily recipient limits for smtpd, shared by all outgoing hosts")
+        .version(VERSION)
+        .subcommand_required(true)
+        .disable_help_subcommand(true);
+    for subcommand in &SUBCOMMANDS {
+        program = program.subcommand(command_of(alloc, subcommand)?)?;
+    }
+    Ok(program)
 }
 
-/// An option that takes a value.
-fn option<'a>(alloc: Global, name: &'a str, value: &'a str, help: &'a str) -> Arg<'a> {
-    Arg::new(alloc, name)
-        .long(name)
-        .value_name(value)
-        .help(help)
+/// A subcommand as clap reads it.
+fn command_of<'a>(alloc: Global, subcommand: &Subcommand) -> Result<Command<'a>, AllocError> {
+    let mut command = Command::new(alloc, subcommand.name).about(subcommand.about);
+    for option in subcommand.options {
+        command = command.arg(argument_of(alloc, option))?;
+    }
+    Ok(command)
 }
 
-fn replay_command<'a>(alloc: Global) -> Result<Command<'a>, AllocError> {
-    let default = option(
-        alloc,
-        "default",
-        "N",
-        "Limit of a login that has none of its own",
-    )
-    .value_parser(value_parser!(u32).range(0..=1_000_000))
-    .default_value("100");
-    let east = option(alloc, "east", "M", "Minutes that a day begins before UTC's")
-        .value_parser(value_parser!(u32).range(0..=1439))
-        .default_value("0");
-    let west = option(alloc, "west", "M", "Minutes that a day begins after UTC's")
-        .value_parser(value_parser!(u32).range(0..=1439))
-        .default_value("0");
-    Ok(
-        Command::new(alloc, "replay")
-            .about("Answer frames in hexadecimal from standard input over a new ledger")
-            .arg(default)?
-            .arg(east)?
-            .arg(west)?,
-    )
-}
-
-/// The settings file that has to be named.
-fn config_option<'a>(alloc: Global) -> Arg<'a> {
-    option(alloc, "config", "FILE", "Settings").required(true)
-}
-
-fn run_option<'a>(alloc: Global) -> Arg<'a> {
-    option(
-        alloc,
-        "run",
-        "N",
-        "Number of the run; the clock's milliseconds where it isn't given",
-    )
-    .value_parser(value_parser!(u64).range(1..=281_474_976_710_655))
-}
-
-fn filter_command<'a>(alloc: Global) -> Result<Command<'a>, AllocError> {
-    Ok(
-        Command::new(alloc, "filter")
-            .about("Answer smtpd on standard input and output")
-            .arg(config_option(alloc))?
-            .arg(run_option(alloc))?,
-    )
-}
-
-fn server_command<'a>(alloc: Global) -> Result<Command<'a>, AllocError> {
-    let create = Arg::new(alloc, "create")
-        .long("create")
-        .action(ArgAction::SetTrue)
-        .help("Make a new ledger; one in memory is always new");
-    let connections = option(alloc, "connections", "N", "Connections to serve")
-        .value_parser(value_parser!(u32).range(1..=1_000_000))
-        .default_value("1000000");
-    Ok(
-        Command::new(alloc, "server")
-            .about("Serve the ledger to filters, one connection after another")
-            .arg(config_option(alloc))?
-            .arg(create)?
-            .arg(connections)?,
-    )
-}
-
-/// The server's address that has to be given.
-fn server_option<'a>(alloc: Global) -> Arg<'a> {
-    option(
-        alloc,
-        "server",
-        "ADDRESS",
-        "Numeric address and port of the quota server",
-    )
-    .required(true)
-}
-
-fn limit_command<'a>(alloc: Global) -> Result<Command<'a>, AllocError> {
-    let host = option(alloc, "host", "HOST", "Host that asks").required(true);
-    let login = option(alloc, "login", "LOGIN", "Login, as smtpd reports it").required(true);
-    let from = option(
-        alloc,
-        "from",
-        "DAY",
-        "Day number from which on the limit governs",
-    )
-    .required(true)
-    .value_parser(value_parser!(u32).range(0..=376_200));
-    let cap = option(alloc, "cap", "N", "Recipients a day")
-        .required(true)
-        .value_parser(value_parser!(u32).range(0..=1_000_000));
-    Ok(
-        Command::new(alloc, "limit")
-            .about("Set the limit of a login from a day on")
-            .arg(server_option(alloc))?
-            .arg(host)?
-            .arg(login)?
-            .arg(from)?
-            .arg(cap)?
-            .arg(run_option(alloc))?,
-    )
-}
-
-fn report_command<'a>(alloc: Global) -> Result<Command<'a>, AllocError> {
-    let day = option(alloc, "day", "DAY", "Day number, counted from 1970-01-01")
-        .required(true)
-        .value_parser(value_parser!(u32).range(0..=376_200));
-    let login = option(
-        alloc,
-        "login",
-        "LOGIN",
-        "One login, as smtpd reports it; all where it isn't given",
-    );
-    Ok(
-        Command::new(alloc, "report")
-            .about("Print what logins used on a day")
-            .arg(server_option(alloc))?
-            .arg(day)?
-            .arg(login)?,
-    )
+/// An option as clap reads it.
+fn argument_of<'a>(alloc: Global, option: &CommandOption) -> Arg<'a> {
+    let argument = Arg::new(alloc, option.name)
+        .long(option.name)
+        .help(option.help)
+        .required(option.is_required);
+    let argument = match option.takes {
+        Takes::Nothing => return argument.action(ArgAction::SetTrue),
+        Takes::Text => argument,
+        Takes::Number(least, most) => {
+            argument.value_parser(value_parser!(u64).range(least..=most))
+        }
+    };
+    let argument = argument.value_name(option.value);
+    match option.default {
+        Some(text) => argument.default_value(text),
+        None => argument,
+    }
 }
 
 /// The text of an option that has to be given.

@@ -3,6 +3,7 @@
 
 def run(world, checks):
     helps(world, checks)
+    version(world, checks)
     usage_faults(world, checks)
     bad_words_of_the_administrator(world, checks)
 
@@ -16,6 +17,11 @@ def helps(world, checks):
     with open("/dev/full", "wb") as full:
         status, _, errors = world.run("--help", output=full)
     checks.equal("--help to a full device", (status, errors), (1, "mailquota: write failed\n"))
+
+
+def version(world, checks):
+    for word in ("--version", "-V"):
+        checks.equal(f"mailquota {word}", world.run(word), (0, b"mailquota 0.1.0\n", ""))
 
 
 def usage_faults(world, checks):

@@ -45,14 +45,15 @@ fn help(rt: HostRuntime) -> Result<(), Fail> {
 Usage: mailquota <COMMAND>
 
 Commands:
-  replay  Answer frames in hexadecimal from standard input over a new ledger
-  filter  Answer smtpd on standard input and output
   server  Serve the ledger to filters, one connection after another
+  filter  Answer smtpd on standard input and output
   limit   Set the limit of a login from a day on
   report  Print what logins used on a day
+  replay  Answer frames in hexadecimal from standard input over a new ledger
 
 Options:
-  -h, --help  Print help
+  -h, --help     Print help
+  -V, --version  Print version
 ",
         ),
         (

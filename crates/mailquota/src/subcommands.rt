@@ -1,0 +1,189 @@
+//! The subcommands and their options.
+
+/// The version that `--version` tells.
+pub const VERSION: &str = "0.1.0";
+
+/// What an option takes.
+#[derive(Clone, Copy)]
+pub enum Takes {
+    Nothing,
+    Text,
+    /// A number from the first to the second.
+    Number(i64, i64),
+}
+
+/// An option of a subcommand.
+#[derive(Clone, Copy)]
+pub struct CommandOption {
+    pub name: &'static str,
+    /// How help names what it takes.
+    pub value: &'static str,
+    pub help: &'static str,
+    pub takes: Takes,
+    pub is_required: bool,
+    /// What stands for one that isn't given.
+    pub default: Option<&'static str>,
+}
+
+/// A subcommand and its options.
+#[derive(Clone, Copy)]
+pub struct Subcommand {
+    pub name: &'static str,
+    pub about: &'static str,
+    pub options: &'static [CommandOption],
+}
+
+const CONFIG: CommandOption = CommandOption {
+    name: "config",
+    value: "FILE",
+    help: "Settings",
+    takes: Takes::Text,
+    is_required: true,
+    default: None,
+};
+
+const CREATE: CommandOption = CommandOption {
+    name: "create",
+    value: "",
+    help: "Make a new ledger; one in memory is always new",
+    takes: Takes::Nothing,
+    is_required: false,
+    default: None,
+};
+
+const CONNECTIONS: CommandOption = CommandOption {
+    name: "connections",
+    value: "N",
+    help: "Connections to serve",
+    takes: Takes::Number(1, 1_000_000),
+    is_required: false,
+    default: Some("1000000"),
+};
+
+const RUN: CommandOption = CommandOption {
+    name: "run",
+    value: "N",
+    help: "Number of the run; the clock's milliseconds where it isn't given",
+    takes: Takes::Number(1, 281_474_976_710_655),
+    is_required: false,
+    default: None,
+};
+
+const SERVER: CommandOption = CommandOption {
+    name: "server",
+    value: "ADDRESS",
+    help: "Numeric address and port of the quota server",
+    takes: Takes::Text,
+    is_required: true,
+    default: None,
+};
+
+const HOST: CommandOption = CommandOption {
+    name: "host",
+    value: "HOST",
+    help: "Host that asks",
+    takes: Takes::Text,
+    is_required: true,
+    default: None,
+};
+
+const LOGIN: CommandOption = CommandOption {
+    name: "login",
+    value: "LOGIN",
+    help: "Login, as smtpd reports it",
+    takes: Takes::Text,
+    is_required: true,
+    default: None,
+};
+
+const FROM: CommandOption = CommandOption {
+    name: "from",
+    value: "DAY",
+    help: "Day number from which on the limit governs",
+    takes: Takes::Number(0, 376_200),
+    is_required: true,
+    default: None,
+};
+
+const CAP: CommandOption = CommandOption {
+    name: "cap",
+    value: "N",
+    help: "Recipients a day",
+    takes: Takes::Number(0, 1_000_000),
+    is_required: true,
+    default: None,
+};
+
+const DAY: CommandOption = CommandOption {
+    name: "day",
+    value: "DAY",
+    help: "Day number, counted from 1970-01-01",
+    takes: Takes::Number(0, 376_200),
+    is_required: true,
+    default: None,
+};
+
+const ONE_LOGIN: CommandOption = CommandOption {
+    name: "login",
+    value: "LOGIN",
+    help: "One login, as smtpd reports it; all where it isn't given",
+    takes: Takes::Text,
+    is_required: false,
+    default: None,
+};
+
+const DEFAULT: CommandOption = CommandOption {
+    name: "default",
+    value: "N",
+    help: "Limit of a login that has none of its own",
+    takes: Takes::Number(0, 1_000_000),
+    is_required: false,
+    default: Some("100"),
+};
+
+const EAST: CommandOption = CommandOption {
+    name: "east",
+    value: "M",
+    help: "Minutes that a day begins before UTC's",
+    takes: Takes::Number(0, 1439),
+    is_required: false,
+    default: Some("0"),
+};
+
+const WEST: CommandOption = CommandOption {
+    name: "west",
+    value: "M",
+    help: "Minutes that a day begins after UTC's",
+    takes: Takes::Number(0, 1439),
+    is_required: false,
+    default: Some("0"),
+};
+
+/// The subcommands, in the order in which people need them.
+pub const SUBCOMMANDS: [Subcommand; 5] = [
+    Subcommand {
+        name: "server",
+        about: "Serve the ledger to filters, one connection after another",
+        options: &[CONFIG, CREATE, CONNECTIONS],
+    },
+    Subcommand {
+        name: "filter",
+        about: "Answer smtpd on standard input and output",
+        options: &[CONFIG, RUN],
+    },
+    Subcommand {
+        name: "limit",
+        about: "Set the limit of a login from a day on",
+        options: &[SERVER, HOST, LOGIN, FROM, CAP, RUN],
+    },
+    Subcommand {
+        name: "report",
+        about: "Print what logins used on a day",
+        options: &[SERVER, DAY, ONE_LOGIN],
+    },
+    Subcommand {
+        name: "replay",
+        about: "Answer frames in hexadecimal from standard input over a new ledger",
+        options: &[DEFAULT, EAST, WEST],
+    },
+];
