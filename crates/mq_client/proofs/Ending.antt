@@ -6,7 +6,7 @@ use Rattle.mq_line.specs.Text.{IsLine, IsTooLong, Holds, text_of, lines as all_l
 use Rattle.mq_client.specs.Past.{Source, Drain, Step, drained, State, StandsAt as PastStandsAt, view, ArePlayed}
 use Rattle.mq_client.specs.Turns.{all_outcomes}
 use Rattle.mq_client.specs.Filter.{Filters, push, actions, answer_count}
-use Rattle.mq_client.specs.Run.{Stage, Waiting, Running, Reaches, HasText, Origin, StandsFirst, EndsWith, IsFound, IsInHand, StopsAt}
+use Rattle.mq_client.specs.Run.{Stage, BeforeReady, AfterReady, Reaches, HasText, Outside, StandsFirst, EndsWith, IsFound, IsInHand, StopsAt}
 use Rattle.mq_client.specs.Place.{is_of_input}
 use Rattle.mq_client.specs.declared.faults.FilterFault.{FilterFault}
 use Rattle.mq_client.specs.declared.faults.FilterFault.TheVariants as at
@@ -107,8 +107,8 @@ meets G C text text' ls ms left left' stage stage' steps steps' written written'
 
 same_done : (stage : Stage) (steps others : List Step) (text more : List ℕ) → HasText stage steps text → HasText stage others more → (actions steps ≡ actions others → steps ≡ others)
     → (steps ≡ others) × (text ≡ more)
-same_done Waiting steps others text more h i alike = (h.0 ∙ sym i.0, h.1 ∙ sym i.1)
-same_done (Running L) steps others text more (results, filters, whole) (results', filters', whole') alike =
+same_done BeforeReady steps others text more h i alike = (h.0 ∙ sym i.0, h.1 ∙ sym i.1)
+same_done (AfterReady L) steps others text more (results, filters, whole) (results', filters', whole') alike =
     let same = alike (same_actions L steps others results results' filters filters') in
     (same, whole ∙ ap (λ (t : List ℕ). registration ++ t) (same_texts L steps others results results' same filters filters') ∙ sym whole')
 
@@ -120,14 +120,14 @@ stands_from c d P e h = let F : State → Type 0 = λ x. PastStandsAt x P in sub
 
 -- two runs that stop at faults of the same input stop at the same one, and do the same where what was played
 -- follows from the actions
-stops_from : (G : Grammar) (C : Cutting) (o p : Origin) (bytes others rest more : List ℕ) (sink sink' : Option (List ℕ)) (read_failed write_failed read_failed' write_failed' : Bool) (told told' : Option (List Told)) (client client' : State) (f g : FilterFault)
-    (h : StopsAt o bytes (Some rest) sink read_failed write_failed told client f) (i : StopsAt p others (Some more) sink' read_failed' write_failed' told' client' g)
+stops_from : (G : Grammar) (C : Cutting) (o p : Outside) (bytes others rest more : List ℕ) (now last : Outside) (read_failed write_failed read_failed' write_failed' : Bool) (f g : FilterFault)
+    (h : StopsAt o bytes (Some rest) now read_failed write_failed f) (i : StopsAt p others (Some more) last read_failed' write_failed' g)
     → bytes ++ rest ≡ others ++ more → is_of_input f ≡ true → is_of_input g ≡ true
     → (f ≡ g) × (h.lines ≡ i.lines) × ((P : List Step) → PastStandsAt o.client P → p.client ≡ o.client
     → (ArePlayed o.client.source o.client.tries P (push h.step h.steps) → ArePlayed o.client.source o.client.tries P (push i.step i.steps)
     → actions (push h.step h.steps) ≡ actions (push i.step i.steps) → push h.step h.steps ≡ push i.step i.steps)
     → (push h.step h.steps ≡ push i.step i.steps) × (h.text ++ h.front ≡ i.text ++ i.front))
-stops_from G C o p bytes others rest more sink sink' read_failed write_failed read_failed' write_failed' told told' client client' f g h i e of_f of_g =
+stops_from G C o p bytes others rest more now last read_failed write_failed read_failed' write_failed' f g h i e of_f of_g =
     let (same, stages, faults) = meets G C (bytes ++ rest) (others ++ more) h.lines i.lines (h.left ++ rest) (i.left ++ more) h.stage i.stage h.steps i.steps h.text i.text (Some f) (Some g) e
     (holds_all bytes rest h.lines h.left h.whole) (holds_all others more i.lines i.left i.whole) h.reaches h.has_text i.reaches i.has_text
     (found_fate C f h.stage bytes h.left rest read_failed write_failed of_f h.found) (found_fate C g i.stage others i.left more read_failed' write_failed' of_g i.found) in
@@ -148,26 +148,26 @@ stops_from G C o p bytes others rest more sink sink' read_failed write_failed re
           (steps ∙ done ∙ sym steps', text ∙ wrote ∙ sym text'),
     )
 
-pub same_stops : OneReply → (G : Grammar) (C : Cutting) (o p : Origin) (bytes others rest more : List ℕ) (sink sink' : Option (List ℕ)) (read_failed write_failed read_failed' write_failed' : Bool) (told told' : Option (List Told)) (client client' : State) (f g : FilterFault)
-    (h : StopsAt o bytes (Some rest) sink read_failed write_failed told client f) (i : StopsAt p others (Some more) sink' read_failed' write_failed' told' client' g)
+pub same_stops : OneReply → (G : Grammar) (C : Cutting) (o p : Outside) (bytes others rest more : List ℕ) (now last : Outside) (read_failed write_failed read_failed' write_failed' : Bool) (f g : FilterFault)
+    (h : StopsAt o bytes (Some rest) now read_failed write_failed f) (i : StopsAt p others (Some more) last read_failed' write_failed' g)
     → bytes ++ rest ≡ others ++ more → is_of_input f ≡ true → is_of_input g ≡ true
     → (f ≡ g) × (h.lines ≡ i.lines) × ((P : List Step) → PastStandsAt o.client P → p.client ≡ o.client → all_outcomes (push h.step h.steps) ≡ all_outcomes (push i.step i.steps)
     → (push h.step h.steps ≡ push i.step i.steps) × (h.text ++ h.front ≡ i.text ++ i.front))
-same_stops U G C o p bytes others rest more sink sink' read_failed write_failed read_failed' write_failed' told told' client client' f g h i e of_f of_g =
-    let (fault, lines, done) = stops_from G C o p bytes others rest more sink sink' read_failed write_failed read_failed' write_failed' told told' client client' f g h i e of_f of_g in
+same_stops U G C o p bytes others rest more now last read_failed write_failed read_failed' write_failed' f g h i e of_f of_g =
+    let (fault, lines, done) = stops_from G C o p bytes others rest more now last read_failed write_failed read_failed' write_failed' f g h i e of_f of_g in
     (fault, lines, λ P st start ended. done P st start (λ m t acts. same_played U o.client.source o.client.tries P (push h.step h.steps) (push i.step i.steps) m t acts ended))
 
 -- a run to the end of the input
-end_fate : (C : Cutting) (L : List Meaning) → Fate (Running L) (all_lines []) (left_over []) None
+end_fate : (C : Cutting) (L : List Meaning) → Fate (AfterReady L) (all_lines []) (left_over []) None
 end_fate C L = let (f, g) = nothing_left C [] refl in AtEnd f (Over L refl g refl)
 
-pub no_stop_and_end : (G : Grammar) (C : Cutting) (o p : Origin) (bytes others more : List ℕ) (sink sink' : Option (List ℕ)) (read_failed write_failed : Bool) (told told' : Option (List Told)) (client client' : State) (e : Ended) (g : FilterFault)
-    → EndsWith o bytes sink told client e → StopsAt p others (Some more) sink' read_failed write_failed told' client' g → bytes ≡ others ++ more → is_of_input g ≡ false
-no_stop_and_end G C o p bytes others more sink sink' read_failed write_failed told told' client client' e g h i same = by_kind (is_of_input g) refl
+pub no_stop_and_end : (G : Grammar) (C : Cutting) (o p : Outside) (bytes others more : List ℕ) (now last : Outside) (read_failed write_failed : Bool) (e : Ended) (g : FilterFault)
+    → EndsWith o bytes now e → StopsAt p others (Some more) last read_failed write_failed g → bytes ≡ others ++ more → is_of_input g ≡ false
+no_stop_and_end G C o p bytes others more now last read_failed write_failed e g h i same = by_kind (is_of_input g) refl
   where
     clash : is_of_input g ≡ true → ⊥
     clash of_g =
-        let (ls, stages, faults) = meets G C bytes (others ++ more) h.lines i.lines [] (i.left ++ more) (Running h.after_ready) i.stage h.steps i.steps (registration ++ h.results) i.text None (Some g) same
+        let (ls, stages, faults) = meets G C bytes (others ++ more) h.lines i.lines [] (i.left ++ more) (AfterReady h.after_ready) i.stage h.steps i.steps (registration ++ h.results) i.text None (Some g) same
         h.whole (holds_all others more i.lines i.left i.whole) h.ready (h.results, h.filters, refl) i.reaches i.has_text
         (end_fate C h.after_ready) (found_fate C g i.stage others i.left more read_failed write_failed of_g i.found) in
         none_some g faults
@@ -183,13 +183,13 @@ same_ended e f a l =
     ap A a ∙ ap B l
 
 -- two runs to the end of the same input do the same, where what was played follows from the actions
-ends_from : (G : Grammar) (C : Cutting) (o p : Origin) (bytes : List ℕ) (sink sink' : Option (List ℕ)) (told told' : Option (List Told)) (client client' : State) (e f : Ended) (P : List Step)
-    (h : EndsWith o bytes sink told client e) (i : EndsWith p bytes sink' told' client' f)
+ends_from : (G : Grammar) (C : Cutting) (o p : Outside) (bytes : List ℕ) (now last : Outside) (e f : Ended) (P : List Step)
+    (h : EndsWith o bytes now e) (i : EndsWith p bytes last f)
     → PastStandsAt o.client P → p.client ≡ o.client
     → (ArePlayed o.client.source o.client.tries P (drained h.group h.steps) → ArePlayed o.client.source o.client.tries P (drained i.group i.steps)
     → actions (drained h.group h.steps) ≡ actions (drained i.group i.steps) → drained h.group h.steps ≡ drained i.group i.steps)
     → (h.steps ≡ i.steps) × (h.group ≡ i.group) × (h.results ≡ i.results) × (e ≡ f)
-ends_from G C o p bytes sink sink' told told' client client' e f P h i st start alike =
+ends_from G C o p bytes now last e f P h i st start alike =
     let none = inl (is_line_none [] refl) in
     let lines : h.lines ≡ i.lines = sym ((C.unique bytes h.lines [] h.whole none).0) ∙ (C.unique bytes i.lines [] i.whole none).0 in
     let past : h.after_ready ≡ i.after_ready = same_lines G.unique h.lines i.lines h.after_ready i.after_ready lines h.ready i.ready in
@@ -202,17 +202,17 @@ ends_from G C o p bytes sink sink' told told' client client' e f P h i st start 
     let all : mine ≡ theirs = alike (h.made.plays P st) (played_from o.client p.client P theirs start (i.made.plays P st')) acts in
     let steps : h.steps ≡ i.steps = cons_tail _ _ h.steps i.steps all in
     let group : h.group ≡ i.group = ap (λ (x : Step). x.group) (cons_head (record { action = Drain; group = h.group }) (record { action = Drain; group = i.group }) h.steps i.steps all) in
-    let source : client.source ≡ client'.source = h.made.source ∙ sym (ap (λ (c : State). c.source) start) ∙ sym i.made.source in
+    let source : now.client.source ≡ last.client.source = h.made.source ∙ sym (ap (λ (c : State). c.source) start) ∙ sym i.made.source in
     let left : e.left ≡ f.left = h.left (mine ++ P) (h.made.stands P st)
     ∙ ap (λ (s : Source). length (view s (mine ++ P)).waiting) source
-    ∙ ap (λ (l : List Step). length (view client'.source (l ++ P)).waiting) all
+    ∙ ap (λ (l : List Step). length (view last.client.source (l ++ P)).waiting) all
     ∙ sym (i.left (theirs ++ P) (i.made.stands P st')) in
     (steps, group, same_texts i.after_ready h.steps i.steps h.results i.results steps filters i.filters, same_ended e f (h.answers ∙ ap answer_count past ∙ sym i.answers) left)
 
-pub same_ends : OneReply → (G : Grammar) (C : Cutting) (o p : Origin) (bytes : List ℕ) (sink sink' : Option (List ℕ)) (told told' : Option (List Told)) (client client' : State) (e f : Ended) (P : List Step)
-    (h : EndsWith o bytes sink told client e) (i : EndsWith p bytes sink' told' client' f)
+pub same_ends : OneReply → (G : Grammar) (C : Cutting) (o p : Outside) (bytes : List ℕ) (now last : Outside) (e f : Ended) (P : List Step)
+    (h : EndsWith o bytes now e) (i : EndsWith p bytes last f)
     → PastStandsAt o.client P → p.client ≡ o.client → all_outcomes (drained h.group h.steps) ≡ all_outcomes (drained i.group i.steps)
     → (h.steps ≡ i.steps) × (h.group ≡ i.group) × (h.results ≡ i.results) × (e ≡ f)
-same_ends U G C o p bytes sink sink' told told' client client' e f P h i st start ended =
-    ends_from G C o p bytes sink sink' told told' client client' e f P h i st start
+same_ends U G C o p bytes now last e f P h i st start ended =
+    ends_from G C o p bytes now last e f P h i st start
     (λ m t acts. same_played U o.client.source o.client.tries P (drained h.group h.steps) (drained i.group i.steps) m t acts ended)

@@ -18,7 +18,7 @@ use Rattle.mq_client.specs.Link.{Tells}
 use Rattle.mq_client.specs.Exchanges.{Exchange, told_all}
 use Rattle.mq_client.specs.Past.{Source, Drain, Step, State, StandsAt as PastStandsAt, view, Plays, Makes, MakesAll, told_steps}
 use Rattle.mq_client.specs.Filter.{Takes, Closes, push, is_filter, answer_count}
-use Rattle.mq_client.specs.Run.{IsEarly, is_early, IsReady, Stage, Waiting, Running, Origin, StandsFirst, EndsWith, IsAtWork, IsFound, MayGo, IsInHand, StopsAt}
+use Rattle.mq_client.specs.Run.{IsEarly, is_early, IsReady, Stage, BeforeReady, AfterReady, Outside, around, StandsFirst, EndsWith, IsAtWork, IsFound, MayGo, IsInHand, StopsAt}
 use Rattle.mq_client.specs.Loop.{Does, MakesOne, told_one, IsAt, SoFar, Carries, IsCut, IsRefused, Replies, StopsWithin}
 use Rattle.mq_client.specs.declared.faults.FilterFault.{FilterFault}
 use Rattle.mq_client.specs.declared.faults.FilterFault.TheVariants as at
@@ -33,7 +33,7 @@ Appends-none None = tt
 Appends-none (Some xs) = sym (append-nil xs)
 
 -- nothing was done
-pub Does-nothing : {T : Type 0} (told : T → Option (List Told)) (sink : Option (List ℕ)) (old new : T) (client client' : State) → new ≡ old → client' ≡ client → Does sink sink (told old) (told new) client client' None []
+pub Does-nothing : {T : Type 0} (told : T → Option (List Told)) (sink : Option (List ℕ)) (old new : T) (client client' : State) → new ≡ old → client' ≡ client → Does (around sink (told old) client) (around sink (told new) client') None []
 Does-nothing told sink old new client client' e f = record {
   written = Appends-none sink;
   exchanged = subst (λ x. Tells (told old) (told x) []) (sym e) (Tells-none (told old));
@@ -112,18 +112,18 @@ ready_more lines line L m r h = record {
 
 -- ---- where the filter stands
 
-pub at_waiting : (f : Filter) (stage : Stage) → f.is_ready ≡ false → IsAt f stage → stage ≡ Waiting
-at_waiting f Waiting h a = refl
-at_waiting f (Running L) h a = let no : ⊥ = cc (h, a.0) in absurd no
+pub at_before : (f : Filter) (stage : Stage) → f.is_ready ≡ false → IsAt f stage → stage ≡ BeforeReady
+at_before f BeforeReady h a = refl
+at_before f (AfterReady L) h a = let no : ⊥ = cc (h, a.0) in absurd no
 
-pub at_running : (f : Filter) (stage : Stage) → f.is_ready ≡ true → IsAt f stage → (L : List Meaning) × (stage ≡ Running L) × StandsAt f.tracker L × (f.answers ≡ answer_count L)
-at_running f Waiting h a = let no : ⊥ = cc (h, a.0) in absurd no
-at_running f (Running L) h a = (L, refl, a.1, a.2)
+pub at_after : (f : Filter) (stage : Stage) → f.is_ready ≡ true → IsAt f stage → (L : List Meaning) × (stage ≡ AfterReady L) × StandsAt f.tracker L × (f.answers ≡ answer_count L)
+at_after f BeforeReady h a = let no : ⊥ = cc (h, a.0) in absurd no
+at_after f (AfterReady L) h a = (L, refl, a.1, a.2)
 
 -- a line before `config|ready` is passed over
-pub carries_early : (m : Meaning) (f : Filter) (sink : Option (List ℕ)) (told : Option (List Told)) (client : State) → f.is_ready ≡ false → is_early m ≡ true → Carries m f f sink sink told told client client
-carries_early m f sink told client h e = λ o bytes line rest one reads s.
-    let is = at_waiting f s.stage h s.is_at in
+pub carries_early : (m : Meaning) (f : Filter) (now : Outside) → f.is_ready ≡ false → is_early m ≡ true → Carries m f f now now
+carries_early m f now h e = λ o bytes line rest one reads s.
+    let is = at_before f s.stage h s.is_at in
     record {
       lines = s.lines ++ line ∷ [];
       stage = s.stage;
@@ -140,14 +140,14 @@ carries_early m f sink told client h e = λ o bytes line rest one reads s.
 
 -- `config|ready` is answered by the registration
 pub carries_ready : (m : Meaning) (f f' : Filter) (sink sink' : Option (List ℕ)) (told : Option (List Told)) (client : State) → f.is_ready ≡ false → m ≡ ReadyLine → Appends sink sink' registration
-    → f'.is_ready ≡ true → f'.tracker ≡ f.tracker → f'.answers ≡ f.answers → Carries m f f' sink sink' told told client client
+    → f'.is_ready ≡ true → f'.tracker ≡ f.tracker → f'.answers ≡ f.answers → Carries m f f' (around sink told client) (around sink' told client)
 carries_ready m f f' sink sink' told client h e app now tracker answers = λ o bytes line rest one reads s.
-    let is = at_waiting f s.stage h s.is_at in
+    let is = at_before f s.stage h s.is_at in
     let (never, tracks, none) = rw is at s.is_at in
     let (no_step, no_text) = rw is at s.has_text in
     record {
       lines = s.lines ++ line ∷ [];
-      stage = Running [];
+      stage = AfterReady [];
       steps = s.steps;
       text = s.text ++ registration;
       whole = holds_taken bytes s.lines line rest one s.whole;
@@ -160,40 +160,40 @@ carries_ready m f f' sink sink' told client h e app now tracker answers = λ o b
     }
 
 -- a line after `config|ready`
-pub carries_take : (m : Meaning) (f f' : Filter) (sink sink' : Option (List ℕ)) (told told' : Option (List Told)) (client client' : State) (step : Option Step) (text : List ℕ)
-    → f.is_ready ≡ true → Does sink sink' told told' client client' step text
+pub carries_take : (m : Meaning) (f f' : Filter) (old new : Outside) (step : Option Step) (text : List ℕ)
+    → f.is_ready ≡ true → Does old new step text
     → ((L : List Meaning) → StandsAt f.tracker L → Takes L m step text × StandsAt f'.tracker (m ∷ L))
     → f'.is_ready ≡ true → ((L : List Meaning) → f.answers ≡ answer_count L → f'.answers ≡ answer_count (m ∷ L))
-    → Carries m f f' sink sink' told told' client client'
-carries_take m f f' sink sink' told told' client client' step text h does takes now count = λ o bytes line rest one reads s.
-    let (L, is, tracks, counted) = at_running f s.stage h s.is_at in
+    → Carries m f f' old new
+carries_take m f f' old new step text h does takes now count = λ o bytes line rest one reads s.
+    let (L, is, tracks, counted) = at_after f s.stage h s.is_at in
     let (taken, tracks') = takes L tracks in
     let (results, filters, whole) = rw is at s.has_text in
     record {
       lines = s.lines ++ line ∷ [];
-      stage = Running (m ∷ L);
+      stage = AfterReady (m ∷ L);
       steps = push step s.steps;
       text = s.text ++ text;
       whole = holds_taken bytes s.lines line rest one s.whole;
       reaches = ready_more s.lines line L m (rw is at s.reaches) reads;
       is_at = (now, tracks', count L counted);
       has_text = (results ++ text, (step, s.steps, results, text, filters, taken, refl, refl), ap (λ t. t ++ text) whole ∙ append_assoc registration results text);
-      written = Appends-trans o.sink sink sink' s.text text s.written does.written;
-      exchanged = told_push o.told told told' s.steps step s.exchanged does.exchanged;
-      made = makes_push o.client client client' s.steps step s.made does.made;
+      written = Appends-trans o.sink old.sink new.sink s.text text s.written does.written;
+      exchanged = told_push o.told old.told new.told s.steps step s.exchanged does.exchanged;
+      made = makes_push o.client old.client new.client s.steps step s.made does.made;
     }
 
 -- ---- where the filter stops
 
-pub Does-still : (sink : Option (List ℕ)) (told : Option (List Told)) (client : State) → Does sink sink told told client client None []
-Does-still sink told client = record { written = Appends-none sink; exchanged = Tells-none told; made = refl }
+pub Does-still : (now : Outside) → Does now now None []
+Does-still now = record { written = Appends-none now.sink; exchanged = Tells-none now.told; made = refl }
 
-pub stops : (o : Origin) (bytes left : List ℕ) (f : Filter) (source sink sink' : Option (List ℕ)) (read_failed write_failed : Bool) (told told' : Option (List Told)) (client client' : State) (fault : FilterFault) (step : Option Step) (front rest : List ℕ)
-    → SoFar o bytes left f sink told client → Does sink sink' told told' client client' step front
+pub stops : (o : Outside) (bytes left : List ℕ) (f : Filter) (source : Option (List ℕ)) (old new : Outside) (read_failed write_failed : Bool) (fault : FilterFault) (step : Option Step) (front rest : List ℕ)
+    → SoFar o bytes left f old → Does old new step front
     → ((stage : Stage) → IsAt f stage → IsFound fault stage bytes left source read_failed write_failed)
     → ((stage : Stage) → IsAt f stage → IsInHand fault stage left step (front ++ rest))
-    → StopsAt o bytes source sink' read_failed write_failed told' client' fault
-stops o bytes left f source sink sink' read_failed write_failed told told' client client' fault step front rest s does found in_hand = record {
+    → StopsAt o bytes source new read_failed write_failed fault
+stops o bytes left f source old new read_failed write_failed fault step front rest s does found in_hand = record {
   lines = s.lines;
   left = left;
   stage = s.stage;
@@ -207,21 +207,21 @@ stops o bytes left f source sink sink' read_failed write_failed told told' clien
   front = front;
   rest = rest;
   in_hand = in_hand s.stage s.is_at;
-  written = Appends-trans o.sink sink sink' s.text front s.written does.written;
-  exchanged = told_push o.told told told' s.steps step s.exchanged does.exchanged;
-  made = makes_push o.client client client' s.steps step s.made does.made;
+  written = Appends-trans o.sink old.sink new.sink s.text front s.written does.written;
+  exchanged = told_push o.told old.told new.told s.steps step s.exchanged does.exchanged;
+  made = makes_push o.client old.client new.client s.steps step s.made does.made;
 }
 
 -- a run that stops while lines are handled
-pub stops_within : (o : Origin) (bytes left : List ℕ) (f : Filter) (source sink sink' : Option (List ℕ)) (read_failed write_failed : Bool) (told told' : Option (List Told)) (client client' : State) (fault : FilterFault) (step : Option Step) (front rest : List ℕ)
-    → SoFar o bytes left f sink told client → Does sink sink' told told' client client' step front
+pub stops_within : (o : Outside) (bytes left : List ℕ) (f : Filter) (source : Option (List ℕ)) (old new : Outside) (read_failed write_failed : Bool) (fault : FilterFault) (step : Option Step) (front rest : List ℕ)
+    → SoFar o bytes left f old → Does old new step front
     → ((stage : Stage) → IsAt f stage → IsFound fault stage bytes left source read_failed write_failed)
     → ((stage : Stage) → IsAt f stage → IsInHand fault stage left step (front ++ rest))
     → ((stage : Stage) → IsAt f stage → fault ≡ at.Memory → IsAtWork stage left)
-    → StopsWithin o bytes source sink' read_failed write_failed told' client' fault
+    → StopsWithin o bytes source new read_failed write_failed fault
 unfolding stops
-stops_within o bytes left f source sink sink' read_failed write_failed told told' client client' fault step front rest s does found in_hand work =
-    (stops o bytes left f source sink sink' read_failed write_failed told told' client client' fault step front rest s does found in_hand, λ e. work s.stage s.is_at e)
+stops_within o bytes left f source old new read_failed write_failed fault step front rest s does found in_hand work =
+    (stops o bytes left f source old new read_failed write_failed fault step front rest s does found in_hand, λ e. work s.stage s.is_at e)
 
 -- a fault that cuts a line's work short
 pub cut_found : (fault : FilterFault) (stage : Stage) (bytes left : List ℕ) (source : Option (List ℕ)) (read_failed write_failed : Bool) → IsCut fault write_failed → IsAtWork stage left → IsFound fault stage bytes left source read_failed write_failed
@@ -281,14 +281,14 @@ pub may_go : (f : Filter) (stage : Stage) (line rest : List ℕ) (seconds : ℕ)
     → MayGo stage (line ++ 10 ∷ rest) step next
 may_go f stage line rest seconds subsystem phase session token more step next h a one reads (inl quiet) = inl quiet
 may_go f stage line rest seconds subsystem phase session token more step next h a one reads (inr replies) =
-    let (L, is, tracks, counted) = at_running f stage h a in
+    let (L, is, tracks, counted) = at_after f stage h a in
     rw is (inr (line, first_of line rest one, (FilterLine seconds subsystem phase session token more, reads, replies L tracks)))
 
 -- a request is at work
 pub request_works : (f : Filter) (stage : Stage) (line rest : List ℕ) (seconds : ℕ) (subsystem phase session token more : List ℕ) → f.is_ready ≡ true → IsAt f stage → IsLine line → Reads line (FilterLine seconds subsystem phase session token more)
     → IsAtWork stage (line ++ 10 ∷ rest)
 request_works f stage line rest seconds subsystem phase session token more h a one reads =
-    let (L, is, tracks, counted) = at_running f stage h a in
+    let (L, is, tracks, counted) = at_after f stage h a in
     rw is (FilterLine seconds subsystem phase session token more, line, first_of line rest one, reads, refl, refl)
 
 track_apart : {e : TrackFault} → at.Track e ≡ at.Memory → ⊥
@@ -299,31 +299,31 @@ pub refused_stops : (fault : FilterFault) (f : Filter) (stage : Stage) (bytes li
     → ((L : List Meaning) → StandsAt f.tracker L → IsRefused fault L m)
     → IsFound fault stage bytes (line ++ 10 ∷ rest) source read_failed write_failed × IsInHand fault stage (line ++ 10 ∷ rest) None [] × (fault ≡ at.Memory → IsAtWork stage (line ++ 10 ∷ rest))
 refused_stops (at.Track e) f stage bytes line rest m source read_failed write_failed h a one reads refused =
-    let (L, is, tracks, counted) = at_running f stage h a in
+    let (L, is, tracks, counted) = at_after f stage h a in
     ((L, m, line, is, first_of line rest one, reads, refused L tracks), (refl, refl), λ e. absurd (track_apart e))
 refused_stops at.Memory f stage bytes line rest m source read_failed write_failed h a one reads refused =
-    let (L, is, tracks, counted) = at_running f stage h a in
+    let (L, is, tracks, counted) = at_after f stage h a in
     let (none, may) = refused L tracks in
     let work : IsAtWork stage (line ++ 10 ∷ rest) = rw is (m, line, first_of line rest one, reads, none, may) in
     (inr work, inl (refl, refl), λ e. work)
-refused_stops (at.Line e) f stage bytes line rest m source read_failed write_failed h a one reads refused = let (L, is, tracks, counted) = at_running f stage h a in absurd (refused L tracks)
-refused_stops at.NotReady f stage bytes line rest m source read_failed write_failed h a one reads refused = let (L, is, tracks, counted) = at_running f stage h a in absurd (refused L tracks)
-refused_stops at.EndedEarly f stage bytes line rest m source read_failed write_failed h a one reads refused = let (L, is, tracks, counted) = at_running f stage h a in absurd (refused L tracks)
-refused_stops at.CutLine f stage bytes line rest m source read_failed write_failed h a one reads refused = let (L, is, tracks, counted) = at_running f stage h a in absurd (refused L tracks)
-refused_stops at.TooLong f stage bytes line rest m source read_failed write_failed h a one reads refused = let (L, is, tracks, counted) = at_running f stage h a in absurd (refused L tracks)
-refused_stops at.Read f stage bytes line rest m source read_failed write_failed h a one reads refused = let (L, is, tracks, counted) = at_running f stage h a in absurd (refused L tracks)
-refused_stops at.Write f stage bytes line rest m source read_failed write_failed h a one reads refused = let (L, is, tracks, counted) = at_running f stage h a in absurd (refused L tracks)
+refused_stops (at.Line e) f stage bytes line rest m source read_failed write_failed h a one reads refused = let (L, is, tracks, counted) = at_after f stage h a in absurd (refused L tracks)
+refused_stops at.NotReady f stage bytes line rest m source read_failed write_failed h a one reads refused = let (L, is, tracks, counted) = at_after f stage h a in absurd (refused L tracks)
+refused_stops at.EndedEarly f stage bytes line rest m source read_failed write_failed h a one reads refused = let (L, is, tracks, counted) = at_after f stage h a in absurd (refused L tracks)
+refused_stops at.CutLine f stage bytes line rest m source read_failed write_failed h a one reads refused = let (L, is, tracks, counted) = at_after f stage h a in absurd (refused L tracks)
+refused_stops at.TooLong f stage bytes line rest m source read_failed write_failed h a one reads refused = let (L, is, tracks, counted) = at_after f stage h a in absurd (refused L tracks)
+refused_stops at.Read f stage bytes line rest m source read_failed write_failed h a one reads refused = let (L, is, tracks, counted) = at_after f stage h a in absurd (refused L tracks)
+refused_stops at.Write f stage bytes line rest m source read_failed write_failed h a one reads refused = let (L, is, tracks, counted) = at_after f stage h a in absurd (refused L tracks)
 
 -- ---- the end
 
 -- what waits is sent once more
-pub ends : (o : Origin) (bytes held : List ℕ) (f : Filter) (sink : Option (List ℕ)) (told told' : Option (List Told)) (client client' : State) (group : List Exchange) (e : Ended)
-    → SoFar o bytes held f sink told client → f.is_ready ≡ true → held ≡ []
+pub ends : (o : Outside) (bytes held : List ℕ) (f : Filter) (sink : Option (List ℕ)) (told told' : Option (List Told)) (client client' : State) (group : List Exchange) (e : Ended)
+    → SoFar o bytes held f (around sink told client) → f.is_ready ≡ true → held ≡ []
     → Tells told told' (told_all group) → Makes client client' (record { action = Drain; group = group })
     → e.answers ≡ f.answers → ((P : List Step) → PastStandsAt client' P → e.left ≡ length (view client'.source P).waiting)
-    → EndsWith o bytes sink told' client' e
+    → EndsWith o bytes (around sink told' client') e
 ends o bytes held f sink told told' client client' group e s h none tells makes answers left =
-    let (L, is, tracks, counted) = at_running f s.stage h s.is_at in
+    let (L, is, tracks, counted) = at_after f s.stage h s.is_at in
     let (results, filters, whole) = rw is at s.has_text in
     let H : List ℕ → Type 0 = λ l. Holds bytes s.lines l in
     let A : List ℕ → Type 0 = λ t. Appends o.sink sink t in
@@ -350,10 +350,10 @@ no_line = record { one = search rules; short = omega arith }
 
 -- nothing was read yet
 pub so_far_start : (sink : Option (List ℕ)) (told : Option (List Told)) (client : State) (f : Filter) (held : List ℕ) → held ≡ [] → f.is_ready ≡ false → StandsAt f.tracker [] → f.answers ≡ 0
-    → SoFar (record { sink = sink; told = told; client = client }) [] held f sink told client
+    → SoFar (around sink told client) [] held f (around sink told client)
 so_far_start sink told client f held none h tracks zero = record {
   lines = [];
-  stage = Waiting;
+  stage = BeforeReady;
   steps = [];
   text = [];
   whole = rw none (record { whole = refl; each = tt });
@@ -366,9 +366,9 @@ so_far_start sink told client f held none h tracks zero = record {
 }
 
 -- a piece came
-pub so_far_fed : (o : Origin) (bytes held held' piece : List ℕ) (f : Filter) (sink : Option (List ℕ)) (told : Option (List Told)) (client : State) → held' ≡ held ++ piece
-    → SoFar o bytes held f sink told client → SoFar o (bytes ++ piece) held' f sink told client
-so_far_fed o bytes held held' piece f sink told client e s = record {
+pub so_far_fed : (o : Outside) (bytes held held' piece : List ℕ) (f : Filter) (now : Outside) → held' ≡ held ++ piece
+    → SoFar o bytes held f now → SoFar o (bytes ++ piece) held' f now
+so_far_fed o bytes held held' piece f now e s = record {
   lines = s.lines;
   stage = s.stage;
   steps = s.steps;

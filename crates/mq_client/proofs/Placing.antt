@@ -9,7 +9,7 @@ use Rattle.mq_track.specs.Sessions.{fault as track_fault}
 use Rattle.mq_track.specs.declared.fault.TrackFault.{TrackFault}
 use Rattle.mq_client.specs.Past.{Step}
 use Rattle.mq_client.specs.Filter.{Takes, Filters}
-use Rattle.mq_client.specs.Run.{is_early, is_stamped, IsEarly, AreRead, IsReady, Stage, Waiting, Running, Reaches, HasText}
+use Rattle.mq_client.specs.Run.{is_early, is_stamped, IsEarly, AreRead, IsReady, Stage, BeforeReady, AfterReady, Reaches, HasText}
 use Rattle.mq_client.specs.declared.faults.FilterFault.{FilterFault}
 use Rattle.mq_client.specs.declared.faults.FilterFault.TheVariants as at
 use Rattle.mq_client.proofs.Sameness.{push_front, early_apart, same_after, same_read, same_lines}
@@ -25,13 +25,13 @@ pub record Grammar : Type 0 where
 -- at the line in front
 pub data Front (stage : Stage) (line : List ℕ) (o : Option FilterFault) : Type 0 where
   Unread : (f : LineFault) → fault line ≡ Some f → o ≡ Some (at.Line f) → Front stage line o
-  Untracked : (m : Meaning) (L : List Meaning) (f : TrackFault) → stage ≡ Running L → Reads line m → track_fault L m ≡ Some f → o ≡ Some (at.Track f) → Front stage line o
-  TooEarly : (m : Meaning) → stage ≡ Waiting → Reads line m → is_stamped m ≡ true → o ≡ Some at.NotReady → Front stage line o
+  Untracked : (m : Meaning) (L : List Meaning) (f : TrackFault) → stage ≡ AfterReady L → Reads line m → track_fault L m ≡ Some f → o ≡ Some (at.Track f) → Front stage line o
+  TooEarly : (m : Meaning) → stage ≡ BeforeReady → Reads line m → is_stamped m ≡ true → o ≡ Some at.NotReady → Front stage line o
 
 -- behind the last line
 pub data End (stage : Stage) (last : List ℕ) (o : Option FilterFault) : Type 0 where
-  NeverReady : stage ≡ Waiting → last ≡ [] → o ≡ Some at.EndedEarly → End stage last o
-  Over : (L : List Meaning) → stage ≡ Running L → last ≡ [] → o ≡ None → End stage last o
+  NeverReady : stage ≡ BeforeReady → last ≡ [] → o ≡ Some at.EndedEarly → End stage last o
+  Over : (L : List Meaning) → stage ≡ AfterReady L → last ≡ [] → o ≡ None → End stage last o
   InLine : last ≢ [] → IsLine last → o ≡ Some at.CutLine → End stage last o
   Long : IsTooLong last → o ≡ Some at.TooLong → End stage last o
 
@@ -39,22 +39,22 @@ pub data Fate (stage : Stage) (next : List (List ℕ)) (last : List ℕ) (o : Op
   AtLine : (line : List ℕ) (more : List (List ℕ)) → next ≡ line ∷ more → Front stage line o → Fate stage next last o
   AtEnd : next ≡ [] → End stage last o → Fate stage next last o
 
-running_is : (L M : List Meaning) → Running L ≡ Running M → L ≡ M
-running_is L M e = cc
+after_is : (L M : List Meaning) → AfterReady L ≡ AfterReady M → L ≡ M
+after_is L M e = cc
 
-waiting_running : (L : List Meaning) → Waiting ≡ Running L → ⊥
-waiting_running L e = cc
+before_after : (L : List Meaning) → BeforeReady ≡ AfterReady L → ⊥
+before_after L e = cc
 
-apart_stages : (stage : Stage) (L : List Meaning) → stage ≡ Waiting → stage ≡ Running L → ⊥
-apart_stages stage L e f = waiting_running L (sym e ∙ f)
+apart_stages : (stage : Stage) (L : List Meaning) → stage ≡ BeforeReady → stage ≡ AfterReady L → ⊥
+apart_stages stage L e f = before_after L (sym e ∙ f)
 
 read_no_fault : (G : Grammar) (line : List ℕ) (m : Meaning) (f : LineFault) → Reads line m → fault line ≡ Some f → ⊥
 read_no_fault G line m f r e = none_some f (sym (G.no_fault line m r) ∙ e)
 
-front_apart : (G : Grammar) (stage : Stage) (line : List ℕ) (L : List Meaning) (m n : Meaning) (f g : TrackFault) → stage ≡ Running L → track_fault L m ≡ Some f → Reads line m
-    → (M : List Meaning) → stage ≡ Running M → track_fault M n ≡ Some g → Reads line n → f ≡ g
+front_apart : (G : Grammar) (stage : Stage) (line : List ℕ) (L : List Meaning) (m n : Meaning) (f g : TrackFault) → stage ≡ AfterReady L → track_fault L m ≡ Some f → Reads line m
+    → (M : List Meaning) → stage ≡ AfterReady M → track_fault M n ≡ Some g → Reads line n → f ≡ g
 front_apart G stage line L m n f g s e r M s' e' r' =
-    let same_past : L ≡ M = running_is L M (sym s ∙ s') in
+    let same_past : L ≡ M = after_is L M (sym s ∙ s') in
     let same : m ≡ n = G.unique line m n r r' in
     some_is f g (sym e ∙ ap (λ l. track_fault l m) same_past ∙ ap (track_fault M) same ∙ e')
 
@@ -109,15 +109,15 @@ same_fate G stage next last a b (AtEnd e f) (AtEnd e' f') = same_end stage last 
 -- ---- a line that was passed
 
 data Passed (stage : Stage) (line : List ℕ) : Type 0 where
-  Early : (m : Meaning) → stage ≡ Waiting → Reads line m → is_stamped m ≡ false → Passed stage line
-  Taken : (L : List Meaning) (m : Meaning) → stage ≡ Running L → Reads line m → track_fault L m ≡ None → Passed stage line
+  Early : (m : Meaning) → stage ≡ BeforeReady → Reads line m → is_stamped m ≡ false → Passed stage line
+  Taken : (L : List Meaning) (m : Meaning) → stage ≡ AfterReady L → Reads line m → track_fault L m ≡ None → Passed stage line
 
 passed_on : (G : Grammar) (stage : Stage) (line : List ℕ) (o : Option FilterFault) → Front stage line o → Passed stage line → ⊥
 passed_on G stage line o (Unread f e i) (Early m s r p) = read_no_fault G line m f r e
 passed_on G stage line o (Unread f e i) (Taken L m s r p) = read_no_fault G line m f r e
 passed_on G stage line o (Untracked m L f s r e i) (Early n s' r' p) = apart_stages stage L s' s
 passed_on G stage line o (Untracked m L f s r e i) (Taken M n s' r' p) =
-    let same_past : L ≡ M = running_is L M (sym s ∙ s') in
+    let same_past : L ≡ M = after_is L M (sym s ∙ s') in
     let same : m ≡ n = G.unique line m n r r' in
     none_some f (sym p ∙ sym (ap (track_fault M) same) ∙ sym (ap (λ l. track_fault l m) same_past) ∙ e)
 passed_on G stage line o (TooEarly m s r p i) (Early n s' r' p') = true_false (sym p ∙ ap is_stamped (G.unique line m n r r') ∙ p')
@@ -146,7 +146,7 @@ all_front P [] d h = tt
 all_front P (x ∷ ls) d h = (h.0, all_front P ls d h.1)
 
 -- the line behind early ones is early, or it is the first `config|ready`
-early_or_ready : (G : Grammar) (before ls : List (List ℕ)) (r y : List ℕ) (after d : List (List ℕ)) → AllByRecursion IsEarly before → AllByRecursion IsEarly ls → Reads r ReadyLine → ls ++ y ∷ d ≡ before ++ r ∷ after → Passed Waiting y
+early_or_ready : (G : Grammar) (before ls : List (List ℕ)) (r y : List ℕ) (after d : List (List ℕ)) → AllByRecursion IsEarly before → AllByRecursion IsEarly ls → Reads r ReadyLine → ls ++ y ∷ d ≡ before ++ r ∷ after → Passed BeforeReady y
 early_or_ready G [] [] r y after d hb hl hr e =
     let F : List ℕ → Type 0 = λ l. Reads l ReadyLine in
     Early ReadyLine refl (subst F (sym (cons_head y r d after e)) hr) refl
@@ -200,12 +200,12 @@ taken_at G xs d y L (m ∷ M) steps text h (before, line, whole, reads, rest) (s
         again front (subst R (sym same) rest)
 
 passes : (G : Grammar) (ls : List (List ℕ)) (y : List ℕ) (d : List (List ℕ)) (stage stage' : Stage) (steps : List Step) (text : List ℕ) → Reaches ls stage → Reaches (ls ++ y ∷ d) stage' → HasText stage' steps text → Passed stage y
-passes G ls y d Waiting Waiting steps text h i t =
+passes G ls y d BeforeReady BeforeReady steps text h i t =
     let (m, reads, early) = all_at IsEarly ls y d i in
     Early m refl reads (early_plain m early)
-passes G ls y d Waiting (Running M) steps text h i t = early_or_ready G i.before ls i.ready y i.after d i.early h i.reads_ready i.whole
-passes G ls y d (Running L) Waiting steps text h i t = absurd (ready_not_early G ls L h (all_front IsEarly ls (y ∷ d) i))
-passes G ls y d (Running L) (Running M) steps text h i (results, filters, whole) =
+passes G ls y d BeforeReady (AfterReady M) steps text h i t = early_or_ready G i.before ls i.ready y i.after d i.early h i.reads_ready i.whole
+passes G ls y d (AfterReady L) BeforeReady steps text h i t = absurd (ready_not_early G ls L h (all_front IsEarly ls (y ∷ d) i))
+passes G ls y d (AfterReady L) (AfterReady M) steps text h i (results, filters, whole) =
     let longer = ap (λ l. l ++ y ∷ d) h.whole ∙ append_assoc h.before (h.ready ∷ h.after) (y ∷ d) in
     let after : h.after ++ y ∷ d ≡ i.after = same_after G.unique h.before i.before h.ready i.ready (h.after ++ y ∷ d) i.after h.early i.early h.reads_ready i.reads_ready (sym longer ∙ i.whole) in
     let F : List (List ℕ) → Type 0 = λ l. AreRead l M in
@@ -231,10 +231,10 @@ compare (x ∷ ls) next (y ∷ ms) next' e = one_more (cons_head x y (ls ++ next
     one_more h (Shorter z d f g) = Shorter z d (ap (λ w. w ∷ ls) h ∙ ap (λ l. y ∷ l) f) g
 
 same_stage : (G : Grammar) (ls : List (List ℕ)) (stage stage' : Stage) → Reaches ls stage → Reaches ls stage' → stage ≡ stage'
-same_stage G ls Waiting Waiting h i = refl
-same_stage G ls Waiting (Running M) h i = absurd (ready_not_early G ls M i h)
-same_stage G ls (Running L) Waiting h i = absurd (ready_not_early G ls L h i)
-same_stage G ls (Running L) (Running M) h i = ap Running (same_lines G.unique ls ls L M refl h i)
+same_stage G ls BeforeReady BeforeReady h i = refl
+same_stage G ls BeforeReady (AfterReady M) h i = absurd (ready_not_early G ls M i h)
+same_stage G ls (AfterReady L) BeforeReady h i = absurd (ready_not_early G ls L h i)
+same_stage G ls (AfterReady L) (AfterReady M) h i = ap AfterReady (same_lines G.unique ls ls L M refl h i)
 
 -- no run ends at a line that another one passed
 not_passed : (G : Grammar) (ls ms next more : List (List ℕ)) (y : List ℕ) (d : List (List ℕ)) (last : List ℕ) (stage stage' : Stage) (steps : List Step) (text : List ℕ) (o : Option FilterFault)

@@ -1,11 +1,13 @@
 -- The exchanges of one request: what each brought, and which reply decides.
-use Rattle.std.specs.Prelude.{◌≡◌, ℕ, ◌<◌, List, [], ◌∷◌, ◌++◌, length, Bool, true, false, Option, None, Some, is_some, if◌then◌else◌, ◌+◌}
+use Rattle.std.specs.Prelude.{◌≡◌, ℕ, ◌<◌, List, [], ◌∷◌, ◌++◌, length, Bool, true, false, Option, None, Some, is_some}
+use Rattle.std.specs.Prelude.{if◌then◌else◌, ◌+◌}
 use Rattle.mq_frame.specs.Same.{same_id}
 use Rattle.mq_frame.specs.declared.message.Id.{Id}
 use Rattle.mq_frame.specs.declared.message.Request.{Request}
 use Rattle.mq_frame.specs.declared.message.Request.TheVariants.{Reserve, Settle, Release}
 use Rattle.mq_frame.specs.declared.message.Reply.{Reply}
-use Rattle.mq_frame.specs.declared.message.Reply.TheVariants.{Granted, Full, Settled, Released, Closed, Mismatch, TooMany, Conflict}
+use Rattle.mq_frame.specs.declared.message.Reply.TheVariants.{Granted, Full, Settled, Released, Closed, Mismatch}
+use Rattle.mq_frame.specs.declared.message.Reply.TheVariants.{TooMany, Conflict}
 use Rattle.mq_frame.specs.Spelling.{SpellsReply, request_body, frame}
 use Rattle.mq_client.specs.declared.link.Outcome.{Outcome}
 use Rattle.mq_client.specs.declared.link.Outcome.TheVariants.{Answered, Faulted}
@@ -69,7 +71,8 @@ AreFailed request (x ∷ group) = IsTry request x None × AreFailed request grou
 abbrev pub AreTries : ℕ → Request → List Exchange → Option Reply → Type 0
 AreTries n request group None = AreFailed request group × (length group ≡ n)
 AreTries n request [] (Some reply) = ⊥
-AreTries n request (x ∷ group) (Some reply) = IsTry request x (Some reply) × AreFailed request group × (length group < n)
+AreTries n request (x ∷ group) (Some reply) = IsTry request x (Some reply) × AreFailed request group
+    × (length group < n)
 
 -- how many of the exchanges decide
 abbrev pub decisions : List Exchange → ℕ
@@ -81,7 +84,8 @@ decisions (x ∷ group) = if is_some (x.decided) then decisions group + 1 else d
 pub data SendsSome (n : ℕ) (queue : List Request) : List Exchange → List Request → Type 0 where
   NoneYet : SendsSome n queue [] queue
   OneMore : (request : Request) (left : List Request) (group tries : List Exchange) (reply : Reply)
-      → SendsSome n queue group (request ∷ left) → AreTries n request tries (Some reply) → SendsSome n queue (tries ++ group) left
+      → SendsSome n queue group (request ∷ left) → AreTries n request tries (Some reply)
+      → SendsSome n queue (tries ++ group) left
 
 -- no reply decides the request: all its tries fail
 abbrev pub IsUndecided : ℕ → Request → List Exchange → Type 0
@@ -91,7 +95,8 @@ IsUndecided n request tries = AreTries n request tries None
 pub data Sends (n : ℕ) (queue : List Request) : List Exchange → List Request → Type 0 where
   SendsAll : (group : List Exchange) → SendsSome n queue group [] → Sends n queue group []
   StopsAt : (request : Request) (left : List Request) (group tries : List Exchange)
-      → SendsSome n queue group (request ∷ left) → IsUndecided n request tries → Sends n queue (tries ++ group) (request ∷ left)
+      → SendsSome n queue group (request ∷ left) → IsUndecided n request tries
+      → Sends n queue (tries ++ group) (request ∷ left)
 
 -- the exchanges of a request that one call sent: whether a reply decided it
 abbrev pub IsSent : ℕ → Request → List Exchange → Bool → Type 0

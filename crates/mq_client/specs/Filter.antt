@@ -1,6 +1,7 @@
 -- What the filter asks for and writes, by the lines that it reads. Of the lines after `config|ready`, and of
 -- steps, the newest comes first.
-use Rattle.std.specs.Prelude.{◌≡◌, ℕ, List, [], ◌∷◌, ◌++◌, length, codes, Bool, true, false, ◌&&◌, nat_le, if◌then◌else◌, Option, None, Some, count_by}
+use Rattle.std.specs.Prelude.{◌≡◌, ℕ, List, [], ◌∷◌, ◌++◌, length, codes, Bool, true, false, ◌&&◌, nat_le}
+use Rattle.std.specs.Prelude.{if◌then◌else◌, Option, None, Some, count_by}
 use Rattle.std.specs.Str.{bytes_eq}
 use Rattle.std.specs.Option.{option_map}
 use Rattle.mq_line.specs.Grammar.{Meaning, FilterLine}
@@ -34,7 +35,8 @@ query_at (Sending name txn at) = if is_login name && is_moment at then Asks txn 
 
 -- only recipients of the subsystem smtp-in ask
 abbrev pub query : List Meaning → (subsystem phase session : List ℕ) → Query
-query L subsystem phase session = if bytes_eq subsystem (codes "smtp-in") && bytes_eq phase (codes "rcpt-to") then query_at (position L session) else Passes
+query L subsystem phase session = if bytes_eq subsystem (codes "smtp-in") && bytes_eq phase (codes "rcpt-to")
+    then query_at (position L session) else Passes
 
 abbrev pub decision_of : Asked → Decision
 decision_of asked.Granted = Proceed
@@ -45,16 +47,19 @@ decision_of asked.Unavailable = RejectService
 abbrev pub Answers : Query → Option Step → Decision → Type 0
 Answers Passes step d = (step ≡ None) × (d ≡ Proceed)
 Answers Refuses step d = (step ≡ None) × (d ≡ RejectService)
-Answers (Asks txn at login) step d = (group : List Exchange) × (step ≡ Some (record { action = Ask txn at login; group = group })) × (d ≡ decision_of (answer_of group))
+Answers (Asks txn at login) step d = (group : List Exchange)
+    × (step ≡ Some (record { action = Ask txn at login; group = group })) × (d ≡ decision_of (answer_of group))
 
 -- the step that a closing makes
 abbrev pub Closes : Option Closing → Option Step → Type 0
 Closes None step = step ≡ None
 Closes (Some c) step = (group : List Exchange) × (step ≡ Some (record { action = Close c.txn c.end; group = group }))
 
--- the step that a line makes, by the lines before it, and what is written for it: one that the tracker refuses makes none
+-- the step that a line makes, by the lines before it, and what is written for it: one that the tracker refuses makes
+-- none
 abbrev pub Takes : List Meaning → Meaning → Option Step → List ℕ → Type 0
-Takes L (FilterLine seconds subsystem phase session token rest) step text = (d : Decision) × Answers (query L subsystem phase session) step d × (text ≡ result_text session token d)
+Takes L (FilterLine seconds subsystem phase session token rest) step text = (d : Decision)
+    × Answers (query L subsystem phase session) step d × (text ≡ result_text session token d)
 Takes L line step text = (fault L line ≡ None) × Closes (closing L line) step × (text ≡ [])
 
 abbrev pub push : {A : Type 0} → Option A → List A → List A

@@ -13,7 +13,8 @@ use Rattle.mq_client.specs.Link.{Tells}
 use Rattle.mq_client.specs.Exchanges.{told_all}
 use Rattle.mq_client.specs.Past.{Step, State, Makes, MakesAll, told_steps}
 use Rattle.mq_client.specs.Filter.{query, Answers, answer_count}
-use Rattle.mq_client.specs.Run.{Stage, Waiting, Running, Reaches, HasText, Origin, may_ask_for_memory, IsAtWork, StopsAt, is_early, is_stamped}
+use Rattle.mq_client.specs.Run.{Stage, BeforeReady, AfterReady, Reaches, HasText, Outside, may_ask_for_memory, IsAtWork}
+use Rattle.mq_client.specs.Run.{StopsAt, is_early, is_stamped}
 use Rattle.mq_client.specs.declared.faults.FilterFault.{FilterFault}
 use Rattle.mq_client.specs.declared.faults.FilterFault.TheVariants as fault
 use Rattle.mq_client.specs.declared.filter.Early.{Early}
@@ -23,8 +24,8 @@ use Rattle.mq_client.specs.declared.link.Told.{Told}
 
 -- the filter has come to the stage
 abbrev pub IsAt : Filter → Stage → Type 0
-IsAt f Waiting = (f.is_ready ≡ false) × TracksAt f.tracker [] × (f.answers ≡ 0)
-IsAt f (Running L) = (f.is_ready ≡ true) × TracksAt f.tracker L × (f.answers ≡ answer_count L)
+IsAt f BeforeReady = (f.is_ready ≡ false) × TracksAt f.tracker [] × (f.answers ≡ 0)
+IsAt f (AfterReady L) = (f.is_ready ≡ true) × TracksAt f.tracker L × (f.answers ≡ answer_count L)
 
 -- a client made one step, or none
 abbrev pub MakesOne : State → State → Option Step → Type 0
@@ -36,13 +37,13 @@ told_one None = []
 told_one (Some x) = told_all x.group
 
 -- what was done for a line: a step, or none, and a text
-pub record Does (sink sink' : Option (List ℕ)) (told told' : Option (List Told)) (client client' : State) (step : Option Step) (text : List ℕ) : Type 0 where
-  pub written : Appends sink sink' text
-  pub exchanged : Tells told told' (told_one step)
-  pub made : MakesOne client client' step
+pub record Does (old new : Outside) (step : Option Step) (text : List ℕ) : Type 0 where
+  pub written : Appends old.sink new.sink text
+  pub exchanged : Tells old.told new.told (told_one step)
+  pub made : MakesOne old.client new.client step
 
 -- so far these bytes came, of which the last aren't handled yet
-pub record SoFar (o : Origin) (bytes left : List ℕ) (f : Filter) (sink : Option (List ℕ)) (told : Option (List Told)) (client : State) : Type 0 where
+pub record SoFar (o : Outside) (bytes left : List ℕ) (f : Filter) (now : Outside) : Type 0 where
   pub lines : List (List ℕ)
   pub stage : Stage
   pub steps : List Step
@@ -51,9 +52,9 @@ pub record SoFar (o : Origin) (bytes left : List ℕ) (f : Filter) (sink : Optio
   pub reaches : Reaches lines stage
   pub is_at : IsAt f stage
   pub has_text : HasText stage steps text
-  pub written : Appends o.sink sink text
-  pub exchanged : Tells o.told told (told_steps steps)
-  pub made : MakesAll o.client client steps
+  pub written : Appends o.sink now.sink text
+  pub exchanged : Tells o.told now.told (told_steps steps)
+  pub made : MakesAll o.client now.client steps
 
 -- once the filter is ready its sink works
 abbrev pub SinkWorks : Filter → (write_failed : Bool) → Type 0
@@ -61,7 +62,8 @@ SinkWorks f write_failed = f.is_ready ≡ true → write_failed ≡ false
 
 -- what a request of smtpd makes and is answered by
 abbrev pub Replies : List Meaning → (subsystem phase session token : List ℕ) → Option Step → List ℕ → Type 0
-Replies L subsystem phase session token step text = (d : Decision) × Answers (query L subsystem phase session) step d × (text ≡ result_text session token d)
+Replies L subsystem phase session token step text = (d : Decision) × Answers (query L subsystem phase session) step d
+    × (text ≡ result_text session token d)
 
 -- the faults that may cut a line's work short
 abbrev pub IsCut : FilterFault → (write_failed : Bool) → Type 0
@@ -89,25 +91,30 @@ IsRefused fault.Memory L m = (track_fault L m ≡ None) × (may_ask_for_memory L
 IsRefused f L m = ⊥
 
 -- a run that stopped while lines were handled: for want of memory only at the work of a line
-abbrev pub StopsWithin : Origin → (bytes : List ℕ) → (source sink : Option (List ℕ)) → (read_failed write_failed : Bool) → Option (List Told) → State → FilterFault → Type 0
-StopsWithin o bytes source sink read_failed write_failed told client f =
-    (h : StopsAt o bytes source sink read_failed write_failed told client f) × (f ≡ fault.Memory → IsAtWork h.stage h.left)
+abbrev pub StopsWithin : Outside → (bytes : List ℕ) → (source : Option (List ℕ)) → Outside
+    → (read_failed write_failed : Bool) → FilterFault → Type 0
+StopsWithin o bytes source now read_failed write_failed f =
+    (h : StopsAt o bytes source now read_failed write_failed f) × (f ≡ fault.Memory → IsAtWork h.stage h.left)
 
 -- a line that says m was handled: the filter has come further
-abbrev pub Carries : Meaning → (f f' : Filter) (sink sink' : Option (List ℕ)) (told told' : Option (List Told)) (client client' : State) → Type 0
-Carries m f f' sink sink' told told' client client' = (o : Origin) (bytes line rest : List ℕ) → IsLine line → Reads line m
-    → SoFar o bytes (line ++ 10 ∷ rest) f sink told client → SoFar o bytes rest f' sink' told' client'
+abbrev pub Carries : Meaning → (f f' : Filter) (old new : Outside) → Type 0
+Carries m f f' old new = (o : Outside) (bytes line rest : List ℕ) → IsLine line → Reads line m
+    → SoFar o bytes (line ++ 10 ∷ rest) f old → SoFar o bytes rest f' new
 
 -- the filter stopped at a line that says m
-abbrev pub Halts : Meaning → FilterFault → Filter → (sink sink' : Option (List ℕ)) (write_failed : Bool) (told told' : Option (List Told)) (client client' : State) → Type 0
-Halts m fault f sink sink' write_failed told told' client client' = (o : Origin) (bytes line rest : List ℕ) (source : Option (List ℕ)) (read_failed : Bool) → IsLine line → Reads line m
-    → SoFar o bytes (line ++ 10 ∷ rest) f sink told client → StopsWithin o bytes source sink' read_failed write_failed told' client' fault
+abbrev pub Halts : Meaning → FilterFault → Filter → (old new : Outside) (write_failed : Bool) → Type 0
+Halts m fault f old new write_failed = (o : Outside) (bytes line rest : List ℕ) (source : Option (List ℕ))
+    (read_failed : Bool)
+    → IsLine line → Reads line m → SoFar o bytes (line ++ 10 ∷ rest) f old
+    → StopsWithin o bytes source new read_failed write_failed fault
 
 -- some of the bytes that are held were handled
-abbrev pub CarriesHeld : (held held' : List ℕ) (f f' : Filter) (sink sink' : Option (List ℕ)) (told told' : Option (List Told)) (client client' : State) → Type 0
-CarriesHeld held held' f f' sink sink' told told' client client' = (o : Origin) (bytes : List ℕ) → SoFar o bytes held f sink told client → SoFar o bytes held' f' sink' told' client'
+abbrev pub CarriesHeld : (held held' : List ℕ) (f f' : Filter) (old new : Outside) → Type 0
+CarriesHeld held held' f f' old new = (o : Outside) (bytes : List ℕ) → SoFar o bytes held f old
+    → SoFar o bytes held' f' new
 
 -- the filter stopped among the bytes that are held
-abbrev pub HaltsHeld : (held : List ℕ) → FilterFault → Filter → (sink sink' : Option (List ℕ)) (write_failed : Bool) (told told' : Option (List Told)) (client client' : State) → Type 0
-HaltsHeld held fault f sink sink' write_failed told told' client client' = (o : Origin) (bytes : List ℕ) (source : Option (List ℕ)) (read_failed : Bool)
-    → SoFar o bytes held f sink told client → StopsWithin o bytes source sink' read_failed write_failed told' client' fault
+abbrev pub HaltsHeld : (held : List ℕ) → FilterFault → Filter → (old new : Outside) (write_failed : Bool) → Type 0
+HaltsHeld held fault f old new write_failed =
+    (o : Outside) (bytes : List ℕ) (source : Option (List ℕ)) (read_failed : Bool)
+    → SoFar o bytes held f old → StopsWithin o bytes source new read_failed write_failed fault

@@ -1,12 +1,15 @@
 -- Which request a number of a run was used for, and what a request says of its transaction. Of a past the newest step
 -- comes first.
-use Rattle.std.specs.Prelude.{◌≡◌, ◌⊎◌, ℕ, ◌+◌, ◌≤◌, List, [], ◌∷◌, ◌++◌, Bool, true, false, ◌==◌, if◌then◌else◌, Option, None, Some}
+use Rattle.std.specs.Prelude.{◌≡◌, ◌⊎◌, ℕ, ◌+◌, ◌≤◌, List, [], ◌∷◌, ◌++◌, Bool, true, false, ◌==◌, if◌then◌else◌}
+use Rattle.std.specs.Prelude.{Option, None, Some}
 use Rattle.std.specs.Option.{option_map, option_or}
 use Rattle.mq_frame.specs.declared.message.Id.{Id}
 use Rattle.mq_frame.specs.declared.message.Request.{Request}
-use Rattle.mq_frame.specs.declared.message.Request.TheVariants.{Reserve, Settle, Release, Limit, Usage, List as ListRequest}
+use Rattle.mq_frame.specs.declared.message.Request.TheVariants.{Reserve, Settle, Release, Limit, Usage}
+use Rattle.mq_frame.specs.declared.message.Request.TheVariants.{List as ListRequest}
 use Rattle.mq_client.specs.Exchanges.{Exchange}
-use Rattle.mq_client.specs.Past.{Source, Action, Ask, Close, Drain, Step, Standing, Never, Live, Ended, View, view, id_of, reserve_of, closing_of}
+use Rattle.mq_client.specs.Past.{Source, Action, Ask, Close, Drain, Step, Standing, Never, Live, Ended, View, view}
+use Rattle.mq_client.specs.Past.{id_of, reserve_of, closing_of}
 use Rattle.mq_client.specs.Reading.{live_in, numbers_in}
 use Rattle.mq_track.specs.declared.closing.CloseEnd.TheVariants.{Commit}
 use Rattle.mq_client.specs.declared.held.Held.{Held}
@@ -42,7 +45,8 @@ request_by s P Drain group = None
 -- the request that a number was used for
 abbrev pub request_under : Source → List Step → ℕ → Option Request
 request_under s [] n = None
-request_under s (x ∷ P) n = if numbers_in P + 1 == n then option_or (request_by s P x.action x.group) (request_under s P n) else request_under s P n
+request_under s (x ∷ P) n = if numbers_in P + 1 == n
+    then option_or (request_by s P x.action x.group) (request_under s P n) else request_under s P n
 
 -- a used number was used for the request, which carries it
 pub record IsNumbered (s : Source) (P : List Step) (q : Request) : Type 0 where

@@ -1,5 +1,6 @@
 -- What a client did, and what stands after it. In a past the newest step comes first.
-use Rattle.std.specs.Prelude.{◌≡◌, ℕ, ◌+◌, ◌-◌, ◌≤◌, List, [], ◌∷◌, ◌++◌, drop, length, Bool, true, false, ◌==◌, ◌&&◌, ◌||◌, not, nat_lt, nat_le, if◌then◌else◌, MatchBool, Option, Some, None}
+use Rattle.std.specs.Prelude.{◌≡◌, ℕ, ◌+◌, ◌-◌, ◌≤◌, List, [], ◌∷◌, ◌++◌, drop, length, Bool, true, false, ◌==◌, ◌&&◌}
+use Rattle.std.specs.Prelude.{◌||◌, not, nat_lt, nat_le, if◌then◌else◌, MatchBool, Option, Some, None}
 use Rattle.std.specs.Map.{lookup}
 use Rattle.std.specs.BTreeMap.{is_at}
 use Rattle.std.specs.Ordering.{nat_cmp}
@@ -94,7 +95,8 @@ is_commit ending.Drop = false
 -- the request that closes a transaction: a settle of what was let through, where it was committed and that is
 -- at least one, and else a release
 abbrev pub closing_of : Source → ℕ → ℕ → CloseEnd → Held → Request
-closing_of s seq txn end h = if is_commit end && nat_le 1 h.granted then Settle (id_of s seq) txn h.at h.login h.granted else Release (id_of s seq) txn h.at h.login
+closing_of s seq txn end h = if is_commit end && nat_le 1 h.granted then Settle (id_of s seq) txn h.at h.login h.granted
+    else Release (id_of s seq) txn h.at h.login
 
 abbrev pub set : ℕ → Standing → (ℕ → Standing) → ℕ → Standing
 set txn now standing t = if txn == t then now else standing t
@@ -112,7 +114,8 @@ without txn (t ∷ live) = if t == txn then without txn live else t ∷ without 
 abbrev pub after_ask : ℕ → ℕ → List ℕ → List Exchange → View → View
 after_ask txn at login [] v = v
 after_ask txn at login (x ∷ group) v = record {
-  standing = set txn (Live (let_through (answer_of (x ∷ group)) (opened at login (held_by (v.standing txn))))) v.standing;
+  standing = set txn (Live (let_through (answer_of (x ∷ group))
+      (opened at login (held_by (v.standing txn))))) v.standing;
   numbers = v.numbers + 1;
   waiting = v.waiting;
   live = with_asked txn (held_by (v.standing txn)) v.live;
@@ -132,7 +135,12 @@ after_close s txn end group v (Some h) = record {
 abbrev pub after : Source → View → Action → List Exchange → View
 after s v (Ask txn at login) group = after_ask txn at login group v
 after s v (Close txn end) group = after_close s txn end group v (held_by (v.standing txn))
-after s v Drain group = record { standing = v.standing; numbers = v.numbers; waiting = drop (decisions group) v.waiting; live = v.live }
+after s v Drain group = record {
+  standing = v.standing;
+  numbers = v.numbers;
+  waiting = drop (decisions group) v.waiting;
+  live = v.live;
+}
 
 abbrev pub view : Source → List Step → View
 view s [] = record { standing = λ t. Never; numbers = 0; waiting = []; live = [] }
@@ -151,12 +159,14 @@ lacks_numbers numbers held = nat_lt (4294967295 - numbers) (1 + held)
 -- an ask that makes no exchange: of a held transaction that is another or has let 1,000 recipients through, of
 -- one that isn't held where no place is left, or where numbers are lacking
 abbrev pub refuses : Option Held → (live numbers waiting at : ℕ) → List ℕ → Bool
-refuses (Some h) live numbers waiting at login = is_other h at login || (nat_le 1000 h.granted || lacks_numbers numbers live)
+refuses (Some h) live numbers waiting at login =
+    is_other h at login || (nat_le 1000 h.granted || lacks_numbers numbers live)
 refuses None live numbers waiting at login = nat_le 4096 (live + waiting) || lacks_numbers numbers (live + 1)
 
 -- the exchanges that an action may have, by what stands before it: the transaction, where it is live, the live
 -- ones, the numbers used and what waits
-abbrev pub PlaysFrom : Source → (tries : ℕ) → Option Held → (live numbers : ℕ) → List Request → Action → List Exchange → Type 0
+abbrev pub PlaysFrom : Source → (tries : ℕ) → Option Held → (live numbers : ℕ) → List Request → Action → List Exchange
+    → Type 0
 PlaysFrom s tries held live numbers waiting (Ask txn at login) group =
     MatchBool (refuses held live numbers (length waiting) at login)
     (group ≡ [])
@@ -173,7 +183,8 @@ held_for v Drain = None
 
 -- the step may come next
 abbrev pub Plays : Source → (tries : ℕ) → List Step → Step → Type 0
-Plays s tries P x = let v = view s P in PlaysFrom s tries (held_for v x.action) (length v.live) v.numbers v.waiting x.action x.group
+Plays s tries P x = let v = view s P in PlaysFrom s tries (held_for v x.action)
+    (length v.live) v.numbers v.waiting x.action x.group
 
 -- each step could come next when it came
 abbrev pub IsPlayed : Source → (tries : ℕ) → List Step → Type 0

@@ -1,10 +1,12 @@
 -- What a past leaves, read off the whole list of its steps, of which the newest comes first.
-use Rattle.std.specs.Prelude.{ℕ, ◌+◌, List, [], ◌∷◌, ◌++◌, Bool, true, false, ◌==◌, ◌&&◌, not, if◌then◌else◌, Option, None, Some, is_some, filter, count_by}
+use Rattle.std.specs.Prelude.{ℕ, ◌+◌, List, [], ◌∷◌, ◌++◌, Bool, true, false, ◌==◌, ◌&&◌, not, if◌then◌else◌, Option}
+use Rattle.std.specs.Prelude.{None, Some, is_some, filter, count_by}
 use Rattle.std.specs.List.{filter_map, list_any}
 use Rattle.mq_frame.specs.Same.{same_request}
 use Rattle.mq_frame.specs.declared.message.Request.{Request}
 use Rattle.mq_client.specs.Exchanges.{Exchange}
-use Rattle.mq_client.specs.Past.{Source, Action, Ask, Close, Drain, Step, Standing, Never, Live, Ended, answer_of, closing_of}
+use Rattle.mq_client.specs.Past.{Source, Action, Ask, Close, Drain, Step, Standing, Never, Live, Ended, answer_of}
+use Rattle.mq_client.specs.Past.{closing_of}
 use Rattle.mq_track.specs.declared.closing.CloseEnd.{CloseEnd}
 use Rattle.mq_client.specs.declared.held.Asked.{Asked}
 use Rattle.mq_client.specs.declared.held.Asked.TheVariants as asked
@@ -29,7 +31,8 @@ since_close t (x ∷ P) = if closes t x.action then [] else x ∷ since_close t 
 -- an ask of the transaction, where the step is one that made an exchange
 abbrev pub asking : ℕ → Action → List Exchange → Option Asking
 asking t (Ask txn at login) [] = None
-asking t (Ask txn at login) (x ∷ group) = if txn == t then Some (record { login = login; at = at; answer = answer_of (x ∷ group) }) else None
+asking t (Ask txn at login) (x ∷ group) = if txn == t
+    then Some (record { login = login; at = at; answer = answer_of (x ∷ group) }) else None
 asking t (Close txn end) group = None
 asking t Drain group = None
 
@@ -51,7 +54,11 @@ is_granted asked.Unavailable = false
 -- answered Granted were let through
 abbrev pub live_by : List Asking → Option Held
 live_by [] = None
-live_by (a ∷ more) = Some (record { login = (first_of a more).login; at = (first_of a more).at; granted = count_by (λ b. is_granted b.answer) (a ∷ more) })
+live_by (a ∷ more) = Some (record {
+  login = (first_of a more).login;
+  at = (first_of a more).at;
+  granted = count_by (λ b. is_granted b.answer) (a ∷ more);
+})
 
 abbrev pub live_in : List Step → ℕ → Option Held
 live_in P t = live_by (asks_of t P)

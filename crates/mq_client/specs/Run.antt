@@ -1,5 +1,6 @@
 -- A run of the filter: the bytes that it read, what it wrote, the steps that its client made, and how it ended.
-use Rattle.std.specs.Prelude.{◌≡◌, ◌≢◌, ◌⊎◌, ℕ, ◌≤◌, List, [], ◌∷◌, ◌++◌, length, Bool, true, false, ◌||◌, Option, None, Some, is_some}
+use Rattle.std.specs.Prelude.{◌≡◌, ◌≢◌, ◌⊎◌, ℕ, ◌≤◌, List, [], ◌∷◌, ◌++◌, length, Bool, true, false, ◌||◌, Option, None}
+use Rattle.std.specs.Prelude.{Some, is_some}
 use Rattle.std.specs.List.{AllByRecursion}
 use Rattle.std.specs.Io.KnownBytes.{Appends, IsAtEnd}
 use Rattle.mq_line.specs.Grammar.{Meaning, ConfigLine, ReadyLine, ReportLine, FilterLine, OtherLine, Reads, fault}
@@ -37,7 +38,8 @@ IsEarly line = (m : Meaning) × Reads line m × (is_early m ≡ true)
 -- lines in order, and what they say, of which the newest comes first
 abbrev pub AreRead : List (List ℕ) → List Meaning → Type 0
 AreRead lines [] = lines ≡ []
-AreRead lines (m ∷ L) = (before : List (List ℕ)) × (line : List ℕ) × (lines ≡ before ++ line ∷ []) × Reads line m × AreRead before L
+AreRead lines (m ∷ L) = (before : List (List ℕ)) × (line : List ℕ) × (lines ≡ before ++ line ∷ []) × Reads line m
+    × AreRead before L
 
 -- the lines came to `config|ready`, and those after it say this
 pub record IsReady (lines : List (List ℕ)) (L : List Meaning) : Type 0 where
@@ -51,30 +53,33 @@ pub record IsReady (lines : List (List ℕ)) (L : List Meaning) : Type 0 where
 
 -- how far the lines have come
 pub data Stage : Type 0 where
-  Waiting : Stage
-  Running : List Meaning → Stage
+  BeforeReady : Stage
+  AfterReady : List Meaning → Stage
 
 abbrev pub Reaches : List (List ℕ) → Stage → Type 0
-Reaches lines Waiting = AllByRecursion IsEarly lines
-Reaches lines (Running L) = IsReady lines L
+Reaches lines BeforeReady = AllByRecursion IsEarly lines
+Reaches lines (AfterReady L) = IsReady lines L
 
 -- ---- what was done for it
 
 -- the filter's text: the registration, and then the results
 abbrev pub HasText : Stage → List Step → List ℕ → Type 0
-HasText Waiting steps text = (steps ≡ []) × (text ≡ [])
-HasText (Running L) steps text = (results : List ℕ) × Filters L steps results × (text ≡ registration ++ results)
+HasText BeforeReady steps text = (steps ≡ []) × (text ≡ [])
+HasText (AfterReady L) steps text = (results : List ℕ) × Filters L steps results × (text ≡ registration ++ results)
 
--- where a run began: what the sink held, what the link told, and the client
-pub record Origin : Type 0 where
+-- what stands outside of the filter: what the sink holds, what the link told, and the client
+pub record Outside : Type 0 where
   pub sink : Option (List ℕ)
   pub told : Option (List Told)
   pub client : State
 
+abbrev pub around : Option (List ℕ) → Option (List Told) → State → Outside
+around sink told client = record { sink = sink; told = told; client = client }
+
 -- ---- its end
 
 -- all bytes were whole lines, with `config|ready` among them, and what waited was sent at the end
-pub record EndsWith (o : Origin) (bytes : List ℕ) (sink : Option (List ℕ)) (told : Option (List Told)) (client : State) (e : Ended) : Type 0 where
+pub record EndsWith (o : Outside) (bytes : List ℕ) (now : Outside) (e : Ended) : Type 0 where
   pub lines : List (List ℕ)
   pub after_ready : List Meaning
   pub steps : List Step
@@ -83,11 +88,11 @@ pub record EndsWith (o : Origin) (bytes : List ℕ) (sink : Option (List ℕ)) (
   pub whole : Holds bytes lines []
   pub ready : IsReady lines after_ready
   pub filters : Filters after_ready steps results
-  pub written : Appends o.sink sink (registration ++ results)
-  pub exchanged : Tells o.told told (told_steps (drained group steps))
-  pub made : MakesAll o.client client (drained group steps)
+  pub written : Appends o.sink now.sink (registration ++ results)
+  pub exchanged : Tells o.told now.told (told_steps (drained group steps))
+  pub made : MakesAll o.client now.client (drained group steps)
   pub answers : e.answers ≡ answer_count after_ready
-  pub left : (P : List Step) → StandsAt client P → e.left ≡ length (view client.source P).waiting
+  pub left : (P : List Step) → StandsAt now.client P → e.left ≡ length (view now.client.source P).waiting
 
 -- a line stands in front of the bytes that are left, with its LF
 pub record StandsFirst (line left : List ℕ) : Type 0 where
@@ -111,29 +116,37 @@ may_ask_for_memory L m = is_filter m || (is_some (closing L m) || needs_memory (
 
 -- the line in front may ask for memory: `config|ready`, or such a line after it that isn't refused
 abbrev pub IsAtWork : Stage → (left : List ℕ) → Type 0
-IsAtWork Waiting left = (line : List ℕ) × StandsFirst line left × Reads line ReadyLine
-IsAtWork (Running L) left = (m : Meaning) × (line : List ℕ) × StandsFirst line left × Reads line m × (track_fault L m ≡ None) × (may_ask_for_memory L m ≡ true)
+IsAtWork BeforeReady left = (line : List ℕ) × StandsFirst line left × Reads line ReadyLine
+IsAtWork (AfterReady L) left = (m : Meaning) × (line : List ℕ) × StandsFirst line left × Reads line m
+    × (track_fault L m ≡ None) × (may_ask_for_memory L m ≡ true)
 
 -- what is found where a run stops, after the lines that were handled
-abbrev pub IsFound : FilterFault → Stage → (bytes left : List ℕ) → (source : Option (List ℕ)) → (read_failed write_failed : Bool) → Type 0
-IsFound (at.Line f) stage bytes left source read_failed write_failed = (line : List ℕ) × StandsFirst line left × (fault line ≡ Some f)
-IsFound (at.Track f) stage bytes left source read_failed write_failed = (L : List Meaning) × (m : Meaning) × (line : List ℕ) × (stage ≡ Running L) × StandsFirst line left × Reads line m × (track_fault L m ≡ Some f)
-IsFound at.NotReady stage bytes left source read_failed write_failed = (m : Meaning) × (line : List ℕ) × (stage ≡ Waiting) × StandsFirst line left × Reads line m × (is_stamped m ≡ true)
-IsFound at.EndedEarly stage bytes left source read_failed write_failed = (stage ≡ Waiting) × (left ≡ []) × IsAtEnd source
+abbrev pub IsFound : FilterFault → Stage → (bytes left : List ℕ) → (source : Option (List ℕ))
+    → (read_failed write_failed : Bool) → Type 0
+IsFound (at.Line f) stage bytes left source read_failed write_failed = (line : List ℕ) × StandsFirst line left
+    × (fault line ≡ Some f)
+IsFound (at.Track f) stage bytes left source read_failed write_failed = (L : List Meaning) × (m : Meaning)
+    × (line : List ℕ) × (stage ≡ AfterReady L) × StandsFirst line left × Reads line m × (track_fault L m ≡ Some f)
+IsFound at.NotReady stage bytes left source read_failed write_failed = (m : Meaning) × (line : List ℕ)
+    × (stage ≡ BeforeReady) × StandsFirst line left × Reads line m × (is_stamped m ≡ true)
+IsFound at.EndedEarly stage bytes left source read_failed write_failed = (stage ≡ BeforeReady) × (left ≡ [])
+    × IsAtEnd source
 IsFound at.CutLine stage bytes left source read_failed write_failed = (left ≢ []) × IsLine left × IsAtEnd source
 IsFound at.TooLong stage bytes left source read_failed write_failed = IsTooLong left
-IsFound at.Read stage bytes left source read_failed write_failed = IsLine left × ((read_failed ≡ true) ⊎ (1099511627776 ≤ length bytes))
+IsFound at.Read stage bytes left source read_failed write_failed = IsLine left
+    × ((read_failed ≡ true) ⊎ (1099511627776 ≤ length bytes))
 IsFound at.Write stage bytes left source read_failed write_failed = write_failed ≡ true
 IsFound at.Memory stage bytes left source read_failed write_failed = IsFed left ⊎ IsAtWork stage left
 
 -- the step that the line in front makes, and what is written for it
 abbrev pub Goes : Stage → (line : List ℕ) → Option Step → List ℕ → Type 0
-Goes Waiting line step next = Reads line ReadyLine × (step ≡ None) × (next ≡ registration)
-Goes (Running L) line step next = (m : Meaning) × Reads line m × Takes L m step next
+Goes BeforeReady line step next = Reads line ReadyLine × (step ≡ None) × (next ≡ registration)
+Goes (AfterReady L) line step next = (m : Meaning) × Reads line m × Takes L m step next
 
 -- at a failed write and for want of memory the line in hand may have made its step
 abbrev pub MayGo : Stage → (left : List ℕ) → Option Step → List ℕ → Type 0
-MayGo stage left step next = ((step ≡ None) × (next ≡ [])) ⊎ ((line : List ℕ) × StandsFirst line left × Goes stage line step next)
+MayGo stage left step next = ((step ≡ None) × (next ≡ []))
+    ⊎ ((line : List ℕ) × StandsFirst line left × Goes stage line step next)
 
 abbrev pub IsInHand : FilterFault → Stage → (left : List ℕ) → Option Step → List ℕ → Type 0
 IsInHand at.Write stage left step next = MayGo stage left step next
@@ -143,7 +156,8 @@ IsInHand f stage left step next = (step ≡ None) × (next ≡ [])
 -- The lines before the place where a run stopped were handled, and the rest is left: steps and exchanges were made
 -- as the lines ask, and their text was written. The line in hand may have made its step, and a front of its text
 -- may have been written.
-pub record StopsAt (o : Origin) (bytes : List ℕ) (source sink : Option (List ℕ)) (read_failed write_failed : Bool) (told : Option (List Told)) (client : State) (f : FilterFault) : Type 0 where
+pub record StopsAt (o : Outside) (bytes : List ℕ) (source : Option (List ℕ)) (now : Outside)
+    (read_failed write_failed : Bool) (f : FilterFault) : Type 0 where
   pub lines : List (List ℕ)
   pub left : List ℕ
   pub stage : Stage
@@ -157,6 +171,6 @@ pub record StopsAt (o : Origin) (bytes : List ℕ) (source sink : Option (List �
   pub front : List ℕ
   pub rest : List ℕ
   pub in_hand : IsInHand f stage left step (front ++ rest)
-  pub written : Appends o.sink sink (text ++ front)
-  pub exchanged : Tells o.told told (told_steps (push step steps))
-  pub made : MakesAll o.client client (push step steps)
+  pub written : Appends o.sink now.sink (text ++ front)
+  pub exchanged : Tells o.told now.told (told_steps (push step steps))
+  pub made : MakesAll o.client now.client (push step steps)

@@ -1,8 +1,10 @@
 -- The next exchange of a step, and how exchanges ended.
-use Rattle.std.specs.Prelude.{◌≡◌, ℕ, ◌+◌, List, [], ◌∷◌, ◌++◌, length, nat_le, if◌then◌else◌, Option, None, Some, is_some, slice_get}
+use Rattle.std.specs.Prelude.{◌≡◌, ℕ, ◌+◌, List, [], ◌∷◌, ◌++◌, length, nat_le, if◌then◌else◌, Option, None, Some}
+use Rattle.std.specs.Prelude.{is_some, slice_get}
 use Rattle.mq_frame.specs.declared.message.Request.{Request}
 use Rattle.mq_client.specs.Exchanges.{Exchange, decisions, IsDecision}
-use Rattle.mq_client.specs.Past.{Source, Action, Ask, Close, Drain, Step, View, view, reserve_of, closing_of, refuses, held_for}
+use Rattle.mq_client.specs.Past.{Source, Action, Ask, Close, Drain, Step, View, view, reserve_of, closing_of, refuses}
+use Rattle.mq_client.specs.Past.{held_for}
 use Rattle.mq_client.specs.declared.held.Held.{Held}
 use Rattle.mq_client.specs.declared.link.Outcome.{Outcome}
 
@@ -13,7 +15,8 @@ failures (x ∷ group) = if is_some (x.decided) then 0 else failures group + 1
 
 -- the requests that an action sends, in order
 abbrev pub queue_of : Source → View → Option Held → Action → List Request
-queue_of s v held (Ask txn at login) = if refuses held (length v.live) v.numbers (length v.waiting) at login then [] else reserve_of s (v.numbers + 1) txn at login ∷ []
+queue_of s v held (Ask txn at login) = if refuses held (length v.live) v.numbers (length v.waiting) at login then []
+    else reserve_of s (v.numbers + 1) txn at login ∷ []
 queue_of s v None (Close txn end) = []
 queue_of s v (Some h) (Close txn end) = v.waiting ++ closing_of s (v.numbers + 1) txn end h ∷ []
 queue_of s v held Drain = v.waiting
@@ -29,7 +32,8 @@ next s tries v action group = next_of tries (queue_of s v (held_for v action) ac
 -- each exchange was the next one when it came
 abbrev pub ComeInTurn : (tries : ℕ) → List Request → List Exchange → Type 0
 ComeInTurn tries queue [] = Unit {0}
-ComeInTurn tries queue (x ∷ group) = (next_of tries queue group ≡ Some x.request) × IsDecision x.request x.outcome x.decided × ComeInTurn tries queue group
+ComeInTurn tries queue (x ∷ group) = (next_of tries queue group ≡ Some x.request)
+    × IsDecision x.request x.outcome x.decided × ComeInTurn tries queue group
 
 -- a step so far: each of its exchanges was the next one, and more may be to come
 abbrev pub IsUnderway : Source → (tries : ℕ) → List Step → Step → Type 0

@@ -1,5 +1,6 @@
 //! The answer to one request of smtpd.
-ghost use Rattle.std.specs.Prelude.{◌≡◌, ◌≢◌, ◌<◌, ◌++◌, ◌&&◌, ◌⊎◌, [], ℕ, List, Option, None, Err, false, codes, IfOk, OnOk, OnErr, IfErr};
+ghost use Rattle.std.specs.Prelude.{◌≡◌, ◌≢◌, ◌<◌, ◌++◌, ◌&&◌, ◌⊎◌, [], ℕ, List, Option, None, Err, false, codes, IfOk};
+ghost use Rattle.std.specs.Prelude.{OnOk, OnErr, IfErr};
 ghost use Rattle.std.specs.Str.{bytes_eq};
 ghost use Rattle.mq_frame.specs.Flow.{IsFlushed};
 ghost use Rattle.mq_track.specs.Sessions.{Sending};
@@ -8,15 +9,15 @@ ghost use Rattle.mq_line.specs.Grammar.{Meaning};
 ghost use Rattle.mq_client.specs.Link.{Tells};
 ghost use Rattle.mq_client.specs.Past.{Step};
 ghost use Rattle.mq_client.specs.Filter.{is_login, is_moment, query_at, query, decision_of as decision_lem, Answers};
+ghost use Rattle.mq_client.specs.Run.{around};
 ghost use Rattle.mq_client.specs.Loop.{MakesOne, told_one, Does, Replies, IsCut};
 
 use crate::client::Client;
 use crate::faults::{FilterFault, Memory};
 use crate::held::Asked;
 use crate::link::Link;
-use crate::put::put;
 use log::Log;
-use mq_frame::{Failed, Sink, is_login, is_moment};
+use mq_frame::{Failed, Sink, is_login, is_moment, write_and_flush};
 use mq_line::{Decision, write_result};
 use mq_track::{Standing, Tracker};
 use std::alloc::Global;
@@ -87,7 +88,8 @@ fn decide<R: Log, K: Link>(
 ) -> Result<Decision, Memory>
     ensures ok { IfOk result (λ d. (step : Option Step) × Tells (K.told link.old) (K.told link.new) (told_one step)
         × MakesOne client.old client.new step
-        × ((L : List Meaning) → StandsAt tracker.now L → Answers (query L inquiry.entry.subsystem.now inquiry.entry.phase.now inquiry.entry.session.now) step d)) }
+        × ((L : List Meaning) → StandsAt tracker.now L →
+        Answers (query L inquiry.entry.subsystem.now inquiry.entry.phase.now inquiry.entry.session.now) step d)) }
     ensures client { OnErr result (client.new ≡ client.old) }
     ensures link { OnErr result (link.new ≡ link.old) }
 {
@@ -112,15 +114,21 @@ pub fn answer<R: Log, W: Sink, K: Link>(
     client: &mut Client,
 ) -> Result<(), FilterFault>
     ensures ok { OnOk result ((step : Option Step) × (text : List ℕ)
-        × Does (W.contents output.old) (W.contents output.new) (K.told link.old) (K.told link.new) client.old client.new step text
-        × ((L : List Meaning) → StandsAt tracker.now L → Replies L inquiry.entry.subsystem.now inquiry.entry.phase.now inquiry.entry.session.now inquiry.entry.token.now step text)) }
+        × Does (around (W.contents output.old) (K.told link.old) client.old)
+        (around (W.contents output.new) (K.told link.new) client.new) step text
+        × ((L : List Meaning) → StandsAt tracker.now L →
+        Replies L inquiry.entry.subsystem.now inquiry.entry.phase.now inquiry.entry.session.now
+        inquiry.entry.token.now step text)) }
     ensures fault { IfErr result (λ f. IsCut f (W.has_failed output.new)) }
     ensures works { W.has_failed output.old ≡ false → result ≢ Err FilterFault.Write → W.has_failed output.new ≡ false }
-    ensures flushed { IsFlushed (W.has_flushed output.old) → result ≢ Err FilterFault.Write → IsFlushed (W.has_flushed output.new) }
+    ensures flushed { IsFlushed (W.has_flushed output.old) → result ≢ Err FilterFault.Write →
+        IsFlushed (W.has_flushed output.new) }
     ensures cut { OnErr result ((step : Option Step) × (front : List ℕ) × (rest : List ℕ)
-        × Does (W.contents output.old) (W.contents output.new) (K.told link.old) (K.told link.new) client.old client.new step front
+        × Does (around (W.contents output.old) (K.told link.old) client.old)
+        (around (W.contents output.new) (K.told link.new) client.new) step front
         × (((step ≡ None) × (front ++ rest ≡ [])) ⊎ ((L : List Meaning) → StandsAt tracker.now L →
-        Replies L inquiry.entry.subsystem.now inquiry.entry.phase.now inquiry.entry.session.now inquiry.entry.token.now step (front ++ rest)))) }
+        Replies L inquiry.entry.subsystem.now inquiry.entry.phase.now inquiry.entry.session.now
+        inquiry.entry.token.now step (front ++ rest)))) }
 {
     let decision = match decide(rt, tracker, inquiry, link, client) {
         Ok(decision) => decision,
@@ -130,7 +138,7 @@ pub fn answer<R: Log, W: Sink, K: Link>(
     if write_result(inquiry.session, inquiry.token, decision, &mut text).is_err() {
         return Err(FilterFault::Memory);
     }
-    match put(output, text.as_slice()) {
+    match write_and_flush(output, text.as_slice()) {
         Ok(()) => Ok(()),
         Err(Failed) => Err(FilterFault::Write),
     }

@@ -3,7 +3,8 @@ ghost use Rattle.std.specs.Prelude.{◌≡◌, ◌≤◌, ◌<◌, ◌+◌, ◌^
 ghost use Rattle.mq_frame.specs.Range.{IsHost, IsRun, IsWithin, IsOrdinal, IsMoment, IsLogin};
 ghost use Rattle.mq_client.specs.Link.{Tells};
 ghost use Rattle.mq_client.specs.Exchanges.{Exchange, told_all};
-ghost use Rattle.mq_client.specs.Past.{Step, Ask, Close, Drain, StandsAt, Makes, view, answer_of, find, refuses as refuses_lem};
+ghost use Rattle.mq_client.specs.Past.{Step, Ask, Close, Drain, StandsAt, Makes, view, answer_of, find};
+ghost use Rattle.mq_client.specs.Past.{refuses as refuses_lem};
 
 use crate::faults::Memory;
 use crate::held::{
@@ -99,10 +100,15 @@ impl Client {
         requires txn { IsOrdinal txn }
         requires at { IsMoment at }
         requires login { IsLogin login.now }
-        ensures ok { IfOk result (λ answer. (group : List Exchange) × Tells (L.told link.old) (L.told link.new) (told_all group)
-            × (answer ≡ answer_of group) × Makes self.old self.new (record { action = Ask txn at login.now; group = group })) }
+        ensures ok { IfOk result (λ answer. (group : List Exchange)
+            × Tells (L.told link.old) (L.told link.new) (told_all group)
+            × (answer ≡ answer_of group) × Makes self.old self.new (record {
+              action = Ask txn at login.now;
+              group = group;
+            })) }
         // Memory is asked for only where the server is.
-        ensures refused { refuses_lem (find self.old.held txn) (length self.old.held) self.old.numbers (length self.old.waiting) at login.now ≡ true → IsOk result }
+        ensures refused { refuses_lem (find self.old.held txn)
+            (length self.old.held) self.old.numbers (length self.old.waiting) at login.now ≡ true → IsOk result }
         ensures client { OnErr result (self.new ≡ self.old) }
         ensures link { OnErr result (link.new ≡ link.old) }
     {

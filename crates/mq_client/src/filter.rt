@@ -1,5 +1,7 @@
 //! The filter: what smtpd writes is read, and each of its requests is answered.
-ghost use Rattle.std.specs.Prelude.{◌≡◌, ◌≢◌, ◌≤◌, ◌<◌, ◌+◌, ◌*◌, ◌^◌, ◌++◌, ◌∷◌, [], ℕ, List, Option, Bool, None, Some, true, false, length, is_some, IfOk, OnOk, OnErr, IfErr, MatchBool, MatchResult};
+ghost use Rattle.std.specs.Prelude.{◌≡◌, ◌≢◌, ◌≤◌, ◌<◌, ◌+◌, ◌*◌, ◌^◌, ◌++◌, ◌∷◌, [], ℕ, List, Option, Bool, None};
+ghost use Rattle.std.specs.Prelude.{Some, true, false, length, is_some, IfOk, OnOk, OnErr, IfErr, MatchBool};
+ghost use Rattle.std.specs.Prelude.{MatchResult};
 ghost use Rattle.std.specs.Io.KnownBytes.{Appends, Consumes, IsAtEnd};
 ghost use Rattle.mq_frame.specs.Flow.{IsFlushed};
 ghost use Rattle.mq_line.specs.Grammar.{Meaning, ReadyLine, meaning};
@@ -11,16 +13,16 @@ ghost use Rattle.mq_client.specs.Link.{Tells};
 ghost use Rattle.mq_client.specs.Past.{Step, State};
 ghost use Rattle.mq_client.specs.Filter.{Closes};
 ghost use Rattle.mq_client.specs.declared.link.Told.{Told};
-ghost use Rattle.mq_client.specs.Run.{Origin, EndsWith, StopsAt};
-ghost use Rattle.mq_client.specs.Loop.{MakesOne, told_one, IsCut, IsSorted, IsRefused, filter_fault, Carries, Halts, CarriesHeld, HaltsHeld, SinkWorks, SoFar};
+ghost use Rattle.mq_client.specs.Run.{Outside, around, EndsWith, StopsAt};
+ghost use Rattle.mq_client.specs.Loop.{MakesOne, told_one, IsCut, IsSorted, IsRefused, filter_fault, Carries, Halts};
+ghost use Rattle.mq_client.specs.Loop.{CarriesHeld, HaltsHeld, SinkWorks, SoFar};
 
 use crate::answer::{Inquiry, answer};
 use crate::client::Client;
 use crate::faults::FilterFault;
 use crate::link::Link;
-use crate::put::put;
 use log::Log;
-use mq_frame::{Failed, Sink, Source};
+use mq_frame::{Failed, Sink, Source, write_and_flush};
 use mq_line::{Line, LineFeed, read_line, write_registration};
 use mq_track::{Closing, TrackFault, Tracker};
 use std::alloc::Global;
@@ -55,14 +57,16 @@ fn register<W: Sink>(alloc: Global, output: &mut W) -> Result<(), FilterFault>
     ensures written { OnOk result (W.has_failed output.new ≡ false) }
     ensures fault { IfErr result (λ f. IsCut f (W.has_failed output.new)) }
     ensures works { W.has_failed output.old ≡ false → result ≢ Err FilterFault.Write → W.has_failed output.new ≡ false }
-    ensures flushed { IsFlushed (W.has_flushed output.old) → result ≢ Err FilterFault.Write → IsFlushed (W.has_flushed output.new) }
-    ensures cut { OnErr result ((front : List ℕ) × (rest : List ℕ) × (registration ≡ front ++ rest) × Appends (W.contents output.old) (W.contents output.new) front) }
+    ensures flushed { IsFlushed (W.has_flushed output.old) → result ≢ Err FilterFault.Write →
+        IsFlushed (W.has_flushed output.new) }
+    ensures cut { OnErr result ((front : List ℕ) × (rest : List ℕ) × (registration ≡ front ++ rest)
+        × Appends (W.contents output.old) (W.contents output.new) front) }
 {
     let mut text = Vec::new(alloc);
     if write_registration(&mut text).is_err() {
         return Err(FilterFault::Memory);
     }
-    match put(output, text.as_slice()) {
+    match write_and_flush(output, text.as_slice()) {
         Ok(()) => Ok(()),
         Err(Failed) => Err(FilterFault::Write),
     }
@@ -103,7 +107,8 @@ fn close<R: Log, K: Link>(
     link: &mut K,
     client: &mut Client,
 ) -> Result<(), FilterFault>
-    ensures ok { OnOk result ((step : Option Step) × Tells (K.told link.old) (K.told link.new) (told_one step) × MakesOne client.old client.new step × Closes closing step) }
+    ensures ok { OnOk result ((step : Option Step) × Tells (K.told link.old) (K.told link.new) (told_one step)
+        × MakesOne client.old client.new step × Closes closing step) }
     ensures memory { OnErr result ((result ≡ Err FilterFault.Memory) × (is_some closing ≡ true)) }
     ensures client { OnErr result (client.new ≡ client.old) }
     ensures link { OnErr result (link.new ≡ link.old) }
@@ -125,7 +130,8 @@ fn note<R: Log, K: Link>(
     link: &mut K,
     client: &mut Client,
 ) -> Result<(), FilterFault>
-    ensures ok { OnOk result ((step : Option Step) × Tells (K.told link.old) (K.told link.new) (told_one step) × MakesOne client.old client.new step
+    ensures ok { OnOk result ((step : Option Step) × Tells (K.told link.old) (K.told link.new) (told_one step)
+        × MakesOne client.old client.new step
         × ((L : List Meaning) → TracksAt tracker.old L → (fault_lem L (meaning line.now) ≡ None)
         × Closes (closing_lem L (meaning line.now)) step × TracksAt tracker.new (meaning line.now ∷ L))) }
     ensures fault { IfErr result (λ f. (L : List Meaning) → TracksAt tracker.old L → IsRefused f L (meaning line.now)) }
@@ -139,7 +145,7 @@ fn note<R: Log, K: Link>(
 }
 
 /// Handles a line before `config|ready`.
-fn wait<W: Sink>(
+fn before_ready<W: Sink>(
     alloc: Global,
     filter: &mut Filter,
     line: &Line<'_>,
@@ -147,13 +153,16 @@ fn wait<W: Sink>(
 ) -> Result<(), FilterFault>
     requires { filter.old.is_ready ≡ false }
     ensures ok { OnOk result ((told : Option (List Told)) (client : State) →
-        Carries (meaning line.now) filter.old filter.new (W.contents output.old) (W.contents output.new) told told client client) }
+        Carries (meaning line.now) filter.old filter.new (around (W.contents output.old) told client)
+        (around (W.contents output.new) told client)) }
     ensures count { OnOk result (filter.new.answers ≡ filter.old.answers) }
     ensures written { OnOk result (SinkWorks filter.new (W.has_failed output.new)) }
     ensures works { W.has_failed output.old ≡ false → result ≢ Err FilterFault.Write → W.has_failed output.new ≡ false }
-    ensures flushed { IsFlushed (W.has_flushed output.old) → result ≢ Err FilterFault.Write → IsFlushed (W.has_flushed output.new) }
+    ensures flushed { IsFlushed (W.has_flushed output.old) → result ≢ Err FilterFault.Write →
+        IsFlushed (W.has_flushed output.new) }
     ensures fault { IfErr result (λ f. (told : Option (List Told)) (client : State) →
-        Halts (meaning line.now) f filter.old (W.contents output.old) (W.contents output.new) (W.has_failed output.new) told told client client) }
+        Halts (meaning line.now) f filter.old (around (W.contents output.old) told client)
+        (around (W.contents output.new) told client) (W.has_failed output.new)) }
 {
     match early_of(line) {
         Early::Passed => Ok(()),
@@ -169,7 +178,7 @@ fn wait<W: Sink>(
 }
 
 /// Handles a line after `config|ready`.
-fn take<R: Log, W: Sink, K: Link>(
+fn after_ready<R: Log, W: Sink, K: Link>(
     rt: &R,
     alloc: Global,
     filter: &mut Filter,
@@ -180,11 +189,16 @@ fn take<R: Log, W: Sink, K: Link>(
 ) -> Result<(), FilterFault>
     requires ready { filter.old.is_ready ≡ true }
     requires count { filter.old.answers < 2 ^ 63 }
-    ensures ok { OnOk result (Carries (meaning line.now) filter.old filter.new (W.contents output.old) (W.contents output.new) (K.told link.old) (K.told link.new) client.old client.new) }
+    ensures ok { OnOk result (Carries (meaning line.now) filter.old filter.new
+        (around (W.contents output.old) (K.told link.old) client.old)
+        (around (W.contents output.new) (K.told link.new) client.new)) }
     ensures count { OnOk result (filter.new.answers ≤ filter.old.answers + 1) }
     ensures works { W.has_failed output.old ≡ false → result ≢ Err FilterFault.Write → W.has_failed output.new ≡ false }
-    ensures flushed { IsFlushed (W.has_flushed output.old) → result ≢ Err FilterFault.Write → IsFlushed (W.has_flushed output.new) }
-    ensures fault { IfErr result (λ f. Halts (meaning line.now) f filter.old (W.contents output.old) (W.contents output.new) (W.has_failed output.new) (K.told link.old) (K.told link.new) client.old client.new) }
+    ensures flushed { IsFlushed (W.has_flushed output.old) → result ≢ Err FilterFault.Write →
+        IsFlushed (W.has_flushed output.new) }
+    ensures fault { IfErr result (λ f. Halts (meaning line.now) f filter.old
+        (around (W.contents output.old) (K.told link.old) client.old)
+        (around (W.contents output.new) (K.told link.new) client.new) (W.has_failed output.new)) }
 {
     if let Line::Filter {
         subsystem,
@@ -226,24 +240,31 @@ fn handle<R: Log, W: Sink, K: Link>(
 ) -> Result<(), FilterFault>
     requires line { IsLine bytes.now }
     requires count { filter.old.answers < 2 ^ 63 }
-    ensures ok { OnOk result ((rest : List ℕ) → CarriesHeld (bytes.now ++ 10 ∷ rest) rest filter.old filter.new (W.contents output.old) (W.contents output.new) (K.told link.old) (K.told link.new) client.old client.new) }
+    ensures ok { OnOk result ((rest : List ℕ) →
+        CarriesHeld (bytes.now ++ 10 ∷ rest) rest filter.old filter.new
+        (around (W.contents output.old) (K.told link.old) client.old)
+        (around (W.contents output.new) (K.told link.new) client.new)) }
     ensures count { OnOk result (filter.new.answers ≤ filter.old.answers + 1) }
-    ensures written { OnOk result (SinkWorks filter.old (W.has_failed output.old) → SinkWorks filter.new (W.has_failed output.new)) }
+    ensures written { OnOk result (SinkWorks filter.old (W.has_failed output.old) →
+        SinkWorks filter.new (W.has_failed output.new)) }
     ensures works { W.has_failed output.old ≡ false → result ≢ Err FilterFault.Write → W.has_failed output.new ≡ false }
-    ensures flushed { IsFlushed (W.has_flushed output.old) → result ≢ Err FilterFault.Write → IsFlushed (W.has_flushed output.new) }
-    ensures fault { IfErr result (λ f. (rest : List ℕ) → HaltsHeld (bytes.now ++ 10 ∷ rest) f filter.old (W.contents output.old) (W.contents output.new) (W.has_failed output.new) (K.told link.old) (K.told link.new) client.old client.new) }
+    ensures flushed { IsFlushed (W.has_flushed output.old) → result ≢ Err FilterFault.Write →
+        IsFlushed (W.has_flushed output.new) }
+    ensures fault { IfErr result (λ f. (rest : List ℕ) →
+        HaltsHeld (bytes.now ++ 10 ∷ rest) f filter.old (around (W.contents output.old) (K.told link.old) client.old)
+        (around (W.contents output.new) (K.told link.new) client.new) (W.has_failed output.new)) }
 {
     let line = match read_line(bytes) {
         Ok(line) => line,
         Err(fault) => return Err(FilterFault::Line(fault)),
     };
     if filter.is_ready {
-        match take(rt, alloc, filter, &line, output, link, client) {
+        match after_ready(rt, alloc, filter, &line, output, link, client) {
             Ok(()) => Ok(()),
             Err(fault) => Err(fault),
         }
     } else {
-        match wait(alloc, filter, &line, output) {
+        match before_ready(alloc, filter, &line, output) {
             Ok(()) => Ok(()),
             Err(fault) => Err(fault),
         }
@@ -261,13 +282,20 @@ fn take_lines<R: Log, W: Sink, K: Link>(
     client: &mut Client,
 ) -> Result<(), FilterFault>
     requires { filter.old.answers + length feed.old.rest < 2 ^ 63 }
-    ensures ok { OnOk result (CarriesHeld feed.old.rest feed.new.rest filter.old filter.new (W.contents output.old) (W.contents output.new) (K.told link.old) (K.told link.new) client.old client.new) }
+    ensures ok { OnOk result (CarriesHeld feed.old.rest feed.new.rest filter.old filter.new
+        (around (W.contents output.old) (K.told link.old) client.old)
+        (around (W.contents output.new) (K.told link.new) client.new)) }
     ensures left { OnOk result (IsLine feed.new.rest) }
-    ensures count { OnOk result (filter.new.answers + length feed.new.rest ≤ filter.old.answers + length feed.old.rest) }
-    ensures written { OnOk result (SinkWorks filter.old (W.has_failed output.old) → SinkWorks filter.new (W.has_failed output.new)) }
+    ensures count { OnOk result
+        (filter.new.answers + length feed.new.rest ≤ filter.old.answers + length feed.old.rest) }
+    ensures written { OnOk result (SinkWorks filter.old (W.has_failed output.old) →
+        SinkWorks filter.new (W.has_failed output.new)) }
     ensures works { W.has_failed output.old ≡ false → result ≢ Err FilterFault.Write → W.has_failed output.new ≡ false }
-    ensures flushed { IsFlushed (W.has_flushed output.old) → result ≢ Err FilterFault.Write → IsFlushed (W.has_flushed output.new) }
-    ensures fault { IfErr result (λ f. HaltsHeld feed.old.rest f filter.old (W.contents output.old) (W.contents output.new) (W.has_failed output.new) (K.told link.old) (K.told link.new) client.old client.new) }
+    ensures flushed { IsFlushed (W.has_flushed output.old) → result ≢ Err FilterFault.Write →
+        IsFlushed (W.has_flushed output.new) }
+    ensures fault { IfErr result (λ f. HaltsHeld feed.old.rest f filter.old
+        (around (W.contents output.old) (K.told link.old) client.old)
+        (around (W.contents output.new) (K.told link.new) client.new) (W.has_failed output.new)) }
 {
     'lines: loop {
         match feed.next_line() {
@@ -290,11 +318,14 @@ fn finish<R: Log, K: Link>(
     client: &mut Client,
 ) -> Result<Ended, FilterFault>
     requires { IsLine feed.now.rest }
-    ensures ok { IfOk result (λ e. (o : Origin) (bytes : List ℕ) (sink : Option (List ℕ)) →
-        SoFar o bytes feed.now.rest filter.now sink (K.told link.old) client.old → EndsWith o bytes sink (K.told link.new) client.new e) }
+    ensures ok { IfOk result (λ e. (o : Outside) (bytes : List ℕ) (sink : Option (List ℕ)) →
+        SoFar o bytes feed.now.rest filter.now (around sink (K.told link.old) client.old) →
+        EndsWith o bytes (around sink (K.told link.new) client.new) e) }
     ensures ready { OnOk result (filter.now.is_ready ≡ true) }
-    ensures fault { IfErr result (λ f. (o : Origin) (bytes : List ℕ) (source sink : Option (List ℕ)) (read_failed write_failed : Bool) → IsAtEnd source →
-        SoFar o bytes feed.now.rest filter.now sink (K.told link.old) client.old → StopsAt o bytes source sink read_failed write_failed (K.told link.new) client.new f) }
+    ensures fault { IfErr result (λ f. (o : Outside) (bytes : List ℕ) (source sink : Option (List ℕ))
+        (read_failed write_failed : Bool) →
+        IsAtEnd source → SoFar o bytes feed.now.rest filter.now (around sink (K.told link.old) client.old) →
+        StopsAt o bytes source (around sink (K.told link.new) client.new) read_failed write_failed f) }
 {
     match feed.finish() {
         Ok(()) => {}
@@ -325,19 +356,25 @@ pub fn run_filter<R: Log, S: Source, W: Sink, K: Link>(
     link: &mut K,
     client: &mut Client,
 ) -> Result<Ended, FilterFault>
-    ensures ok { IfOk result (λ e. (bytes : List ℕ) × Consumes (S.remaining input.old) (S.remaining input.new) bytes × IsAtEnd (S.remaining input.new)
-        × EndsWith (record { sink = W.contents output.old; told = K.told link.old; client = client.old }) bytes (W.contents output.new) (K.told link.new) client.new e) }
+    ensures ok { IfOk result (λ e. (bytes : List ℕ) × Consumes (S.remaining input.old) (S.remaining input.new) bytes
+        × IsAtEnd (S.remaining input.new) × EndsWith (around (W.contents output.old) (K.told link.old) client.old) bytes
+        (around (W.contents output.new) (K.told link.new) client.new) e) }
     ensures fault { IfErr result (λ f. (bytes : List ℕ) × Consumes (S.remaining input.old) (S.remaining input.new) bytes
-        × StopsAt (record { sink = W.contents output.old; told = K.told link.old; client = client.old }) bytes (S.remaining input.new) (W.contents output.new)
-        (S.has_failed input.new) (W.has_failed output.new) (K.told link.new) client.new f) }
+        × StopsAt (around (W.contents output.old) (K.told link.old) client.old) bytes (S.remaining input.new)
+        (around (W.contents output.new) (K.told link.new) client.new) (S.has_failed input.new)
+        (W.has_failed output.new) f) }
     // A device that failed is always told.
     ensures written { OnOk result (W.has_failed output.new ≡ false) }
-    ensures sink_works { W.has_failed output.old ≡ false → result ≢ Err FilterFault.Write → W.has_failed output.new ≡ false }
+    ensures sink_works { W.has_failed output.old ≡ false → result ≢ Err FilterFault.Write →
+        W.has_failed output.new ≡ false }
     // What was written is handed on at every end but a failed write, and so wherever a read fails.
-    ensures flushed { IsFlushed (W.has_flushed output.old) → result ≢ Err FilterFault.Write → IsFlushed (W.has_flushed output.new) }
-    ensures source_works { S.has_failed input.old ≡ false → result ≢ Err FilterFault.Read → S.has_failed input.new ≡ false }
+    ensures flushed { IsFlushed (W.has_flushed output.old) → result ≢ Err FilterFault.Write →
+        IsFlushed (W.has_flushed output.new) }
+    ensures source_works { S.has_failed input.old ≡ false → result ≢ Err FilterFault.Read →
+        S.has_failed input.new ≡ false }
     // Each of the reads takes at most 4,096 bytes.
-    ensures reads { (bytes : List ℕ) × Consumes (S.remaining input.old) (S.remaining input.new) bytes × (length bytes ≤ 4096 * 1099511627776) }
+    ensures reads { (bytes : List ℕ) × Consumes (S.remaining input.old) (S.remaining input.new) bytes
+        × (length bytes ≤ 4096 * 1099511627776) }
 {
     let mut feed = LineFeed::new(alloc);
     let mut filter = Filter {

@@ -1,7 +1,9 @@
 //! Held transactions, and when a recipient is asked for.
-ghost use Rattle.std.specs.Prelude.{true, ◌≡◌, ◌+◌, ◌==◌, ◌<◌, ◌≤◌, ◌^◌, ℕ, length, is_some, Option, Some, None, IfOk, OnOk, OnErr, IfSome, if◌then◌else◌};
+ghost use Rattle.std.specs.Prelude.{true, ◌≡◌, ◌+◌, ◌==◌, ◌<◌, ◌≤◌, ◌^◌, ℕ, length, is_some, Option, Some, None, IfOk};
+ghost use Rattle.std.specs.Prelude.{OnOk, OnErr, IfSome, if◌then◌else◌};
 ghost use Rattle.mq_frame.specs.Range.{IsHost, IsRun, IsOrdinal, IsMoment, IsLogin, IsRequest};
-ghost use Rattle.mq_client.specs.Past.{find, is_other as is_other_lem, refuses as refuses_lem, answer_by, reserve_of, opened, let_through, closing_of};
+ghost use Rattle.mq_client.specs.Past.{find, is_other as is_other_lem, refuses as refuses_lem, answer_by, reserve_of};
+ghost use Rattle.mq_client.specs.Past.{opened, let_through, closing_of};
 ghost use Rattle.mq_client.specs.Held.{IsHeld};
 ghost use Rattle.mq_client.specs.Verdict.{IsVerdict};
 ghost use Rattle.mq_frame.specs.declared.message.Reply.{Reply};
@@ -123,8 +125,10 @@ pub fn hold(
     at: u64,
     login: &[u8],
 ) -> Result<(), AllocError>
-    ensures find { OnOk result ((t : ℕ) → find held.new.entries t ≡ (if txn == t then Some (opened at login.now (find held.old.entries txn)) else find held.old.entries t)) }
-    ensures len { OnOk result (length held.new.entries ≡ (if is_some (find held.old.entries txn) then length held.old.entries else length held.old.entries + 1)) }
+    ensures find { OnOk result ((t : ℕ) → find held.new.entries t ≡ (if txn == t
+        then Some (opened at login.now (find held.old.entries txn)) else find held.old.entries t)) }
+    ensures len { OnOk result (length held.new.entries ≡ (if is_some (find held.old.entries txn)
+        then length held.old.entries else length held.old.entries + 1)) }
     ensures err { OnErr result (held.new.entries ≡ held.old.entries) }
 {
     if held.contains_key(&txn) {
@@ -142,7 +146,8 @@ pub fn hold(
 /// Counts a recipient that was let through.
 pub fn count(held: &mut BTreeMap<u32, Held>, txn: u32, answer: Asked)
     requires { IfSome (find held.old.entries txn) (λ h. h.granted < 1000) }
-    ensures find { (h : Held) → find held.old.entries txn ≡ Some h → (t : ℕ) → find held.new.entries t ≡ (if txn == t then Some (let_through answer h) else find held.old.entries t) }
+    ensures find { (h : Held) → find held.old.entries txn ≡ Some h → (t : ℕ) →
+        find held.new.entries t ≡ (if txn == t then Some (let_through answer h) else find held.old.entries t) }
     ensures len { length held.new.entries ≡ length held.old.entries }
 {
     if answer != Asked::Granted {

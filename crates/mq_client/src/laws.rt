@@ -1,19 +1,21 @@
 //! Laws of a client's past. The functions compute nothing.
-ghost use Rattle.std.specs.Prelude.{◌≡◌, ◌==◌, ◌≤◌, ◌*◌, ◌++◌, ◌∷◌, ℕ, List, Bool, Option, true, false, None, Some, length, count_by, is_some, if◌then◌else◌};
+ghost use Rattle.std.specs.Prelude.{◌≡◌, ◌==◌, ◌≤◌, ◌*◌, ◌++◌, ◌∷◌, ℕ, List, Bool, Option, true, false, None, Some};
+ghost use Rattle.std.specs.Prelude.{length, count_by, is_some, if◌then◌else◌};
 ghost use Rattle.mq_frame.specs.declared.message.Request.{Request};
 ghost use Rattle.mq_client.specs.Exchanges.{Exchange};
-ghost use Rattle.mq_client.specs.Past.{Source, Step, drained, State, StandsAt, view, Plays, ArePlayed, IsPlayed, IsBounded};
+ghost use Rattle.mq_client.specs.Past.{Source, Step, drained, State, StandsAt, view, Plays, ArePlayed, IsPlayed};
+ghost use Rattle.mq_client.specs.Past.{IsBounded};
 ghost use Rattle.mq_client.specs.Reading.{live_in, standing_in, numbers_in, waiting_in};
 ghost use Rattle.mq_client.specs.Turns.{next, ComeInTurn, IsUnderway, AreUnderway, outcomes, all_outcomes};
-ghost use Rattle.mq_client.specs.Numbered.{id_in, txn_in, exchanges_in, request_under, IsNumbered, SettlesWhatWasLet, NoneReturns, Suits};
+ghost use Rattle.mq_client.specs.Numbered.{id_in, txn_in, exchanges_in, request_under, IsNumbered, SettlesWhatWasLet};
+ghost use Rattle.mq_client.specs.Numbered.{NoneReturns, Suits};
 ghost use Rattle.mq_client.specs.Filter.{push, Filters, actions, actions_of};
 ghost use Rattle.mq_line.specs.Grammar.{Meaning};
 ghost use Rattle.std.specs.List.{AllByRecursion};
-ghost use Rattle.mq_client.specs.Run.{Origin, EndsWith, StopsAt};
+ghost use Rattle.mq_client.specs.Run.{Outside, EndsWith, StopsAt};
 ghost use Rattle.mq_client.specs.Place.{is_of_input};
 ghost use Rattle.mq_client.specs.declared.faults.FilterFault.{FilterFault};
 ghost use Rattle.mq_client.specs.declared.filter.Ended.{Ended};
-ghost use Rattle.mq_client.specs.declared.link.Told.{Told};
 
 use mq_frame::laws::one_spelling;
 use mq_line::{any_cutting, one_meaning, one_splitting};
@@ -24,16 +26,19 @@ use mq_track::laws::closed_stays_closed;
 /// exchanges for each try.
 pub fn few_at_a_time()
     ensures bounded { (s : Source) (tries : ℕ) (P : List Step) → AreUnderway s tries P → IsBounded (view s P) }
-    ensures exchanges { (s : Source) (tries : ℕ) (P : List Step) (x : Step) → AreUnderway s tries (x ∷ P) → length x.group ≤ 4096 * tries }
+    ensures exchanges { (s : Source) (tries : ℕ) (P : List Step) (x : Step) → AreUnderway s tries (x ∷ P) →
+        length x.group ≤ 4096 * tries }
 {}
 
 /// What a past leaves is what one reads off the whole list of its steps.
 pub fn readings()
     ensures standing { (s : Source) (P : List Step) (t : ℕ) → (view s P).standing t ≡ standing_in P t }
     // The live transactions are listed, each once.
-    ensures live { (s : Source) (P : List Step) (t : ℕ) → count_by (λ u. u == t) (view s P).live ≡ (if is_some (live_in P t) then 1 else 0) }
+    ensures live { (s : Source) (P : List Step) (t : ℕ) →
+        count_by (λ u. u == t) (view s P).live ≡ (if is_some (live_in P t) then 1 else 0) }
     ensures numbers { (s : Source) (P : List Step) → (view s P).numbers ≡ numbers_in P }
-    ensures waiting { (s : Source) (tries : ℕ) (P : List Step) → AreUnderway s tries P → (view s P).waiting ≡ waiting_in s P }
+    ensures waiting { (s : Source) (tries : ℕ) (P : List Step) → AreUnderway s tries P →
+        (view s P).waiting ≡ waiting_in s P }
 {}
 
 /// Each exchange of a step is the next one: its request follows from what stood before the step and
@@ -41,12 +46,14 @@ pub fn readings()
 pub fn in_turn()
     ensures turns { (s : Source) (tries : ℕ) (P : List Step) (x : Step) → Plays s tries P x → IsUnderway s tries P x }
     ensures all_turns { (s : Source) (tries : ℕ) (P : List Step) → IsPlayed s tries P → AreUnderway s tries P }
-    ensures last { (s : Source) (tries : ℕ) (P : List Step) (x : Step) → Plays s tries P x → next s tries (view s P) x.action x.group ≡ None }
+    ensures last { (s : Source) (tries : ℕ) (P : List Step) (x : Step) → Plays s tries P x →
+        next s tries (view s P) x.action x.group ≡ None }
     ensures same { (tries : ℕ) (queue : List Request) (g h : List Exchange) →
         ComeInTurn tries queue g → ComeInTurn tries queue h → outcomes g ≡ outcomes h → g ≡ h }
     // Steps of the same actions after the same past are the same where their exchanges ended alike,
     // one after another: which step made which exchange follows.
-    ensures steps { (s : Source) (tries : ℕ) (P steps others : List Step) → ArePlayed s tries P steps → ArePlayed s tries P others →
+    ensures steps { (s : Source) (tries : ℕ) (P steps others : List Step) → ArePlayed s tries P steps →
+        ArePlayed s tries P others →
         actions steps ≡ actions others → all_outcomes steps ≡ all_outcomes others → steps ≡ others }
 {
     one_spelling();
@@ -55,26 +62,32 @@ pub fn in_turn()
 /// Each number of a run is used for one request: two exchanges under one number are of one request,
 /// and each request that was sent, or that waits, is the one of its number.
 pub fn one_request_for_a_number()
-    ensures sent { (s : Source) (tries : ℕ) (P : List Step) → AreUnderway s tries P → AllByRecursion (λ x. IsNumbered s P x.request) (exchanges_in P) }
+    ensures sent { (s : Source) (tries : ℕ) (P : List Step) → AreUnderway s tries P →
+        AllByRecursion (λ x. IsNumbered s P x.request) (exchanges_in P) }
     ensures waiting { (s : Source) (P : List Step) → AllByRecursion (IsNumbered s P) (view s P).waiting }
     ensures one { (s : Source) (tries : ℕ) (P : List Step) → AreUnderway s tries P →
-        AllByRecursion (λ x. AllByRecursion (λ y. id_in x.request ≡ id_in y.request → x.request ≡ y.request) (exchanges_in P)) (exchanges_in P) }
+        AllByRecursion (λ x. AllByRecursion (λ y. id_in x.request ≡ id_in y.request →
+        x.request ≡ y.request) (exchanges_in P)) (exchanges_in P) }
 {}
 
 /// Each settle that was sent asks for what its close found let through.
 pub fn settles_are_of_what_was_let()
-    ensures settles { (s : Source) (tries : ℕ) (P : List Step) → AreUnderway s tries P → AllByRecursion (λ x. SettlesWhatWasLet P x.request) (exchanges_in P) }
+    ensures settles { (s : Source) (tries : ℕ) (P : List Step) → AreUnderway s tries P →
+        AllByRecursion (λ x. SettlesWhatWasLet P x.request) (exchanges_in P) }
     // Where no closed transaction was asked for again, a transaction has reserves with its login and
     // moment, and one closing.
     ensures suits { (s : Source) (tries : ℕ) (P : List Step) → AreUnderway s tries P → NoneReturns s P →
-        (n txn : ℕ) (q : Request) → request_under s P n ≡ Some q → txn_in q ≡ Some txn → Suits s n txn ((view s P).standing txn) q }
+        (n txn : ℕ) (q : Request) → request_under s P n ≡ Some q → txn_in q ≡ Some txn →
+        Suits s n txn ((view s P).standing txn) q }
 {}
 
 /// What the filter has its client do follows from the lines, and they never ask for a transaction
 /// that was closed.
 pub fn closed_is_not_asked_for()
-    ensures actions { (L : List Meaning) (steps : List Step) (text : List ℕ) → Filters L steps text → actions steps ≡ actions_of L }
-    ensures none_returns { (s : Source) (L : List Meaning) (P : List Step) → actions P ≡ actions_of L → NoneReturns s P }
+    ensures actions { (L : List Meaning) (steps : List Step) (text : List ℕ) → Filters L steps text →
+        actions steps ≡ actions_of L }
+    ensures none_returns { (s : Source) (L : List Meaning) (P : List Step) → actions P ≡ actions_of L →
+        NoneReturns s P }
 {
     closed_stays_closed();
 }
@@ -85,19 +98,24 @@ pub fn closed_is_not_asked_for()
 pub fn one_run()
     // Two runs to the end of an input whose exchanges ended alike, the last drain's too, do, write and
     // answer the same.
-    ensures ends { (o p : Origin) (bytes : List ℕ) (sink sink' : Option (List ℕ)) (told told' : Option (List Told)) (client client' : State) (e f : Ended) (P : List Step)
-        (h : EndsWith o bytes sink told client e) (i : EndsWith p bytes sink' told' client' f) → StandsAt o.client P → p.client ≡ o.client →
-        all_outcomes (drained h.group h.steps) ≡ all_outcomes (drained i.group i.steps) → (h.steps ≡ i.steps) × (h.group ≡ i.group) × (h.results ≡ i.results) × (e ≡ f) }
+    ensures ends { (o p : Outside) (bytes : List ℕ) (now last : Outside) (e f : Ended) (P : List Step)
+        (h : EndsWith o bytes now e) (i : EndsWith p bytes last f) → StandsAt o.client P → p.client ≡ o.client →
+        all_outcomes (drained h.group h.steps) ≡ all_outcomes (drained i.group i.steps) →
+        (h.steps ≡ i.steps) × (h.group ≡ i.group) × (h.results ≡ i.results) × (e ≡ f) }
     // Two runs that stop at a fault of their input stop at the same line with the same fault. Where
     // their exchanges ended alike, they do and write the same.
-    ensures stops { (o p : Origin) (bytes others rest more : List ℕ) (sink sink' : Option (List ℕ)) (read_failed write_failed read_failed' write_failed' : Bool) (told told' : Option (List Told)) (client client' : State) (f g : FilterFault)
-        (h : StopsAt o bytes (Some rest) sink read_failed write_failed told client f) (i : StopsAt p others (Some more) sink' read_failed' write_failed' told' client' g) →
+    ensures stops { (o p : Outside) (bytes others rest more : List ℕ) (now last : Outside)
+        (read_failed write_failed read_failed' write_failed' : Bool) (f g : FilterFault)
+        (h : StopsAt o bytes (Some rest) now read_failed write_failed f)
+        (i : StopsAt p others (Some more) last read_failed' write_failed' g) →
         bytes ++ rest ≡ others ++ more → is_of_input f ≡ true → is_of_input g ≡ true →
         (f ≡ g) × (h.lines ≡ i.lines) × ((P : List Step) → StandsAt o.client P → p.client ≡ o.client →
-        all_outcomes (push h.step h.steps) ≡ all_outcomes (push i.step i.steps) → (push h.step h.steps ≡ push i.step i.steps) × (h.text ++ h.front ≡ i.text ++ i.front)) }
+        all_outcomes (push h.step h.steps) ≡ all_outcomes (push i.step i.steps) →
+        (push h.step h.steps ≡ push i.step i.steps) × (h.text ++ h.front ≡ i.text ++ i.front)) }
     // Where one run comes to the end of its input, no other one stops at a fault of it.
-    ensures apart { (o p : Origin) (bytes others more : List ℕ) (sink sink' : Option (List ℕ)) (read_failed write_failed : Bool) (told told' : Option (List Told)) (client client' : State) (e : Ended) (g : FilterFault) →
-        EndsWith o bytes sink told client e → StopsAt p others (Some more) sink' read_failed write_failed told' client' g → bytes ≡ others ++ more → is_of_input g ≡ false }
+    ensures apart { (o p : Outside) (bytes others more : List ℕ) (now last : Outside) (read_failed write_failed : Bool)
+        (e : Ended) (g : FilterFault) → EndsWith o bytes now e →
+        StopsAt p others (Some more) last read_failed write_failed g → bytes ≡ others ++ more → is_of_input g ≡ false }
 {
     one_spelling();
     one_meaning();

@@ -12,7 +12,6 @@ mod held;
 mod laws;
 mod link;
 mod named;
-mod put;
 mod script;
 mod tries;
 mod verdict;

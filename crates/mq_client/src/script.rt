@@ -42,7 +42,10 @@ impl ScriptLink {
 
 /// Keeps an exchange, and answers whether it could.
 fn keep(alloc: Global, kept: &mut Vec<Told>, frame: &[u8], outcome: Outcome) -> bool
-    ensures kept { result ≡ true → kept.new.items ≡ kept.old.items ++ record { frame = frame.now; outcome = outcome } ∷ [] }
+    ensures kept { result ≡ true → kept.new.items ≡ kept.old.items ++ record {
+      frame = frame.now;
+      outcome = outcome;
+    } ∷ [] }
     ensures lost { result ≡ false → kept.new.items ≡ kept.old.items }
 {
     let Ok(frame) = Bytes::from_slice(alloc, frame) else {
@@ -70,19 +73,24 @@ fn play(script: &mut VecDeque<Outcome>, reply: &mut Vec<u8>) -> (Outcome, Result
 }
 
 impl Link for ScriptLink {
-    ghost use Rattle.std.specs.Prelude.{◌≡◌, ◌<◌, ◌⊎◌, ◌∷◌, ◌++◌, [], List, OnErr, length, drop, if◌then◌else◌, None, Some};
+    ghost use Rattle.std.specs.Prelude.{◌≡◌, ◌<◌, ◌⊎◌, ◌∷◌, ◌++◌, [], List, OnErr, length, drop, if◌then◌else◌, None};
+    ghost use Rattle.std.specs.Prelude.{Some};
     ghost use Rattle.mq_client.specs.Link.{Tells, outcome_of};
     ghost use Rattle.mq_client.specs.Script.{due, EndsBy};
 
     ghost told = { λ s. if s.tells then Some s.kept.items else None };
 
     fn exchange(&mut self, frame: &[u8], reply: &mut Vec<u8>) -> Result<(), LinkFault>
-        ensures told { Tells (if self.old.tells then Some self.old.kept.items else None) (if self.new.tells then Some self.new.kept.items else None)
+        ensures told { Tells (if self.old.tells then Some self.old.kept.items else None) (if self.new.tells
+            then Some self.new.kept.items else None)
             (record { frame = frame.now; outcome = outcome_of result reply.new.items } ∷ []) }
         ensures empty { OnErr result (reply.new.items ≡ []) }
         ensures due { EndsBy (due self.old.script.items) (outcome_of result reply.new.items) }
         ensures rest { self.new.script.items ≡ drop 1 self.old.script.items }
-        ensures kept { (self.new.kept.items ≡ self.old.kept.items ++ record { frame = frame.now; outcome = outcome_of result reply.new.items } ∷ [])
+        ensures kept { (self.new.kept.items ≡ self.old.kept.items ++ record {
+          frame = frame.now;
+          outcome = outcome_of result reply.new.items;
+        } ∷ [])
             ⊎ (self.new.kept.items ≡ self.old.kept.items) }
         // It still tells where it kept the exchange.
         ensures tells { length self.old.kept.items < length self.new.kept.items → self.new.tells ≡ self.old.tells }

@@ -64,7 +64,8 @@ pub fn try_all<R: Log, L: Link>(
     tries: u32,
 ) -> Option<Verdict>
     requires { IsFramed framed.now }
-    ensures { (group : List Exchange) × (decided : Option Reply) × Tells (L.told link.old) (L.told link.new) (told_all group)
+    ensures { (group : List Exchange) × (decided : Option Reply)
+        × Tells (L.told link.old) (L.told link.new) (told_all group)
         × AreTries tries framed.now.request group decided × IsVerdict decided result }
 {
     let mut body = Vec::new(alloc);
@@ -88,7 +89,8 @@ fn warn_refused<R: Log>(rt: &R, request: &Request, verdict: Verdict) {
 /// Sends a closing up to so many times, and answers whether a reply decided it.
 fn send<R: Log, L: Link>(rt: &R, alloc: Global, link: &mut L, closing: &Framed, tries: u32) -> bool
     requires { IsFramed closing.now }
-    ensures { (group : List Exchange) × Tells (L.told link.old) (L.told link.new) (told_all group) × IsSent tries closing.now.request group result }
+    ensures { (group : List Exchange) × Tells (L.told link.old) (L.told link.new) (told_all group)
+        × IsSent tries closing.now.request group result }
 {
     match try_all(rt, alloc, link, closing, tries) {
         Some(verdict) => {
@@ -116,7 +118,8 @@ pub fn send_all<R: Log, L: Link>(
     tries: u32,
 )
     requires { AllByRecursion IsFramed outbox.old.items }
-    ensures step { (group : List Exchange) × Tells (L.told link.old) (L.told link.new) (told_all group) × Sends tries (requests_of outbox.old.items) group (requests_of outbox.new.items) }
+    ensures step { (group : List Exchange) × Tells (L.told link.old) (L.told link.new) (told_all group)
+        × Sends tries (requests_of outbox.old.items) group (requests_of outbox.new.items) }
     ensures framed { AllByRecursion IsFramed outbox.new.items }
     ensures len { length outbox.new.items ≤ length outbox.old.items }
 {

@@ -33,7 +33,8 @@ fn is_id(id: &Id, parts: IdParts<'_>) -> bool
 
 /// What a reply says to the reserve with this id, where it is an answer to it.
 fn reserve_verdict(id: &Id, reply: ReplyParts<'_>) -> Option<Verdict>
-    ensures { IsVerdict (if answers_reserve id.now (shown_reply reply.entry) then Some (shown_reply reply.entry) else None) result }
+    ensures { IsVerdict (if answers_reserve id.now (shown_reply reply.entry) then Some (shown_reply reply.entry)
+        else None) result }
 {
     let (other, verdict) = match reply {
         ReplyParts::Granted { id, .. } => (id, Verdict::Granted),
@@ -52,7 +53,8 @@ fn reserve_verdict(id: &Id, reply: ReplyParts<'_>) -> Option<Verdict>
 
 /// What a reply says to the settle or release with this id, where it is an answer to it.
 fn closing_verdict(id: &Id, reply: ReplyParts<'_>) -> Option<Verdict>
-    ensures { IsVerdict (if answers_closing id.now (shown_reply reply.entry) then Some (shown_reply reply.entry) else None) result }
+    ensures { IsVerdict (if answers_closing id.now (shown_reply reply.entry) then Some (shown_reply reply.entry)
+        else None) result }
 {
     let (other, verdict) = match reply {
         ReplyParts::Settled { id, .. } => (id, Verdict::Settled),

@@ -300,8 +300,8 @@ const DECIDING: [(&str, &[&str]); 6] = [
         ],
     ),
     (
-        "89 036d7831 0000000000000001 00000002 00000000",
-        &["settle 2 of transaction 7 (host mx1, login u): the transaction holds 0 only"],
+        "89 036d7831 0000000000000001 00000002 00000003",
+        &["settle 2 of transaction 7 (host mx1, login u): the transaction holds 3 only"],
     ),
     (
         "8a 036d7831 0000000000000001 00000002",

@@ -1,9 +1,20 @@
+use Rattle.std.proofs.Common.{◌++◌, ◌∷◌, [], refl, None}
+use Rattle.mq_client.specs.declared.faults.FilterFault.TheVariants as at
+use Rattle.mq_client.proofs.Looping.{stops_within, Does-still, first_of}
 use Rattle.mq_client.proofs.filter.handle.Goals as goal
 
-pub returns-in-Err-take-clause-fault : goal.returns-in-Err-take-clause-fault
-returns-in-Err-take-clause-fault g c = λ rest o bytes source read_failed s.
-    c.in-Err-take.ensures.fault o bytes c.args.bytes.now rest source read_failed c.requires.line c.in-Ok.ensures.found s
+-- a line that can't be read
+pub returns-in-Err-clause-fault : goal.returns-in-Err-clause-fault
+returns-in-Err-clause-fault g c = λ rest o bytes source read_failed s.
+    stops_within o bytes (c.args.bytes.now ++ 10 ∷ rest) c.args.filter.now source _ _ read_failed _ (at.Line c.in-Err.fault) None [] [] s (Does-still _)
+    (λ stage a. (c.args.bytes.now, first_of c.args.bytes.now rest c.requires.line, c.in-Err.ensures.fault))
+    (λ stage a. (refl, refl))
+    (λ stage a e. absurd (cc (e)))
 
-pub returns-in-Err-wait-clause-fault : goal.returns-in-Err-wait-clause-fault
-returns-in-Err-wait-clause-fault g c = λ rest o bytes source read_failed s.
-    c.in-Err-wait.ensures.fault (g.K.Link.told c.args.link.now) c.args.client.now o bytes c.args.bytes.now rest source read_failed c.requires.line c.in-Ok.ensures.found s
+pub returns-in-Err-after_ready-clause-fault : goal.returns-in-Err-after_ready-clause-fault
+returns-in-Err-after_ready-clause-fault g c = λ rest o bytes source read_failed s.
+    c.in-Err-after_ready.ensures.fault o bytes c.args.bytes.now rest source read_failed c.requires.line c.in-Ok.ensures.found s
+
+pub returns-in-Err-before_ready-clause-fault : goal.returns-in-Err-before_ready-clause-fault
+returns-in-Err-before_ready-clause-fault g c = λ rest o bytes source read_failed s.
+    c.in-Err-before_ready.ensures.fault (g.K.Link.told c.args.link.now) c.args.client.now o bytes c.args.bytes.now rest source read_failed c.requires.line c.in-Ok.ensures.found s

@@ -25,7 +25,7 @@ returns-in-Err-clause-fault g c =
     let i = c.loop-read.invariant in (
       i.bytes,
       Consumes-kept _ _ _ _ i.consumed c.in-Err.ensures.bytes,
-      stops _ i.bytes c.loop-read.feed.rest c.loop-read.filter _ _ _ _ _ _ _ _ _ at.Read None [] [] i.so_far (Does-still _ _ _)
+      stops _ i.bytes c.loop-read.feed.rest c.loop-read.filter _ _ _ _ _ at.Read None [] [] i.so_far (Does-still _)
           (λ stage a. (i.held, inl (c.in-Err.ensures.failed)))
           (λ stage a. (refl, refl)),
     )
@@ -42,8 +42,8 @@ returns-in-Err-feed-clause-fault g c =
     let some : 1 ≤ length piece = omega (arith, long) in (
       i.bytes ++ piece,
       Consumes-trans _ _ _ _ _ i.consumed c.in-Ok.ensures.bytes.0,
-      stops _ (i.bytes ++ piece) (c.loop-read.feed.rest ++ piece) c.loop-read.filter _ _ _ _ _ _ _ _ _ at.Memory None [] []
-          (so_far_fed _ i.bytes c.loop-read.feed.rest (c.loop-read.feed.rest ++ piece) piece c.loop-read.filter _ _ _ refl i.so_far) (Does-still _ _ _)
+      stops _ (i.bytes ++ piece) (c.loop-read.feed.rest ++ piece) c.loop-read.filter _ _ _ _ _ at.Memory None [] []
+          (so_far_fed _ i.bytes c.loop-read.feed.rest (c.loop-read.feed.rest ++ piece) piece c.loop-read.filter _ refl i.so_far) (Does-still _)
           (λ stage a. inl (record { held = c.loop-read.feed.rest; piece = piece; whole = refl; is_line = i.held; some = some; few = few }))
           (λ stage a. inl (refl, refl)),
     )
@@ -55,7 +55,7 @@ returns-in-Err-take_lines-clause-fault g c =
     let fed : c.feed-in-loop-read.new.self.rest ≡ c.loop-read.feed.rest ++ piece = search rules in (
       i.bytes ++ piece,
       Consumes-trans _ _ _ _ _ i.consumed c.in-Ok.ensures.bytes.0,
-      (c.in-Err-take_lines.ensures.fault _ (i.bytes ++ piece) _ _ (so_far_fed _ i.bytes c.loop-read.feed.rest c.feed-in-loop-read.new.self.rest piece c.loop-read.filter _ _ _ fed i.so_far)).0,
+      (c.in-Err-take_lines.ensures.fault _ (i.bytes ++ piece) _ _ (so_far_fed _ i.bytes c.loop-read.feed.rest c.feed-in-loop-read.new.self.rest piece c.loop-read.filter _ fed i.so_far)).0,
     )
 
 pub loop-read-preserved : goal.loop-read-preserved
@@ -73,7 +73,7 @@ loop-read-preserved g c =
     record {
       bytes = i.bytes ++ piece;
       consumed = Consumes-trans _ _ _ _ _ i.consumed c.in-Ok.ensures.bytes.0;
-      so_far = c.in-Ok-take_lines.ensures.ok _ (i.bytes ++ piece) (so_far_fed _ i.bytes c.loop-read.feed.rest c.feed-in-loop-read.new.self.rest piece c.loop-read.filter _ _ _ fed i.so_far);
+      so_far = c.in-Ok-take_lines.ensures.ok _ (i.bytes ++ piece) (so_far_fed _ i.bytes c.loop-read.feed.rest c.feed-in-loop-read.new.self.rest piece c.loop-read.filter _ fed i.so_far);
       held = c.in-Ok-take_lines.ensures.left;
       written = c.in-Ok-take_lines.ensures.written i.written;
       sink_works = λ works. c.in-Ok-take_lines.ensures.works (i.sink_works works) (λ no. cc (no));
@@ -90,7 +90,7 @@ returns-clause-fault g c =
     let all : 1099511627776 ≤ length i.bytes = omega (arith, i.reads) in (
       i.bytes,
       i.consumed,
-      stops _ i.bytes c.loop-read.feed.rest c.loop-read.filter _ _ _ _ _ _ _ _ _ at.Read None [] [] i.so_far (Does-still _ _ _)
+      stops _ i.bytes c.loop-read.feed.rest c.loop-read.filter _ _ _ _ _ at.Read None [] [] i.so_far (Does-still _)
           (λ stage a. (i.held, inr all))
           (λ stage a. (refl, refl)),
     )

@@ -2,6 +2,7 @@ use Rattle.std.proofs.Common.{◌≡◌, ◌+◌, ◌*◌, ◌≤◌, ℕ, List,
 use Rattle.std.specs.Io.KnownBytes.{Consumes}
 use Rattle.mq_frame.specs.Flow.{IsFlushed}
 use Rattle.mq_line.specs.Text.{IsLine}
+use Rattle.mq_client.specs.Run.{around}
 use Rattle.mq_client.specs.Loop.{SinkWorks, SoFar}
 use Rattle.mq_client.proofs.filter.run_filter.Given as goal
 
@@ -10,8 +11,8 @@ abbrev pub invariant-loop-read : goal.invariant-loop-read
 invariant-loop-read g l = record {
   bytes : List ℕ;
   consumed : Consumes (g.S.Source.remaining l.initial.input) (g.S.Source.remaining l.input) bytes;
-  so_far : SoFar (record { sink = g.W.Sink.contents l.initial.output; told = g.K.Link.told l.initial.link; client = l.initial.client }) bytes l.feed.rest l.filter
-      (g.W.Sink.contents l.output) (g.K.Link.told l.link) l.client;
+  so_far : SoFar (around (g.W.Sink.contents l.initial.output) (g.K.Link.told l.initial.link) l.initial.client) bytes l.feed.rest l.filter
+      (around (g.W.Sink.contents l.output) (g.K.Link.told l.link) l.client);
   held : IsLine l.feed.rest;
   written : SinkWorks l.filter (g.W.Sink.has_failed l.output);
   sink_works : g.W.Sink.has_failed l.initial.output ≡ false → g.W.Sink.has_failed l.output ≡ false;
