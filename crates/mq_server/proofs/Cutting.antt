@@ -1,5 +1,5 @@
 -- Nothing depends on how an input was cut into pieces.
-use Rattle.std.proofs.Common.{◌≡◌, ℕ, ◌+◌, ◌<◌, List, [], ◌∷◌, ◌++◌, length, refl, sym, ap, subst, ◌∙◌, append-nil, arith, inl, inr, Option, Some, None, Ok}
+use Rattle.std.proofs.Common.{◌≡◌, ℕ, ◌+◌, ◌<◌, List, [], ◌∷◌, ◌++◌, length, map, refl, sym, ap, subst, ◌∙◌, append-nil, append_assoc, arith, inl, inr, Option, Some, None, Ok}
 use Rattle.std.specs.Prelude.{◌⊎◌}
 use Rattle.std.specs.List.{AllZip}
 use Rattle.std.specs.Io.KnownBytes.{Appends, Consumes, IsAtEnd}
@@ -7,10 +7,12 @@ use Rattle.mq_frame.specs.declared.message.Request.{Request}
 use Rattle.mq_frame.specs.declared.message.Reply.{Reply}
 use Rattle.mq_frame.specs.Feed.{Front, Nothing, Cut, EmptyHead, LongHead, Whole, BeginsWith, front}
 use Rattle.mq_frame.specs.Spelling.{SpellsRequest}
+use Rattle.mq_ledger.specs.Legal.{Book}
 use Rattle.mq_server.specs.declared.connection.Served.{Served}
 use Rattle.mq_server.specs.declared.connection.Served.TheVariants.{Ended, Enough, BadFrame, CutFrame}
 use Rattle.mq_server.specs.Connection.{Wire, Serves}
-use Rattle.mq_server.specs.Delivery.{Delivery, asked}
+use Rattle.mq_server.specs.Connections.{wires, AreServed, AreServedWhole, AppendEach}
+use Rattle.mq_server.specs.Delivery.{Delivery, asked, answer_to}
 use Rattle.mq_server.specs.Text.{Asks, IsBad, IsEnd, IsServed, LosesAlike, SpellsNone, next, served}
 use Rattle.mq_server.proofs.Heads.{whole_more}
 use Rattle.mq_server.proofs.Running.{asks_more}
@@ -168,3 +170,71 @@ served_one_way one input came others e f p q alike =
     one_way one 0 input p.asks.bodies q.asks.bodies came others p.rest q.rest e f
     (record { frames = p.asks.frames; each = p.asks.each; ends = subst E (omega arith) p.ends })
     (record { frames = q.asks.frames; each = q.asks.each; ends = subst F (omega arith) q.ends }) alike
+
+-- ---- several inputs, one after another
+
+pub all_whole : Stay → (b : Book) (earlier all : List Delivery) (inputs : List (List ℕ)) (holds : List (Option (List ℕ))) (news : List Wire) (ends : List Served)
+    → length holds ≡ length inputs → length ends ≡ length inputs → AreServed b earlier (wires (map Some inputs) holds) news (map Ok ends) all
+    → (texts : List (List ℕ)) × AreServedWhole b earlier inputs texts ends all × AppendEach holds news texts
+all_whole stay b earlier all [] [] [] [] h e s = ([], s.0, tt)
+all_whole stay b earlier all [] [] (new ∷ news) [] h e s = cc
+all_whole stay b earlier all [] (x ∷ holds) news ends h e s = absurd (omega (arith, h))
+all_whole stay b earlier all [] [] news (x ∷ ends) h e s = absurd (omega (arith, e))
+all_whole stay b earlier all (input ∷ inputs) [] news ends h e s = absurd (omega (arith, h))
+all_whole stay b earlier all (input ∷ inputs) (x ∷ holds) news [] h e s = absurd (omega (arith, e))
+all_whole stay b earlier all (input ∷ inputs) (x ∷ holds) [] (end ∷ ends) h e s = absurd s
+all_whole stay b earlier all (input ∷ inputs) (x ∷ holds) (new ∷ news) (end ∷ ends) h e (came, one, s) =
+    let (is, grown) = served_whole stay (λ ds d. answer_to b (earlier ++ ds) d) came (record { remaining = Some input; contents = x }) new end input one refl in
+    let (texts, rest, each) = all_whole stay b (earlier ++ came) all inputs holds news ends (omega (arith, h)) (omega (arith, e)) s in
+    (served (λ ds d. answer_to b (earlier ++ ds) d) came end ∷ texts, (came, is, refl, rest), (grown, each))
+
+begins : (b : Book) (earlier all : List Delivery) (inputs texts : List (List ℕ)) (ends : List Served) → AreServedWhole b earlier inputs texts ends all → (more : List Delivery) × (all ≡ earlier ++ more)
+begins b earlier all [] [] [] s = ([], s ∙ sym (append-nil earlier))
+begins b earlier all [] [] (e ∷ ends) s = absurd s
+begins b earlier all [] (text ∷ texts) ends s = absurd s
+begins b earlier all (input ∷ inputs) [] ends s = absurd s
+begins b earlier all (input ∷ inputs) (text ∷ texts) [] s = absurd s
+begins b earlier all (input ∷ inputs) (text ∷ texts) (e ∷ ends) (came, is, same, s) =
+    let (more, all_is) = begins b (earlier ++ came) all inputs texts ends s in
+    (came ++ more, all_is ∙ append_assoc earlier came more)
+
+alike_first : (came others more rest : List Delivery) → LosesAlike (came ++ more) (others ++ rest) → LosesAlike came others
+alike_first [] others more rest h = tt
+alike_first (d ∷ came) [] more rest h = tt
+alike_first (d ∷ came) (x ∷ others) more rest h = (h.0, alike_first came others more rest h.1)
+
+alike_behind : (earlier came others : List Delivery) → LosesAlike (earlier ++ came) (earlier ++ others) → LosesAlike came others
+alike_behind [] came others h = h
+alike_behind (d ∷ earlier) came others h = alike_behind earlier came others h.1
+
+alike_here : (earlier all others came came' more rest : List Delivery) → all ≡ (earlier ++ came) ++ more → others ≡ (earlier ++ came') ++ rest → LosesAlike all others → LosesAlike came came'
+alike_here earlier all others came came' more rest p q h =
+    let first : all ≡ earlier ++ (came ++ more) = p ∙ append_assoc earlier came more in
+    let second : others ≡ earlier ++ (came' ++ rest) = q ∙ append_assoc earlier came' rest in
+    let P : List Delivery → Type 0 = λ x. LosesAlike x others in
+    let Q : List Delivery → Type 0 = λ x. LosesAlike (earlier ++ (came ++ more)) x in
+    alike_first came came' more rest (alike_behind earlier (came ++ more) (came' ++ rest) (subst Q second (subst P first h)))
+
+not_whole_ends : (b : Book) (earlier all : List Delivery) (texts : List (List ℕ)) (f : Served) (stops : List Served) → AreServedWhole b earlier [] texts (f ∷ stops) all → ⊥
+not_whole_ends b earlier all [] f stops s = s
+not_whole_ends b earlier all (text ∷ texts) f stops s = s
+
+pub all_one_way : OneRequest → (b : Book) (earlier all others : List Delivery) (inputs texts written : List (List ℕ)) (ends stops : List Served)
+    → AreServedWhole b earlier inputs texts ends all → AreServedWhole b earlier inputs written stops others → LosesAlike all others → (texts ≡ written) × (ends ≡ stops) × (all ≡ others)
+all_one_way one b earlier all others [] [] [] [] [] p q alike = (refl, refl, p ∙ sym q)
+all_one_way one b earlier all others [] [] written [] (f ∷ stops) p q alike = absurd (not_whole_ends b earlier others written f stops q)
+all_one_way one b earlier all others [] [] (w ∷ written) [] [] p q alike = absurd q
+all_one_way one b earlier all others [] [] written (e ∷ ends) stops p q alike = absurd p
+all_one_way one b earlier all others [] (text ∷ texts) written ends stops p q alike = absurd p
+all_one_way one b earlier all others (input ∷ inputs) [] written ends stops p q alike = absurd p
+all_one_way one b earlier all others (input ∷ inputs) (text ∷ texts) written [] stops p q alike = absurd p
+all_one_way one b earlier all others (input ∷ inputs) (text ∷ texts) [] (e ∷ ends) stops p q alike = absurd q
+all_one_way one b earlier all others (input ∷ inputs) (text ∷ texts) (w ∷ written) (e ∷ ends) [] p q alike = absurd q
+all_one_way one b earlier all others (input ∷ inputs) (text ∷ texts) (w ∷ written) (e ∷ ends) (f ∷ stops) (came, is, text_is, s) (came', is', w_is, s') alike =
+    let (more, all_is) = begins b (earlier ++ came) all inputs texts ends s in
+    let (rest, others_is) = begins b (earlier ++ came') others inputs written stops s' in
+    let (same, same_end) = served_one_way one input came came' e f is is' (alike_here earlier all others came came' more rest all_is others_is alike) in
+    let P : List Delivery → Type 0 = λ c. AreServedWhole b (earlier ++ c) inputs written stops others in
+    let (texts_same, ends_same, all_same) = all_one_way one b (earlier ++ came) all others inputs texts written ends stops s (subst P (sym same) s') alike in
+    let here : text ≡ w = text_is ∙ (λ i. served (λ ds d. answer_to b (earlier ++ ds) d) (same i) (same_end i)) ∙ sym w_is in
+    (λ i. here i ∷ texts_same i, λ i. same_end i ∷ ends_same i, all_same)

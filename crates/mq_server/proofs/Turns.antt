@@ -1,7 +1,9 @@
 -- One connection more is served.
-use Rattle.std.proofs.Common.{◌≡◌, ℕ, zero, suc, ◌<◌, List, [], ◌∷◌, ◌++◌, length, map, get_or, set, refl, sym, ap, subst, ◌∙◌, append-nil, append_assoc, arith, Option, Result, Ok, Err}
+use Rattle.std.proofs.Common.{◌≡◌, ℕ, zero, suc, ◌<◌, List, [], ◌∷◌, ◌++◌, ◌+◌, length, length-drop, drop, map, get_or, set, refl, sym, ap, subst, ◌∙◌, append-nil, append_assoc, arith, Option, Result, Ok, Err}
 use Rattle.std.specs.List.{AllZip}
-use Rattle.std.proofs.lemmas.List.{map-set, get_or-map, length-map}
+use Rattle.std.specs.Prelude.{All}
+use Rattle.std.proofs.lemmas.List.{map-set, get_or-map, get_or-drop, drop-drop, drop-set-lt, length-map}
+use Rattle.std.proofs.lemmas.List.Elements.{All-get_or}
 use Rattle.mq_frame.specs.declared.message.Reply.{Reply}
 use Rattle.mq_frame.specs.declared.message.Request.{Request}
 use Rattle.mq_ledger.specs.declared.entry.Entry.{Entry}
@@ -146,3 +148,31 @@ zip_push P [] [] x y all p = (p, tt)
 zip_push P [] (b ∷ ys) x y all p = absurd all
 zip_push P (a ∷ xs) [] x y all p = absurd all
 zip_push P (a ∷ xs) (b ∷ ys) x y all p = (all.0, zip_push P xs ys x y all.1 p)
+
+-- ---- devices of connections that weren't served yet
+
+stays_at : {X : Type 0} (xs ys : List X) (i : ℕ) (d : X) → drop i xs ≡ drop i ys → get_or xs i d ≡ get_or ys i d
+stays_at xs ys i d e =
+    let here : i ≡ i + 0 = omega arith in
+    ap (λ n. get_or xs n d) here ∙ sym (get_or-drop i xs 0 d) ∙ ap (λ l. get_or l 0 d) e ∙ get_or-drop i ys 0 d ∙ ap (λ n. get_or ys n d) (sym here)
+
+-- one that wasn't served yet has what all had
+pub still : {X : Type 0} (P : X → Type 0) (xs ys : List X) (i : ℕ) (d : X) → drop i xs ≡ drop i ys → i < length xs → All P ys → P (get_or xs i d)
+still P xs ys i d e here all =
+    let there : i < length ys = omega (arith, here, ap length e, length-drop i xs, length-drop i ys) in
+    subst P (sym (stays_at xs ys i d e)) (All-get_or P ys i d there all)
+
+pub still_next : {X : Type 0} (xs ys : List X) (i : ℕ) (x : X) → drop i xs ≡ drop i ys → drop (i + 1) (set xs i x) ≡ drop (i + 1) ys
+still_next xs ys i x e = drop-set-lt (i + 1) xs i x (omega arith) ∙ sym (drop-drop 1 i xs) ∙ ap (drop 1) e ∙ drop-drop 1 i ys
+
+pub read_end : (end : ConnectionEnd) → result_of end ≡ Err Read → end ≡ ends.Read
+read_end (ends.Served e) is = cc
+read_end ends.Read is = refl
+read_end ends.Write is = cc
+read_end ends.Memory is = cc
+
+pub write_end : (end : ConnectionEnd) → result_of end ≡ Err Write → end ≡ ends.Write
+write_end (ends.Served e) is = cc
+write_end ends.Read is = cc
+write_end ends.Write is = refl
+write_end ends.Memory is = cc

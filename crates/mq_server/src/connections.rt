@@ -1,6 +1,7 @@
 //! Several connections, one after another.
-ghost use Rattle.std.specs.Prelude.{◌≡◌, ◌⊎◌, [], ◌∷◌, ◌++◌, true, length, map, List, Err, IfOk, IfErr, OnErr};
+ghost use Rattle.std.specs.Prelude.{◌≡◌, ◌≢◌, ◌⊎◌, [], ◌∷◌, ◌++◌, true, false, length, map, List, All, Err, IfOk, IfErr};
 ghost use Rattle.std.specs.List.{AllZip};
+ghost use Rattle.mq_frame.specs.Flow.{IsFlushed};
 ghost use Rattle.mq_frame.specs.declared.message.Request.{Request as AnyRequest};
 ghost use Rattle.mq_ledger.specs.Told.{Tells};
 ghost use Rattle.mq_server.specs.declared.connections.ConnectionEnd.{ConnectionEnd as AnEnd};
@@ -61,6 +62,14 @@ pub fn serve_all<S: Source, W: Sink, L: Ledger>(
         end ≡ ConnectionEnd.Read → S.has_failed input ≡ true) ends.items inputs.new) }
     ensures write { IfOk result (λ ends. AllZip (λ end output.
         end ≡ ConnectionEnd.Write → W.has_failed output ≡ true) ends.items outputs.new) }
+    // Where all devices work at the start, those of a connection still do after each end but a failed
+    // read or write, and what was written is handed on at each end but a failed write.
+    ensures source_works { All (λ input. S.has_failed input ≡ false) inputs.old → IfOk result (λ ends.
+        AllZip (λ end input. end ≢ ConnectionEnd.Read → S.has_failed input ≡ false) ends.items inputs.new) }
+    ensures sink_works { All (λ output. W.has_failed output ≡ false) outputs.old → IfOk result (λ ends.
+        AllZip (λ end output. end ≢ ConnectionEnd.Write → W.has_failed output ≡ false) ends.items outputs.new) }
+    ensures flushed { All (λ output. IsFlushed (W.has_flushed output)) outputs.old → IfOk result (λ ends.
+        AllZip (λ end output. end ≢ ConnectionEnd.Write → IsFlushed (W.has_flushed output)) ends.items outputs.new) }
     ensures same_zone { (L.book ledger.new).zone ≡ (L.book ledger.old).zone }
     ensures same_default { (L.book ledger.new).default ≡ (L.book ledger.old).default }
     ensures kept { L.has_kept ledger.new → L.has_kept ledger.old }

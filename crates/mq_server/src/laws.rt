@@ -1,5 +1,5 @@
 //! Laws of what is served. Each is the contract of a function that does nothing.
-ghost use Rattle.std.specs.Prelude.{◌≡◌, ◌⊎◌, ℕ, List, ◌++◌, Some, Ok};
+ghost use Rattle.std.specs.Prelude.{◌≡◌, ◌⊎◌, ℕ, List, ◌++◌, length, map, Option, Some, Ok};
 ghost use Rattle.std.specs.Io.KnownBytes.{Appends};
 ghost use Rattle.mq_frame.specs.declared.message.Reply.{Reply};
 ghost use Rattle.mq_ledger.specs.Answer.{replies_after};
@@ -9,6 +9,7 @@ ghost use Rattle.mq_ledger.specs.Legal.{Book};
 ghost use Rattle.mq_server.specs.declared.connection.Served.{Served};
 ghost use Rattle.mq_server.specs.declared.connection.Served.TheVariants.{BadFrame, Enough};
 ghost use Rattle.mq_server.specs.Connection.{Wire, Serves};
+ghost use Rattle.mq_server.specs.Connections.{wires, AreServed, AreServedWhole, AppendEach};
 ghost use Rattle.mq_server.specs.Delivery.{Delivery, arrivals, answer_to, taken_answers};
 ghost use Rattle.mq_server.specs.Text.{IsServed, LosesAlike, served};
 
@@ -29,6 +30,26 @@ pub fn any_cutting()
     // What stands behind Bad and behind the last answer changes nothing.
     ensures more { (input more : List ℕ) (came : List Delivery) (e : Served) →
         (e ≡ BadFrame) ⊎ (e ≡ Enough) → IsServed input came e → IsServed (input ++ more) came e }
+{
+    frames_stay();
+    one_spelling();
+}
+
+/// What is served on several connections in turn depends on the bytes of their inputs and on the
+/// ledger alone.
+pub fn any_cuttings()
+    // Where the inputs' bytes are known and each connection is served to its end, what is written on
+    // each is what is served for all of its input.
+    ensures whole { (b : Book) (earlier all : List Delivery) (inputs : List (List ℕ)) (holds : List (Option (List ℕ)))
+        (news : List Wire) (ends : List Served) → length holds ≡ length inputs → length ends ≡ length inputs →
+        AreServed b earlier (wires (map Some inputs) holds) news (map Ok ends) all →
+        (texts : List (List ℕ)) × AreServedWhole b earlier inputs texts ends all × AppendEach holds news texts }
+
+    // Inputs are served in one way, for each choice of the requests that the ledger loses.
+    ensures only { (b : Book) (earlier all others : List Delivery) (inputs texts written : List (List ℕ))
+        (ends stops : List Served) → AreServedWhole b earlier inputs texts ends all →
+        AreServedWhole b earlier inputs written stops others → LosesAlike all others →
+        (texts ≡ written) × (ends ≡ stops) × (all ≡ others) }
 {
     frames_stay();
     one_spelling();

@@ -1,4 +1,4 @@
-use Rattle.std.proofs.Common.{◌≡◌, ◌+◌, ◌<◌, [], ◌∷◌, ◌++◌, length, map, take, get_or, set, sym, ap, ◌∙◌, arith, Err, Result}
+use Rattle.std.proofs.Common.{◌≡◌, ◌+◌, ◌<◌, [], ◌∷◌, ◌++◌, length, map, take, get_or, set, sym, ap, ◌∙◌, arith, false, Err, Result}
 use Rattle.std.proofs.lemmas.List.{take_more_set, map-append, length-map, length-append, length-set}
 use Rattle.mq_server.specs.declared.connections.ConnectionEnd.{ConnectionEnd as End}
 use Rattle.mq_server.specs.declared.connection.Served.{Served}
@@ -6,7 +6,8 @@ use Rattle.mq_server.specs.declared.fault.ServeFault.{ServeFault}
 use Rattle.mq_server.specs.declared.fault.ServeFault.TheVariants.{Store}
 use Rattle.mq_server.specs.Connections.{result_of}
 use Rattle.mq_server.proofs.Deliveries.{Follows}
-use Rattle.mq_server.proofs.Turns.{turn, told_turn, told_failed, zip_push}
+use Rattle.mq_server.proofs.Turns.{turn, told_turn, told_failed, zip_push, still, still_next, read_end, write_end}
+use Rattle.mq_frame.specs.Flow.{IsFlushed}
 use Rattle.mq_server.proofs.connections.serve_all.Goals as goal
 
 pub returns-in_err-end-clause-store : goal.returns-in_err-end-clause-store
@@ -37,6 +38,17 @@ loop-i-preserved g c =
       pairs = omega (arith, i.pairs, length-set c.loop-i.inputs c.loop-i.i c.serve.new.input, length-set c.loop-i.outputs c.loop-i.i c.serve.new.output);
       reads = rw (grown, inputs) (zip_push _ c.loop-i.ends.items (take c.loop-i.i c.loop-i.inputs) end c.serve.new.input i.reads (λ e. c.serve.ensures.read (sym ended ∙ ap result_of e)));
       writes = rw (grown, outputs) (zip_push _ c.loop-i.ends.items (take c.loop-i.i c.loop-i.outputs) end c.serve.new.output i.writes (λ e. c.serve.ensures.write (sym ended ∙ ap result_of e)));
+      inputs_left = still_next c.loop-i.inputs c.args.inputs.now c.loop-i.i c.serve.new.input i.inputs_left;
+      outputs_left = still_next c.loop-i.outputs c.args.outputs.now c.loop-i.i c.serve.new.output i.outputs_left;
+      sources = λ all.
+          let works = still (λ input. g.S.Source.has_failed input ≡ false) c.loop-i.inputs c.args.inputs.now c.loop-i.i c.index-inputs-i.result i.inputs_left here all in
+          rw (grown, inputs) (zip_push _ c.loop-i.ends.items (take c.loop-i.i c.loop-i.inputs) end c.serve.new.input (i.sources all) (λ other. c.serve.ensures.source_works works (λ e. other (read_end end (ended ∙ e)))));
+      sinks = λ all.
+          let works = still (λ output. g.W.Sink.has_failed output ≡ false) c.loop-i.outputs c.args.outputs.now c.loop-i.i c.index-outputs-i.result i.outputs_left there all in
+          rw (grown, outputs) (zip_push _ c.loop-i.ends.items (take c.loop-i.i c.loop-i.outputs) end c.serve.new.output (i.sinks all) (λ other. c.serve.ensures.sink_works works (λ e. other (write_end end (ended ∙ e)))));
+      flushes = λ all.
+          let handed_on = still (λ output. IsFlushed (g.W.Sink.has_flushed output)) c.loop-i.outputs c.args.outputs.now c.loop-i.i c.index-outputs-i.result i.outputs_left there all in
+          rw (grown, outputs) (zip_push _ c.loop-i.ends.items (take c.loop-i.i c.loop-i.outputs) end c.serve.new.output (i.flushes all) (λ other. c.serve.ensures.flushed handed_on (λ e. other (write_end end (ended ∙ e)))));
       same_zone = c.serve.ensures.same_zone ∙ i.same_zone;
       same_default = c.serve.ensures.same_default ∙ i.same_default;
       was_kept = λ k. i.was_kept (c.serve.ensures.kept k);

@@ -1,4 +1,6 @@
-use Rattle.std.proofs.Common.{◌≡◌, ◌≤◌, true, List, [], length, map, take, vec_len, vec_capacity}
+use Rattle.std.proofs.Common.{◌≡◌, ◌≤◌, true, false, List, [], length, map, take, drop, vec_len, vec_capacity}
+use Rattle.std.specs.Prelude.{◌≢◌, All}
+use Rattle.mq_frame.specs.Flow.{IsFlushed}
 use Rattle.std.specs.List.{AllZip}
 use Rattle.mq_ledger.specs.Told.{Tells}
 use Rattle.mq_server.specs.declared.connections.ConnectionEnd.TheVariants as ends
@@ -19,6 +21,11 @@ invariant-loop-i g l =
       pairs : length l.inputs ≡ length l.outputs;
       reads : AllZip (λ end input. end ≡ ends.Read → g.S.Source.has_failed input ≡ true) l.ends.items (take l.i l.inputs);
       writes : AllZip (λ end output. end ≡ ends.Write → g.W.Sink.has_failed output ≡ true) l.ends.items (take l.i l.outputs);
+      inputs_left : drop l.i l.inputs ≡ drop l.i l.fn.inputs;
+      outputs_left : drop l.i l.outputs ≡ drop l.i l.fn.outputs;
+      sources : All (λ input. g.S.Source.has_failed input ≡ false) l.fn.inputs → AllZip (λ end input. end ≢ ends.Read → g.S.Source.has_failed input ≡ false) l.ends.items (take l.i l.inputs);
+      sinks : All (λ output. g.W.Sink.has_failed output ≡ false) l.fn.outputs → AllZip (λ end output. end ≢ ends.Write → g.W.Sink.has_failed output ≡ false) l.ends.items (take l.i l.outputs);
+      flushes : All (λ output. IsFlushed (g.W.Sink.has_flushed output)) l.fn.outputs → AllZip (λ end output. end ≢ ends.Write → IsFlushed (g.W.Sink.has_flushed output)) l.ends.items (take l.i l.outputs);
       same_zone : (book l.ledger).zone ≡ (book l.fn.ledger).zone;
       same_default : (book l.ledger).default ≡ (book l.fn.ledger).default;
       was_kept : kept l.ledger → kept l.fn.ledger;
