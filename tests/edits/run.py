@@ -27,11 +27,12 @@ sys.path.insert(0, HERE)
 import minutes
 from lanes import Task, in_lanes
 from own_test import OwnTest
-from prover import RT, Crate, Running, below, lines_in, rows_of, run
+from prover import RT, Crate, Ended, Running, below, lines_in, rows_of, run
 from rounds import Killed, Rounds
 
 # rt ci has the crates' proofs and tests to go through: so many seconds at most.
 LONGEST_CI = 170 * 60
+SIGNALS = (signal.SIGTERM, signal.SIGINT, signal.SIGHUP)
 COUNTS = re.compile(r"(\d+) passed, (\d+) failed\Z")
 
 
@@ -186,10 +187,12 @@ def main(words):
     sum_ = Sum()
 
     def end(number, _):
+        for it in SIGNALS:
+            signal.signal(it, signal.SIG_IGN)
         Running.end()
         raise Ended(f"signal {number}")
 
-    for it in (signal.SIGTERM, signal.SIGINT, signal.SIGHUP):
+    for it in SIGNALS:
         signal.signal(it, end)
     try:
         verb, names = (words[0], words[1:]) if words else ("", [])
