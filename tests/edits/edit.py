@@ -31,23 +31,23 @@ class Edit:
                 elif line.startswith("new:"):
                     if not path or not old:
                         raise BadEdit("a 'new:' line stands before any 'file:' or 'old:' line")
-                    self.pairs.append((path, old, line[4:].removeprefix(" ")))
+                    self.pairs.append((path, old, re.sub(r"\A ", "", line[4:])))
                     old = None
                 elif line.startswith("function:"):
                     said.append(line[9:].strip())
         if not self.pairs:
             raise BadEdit("it has no 'old:' and 'new:' pair")
-        self.changed = set()
-        self.apply(folder, {})
-        # what the prover must refuse
-        self.wanted = set(said) or self.changed
+        changed = set()
+        self.apply(folder, {}, changed)
+        # the functions of which the prover must refuse one, and those that nothing else in its round may change
+        self.wanted = set(said) or changed
+        self.touched = self.wanted | changed
         if not self.wanted:
             raise BadEdit("what it changes lies in no function: name one by a line 'function: module::Type::name'")
-        # what stands for a change in the round
-        self.touched = self.wanted | self.changed
 
-    def apply(self, folder, texts):
-        """Returns these texts by path with the edit's changes, over the files of the crate in the folder."""
+    def apply(self, folder, texts, changed=None):
+        """Returns these texts by path with the edit's changes, over the files of the crate in the folder, and adds to `changed`
+        the functions that they lie in."""
         texts = dict(texts)
         for path, old, new in self.pairs:
             if path not in texts:
@@ -59,8 +59,9 @@ class Edit:
             found = texts[path].count(old)
             if found != 1:
                 raise BadEdit(f"an 'old:' text is in {path} {found} times, and not once")
-            at = texts[path].index(old)
-            self.changed |= functions_between(path, texts[path], at, at + len(old))
+            if changed is not None:
+                at = texts[path].index(old)
+                changed |= functions_between(path, texts[path], at, at + len(old))
             texts[path] = texts[path].replace(old, new)
         return texts
 

@@ -6,8 +6,8 @@ from concurrent.futures import FIRST_COMPLETED, ThreadPoolExecutor, wait
 # The most memory that tasks may take together, in bytes.
 MOST = 20e9
 
-# What a task is called, how long it takes beside others, how many bytes it may take, and the call that is its work.
-Task = namedtuple("Task", "name work memory call")
+# What a task is of, how long it takes beside others, how many bytes it may take, and the call that is its work.
+Task = namedtuple("Task", "of work memory call")
 
 
 def processors():
@@ -29,7 +29,7 @@ def free():
 
 
 def in_lanes(tasks):
-    """Runs each task, the longest first, and yields each with its result, or with what it raised, as it ends."""
+    """Runs each task, the longest first, and yields what it is of and its future, as it ends."""
     lanes, memory, running = processors(), free(), {}
     left = sorted(tasks, key=lambda it: -it.work)
     with ThreadPoolExecutor(lanes) as pool:
@@ -40,4 +40,4 @@ def in_lanes(tasks):
                     left.remove(task)
                     running[pool.submit(task.call)] = task
             for it in wait(running, return_when=FIRST_COMPLETED).done:
-                yield running.pop(it), it
+                yield running.pop(it).of, it

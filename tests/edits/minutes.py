@@ -60,4 +60,5 @@ def table(seconds, whole):
     for crate in crates:
         row(f"`{crate}`", [seconds[crate, kind] for kind in kinds])
     row("together", [sum(seconds[crate, kind] for crate in crates) for kind in kinds])
+    lines.append(f"\nBeside these, {(whole - sum(seconds.values())) / 60:.1f} minutes: what `rt` itself takes, and the tests' and programs' runs.")
     return [*lines, f"The gate takes {whole / 60:.0f} minutes of processor time."]

@@ -61,28 +61,41 @@ GROUPS = [
 ]
 
 
-def run():
-    """Returns what the rounds say of edits whose end is known, each as it must be or not, and the processor seconds."""
-    results, seconds = [], 0.0
-    for group in GROUPS:
+class OwnTest:
+    """Has the rounds try edits whose end is known, and finds of each whether what they say of it is right."""
+
+    name, edits = "tests/edits", [it for group in GROUPS for it in group]
+
+    def __init__(self):
+        self.results, self.seconds, self.count = [], 0.0, 0
+
+    def run(self):
+        self.results = []
+        for group in GROUPS:
+            said = {it.name.partition("/")[2].partition(".")[0]: it for it in self.tried(group)}
+            for name, _, is_refused, words in group:
+                it = said.pop(name, Result(not is_refused, name, "nothing"))
+                is_well = it.is_well == is_refused and words in it.said
+                self.results.append(Result(is_well, f"{self.name}: {name}", "told rightly" if is_well else f"told wrongly: {it.said}"))
+            for it in said.values():
+                self.results.append(Result(False, f"{self.name}: {it.name}", f"told of, and not asked for: {it.said}"))
+
+    def tried(self, group):
+        """Returns what the rounds say of a group of edits."""
         with tempfile.TemporaryDirectory(prefix="edits-own-") as root:
+            crate = f"{root}/crates/counting"
             for folder in ("src", "must-fail"):
-                os.makedirs(f"{root}/crates/counting/{folder}")
+                os.makedirs(f"{crate}/{folder}")
             write(f"{root}/crates.txt", "counting:\n")
-            write(f"{root}/crates/counting/src/lib.rt", SOURCE)
+            write(f"{crate}/src/lib.rt", SOURCE)
             for name, text, _, _ in group:
                 if text:
-                    write(f"{root}/crates/counting/must-fail/{name}.edit", f"file: src/lib.rt\n{text}\n")
-            rounds = Rounds(Crate(root, "counting"), f"{root}/crates/counting/must-fail")
+                    write(f"{crate}/must-fail/{name}.edit", f"file: src/lib.rt\n{text}\n")
+            rounds = Rounds(Crate(root, "counting"), f"{crate}/must-fail")
             rounds.run()
-        seconds += rounds.seconds
-        said = {it.name.partition("/")[2].partition(".")[0]: it for it in rounds.results}
-        for name, _, is_refused, words in group:
-            it = said.pop(name, Result(not is_refused, name, "nothing was said of it"))
-            is_well = it.is_well == is_refused and words in it.said
-            results.append(Result(is_well, f"own test/{name}", "told rightly" if is_well else f"told wrongly: {it.said}"))
-        results += [Result(False, f"own test/{it.name}", f"told of, and not asked for: {it.said}") for it in said.values()]
-    return results, seconds
+        self.seconds += rounds.seconds
+        self.count += rounds.count
+        return rounds.results
 
 
 def write(file, text):

@@ -55,6 +55,7 @@ def run(words, folder, longest, tell=None):
         os.killpg(started.pid, signal.SIGKILL)
 
     timer = threading.Timer(longest, stop)
+    timer.daemon = True
     timer.start()
     said = []
     with started.stdout:

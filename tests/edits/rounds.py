@@ -29,7 +29,7 @@ def overlap(some, others):
 class Rounds:
     def __init__(self, crate, place):
         """The edits of the crate that lie in the folder."""
-        self.crate, self.results, self.seconds, self.count = crate, [], 0.0, 0
+        self.crate, self.name, self.results, self.seconds, self.count = crate, crate.name, [], 0.0, 0
         self.edits = []
         good, bad = edits_in(place)
         for name in good:
@@ -46,6 +46,7 @@ class Rounds:
         self.results.append(Result(is_well, f"{self.crate.name}/{name}", said))
 
     def check(self, texts, only, kept, holes=True):
+        self.count += 1
         ran = self.crate.check(texts, only, kept, holes)
         self.seconds += ran.seconds
         if ran.status == -9:
@@ -97,7 +98,6 @@ class Rounds:
         return not only or self.check({}, sorted(only), kept, holes=False).status == 0
 
     def try_round(self, edits, kept):
-        self.count += 1
         ran = self.check(self.composed(edits), sorted(set().union(*(it.wanted for it in edits))), kept)
         told = Told(ran, self.crate.name)
         if told.ended and ran.status == 1 and not told.unread:

@@ -25,13 +25,14 @@ TOP = os.path.dirname(os.path.dirname(HERE))
 sys.path.insert(0, HERE)
 
 import minutes
-import own_test
 from lanes import Task, in_lanes
-from prover import RT, Crate, Running, below, lines_in, rows_of, run
+from own_test import OwnTest
+from prover import RT, Crate, Ended, Running, below, lines_in, rows_of, run
 from rounds import Killed, Rounds
 
 # rt ci has the crates' proofs and tests to go through: so many seconds at most.
 LONGEST_CI = 170 * 60
+SIGNALS = (signal.SIGTERM, signal.SIGINT, signal.SIGHUP)
 COUNTS = re.compile(r"(\d+) passed, (\d+) failed\Z")
 
 
@@ -63,13 +64,14 @@ class Sum:
 
 
 def files_of(tree):
-    """Returns the tree's files but for what git ignores, or in a tree without git what rt and Python made."""
-    if os.path.lexists(f"{tree}/.git"):
-        words = ["git", "-C", tree, "ls-files", "-z", "--cached", "--others", "--exclude-standard"]
-        listed = subprocess.run(words, stdout=subprocess.PIPE, check=True).stdout.decode(errors="surrogateescape").split("\0")
+    """Returns the tree's files but for what git ignores, or where git has nothing to say, what rt and Python made."""
+    words = ["git", "-c", "safe.directory=*", "-C", tree, "ls-files", "-z", "--cached", "--others", "--exclude-standard"]
+    ran = subprocess.run(words, stdout=subprocess.PIPE) if os.path.lexists(f"{tree}/.git") and shutil.which("git") else None
+    if ran and not ran.returncode:
+        listed = ran.stdout.decode(errors="surrogateescape").split("\0")
     else:
         listed = [os.path.relpath(f"{at}/{it}", tree) for at, _, names in os.walk(tree) for it in names]
-        listed = [it for it in listed if not re.match(r"crates/[^/]+/out/|(.*/)?__pycache__/", it)]
+        listed = [it for it in listed if not re.match(r"\.git(/|\Z)|crates/[^/]+/out/|(.*/)?__pycache__/", it)]
     return sorted(it for it in {*listed} if it and os.path.lexists(f"{tree}/{it}"))
 
 
@@ -92,7 +94,7 @@ def copy_tree(wanted, tree, edits):
 
 
 def run_ci(tree, sum_):
-    """Runs rt ci over the tree, and adds what it counts and the time of each crate."""
+    """Runs rt ci over the tree, adds what it counts and the time of each crate, and returns the crates that it refused."""
     lines = []
 
     def tell(line):
@@ -108,23 +110,25 @@ def run_ci(tree, sum_):
     sum_.passed += passed
     if failed or ran.status != 0 or not counts:
         sum_.fail("rt ci", f"it ended with status {ran.status} and {failed} failed", max(failed, 1))
+    return {it[1] for it in map(re.compile(r"rt: (\w+) NOT PROVED").match, lines) if it}
 
 
-def try_edits(crates, place_of, sum_):
-    """Tries the edits of each crate in rounds, some crates side by side. What was killed is tried once more, alone."""
-    tasks = []
+def try_edits(crates, place_of, sum_, others=()):
+    """Tries the edits of each crate in rounds, some crates side by side, and other tasks beside them. What was killed is tried
+    once more, alone."""
+    tasks = [*others]
     for crate in crates:
         rounds = Rounds(crate, place_of(crate.name))
         missing = [it for it in crate.below if not os.path.isdir(crate.rlib(it))]
-        if missing:
+        if missing and (rounds.edits or rounds.results):
             sum_.fail(crate.name, f"its edits were not tried, since its library {missing[0]} is not proved")
         elif rounds.edits or rounds.results:
             tasks.append(Task(rounds, (3 + len(rounds.edits)) * lines_in(crate.folder, ""), crate.memory(), rounds.run))
     killed = [rounds for rounds, ended in in_lanes(tasks) if not is_done(rounds, ended.result, sum_)]
     for rounds in killed:
-        print(f"== {rounds.crate.name}: a check was killed, most likely for memory: once more, alone", flush=True)
+        print(f"== {rounds.name}: a check was killed, most likely for memory: once more, alone", flush=True)
         if not is_done(rounds, rounds.run, sum_):
-            sum_.fail(rounds.crate.name, "a check of its edits was killed twice, most likely for memory")
+            sum_.fail(rounds.name, "a check of its edits was killed twice, most likely for memory")
 
 
 def is_done(rounds, call, sum_):
@@ -135,11 +139,11 @@ def is_done(rounds, call, sum_):
         return False
     except Exception as why:
         traceback.print_exc(file=sys.stdout)
-        sum_.fail(rounds.crate.name, f"the rounds of its edits broke off: {why!r}")
+        sum_.fail(rounds.name, f"the rounds of its edits broke off: {why!r}")
     else:
-        print(f"== {rounds.crate.name}: {len(rounds.edits)} edits in {rounds.count} checks, {rounds.seconds:.0f} s", flush=True)
+        print(f"== {rounds.name}: {len(rounds.edits)} edits in {rounds.count} checks, {rounds.seconds:.0f} s", flush=True)
         sum_.add(rounds.results)
-    sum_.seconds[rounds.crate.name, "edits"] += rounds.seconds
+    sum_.seconds[rounds.name, "edits"] += rounds.seconds
     return True
 
 
@@ -152,11 +156,12 @@ def gate(names, sum_):
         copy_tree(wanted, tree, edits)
         for it in {*os.listdir(edits)} - {*rows}:
             sum_.fail(it, "it has must-fail edits, and is no crate of crates.txt")
-        run_ci(tree, sum_)
-        results, seconds = own_test.run()
-        sum_.add(results)
-        sum_.seconds["tests/edits", "test"] += seconds
-        try_edits([Crate(tree, it) for it in rows_of(tree)], lambda it: f"{edits}/{it}", sum_)
+        refused = run_ci(tree, sum_)
+        for it in sorted(refused & {*os.listdir(edits)}):
+            sum_.fail(it, "its edits were not tried, since it is not proved")
+        own = OwnTest()
+        crates = [Crate(tree, it) for it in rows_of(tree) if it not in refused]
+        try_edits(crates, lambda it: f"{edits}/{it}", sum_, [Task(own, 0, 1e9, own.run)])
     whole = resource.getrusage(resource.RUSAGE_CHILDREN)
     print("\n".join(minutes.table(sum_.seconds, whole.ru_utime + whole.ru_stime)), flush=True)
 
@@ -182,10 +187,12 @@ def main(words):
     sum_ = Sum()
 
     def end(number, _):
+        for it in SIGNALS:
+            signal.signal(it, signal.SIG_IGN)
         Running.end()
         raise Ended(f"signal {number}")
 
-    for it in (signal.SIGTERM, signal.SIGINT, signal.SIGHUP):
+    for it in SIGNALS:
         signal.signal(it, end)
     try:
         verb, names = (words[0], words[1:]) if words else ("", [])

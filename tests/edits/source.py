@@ -92,7 +92,7 @@ def functions(text):
 
 def module_of(path):
     """Returns the names of the module that a file of src/ is."""
-    return tuple(it for it in path.removeprefix("src/").removesuffix(".rt").split("/") if it not in ("lib", "main", "mod"))
+    return tuple(it for it in path[len("src/"):-len(".rt")].split("/") if it not in ("lib", "main", "mod"))
 
 
 def function_at(path, text, at):
