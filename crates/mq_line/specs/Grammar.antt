@@ -44,7 +44,8 @@ is_number most digits = nat_lt 0 (length digits) && (nat_le (length digits) most
 -- the number before the point, where it and what follows it have as many digits as they may
 abbrev pub seconds_around : List (List ℕ) → Option ℕ
 seconds_around (whole ∷ fraction ∷ []) =
-    if is_number max_second_digits whole && is_number max_fraction_digits fraction then Some (digits_value 10 whole) else None
+    if is_number max_second_digits whole && is_number max_fraction_digits fraction
+    then Some (digits_value 10 whole) else None
 seconds_around _ = None
 
 -- the seconds of a time, which has one point (46)

@@ -44,11 +44,11 @@ fn front_of(rest: &[u8], searched: usize) -> Front
 /// Takes a text in pieces and gives its lines: the bytes before each LF, at most 65,536 of them.
 ///
 /// A contract sees of a feed `rest`, the bytes that were fed and not taken, `held`, how many bytes it keeps,
-/// and `room`, for how many it has memory. However the text is cut into pieces, the lines are the same. What was taken leaves at the next
-/// `feed`, and then the rest moves to the front; what was searched for an LF isn't searched again. So a caller
-/// that takes lines until `None` before each `feed` pays for a text by its length, however short its pieces
-/// are, and the feed keeps at most 65,536 bytes and a piece. One that leaves whole lines there pays once more
-/// for them at each `feed` that follows a line.
+/// and `room`, for how many it has memory. However the text is cut into pieces, the lines are the same. What
+/// was taken leaves at the next `feed`, and then the rest moves to the front; what was searched for an LF
+/// isn't searched again. So a caller that takes lines until `None` before each `feed` pays for a text by its
+/// length, however short its pieces are, and the feed keeps at most 65,536 bytes and a piece. One that leaves
+/// whole lines there pays once more for them at each `feed` that follows a line.
 #[derive(Drop)]
 pub struct LineFeed {
     // What was fed, from the first byte that wasn't taken before the last `feed`.
