@@ -11,9 +11,14 @@ use Rattle.mq_frame.specs.declared.message.Request.{Request}
 use Rattle.mq_frame.specs.declared.message.Request.TheVariants.{Reserve, Settle, Release, Limit, Usage, List as ListRequest}
 use Rattle.mq_frame.specs.declared.message.Reply.{Reply}
 use Rattle.mq_frame.specs.declared.message.Reply.TheVariants.{Granted, Full, Settled, Released, LimitSet, Over, Closed, Mismatch, TooMany, Conflict, Usage as UsageReply, List as ListReply, Retry, Bad}
+use Rattle.mq_frame.specs.declared.format.TheConstants.{RESERVE, SETTLE, RELEASE, LIMIT, USAGE, LIST}
+use Rattle.mq_frame.specs.declared.format.TheConstants.{GRANTED, FULL, SETTLED, RELEASED, LIMIT_SET, OVER, CLOSED, MISMATCH, TOO_MANY, CONFLICT}
+use Rattle.mq_frame.specs.declared.format.TheConstants.{USAGE_REPLY, LIST_REPLY, RETRY, BAD}
+use Rattle.mq_frame.specs.declared.format.TheConstants.{HOST_LIMIT, LOGIN_LIMIT, LAST_RUN, LAST_ORDINAL, FIRST_MOMENT, LAST_MOMENT}
+use Rattle.mq_frame.specs.declared.format.TheConstants.{LAST_DAY, COUNT_LIMIT, AMOUNT_LIMIT, ROW_LIMIT}
 use Rattle.mq_frame.specs.Range.{IsWithin, IsHostByte, IsHost, IsLogin, IsAfter, IsRun, IsOrdinal, IsMoment, IsDay, IsCount, IsAmount, IsId, IsRow, IsPage}
 use Rattle.mq_frame.specs.Spelling.{SpellsRequest, SpellsReply}
-use Rattle.mq_frame.specs.Reading.{◌>>=◌, Field, between, text, pair, whole, is_host_byte, host, login, ordinal, moment, count, amount, day, id, row, page, transaction, limit, usage, if_none_left, request_of_kind, request_at, numbered_reply, reply_of_kind, reply_at}
+use Rattle.mq_frame.specs.Reading.{Field, between, text, pair, whole, is_host_byte, host, login, after, run, ordinal, moment, count, amount, day, id, row, page, Transaction, transaction_of, transaction, reserve_of, settle_of, release_of, limit_of, usage_of, list_of, granted_of, full_of, settled_of, released_of, over_of, too_many_of, usage_reply_of, list_reply_of, made_of, if_none_left, request_of_kind, request_at, numbered_reply, reply_of_kind, reply_at}
 use Rattle.mq_frame.proofs.FieldLaws.{IsField, IsBytes, IsBytes-tail, within, tested, bind_some, kept_some, number_field, text_field, where_field, as_field, pair_field, made_field, counted_field, wide32, wide64, whole_takes, whole_again}
 
 -- ---- the fields
@@ -56,34 +61,39 @@ host_bytes_tested name h = list_all-from_AllPass is_host_byte name (All-weaker I
 
 host_field : IsField host IsHost
 host_field =
-    as_field host (λ t. IsWithin 1 64 (length t) × (list_all is_host_byte t ≡ true)) IsHost
+    as_field host (λ t. IsWithin 1 HOST_LIMIT (length t) × (list_all is_host_byte t ≡ true)) IsHost
     (λ t h. record { size = h.0; bytes = host_bytes t h.1 }) (λ t h. (h.size, host_bytes_tested t h.bytes))
-    (where_field (list_all is_host_byte) (text 1 64) (λ t. IsWithin 1 64 (length t)) (text_field 1 64))
+    (where_field (list_all is_host_byte) (text 1 HOST_LIMIT) (λ t. IsWithin 1 HOST_LIMIT (length t)) (text_field 1 HOST_LIMIT))
 
 login_field : IsField login IsLogin
-login_field = text_field 1 255
+login_field = text_field 1 LOGIN_LIMIT
+
+after_field : IsField after IsAfter
+after_field = text_field 0 LOGIN_LIMIT
+
+run_field : IsField run IsRun
+run_field = number_field w64 (2 ^ 64) wide64 1 LAST_RUN (omega arith)
 
 ordinal_field : IsField ordinal IsOrdinal
-ordinal_field = number_field w32 (2 ^ 32) wide32 1 4294967295 (omega arith)
+ordinal_field = number_field w32 (2 ^ 32) wide32 1 LAST_ORDINAL (omega arith)
 
 moment_field : IsField moment IsMoment
-moment_field = number_field w64 (2 ^ 64) wide64 86400 32503680000 (omega arith)
+moment_field = number_field w64 (2 ^ 64) wide64 FIRST_MOMENT LAST_MOMENT (omega arith)
 
 count_field : IsField count IsCount
-count_field = number_field w32 (2 ^ 32) wide32 1 1000 (omega arith)
+count_field = number_field w32 (2 ^ 32) wide32 1 COUNT_LIMIT (omega arith)
 
 amount_field : IsField amount IsAmount
-amount_field = number_field w32 (2 ^ 32) wide32 0 1000000 (omega arith)
+amount_field = number_field w32 (2 ^ 32) wide32 0 AMOUNT_LIMIT (omega arith)
 
 day_field : IsField day IsDay
-day_field = number_field w32 (2 ^ 32) wide32 0 376200 (omega arith)
+day_field = number_field w32 (2 ^ 32) wide32 0 LAST_DAY (omega arith)
 
 id_field : IsField id IsId
 id_field =
     as_field id (λ i. IsHost i.host × (IsRun i.run × IsOrdinal i.seq)) IsId (λ i h. record { host = h.0; run = h.1.0; seq = h.1.1 }) (λ i h. (h.host, (h.run, h.seq)))
     (made_field _ _ _ (λ x. IsHost x.0 × (IsRun x.1.0 × IsOrdinal x.1.1)) (λ x. refl) (λ i. refl)
-    (pair_field host _ IsHost (λ x. IsRun x.0 × IsOrdinal x.1) host_field
-    (pair_field _ ordinal IsRun IsOrdinal (number_field w64 (2 ^ 64) wide64 1 281474976710655 (omega arith)) ordinal_field)))
+    (pair_field host _ IsHost (λ x. IsRun x.0 × IsOrdinal x.1) host_field (pair_field run ordinal IsRun IsOrdinal run_field ordinal_field)))
 
 row_field : IsField row IsRow
 row_field =
@@ -94,20 +104,26 @@ row_field =
     (pair_field amount _ IsAmount (λ x. IsAmount x.0 × IsAmount x.1) amount_field (pair_field amount amount IsAmount IsAmount amount_field amount_field))))
 
 page_field : IsField page IsPage
-page_field = as_field page (λ rows. IsWithin 0 100 (length rows) × All IsRow rows) IsPage (λ rows h. record { size = h.0; each = h.1 }) (λ rows h. (h.size, h.each)) (counted_field 100 row IsRow row_field)
+page_field = as_field page (λ rows. IsWithin 0 ROW_LIMIT (length rows) × All IsRow rows) IsPage (λ rows h. record { size = h.0; each = h.1 }) (λ rows h. (h.size, h.each)) (counted_field ROW_LIMIT row IsRow row_field)
 
-abbrev IsTransaction : Id × (ℕ × (ℕ × List ℕ)) → Type 0
-IsTransaction x = IsId x.0 × (IsOrdinal x.1.0 × (IsMoment x.1.1.0 × IsLogin x.1.1.1))
+record IsTransaction (t : Transaction) : Type 0 where
+  id : IsId t.id
+  txn : IsOrdinal t.txn
+  at : IsMoment t.at
+  login : IsLogin t.login
 
 transaction_field : IsField transaction IsTransaction
 transaction_field =
-    pair_field id _ IsId (λ x. IsOrdinal x.0 × (IsMoment x.1.0 × IsLogin x.1.1)) id_field
-    (pair_field ordinal _ IsOrdinal (λ x. IsMoment x.0 × IsLogin x.1) ordinal_field (pair_field moment login IsMoment IsLogin moment_field login_field))
+    as_field transaction (λ t. IsId t.id × (IsOrdinal t.txn × (IsMoment t.at × IsLogin t.login))) IsTransaction
+    (λ t h. record { id = h.0; txn = h.1.0; at = h.1.1.0; login = h.1.1.1 }) (λ t h. (h.id, (h.txn, (h.at, h.login))))
+    (made_field _ _ _ (λ x. IsId x.0 × (IsOrdinal x.1.0 × (IsMoment x.1.1.0 × IsLogin x.1.1.1))) (λ x. refl) (λ t. refl)
+    (pair_field id _ IsId (λ x. IsOrdinal x.0 × (IsMoment x.1.0 × IsLogin x.1.1)) id_field
+    (pair_field ordinal _ IsOrdinal (λ x. IsMoment x.0 × IsLogin x.1) ordinal_field (pair_field moment login IsMoment IsLogin moment_field login_field))))
 
 counting_field : IsField (pair transaction count) (λ x. IsTransaction x.0 × IsCount x.1)
 counting_field = pair_field transaction count IsTransaction IsCount transaction_field count_field
 
-limit_field : IsField limit (λ x. IsId x.0 × (IsDay x.1.0 × (IsAmount x.1.1.0 × IsLogin x.1.1.1)))
+limit_field : IsField (pair id (pair day (pair amount login))) (λ x. IsId x.0 × (IsDay x.1.0 × (IsAmount x.1.1.0 × IsLogin x.1.1.1)))
 limit_field =
     pair_field id _ IsId (λ x. IsDay x.0 × (IsAmount x.1.0 × IsLogin x.1.1)) id_field
     (pair_field day _ IsDay (λ x. IsAmount x.0 × IsLogin x.1) day_field (pair_field amount login IsAmount IsLogin amount_field login_field))
@@ -115,8 +131,8 @@ limit_field =
 login_and_day_field : IsField (pair login day) (λ x. IsLogin x.0 × IsDay x.1)
 login_and_day_field = pair_field login day IsLogin IsDay login_field day_field
 
-day_and_after_field : IsField (pair day (text 0 255)) (λ x. IsDay x.0 × IsAfter x.1)
-day_and_after_field = pair_field day (text 0 255) IsDay IsAfter day_field (text_field 0 255)
+day_and_after_field : IsField (pair day after) (λ x. IsDay x.0 × IsAfter x.1)
+day_and_after_field = pair_field day after IsDay IsAfter day_field after_field
 
 id_and_amount_field : IsField (pair id amount) (λ x. IsId x.0 × IsAmount x.1)
 id_and_amount_field = pair_field id amount IsId IsAmount id_field amount_field
@@ -130,7 +146,7 @@ id_and_count_field = pair_field id count IsId IsCount id_field count_field
 id_and_day_field : IsField (pair id (pair day amount)) (λ x. IsId x.0 × (IsDay x.1.0 × IsAmount x.1.1))
 id_and_day_field = pair_field id _ IsId (λ x. IsDay x.0 × IsAmount x.1) id_field (pair_field day amount IsDay IsAmount day_field amount_field)
 
-usage_field : IsField usage (λ x. IsLogin x.0 × (IsDay x.1.0 × (IsAmount x.1.1.0 × (IsAmount x.1.1.1.0 × IsAmount x.1.1.1.1))))
+usage_field : IsField (pair login (pair day (pair amount (pair amount amount)))) (λ x. IsLogin x.0 × (IsDay x.1.0 × (IsAmount x.1.1.0 × (IsAmount x.1.1.1.0 × IsAmount x.1.1.1.1))))
 usage_field =
     pair_field login _ IsLogin (λ x. IsDay x.0 × (IsAmount x.1.0 × (IsAmount x.1.1.0 × IsAmount x.1.1.1))) login_field
     (pair_field day _ IsDay (λ x. IsAmount x.0 × (IsAmount x.1.0 × IsAmount x.1.1)) day_field
@@ -143,7 +159,7 @@ day_and_page_field = pair_field day page IsDay IsPage day_field page_field
 
 -- a body of this kind, whose fields are those of the value
 spelled_kind : {X V : Type 0} (Spells : List ℕ → V → Type 0) (k : ℕ) (f : Field X) (F : X → Type 0) → IsField f F → (make : X → V) → ((x : X) → F x → Spells (k ∷ f.spell x) (make x))
-    → (kind : ℕ) (bytes : List ℕ) (v : V) → IsBytes bytes → (kind == k) ≡ true → (whole f bytes >>= λ x. Some (make x)) ≡ Some v → Spells (kind ∷ bytes) v
+    → (kind : ℕ) (bytes : List ℕ) (v : V) → IsBytes bytes → (kind == k) ≡ true → made_of make f bytes ≡ Some v → Spells (kind ∷ bytes) v
 spelled_kind {X} {V} Spells k f F field make made kind bytes v fits is e =
     let one : kind ≡ k = (Decides-eqb kind k).0 is in
     let b = bind_some (whole f bytes) (λ x. Some (make x)) v e in
@@ -172,18 +188,18 @@ kind_or false here later v e = inr e
 
 request_spelled : (kind : ℕ) (bytes : List ℕ) (r : Request) → IsBytes bytes → request_of_kind kind bytes ≡ Some r → SpellsRequest (kind ∷ bytes) r
 request_spelled kind bytes r fits e =
-    elim (kind_or (kind == 0x01) _ _ r e) [
-      | inl h ↦ spelled_kind SpellsRequest 0x01 (pair transaction count) _ counting_field _ (λ x h. record { bytes = refl; in_range = (h.0.0, h.0.1.0, h.0.1.1.0, h.0.1.1.1, h.1) }) kind bytes r fits h.0 h.1
-      | inr e2 ↦ elim (kind_or (kind == 0x02) _ _ r e2) [
-        | inl h ↦ spelled_kind SpellsRequest 0x02 (pair transaction count) _ counting_field _ (λ x h. record { bytes = refl; in_range = (h.0.0, h.0.1.0, h.0.1.1.0, h.0.1.1.1, h.1) }) kind bytes r fits h.0 h.1
-        | inr e3 ↦ elim (kind_or (kind == 0x03) _ _ r e3) [
-          | inl h ↦ spelled_kind SpellsRequest 0x03 transaction _ transaction_field _ (λ x h. record { bytes = refl; in_range = (h.0, h.1.0, h.1.1.0, h.1.1.1) }) kind bytes r fits h.0 h.1
-          | inr e4 ↦ elim (kind_or (kind == 0x04) _ _ r e4) [
-            | inl h ↦ spelled_kind SpellsRequest 0x04 limit _ limit_field _ (λ x h. record { bytes = refl; in_range = (h.0, h.1.0, h.1.1.0, h.1.1.1) }) kind bytes r fits h.0 h.1
-            | inr e5 ↦ elim (kind_or (kind == 0x05) _ _ r e5) [
-              | inl h ↦ spelled_kind SpellsRequest 0x05 (pair login day) _ login_and_day_field _ (λ x h. record { bytes = refl; in_range = (h.0, h.1) }) kind bytes r fits h.0 h.1
-              | inr e6 ↦ elim (kind_or (kind == 0x06) _ _ r e6) [
-                | inl h ↦ spelled_kind SpellsRequest 0x06 (pair day (text 0 255)) _ day_and_after_field _ (λ x h. record { bytes = refl; in_range = (h.0, h.1) }) kind bytes r fits h.0 h.1
+    elim (kind_or (kind == RESERVE) _ _ r e) [
+      | inl h ↦ spelled_kind SpellsRequest RESERVE (pair transaction count) _ counting_field reserve_of (λ x h. record { bytes = refl; in_range = (h.0.id, h.0.txn, h.0.at, h.0.login, h.1) }) kind bytes r fits h.0 h.1
+      | inr e2 ↦ elim (kind_or (kind == SETTLE) _ _ r e2) [
+        | inl h ↦ spelled_kind SpellsRequest SETTLE (pair transaction count) _ counting_field settle_of (λ x h. record { bytes = refl; in_range = (h.0.id, h.0.txn, h.0.at, h.0.login, h.1) }) kind bytes r fits h.0 h.1
+        | inr e3 ↦ elim (kind_or (kind == RELEASE) _ _ r e3) [
+          | inl h ↦ spelled_kind SpellsRequest RELEASE transaction _ transaction_field release_of (λ x h. record { bytes = refl; in_range = (h.id, h.txn, h.at, h.login) }) kind bytes r fits h.0 h.1
+          | inr e4 ↦ elim (kind_or (kind == LIMIT) _ _ r e4) [
+            | inl h ↦ spelled_kind SpellsRequest LIMIT (pair id (pair day (pair amount login))) _ limit_field limit_of (λ x h. record { bytes = refl; in_range = (h.0, h.1.0, h.1.1.0, h.1.1.1) }) kind bytes r fits h.0 h.1
+            | inr e5 ↦ elim (kind_or (kind == USAGE) _ _ r e5) [
+              | inl h ↦ spelled_kind SpellsRequest USAGE (pair login day) _ login_and_day_field usage_of (λ x h. record { bytes = refl; in_range = (h.0, h.1) }) kind bytes r fits h.0 h.1
+              | inr e6 ↦ elim (kind_or (kind == LIST) _ _ r e6) [
+                | inl h ↦ spelled_kind SpellsRequest LIST (pair day after) _ day_and_after_field list_of (λ x h. record { bytes = refl; in_range = (h.0, h.1) }) kind bytes r fits h.0 h.1
                 | inr e7 ↦ absurd cc
               ]
             ]
@@ -194,26 +210,26 @@ request_spelled kind bytes r fits e =
 
 numbered_spelled : (kind : ℕ) (bytes : List ℕ) (r : Reply) → IsBytes bytes → numbered_reply kind bytes ≡ Some r → SpellsReply (kind ∷ bytes) r
 numbered_spelled kind bytes r fits e =
-    elim (kind_or (kind == 0x81) _ _ r e) [
-      | inl h ↦ spelled_kind SpellsReply 0x81 (pair id amount) _ id_and_amount_field _ (λ x h. record { bytes = refl; in_range = (h.0, h.1) }) kind bytes r fits h.0 h.1
-      | inr e2 ↦ elim (kind_or (kind == 0x82) _ _ r e2) [
-        | inl h ↦ spelled_kind SpellsReply 0x82 (pair id (pair amount amount)) _ id_and_two_field _ (λ x h. record { bytes = refl; in_range = (h.0, h.1.0, h.1.1) }) kind bytes r fits h.0 h.1
-        | inr e3 ↦ elim (kind_or (kind == 0x83) _ _ r e3) [
-          | inl h ↦ spelled_kind SpellsReply 0x83 (pair id count) _ id_and_count_field _ (λ x h. record { bytes = refl; in_range = (h.0, h.1) }) kind bytes r fits h.0 h.1
-          | inr e4 ↦ elim (kind_or (kind == 0x84) _ _ r e4) [
-            | inl h ↦ spelled_kind SpellsReply 0x84 (pair id amount) _ id_and_amount_field _ (λ x h. record { bytes = refl; in_range = (h.0, h.1) }) kind bytes r fits h.0 h.1
-            | inr e5 ↦ elim (kind_or (kind == 0x85) _ _ r e5) [
-              | inl h ↦ spelled_kind SpellsReply 0x85 id _ id_field _ (λ x h. record { bytes = refl; in_range = h }) kind bytes r fits h.0 h.1
-              | inr e6 ↦ elim (kind_or (kind == 0x86) _ _ r e6) [
-                | inl h ↦ spelled_kind SpellsReply 0x86 (pair id (pair day amount)) _ id_and_day_field _ (λ x h. record { bytes = refl; in_range = (h.0, h.1.0, h.1.1) }) kind bytes r fits h.0 h.1
-                | inr e7 ↦ elim (kind_or (kind == 0x87) _ _ r e7) [
-                  | inl h ↦ spelled_kind SpellsReply 0x87 id _ id_field _ (λ x h. record { bytes = refl; in_range = h }) kind bytes r fits h.0 h.1
-                  | inr e8 ↦ elim (kind_or (kind == 0x88) _ _ r e8) [
-                    | inl h ↦ spelled_kind SpellsReply 0x88 id _ id_field _ (λ x h. record { bytes = refl; in_range = h }) kind bytes r fits h.0 h.1
-                    | inr e9 ↦ elim (kind_or (kind == 0x89) _ _ r e9) [
-                      | inl h ↦ spelled_kind SpellsReply 0x89 (pair id amount) _ id_and_amount_field _ (λ x h. record { bytes = refl; in_range = (h.0, h.1) }) kind bytes r fits h.0 h.1
-                      | inr e10 ↦ elim (kind_or (kind == 0x8a) _ _ r e10) [
-                        | inl h ↦ spelled_kind SpellsReply 0x8a id _ id_field _ (λ x h. record { bytes = refl; in_range = h }) kind bytes r fits h.0 h.1
+    elim (kind_or (kind == GRANTED) _ _ r e) [
+      | inl h ↦ spelled_kind SpellsReply GRANTED (pair id amount) _ id_and_amount_field granted_of (λ x h. record { bytes = refl; in_range = (h.0, h.1) }) kind bytes r fits h.0 h.1
+      | inr e2 ↦ elim (kind_or (kind == FULL) _ _ r e2) [
+        | inl h ↦ spelled_kind SpellsReply FULL (pair id (pair amount amount)) _ id_and_two_field full_of (λ x h. record { bytes = refl; in_range = (h.0, h.1.0, h.1.1) }) kind bytes r fits h.0 h.1
+        | inr e3 ↦ elim (kind_or (kind == SETTLED) _ _ r e3) [
+          | inl h ↦ spelled_kind SpellsReply SETTLED (pair id count) _ id_and_count_field settled_of (λ x h. record { bytes = refl; in_range = (h.0, h.1) }) kind bytes r fits h.0 h.1
+          | inr e4 ↦ elim (kind_or (kind == RELEASED) _ _ r e4) [
+            | inl h ↦ spelled_kind SpellsReply RELEASED (pair id amount) _ id_and_amount_field released_of (λ x h. record { bytes = refl; in_range = (h.0, h.1) }) kind bytes r fits h.0 h.1
+            | inr e5 ↦ elim (kind_or (kind == LIMIT_SET) _ _ r e5) [
+              | inl h ↦ spelled_kind SpellsReply LIMIT_SET id _ id_field LimitSet (λ x h. record { bytes = refl; in_range = h }) kind bytes r fits h.0 h.1
+              | inr e6 ↦ elim (kind_or (kind == OVER) _ _ r e6) [
+                | inl h ↦ spelled_kind SpellsReply OVER (pair id (pair day amount)) _ id_and_day_field over_of (λ x h. record { bytes = refl; in_range = (h.0, h.1.0, h.1.1) }) kind bytes r fits h.0 h.1
+                | inr e7 ↦ elim (kind_or (kind == CLOSED) _ _ r e7) [
+                  | inl h ↦ spelled_kind SpellsReply CLOSED id _ id_field Closed (λ x h. record { bytes = refl; in_range = h }) kind bytes r fits h.0 h.1
+                  | inr e8 ↦ elim (kind_or (kind == MISMATCH) _ _ r e8) [
+                    | inl h ↦ spelled_kind SpellsReply MISMATCH id _ id_field Mismatch (λ x h. record { bytes = refl; in_range = h }) kind bytes r fits h.0 h.1
+                    | inr e9 ↦ elim (kind_or (kind == TOO_MANY) _ _ r e9) [
+                      | inl h ↦ spelled_kind SpellsReply TOO_MANY (pair id amount) _ id_and_amount_field too_many_of (λ x h. record { bytes = refl; in_range = (h.0, h.1) }) kind bytes r fits h.0 h.1
+                      | inr e10 ↦ elim (kind_or (kind == CONFLICT) _ _ r e10) [
+                        | inl h ↦ spelled_kind SpellsReply CONFLICT id _ id_field Conflict (λ x h. record { bytes = refl; in_range = h }) kind bytes r fits h.0 h.1
                         | inr e11 ↦ absurd cc
                       ]
                     ]
@@ -228,14 +244,14 @@ numbered_spelled kind bytes r fits e =
 
 reply_spelled : (kind : ℕ) (bytes : List ℕ) (r : Reply) → IsBytes bytes → reply_of_kind kind bytes ≡ Some r → SpellsReply (kind ∷ bytes) r
 reply_spelled kind bytes r fits e =
-    elim (kind_or (kind == 0x8b) _ _ r e) [
-      | inl h ↦ spelled_kind SpellsReply 0x8b usage _ usage_field _ (λ x h. record { bytes = refl; in_range = (h.0, h.1.0, h.1.1.0, h.1.1.1.0, h.1.1.1.1) }) kind bytes r fits h.0 h.1
-      | inr e2 ↦ elim (kind_or (kind == 0x8c) _ _ r e2) [
-        | inl h ↦ spelled_kind SpellsReply 0x8c (pair day page) _ day_and_page_field _ (λ x h. record { bytes = refl; in_range = (h.0, h.1) }) kind bytes r fits h.0 h.1
-        | inr e3 ↦ elim (kind_or (kind == 0x8d) _ _ r e3) [
-          | inl h ↦ spelled_alone SpellsReply 0x8d Retry (record { bytes = refl; in_range = tt }) kind bytes r h.0 h.1
-          | inr e4 ↦ elim (kind_or (kind == 0x8e) _ _ r e4) [
-            | inl h ↦ spelled_alone SpellsReply 0x8e Bad (record { bytes = refl; in_range = tt }) kind bytes r h.0 h.1
+    elim (kind_or (kind == USAGE_REPLY) _ _ r e) [
+      | inl h ↦ spelled_kind SpellsReply USAGE_REPLY (pair login (pair day (pair amount (pair amount amount)))) _ usage_field usage_reply_of (λ x h. record { bytes = refl; in_range = (h.0, h.1.0, h.1.1.0, h.1.1.1.0, h.1.1.1.1) }) kind bytes r fits h.0 h.1
+      | inr e2 ↦ elim (kind_or (kind == LIST_REPLY) _ _ r e2) [
+        | inl h ↦ spelled_kind SpellsReply LIST_REPLY (pair day page) _ day_and_page_field list_reply_of (λ x h. record { bytes = refl; in_range = (h.0, h.1) }) kind bytes r fits h.0 h.1
+        | inr e3 ↦ elim (kind_or (kind == RETRY) _ _ r e3) [
+          | inl h ↦ spelled_alone SpellsReply RETRY Retry (record { bytes = refl; in_range = tt }) kind bytes r h.0 h.1
+          | inr e4 ↦ elim (kind_or (kind == BAD) _ _ r e4) [
+            | inl h ↦ spelled_alone SpellsReply BAD Bad (record { bytes = refl; in_range = tt }) kind bytes r h.0 h.1
             | inr e5 ↦ numbered_spelled kind bytes r fits e5
           ]
         ]
@@ -253,30 +269,33 @@ pub reply_at_spelled : (body : List ℕ) (r : Reply) → IsBytes body → reply_
 reply_at_spelled [] r fits e = absurd cc
 reply_at_spelled (kind ∷ bytes) r fits e = reply_spelled kind bytes r (IsBytes-tail kind bytes fits) e
 
-read_kind : {X V : Type 0} (f : Field X) (F : X → Type 0) → IsField f F → (make : X → V) (x : X) → F x → (whole f (f.spell x) >>= λ x. Some (make x)) ≡ Some (make x)
+read_kind : {X V : Type 0} (f : Field X) (F : X → Type 0) → IsField f F → (make : X → V) (x : X) → F x → made_of make f (f.spell x) ≡ Some (make x)
 read_kind {X} {V} f F field make x h = rw (whole_again f F field x h) refl
+
+named : {i : Id} {txn at : ℕ} {name : List ℕ} → IsId i → IsOrdinal txn → IsMoment at → IsLogin name → IsTransaction (transaction_of (i, (txn, (at, name))))
+named h g k l = record { id = h; txn = g; at = k; login = l }
 
 -- what is spelled so is read
 pub request_at_read : (body : List ℕ) (r : Request) → SpellsRequest body r → request_at body ≡ Some r
-request_at_read body (Reserve i txn at name n) h = let g = h.in_range in ap request_at h.bytes ∙ read_kind (pair transaction count) _ counting_field (λ x. Reserve x.0.0 x.0.1.0 x.0.1.1.0 x.0.1.1.1 x.1) ((i, (txn, (at, name))), n) ((g.0, (g.1, (g.2, g.3))), g.4)
-request_at_read body (Settle i txn at name n) h = let g = h.in_range in ap request_at h.bytes ∙ read_kind (pair transaction count) _ counting_field (λ x. Settle x.0.0 x.0.1.0 x.0.1.1.0 x.0.1.1.1 x.1) ((i, (txn, (at, name))), n) ((g.0, (g.1, (g.2, g.3))), g.4)
-request_at_read body (Release i txn at name) h = let g = h.in_range in ap request_at h.bytes ∙ read_kind transaction _ transaction_field (λ x. Release x.0 x.1.0 x.1.1.0 x.1.1.1) (i, (txn, (at, name))) (g.0, (g.1, (g.2, g.3)))
-request_at_read body (Limit i from_day cap name) h = let g = h.in_range in ap request_at h.bytes ∙ read_kind limit _ limit_field (λ x. Limit x.0 x.1.0 x.1.1.0 x.1.1.1) (i, (from_day, (cap, name))) (g.0, (g.1, (g.2, g.3)))
-request_at_read body (Usage name d) h = let g = h.in_range in ap request_at h.bytes ∙ read_kind (pair login day) _ login_and_day_field (λ x. Usage x.0 x.1) (name, d) g
-request_at_read body (ListRequest d after) h = let g = h.in_range in ap request_at h.bytes ∙ read_kind (pair day (text 0 255)) _ day_and_after_field (λ x. ListRequest x.0 x.1) (d, after) g
+request_at_read body (Reserve i txn at name n) h = let g = h.in_range in ap request_at h.bytes ∙ read_kind (pair transaction count) _ counting_field reserve_of (transaction_of (i, (txn, (at, name))), n) (named g.0 g.1 g.2 g.3, g.4)
+request_at_read body (Settle i txn at name n) h = let g = h.in_range in ap request_at h.bytes ∙ read_kind (pair transaction count) _ counting_field settle_of (transaction_of (i, (txn, (at, name))), n) (named g.0 g.1 g.2 g.3, g.4)
+request_at_read body (Release i txn at name) h = let g = h.in_range in ap request_at h.bytes ∙ read_kind transaction _ transaction_field release_of (transaction_of (i, (txn, (at, name)))) (named g.0 g.1 g.2 g.3)
+request_at_read body (Limit i from_day cap name) h = let g = h.in_range in ap request_at h.bytes ∙ read_kind (pair id (pair day (pair amount login))) _ limit_field limit_of (i, (from_day, (cap, name))) (g.0, (g.1, (g.2, g.3)))
+request_at_read body (Usage name d) h = let g = h.in_range in ap request_at h.bytes ∙ read_kind (pair login day) _ login_and_day_field usage_of (name, d) g
+request_at_read body (ListRequest d behind) h = let g = h.in_range in ap request_at h.bytes ∙ read_kind (pair day after) _ day_and_after_field list_of (d, behind) g
 
 pub reply_at_read : (body : List ℕ) (r : Reply) → SpellsReply body r → reply_at body ≡ Some r
-reply_at_read body (Granted i used) h = let g = h.in_range in ap reply_at h.bytes ∙ read_kind (pair id amount) _ id_and_amount_field (λ x. Granted x.0 x.1) (i, used) g
-reply_at_read body (Full i used cap) h = let g = h.in_range in ap reply_at h.bytes ∙ read_kind (pair id (pair amount amount)) _ id_and_two_field (λ x. Full x.0 x.1.0 x.1.1) (i, (used, cap)) (g.0, (g.1, g.2))
-reply_at_read body (Settled i n) h = let g = h.in_range in ap reply_at h.bytes ∙ read_kind (pair id count) _ id_and_count_field (λ x. Settled x.0 x.1) (i, n) g
-reply_at_read body (Released i held) h = let g = h.in_range in ap reply_at h.bytes ∙ read_kind (pair id amount) _ id_and_amount_field (λ x. Released x.0 x.1) (i, held) g
-reply_at_read body (LimitSet i) h = let g = h.in_range in ap reply_at h.bytes ∙ read_kind id _ id_field (λ x. LimitSet x) i g
-reply_at_read body (Over i d used) h = let g = h.in_range in ap reply_at h.bytes ∙ read_kind (pair id (pair day amount)) _ id_and_day_field (λ x. Over x.0 x.1.0 x.1.1) (i, (d, used)) (g.0, (g.1, g.2))
-reply_at_read body (Closed i) h = let g = h.in_range in ap reply_at h.bytes ∙ read_kind id _ id_field (λ x. Closed x) i g
-reply_at_read body (Mismatch i) h = let g = h.in_range in ap reply_at h.bytes ∙ read_kind id _ id_field (λ x. Mismatch x) i g
-reply_at_read body (TooMany i held) h = let g = h.in_range in ap reply_at h.bytes ∙ read_kind (pair id amount) _ id_and_amount_field (λ x. TooMany x.0 x.1) (i, held) g
-reply_at_read body (Conflict i) h = let g = h.in_range in ap reply_at h.bytes ∙ read_kind id _ id_field (λ x. Conflict x) i g
-reply_at_read body (UsageReply name d settled reserved cap) h = let g = h.in_range in ap reply_at h.bytes ∙ read_kind usage _ usage_field (λ x. UsageReply x.0 x.1.0 x.1.1.0 x.1.1.1.0 x.1.1.1.1) (name, (d, (settled, (reserved, cap)))) (g.0, (g.1, (g.2, (g.3, g.4))))
-reply_at_read body (ListReply d rows) h = let g = h.in_range in ap reply_at h.bytes ∙ read_kind (pair day page) _ day_and_page_field (λ x. ListReply x.0 x.1) (d, rows) g
+reply_at_read body (Granted i used) h = let g = h.in_range in ap reply_at h.bytes ∙ read_kind (pair id amount) _ id_and_amount_field granted_of (i, used) g
+reply_at_read body (Full i used cap) h = let g = h.in_range in ap reply_at h.bytes ∙ read_kind (pair id (pair amount amount)) _ id_and_two_field full_of (i, (used, cap)) (g.0, (g.1, g.2))
+reply_at_read body (Settled i n) h = let g = h.in_range in ap reply_at h.bytes ∙ read_kind (pair id count) _ id_and_count_field settled_of (i, n) g
+reply_at_read body (Released i held) h = let g = h.in_range in ap reply_at h.bytes ∙ read_kind (pair id amount) _ id_and_amount_field released_of (i, held) g
+reply_at_read body (LimitSet i) h = let g = h.in_range in ap reply_at h.bytes ∙ read_kind id _ id_field LimitSet i g
+reply_at_read body (Over i d used) h = let g = h.in_range in ap reply_at h.bytes ∙ read_kind (pair id (pair day amount)) _ id_and_day_field over_of (i, (d, used)) (g.0, (g.1, g.2))
+reply_at_read body (Closed i) h = let g = h.in_range in ap reply_at h.bytes ∙ read_kind id _ id_field Closed i g
+reply_at_read body (Mismatch i) h = let g = h.in_range in ap reply_at h.bytes ∙ read_kind id _ id_field Mismatch i g
+reply_at_read body (TooMany i held) h = let g = h.in_range in ap reply_at h.bytes ∙ read_kind (pair id amount) _ id_and_amount_field too_many_of (i, held) g
+reply_at_read body (Conflict i) h = let g = h.in_range in ap reply_at h.bytes ∙ read_kind id _ id_field Conflict i g
+reply_at_read body (UsageReply name d settled reserved cap) h = let g = h.in_range in ap reply_at h.bytes ∙ read_kind (pair login (pair day (pair amount (pair amount amount)))) _ usage_field usage_reply_of (name, (d, (settled, (reserved, cap)))) (g.0, (g.1, (g.2, (g.3, g.4))))
+reply_at_read body (ListReply d rows) h = let g = h.in_range in ap reply_at h.bytes ∙ read_kind (pair day page) _ day_and_page_field list_reply_of (d, rows) g
 reply_at_read body Retry h = ap reply_at h.bytes
 reply_at_read body Bad h = ap reply_at h.bytes

@@ -1,9 +1,11 @@
 -- A stream of frames, in whatever pieces it comes.
-use Rattle.std.specs.Prelude.{◌≡◌, ℕ, ◌+◌, ◌*◌, List, [], ◌∷◌, ◌++◌, length, take, drop, nat_lt, ◌==◌, if◌then◌else◌, Option, Some, None, Result, Ok, Err}
+use Rattle.std.specs.Prelude.{◌≡◌, ℕ, ◌+◌, ◌*◌, List, [], ◌∷◌, ◌++◌, length, take, drop, nat_lt, ◌==◌, if◌then◌else◌}
+use Rattle.std.specs.Prelude.{Option, Some, None, Result, Ok, Err}
 use Rattle.mq_frame.specs.declared.feed.FrameFault.{FrameFault}
 use Rattle.mq_frame.specs.declared.feed.FrameFault.TheVariants.{TooLong, Empty, CutFrame}
 
--- a feed: the longest body that it gives, the bytes that it was fed and that weren't taken, and how many bytes its buffer holds
+-- a feed: the longest body that it gives, the bytes that it was fed and that weren't taken, and how many bytes its
+-- buffer holds
 pub record Feed : Type 0 where
   pub limit : ℕ
   pub rest : List ℕ
@@ -63,7 +65,8 @@ finish_answer (Whole body after) = Err CutFrame
 -- the bytes begin with the frames of these bodies, and the rest follows
 abbrev pub BeginsWith : ℕ → List ℕ → List (List ℕ) → List ℕ → Type 0
 BeginsWith limit bytes [] rest = bytes ≡ rest
-BeginsWith limit bytes (body ∷ bodies) rest = (after : List ℕ) × (front limit bytes ≡ Whole body after) × BeginsWith limit after bodies rest
+BeginsWith limit bytes (body ∷ bodies) rest =
+    (after : List ℕ) × (front limit bytes ≡ Whole body after) × BeginsWith limit after bodies rest
 
 -- no whole frame stands at the front
 abbrev pub HasNoFrame : ℕ → List ℕ → Type 0
@@ -83,7 +86,8 @@ pub data Move : Type 0 where
 abbrev pub Moves : ℕ → List ℕ → List Move → List ℕ → Type 0
 Moves limit rest [] end = rest ≡ end
 Moves limit rest (Fed piece ∷ moves) end = Moves limit (rest ++ piece) moves end
-Moves limit rest (Gave body ∷ moves) end = (after : List ℕ) × (front limit rest ≡ Whole body after) × Moves limit after moves end
+Moves limit rest (Gave body ∷ moves) end =
+    (after : List ℕ) × (front limit rest ≡ Whole body after) × Moves limit after moves end
 
 -- all that was fed
 abbrev pub fed : List Move → List ℕ

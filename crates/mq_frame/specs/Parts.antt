@@ -1,6 +1,6 @@
 -- What the parts of a body stand for.
 use Rattle.std.specs.Prelude.{ℕ, zero, suc, List, [], ◌∷◌, Option, Some, None}
-use Rattle.mq_frame.specs.Reading.{row}
+use Rattle.mq_frame.specs.Reading.{row, Transaction}
 use Rattle.mq_frame.specs.Shown.{shown_id}
 use Rattle.mq_frame.specs.declared.page.PageParts.{PageParts}
 use Rattle.mq_frame.specs.declared.request_parts.TransactionParts.{TransactionParts}
@@ -8,11 +8,13 @@ use Rattle.mq_frame.specs.declared.request_parts.RequestParts.{RequestParts}
 use Rattle.mq_frame.specs.declared.request_parts.RequestParts.TheVariants as request_parts
 use Rattle.mq_frame.specs.declared.reply_parts.ReplyParts.{ReplyParts}
 use Rattle.mq_frame.specs.declared.reply_parts.ReplyParts.TheVariants as reply_parts
-use Rattle.mq_frame.specs.declared.message.Id.{Id}
 use Rattle.mq_frame.specs.declared.message.Request.{Request}
-use Rattle.mq_frame.specs.declared.message.Request.TheVariants.{Reserve, Settle, Release, Limit, Usage, List as ListRequest}
+use Rattle.mq_frame.specs.declared.message.Request.TheVariants.{Reserve, Settle, Release}
+use Rattle.mq_frame.specs.declared.message.Request.TheVariants.{Limit, Usage, List as ListRequest}
 use Rattle.mq_frame.specs.declared.message.Reply.{Reply}
-use Rattle.mq_frame.specs.declared.message.Reply.TheVariants.{Granted, Full, Settled, Released, LimitSet, Over, Closed, Mismatch, TooMany, Conflict, Usage as UsageReply, List as ListReply, Retry, Bad}
+use Rattle.mq_frame.specs.declared.message.Reply.TheVariants.{Granted, Full, Settled, Released, LimitSet, Over, Closed}
+use Rattle.mq_frame.specs.declared.message.Reply.TheVariants.{Mismatch, TooMany, Conflict, Usage as UsageReply}
+use Rattle.mq_frame.specs.declared.message.Reply.TheVariants.{List as ListReply, Retry, Bad}
 use Rattle.mq_frame.specs.declared.usage.UsageRow.{UsageRow}
 
 abbrev pub row_then : (List ℕ → List UsageRow) → Option (UsageRow × List ℕ) → List UsageRow
@@ -27,8 +29,8 @@ rows_in (suc n) bytes = row_then (rows_in n) (row.read bytes)
 abbrev pub shown_page : PageParts → List UsageRow
 shown_page x = rows_in x.count x.bytes.now
 
-abbrev pub shown_transaction : TransactionParts → Id × (ℕ × (ℕ × List ℕ))
-shown_transaction x = (shown_id x.id, (x.txn, (x.at, x.login.now)))
+abbrev pub shown_transaction : TransactionParts → Transaction
+shown_transaction x = record { id = shown_id x.id; txn = x.txn; at = x.at; login = x.login.now }
 
 abbrev pub shown_request : RequestParts → Request
 shown_request (request_parts.Reserve t count) = Reserve (shown_id t.id) t.txn t.at t.login.now count

@@ -1,11 +1,17 @@
 -- Which values of each field, and which requests and replies, a frame can carry.
 use Rattle.std.specs.Prelude.{ℕ, List, length, ◌≤◌, ◌⊎◌}
 use Rattle.std.specs.List.{All}
+use Rattle.mq_frame.specs.declared.format.TheConstants.{HOST_LIMIT, LOGIN_LIMIT, LAST_RUN, LAST_ORDINAL, FIRST_MOMENT}
+use Rattle.mq_frame.specs.declared.format.TheConstants.{LAST_MOMENT}
+use Rattle.mq_frame.specs.declared.format.TheConstants.{LAST_DAY, COUNT_LIMIT, AMOUNT_LIMIT, ROW_LIMIT}
 use Rattle.mq_frame.specs.declared.message.Id.{Id}
 use Rattle.mq_frame.specs.declared.message.Request.{Request}
-use Rattle.mq_frame.specs.declared.message.Request.TheVariants.{Reserve, Settle, Release, Limit, Usage, List as ListRequest}
+use Rattle.mq_frame.specs.declared.message.Request.TheVariants.{Reserve, Settle, Release}
+use Rattle.mq_frame.specs.declared.message.Request.TheVariants.{Limit, Usage, List as ListRequest}
 use Rattle.mq_frame.specs.declared.message.Reply.{Reply}
-use Rattle.mq_frame.specs.declared.message.Reply.TheVariants.{Granted, Full, Settled, Released, LimitSet, Over, Closed, Mismatch, TooMany, Conflict, Usage as UsageReply, List as ListReply, Retry, Bad}
+use Rattle.mq_frame.specs.declared.message.Reply.TheVariants.{Granted, Full, Settled, Released, LimitSet, Over, Closed}
+use Rattle.mq_frame.specs.declared.message.Reply.TheVariants.{Mismatch, TooMany, Conflict, Usage as UsageReply}
+use Rattle.mq_frame.specs.declared.message.Reply.TheVariants.{List as ListReply, Retry, Bad}
 use Rattle.mq_frame.specs.declared.usage.UsageRow.{UsageRow}
 
 -- the number is low, high or between them
@@ -19,40 +25,40 @@ IsHostByte b = IsWithin 48 57 b ⊎ (IsWithin 65 90 b ⊎ (IsWithin 97 122 b ⊎
 
 -- 1 to 64 bytes of a host's name
 pub record IsHost (host : List ℕ) : Type 0 where
-  pub size : IsWithin 1 64 (length host)
+  pub size : IsWithin 1 HOST_LIMIT (length host)
   pub bytes : All IsHostByte host
 
 -- 1 to 255 bytes of any value
 abbrev pub IsLogin : List ℕ → Type 0
-IsLogin login = IsWithin 1 255 (length login)
+IsLogin login = IsWithin 1 LOGIN_LIMIT (length login)
 
 -- a login, or nothing: a page of a list begins behind it
 abbrev pub IsAfter : List ℕ → Type 0
-IsAfter after = IsWithin 0 255 (length after)
+IsAfter after = IsWithin 0 LOGIN_LIMIT (length after)
 
 -- a run of a host's filter: of 48 bits, and not 0
 abbrev pub IsRun : ℕ → Type 0
-IsRun run = IsWithin 1 281474976710655 run
+IsRun run = IsWithin 1 LAST_RUN run
 
 -- a place among the requests or the transactions of a run: of 32 bits, and not 0
 abbrev pub IsOrdinal : ℕ → Type 0
-IsOrdinal n = IsWithin 1 4294967295 n
+IsOrdinal n = IsWithin 1 LAST_ORDINAL n
 
 -- a moment from 1970-01-02T00:00:00Z to 3000-01-01T00:00:00Z
 abbrev pub IsMoment : ℕ → Type 0
-IsMoment at = IsWithin 86400 32503680000 at
+IsMoment at = IsWithin FIRST_MOMENT LAST_MOMENT at
 
 -- a day number from 1970-01-01 on, up to that of the last moment
 abbrev pub IsDay : ℕ → Type 0
-IsDay day = IsWithin 0 376200 day
+IsDay day = IsWithin 0 LAST_DAY day
 
 -- recipients of one request
 abbrev pub IsCount : ℕ → Type 0
-IsCount count = IsWithin 1 1000 count
+IsCount count = IsWithin 1 COUNT_LIMIT count
 
 -- recipients of a login and day, or their limit
 abbrev pub IsAmount : ℕ → Type 0
-IsAmount n = IsWithin 0 1000000 n
+IsAmount n = IsWithin 0 AMOUNT_LIMIT n
 
 pub record IsId (id : Id) : Type 0 where
   pub host : IsHost id.host
@@ -67,7 +73,7 @@ pub record IsRow (row : UsageRow) : Type 0 where
 
 -- at most 100 rows, each in range
 pub record IsPage (rows : List UsageRow) : Type 0 where
-  pub size : IsWithin 0 100 (length rows)
+  pub size : IsWithin 0 ROW_LIMIT (length rows)
   pub each : All IsRow rows
 
 -- each field of the request is in range
@@ -91,7 +97,8 @@ IsReply (Closed id) = IsId id
 IsReply (Mismatch id) = IsId id
 IsReply (TooMany id held) = IsId id × IsAmount held
 IsReply (Conflict id) = IsId id
-IsReply (UsageReply login day settled reserved cap) = IsLogin login × IsDay day × IsAmount settled × IsAmount reserved × IsAmount cap
+IsReply (UsageReply login day settled reserved cap) =
+    IsLogin login × IsDay day × IsAmount settled × IsAmount reserved × IsAmount cap
 IsReply (ListReply day rows) = IsDay day × IsPage rows
 IsReply Retry = Unit {0}
 IsReply Bad = Unit {0}

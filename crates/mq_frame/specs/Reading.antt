@@ -1,13 +1,24 @@
 -- Reading the fields of a body from its front, one after another.
-use Rattle.std.specs.Prelude.{◌≡◌, ℕ, zero, suc, List, [], ◌∷◌, ◌++◌, length, take, drop, Bool, ◌&&◌, ◌||◌, ◌==◌, nat_le, nat_lt, if◌then◌else◌, Option, Some, None}
+use Rattle.std.specs.Prelude.{◌≡◌, ℕ, zero, suc, List, [], ◌∷◌, ◌++◌, length, take, drop, Option, Some, None}
+use Rattle.std.specs.Prelude.{Bool, ◌&&◌, ◌||◌, ◌==◌, nat_le, nat_lt, if◌then◌else◌}
 use Rattle.std.specs.List.{list_all, flat_map}
 use Rattle.std.specs.Int.{Width, w32, w64, byte_len, from_be_bytes, to_be_bytes}
+use Rattle.mq_frame.specs.declared.format.TheConstants.{RESERVE, SETTLE, RELEASE, LIMIT, USAGE, LIST}
+use Rattle.mq_frame.specs.declared.format.TheConstants.{GRANTED, FULL, SETTLED, RELEASED, LIMIT_SET, OVER, CLOSED}
+use Rattle.mq_frame.specs.declared.format.TheConstants.{MISMATCH, TOO_MANY, CONFLICT}
+use Rattle.mq_frame.specs.declared.format.TheConstants.{USAGE_REPLY, LIST_REPLY, RETRY, BAD}
+use Rattle.mq_frame.specs.declared.format.TheConstants.{HOST_LIMIT, LOGIN_LIMIT, LAST_RUN, LAST_ORDINAL, FIRST_MOMENT}
+use Rattle.mq_frame.specs.declared.format.TheConstants.{LAST_MOMENT}
+use Rattle.mq_frame.specs.declared.format.TheConstants.{LAST_DAY, COUNT_LIMIT, AMOUNT_LIMIT, ROW_LIMIT}
 use Rattle.mq_frame.specs.Spelling.{with_length}
 use Rattle.mq_frame.specs.declared.message.Id.{Id}
 use Rattle.mq_frame.specs.declared.message.Request.{Request}
-use Rattle.mq_frame.specs.declared.message.Request.TheVariants.{Reserve, Settle, Release, Limit, Usage, List as ListRequest}
+use Rattle.mq_frame.specs.declared.message.Request.TheVariants.{Reserve, Settle, Release}
+use Rattle.mq_frame.specs.declared.message.Request.TheVariants.{Limit, Usage, List as ListRequest}
 use Rattle.mq_frame.specs.declared.message.Reply.{Reply}
-use Rattle.mq_frame.specs.declared.message.Reply.TheVariants.{Granted, Full, Settled, Released, LimitSet, Over, Closed, Mismatch, TooMany, Conflict, Usage as UsageReply, List as ListReply, Retry, Bad}
+use Rattle.mq_frame.specs.declared.message.Reply.TheVariants.{Granted, Full, Settled, Released, LimitSet, Over, Closed}
+use Rattle.mq_frame.specs.declared.message.Reply.TheVariants.{Mismatch, TooMany, Conflict, Usage as UsageReply}
+use Rattle.mq_frame.specs.declared.message.Reply.TheVariants.{List as ListReply, Retry, Bad}
 use Rattle.mq_frame.specs.declared.usage.UsageRow.{UsageRow}
 
 infixl 10 ◌>>=◌
@@ -43,7 +54,8 @@ number w low high = record { spell = to_be_bytes w; read = number_at w low high 
 -- a byte of length, and that many bytes
 abbrev pub text_at : ℕ → ℕ → List ℕ → Option (List ℕ × List ℕ)
 text_at low high [] = None
-text_at low high (n ∷ bytes) = if between low high n && nat_le n (length bytes) then Some (take n bytes, drop n bytes) else None
+text_at low high (n ∷ bytes) =
+    if between low high n && nat_le n (length bytes) then Some (take n bytes, drop n bytes) else None
 
 abbrev pub text : ℕ → ℕ → Field (List ℕ)
 text low high = record { spell = with_length; read = text_at low high }
@@ -61,7 +73,10 @@ pair f g = record {
 
 -- the field, with its value under another form
 abbrev pub made : {X Y : Type 0} → (X → Y) → (Y → X) → Field X → Field Y
-made to from f = record { spell = λ y. f.spell (from y); read = λ bytes. f.read bytes >>= λ x. Some (to x.0, x.1) }
+made to from f = record {
+  spell = λ y. f.spell (from y);
+  read = λ bytes. f.read bytes >>= λ x. Some (to x.0, x.1);
+}
 
 -- so many of the field
 abbrev pub times_at : {X : Type 0} → Field X → ℕ → List ℕ → Option (List X × List ℕ)
@@ -84,47 +99,121 @@ abbrev pub is_host_byte : ℕ → Bool
 is_host_byte b = between 48 57 b || (between 65 90 b || (between 97 122 b || between 45 46 b))
 
 abbrev pub host : Field (List ℕ)
-host = where_so (list_all is_host_byte) (text 1 64)
+host = where_so (list_all is_host_byte) (text 1 HOST_LIMIT)
 
 abbrev pub login : Field (List ℕ)
-login = text 1 255
+login = text 1 LOGIN_LIMIT
+
+-- a login, or nothing
+abbrev pub after : Field (List ℕ)
+after = text 0 LOGIN_LIMIT
+
+abbrev pub run : Field ℕ
+run = number w64 1 LAST_RUN
 
 abbrev pub ordinal : Field ℕ
-ordinal = number w32 1 4294967295
+ordinal = number w32 1 LAST_ORDINAL
 
 abbrev pub moment : Field ℕ
-moment = number w64 86400 32503680000
+moment = number w64 FIRST_MOMENT LAST_MOMENT
 
 abbrev pub count : Field ℕ
-count = number w32 1 1000
+count = number w32 1 COUNT_LIMIT
 
 abbrev pub amount : Field ℕ
-amount = number w32 0 1000000
+amount = number w32 0 AMOUNT_LIMIT
 
 abbrev pub day : Field ℕ
-day = number w32 0 376200
+day = number w32 0 LAST_DAY
+
+-- an id from its fields in order, and back
+abbrev pub id_of : List ℕ × (ℕ × ℕ) → Id
+id_of (name, (of_run, place)) = record { host = name; run = of_run; seq = place }
+
+abbrev pub parts_of_id : Id → List ℕ × (ℕ × ℕ)
+parts_of_id i = (i.host, (i.run, i.seq))
 
 abbrev pub id : Field Id
-id = made (λ x. record { host = x.0; run = x.1.0; seq = x.1.1 }) (λ i. (i.host, (i.run, i.seq))) (pair host (pair (number w64 1 281474976710655) ordinal))
+id = made id_of parts_of_id (pair host (pair run ordinal))
+
+-- a row from its fields in order, and back
+abbrev pub row_of : List ℕ × (ℕ × (ℕ × ℕ)) → UsageRow
+row_of (name, (settled, (reserved, cap))) = record { login = name; settled = settled; reserved = reserved; cap = cap }
+
+abbrev pub parts_of_row : UsageRow → List ℕ × (ℕ × (ℕ × ℕ))
+parts_of_row r = (r.login, (r.settled, (r.reserved, r.cap)))
 
 abbrev pub row : Field UsageRow
-row = made (λ x. record { login = x.0; settled = x.1.0; reserved = x.1.1.0; cap = x.1.1.1 }) (λ r. (r.login, (r.settled, (r.reserved, r.cap)))) (pair login (pair amount (pair amount amount)))
+row = made row_of parts_of_row (pair login (pair amount (pair amount amount)))
 
 -- at most 100 rows
 abbrev pub page : Field (List UsageRow)
-page = counted 100 row
+page = counted ROW_LIMIT row
 
--- id, txn, at and login
-abbrev pub transaction : Field (Id × (ℕ × (ℕ × List ℕ)))
-transaction = pair id (pair ordinal (pair moment login))
+-- what three kinds of requests begin with
+pub record Transaction : Type 0 where
+  pub id : Id
+  pub txn : ℕ
+  pub at : ℕ
+  pub login : List ℕ
 
--- id, from_day, cap and login
-abbrev pub limit : Field (Id × (ℕ × (ℕ × List ℕ)))
-limit = pair id (pair day (pair amount login))
+-- it from its fields in order, and back
+abbrev pub transaction_of : Id × (ℕ × (ℕ × List ℕ)) → Transaction
+transaction_of (i, (place, (begun, name))) = record { id = i; txn = place; at = begun; login = name }
 
--- login, day, settled, reserved and cap
-abbrev pub usage : Field (List ℕ × (ℕ × (ℕ × (ℕ × ℕ))))
-usage = pair login (pair day (pair amount (pair amount amount)))
+abbrev pub parts_of_transaction : Transaction → Id × (ℕ × (ℕ × List ℕ))
+parts_of_transaction t = (t.id, (t.txn, (t.at, t.login)))
+
+abbrev pub transaction : Field Transaction
+transaction = made transaction_of parts_of_transaction (pair id (pair ordinal (pair moment login)))
+
+-- each kind of request, from its fields
+abbrev pub reserve_of : Transaction × ℕ → Request
+reserve_of (t, recipients) = Reserve t.id t.txn t.at t.login recipients
+
+abbrev pub settle_of : Transaction × ℕ → Request
+settle_of (t, recipients) = Settle t.id t.txn t.at t.login recipients
+
+abbrev pub release_of : Transaction → Request
+release_of t = Release t.id t.txn t.at t.login
+
+abbrev pub limit_of : Id × (ℕ × (ℕ × List ℕ)) → Request
+limit_of (i, (from_day, (cap, name))) = Limit i from_day cap name
+
+abbrev pub usage_of : List ℕ × ℕ → Request
+usage_of (name, on_day) = Usage name on_day
+
+abbrev pub list_of : ℕ × List ℕ → Request
+list_of (on_day, behind) = ListRequest on_day behind
+
+-- each kind of reply that has more than one field, from them
+abbrev pub granted_of : Id × ℕ → Reply
+granted_of (i, used) = Granted i used
+
+abbrev pub full_of : Id × (ℕ × ℕ) → Reply
+full_of (i, (used, cap)) = Full i used cap
+
+abbrev pub settled_of : Id × ℕ → Reply
+settled_of (i, recipients) = Settled i recipients
+
+abbrev pub released_of : Id × ℕ → Reply
+released_of (i, held) = Released i held
+
+abbrev pub over_of : Id × (ℕ × ℕ) → Reply
+over_of (i, (on_day, used)) = Over i on_day used
+
+abbrev pub too_many_of : Id × ℕ → Reply
+too_many_of (i, held) = TooMany i held
+
+abbrev pub usage_reply_of : List ℕ × (ℕ × (ℕ × (ℕ × ℕ))) → Reply
+usage_reply_of (name, (on_day, (settled, (reserved, cap)))) = UsageReply name on_day settled reserved cap
+
+abbrev pub list_reply_of : ℕ × List UsageRow → Reply
+list_reply_of (on_day, rows) = ListReply on_day rows
+
+-- the value that is made of a field, which is all of the bytes
+abbrev pub made_of : {X V : Type 0} → (X → V) → Field X → List ℕ → Option V
+made_of make f bytes = whole f bytes >>= λ x. Some (make x)
 
 -- a value that needs no bytes
 abbrev pub if_none_left : {X : Type 0} → X → List ℕ → Option X
@@ -133,12 +222,12 @@ if_none_left x bytes = if length bytes == 0 then Some x else None
 -- the request of this kind, whose fields are all of the bytes
 abbrev pub request_of_kind : ℕ → List ℕ → Option Request
 request_of_kind kind bytes =
-    if kind == 0x01 then (whole (pair transaction count) bytes >>= λ x. Some (Reserve x.0.0 x.0.1.0 x.0.1.1.0 x.0.1.1.1 x.1))
-    else (if kind == 0x02 then (whole (pair transaction count) bytes >>= λ x. Some (Settle x.0.0 x.0.1.0 x.0.1.1.0 x.0.1.1.1 x.1))
-    else (if kind == 0x03 then (whole transaction bytes >>= λ x. Some (Release x.0 x.1.0 x.1.1.0 x.1.1.1))
-    else (if kind == 0x04 then (whole limit bytes >>= λ x. Some (Limit x.0 x.1.0 x.1.1.0 x.1.1.1))
-    else (if kind == 0x05 then (whole (pair login day) bytes >>= λ x. Some (Usage x.0 x.1))
-    else (if kind == 0x06 then (whole (pair day (text 0 255)) bytes >>= λ x. Some (ListRequest x.0 x.1))
+    if kind == RESERVE then made_of reserve_of (pair transaction count) bytes
+    else (if kind == SETTLE then made_of settle_of (pair transaction count) bytes
+    else (if kind == RELEASE then made_of release_of transaction bytes
+    else (if kind == LIMIT then made_of limit_of (pair id (pair day (pair amount login))) bytes
+    else (if kind == USAGE then made_of usage_of (pair login day) bytes
+    else (if kind == LIST then made_of list_of (pair day after) bytes
     else None)))))
 
 abbrev pub request_at : List ℕ → Option Request
@@ -148,25 +237,25 @@ request_at (kind ∷ bytes) = request_of_kind kind bytes
 -- the reply of this kind that carries an id, whose fields are all of the bytes
 abbrev pub numbered_reply : ℕ → List ℕ → Option Reply
 numbered_reply kind bytes =
-    if kind == 0x81 then (whole (pair id amount) bytes >>= λ x. Some (Granted x.0 x.1))
-    else (if kind == 0x82 then (whole (pair id (pair amount amount)) bytes >>= λ x. Some (Full x.0 x.1.0 x.1.1))
-    else (if kind == 0x83 then (whole (pair id count) bytes >>= λ x. Some (Settled x.0 x.1))
-    else (if kind == 0x84 then (whole (pair id amount) bytes >>= λ x. Some (Released x.0 x.1))
-    else (if kind == 0x85 then (whole id bytes >>= λ x. Some (LimitSet x))
-    else (if kind == 0x86 then (whole (pair id (pair day amount)) bytes >>= λ x. Some (Over x.0 x.1.0 x.1.1))
-    else (if kind == 0x87 then (whole id bytes >>= λ x. Some (Closed x))
-    else (if kind == 0x88 then (whole id bytes >>= λ x. Some (Mismatch x))
-    else (if kind == 0x89 then (whole (pair id amount) bytes >>= λ x. Some (TooMany x.0 x.1))
-    else (if kind == 0x8a then (whole id bytes >>= λ x. Some (Conflict x))
+    if kind == GRANTED then made_of granted_of (pair id amount) bytes
+    else (if kind == FULL then made_of full_of (pair id (pair amount amount)) bytes
+    else (if kind == SETTLED then made_of settled_of (pair id count) bytes
+    else (if kind == RELEASED then made_of released_of (pair id amount) bytes
+    else (if kind == LIMIT_SET then made_of LimitSet id bytes
+    else (if kind == OVER then made_of over_of (pair id (pair day amount)) bytes
+    else (if kind == CLOSED then made_of Closed id bytes
+    else (if kind == MISMATCH then made_of Mismatch id bytes
+    else (if kind == TOO_MANY then made_of too_many_of (pair id amount) bytes
+    else (if kind == CONFLICT then made_of Conflict id bytes
     else None)))))))))
 
 -- the reply of this kind, whose fields are all of the bytes
 abbrev pub reply_of_kind : ℕ → List ℕ → Option Reply
 reply_of_kind kind bytes =
-    if kind == 0x8b then (whole usage bytes >>= λ x. Some (UsageReply x.0 x.1.0 x.1.1.0 x.1.1.1.0 x.1.1.1.1))
-    else (if kind == 0x8c then (whole (pair day page) bytes >>= λ x. Some (ListReply x.0 x.1))
-    else (if kind == 0x8d then if_none_left Retry bytes
-    else (if kind == 0x8e then if_none_left Bad bytes
+    if kind == USAGE_REPLY then made_of usage_reply_of (pair login (pair day (pair amount (pair amount amount)))) bytes
+    else (if kind == LIST_REPLY then made_of list_reply_of (pair day page) bytes
+    else (if kind == RETRY then if_none_left Retry bytes
+    else (if kind == BAD then if_none_left Bad bytes
     else numbered_reply kind bytes)))
 
 abbrev pub reply_at : List ℕ → Option Reply

@@ -3,7 +3,8 @@ use Rattle.std.specs.Prelude.{ℕ, List, Bool, false, ◌==◌, ◌&&◌, nat_eq
 use Rattle.std.specs.Cmp.Lexicographic.{pointwise}
 use Rattle.mq_frame.specs.declared.message.Id.{Id}
 use Rattle.mq_frame.specs.declared.message.Request.{Request}
-use Rattle.mq_frame.specs.declared.message.Request.TheVariants.{Reserve, Settle, Release, Limit, Usage, List as ListRequest}
+use Rattle.mq_frame.specs.declared.message.Request.TheVariants.{Reserve, Settle, Release}
+use Rattle.mq_frame.specs.declared.message.Request.TheVariants.{Limit, Usage, List as ListRequest}
 
 -- byte for byte
 abbrev pub same_text : List ℕ → List ℕ → Bool
@@ -14,10 +15,14 @@ same_id a b = same_text a.host b.host && ((a.run == b.run) && (a.seq == b.seq))
 
 -- the same kind and the same fields
 abbrev pub same_request : Request → Request → Bool
-same_request (Reserve id txn at login count) (Reserve id' txn' at' login' count') = same_id id id' && ((txn == txn') && ((at == at') && (same_text login login' && (count == count'))))
-same_request (Settle id txn at login count) (Settle id' txn' at' login' count') = same_id id id' && ((txn == txn') && ((at == at') && (same_text login login' && (count == count'))))
-same_request (Release id txn at login) (Release id' txn' at' login') = same_id id id' && ((txn == txn') && ((at == at') && same_text login login'))
-same_request (Limit id from_day cap login) (Limit id' from_day' cap' login') = same_id id id' && ((from_day == from_day') && ((cap == cap') && same_text login login'))
+same_request (Reserve id txn at login count) (Reserve id' txn' at' login' count') =
+    same_id id id' && ((txn == txn') && ((at == at') && (same_text login login' && (count == count'))))
+same_request (Settle id txn at login count) (Settle id' txn' at' login' count') =
+    same_id id id' && ((txn == txn') && ((at == at') && (same_text login login' && (count == count'))))
+same_request (Release id txn at login) (Release id' txn' at' login') =
+    same_id id id' && ((txn == txn') && ((at == at') && same_text login login'))
+same_request (Limit id from_day cap login) (Limit id' from_day' cap' login') =
+    same_id id id' && ((from_day == from_day') && ((cap == cap') && same_text login login'))
 same_request (Usage login day) (Usage login' day') = same_text login login' && (day == day')
 same_request (ListRequest day after) (ListRequest day' after') = (day == day') && same_text after after'
 same_request _ _ = false

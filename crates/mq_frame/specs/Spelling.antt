@@ -2,12 +2,19 @@
 use Rattle.std.specs.Prelude.{◌≡◌, ℕ, List, [], ◌∷◌, ◌++◌, length}
 use Rattle.std.specs.List.{flat_map}
 use Rattle.std.specs.Int.{w16, w32, w64, to_be_bytes}
+use Rattle.mq_frame.specs.declared.format.TheConstants.{RESERVE, SETTLE, RELEASE, LIMIT, USAGE, LIST}
+use Rattle.mq_frame.specs.declared.format.TheConstants.{GRANTED, FULL, SETTLED, RELEASED, LIMIT_SET, OVER, CLOSED}
+use Rattle.mq_frame.specs.declared.format.TheConstants.{MISMATCH, TOO_MANY, CONFLICT}
+use Rattle.mq_frame.specs.declared.format.TheConstants.{USAGE_REPLY, LIST_REPLY, RETRY, BAD}
 use Rattle.mq_frame.specs.Range.{IsRequest, IsReply}
 use Rattle.mq_frame.specs.declared.message.Id.{Id}
 use Rattle.mq_frame.specs.declared.message.Request.{Request}
-use Rattle.mq_frame.specs.declared.message.Request.TheVariants.{Reserve, Settle, Release, Limit, Usage, List as ListRequest}
+use Rattle.mq_frame.specs.declared.message.Request.TheVariants.{Reserve, Settle, Release}
+use Rattle.mq_frame.specs.declared.message.Request.TheVariants.{Limit, Usage, List as ListRequest}
 use Rattle.mq_frame.specs.declared.message.Reply.{Reply}
-use Rattle.mq_frame.specs.declared.message.Reply.TheVariants.{Granted, Full, Settled, Released, LimitSet, Over, Closed, Mismatch, TooMany, Conflict, Usage as UsageReply, List as ListReply, Retry, Bad}
+use Rattle.mq_frame.specs.declared.message.Reply.TheVariants.{Granted, Full, Settled, Released, LimitSet, Over, Closed}
+use Rattle.mq_frame.specs.declared.message.Reply.TheVariants.{Mismatch, TooMany, Conflict, Usage as UsageReply}
+use Rattle.mq_frame.specs.declared.message.Reply.TheVariants.{List as ListReply, Retry, Bad}
 use Rattle.mq_frame.specs.declared.usage.UsageRow.{UsageRow}
 
 -- a number in 2, 4 or 8 bytes, the highest first
@@ -40,29 +47,32 @@ page_bytes rows = length rows ∷ flat_map row_bytes rows
 
 -- the kind of a request in one byte, and then its fields
 abbrev pub request_body : Request → List ℕ
-request_body (Reserve id txn at login count) = 0x01 ∷ (transaction_bytes id txn at login ++ in_4_bytes count)
-request_body (Settle id txn at login count) = 0x02 ∷ (transaction_bytes id txn at login ++ in_4_bytes count)
-request_body (Release id txn at login) = 0x03 ∷ transaction_bytes id txn at login
-request_body (Limit id from_day cap login) = 0x04 ∷ (id_bytes id ++ (in_4_bytes from_day ++ (in_4_bytes cap ++ with_length login)))
-request_body (Usage login day) = 0x05 ∷ (with_length login ++ in_4_bytes day)
-request_body (ListRequest day after) = 0x06 ∷ (in_4_bytes day ++ with_length after)
+request_body (Reserve id txn at login count) = RESERVE ∷ (transaction_bytes id txn at login ++ in_4_bytes count)
+request_body (Settle id txn at login count) = SETTLE ∷ (transaction_bytes id txn at login ++ in_4_bytes count)
+request_body (Release id txn at login) = RELEASE ∷ transaction_bytes id txn at login
+request_body (Limit id from_day cap login) =
+    LIMIT ∷ (id_bytes id ++ (in_4_bytes from_day ++ (in_4_bytes cap ++ with_length login)))
+request_body (Usage login day) = USAGE ∷ (with_length login ++ in_4_bytes day)
+request_body (ListRequest day after) = LIST ∷ (in_4_bytes day ++ with_length after)
 
 -- the kind of a reply in one byte, and then its fields
 abbrev pub reply_body : Reply → List ℕ
-reply_body (Granted id used) = 0x81 ∷ (id_bytes id ++ in_4_bytes used)
-reply_body (Full id used cap) = 0x82 ∷ (id_bytes id ++ (in_4_bytes used ++ in_4_bytes cap))
-reply_body (Settled id count) = 0x83 ∷ (id_bytes id ++ in_4_bytes count)
-reply_body (Released id held) = 0x84 ∷ (id_bytes id ++ in_4_bytes held)
-reply_body (LimitSet id) = 0x85 ∷ id_bytes id
-reply_body (Over id day used) = 0x86 ∷ (id_bytes id ++ (in_4_bytes day ++ in_4_bytes used))
-reply_body (Closed id) = 0x87 ∷ id_bytes id
-reply_body (Mismatch id) = 0x88 ∷ id_bytes id
-reply_body (TooMany id held) = 0x89 ∷ (id_bytes id ++ in_4_bytes held)
-reply_body (Conflict id) = 0x8a ∷ id_bytes id
-reply_body (UsageReply login day settled reserved cap) = 0x8b ∷ (with_length login ++ (in_4_bytes day ++ (in_4_bytes settled ++ (in_4_bytes reserved ++ in_4_bytes cap))))
-reply_body (ListReply day rows) = 0x8c ∷ (in_4_bytes day ++ page_bytes rows)
-reply_body Retry = 0x8d ∷ []
-reply_body Bad = 0x8e ∷ []
+reply_body (Granted id used) = GRANTED ∷ (id_bytes id ++ in_4_bytes used)
+reply_body (Full id used cap) = FULL ∷ (id_bytes id ++ (in_4_bytes used ++ in_4_bytes cap))
+reply_body (Settled id count) = SETTLED ∷ (id_bytes id ++ in_4_bytes count)
+reply_body (Released id held) = RELEASED ∷ (id_bytes id ++ in_4_bytes held)
+reply_body (LimitSet id) = LIMIT_SET ∷ id_bytes id
+reply_body (Over id day used) = OVER ∷ (id_bytes id ++ (in_4_bytes day ++ in_4_bytes used))
+reply_body (Closed id) = CLOSED ∷ id_bytes id
+reply_body (Mismatch id) = MISMATCH ∷ id_bytes id
+reply_body (TooMany id held) = TOO_MANY ∷ (id_bytes id ++ in_4_bytes held)
+reply_body (Conflict id) = CONFLICT ∷ id_bytes id
+reply_body (UsageReply login day settled reserved cap) =
+    USAGE_REPLY ∷ (with_length login ++ (in_4_bytes day
+    ++ (in_4_bytes settled ++ (in_4_bytes reserved ++ in_4_bytes cap))))
+reply_body (ListReply day rows) = LIST_REPLY ∷ (in_4_bytes day ++ page_bytes rows)
+reply_body Retry = RETRY ∷ []
+reply_body Bad = BAD ∷ []
 
 -- the body is the spelling of the request, whose fields are in range
 pub record SpellsRequest (body : List ℕ) (request : Request) : Type 0 where

@@ -9,12 +9,11 @@ ghost use Rattle.mq_frame.specs.declared.message.Reply.{Reply};
 ghost use Rattle.mq_frame.specs.declared.decode.DecodeFault.TheVariants.{Memory};
 
 use crate::fields::IdParts;
-use crate::host::Host;
-use crate::login::Login;
 use crate::message::{Id, Reply, Request};
 use crate::page::{PageParts, RowParts, row_at};
 use crate::reply_parts::{ReplyParts, reply_parts};
 use crate::request_parts::{RequestParts, request_parts};
+use crate::text::{Host, Login};
 use crate::usage::{UsageRow, UsageRows};
 use std::alloc::{AllocError, Global};
 use thiserror::Error;

@@ -4,12 +4,16 @@
 ghost use Rattle.std.specs.Prelude.{◌≡◌, ◌≤◌, [], ◌∷◌, ◌++◌, length, OnOk, OnErr};
 ghost use Rattle.std.specs.List.{flat_map};
 ghost use Rattle.mq_frame.specs.Range.{IsId, IsOrdinal, IsMoment, IsLogin, IsRow, IsPage, IsRequest, IsReply};
-ghost use Rattle.mq_frame.specs.Spelling.{in_4_bytes, in_8_bytes, with_length, id_bytes, transaction_bytes, row_bytes, page_bytes, request_body, reply_body, frame};
+ghost use Rattle.mq_frame.specs.Spelling.{in_4_bytes, in_8_bytes, with_length, id_bytes, transaction_bytes};
+ghost use Rattle.mq_frame.specs.Spelling.{row_bytes, page_bytes, request_body, reply_body, frame};
 
 use crate::error::Memory;
-use crate::host::Host;
-use crate::login::Login;
+use crate::format::{
+    BAD, CLOSED, CONFLICT, FULL, GRANTED, HEAD_BYTES, LIMIT, LIMIT_SET, LIST, LIST_REPLY, MISMATCH,
+    OVER, RELEASE, RELEASED, RESERVE, RETRY, SETTLE, SETTLED, TOO_MANY, USAGE, USAGE_REPLY,
+};
 use crate::message::{Id, Reply, Request};
+use crate::text::{Host, Login};
 use crate::usage::{UsageRow, UsageRows};
 use std::alloc::{AllocError, Global};
 
@@ -31,7 +35,7 @@ fn put_text(out: &mut Vec<u8>, text: &[u8]) -> Result<(), AllocError>
 }
 
 fn put_host(out: &mut Vec<u8>, host: &Host) -> Result<(), AllocError>
-    requires { length host.now ≤ 64 }
+    requires { length host.now ≤ 255 }
     ensures { OnOk result (out.new.items ≡ out.old.items ++ with_length host.now) }
 {
     put_text(out, host.as_slice())
@@ -126,7 +130,7 @@ fn put_request(out: &mut Vec<u8>, request: &Request) -> Result<(), AllocError>
             login,
             count,
         } => {
-            out.push(0x01)?;
+            out.push(RESERVE)?;
             put_transaction(out, id, *txn, *at, login)?;
             put_numbers(out, &[*count])
         }
@@ -137,12 +141,12 @@ fn put_request(out: &mut Vec<u8>, request: &Request) -> Result<(), AllocError>
             login,
             count,
         } => {
-            out.push(0x02)?;
+            out.push(SETTLE)?;
             put_transaction(out, id, *txn, *at, login)?;
             put_numbers(out, &[*count])
         }
         Request::Release { id, txn, at, login } => {
-            out.push(0x03)?;
+            out.push(RELEASE)?;
             put_transaction(out, id, *txn, *at, login)
         }
         Request::Limit {
@@ -151,16 +155,16 @@ fn put_request(out: &mut Vec<u8>, request: &Request) -> Result<(), AllocError>
             cap,
             login,
         } => {
-            put_numbered(out, 0x04, id, &[*from_day, *cap])?;
+            put_numbered(out, LIMIT, id, &[*from_day, *cap])?;
             put_login(out, login)
         }
         Request::Usage { login, day } => {
-            out.push(0x05)?;
+            out.push(USAGE)?;
             put_login(out, login)?;
             put_numbers(out, &[*day])
         }
         Request::List { day, after } => {
-            out.push(0x06)?;
+            out.push(LIST)?;
             put_numbers(out, &[*day])?;
             put_login(out, after)
         }
@@ -170,7 +174,8 @@ fn put_request(out: &mut Vec<u8>, request: &Request) -> Result<(), AllocError>
 /// The kind, the id and the numbers behind it.
 fn put_numbered(out: &mut Vec<u8>, kind: u8, id: &Id, numbers: &[u32]) -> Result<(), AllocError>
     requires { IsId id.now }
-    ensures { OnOk result (out.new.items ≡ out.old.items ++ kind ∷ (id_bytes id.now ++ flat_map in_4_bytes numbers.now)) }
+    ensures { OnOk result (out.new.items
+        ≡ out.old.items ++ kind ∷ (id_bytes id.now ++ flat_map in_4_bytes numbers.now)) }
 {
     out.push(kind)?;
     put_id(out, id)?;
@@ -183,16 +188,16 @@ fn put_reply(out: &mut Vec<u8>, reply: &Reply) -> Result<(), AllocError>
     ensures { OnOk result (out.new.items ≡ out.old.items ++ reply_body reply.now) }
 {
     match reply {
-        Reply::Granted { id, used } => put_numbered(out, 0x81, id, &[*used]),
-        Reply::Full { id, used, cap } => put_numbered(out, 0x82, id, &[*used, *cap]),
-        Reply::Settled { id, count } => put_numbered(out, 0x83, id, &[*count]),
-        Reply::Released { id, held } => put_numbered(out, 0x84, id, &[*held]),
-        Reply::LimitSet { id } => put_numbered(out, 0x85, id, &[]),
-        Reply::Over { id, day, used } => put_numbered(out, 0x86, id, &[*day, *used]),
-        Reply::Closed { id } => put_numbered(out, 0x87, id, &[]),
-        Reply::Mismatch { id } => put_numbered(out, 0x88, id, &[]),
-        Reply::TooMany { id, held } => put_numbered(out, 0x89, id, &[*held]),
-        Reply::Conflict { id } => put_numbered(out, 0x8a, id, &[]),
+        Reply::Granted { id, used } => put_numbered(out, GRANTED, id, &[*used]),
+        Reply::Full { id, used, cap } => put_numbered(out, FULL, id, &[*used, *cap]),
+        Reply::Settled { id, count } => put_numbered(out, SETTLED, id, &[*count]),
+        Reply::Released { id, held } => put_numbered(out, RELEASED, id, &[*held]),
+        Reply::LimitSet { id } => put_numbered(out, LIMIT_SET, id, &[]),
+        Reply::Over { id, day, used } => put_numbered(out, OVER, id, &[*day, *used]),
+        Reply::Closed { id } => put_numbered(out, CLOSED, id, &[]),
+        Reply::Mismatch { id } => put_numbered(out, MISMATCH, id, &[]),
+        Reply::TooMany { id, held } => put_numbered(out, TOO_MANY, id, &[*held]),
+        Reply::Conflict { id } => put_numbered(out, CONFLICT, id, &[]),
         Reply::Usage {
             login,
             day,
@@ -200,18 +205,18 @@ fn put_reply(out: &mut Vec<u8>, reply: &Reply) -> Result<(), AllocError>
             reserved,
             cap,
         } => {
-            out.push(0x8b)?;
+            out.push(USAGE_REPLY)?;
             put_login(out, login)?;
             put_numbers(out, &[*day, *settled, *reserved, *cap])?;
             Ok(())
         }
         Reply::List { day, rows } => {
-            out.push(0x8c)?;
+            out.push(LIST_REPLY)?;
             put_numbers(out, &[*day])?;
             put_page(out, rows)
         }
-        Reply::Retry => Ok(out.push(0x8d)?),
-        Reply::Bad => Ok(out.push(0x8e)?),
+        Reply::Retry => Ok(out.push(RETRY)?),
+        Reply::Bad => Ok(out.push(BAD)?),
     }
 }
 
@@ -232,7 +237,7 @@ fn append_frame(body: &[u8], out: &mut Vec<u8>) -> Result<(), AllocError>
     ensures err { OnErr result (out.new.items ≡ out.old.items) }
 {
     let length = body.len() as u16;
-    out.reserve(2 + body.len())?;
+    out.reserve(HEAD_BYTES + body.len())?;
     out.extend_from_slice(&length.to_be_bytes())?;
     out.extend_from_slice(body)?;
     Ok(())

@@ -7,6 +7,7 @@ ghost use Rattle.mq_frame.specs.Feed.{Takes, front, next_answer, finish_answer};
 ghost use Rattle.mq_frame.specs.contracts.feed.FrameFeed.{the_row};
 
 use crate::error::Memory;
+use crate::format::HEAD_BYTES;
 use std::alloc::Global;
 use std::marker::Model;
 use thiserror::Error;
@@ -140,7 +141,7 @@ impl FrameFeed {
                 if rest.len() < length {
                     return Ok(None);
                 }
-                self.taken = self.taken + 2 + length;
+                self.taken = self.taken + HEAD_BYTES + length;
                 Ok(Some(&rest[..length]))
             }
             _ => Ok(None),

@@ -4,7 +4,13 @@ ghost use Rattle.std.specs.List.{list_all};
 ghost use Rattle.std.specs.Int.{w32, w64};
 ghost use Rattle.mq_frame.specs.Range.{IsHostByte};
 ghost use Rattle.mq_frame.specs.Shown.{shown_id};
-ghost use Rattle.mq_frame.specs.Reading.{Reads, number_at, text_at, is_host_byte, host, id};
+ghost use Rattle.mq_frame.specs.Reading.{Reads, number_at, text_at, is_host_byte};
+ghost use Rattle.mq_frame.specs.Reading.{host, login, after, run, ordinal, moment, day, count, amount, id};
+
+use crate::format::{
+    AMOUNT_LIMIT, COUNT_LIMIT, FIRST_MOMENT, HOST_LIMIT, LAST_DAY, LAST_MOMENT, LAST_ORDINAL,
+    LAST_RUN, LOGIN_LIMIT,
+};
 
 /// An id in a body.
 #[derive(Clone, Copy)]
@@ -15,7 +21,7 @@ pub struct IdParts<'a> {
 }
 
 /// A number from `low` to `high` in four bytes, the highest first.
-pub fn u32_at(bytes: &[u8], low: u32, high: u32) -> Option<(u32, &[u8])>
+fn u32_at(bytes: &[u8], low: u32, high: u32) -> Option<(u32, &[u8])>
     ensures { Reads (λ x. (x.0, x.1.now)) result (number_at w32 low high bytes.now) }
 {
     if bytes.len() < 4 {
@@ -31,7 +37,7 @@ pub fn u32_at(bytes: &[u8], low: u32, high: u32) -> Option<(u32, &[u8])>
 }
 
 /// A number from `low` to `high` in eight bytes, the highest first.
-pub fn u64_at(bytes: &[u8], low: u64, high: u64) -> Option<(u64, &[u8])>
+fn u64_at(bytes: &[u8], low: u64, high: u64) -> Option<(u64, &[u8])>
     ensures { Reads (λ x. (x.0, x.1.now)) result (number_at w64 low high bytes.now) }
 {
     if bytes.len() < 8 {
@@ -49,7 +55,7 @@ pub fn u64_at(bytes: &[u8], low: u64, high: u64) -> Option<(u64, &[u8])>
 }
 
 /// A text of `low` to `high` bytes behind its length.
-pub fn text_at(bytes: &[u8], low: u8, high: u8) -> Option<(&[u8], &[u8])>
+fn text_at(bytes: &[u8], low: u8, high: u8) -> Option<(&[u8], &[u8])>
     ensures { Reads (λ x. (x.0.now, x.1.now)) result (text_at low high bytes.now) }
 {
     match bytes {
@@ -75,7 +81,7 @@ pub fn are_host_bytes(bytes: &[u8]) -> bool
 pub fn host_at(bytes: &[u8]) -> Option<(&[u8], &[u8])>
     ensures { Reads (λ x. (x.0.now, x.1.now)) result (host.read bytes.now) }
 {
-    let (text, rest) = text_at(bytes, 1, 64)?;
+    let (text, rest) = text_at(bytes, 1, HOST_LIMIT)?;
     if are_host_bytes(text) {
         Some((text, rest))
     } else {
@@ -83,12 +89,61 @@ pub fn host_at(bytes: &[u8]) -> Option<(&[u8], &[u8])>
     }
 }
 
+pub fn login_at(bytes: &[u8]) -> Option<(&[u8], &[u8])>
+    ensures { Reads (λ x. (x.0.now, x.1.now)) result (login.read bytes.now) }
+{
+    text_at(bytes, 1, LOGIN_LIMIT)
+}
+
+/// A login, or nothing.
+pub fn after_at(bytes: &[u8]) -> Option<(&[u8], &[u8])>
+    ensures { Reads (λ x. (x.0.now, x.1.now)) result (after.read bytes.now) }
+{
+    text_at(bytes, 0, LOGIN_LIMIT)
+}
+
+fn run_at(bytes: &[u8]) -> Option<(u64, &[u8])>
+    ensures { Reads (λ x. (x.0, x.1.now)) result (run.read bytes.now) }
+{
+    u64_at(bytes, 1, LAST_RUN)
+}
+
+pub fn ordinal_at(bytes: &[u8]) -> Option<(u32, &[u8])>
+    ensures { Reads (λ x. (x.0, x.1.now)) result (ordinal.read bytes.now) }
+{
+    u32_at(bytes, 1, LAST_ORDINAL)
+}
+
+pub fn moment_at(bytes: &[u8]) -> Option<(u64, &[u8])>
+    ensures { Reads (λ x. (x.0, x.1.now)) result (moment.read bytes.now) }
+{
+    u64_at(bytes, FIRST_MOMENT, LAST_MOMENT)
+}
+
+pub fn day_at(bytes: &[u8]) -> Option<(u32, &[u8])>
+    ensures { Reads (λ x. (x.0, x.1.now)) result (day.read bytes.now) }
+{
+    u32_at(bytes, 0, LAST_DAY)
+}
+
+pub fn count_at(bytes: &[u8]) -> Option<(u32, &[u8])>
+    ensures { Reads (λ x. (x.0, x.1.now)) result (count.read bytes.now) }
+{
+    u32_at(bytes, 1, COUNT_LIMIT)
+}
+
+pub fn amount_at(bytes: &[u8]) -> Option<(u32, &[u8])>
+    ensures { Reads (λ x. (x.0, x.1.now)) result (amount.read bytes.now) }
+{
+    u32_at(bytes, 0, AMOUNT_LIMIT)
+}
+
 pub fn id_at(bytes: &[u8]) -> Option<(IdParts<'_>, &[u8])>
     ensures { Reads (λ x. (shown_id x.0, x.1.now)) result (id.read bytes.now) }
 {
     let (host, rest) = host_at(bytes)?;
-    let (run, rest) = u64_at(rest, 1, 281_474_976_710_655)?;
-    let (seq, rest) = u32_at(rest, 1, 4_294_967_295)?;
+    let (run, rest) = run_at(rest)?;
+    let (seq, rest) = ordinal_at(rest)?;
     Some((IdParts { host, run, seq }, rest))
 }
 

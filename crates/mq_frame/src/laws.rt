@@ -1,11 +1,13 @@
 //! Laws of the link's format. Each is the contract of a function that does nothing.
-ghost use Rattle.std.specs.Prelude.{◌≡◌, ◌↔◌, ℕ, ◌+◌, ◌<◌, ◌≤◌, List, [], ◌∷◌, ◌++◌, length, drop, true, Some, None, Ok, All, ◌⊎◌};
+ghost use Rattle.std.specs.Prelude.{◌≡◌, ◌↔◌, ℕ, ◌+◌, ◌<◌, ◌≤◌, List, [], ◌∷◌, ◌++◌, length, drop, true, Some, None};
+ghost use Rattle.std.specs.Prelude.{Ok, All, ◌⊎◌};
 ghost use Rattle.std.specs.List.{flat_map};
 ghost use Rattle.mq_frame.specs.Range.{IsWithin, IsRequest, IsReply};
 ghost use Rattle.mq_frame.specs.Same.{same_id, same_request};
 ghost use Rattle.mq_frame.specs.Spelling.{in_2_bytes, request_body, reply_body, SpellsRequest, SpellsReply, frame};
 ghost use Rattle.mq_frame.specs.Reading.{request_at, reply_at};
-ghost use Rattle.mq_frame.specs.Feed.{Front, Nothing, Cut, EmptyHead, LongHead, Whole, front, next_answer, left_by_next, BeginsWith, HasNoFrame, Frames, Move, Moves, fed, given};
+ghost use Rattle.mq_frame.specs.Feed.{Front, Nothing, Cut, EmptyHead, LongHead, Whole, front, next_answer};
+ghost use Rattle.mq_frame.specs.Feed.{left_by_next, BeginsWith, HasNoFrame, Frames, Move, Moves, fed, given};
 ghost use Rattle.mq_frame.specs.declared.message.Id.{Id};
 ghost use Rattle.mq_frame.specs.declared.message.Request.{Request};
 ghost use Rattle.mq_frame.specs.declared.message.Reply.{Reply};
@@ -137,7 +139,8 @@ pub fn frames_stay()
         → BeginsWith limit bytes bodies rest → front limit rest ≡ Whole body after
         → BeginsWith limit bytes (bodies ++ body ∷ []) after }
     ensures none { (limit : ℕ) (bytes : List ℕ)
-        → (front limit bytes ≡ Nothing) ⊎ ((front limit bytes ≡ Cut) ⊎ ((front limit bytes ≡ EmptyHead) ⊎ (front limit bytes ≡ LongHead)))
+        → (front limit bytes ≡ Nothing) ⊎ ((front limit bytes ≡ Cut)
+        ⊎ ((front limit bytes ≡ EmptyHead) ⊎ (front limit bytes ≡ LongHead)))
         → HasNoFrame limit bytes }
     ensures one_list { (limit : ℕ) (bytes : List ℕ) (bodies others : List (List ℕ)) (rest end : List ℕ)
         → Frames limit bytes bodies rest → Frames limit bytes others end → (bodies ≡ others)

@@ -1,8 +1,7 @@
 ghost use Rattle.std.specs.Prelude.{◌≡◌};
 ghost use Rattle.mq_frame.specs.Same.{same_id, same_request};
 
-use crate::host::Host;
-use crate::login::Login;
+use crate::text::{Host, Login};
 use crate::usage::UsageRows;
 
 /// The number of a request: which host sent it, in which run of its filter, and which request of

@@ -3,7 +3,8 @@ ghost use Rattle.mq_frame.specs.Reading.{Reads, row, page};
 ghost use Rattle.mq_frame.specs.Shown.{shown_row};
 ghost use Rattle.mq_frame.specs.Parts.{shown_page};
 
-use crate::fields::{text_at, u32_at};
+use crate::fields::{amount_at, login_at};
+use crate::format::ROW_LIMIT;
 
 /// A row of a page in a body.
 #[derive(Clone, Copy)]
@@ -21,16 +22,13 @@ pub struct PageParts<'a> {
     pub bytes: &'a [u8],
 }
 
-/// The most rows of a page.
-const ROW_LIMIT: u8 = 100;
-
 pub fn row_at(bytes: &[u8]) -> Option<(RowParts<'_>, &[u8])>
     ensures { Reads (λ x. (shown_row x.0, x.1.now)) result (row.read bytes.now) }
 {
-    let (login, rest) = text_at(bytes, 1, 255)?;
-    let (settled, rest) = u32_at(rest, 0, 1_000_000)?;
-    let (reserved, rest) = u32_at(rest, 0, 1_000_000)?;
-    let (cap, rest) = u32_at(rest, 0, 1_000_000)?;
+    let (login, rest) = login_at(bytes)?;
+    let (settled, rest) = amount_at(rest)?;
+    let (reserved, rest) = amount_at(rest)?;
+    let (cap, rest) = amount_at(rest)?;
     Some((
         RowParts {
             login,

@@ -1,37 +1,42 @@
 //! Whether the fields of a value are in the ranges of the link's format.
 ghost use Rattle.std.specs.Prelude.{◌↔◌, IsTrue};
-ghost use Rattle.mq_frame.specs.Range.{IsHost, IsLogin, IsAfter, IsRun, IsOrdinal, IsMoment, IsDay, IsCount, IsAmount, IsId, IsRow, IsPage, IsRequest, IsReply};
+ghost use Rattle.mq_frame.specs.Range.{IsHost, IsLogin, IsAfter, IsRun, IsOrdinal, IsMoment, IsDay, IsCount};
+ghost use Rattle.mq_frame.specs.Range.{IsAmount, IsId, IsRow, IsPage, IsRequest, IsReply};
 
 use crate::fields::are_host_bytes;
-use crate::login::Login;
+use crate::format::{
+    AMOUNT_LIMIT, COUNT_LIMIT, FIRST_MOMENT, HOST_LIMIT, LAST_DAY, LAST_MOMENT, LAST_RUN,
+    LOGIN_LIMIT, ROW_LIMIT,
+};
 use crate::message::{Id, Reply, Request};
+use crate::text::Login;
 use crate::usage::{UsageRow, UsageRows};
 
 /// Whether the bytes are a host's name: 1 to 64 bytes, each an ASCII letter, a digit, `.` or `-`.
 pub fn is_host(bytes: &[u8]) -> bool
     ensures { IsTrue result ↔ IsHost bytes.now }
 {
-    1 <= bytes.len() && bytes.len() <= 64 && are_host_bytes(bytes)
+    1 <= bytes.len() && bytes.len() <= HOST_LIMIT as usize && are_host_bytes(bytes)
 }
 
 /// Whether the bytes are a login: 1 to 255 bytes of any value.
 pub fn is_login(bytes: &[u8]) -> bool
     ensures { IsTrue result ↔ IsLogin bytes.now }
 {
-    1 <= bytes.len() && bytes.len() <= 255
+    1 <= bytes.len() && bytes.len() <= LOGIN_LIMIT as usize
 }
 
 fn is_after(after: &Login) -> bool
     ensures { IsTrue result ↔ IsAfter after.now }
 {
-    after.as_slice().len() <= 255
+    after.as_slice().len() <= LOGIN_LIMIT as usize
 }
 
 /// Whether the number can be a run's: of 48 bits, and not 0.
 pub fn is_run(run: u64) -> bool
     ensures { IsTrue result ↔ IsRun run }
 {
-    1 <= run && run <= 281_474_976_710_655
+    1 <= run && run <= LAST_RUN
 }
 
 fn is_ordinal(number: u32) -> bool
@@ -45,25 +50,25 @@ fn is_ordinal(number: u32) -> bool
 pub fn is_moment(at: u64) -> bool
     ensures { IsTrue result ↔ IsMoment at }
 {
-    86_400 <= at && at <= 32_503_680_000
+    FIRST_MOMENT <= at && at <= LAST_MOMENT
 }
 
 fn is_day(day: u32) -> bool
     ensures { IsTrue result ↔ IsDay day }
 {
-    day <= 376_200
+    day <= LAST_DAY
 }
 
 fn is_count(count: u32) -> bool
     ensures { IsTrue result ↔ IsCount count }
 {
-    1 <= count && count <= 1000
+    1 <= count && count <= COUNT_LIMIT
 }
 
 fn is_amount(amount: u32) -> bool
     ensures { IsTrue result ↔ IsAmount amount }
 {
-    amount <= 1_000_000
+    amount <= AMOUNT_LIMIT
 }
 
 fn is_id(id: &Id) -> bool
@@ -85,7 +90,7 @@ fn is_page(rows: &UsageRows) -> bool
     ensures { IsTrue result ↔ IsPage rows.now }
 {
     let rows = rows.as_slice();
-    rows.len() <= 100 && rows.iter().all(is_row)
+    rows.len() <= ROW_LIMIT as usize && rows.iter().all(is_row)
 }
 
 /// Whether each field of the request is in the range that the link's format gives it.

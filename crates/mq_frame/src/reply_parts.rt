@@ -1,9 +1,13 @@
 //! A reply in a body, as parts that borrow from it.
-ghost use Rattle.mq_frame.specs.Reading.{Reads, whole, pair, id, day, count, amount, reply_at, reply_of_kind, numbered_reply};
+ghost use Rattle.mq_frame.specs.Reading.{Reads, whole, pair, id, amount, reply_at, reply_of_kind, numbered_reply};
 ghost use Rattle.mq_frame.specs.Shown.{shown_id};
 ghost use Rattle.mq_frame.specs.Parts.{shown_reply};
 
-use crate::fields::{IdParts, finished, id_at, text_at, u32_at};
+use crate::fields::{IdParts, amount_at, count_at, day_at, finished, id_at, login_at};
+use crate::format::{
+    BAD, CLOSED, CONFLICT, FULL, GRANTED, LIMIT_SET, LIST_REPLY, MISMATCH, OVER, RELEASED, RETRY,
+    SETTLED, TOO_MANY, USAGE_REPLY,
+};
 use crate::page::{PageParts, page_at};
 
 /// A reply in a body.
@@ -74,48 +78,48 @@ fn id_and_amount(bytes: &[u8]) -> Option<(IdParts<'_>, u32)>
     ensures { Reads (λ x. (shown_id x.0, x.1)) result (whole (pair id amount) bytes.now) }
 {
     let (id, rest) = id_at(bytes)?;
-    let (amount, rest) = u32_at(rest, 0, 1_000_000)?;
+    let (amount, rest) = amount_at(rest)?;
     finished(rest)?;
     Some((id, amount))
 }
 
 fn full_at(bytes: &[u8]) -> Option<ReplyParts<'_>>
-    ensures { Reads shown_reply result (numbered_reply 0x82 bytes.now) }
+    ensures { Reads shown_reply result (numbered_reply FULL bytes.now) }
 {
     let (id, rest) = id_at(bytes)?;
-    let (used, rest) = u32_at(rest, 0, 1_000_000)?;
-    let (cap, rest) = u32_at(rest, 0, 1_000_000)?;
+    let (used, rest) = amount_at(rest)?;
+    let (cap, rest) = amount_at(rest)?;
     finished(rest)?;
     Some(ReplyParts::Full { id, used, cap })
 }
 
 fn settled_at(bytes: &[u8]) -> Option<ReplyParts<'_>>
-    ensures { Reads shown_reply result (numbered_reply 0x83 bytes.now) }
+    ensures { Reads shown_reply result (numbered_reply SETTLED bytes.now) }
 {
     let (id, rest) = id_at(bytes)?;
-    let (count, rest) = u32_at(rest, 1, 1000)?;
+    let (count, rest) = count_at(rest)?;
     finished(rest)?;
     Some(ReplyParts::Settled { id, count })
 }
 
 fn over_at(bytes: &[u8]) -> Option<ReplyParts<'_>>
-    ensures { Reads shown_reply result (numbered_reply 0x86 bytes.now) }
+    ensures { Reads shown_reply result (numbered_reply OVER bytes.now) }
 {
     let (id, rest) = id_at(bytes)?;
-    let (day, rest) = u32_at(rest, 0, 376_200)?;
-    let (used, rest) = u32_at(rest, 0, 1_000_000)?;
+    let (day, rest) = day_at(rest)?;
+    let (used, rest) = amount_at(rest)?;
     finished(rest)?;
     Some(ReplyParts::Over { id, day, used })
 }
 
 fn usage_at(bytes: &[u8]) -> Option<ReplyParts<'_>>
-    ensures { Reads shown_reply result (reply_of_kind 0x8b bytes.now) }
+    ensures { Reads shown_reply result (reply_of_kind USAGE_REPLY bytes.now) }
 {
-    let (login, rest) = text_at(bytes, 1, 255)?;
-    let (day, rest) = u32_at(rest, 0, 376_200)?;
-    let (settled, rest) = u32_at(rest, 0, 1_000_000)?;
-    let (reserved, rest) = u32_at(rest, 0, 1_000_000)?;
-    let (cap, rest) = u32_at(rest, 0, 1_000_000)?;
+    let (login, rest) = login_at(bytes)?;
+    let (day, rest) = day_at(rest)?;
+    let (settled, rest) = amount_at(rest)?;
+    let (reserved, rest) = amount_at(rest)?;
+    let (cap, rest) = amount_at(rest)?;
     finished(rest)?;
     Some(ReplyParts::Usage {
         login,
@@ -127,9 +131,9 @@ fn usage_at(bytes: &[u8]) -> Option<ReplyParts<'_>>
 }
 
 fn list_at(bytes: &[u8]) -> Option<ReplyParts<'_>>
-    ensures { Reads shown_reply result (reply_of_kind 0x8c bytes.now) }
+    ensures { Reads shown_reply result (reply_of_kind LIST_REPLY bytes.now) }
 {
-    let (day, rest) = u32_at(bytes, 0, 376_200)?;
+    let (day, rest) = day_at(bytes)?;
     let (rows, rest) = page_at(rest)?;
     finished(rest)?;
     Some(ReplyParts::List { day, rows })
@@ -140,34 +144,34 @@ fn numbered_parts(kind: u8, bytes: &[u8]) -> Option<ReplyParts<'_>>
     ensures { Reads shown_reply result (numbered_reply kind bytes.now) }
 {
     match kind {
-        0x81 => {
+        GRANTED => {
             let (id, used) = id_and_amount(bytes)?;
             Some(ReplyParts::Granted { id, used })
         }
-        0x82 => full_at(bytes),
-        0x83 => settled_at(bytes),
-        0x84 => {
+        FULL => full_at(bytes),
+        SETTLED => settled_at(bytes),
+        RELEASED => {
             let (id, held) = id_and_amount(bytes)?;
             Some(ReplyParts::Released { id, held })
         }
-        0x85 => {
+        LIMIT_SET => {
             let id = id_alone(bytes)?;
             Some(ReplyParts::LimitSet { id })
         }
-        0x86 => over_at(bytes),
-        0x87 => {
+        OVER => over_at(bytes),
+        CLOSED => {
             let id = id_alone(bytes)?;
             Some(ReplyParts::Closed { id })
         }
-        0x88 => {
+        MISMATCH => {
             let id = id_alone(bytes)?;
             Some(ReplyParts::Mismatch { id })
         }
-        0x89 => {
+        TOO_MANY => {
             let (id, held) = id_and_amount(bytes)?;
             Some(ReplyParts::TooMany { id, held })
         }
-        0x8a => {
+        CONFLICT => {
             let id = id_alone(bytes)?;
             Some(ReplyParts::Conflict { id })
         }
@@ -181,13 +185,13 @@ pub fn reply_parts(body: &[u8]) -> Option<ReplyParts<'_>>
 {
     let (kind, rest) = body.split_first()?;
     match *kind {
-        0x8b => usage_at(rest),
-        0x8c => list_at(rest),
-        0x8d => {
+        USAGE_REPLY => usage_at(rest),
+        LIST_REPLY => list_at(rest),
+        RETRY => {
             finished(rest)?;
             Some(ReplyParts::Retry)
         }
-        0x8e => {
+        BAD => {
             finished(rest)?;
             Some(ReplyParts::Bad)
         }

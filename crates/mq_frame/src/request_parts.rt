@@ -1,9 +1,12 @@
 //! A request in a body, as parts that borrow from it.
-ghost use Rattle.mq_frame.specs.Reading.{Reads, whole, pair, login, day, text, count, transaction, limit, request_at, request_of_kind};
-ghost use Rattle.mq_frame.specs.Shown.{shown_id};
+ghost use Rattle.mq_frame.specs.Reading.{Reads, whole, pair, count, transaction, request_at, request_of_kind};
 ghost use Rattle.mq_frame.specs.Parts.{shown_transaction, shown_request};
 
-use crate::fields::{IdParts, finished, id_at, text_at, u32_at, u64_at};
+use crate::fields::{
+    IdParts, after_at, amount_at, count_at, day_at, finished, id_at, login_at, moment_at,
+    ordinal_at,
+};
+use crate::format::{LIMIT, LIST, RELEASE, RESERVE, SETTLE, USAGE};
 
 /// What names a transaction, and its login and moment.
 #[derive(Clone, Copy)]
@@ -48,9 +51,9 @@ fn transaction_at(bytes: &[u8]) -> Option<(TransactionParts<'_>, &[u8])>
     ensures { Reads (λ x. (shown_transaction x.0, x.1.now)) result (transaction.read bytes.now) }
 {
     let (id, rest) = id_at(bytes)?;
-    let (txn, rest) = u32_at(rest, 1, 4_294_967_295)?;
-    let (at, rest) = u64_at(rest, 86_400, 32_503_680_000)?;
-    let (login, rest) = text_at(rest, 1, 255)?;
+    let (txn, rest) = ordinal_at(rest)?;
+    let (at, rest) = moment_at(rest)?;
+    let (login, rest) = login_at(rest)?;
     Some((TransactionParts { id, txn, at, login }, rest))
 }
 
@@ -66,18 +69,18 @@ fn transaction_and_count(bytes: &[u8]) -> Option<(TransactionParts<'_>, u32)>
     ensures { Reads (λ x. (shown_transaction x.0, x.1)) result (whole (pair transaction count) bytes.now) }
 {
     let (transaction, rest) = transaction_at(bytes)?;
-    let (count, rest) = u32_at(rest, 1, 1000)?;
+    let (count, rest) = count_at(rest)?;
     finished(rest)?;
     Some((transaction, count))
 }
 
 fn limit_at(bytes: &[u8]) -> Option<RequestParts<'_>>
-    ensures { Reads shown_request result (request_of_kind 4 bytes.now) }
+    ensures { Reads shown_request result (request_of_kind LIMIT bytes.now) }
 {
     let (id, rest) = id_at(bytes)?;
-    let (from_day, rest) = u32_at(rest, 0, 376_200)?;
-    let (cap, rest) = u32_at(rest, 0, 1_000_000)?;
-    let (login, rest) = text_at(rest, 1, 255)?;
+    let (from_day, rest) = day_at(rest)?;
+    let (cap, rest) = amount_at(rest)?;
+    let (login, rest) = login_at(rest)?;
     finished(rest)?;
     Some(RequestParts::Limit {
         id,
@@ -88,19 +91,19 @@ fn limit_at(bytes: &[u8]) -> Option<RequestParts<'_>>
 }
 
 fn usage_at(bytes: &[u8]) -> Option<RequestParts<'_>>
-    ensures { Reads shown_request result (request_of_kind 5 bytes.now) }
+    ensures { Reads shown_request result (request_of_kind USAGE bytes.now) }
 {
-    let (login, rest) = text_at(bytes, 1, 255)?;
-    let (day, rest) = u32_at(rest, 0, 376_200)?;
+    let (login, rest) = login_at(bytes)?;
+    let (day, rest) = day_at(rest)?;
     finished(rest)?;
     Some(RequestParts::Usage { login, day })
 }
 
 fn list_at(bytes: &[u8]) -> Option<RequestParts<'_>>
-    ensures { Reads shown_request result (request_of_kind 6 bytes.now) }
+    ensures { Reads shown_request result (request_of_kind LIST bytes.now) }
 {
-    let (day, rest) = u32_at(bytes, 0, 376_200)?;
-    let (after, rest) = text_at(rest, 0, 255)?;
+    let (day, rest) = day_at(bytes)?;
+    let (after, rest) = after_at(rest)?;
     finished(rest)?;
     Some(RequestParts::List { day, after })
 }
@@ -111,21 +114,21 @@ pub fn request_parts(body: &[u8]) -> Option<RequestParts<'_>>
 {
     let (kind, rest) = body.split_first()?;
     match *kind {
-        0x01 => {
+        RESERVE => {
             let (transaction, count) = transaction_and_count(rest)?;
             Some(RequestParts::Reserve { transaction, count })
         }
-        0x02 => {
+        SETTLE => {
             let (transaction, count) = transaction_and_count(rest)?;
             Some(RequestParts::Settle { transaction, count })
         }
-        0x03 => {
+        RELEASE => {
             let transaction = whole_transaction(rest)?;
             Some(RequestParts::Release { transaction })
         }
-        0x04 => limit_at(rest),
-        0x05 => usage_at(rest),
-        0x06 => list_at(rest),
+        LIMIT => limit_at(rest),
+        USAGE => usage_at(rest),
+        LIST => list_at(rest),
         _ => None,
     }
 }

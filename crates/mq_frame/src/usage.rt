@@ -1,6 +1,6 @@
 ghost use Rattle.std.specs.Prelude.{◌≡◌, IfOk};
 
-use crate::login::Login;
+use crate::text::Login;
 use std::alloc::AllocError;
 use std::marker::Model;
 

@@ -14,6 +14,9 @@ same_rest f g e = ap (λ (feed : Feed). feed.rest) e
 pub same_held : (f g : Feed) → f ≡ g → f.held ≡ g.held
 same_held f g e = ap (λ (feed : Feed). feed.held) e
 
+pub same_room : (f g : Feed) → f ≡ g → f.room ≡ g.room
+same_room f g e = ap (λ (feed : Feed). feed.room) e
+
 -- the rest, as the code cuts it off
 pub rest_is : (items all rest : List ℕ) (place : ℕ) → all ≡ items → drop place items ≡ rest → take (length all - place) (drop place all) ≡ rest
 rest_is items all rest place same is = take_rest all place ∙ ap (drop place) same ∙ is

@@ -1,7 +1,8 @@
 -- What a feed shows.
 use Rattle.std.specs.Prelude.{ℕ, List}
 
--- the bytes that were fed and not taken, and how many bytes the feed keeps
+-- the bytes that were fed and not taken, how many bytes the feed keeps, and for how many it has room
 pub record Feed : Type 0 where
   pub rest : List ℕ
   pub held : ℕ
+  pub room : ℕ

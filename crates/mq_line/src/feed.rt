@@ -1,5 +1,5 @@
 //! A text that comes in pieces, and its lines.
-ghost use Rattle.std.specs.Prelude.{◌≡◌, ◌≤◌, ◌++◌, ◌∷◌, ◌↔◌, ◌≢◌, [], Err, IsOk, ℕ, List, length};
+ghost use Rattle.std.specs.Prelude.{◌≡◌, ◌<◌, ◌≤◌, ◌+◌, ◌++◌, ◌∷◌, ◌↔◌, ◌≢◌, [], Err, IsOk, ℕ, List, length};
 ghost use Rattle.std.specs.Prelude.{slice_get, OnOk, OnErr, IfOk, IfErr, IfNone, MatchOption, MatchResult};
 ghost use Rattle.std.specs.Option.{option_copied};
 ghost use Rattle.std.specs.Borrow.{sem};
@@ -43,8 +43,8 @@ fn front_of(rest: &[u8], searched: usize) -> Front
 
 /// Takes a text in pieces and gives its lines: the bytes before each LF, at most 65,536 of them.
 ///
-/// A contract sees of a feed `rest`, the bytes that were fed and not taken, and `held`, how many bytes it
-/// keeps. However the text is cut into pieces, the lines are the same. What was taken leaves at the next
+/// A contract sees of a feed `rest`, the bytes that were fed and not taken, `held`, how many bytes it keeps,
+/// and `room`, for how many it has memory. However the text is cut into pieces, the lines are the same. What was taken leaves at the next
 /// `feed`, and then the rest moves to the front; what was searched for an LF isn't searched again. So a caller
 /// that takes lines until `None` before each `feed` pays for a text by its length, however short its pieces
 /// are, and the feed keeps at most 65,536 bytes and a piece. One that leaves whole lines there pays once more
@@ -60,13 +60,17 @@ pub struct LineFeed {
 }
 
 impl Model for LineFeed {
-    ghost use Rattle.std.specs.Prelude.{drop, length, ◌≤◌};
+    ghost use Rattle.std.specs.Prelude.{drop, length, vec_capacity, ◌≤◌};
     ghost use Rattle.mq_line.specs.Feed.{Feed};
     ghost use Rattle.mq_line.specs.Search.{IsSearched};
 
     ghost Value = { Feed };
 
-    ghost view = { λ f. record { rest = drop f.start f.bytes.items; held = length f.bytes.items } };
+    ghost view = { λ f. record {
+      rest = drop f.start f.bytes.items;
+      held = length f.bytes.items;
+      room = vec_capacity f.bytes;
+    } };
 
     ghost invariant = { λ f. (f.start ≤ length f.bytes.items) × IsSearched (drop f.start f.bytes.items) f.searched };
 }
@@ -95,6 +99,10 @@ impl LineFeed {
         // It keeps what wasn't taken, and no more.
         ensures held { OnOk result (self.new.held ≡ length self.new.rest) }
         ensures held_at_err { OnErr result (self.new.held ≤ self.old.held) }
+
+        // Memory is answered only where there is no room for the rest and the piece, and room never shrinks.
+        ensures full { OnErr result (self.old.room < length self.old.rest + length piece.now) }
+        ensures room { self.old.room ≤ self.new.room }
     {
         self.bytes.drain(..self.start);
         self.start = 0;
@@ -133,7 +141,8 @@ impl LineFeed {
 
         // What is given is taken, its LF included, and else nothing is.
         ensures* left { sem 𝓛 (Rests the_row self.entry
-            (λ feed. Leaves self.old.rest result feed.rest × (feed.held ≡ self.old.held))) }
+            (λ feed. Leaves self.old.rest result feed.rest × (feed.held ≡ self.old.held)
+            × (feed.room ≡ self.old.room))) }
     {
         let rest = &self.bytes[self.start..];
         match front_of(rest, self.searched) {
