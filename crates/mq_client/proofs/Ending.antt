@@ -11,7 +11,6 @@ use Rattle.mq_client.specs.Place.{is_of_input}
 use Rattle.mq_client.specs.declared.faults.FilterFault.{FilterFault}
 use Rattle.mq_client.specs.declared.faults.FilterFault.TheVariants as at
 use Rattle.mq_client.specs.declared.filter.Ended.{Ended}
-use Rattle.mq_client.specs.declared.link.Told.{Told}
 use Rattle.mq_client.proofs.Looping.{is_line_none}
 use Rattle.mq_client.proofs.Turning.{OneReply}
 use Rattle.mq_client.proofs.Sameness.{same_actions, same_texts, same_played, same_lines}

@@ -1,6 +1,6 @@
 -- Each number has one request, and each request that is sent is the one of its number.
 use Rattle.std.proofs.Common.{◌≡◌, ℕ, ◌+◌, ◌≤◌, ◌==◌, ◌&&◌, ◌||◌, not, nat_le, Bool, false, true, List, [], ◌∷◌, ◌++◌, refl, sym, ap, ◌∙◌, subst, arith, inl, inr, Option, None, Some, is_some, if◌then◌else◌}
-use Rattle.std.specs.Prelude.{slice_get, drop, length}
+use Rattle.std.specs.Prelude.{length}
 use Rattle.std.specs.List.{AllByRecursion}
 use Rattle.std.specs.Option.{option_map, option_or}
 use Rattle.std.specs.Cmp.Lexicographic.{bytes_decides}
@@ -10,9 +10,9 @@ use Rattle.mq_frame.specs.declared.message.Id.{Id}
 use Rattle.mq_frame.specs.declared.message.Request.{Request}
 use Rattle.mq_frame.specs.declared.message.Request.TheVariants.{Reserve, Settle, Release, Limit, Usage, List as ListRequest}
 use Rattle.mq_client.specs.Exchanges.{Exchange, decisions}
-use Rattle.mq_client.specs.Past.{Source, Action, Ask, Close, Drain, Step, Standing, Never, Live, Ended, View, view, after, after_close, held_by, held_for, opened, let_through, answer_of, id_of, reserve_of, is_commit, closing_of, is_other, lacks_numbers, refuses}
-use Rattle.mq_client.specs.Reading.{live_in, numbers_in, has_exchange, takes_number}
-use Rattle.mq_client.specs.Turns.{queue_of, next_of, ComeInTurn, AreUnderway}
+use Rattle.mq_client.specs.Past.{Source, Action, Ask, Close, Drain, Step, Standing, Never, Live, Ended, View, view, after, after_close, held_by, held_for, opened, let_through, answer_of, id_of, reserve_of, is_commit, closing_of, is_other, refuses}
+use Rattle.mq_client.specs.Reading.{live_in, numbers_in, takes_number}
+use Rattle.mq_client.specs.Turns.{queue_of, ComeInTurn, AreUnderway}
 use Rattle.mq_client.specs.Numbered.{id_in, txn_in, exchanges_in, request_by, request_under, IsNumbered, WasCommitted, SettlesWhatWasLet, is_ended, AsksForNoEnded, NoneReturns, Suits}
 use Rattle.mq_track.specs.declared.closing.CloseEnd.{CloseEnd}
 use Rattle.mq_track.specs.declared.closing.CloseEnd.TheVariants as ending

@@ -1,5 +1,5 @@
 -- What the lines have the client do: a transaction that was closed is never asked for again.
-use Rattle.std.proofs.Common.{◌≡◌, ◌≢◌, ℕ, ◌+◌, ◌==◌, ◌&&◌, Bool, false, true, List, [], ◌∷◌, ◌++◌, refl, sym, ap, ◌∙◌, subst, inl, inr, ◌⊎◌, Option, None, Some, if◌then◌else◌}
+use Rattle.std.proofs.Common.{◌≡◌, ℕ, ◌+◌, ◌==◌, ◌&&◌, Bool, false, true, List, [], ◌∷◌, ◌++◌, refl, sym, ap, ◌∙◌, subst, inl, inr, ◌⊎◌, Option, None, Some, if◌then◌else◌}
 use Rattle.std.specs.Prelude.{codes}
 use Rattle.std.specs.Option.{option_map}
 use Rattle.std.specs.Str.{bytes_eq}
@@ -11,12 +11,12 @@ use Rattle.mq_track.specs.Sessions.{Transaction, login, open_transaction, closin
 use Rattle.mq_track.specs.declared.closing.Closing.{Closing}
 use Rattle.mq_track.specs.declared.closing.CloseEnd.{CloseEnd}
 use Rattle.mq_client.specs.Exchanges.{Exchange}
-use Rattle.mq_client.specs.Past.{Source, Action, Ask, Close, Drain, Step, Standing, Never, Live, Ended, View, view, after, after_close, held_by}
+use Rattle.mq_client.specs.Past.{Source, Action, Ask, Close, Drain, Step, Never, Live, Ended, View, view, after, after_close, held_by}
 use Rattle.mq_client.specs.Filter.{Query, Passes, Refuses, Asks, is_login, is_moment, query_at, query, Answers, Closes, Takes, push, Filters, actions, asking_of, closing_of, action_of, actions_of}
 use Rattle.mq_client.specs.Numbered.{is_ended, AsksForNoEnded, NoneReturns}
 use Rattle.mq_client.specs.declared.held.Held.{Held}
 use Rattle.mq_client.proofs.Sameness.{kind_of, actions_push}
-use Rattle.mq_client.proofs.Basics.{none_some, some_is, nil_cons, cons_head, cons_tail}
+use Rattle.mq_client.proofs.Basics.{none_some, nil_cons, cons_head, cons_tail}
 
 -- ---- the actions of lines
 

@@ -1,4 +1,4 @@
-use Rattle.std.proofs.Common.{◌∷◌, arith, None}
+use Rattle.std.proofs.Common.{◌∷◌, arith}
 use Rattle.mq_client.proofs.Telling.{told_more, undecided, decided_by_last}
 use Rattle.mq_client.proofs.tries.try_all.Goals as goal
 

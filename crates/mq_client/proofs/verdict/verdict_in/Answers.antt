@@ -1,4 +1,3 @@
-use Rattle.std.proofs.Common.{None}
 use Rattle.mq_frame.specs.Parts.{shown_reply}
 use Rattle.mq_client.specs.Verdict.{deciding}
 use Rattle.mq_client.proofs.Telling.{decision_by}
