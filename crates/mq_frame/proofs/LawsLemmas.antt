@@ -1,7 +1,7 @@
 -- What the laws of the link's format join.
-use Rattle.std.proofs.Common.{◌≡◌, ℕ, List, ◌++◌, length, Some, sym, ◌∙◌, arith}
-use Rattle.mq_frame.specs.Range.{IsWithin}
-use Rattle.mq_frame.specs.Spelling.{SpellsRequest, SpellsReply, frame}
+use Rattle.std.proofs.Common.{◌≡◌, ℕ, List, ◌++◌, length, drop, Some, refl, sym, ap, ◌∙◌, arith}
+use Rattle.mq_frame.specs.Range.{IsWithin, IsRequest, IsReply}
+use Rattle.mq_frame.specs.Spelling.{SpellsRequest, SpellsReply, request_body, reply_body, frame}
 use Rattle.mq_frame.specs.Feed.{Whole, front}
 use Rattle.mq_frame.specs.declared.message.Request.{Request}
 use Rattle.mq_frame.specs.declared.message.Reply.{Reply}
@@ -34,3 +34,18 @@ pub reply_frame : (body after : List ℕ) (reply : Reply) → SpellsReply body r
 reply_frame body after reply h =
     let size = reply_length body reply h in
     frame_front 65535 body after (omega arith) (record { from = size.from; to = omega (arith, size.to) })
+
+-- ---- what a frame tells
+
+pub frame_body : (body : List ℕ) → drop 2 (frame body) ≡ body
+frame_body body = refl
+
+pub one_request_frame : (request other : Request) → IsRequest request → IsRequest other → frame (request_body request) ≡ frame (request_body other) → request ≡ other
+one_request_frame request other h g e =
+    let same : request_body request ≡ request_body other = ap (λ (l : List ℕ). drop 2 l) e in
+    one_request (request_body request) request other (record { bytes = refl; in_range = h }) (record { bytes = same; in_range = g })
+
+pub one_reply_frame : (reply other : Reply) → IsReply reply → IsReply other → frame (reply_body reply) ≡ frame (reply_body other) → reply ≡ other
+one_reply_frame reply other h g e =
+    let same : reply_body reply ≡ reply_body other = ap (λ (l : List ℕ). drop 2 l) e in
+    one_reply (reply_body reply) reply other (record { bytes = refl; in_range = h }) (record { bytes = same; in_range = g })

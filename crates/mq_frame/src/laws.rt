@@ -1,5 +1,5 @@
 //! Laws of the link's format. Each is the contract of a function that does nothing.
-ghost use Rattle.std.specs.Prelude.{◌≡◌, ◌↔◌, ℕ, ◌+◌, ◌<◌, ◌≤◌, List, [], ◌∷◌, ◌++◌, length, true, Some, None, Ok, All, ◌⊎◌};
+ghost use Rattle.std.specs.Prelude.{◌≡◌, ◌↔◌, ℕ, ◌+◌, ◌<◌, ◌≤◌, List, [], ◌∷◌, ◌++◌, length, drop, true, Some, None, Ok, All, ◌⊎◌};
 ghost use Rattle.std.specs.List.{flat_map};
 ghost use Rattle.mq_frame.specs.Range.{IsWithin, IsRequest, IsReply};
 ghost use Rattle.mq_frame.specs.Same.{same_id, same_request};
@@ -25,6 +25,12 @@ pub fn one_spelling()
     ensures one_reply_body { (body other : List ℕ) (reply : Reply) → SpellsReply body reply
         → SpellsReply other reply → body ≡ other }
 
+    // So a frame tells its request and its reply.
+    ensures one_request_frame { (request other : Request) → IsRequest request → IsRequest other
+        → frame (request_body request) ≡ frame (request_body other) → request ≡ other }
+    ensures one_reply_frame { (reply other : Reply) → IsReply reply → IsReply other
+        → frame (reply_body reply) ≡ frame (reply_body other) → reply ≡ other }
+
     ensures not_both { (body : List ℕ) (request : Request) (reply : Reply)
         → SpellsRequest body request → SpellsReply body reply → ⊥ }
 {}
@@ -43,6 +49,21 @@ pub fn reading_finds_the_spelled()
         → (request_at body ≡ Some request) ↔ SpellsRequest body request }
     ensures reply { (body : List ℕ) (reply : Reply) → All (λ byte. byte < 256) body
         → (reply_at body ≡ Some reply) ↔ SpellsReply body reply }
+{}
+
+/// A body that was kept without its frame's head is read back.
+pub fn bodies_are_read_back()
+    ensures body { (body : List ℕ) → drop 2 (frame body) ≡ body }
+    ensures request { (request : Request) → IsRequest request
+        → request_at (drop 2 (frame (request_body request))) ≡ Some request }
+    ensures reply { (reply : Reply) → IsReply reply
+        → reply_at (drop 2 (frame (reply_body reply))) ≡ Some reply }
+
+    // So of each body that is spelled so, whether its bytes are below 256 or not.
+    ensures spelled_request { (body : List ℕ) (request : Request) → SpellsRequest body request
+        → request_at body ≡ Some request }
+    ensures spelled_reply { (body : List ℕ) (reply : Reply) → SpellsReply body reply
+        → reply_at body ≡ Some reply }
 {}
 
 /// The tests that two ids or two requests are the same are true exactly of equal ones.

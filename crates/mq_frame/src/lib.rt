@@ -30,6 +30,6 @@ pub use host::Host;
 pub use login::Login;
 pub use message::{Id, Reply, Request};
 pub use range::{is_host, is_login, is_moment, is_reply, is_request, is_run};
-pub use sink::{Sink, ToWrite};
+pub use sink::{Sink, ToWrite, write_and_flush};
 pub use source::{FromRead, Source};
 pub use usage::{UsageRow, UsageRows};

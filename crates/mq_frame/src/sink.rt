@@ -1,8 +1,8 @@
 //! Where bytes go: a sink, which fails for good once it has failed.
-ghost use Rattle.std.specs.Prelude.{◌≡◌, ◌≢◌, ℕ, ◌<◌, List, Bool, false, true, Option, None, Some, IfOk, OnOk, IsErr, is_err, length};
+ghost use Rattle.std.specs.Prelude.{◌≡◌, ◌≢◌, ℕ, ◌<◌, List, Bool, false, true, Option, None, Some, IfOk, OnOk, OnErr, IsErr, is_err, length};
 ghost use Rattle.std.specs.Io.{WritesAtMost};
-ghost use Rattle.std.specs.Io.KnownBytes.{WriteAppends, Keeps};
-ghost use Rattle.mq_frame.specs.Flow.{IsFlushed};
+ghost use Rattle.std.specs.Io.KnownBytes.{WriteAppends, Appends, Keeps};
+ghost use Rattle.mq_frame.specs.Flow.{IsFlushed, AppendsFront};
 
 use crate::error::Failed;
 use std::io::Write;
@@ -35,6 +35,22 @@ pub trait Sink {
         ensures flushed { OnOk result (IsFlushed (has_flushed self.new)) }
         ensures failed { has_failed self.new ≡ is_err result }
         ensures for_good { has_failed self.old ≡ true → IsErr result };
+}
+
+/// Writes all of the bytes and hands them on, or writes a front of them before the sink fails.
+pub fn write_and_flush<S: Sink>(sink: &mut S, bytes: &[u8]) -> Result<(), Failed>
+    ensures ok { OnOk result (Appends (S.contents sink.old) (S.contents sink.new) bytes.now) }
+    ensures err { OnErr result (AppendsFront (S.contents sink.old) (S.contents sink.new) bytes.now) }
+    ensures flushed { OnOk result (IsFlushed (S.has_flushed sink.new)) }
+    ensures failed { S.has_failed sink.new ≡ is_err result }
+    ensures for_good { S.has_failed sink.old ≡ true → IsErr result }
+{
+    let mut rest = bytes;
+    while !rest.is_empty() {
+        let count = sink.write(rest)?;
+        rest = &rest[count..];
+    }
+    sink.flush()
 }
 
 /// A writer of std as a sink. A write of nothing out of something is a failure.

@@ -1,7 +1,7 @@
 //! Sources and sinks over readers and writers that fail in mid-stream.
 
 use crate::fixtures::NO_MEMORY;
-use mq_frame::{Failed, FromRead, Sink, Source, ToWrite};
+use mq_frame::{Failed, FromRead, Sink, Source, ToWrite, write_and_flush};
 use std::io;
 use std::io::{ErrorKind, Read, Write};
 use std::process::Abort;
@@ -72,7 +72,7 @@ fn reads_a_slice_to_its_end(rt: HostRuntime) {
     assert_eq!(rt; source.into_inner().len(), 0);
 }
 
-/// A writer that takes so many bytes, and then nothing; its flush fails where it is told to.
+/// A writer that takes so many bytes, two a call, and then nothing; its flush fails where it is told to.
 #[derive(Drop)]
 struct Short {
     left: usize,
@@ -81,7 +81,7 @@ struct Short {
 
 impl Write for Short {
     fn write(&mut self, buf: &[u8]) -> io::Result<usize> {
-        let count = buf.len().min(self.left);
+        let count = buf.len().min(self.left).min(2);
         self.left -= count;
         Ok(count)
     }
@@ -148,4 +148,26 @@ fn writes_to_memory(rt: HostRuntime) {
     let calls = [Call::Write(&[1, 2], Ok(2)), Call::Flush(Ok(()))];
     check_calls(&rt, &mut sink, &calls);
     assert_eq!(rt; sink.into_inner().as_slice(), [1, 2].as_slice());
+}
+
+/// Without clauses, so that its callers stay cheap to prove.
+fn sent<S: Sink>(sink: &mut S, bytes: &[u8]) -> Result<(), Failed> {
+    write_and_flush(sink, bytes)
+}
+
+/// All bytes are written in as many writes as it takes, and flushed; or as many as the device takes.
+#[test]
+fn all_bytes_are_written(rt: HostRuntime) {
+    let mut sink = ToWrite::new(Vec::new(rt.alloc()));
+    assert_eq!(rt; sent(&mut sink, &[1, 2, 3]), Ok(()));
+    assert_eq!(rt; sink.into_inner().as_slice(), [1, 2, 3].as_slice());
+    for (left, breaks, answer) in [
+        (4, false, Ok(())),
+        (3, true, Err(Failed)),
+        (2, false, Err(Failed)),
+    ] {
+        let mut sink = ToWrite::new(Short { left, breaks });
+        assert_eq!(rt; sent(&mut sink, &[1, 2, 3]), answer);
+        assert_eq!(rt; sink.into_inner().left, left.saturating_sub(3));
+    }
 }
