@@ -1,5 +1,5 @@
 -- Tests, texts, lists, and rows that stand under a key at most once.
-use Rattle.std.proofs.Common.{swap, ◌≡◌, ℕ, zero, suc, ◌<◌, List, [], ◌∷◌, Bool, true, false, refl, ◌∙◌, sym, inl, inr, arith, length, get_or}
+use Rattle.std.proofs.Common.{ap, swap, ◌≡◌, ℕ, zero, suc, ◌<◌, List, [], ◌∷◌, Bool, true, false, refl, ◌∙◌, sym, inl, inr, arith, length, get_or}
 use Rattle.std.specs.Prelude.{find, filter, ◌==◌, ◌⊎◌, Option, Some, None}
 use Rattle.std.specs.List.{AllByRecursion}
 use Rattle.std.specs.List.Sorted.{IsPermutation}
@@ -8,6 +8,7 @@ use Rattle.std.proofs.Math.ListN.{set}
 use Rattle.std.proofs.lemmas.Bool.Decides.{Decides-eqb}
 use Rattle.std.proofs.lemmas.List.Sorted.{IsPermutation-refl, IsPermutation-cons, IsPermutation-trans, IsPermutation-append_left, IsPermutation-append_comm, IsPermutation-keeps, IsPermutation-sym}
 use Rattle.mq_frame.specs.Same.{same_text}
+use Rattle.mq_rows.specs.Plan.{Inserts, Updates}
 use Rattle.mq_rows.specs.Tables.{those}
 
 pub either : (b : Bool) → (b ≡ true) ⊎ (b ≡ false)
@@ -157,3 +158,44 @@ module _ {R : Type 0} (p : R → Bool) where
             let new_not : p new ≡ false = same ∙ f in
             rw (new_not, next) k)
       ]
+
+-- A table whose rows have keys, each key once at most.
+module _ {R K : Type 0} (is : K → R → Bool) (key : R → K) (set : R → R → R)
+    (key_is : (k : K) (r : R) → is k r ≡ true → k ≡ key r)
+    (key_itself : (r : R) → is (key r) r ≡ true)
+    (key_stays : (new was : R) (k : K) → is k (set new was) ≡ is k was) where
+  abbrev pub Are : (K → Option R) → List R → Type 0
+  Are row rows = (k : K) → filter (is k) rows ≡ those (row k)
+
+  pub kept : (row after : K → Option R) (rows : List R) → Are row rows → ((k : K) → after k ≡ row k) → Are after rows
+  kept row after rows are same = λ k. are k ∙ ap those (sym (same k))
+
+  pub insert : (row after : K → Option R) (rows : List R) (new : R) → Are row rows → row (key new) ≡ None → after (key new) ≡ Some new
+      → ((k : K) → is k new ≡ false → after k ≡ row k) → Inserts (λ r. is (key r)) new rows (Are after)
+  insert row after rows new are none now others =
+      let F : (k : K) → filter (is k) (new ∷ rows) ≡ those (after k) = λ k.
+      inserted (is k) new rows (row k) (after k) (are k)
+      (λ t. let e : k ≡ key new = key_is k new t in (rw e none, rw e now))
+      (λ f. others k f) in
+      record {
+        absent = none_pass (is (key new)) rows (are (key new) ∙ ap those none);
+        after = F;
+      }
+
+  pub update : (row after : K → Option R) (rows : List R) (new was : R) → Are row rows → row (key new) ≡ Some was → after (key new) ≡ Some (set new was)
+      → ((k : K) → is k was ≡ false → after k ≡ row k) → Updates (λ r. is (key r)) set new rows (Are after)
+  update row after rows new was are here now others =
+      let d : Parted (is (key new)) rows was = parted (is (key new)) rows was (are (key new) ∙ ap those here) in
+      let same : key new ≡ key was = key_is (key new) was d.there in
+      let F : (k : K) → filter (is k) (set new was ∷ d.rest) ≡ those (after k) = λ k.
+      updated (is k) (set new was) was d.rest rows (row k) (after k) d.order (are k) (key_stays new was k)
+      (λ t _. let e : k ≡ key new = key_is k was t ∙ sym same in rw e now)
+      (λ f. others k f) in
+      record {
+        was = was;
+        rest = d.rest;
+        order = d.order;
+        there = d.there;
+        alone = d.alone;
+        after = F;
+      }

@@ -5,3 +5,4 @@ pub mod Plan
 pub mod Repeat
 pub mod Rows
 pub mod Tables
+pub mod Written

@@ -1,15 +1,41 @@
 //! Laws of the rows of a history, for a ledger that keeps them in a store. Each function does
 //! nothing: its contract is the law.
-ghost use Rattle.std.specs.Prelude.{◌≡◌, ℕ, List, ◌∷◌, find, false, Some};
+ghost use Rattle.std.specs.Prelude.{◌≡◌, ◌≤◌, ◌⊎◌, ℕ, ◌+◌, ℤ, List, [], ◌∷◌, ◌++◌, length, map, find, true, Option, Some, None, is_some};
 ghost use Rattle.std.specs.List.{AllByRecursion};
 ghost use Rattle.std.specs.List.Sorted.{IsPermutation};
+ghost use Rattle.mq_frame.specs.declared.message.Id.{Id};
+ghost use Rattle.mq_frame.specs.declared.message.Request.{Request as AnyRequest};
+ghost use Rattle.mq_frame.specs.declared.message.Reply.{Reply as AnyReply};
+ghost use Rattle.mq_frame.specs.Range.{IsRequest, IsAmount};
+ghost use Rattle.mq_frame.specs.Same.{same_id};
+ghost use Rattle.mq_frame.specs.Spelling.{SpellsRequest, SpellsReply};
 ghost use Rattle.mq_ledger.specs.declared.entry.Entry.{Entry as AnyEntry};
-ghost use Rattle.mq_ledger.specs.History.{Transaction};
+ghost use Rattle.mq_ledger.specs.Answer.{answer, appended, build, reply, stored};
+ghost use Rattle.mq_ledger.specs.Arrivals.{id_of, first};
+ghost use Rattle.mq_ledger.specs.Day.{IsOffset, IsDayRule, day_of};
+ghost use Rattle.mq_ledger.specs.History.{Transaction, requests};
+ghost use Rattle.mq_ledger.specs.Legal.{Book, IsLegal, IsLegalBook};
+ghost use Rattle.mq_ledger.specs.Page.{row, page};
+ghost use Rattle.mq_rows.specs.declared.record.AnswerRecord.{AnswerRecord};
 ghost use Rattle.mq_rows.specs.declared.record.TransactionRecord.{TransactionRecord};
 ghost use Rattle.mq_rows.specs.declared.record.UsageRecord.{UsageRecord};
 ghost use Rattle.mq_rows.specs.declared.record.CeilingRecord.{CeilingRecord};
-ghost use Rattle.mq_rows.specs.Rows.{transaction_row, usage_row, ceiling_row, is_transaction, is_usage, is_ceiling};
-ghost use Rattle.mq_rows.specs.Tables.{AreTransactions, AreUsage, AreCeilings};
+ghost use Rattle.mq_rows.specs.declared.plan.Found.{Found};
+ghost use Rattle.mq_rows.specs.Rows.{setting_row, answer_row, answer_rows, transaction_row, usage_row, ceiling_row, is_transaction, is_usage, is_ceiling};
+ghost use Rattle.mq_rows.specs.Tables.{Tables, AreTransactions, AreUsage, AreCeilings, AreRows};
+ghost use Rattle.mq_rows.specs.Meaning.{meaning, AreSound};
+ghost use Rattle.mq_rows.specs.Found.{IsFound, IsGoverning};
+ghost use Rattle.mq_rows.specs.Repeat.{IsRepeatOf};
+ghost use Rattle.mq_rows.specs.Listing.{usage_reply_by, page_row_by, IsNext, AreNext, behind};
+ghost use Rattle.mq_rows.specs.Plan.{held_by, decided, transaction_write, usage_write, ceiling_write, planned, may_be_found, Leads, same_key, set_transaction, same_day, set_usage, same_from, set_ceiling};
+ghost use Rattle.mq_rows.specs.Written.{LeadTo};
+
+use mq_frame::laws::{bodies_are_read_back, one_spelling};
+use mq_ledger::laws::{
+    amounts_in_range, latest_limit_governs, one_more_arrival, one_more_limit,
+    one_more_of_a_transaction, one_more_on_a_day, open_transactions, over_is_least, page_is_first,
+    replies_in_range, replies_suit, used_where_reserved,
+};
 
 /// The rows of a history are its rows in any order.
 pub fn any_order()
@@ -30,3 +56,177 @@ pub fn rows_by_key()
     ensures ceiling { (H : List AnyEntry) (rows : List CeilingRecord) (l : List ℕ) (d : ℕ) →
         AreCeilings H rows → find (is_ceiling l d) rows ≡ ceiling_row H l d }
 {}
+
+/// What is written of transactions leads to their rows with one more answer. At most one row
+/// changes.
+pub fn transactions_follow()
+    ensures { (day : ℕ → ℕ) (default : ℕ) (H : List AnyEntry) (t : Tables) (r : AnyRequest) (f : Found) →
+        AreTransactions day H t.transactions → IsFound day t r f →
+        Leads same_key set_transaction (transaction_write day r (answer day default H r) f.transaction)
+        t.transactions (AreTransactions day (appended day default H r)) }
+{
+    one_more_of_a_transaction();
+    open_transactions();
+    replies_suit();
+}
+
+/// What is written of a login and day leads to the rows of what logins have used with one more
+/// answer. At most one row changes.
+pub fn usage_follows()
+    ensures { (day : ℕ → ℕ) (default : ℕ) (H : List AnyEntry) (t : Tables) (r : AnyRequest) (f : Found) →
+        IsLegal day default H → AreTransactions day H t.transactions → AreUsage day H t.usage →
+        IsFound day t r f →
+        Leads same_day set_usage (usage_write day r (answer day default H r) (held_by f.transaction) f.usage)
+        t.usage (AreUsage day (appended day default H r)) }
+{
+    one_more_of_a_transaction();
+    open_transactions();
+    one_more_on_a_day();
+    used_where_reserved();
+    replies_suit();
+}
+
+/// What is written of a limit leads to the rows of limits with one more answer. At most one row
+/// changes.
+pub fn ceilings_follow()
+    ensures { (day : ℕ → ℕ) (default : ℕ) (H : List AnyEntry) (t : Tables) (r : AnyRequest) (f : Found) →
+        AreCeilings H t.ceilings → IsFound day t r f →
+        Leads same_from set_ceiling (ceiling_write r (answer day default H r) f.ceiling)
+        t.ceilings (AreCeilings (appended day default H r)) }
+{
+    one_more_limit();
+}
+
+/// The rows of answers with one more entry.
+pub fn answers_follow()
+    ensures row { (H : List AnyEntry) (e : AnyEntry) →
+        answer_rows (H ++ e ∷ []) ≡ answer_rows H ++ answer_row (length H + 1) e ∷ [] }
+    ensures count { (H : List AnyEntry) → length (answer_rows H) ≡ length H }
+{}
+
+/// The reply that is decided from the rows of a legal history is the answer over it.
+pub fn reply_follows()
+    ensures { (day : ℕ → ℕ) (default : ℕ) (H : List AnyEntry) (t : Tables) (r : AnyRequest) (f : Found) →
+        IsLegal day default H → AreTransactions day H t.transactions → AreUsage day H t.usage →
+        AreCeilings H t.ceilings → IsFound day t r f → is_some (id_of r) ≡ true →
+        decided default r f ≡ answer day default H r }
+{
+    one_more_of_a_transaction();
+    open_transactions();
+    one_more_on_a_day();
+    used_where_reserved();
+    over_is_least();
+    latest_limit_governs();
+}
+
+/// One more numbered request, over tables that are the rows of a legal history without its number:
+/// its reply is the ledger's, the planned writes lead to the rows of the history with it, and that
+/// history is legal.
+pub fn one_more_answer()
+    ensures reply { (b : Book) (t : Tables) (r : AnyRequest) (id : Id) (f : Found) →
+        IsLegalBook b → AreRows b t → id_of r ≡ Some id → stored b.history id ≡ None →
+        IsFound (day_of b.zone) t r f →
+        (planned (day_of b.zone) b.default t.setting.arrivals r f).reply
+        ≡ reply (day_of b.zone) b.default b.history r }
+    ensures rows { (b : Book) (t : Tables) (r : AnyRequest) (id : Id) (f : Found) →
+        IsLegalBook b → AreRows b t → id_of r ≡ Some id → stored b.history id ≡ None →
+        IsFound (day_of b.zone) t r f →
+        LeadTo (record b { history = appended (day_of b.zone) b.default b.history r }) t
+        (planned (day_of b.zone) b.default t.setting.arrivals r f) }
+    ensures history { (day : ℕ → ℕ) (default : ℕ) (H : List AnyEntry) (r : AnyRequest) (id : Id) →
+        IsLegal day default H → id_of r ≡ Some id → stored H id ≡ None →
+        build day default (first (requests H ++ r ∷ [])) ≡ appended day default H r }
+    ensures found { (b : Book) (t : Tables) (r : AnyRequest) (id : Id) (f : Found) →
+        IsLegalBook b → AreRows b t → IsRequest r → id_of r ≡ Some id →
+        stored b.history id ≡ None → IsFound (day_of b.zone) t r f →
+        may_be_found b.default r f ≡ true }
+{
+    transactions_follow();
+    usage_follows();
+    ceilings_follow();
+    answers_follow();
+    reply_follows();
+    one_more_arrival();
+    open_transactions();
+    one_more_of_a_transaction();
+    one_more_on_a_day();
+    used_where_reserved();
+    latest_limit_governs();
+    amounts_in_range();
+    replies_in_range();
+}
+
+/// The reply by a number's row is the ledger's, and a number without a row has no entry.
+pub fn repeats_are_answered()
+    ensures known { (day : ℕ → ℕ) (default : ℕ) (H : List AnyEntry) (r : AnyRequest) (id : Id)
+        (row : AnswerRecord) (a : AnyReply) →
+        IsAmount default → IsDayRule day → IsLegal day default H → IsRequest r → id_of r ≡ Some id →
+        find (λ x. same_id id x.id) (answer_rows H) ≡ Some row → IsRepeatOf row id r a →
+        a ≡ reply day default H r }
+    ensures spelled { (day : ℕ → ℕ) (default : ℕ) (H : List AnyEntry) (r : AnyRequest) (id : Id)
+        (row : AnswerRecord) →
+        IsAmount default → IsDayRule day → IsLegal day default H → IsRequest r → id_of r ≡ Some id →
+        find (λ x. same_id id x.id) (answer_rows H) ≡ Some row →
+        (q : AnyRequest) × (p : AnyReply) × SpellsRequest row.request q × SpellsReply row.reply p }
+    ensures stored { (H : List AnyEntry) (r : AnyRequest) (id : Id) (row : AnswerRecord) →
+        IsRequest r → id_of r ≡ Some id →
+        find (λ x. same_id id x.id) (answer_rows H) ≡ Some row → is_some (stored H id) ≡ true }
+    ensures unknown { (H : List AnyEntry) (r : AnyRequest) (id : Id) → IsRequest r →
+        id_of r ≡ Some id → find (λ x. same_id id x.id) (answer_rows H) ≡ None →
+        stored H id ≡ None }
+{
+    replies_in_range();
+    one_spelling();
+}
+
+/// Tables that are the rows of a legal history mean it, so they are sound; and those of a ledger
+/// that has answered nothing are.
+pub fn rows_mean_their_history()
+    ensures meaning { (b : Book) (t : Tables) → IsLegalBook b → AreRows b t →
+        meaning b.zone b.default t.answers ≡ b }
+    ensures sound { (b : Book) (t : Tables) → IsLegalBook b → AreRows b t →
+        AreSound b.zone b.default t }
+    ensures new { (zone : ℤ) (default : ℕ) → IsOffset zone → IsAmount default →
+        AreSound zone default (record {
+          setting = setting_row (record { zone = zone; default = default; history = [] });
+          answers = [];
+          transactions = [];
+          usage = [];
+          ceilings = [];
+        }) }
+{
+    bodies_are_read_back();
+    one_spelling();
+}
+
+/// What is replied of a login's numbers is the ledger's.
+pub fn usage_is_answered()
+    ensures reply { (day : ℕ → ℕ) (default : ℕ) (H : List AnyEntry) (t : Tables) (l : List ℕ) (d : ℕ)
+        (u : Option UsageRecord) (g : Option CeilingRecord) →
+        IsLegal day default H → AreUsage day H t.usage → AreCeilings H t.ceilings →
+        u ≡ find (is_usage l d) t.usage → IsGoverning l d t.ceilings g →
+        usage_reply_by default l d u g ≡ reply day default H (AnyRequest.Usage l d) }
+    ensures row { (day : ℕ → ℕ) (default : ℕ) (H : List AnyEntry) (t : Tables) (l : List ℕ) (d : ℕ)
+        (u : UsageRecord) (g : Option CeilingRecord) →
+        IsLegal day default H → AreUsage day H t.usage → AreCeilings H t.ceilings →
+        Some u ≡ find (is_usage l d) t.usage → IsGoverning l d t.ceilings g →
+        page_row_by default u g ≡ row day default H d l }
+{
+    one_more_on_a_day();
+    used_where_reserved();
+    latest_limit_governs();
+}
+
+/// The rows of a day, gone through from login to login, make the ledger's page.
+pub fn pages_go_by_login()
+    ensures more { (d : ℕ) (rows : List UsageRecord) (after : List ℕ) (us : List UsageRecord) (u : UsageRecord) →
+        AreNext d after rows us → IsNext d (behind after us) rows (Some u) →
+        AreNext d after rows (us ++ u ∷ []) }
+    ensures page { (day : ℕ → ℕ) (H : List AnyEntry) (d : ℕ) (rows : List UsageRecord)
+        (after : List ℕ) (us : List UsageRecord) →
+        AreUsage day H rows → AreNext d after rows us → length us ≤ 100 →
+        (length us ≡ 100) ⊎ IsNext d (behind after us) rows None →
+        map (λ u. u.login) us ≡ page day H d after }
+{
+    page_is_first();
+}

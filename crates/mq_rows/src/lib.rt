@@ -1,7 +1,5 @@
 //! The rows of the ledger's tables as typed records, without a store: which rows a history has, what
 //! a request does to them, and that it leads from the rows of a history to those of the next.
-//!
-//! `docs/LEDGER.md` tells what the tables mean.
 #![tactic(auto)]
 
 mod body;

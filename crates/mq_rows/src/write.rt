@@ -167,9 +167,15 @@ fn usage_write(
     ensures { IfOk result (λ write. write ≡ usage_write (day_of zone) request.now reply.now held row) }
 {
     match (request, reply) {
-        (Request::Reserve { at, login, count, .. }, Reply::Granted { .. }) => {
-            reserved_more(login, zone.day(*at), *count, row)
-        }
+        (
+            Request::Reserve {
+                at,
+                login,
+                count,
+                ..
+            },
+            Reply::Granted { .. },
+        ) => { reserved_more(login, zone.day(*at), *count, row) }
         (Request::Settle { count, .. }, Reply::Settled { .. }) => Ok(freed(*count, held, row)),
         (Request::Release { .. }, Reply::Released { .. }) => Ok(freed(0, held, row)),
         _ => Ok(Write::Keep),

@@ -1,0 +1,144 @@
+-- The pages of a day, login by login.
+use Rattle.std.proofs.Common.{◌≡◌, ℕ, zero, suc, ◌<◌, ◌≤◌, List, [], ◌∷◌, ◌++◌, true, false, refl, ◌∙◌, ap, inl, inr, arith, length}
+use Rattle.std.specs.Prelude.{map, All, Contains, ◌⊎◌, ◌==◌, Some, None, slice_index_or}
+use Rattle.std.specs.List.{AllByRecursion}
+use Rattle.std.specs.Ordering.{nat_cmp, is_lt, eq_by_cmp, ordering_reverse}
+use Rattle.std.specs.Cmp.{IsTotalOrder}
+use Rattle.std.specs.Cmp.Lexicographic.{slice_cmp, texts_ties, bytes_decides}
+use Rattle.std.specs.declared.cmp.Ordering.{Ordering}
+use Rattle.std.specs.declared.cmp.Ordering.TheVariants.{Less, Equal, Greater}
+use Rattle.std.proofs.lemmas.Cmp.{nat_list_cmp_total}
+use Rattle.std.proofs.lemmas.List.{length-map}
+use Rattle.mq_ledger.specs.declared.entry.Entry.{Entry}
+use Rattle.mq_ledger.specs.History.{settled, reserved}
+use Rattle.mq_ledger.specs.Page.{below, has_reserve, IsAscending, IsPage}
+use Rattle.mq_rows.specs.declared.record.UsageRecord.{UsageRecord}
+use Rattle.mq_rows.specs.Rows.{usage_row, is_usage}
+use Rattle.mq_rows.specs.Tables.{those, AreUsage}
+use Rattle.mq_rows.specs.Listing.{is_above, IsNext, AreNext, behind}
+use Rattle.mq_rows.proofs.Lists.{either, number_is, number_itself, text_itself}
+use Rattle.mq_rows.proofs.Days.{both_split}
+use Rattle.mq_rows.proofs.Replies.{member_is, one_has}
+
+-- Byte order.
+
+order : IsTotalOrder (slice_cmp nat_cmp)
+order = nat_list_cmp_total
+
+lt_is : (c : Ordering) → is_lt c ≡ true → c ≡ Less
+lt_is Less h = refl
+lt_is Equal h = cc
+lt_is Greater h = cc
+
+below_trans : (a b c : List ℕ) → below a b ≡ true → below b c ≡ true → below a c ≡ true
+below_trans a b c h g = ap is_lt (order.trans a b c (lt_is _ h) (lt_is _ g))
+
+same_order : (a b : List ℕ) → slice_cmp nat_cmp a b ≡ Equal → a ≡ b
+same_order a b h = (let e : eq_by_cmp (slice_cmp nat_cmp) a b ≡ true = rw h refl in (bytes_decides a b).0 (texts_ties a b ∙ e))
+
+-- of two logins one is below the other, or they are one
+data Order (a b : List ℕ) : Type 0 where
+  Before : below a b ≡ true → Order a b
+  Same : a ≡ b → Order a b
+  After : below b a ≡ true → Order a b
+
+order_by : (a b : List ℕ) (c : Ordering) → slice_cmp nat_cmp a b ≡ c → Order a b
+order_by a b Less h = Before (ap is_lt h)
+order_by a b Equal h = Same (same_order a b h)
+order_by a b Greater h = After (ap is_lt (order.antisymm b a ∙ ap ordering_reverse h))
+
+ordered : (a b : List ℕ) → Order a b
+ordered a b = order_by a b _ refl
+
+-- Lists.
+
+at_index : {X : Type 0} (P : X → Type 0) (x : X) (xs : List X) → P x → All P xs → (k : ℕ) (d : X) → k < length (x ∷ xs) → P (slice_index_or (x ∷ xs) k d)
+at_index P x xs here all zero d h = here
+at_index P x xs here all (suc k) d h = all k d (omega arith)
+
+all_by_index : {X : Type 0} (P : X → Type 0) (xs : List X) → AllByRecursion P xs → All P xs
+all_by_index P [] all = λ k d h. absurd (omega arith)
+all_by_index P (x ∷ xs) all = at_index P x xs all.0 (all_by_index P xs all.1)
+
+implies : {X : Type 0} (P Q : X → Type 0) → ((x : X) → P x → Q x) → (xs : List X) → AllByRecursion P xs → AllByRecursion Q xs
+implies P Q f [] all = tt
+implies P Q f (x ∷ xs) all = (f x all.0, implies P Q f xs all.1)
+
+abbrev logins : List UsageRecord → List (List ℕ)
+logins us = map (λ u. u.login) us
+
+module _ (day : ℕ → ℕ) (H : List Entry) (rows : List UsageRecord) (are : AreUsage day H rows) (d : ℕ) where
+  -- a row of the day says that its login has a granted reserve
+  reserve_there : (after : List ℕ) (u : UsageRecord) → Contains rows u → is_above d after u ≡ true → has_reserve day H d u.login ≡ true
+  reserve_there after u there above =
+      let b = both_split (d == u.day) (below after u.login) above in
+      let day_is : d ≡ u.day = number_is d u.day b.0 in
+      let mine : is_usage u.login d u ≡ true = rw (text_itself u.login, day_is, number_itself u.day) refl in
+      let row : usage_row day H u.login d ≡ Some u = member_is (is_usage u.login d) rows there.0 u there.1 there.2 mine (usage_row day H u.login d) (are u.login d) in
+      elim (either (has_reserve day H d u.login)) [
+        | inl t ↦ t
+        | inr f ↦ (let k : None ≡ Some u = rw f at row in absurd (cc k))
+      ]
+
+  -- and a login that has one has a row
+  abbrev row_of : List ℕ → UsageRecord
+  row_of l = record { login = l; day = d; settled = settled day H l d; reserved = reserved day H l d }
+
+  has_row : (l : List ℕ) → has_reserve day H d l ≡ true → (P : UsageRecord → Type 0) → AllByRecursion P rows → P (row_of l)
+  has_row l t P all = (let row : usage_row day H l d ≡ Some (row_of l) = rw t refl in one_has (is_usage l d) P rows (row_of l) (are l d ∙ ap those row) all)
+
+  is_above_row : (after l : List ℕ) → below after l ≡ true → is_above d after (row_of l) ≡ true
+  is_above_row after l h = rw (number_itself d, h) refl
+
+  record Rising (after : List ℕ) (ls : List (List ℕ)) : Type 0 where
+    above : AllByRecursion (λ l. below after l ≡ true) ls
+    ascending : IsAscending ls
+    there : AllByRecursion (λ l. has_reserve day H d l ≡ true) ls
+
+  rising : (after : List ℕ) (us : List UsageRecord) → AreNext d after rows us → Rising after (logins us)
+  rising after [] next = record { above = tt; ascending = tt; there = tt }
+  rising after (u ∷ us) next =
+      let up : below after u.login ≡ true = (both_split (d == u.day) (below after u.login) next.0.1).1 in
+      let r = rising u.login us next.1 in
+      record {
+        above = (up, implies (λ l. below u.login l ≡ true) (λ l. below after l ≡ true) (λ l h. below_trans after u.login l up h) (logins us) r.above);
+        ascending = (r.above, r.ascending);
+        there = (reserve_there after u next.0.0 next.0.1, r.there);
+      }
+
+  -- a login of the day that is above: it is among them, or behind all of them
+  data Place (after l : List ℕ) (us : List UsageRecord) : Type 0 where
+    Among : Contains (logins us) l → Place after l us
+    Behind : AllByRecursion (λ m. below m l ≡ true) (logins us) → below (behind after us) l ≡ true → Place after l us
+
+  place : (after : List ℕ) (us : List UsageRecord) → AreNext d after rows us → (l : List ℕ) → below after l ≡ true → has_reserve day H d l ≡ true → Place after l us
+  place after [] next l up here = Behind tt up
+  place after (u ∷ us) next l up here = elim (ordered u.login l) [
+    | Same e ↦ Among (0, omega arith, e)
+    | After h ↦ (let f : below l u.login ≡ false = has_row l here (λ other. is_above d after other ≡ true → below other.login u.login ≡ false) next.0.2 (is_above_row after l up) in absurd (cc (f, h)))
+    | Before h ↦ elim (place u.login us next.1 l h here) [
+      | Among c ↦ Among (suc c.0, omega (arith, c.1), c.2)
+      | Behind all b ↦ Behind (h, all) b
+    ]
+  ]
+
+  finish : (after l : List ℕ) (us : List UsageRecord) → has_reserve day H d l ≡ true → (length us ≡ 100) ⊎ IsNext d (behind after us) rows None → Place after l us → Contains (logins us) l ⊎ ((length (logins us) ≡ 100) × All (λ m. below m l ≡ true) (logins us))
+  finish after l us here end (Among c) = inl c
+  finish after l us here (inl full) (Behind all b) = inr (simp length-map full, all_by_index (λ m. below m l ≡ true) (logins us) all)
+  finish after l us here (inr none) (Behind all b) =
+      (let f : is_above d (behind after us) (row_of l) ≡ false = has_row l here (λ u. is_above d (behind after us) u ≡ false) none in absurd (cc (f, is_above_row (behind after us) l b)))
+
+  pub page_of : (after : List ℕ) (us : List UsageRecord) → AreNext d after rows us → length us ≤ 100 → (length us ≡ 100) ⊎ IsNext d (behind after us) rows None → IsPage day H d after (logins us)
+  page_of after us next few end =
+      let r = rising after us next in
+      record {
+        ascending = r.ascending;
+        above = all_by_index (λ l. below after l ≡ true) (logins us) r.above;
+        there = all_by_index (λ l. has_reserve day H d l ≡ true) (logins us) r.there;
+        few = simp length-map few;
+        first = λ l up here. finish after l us here end (place after us next l up here);
+      }
+
+pub next_more : (d : ℕ) (rows : List UsageRecord) (after : List ℕ) (us : List UsageRecord) (u : UsageRecord) → AreNext d after rows us → IsNext d (behind after us) rows (Some u) → AreNext d after rows (us ++ u ∷ [])
+next_more d rows after [] u next more = (more, tt)
+next_more d rows after (v ∷ us) u next more = (next.0, next_more d rows v.login us u next.1 more)
