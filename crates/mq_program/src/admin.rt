@@ -1,9 +1,9 @@
 //! What an administrator asks of the server: `limit` and `report`.
-ghost use Rattle.std.specs.Prelude.{◌≡◌, Err, IfOk, IfSome, MatchResult, option_map};
+ghost use Rattle.std.specs.Prelude.{◌≡◌, Err, IfOk, MatchResult, option_map};
 ghost use Rattle.std.specs.Net.Grammar.{IsSocketText};
-ghost use Rattle.mq_frame.specs.Range.{IsHost, IsLogin, IsDay};
+ghost use Rattle.mq_frame.specs.Range.{IsDay};
 ghost use Rattle.mq_frame.specs.declared.message.Request.TheVariants.{Limit};
-ghost use Rattle.mq_program.specs.Arguments.{IsLimitArguments, IsNoAddress};
+ghost use Rattle.mq_program.specs.Arguments.{IsLimitArguments, IsNoAddress, LimitRefuses, ReportRefuses};
 
 use crate::arguments::{LimitArguments, ReportArguments};
 use crate::clock::run_number;
@@ -18,7 +18,7 @@ use std::net::{Net, SocketAddr};
 use std::rt::Clock;
 use std::time::Duration;
 
-/// How long a connect, a read or a write may take, in milliseconds.
+/// How long it may take to connect, to write a request and to read its reply, in milliseconds.
 const TIMEOUT: u64 = 2_000;
 
 /// The numeric address and port that a text spells.
@@ -55,9 +55,7 @@ pub fn limit<R: Clock + Net + Print + AllocGlobal, E: Write>(
     errors: &mut E,
 ) -> Result<u8, ProgramFault>
     requires { IsLimitArguments given }
-    ensures host { ¬ IsHost given.entry.host.now → result ≡ Err ProgramFault.Host }
-    ensures login { IsHost given.entry.host.now → ¬ IsLogin given.entry.login.now → result ≡ Err ProgramFault.Login }
-    ensures address { IsHost given.entry.host.now → IsLogin given.entry.login.now → IsNoAddress given.entry.server.now → result ≡ Err ProgramFault.Address }
+    ensures { LimitRefuses given.entry (λ fault. result ≡ Err fault) }
 {
     if !is_host(given.host.as_bytes()) {
         return Err(ProgramFault::Host);
@@ -83,14 +81,13 @@ fn login_of(alloc: Global, given: Option<&str>) -> Result<Option<Login>, AllocEr
 }
 
 /// `report`: prints what one login, or all, used on a day.
-pub fn report<R: Net + Print + AllocGlobal, E: Write>(
+pub fn report<R: Clock + Net + Print + AllocGlobal, E: Write>(
     rt: &R,
     given: ReportArguments<'_>,
     errors: &mut E,
 ) -> Result<u8, ProgramFault>
     requires { IsDay given.day }
-    ensures login { IfSome given.entry.login (λ login. ¬ IsLogin login.now → result ≡ Err ProgramFault.Login) }
-    ensures address { IfSome given.entry.login (λ login. IsLogin login.now) → IsNoAddress given.entry.server.now → result ≡ Err ProgramFault.Address }
+    ensures { ReportRefuses given.entry (λ fault. result ≡ Err fault) }
 {
     if !given.login.is_none_or(|login| is_login(login.as_bytes())) {
         return Err(ProgramFault::Login);

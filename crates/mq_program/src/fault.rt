@@ -3,6 +3,8 @@ ghost use Rattle.std.specs.Prelude.{◌≡◌};
 ghost use Rattle.std.specs.IoError.{error_kind};
 ghost use Rattle.mq_program.specs.Faults.{or_memory_of};
 
+use log::sink::Console;
+use log::{LevelFilter, Logged, error};
 use mq_client::FilterFault;
 use mq_server::ServeFault;
 use mq_settings::{FileFault, SettingsFault};
@@ -83,4 +85,13 @@ pub fn or_memory(error: &io::Error, fault: ProgramFault) -> ProgramFault
         ErrorKind::OutOfMemory => ProgramFault::Memory,
         _ => fault,
     }
+}
+
+/// Logs why a file of settings can't be used, and gives it back. No level is set before the file is read.
+pub fn logged_of<R: Eprint>(rt: &R, file: &str, fault: ProgramFault) -> ProgramFault
+    ensures { result ≡ fault }
+{
+    let logged = Logged::new(rt, LevelFilter::Error, Console(rt));
+    error!(logged; "{file}: {fault}");
+    fault
 }

@@ -4,9 +4,9 @@ ghost use Rattle.mq_frame.specs.Range.{IsRun};
 
 use crate::arguments::FilterArguments;
 use crate::clock::run_number;
-use crate::fault::ProgramFault;
-use log::Logged;
+use crate::fault::{ProgramFault, logged_of};
 use log::sink::Console;
+use log::{Logged, error};
 use mq_client::{Client, run_filter};
 use mq_frame::{FromRead, ToWrite};
 use mq_settings::{read_file, read_filter_settings};
@@ -23,10 +23,13 @@ pub fn filter<R: Files + Clock + Net + Input + Print + Eprint + AllocGlobal>(
 ) -> Result<u8, ProgramFault>
     requires { IfSome given.run IsRun }
 {
-    let text = read_file(rt, given.config).map_err(ProgramFault::File)?;
-    let settings = read_filter_settings(rt.alloc(), text.as_slice()).map_err(
-        ProgramFault::Settings,
-    )?;
+    let file = given.config;
+    let text = read_file(rt, file).map_err(|fault| logged_of(rt, file, ProgramFault::File(fault)))?;
+    let settings = read_filter_settings(rt.alloc(), text.as_slice()).map_err(|fault| logged_of(
+        rt,
+        file,
+        ProgramFault::Settings(fault),
+    ))?;
     let run = run_number(rt, given.run)?;
     let logged = Logged::new(rt, settings.log, Console(rt));
     let timeout = Duration::from_millis(u64::from(settings.timeout));
@@ -46,6 +49,9 @@ pub fn filter<R: Files + Clock + Net + Input + Print + Eprint + AllocGlobal>(
         &mut client,
     ) {
         Ok(_) => Ok(0),
-        Err(fault) => Err(ProgramFault::Filter(fault)),
+        Err(fault) => {
+            error!(logged; "the filter ends: {fault}");
+            Err(ProgramFault::Filter(fault))
+        }
     }
 }

@@ -1,6 +1,7 @@
 //! What the subcommands do with the files, the streams, the clock and the network of the process.
 #![tactic(auto)]
 
+mod accept;
 mod admin;
 mod arguments;
 mod clock;

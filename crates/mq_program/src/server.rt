@@ -3,30 +3,37 @@ ghost use Rattle.std.specs.Prelude.{◌≡◌, []};
 ghost use Rattle.mq_frame.specs.Range.{IsAmount};
 ghost use Rattle.mq_ledger.specs.Day.{IsOffset};
 
+use crate::accept::accept;
 use crate::arguments::ServerArguments;
-use crate::fault::ProgramFault;
+use crate::fault::{ProgramFault, logged_of};
 use log::sink::Console;
-use log::{Log, Logged, info, warn};
+use log::{Log, Logged, error, info, warn};
 use mq_frame::{FromRead, ToWrite};
 use mq_ledger::{Ledger, PlainLedger, Zone};
 use mq_server::{ServeFault, Served, serve};
 use mq_settings::{Place, ServerSettings, read_file, read_server_settings};
+use mq_tcp::{Timed, deadline_after};
 use std::alloc::Global;
 use std::io;
-use std::io::ErrorKind;
-use std::net::{Net, OpenListener, OpenStream, SocketAddr, TcpListener, TcpStream};
-use std::rt::Files;
+use std::net::{Net, OpenStream, SocketAddr, TcpListener, TcpStream};
+use std::rt::{Clock, Files};
 use std::time::Duration;
+
+/// How many timeouts a whole connection has. A peer that drips holds the others back for so long.
+const TIMEOUTS: u32 = 2;
 
 /// Serves so many connections: the settings first, then the ledger, then the port.
 pub fn server<R>(rt: &R, given: ServerArguments<'_>) -> Result<u8, ProgramFault>
 where
-    R: Files + Net<Listener = TcpListener, Stream = TcpStream> + Eprint + AllocGlobal,
+    R: Files + Clock + Net<Listener = TcpListener, Stream = TcpStream> + Eprint + AllocGlobal,
 {
-    let text = read_file(rt, given.config).map_err(ProgramFault::File)?;
-    let settings = read_server_settings(rt.alloc(), text.as_slice()).map_err(
-        ProgramFault::Settings,
-    )?;
+    let file = given.config;
+    let text = read_file(rt, file).map_err(|fault| logged_of(rt, file, ProgramFault::File(fault)))?;
+    let settings = read_server_settings(rt.alloc(), text.as_slice()).map_err(|fault| logged_of(
+        rt,
+        file,
+        ProgramFault::Settings(fault),
+    ))?;
     let logged = Logged::new(rt, settings.log, Console(rt));
     match settings.store {
         Place::Memory => {
@@ -53,9 +60,10 @@ fn new_ledger(alloc: Global, settings: &ServerSettings) -> PlainLedger
     PlainLedger::new(alloc, zone, settings.default)
 }
 
-/// Listens at the address of the settings, and serves so many connections over the ledger.
+/// Listens at the address of the settings, and serves so many connections over the ledger. The start,
+/// the end and what prevents it are logged.
 pub fn listen<R, G: Log, L: Ledger>(
-    net: &R,
+    rt: &R,
     log: &G,
     alloc: Global,
     settings: &ServerSettings,
@@ -63,23 +71,33 @@ pub fn listen<R, G: Log, L: Ledger>(
     connections: u32,
 ) -> Result<u8, ProgramFault>
 where
-    R: Net<Listener = TcpListener, Stream = TcpStream>,
+    R: Clock + Net<Listener = TcpListener, Stream = TcpStream>,
+    ensures same_zone { (L.book ledger.new).zone ≡ (L.book ledger.old).zone }
+    ensures same_default { (L.book ledger.new).default ≡ (L.book ledger.old).default }
+    ensures kept { L.has_kept ledger.new → L.has_kept ledger.old }
+    ensures sound { L.has_kept ledger.new → L.is_sound ledger.old → L.is_sound ledger.new }
 {
-    let Ok(listener) = TcpListener::bind(net, settings.listen) else {
-        return Err(ProgramFault::Listen);
+    let address = settings.listen;
+    let listener = match TcpListener::bind(rt, address) {
+        Ok(listener) => listener,
+        Err(error) => {
+            error!(log; "listening on {address}: {error}");
+            return Err(ProgramFault::Listen);
+        }
     };
-    if let Ok(address) = listener.local_addr() {
-        info!(log; "listening on {address}");
-    }
+    info!(log; "listening on {address} for {connections} connections");
     let timeout = Duration::from_millis(u64::from(settings.timeout));
-    serve_connections(log, alloc, &listener, timeout, ledger, connections)?;
+    serve_connections(rt, log, alloc, &listener, timeout, ledger, connections)?;
+    info!(log; "ending after {connections} connections");
     Ok(0)
 }
 
 /// Accepts so many connections and serves each to its end before the next. Each end but that of
 /// whole frames is logged with the peer's address. A store that failed stops the serving, and so
-/// does a listener that accepts no more.
-pub fn serve_connections<G: Log, L: Ledger>(
+/// does a listener that accepts no more. `timeout` is that of each read and write; a whole
+/// connection has twice as long.
+pub fn serve_connections<C: Clock, G: Log, L: Ledger>(
+    clock: &C,
     log: &G,
     alloc: Global,
     listener: &TcpListener,
@@ -93,30 +111,16 @@ pub fn serve_connections<G: Log, L: Ledger>(
     ensures sound { L.has_kept ledger.new → L.is_sound ledger.old → L.is_sound ledger.new }
 {
     for _connection in 0..connections {
-        let (stream, peer) = accept(log, listener)?;
-        match serve_stream(alloc, &stream, timeout, ledger) {
-            Err(ServeFault::Store) => return Err(ProgramFault::Serve(ServeFault::Store)),
+        let (stream, peer) = accept(clock, log, listener)?;
+        match serve_stream(clock, alloc, stream, timeout, ledger) {
+            Err(ServeFault::Store) => {
+                error!(log; "connection of {peer}: {}", ServeFault::Store);
+                return Err(ProgramFault::Serve(ServeFault::Store));
+            }
             ended => warn_of_end(log, &peer, ended),
         }
     }
     Ok(())
-}
-
-/// The next connection. One that its peer gave up before is passed over.
-fn accept<G: Log>(
-    log: &G,
-    listener: &TcpListener,
-) -> Result<(TcpStream, SocketAddr), ProgramFault> {
-    for _attempt in 0..u64::MAX {
-        match listener.accept() {
-            Ok(accepted) => return Ok(accepted),
-            Err(error) if error.kind() == ErrorKind::ConnectionAborted => {
-                warn!(log; "a connection was given up before it was accepted");
-            }
-            Err(_) => break,
-        }
-    }
-    Err(ProgramFault::Accept)
 }
 
 /// Warns of a connection that didn't end behind whole frames.
@@ -130,10 +134,11 @@ fn warn_of_end<G: Log>(log: &G, peer: &SocketAddr, ended: Result<Served, ServeFa
     }
 }
 
-/// Serves one connection. A stream that takes no timeout is one whose reads fail.
-fn serve_stream<L: Ledger>(
+/// Serves one connection. A stream that takes no deadline is one whose reads fail.
+fn serve_stream<C: Clock, L: Ledger>(
+    clock: &C,
     alloc: Global,
-    stream: &TcpStream,
+    stream: TcpStream,
     timeout: Duration,
     ledger: &mut L,
 ) -> Result<Served, ServeFault>
@@ -142,15 +147,26 @@ fn serve_stream<L: Ledger>(
     ensures kept { L.has_kept ledger.new → L.has_kept ledger.old }
     ensures sound { L.has_kept ledger.new → L.is_sound ledger.old → L.is_sound ledger.new }
 {
-    if set_timeouts(stream, timeout).is_err() {
+    let Ok((input, output)) = both_ways(clock, stream, timeout) else {
         return Err(ServeFault::Read);
-    }
-    let mut input = FromRead::new(stream);
-    let mut output = ToWrite::new(stream);
+    };
+    let mut input = FromRead::new(input);
+    let mut output = ToWrite::new(output);
     serve(alloc, &mut input, &mut output, ledger)
 }
 
-fn set_timeouts(stream: &TcpStream, timeout: Duration) -> io::Result<()> {
-    stream.set_read_timeout(Some(timeout))?;
-    stream.set_write_timeout(Some(timeout))
+type TimedStream<'a, C> = Timed<'a, C, TcpStream>;
+
+/// A stream for reading and for writing, with a timeout for each call and one deadline for all.
+fn both_ways<C: Clock>(
+    clock: &C,
+    stream: TcpStream,
+    timeout: Duration,
+) -> io::Result<(TimedStream<'_, C>, TimedStream<'_, C>)> {
+    let deadline = deadline_after(clock, timeout.saturating_mul(TIMEOUTS))?;
+    let output = stream.try_clone()?;
+    Ok((
+        Timed::new(stream, clock, timeout, deadline),
+        Timed::new(output, clock, timeout, deadline),
+    ))
 }

@@ -1,6 +1,6 @@
 //! Which subcommand is run, and what is printed where it isn't done.
-ghost use Rattle.std.specs.Prelude.{◌≡◌};
-ghost use Rattle.mq_program.specs.Arguments.{IsArguments};
+ghost use Rattle.std.specs.Prelude.{◌≡◌, Err};
+ghost use Rattle.mq_program.specs.Arguments.{IsArguments, Refuses};
 ghost use Rattle.mq_program.specs.Faults.{fault_status};
 
 use crate::admin::{limit, report};
@@ -20,6 +20,7 @@ where
     R: Files + Clock + Net<Listener = TcpListener, Stream = TcpStream>,
     R: Input + Print + Eprint + AllocGlobal,
     requires { IsArguments given }
+    ensures { Refuses given.entry (λ fault. result ≡ fault_status fault) }
 {
     match status_of(rt, given, errors) {
         Ok(status) => status,
@@ -40,6 +41,7 @@ where
     R: Files + Clock + Net<Listener = TcpListener, Stream = TcpStream>,
     R: Input + Print + Eprint + AllocGlobal,
     requires { IsArguments given }
+    ensures { Refuses given.entry (λ fault. result ≡ Err fault) }
 {
     match given {
         Arguments::Replay(given) => replay(rt, given, errors),

@@ -1,6 +1,8 @@
-//! The link to the quota server over TCP.
+//! The link to the quota server over TCP, and streams that are waited for until a deadline.
 #![tactic(auto)]
 
 mod tcp;
+mod timed;
 
 pub use tcp::TcpLink;
+pub use timed::{Timed, deadline_after};

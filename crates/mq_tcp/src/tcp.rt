@@ -1,16 +1,18 @@
 //! The link to the quota server over TCP: a connection for each exchange.
-ghost use Rattle.std.specs.Prelude.{◌≡◌, ◌≢◌, ◌≤◌, ℕ, List, [], ◌∷◌, Option, None, IsSome, IfSome, Err, OnOk, OnErr, IfErr, MatchOption, vec_len};
+ghost use Rattle.std.specs.Prelude.{◌≡◌, ◌≢◌, ◌≤◌, ℕ, List, [], ◌∷◌, Option, None, IsSome, IfSome, IfOk, Err, OnOk, OnErr, IfErr, MatchOption, vec_len};
 ghost use Rattle.std.specs.Io.KnownBytes.{Appends};
 ghost use Rattle.std.specs.IoError.{error_kind};
 ghost use Rattle.mq_client.specs.Link.{Tells, outcome_of};
 ghost use Rattle.mq_frame.specs.Spelling.{in_2_bytes};
 ghost use Rattle.mq_tcp.specs.Exchange.{fault_of, IsReceived, IsHeadOnly};
 
+use crate::timed::{Timed, deadline_after};
 use mq_client::{Link, LinkFault};
 use std::io;
 use std::io::{ErrorKind, Read, Write};
 use std::marker::Model;
 use std::net::{Net, OpenStream, Shutdown, SocketAddr, TcpStream};
+use std::rt::Clock;
 use std::time::Duration;
 
 /// A call that took too long is `TimedOut`, whatever else went wrong is `Down`.
@@ -23,12 +25,29 @@ fn fault_of(error: &io::Error) -> LinkFault
     }
 }
 
+/// The stream with one timeout for all that is done with it from now on.
+fn timed<'a, C: Clock, S: OpenStream + Drop>(
+    stream: S,
+    clock: &'a C,
+    timeout: Duration,
+) -> io::Result<Timed<'a, C, S>>
+    ensures { IfOk result (λ timed. timed ≡ stream) }
+{
+    let deadline = deadline_after(clock, timeout)?;
+    Ok(Timed::new(stream, clock, timeout, deadline))
+}
+
 /// Writes a whole frame and ends the writing side.
-fn write_frame<S: Write + OpenStream>(stream: &mut S, frame: &[u8]) -> io::Result<()>
-    ensures { OnOk result (Appends (S.contents stream.old) (S.contents stream.new) frame.now) }
+fn write_frame<C: Clock, S: Write + OpenStream + Drop>(
+    mut stream: Timed<'_, C, S>,
+    frame: &[u8],
+) -> io::Result<S>
+    ensures { IfOk result (λ written. Appends (S.contents stream.entry) (S.contents written) frame.now) }
 {
     stream.write_all(frame)?;
-    stream.shutdown(Shutdown::Write)
+    let stream = stream.into_inner();
+    stream.shutdown(Shutdown::Write)?;
+    Ok(stream)
 }
 
 /// The length of the body that the two bytes of a head announce.
@@ -82,9 +101,9 @@ impl<'a, R: Net> Model for TcpLink<'a, R> {
     ghost view = { λ link. link.stream };
 }
 
-impl<'a, R: Net> TcpLink<'a, R> {
-    /// A link to this address, with no connection. `timeout` is that of each connect, read and
-    /// write, above 0.
+impl<'a, R: Net + Clock> TcpLink<'a, R> {
+    /// A link to this address, with no connection. `timeout`, above 0, is how long it may take to
+    /// connect, how long to write a whole frame, and how long to read a whole reply.
     pub fn new(net: &'a R, address: SocketAddr, timeout: Duration) -> TcpLink<'a, R>
         ensures { result ≡ None }
     {
@@ -114,11 +133,8 @@ impl<'a, R: Net> TcpLink<'a, R> {
     }
 
     fn connect_and_write(&self, frame: &[u8]) -> io::Result<R::Stream> {
-        let mut stream = TcpStream::connect_timeout(self.net, &self.address, self.timeout)?;
-        stream.set_read_timeout(Some(self.timeout))?;
-        stream.set_write_timeout(Some(self.timeout))?;
-        write_frame(&mut stream, frame)?;
-        Ok(stream)
+        let stream = TcpStream::connect_timeout(self.net, &self.address, self.timeout)?;
+        write_frame(timed(stream, self.net, self.timeout)?, frame)
     }
 
     /// Reads one frame's body and drops the connection, also at a fault. Without a connection, at
@@ -132,14 +148,17 @@ impl<'a, R: Net> TcpLink<'a, R> {
             (left : Option (List ℕ)) × IsHeadOnly (R.Stream.remaining stream) left) }
     {
         reply.clear();
-        let Some(mut stream) = self.stream.take() else {
+        let Some(stream) = self.stream.take() else {
             return Err(LinkFault::Down);
         };
-        read_body(&mut stream, reply)
+        match timed(stream, self.net, self.timeout) {
+            Ok(mut stream) => read_body(&mut stream, reply),
+            Err(fault) => Err(fault_of(&fault)),
+        }
     }
 }
 
-impl<R: Net> Link for TcpLink<'_, R> {
+impl<R: Net + Clock> Link for TcpLink<'_, R> {
     /// Sends the frame over a new connection and reads one body of 1 to 65,535 bytes; no connection
     /// is left.
     fn exchange(&mut self, frame: &[u8], reply: &mut Vec<u8>) -> Result<(), LinkFault>

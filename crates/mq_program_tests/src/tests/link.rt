@@ -204,6 +204,7 @@ fn connections_in_turn(rt: HostRuntime) -> Result<(), Fail> {
     let sink = Memory::new(alloc);
     let mut ledger = new_ledger(alloc)?;
     let served = serve_connections(
+        &rt,
         &sink,
         alloc,
         &listener,

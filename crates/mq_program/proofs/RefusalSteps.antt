@@ -1,0 +1,43 @@
+-- How a subcommand ends where a word of it is at fault.
+use Rattle.std.proofs.Common.{◌≡◌, ℕ, List, Option, None, Some, Result, Ok, Err, sym, ap, ◌∙◌}
+use Rattle.std.specs.Prelude.{IfSome}
+use Rattle.std.specs.Borrow.{Bor}
+use Rattle.mq_frame.specs.Range.{IsLogin}
+use Rattle.mq_program.specs.Arguments.{Refuses}
+use Rattle.mq_program.specs.Faults.{fault_status}
+use Rattle.mq_program.specs.declared.arguments.Arguments.{Arguments}
+use Rattle.mq_program.specs.declared.arguments.Arguments.TheVariants.{Replay, Filter, Server, Limit, Report}
+use Rattle.mq_program.specs.declared.fault.ProgramFault.{ProgramFault}
+use Rattle.mq_program.specs.declared.fault.ProgramFault.TheVariants.{Host, Login, Address}
+
+-- the status of a subcommand that ended so
+abbrev status_in : Result ℕ ProgramFault → ℕ
+status_in (Ok status) = status
+status_in (Err fault) = fault_status fault
+
+-- what follows for a login that is no login
+for_login : (login : Option (Bor (List ℕ))) (A B : Type 0) → (A → B) → IfSome login (λ text. ¬ IsLogin text.now → A)
+    → IfSome login (λ text. ¬ IsLogin text.now → B)
+for_login None A B step given = given
+for_login (Some text) A B step given = λ no. step (given no)
+
+-- another way to say how it ends
+for_refusals : (given : Arguments) (A B : ProgramFault → Type 0) → ((fault : ProgramFault) → A fault → B fault) → Refuses given A → Refuses given B
+for_refusals (Replay given) A B step refuses = refuses
+for_refusals (Filter given) A B step refuses = refuses
+for_refusals (Server given) A B step refuses = refuses
+for_refusals (Limit given) A B step refuses = record {
+  host = λ no. step Host (refuses.host no);
+  login = λ host no. step Login (refuses.login host no);
+  address = λ host login no. step Address (refuses.address host login no);
+}
+for_refusals (Report given) A B step refuses = record {
+  login = for_login given.login (A Login) (B Login) (step Login) refuses.login;
+  address = λ login no. step Address (refuses.address login no);
+}
+
+-- the status is that of the fault
+pub ends_by_status : (given : Arguments) (ended : Result ℕ ProgramFault) (fault : ProgramFault) (status : ℕ) → ended ≡ Err fault → status ≡ fault_status fault
+    → Refuses given (λ other. ended ≡ Err other) → Refuses given (λ other. status ≡ fault_status other)
+ends_by_status given ended fault status is same refuses =
+    for_refusals given (λ other. ended ≡ Err other) (λ other. status ≡ fault_status other) (λ other e. same ∙ ap status_in (sym is ∙ e)) refuses

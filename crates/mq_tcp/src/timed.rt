@@ -1,0 +1,107 @@
+//! A stream that is waited for until a deadline and no longer.
+ghost use Rattle.std.specs.Prelude.{◌≡◌, ◌-◌, ◌≤◌, ◌↔◌, IsNone, IfSome, IfOk, min};
+ghost use Rattle.std.specs.Duration.{as_nanos};
+ghost use Rattle.std.specs.Time.{instant_nanos};
+
+use std::io;
+use std::io::{ErrorKind, Read, Write};
+use std::marker::Model;
+use std::net::OpenStream;
+use std::rt::Clock;
+use std::time::{Duration, Instant};
+
+/// How long a call may wait at a moment: the timeout, and no longer than until the deadline. From
+/// the deadline on there is nothing to wait for.
+fn wait_at(now: Instant, deadline: Instant, timeout: Duration) -> Option<Duration>
+    ensures over { IsNone result ↔ (instant_nanos deadline ≤ instant_nanos now) }
+    ensures left { IfSome result (λ wait. as_nanos wait ≡ min (as_nanos timeout) (instant_nanos deadline - instant_nanos now)) }
+{
+    let left = deadline.duration_since(now);
+    if left.is_zero() {
+        return None;
+    }
+    Some(if timeout <= left { timeout } else { left })
+}
+
+/// The moment that is so long from now.
+pub fn deadline_after(clock: &impl Clock, time: Duration) -> io::Result<Instant>
+    ensures { IfOk result (λ deadline. as_nanos time ≤ instant_nanos deadline) }
+{
+    match Instant::now(clock)?.checked_add(time) {
+        Some(deadline) => Ok(deadline),
+        None => Err(io::Error::from(ErrorKind::InvalidInput)),
+    }
+}
+
+/// A stream whose reads and writes wait for a timeout each at most, and never past a deadline: from
+/// then on they fail as timed out. Contracts see the stream.
+#[derive(Drop)]
+pub struct Timed<'a, C, S> {
+    stream: S,
+    clock: &'a C,
+    timeout: Duration,
+    deadline: Instant,
+}
+
+impl<'a, C, S> Model for Timed<'a, C, S> {
+    ghost Value = { S };
+
+    ghost view = { λ timed. timed.stream };
+}
+
+impl<'a, C: Clock, S: OpenStream> Timed<'a, C, S> {
+    /// The stream with a timeout for each call, above 0, and a deadline for all of them.
+    pub fn new(stream: S, clock: &'a C, timeout: Duration, deadline: Instant) -> Timed<'a, C, S>
+        ensures { result ≡ stream }
+    {
+        Timed {
+            stream,
+            clock,
+            timeout,
+            deadline,
+        }
+    }
+
+    /// The stream, as the calls left it.
+    pub fn into_inner(self) -> S
+        ensures { result ≡ self.entry }
+    {
+        let Timed {
+            stream,
+            clock: _,
+            timeout: _,
+            deadline: _,
+        } = self;
+        stream
+    }
+
+    /// How long the next call may wait.
+    fn wait(&self) -> io::Result<Duration> {
+        match wait_at(Instant::now(self.clock)?, self.deadline, self.timeout) {
+            Some(wait) => Ok(wait),
+            None => Err(io::Error::from(ErrorKind::TimedOut)),
+        }
+    }
+}
+
+impl<C: Clock, S: Read + OpenStream> Read for Timed<'_, C, S> {
+    ghost remaining = { λ timed. S.remaining timed };
+
+    fn read(&mut self, piece: &mut [u8]) -> io::Result<usize> {
+        self.stream.set_read_timeout(Some(self.wait()?))?;
+        self.stream.read(piece)
+    }
+}
+
+impl<C: Clock, S: Write + OpenStream> Write for Timed<'_, C, S> {
+    ghost contents = { λ timed. S.contents timed };
+
+    fn write(&mut self, piece: &[u8]) -> io::Result<usize> {
+        self.stream.set_write_timeout(Some(self.wait()?))?;
+        self.stream.write(piece)
+    }
+
+    fn flush(&mut self) -> io::Result<()> {
+        self.stream.flush()
+    }
+}
