@@ -1,5 +1,5 @@
 -- The INSERT of an answer, over any schema that has the table at some place.
-use Rattle.std.proofs.Common.{append-nil, ◌≡◌, ℕ, ◌+◌, pos, List, [], ◌∷◌, Ok, Err, Result, OnOk, codes, refl, sym, ap, subst, ◌∙◌}
+use Rattle.std.proofs.Common.{append-nil, ◌≡◌, ℕ, ◌+◌, pos, List, [], ◌∷◌, ◌++◌, IsTrue, Ok, Err, Result, OnOk, codes, refl, sym, ap, subst, ◌∙◌}
 use Rattle.sqlite.specs.declared.error.Error.{Error}
 use Rattle.sqlite.specs.declared.types.Value.TheVariants.{Null}
 use Rattle.sqlite.specs.Order.{Row}
@@ -16,14 +16,15 @@ use Rattle.sqlite_resolve.specs.Compile.{first, small, new_rows}
 use Rattle.sqlite.proofs.Callers.{IsPlain, command_of}
 use Rattle.sqlite_tied.specs.Compute.{everything}
 use Rattle.mq_tables.specs.Tables.{answer_table}
-use Rattle.mq_tables.specs.Inside.{GoesOn}
-use Rattle.mq_tables.specs.Answers.{Answer, answer_row}
+use Rattle.mq_rows.specs.declared.record.AnswerRecord.{AnswerRecord}
+use Rattle.mq_tables.specs.Records.{answer_fields}
 use Rattle.mq_tables.specs.Places.{IsAnswerIn}
-use Rattle.mq_tables.specs.Updates.{HasAppended, Appends}
+use Rattle.mq_tables.specs.Updates.{HasPut, Appends}
 use Rattle.mq_tables.specs.Lent.{answer_params}
 use Rattle.mq_tables.proofs.Plain.{parsed_in}
 use Rattle.mq_tables.proofs.Makes.{cast_int, cast_null}
-use Rattle.mq_tables.proofs.ArrivalSets.{goes_so}
+use Rattle.mq_tables.proofs.Changes.{answers_changed}
+use Rattle.mq_tables.proofs.Meanings.{appended, numbered_on}
 use Rattle.mq_tables.proofs.Inserting.{IsInsert, understood_insert, unreferred}
 use Rattle.mq_tables.proofs.Statements.{inserts}
 
@@ -46,20 +47,28 @@ append_rows : (s : Schema) (tree : ℕ)
 unfolding everything append_insert
 append_rows s tree = refl
 
-row_is : (n : ℕ) (a : Answer) (tree : ℕ) (rows : List Row) → with_rowid Chosen rows (cast_row (record answer_table { tree = tree }) (eval_all append_terms (answer_params n a ∷ []))) ≡ answer_row n a
-row_is n a tree rows = rw (cast_int (pos n), cast_null, cast_int a.run, cast_int a.seq)
+row_is : (a : AnswerRecord) (tree : ℕ) (rows : List Row) → with_rowid Chosen rows (cast_row (record answer_table { tree = tree }) (eval_all append_terms (answer_params a ∷ []))) ≡ answer_fields a
+row_is a tree rows = rw (cast_int (pos a.n), cast_null, cast_int (pos a.id.run), cast_int (pos a.id.seq))
 
-module _ (old new : State) (n : ℕ) (a : Answer) (tree : ℕ) (place : IsAnswerIn old.now.schema tree) where
-  appended : (count : ℕ) → Executes append_text (answer_params n a) old new (Ok count) → HasAppended n a tree old.now new.now
+module _ (old new : State) (a : AnswerRecord) (tree : ℕ) (place : IsAnswerIn old.now.schema tree) where
+  put : (count : ℕ) → Executes append_text (answer_params a) old new (Ok count) → HasPut (answer_fields a) tree old.now new.now
   unfolding append_insert
-  appended count h =
+  put count h =
       let table : Table = record answer_table { tree = tree } in
       let s = old.now.schema in
       let is = understood_insert append_text parses append_insert s place.at table (Values append_terms 7) place.named place.there refl (append_rows s tree) in
-      let done = inserts append_text (answer_params n a) old new s refl place.at table (record { place = place.there; uncounted = refl; timeless = λ params. append-nil params; unreferred = unreferred s tree })
+      let done = inserts append_text (answer_params a) old new s refl place.at table (record { place = place.there; uncounted = refl; timeless = λ params. append-nil params; unreferred = unreferred s tree })
       append_terms 7 (ap command_of is) (subst IsPlain (sym is) (refl, refl)) refl count h in
-      record { schema = done.schema_is; rows = done.rows ∙ ap (λ r. put_row r (old.now.trees tree)) (row_is n a tree (old.now.trees tree)); others = done.tables }
+      record { schema = done.schema_is; rows = done.rows ∙ ap (λ r. put_row r (old.now.trees tree)) (row_is a tree (old.now.trees tree)); others = done.tables }
 
-pub appends : (old new : State) (n : ℕ) (a : Answer) (r : Result ℕ Error) → ExecutesInside 0 append_text (answer_params n a) old new r → OnOk r (GoesOn old new) × OnOk r (Appends n a old new)
-appends old new n a (Err e) h = (tt, tt)
-appends old new n a (Ok count) h = (goes_so old new h.1, λ tree place. appended old new n a tree place count h.0)
+pub appends : (old new : State) (a : AnswerRecord) (r : Result ℕ Error) → ExecutesInside 0 append_text (answer_params a) old new r → OnOk r (IsTrue new.in_transaction) × OnOk r (Appends a old new)
+appends old new a (Err e) h = (tt, tt)
+appends old new a (Ok count) h = (
+  h.1.mode,
+  λ t l next.
+      let it = put old new a l.at.answer l.tables.answer count h.0 in
+      answers_changed old.now new.now t l it.schema it.others (t.answers ++ a ∷ []) (record {
+        rows = it.rows ∙ ap (put_row (answer_fields a)) l.holds.answers.rows ∙ appended 1 t.answers a l.holds.answers.numbered next;
+        numbered = numbered_on 1 t.answers a l.holds.answers.numbered next;
+      }),
+)

@@ -1,5 +1,5 @@
 -- The UPDATE of the row of settings, over any schema that has the table at some place.
-use Rattle.std.proofs.Common.{append-nil, ◌≡◌, ℕ, ℤ, ◌^◌, nat_le, pos, List, [], ◌∷◌, ◌==◌, find, true, false, Some, None, Ok, Err, Result, OnOk, codes, slice_get, refl, sym, ap, subst, ◌∙◌}
+use Rattle.std.proofs.Common.{IsTrue, append-nil, ◌≡◌, ℕ, ℤ, ◌^◌, nat_le, pos, List, [], ◌∷◌, ◌==◌, find, true, false, Some, None, Ok, Err, Result, OnOk, codes, slice_get, refl, sym, ap, subst, ◌∙◌}
 use Rattle.std.specs.List.Sorted.{IsPermutation}
 use Rattle.sqlite_ast.specs.declared.Expr.{Expr, out-Expr}
 use Rattle.sqlite_ast.specs.declared.Expr.TheOpen.{Expr-F}
@@ -41,8 +41,9 @@ use Rattle.mq_tables.specs.Tables.{setting_table, keyed}
 use Rattle.mq_tables.specs.Settings.{SettingRow, setting_fields}
 use Rattle.mq_tables.specs.Places.{IsSettingIn, IsUnreferred}
 use Rattle.mq_tables.specs.Written.{plain_query, chosen as chosen_rows, Updated}
-use Rattle.mq_tables.specs.Updates.{HasSetArrivals, SetsArrivals}
-use Rattle.mq_tables.specs.Inside.{GoesOn}
+use Rattle.mq_tables.specs.Updates.{HasSetArrivals, CountsArrivals}
+use Rattle.mq_tables.specs.Ledger.{setting_in}
+use Rattle.mq_tables.proofs.Changes.{setting_changed}
 use Rattle.sqlite.specs.Command.TheVariants.{Update}
 use Rattle.mq_tables.proofs.Plain.{parsed_in}
 use Rattle.mq_tables.proofs.Makes.{cast_int, cast_null}
@@ -157,9 +158,6 @@ module _ (s : Schema) (at t : ℕ) (named : table_named s (codes "setting") ≡ 
 
 -- ---- what it leaves
 
-pub goes_so : (old new : state.State) → state.Shows old new new.now old.committed true → GoesOn old new
-goes_so old new h = record { committed = h.committed_is; inside = h.mode; was_open = h.was_open; is_open = h.is_open }
-
 module _ (old new : state.State) (n : ℤ) (t : ℕ) (place' : IsSettingIn old.now.schema t) where
   abbrev in_tree : Table
   in_tree = record setting_table { tree = t }
@@ -193,6 +191,11 @@ module _ (old new : state.State) (n : ℤ) (t : ℕ) (place' : IsSettingIn old.n
       (record { place = place'.there; uncounted = refl; timeless = append-nil; unreferred = nothing_acts old.now.schema t apart [] })
       (nothing_acts old.now.schema t apart) (record { lets = []; body = plain_query t arrivals_tests arrivals_shown }) arrivals_tests arrivals_shown means.0 (refl, refl) means.1 (rw place'.stored) count h)
 
-pub sets_arrivals : (old new : state.State) (n : ℤ) (r : Result ℕ Error) → ExecutesInside 0 arrivals_text (Int n ∷ []) old new r → OnOk r (GoesOn old new) × OnOk r (SetsArrivals n old new)
-sets_arrivals old new n (Err e) h = (tt, tt)
-sets_arrivals old new n (Ok count) h = (goes_so old new h.1, λ t place' apart. set_so old new n t place' apart count h.0)
+pub counts_arrivals : (old new : state.State) (n : ℕ) (r : Result ℕ Error) → ExecutesInside 0 arrivals_text (Int (pos n) ∷ []) old new r → OnOk r (IsTrue new.in_transaction) × OnOk r (CountsArrivals n old new)
+counts_arrivals old new n (Err e) h = (tt, tt)
+counts_arrivals old new n (Ok count) h = (
+  h.1.mode,
+  λ t l.
+      let it = set_so old new (pos n) l.at.setting l.tables.setting l.tables.setting_alone count h.0 in
+      setting_changed old.now new.now t l it.schema it.others (record t.setting { arrivals = n }) (it.row (setting_in t.setting) l.holds.setting),
+)

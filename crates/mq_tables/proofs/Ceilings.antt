@@ -1,5 +1,5 @@
 -- What the query of the latest ceiling answers of the records.
-use Rattle.std.proofs.Common.{pos, ◌≡◌, ◌≤ℤ◌, ◌&&◌, inl, inr, ℕ, suc, ◌+◌, ◌^◌, nat_le, ℤ, List, [], ◌∷◌, drop, map, filter, length, cond, codes, Bool, true, false, true≢false, Ok, Err, Result, arith, refl, sym, ap, subst, ◌∙◌}
+use Rattle.std.proofs.Common.{◌≡◌, ◌≤ℤ◌, ◌&&◌, inl, inr, ℕ, suc, ◌+◌, ◌^◌, nat_le, ℤ, List, [], ◌∷◌, drop, map, filter, length, cond, codes, Bool, true, false, true≢false, Ok, Err, Result, arith, refl, sym, ap, subst, ◌∙◌}
 use Rattle.std.specs.Prelude.{Vec, IfOk}
 use Rattle.std.specs.declared.alloc.Global.{Global}
 use Rattle.std.specs.List.{AllByRecursion, list_all}
@@ -28,9 +28,7 @@ use Rattle.sqlite.specs.Program.{overlay}
 use Rattle.sqlite.specs.Command.TheVariants.{Select}
 use Rattle.sqlite.specs.State.{State, Shown}
 use Rattle.sqlite.proofs.Callers.{IsPlain, command_of, reads_as}
-use Rattle.std.specs.Prelude.{Option, Some, None}
-use Rattle.mq_tables.specs.Lent.{IsFirstCap}
-use Rattle.mq_tables.specs.Records.{IsLatestCap, Ceiling, ceiling_fields, is_due, HoldsCeilings, IsLatestShown}
+use Rattle.mq_tables.proofs.DueRecords.{Ceiling, ceiling_fields, is_due, HoldsCeilings, IsLatestShown}
 use Rattle.mq_tables.specs.Places.{IsCeilingIn}
 use Rattle.mq_tables.specs.Written.{latest_query}
 use Rattle.mq_tables.proofs.Queries.{one_each, made_records}
@@ -190,16 +188,5 @@ module _ (login : List ℕ) (day : ℤ) where
   found_latest old new (Ok rows) h = finds_latest old new rows.items h
   found_latest old new (Err e) h = tt
 
-cap_so : (login : List ℕ) (day : ℤ) (all : List Ceiling) (rows : List Row) (cap : Option ℕ) → IsLatestShown login day all rows → IsFirstCap rows cap → IsLatestCap login day all cap
-cap_so login day all [] None shown first = shown
-cap_so login day all (row ∷ more) None shown first = absurd (cc)
-cap_so login day all [] (Some cap) shown first = absurd (let e = first.2 in cc)
-cap_so login day all (row ∷ more) (Some cap) (c, it, is, alone) (r, rest, whole, at) =
-    let head : row ≡ r = cc in
-    let shown : Int c.cap ≡ Int (pos cap) = ap (λ x. column x 0) (sym is ∙ head) ∙ at in
-    (c, it, cc)
-
-pub cap_after : (login : List ℕ) (day : ℤ) (held : ℕ → List Ceiling → Type 0) (place : ℕ → Type 0) (rows : List Row) (r : Result (Option ℕ) Error) → ((t : ℕ) (all : List Ceiling) → place t → held t all → IsLatestShown login day all rows)
-    → IfOk r (IsFirstCap rows) → IfOk r (λ cap. (t : ℕ) (all : List Ceiling) → place t → held t all → IsLatestCap login day all cap)
-cap_after login day held place rows (Ok cap) shown first = λ t all at is. cap_so login day all rows cap (shown t all at is) first
-cap_after login day held place rows (Err e) shown first = tt
+pub int_ranked : (a b : ℤ) → MatchOrdering (int_cmp a b) (a <ℤ b) (a ≡ b) (b <ℤ a)
+int_ranked a b = int_ranks a b

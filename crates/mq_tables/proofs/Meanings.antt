@@ -1,19 +1,23 @@
 -- One more answer behind those that are there.
-use Rattle.std.proofs.Common.{◌≡◌, ℕ, ◌+◌, ◌<◌, pos, List, [], ◌∷◌, ◌++◌, length, arith, ap, ◌∙◌}
+use Rattle.std.proofs.Common.{◌≡◌, ℕ, ◌+◌, ◌<◌, pos, List, [], ◌∷◌, ◌++◌, map, length, arith, refl, ap, ◌∙◌}
 use Rattle.std.proofs.Common.{Less}
 use Rattle.std.proofs.lemmas.Bool.{lt-ltb}
 use Rattle.sqlite.specs.declared.types.Value.TheVariants.{Int}
 use Rattle.sqlite_value.specs.Order.{value_cmp}
 use Rattle.sqlite_value.proofs.OrderLemmas.{value_cmp-Int}
 use Rattle.sqlite.specs.Tree.{put_row}
-use Rattle.mq_tables.specs.Answers.{Answer, answer_row, rows_from}
+use Rattle.mq_rows.specs.declared.record.AnswerRecord.{AnswerRecord}
+use Rattle.mq_tables.specs.Records.{answer_fields, AreNumbered}
 
 ascends : (a b : ℕ) → a < b → value_cmp (Int (pos a)) (Int (pos b)) ≡ Less
 ascends a b low = value_cmp-Int (pos a) (pos b) ∙ rw (lt-ltb a b low)
 
-pub appended : (n : ℕ) (all : List Answer) (a : Answer) → put_row (answer_row (n + length all) a) (rows_from n all) ≡ rows_from n (all ++ a ∷ [])
-appended n [] a = ap (λ k. answer_row k a ∷ []) (omega arith)
-appended n (first ∷ more) a =
-    let later = appended (n + 1) more a in
-    let number : n + length (first ∷ more) ≡ (n + 1) + length more = omega arith in
-    rw (ascends n (n + length (first ∷ more)) (omega arith)) (ap (λ rows. answer_row n first ∷ rows) (ap (λ k. put_row (answer_row k a) (rows_from (n + 1) more)) number ∙ later))
+pub appended : (n : ℕ) (all : List AnswerRecord) (a : AnswerRecord) → AreNumbered n all → a.n ≡ n + length all → put_row (answer_fields a) (map answer_fields all) ≡ map answer_fields (all ++ a ∷ [])
+appended n [] a numbered next = refl
+appended n (first ∷ more) a numbered next =
+    let later = appended (n + 1) more a numbered.1 (next ∙ omega arith) in
+    rw (ascends first.n a.n (omega (arith, numbered.0, next))) (ap (λ rows. answer_fields first ∷ rows) later)
+
+pub numbered_on : (n : ℕ) (all : List AnswerRecord) (a : AnswerRecord) → AreNumbered n all → a.n ≡ n + length all → AreNumbered n (all ++ a ∷ [])
+numbered_on n [] a numbered next = (next ∙ omega arith, tt)
+numbered_on n (first ∷ more) a numbered next = (numbered.0, numbered_on (n + 1) more a numbered.1 (next ∙ omega arith))

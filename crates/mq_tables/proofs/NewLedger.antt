@@ -120,7 +120,7 @@ module _ (made_with : NewSetting) (old new : Database) (sound : IsDatabase new) 
   ledger_held row empty unnamed = record {
     at = _;
     tables = ledger_in unnamed;
-    holds = record { setting = row; answers = empty.0; trans = holds_none _ _ empty.1.0; usage = holds_none _ _ empty.1.1.0; ceilings = holds_none _ _ empty.1.1.1.0 };
+    holds = record { setting = row; answers = record { rows = empty.0; numbered = tt }; transactions = holds_none _ _ empty.1.0; usage = holds_none _ _ empty.1.1.0; ceilings = holds_none _ _ empty.1.1.1.0 };
   }
 
 pub made_whole : (made_with : NewSetting) (a b c : State) → HasStarted made_with a b → HasAdded other_tables b c → IsMade made_with a.now c.now

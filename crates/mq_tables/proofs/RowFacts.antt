@@ -45,6 +45,10 @@ holds_put from fields new record' rows records is free keyed h = record {
       (subst (λ x. IsPermutation (drop from new ∷ map (drop from) rows) (x ∷ map fields records)) is (IsPermutation-cons (drop from new) _ _ h.same));
 }
 
+-- the same records in another order
+pub held_so : {R : Type 0} (fields : R → Row) (rows : List Row) (all other : List R) → Holds 1 fields rows all → IsPermutation other all → Holds 1 fields rows other
+held_so fields rows all other held same = record { numbered = held.numbered; same = IsPermutation-trans _ _ _ held.same (IsPermutation-sym _ _ (IsPermutation-map fields other all same)) }
+
 -- ---- the one row of a key
 
 all_as_has : {X : Type 0} (P : X → Type 0) (xs : List X) → ((x : X) → Has xs x → P x) → AllByRecursion P xs

@@ -1,9 +1,7 @@
 -- The UPDATE of the totals of a login and day, over any schema that has the table at some place.
-use Rattle.std.proofs.Common.{append-nil, ◌≡◌, ◌&&◌, ℕ, ℤ, ◌^◌, nat_le, List, [], ◌∷◌, ◌==◌, find, drop, map, Bool, true, false, Some, None, Ok, Err, Result, OnOk, codes, slice_get, refl, sym, ap, subst, ◌∙◌}
+use Rattle.std.proofs.Common.{IsTrue, pos, append-nil, ◌≡◌, ◌&&◌, ℕ, ℤ, ◌^◌, nat_le, List, [], ◌∷◌, ◌==◌, find, drop, map, Bool, true, false, Some, None, Ok, Err, Result, OnOk, codes, slice_get, refl, sym, ap, subst, ◌∙◌}
 use Rattle.std.specs.List.{AllByRecursion, list_all}
 use Rattle.std.specs.List.Sorted.{IsPermutation}
-use Rattle.std.specs.Str.{bytes_eq}
-use Rattle.std.specs.Ordering.{int_eq}
 use Rattle.std.proofs.Math.Bool.{and-true}
 use Rattle.std.proofs.lemmas.Bool.{and_parts, not-true}
 use Rattle.sqlite_ast.specs.declared.Expr.{Expr, out-Expr}
@@ -43,16 +41,20 @@ use Rattle.sqlite.specs.Listing.{understood}
 use Rattle.sqlite.proofs.Callers.{IsPlain, command_of, one_permutation}
 use Rattle.sqlite_tied.specs.Compute.{everything}
 use Rattle.mq_tables.specs.Tables.{usage_table, required}
-use Rattle.mq_tables.specs.Records.{Holds, HoldsUsage, Usage, usage_fields, is_usage_of, set_to}
+use Rattle.mq_frame.specs.Same.{same_text}
+use Rattle.mq_rows.specs.declared.record.UsageRecord.{UsageRecord}
+use Rattle.mq_rows.specs.declared.plan.Write.TheVariants as write
+use Rattle.mq_tables.specs.Keys.{same_usage, set_usage}
+use Rattle.mq_tables.specs.Lent.{totals_params}
+use Rattle.mq_tables.specs.Records.{Holds, HoldsUsage, usage_fields}
 use Rattle.mq_tables.specs.Places.{IsUsageIn, IsUnreferred}
 use Rattle.mq_tables.specs.Written.{plain_query, chosen as chosen_rows, Updated}
-use Rattle.mq_tables.specs.Inside.{GoesOn}
-use Rattle.mq_tables.specs.Updates.{HasSetUsage, SetsUsage, totals_params}
+use Rattle.mq_tables.specs.Updates.{HasSet, WritesUsage}
 use Rattle.mq_tables.proofs.Plain.{parsed_in}
 use Rattle.mq_tables.proofs.Makes.{cast_int}
-use Rattle.mq_tables.proofs.Tests.{blob_test, int_test}
-use Rattle.mq_tables.proofs.RowFacts.{only, keyed_row, holds_set}
-use Rattle.mq_tables.proofs.ArrivalSets.{goes_so}
+use Rattle.mq_tables.proofs.Changes.{usage_changed}
+use Rattle.mq_tables.proofs.Tests.{text_test, nat_test}
+use Rattle.mq_tables.proofs.RowFacts.{only, keyed_row, holds_set, held_so}
 use Rattle.mq_tables.proofs.Selecting.{column_lowered, parameter_lowered, equal_lowered, and_lowered, tested}
 use Rattle.mq_tables.proofs.Updating.{IsUpdate, set_next, updated_is, understood_update, nothing_acts}
 use Rattle.mq_tables.proofs.Statements.{updates}
@@ -202,33 +204,33 @@ module _ (s : Schema) (at t : ℕ) (named : table_named s (codes "usage") ≡ So
 
 -- ---- what it leaves
 
-abbrev test : Usage → Row → Bool
+abbrev test : UsageRecord → Row → Bool
 test u c = list_all (holds (totals_params u ∷ (Null ∷ c) ∷ [])) totals_tests
 
-abbrev pass : Usage → Row → Bool
+abbrev pass : UsageRecord → Row → Bool
 pass u r = list_all (holds (totals_params u ∷ r ∷ [])) totals_tests
 
-tied : (u : Usage) (r : Row) → pass u r ≡ test u (drop 1 r)
+tied : (u : UsageRecord) (r : Row) → pass u r ≡ test u (drop 1 r)
 tied u [] = refl
 tied u (x ∷ r) = refl
 
-decides : (u was : Usage) → test u (usage_fields was) ≡ is_usage_of u.login u.day was
-decides u was = rw (blob_test was.login u.login, int_test was.day u.day) (ap (λ b. bytes_eq was.login u.login && b) (and-true (int_eq was.day u.day)))
+decides : (u was : UsageRecord) → test u (usage_fields was) ≡ same_usage u was
+decides u was = rw (text_test was.login u.login, nat_test was.day u.day) (ap (λ b. same_text u.login was.login && b) (and-true (u.day == was.day)))
 
-module _ (old new : state.State) (u : Usage) (t : ℕ) (place' : IsUsageIn old.now.schema t) where
+module _ (old new : state.State) (u : UsageRecord) (t : ℕ) (place' : IsUsageIn old.now.schema t) where
   abbrev in_tree : Table
   in_tree = record usage_table { tree = t }
 
-  one_edit : (db : Trees) (was : Usage) (id : ℤ) (hits : List Row) → hits ≡ eval_all totals_shown (totals_params u ∷ (Int id ∷ usage_fields was) ∷ []) ∷ []
-      → edit_of db in_tree (ids_of hits) Given 1 hits ≡ record { table = in_tree; gone = id ∷ []; news = (Int id ∷ usage_fields (set_to u was)) ∷ [] }
-  one_edit db was id hits one = rw one (rw (cast_int id, cast_int was.day, cast_int u.settled, cast_int u.reserved) refl)
+  one_edit : (db : Trees) (was : UsageRecord) (id : ℤ) (hits : List Row) → hits ≡ eval_all totals_shown (totals_params u ∷ (Int id ∷ usage_fields was) ∷ []) ∷ []
+      → edit_of db in_tree (ids_of hits) Given 1 hits ≡ record { table = in_tree; gone = id ∷ []; news = (Int id ∷ usage_fields (set_usage u was)) ∷ [] }
+  one_edit db was id hits one = rw one (rw (cast_int id, cast_int (pos was.day), cast_int (pos u.settled), cast_int (pos u.reserved)) refl)
 
-  sets_row : Updated old.now.schema in_tree totals_tests totals_shown (totals_params u) old new → (was : Usage) (rest : List Usage) → HoldsUsage (old.now.trees t) (was ∷ rest)
-      → is_usage_of u.login u.day was ≡ true → AllByRecursion (λ v. is_usage_of u.login u.day v ≡ false) rest → HoldsUsage (new.now.trees t) (set_to u was ∷ rest)
+  sets_row : Updated old.now.schema in_tree totals_tests totals_shown (totals_params u) old new → (was : UsageRecord) (rest : List UsageRecord) → HoldsUsage (old.now.trees t) (was ∷ rest)
+      → same_usage u was ≡ true → AllByRecursion (λ v. same_usage u v ≡ false) rest → HoldsUsage (new.now.trees t) (set_usage u was ∷ rest)
   sets_row made was rest held hit apart =
       let db = old.now.trees in
       let hit' = decides u was ∙ hit in
-      let apart' = subst (λ (f : Usage → Bool). AllByRecursion (λ v. f v ≡ false) rest) (λ i v. sym (decides u v) i) apart in
+      let apart' = subst (λ (f : UsageRecord → Bool). AllByRecursion (λ v. f v ≡ false) rest) (λ i v. sym (decides u v) i) apart in
       let row = only usage_fields (pass u) (test u) (tied u) (db t) was rest held hit' apart' in
       let id = id_in (rowid row.0) in
       let shape : row.0 ≡ Int id ∷ usage_fields was = keyed_row usage_fields (pass u) (test u) (tied u) (db t) was rest held hit' apart' in
@@ -236,11 +238,11 @@ module _ (old new : state.State) (u : Usage) (t : ℕ) (place' : IsUsageIn old.n
       ap (map (λ r. eval_all totals_shown (totals_params u ∷ r ∷ []))) (row.1 ∙ ap (λ r. r ∷ []) shape) in
       let hits = one_permutation _ made.hits (subst (λ xs. IsPermutation xs made.hits) seen made.found) in
       let edit = one_edit db was id made.hits hits in
-      let rows : new.now.trees t ≡ put_row (Int id ∷ usage_fields (set_to u was)) (without_rowid id (db t)) = made.rows ∙ ap (edited db) edit in
-      let fresh' : are_fresh (without_rowid id (db t)) ((Int id ∷ usage_fields (set_to u was)) ∷ []) ≡ true = subst (λ (e : Edit). are_fresh (left_by db e) e.news ≡ true) edit made.fresh in
-      subst (λ rs. Holds 1 usage_fields rs (set_to u was ∷ rest)) (sym rows) (holds_set usage_fields (pass u) (test u) (tied u) (db t) was rest held hit' apart' (set_to u was) (not-true _ (and_parts _ _ fresh').0))
+      let rows : new.now.trees t ≡ put_row (Int id ∷ usage_fields (set_usage u was)) (without_rowid id (db t)) = made.rows ∙ ap (edited db) edit in
+      let fresh' : are_fresh (without_rowid id (db t)) ((Int id ∷ usage_fields (set_usage u was)) ∷ []) ≡ true = subst (λ (e : Edit). are_fresh (left_by db e) e.news ≡ true) edit made.fresh in
+      subst (λ rs. Holds 1 usage_fields rs (set_usage u was ∷ rest)) (sym rows) (holds_set usage_fields (pass u) (test u) (tied u) (db t) was rest held hit' apart' (set_usage u was) (not-true _ (and_parts _ _ fresh').0))
 
-  pub set_so : IsUnreferred old.now.schema t → (count : ℕ) → Executes totals_text (totals_params u) old new (Ok count) → HasSetUsage u t old.now new.now
+  set_so : IsUnreferred old.now.schema t → (count : ℕ) → Executes totals_text (totals_params u) old new (Ok count) → HasSet HoldsUsage same_usage set_usage u t old.now new.now
   set_so apart count h =
       let means = means_totals old.now.schema place'.at t place'.named place'.there place'.stored place'.found in
       let made = updates totals_text (totals_params u) old new old.now.schema refl place'.at in_tree
@@ -248,6 +250,11 @@ module _ (old new : state.State) (u : Usage) (t : ℕ) (place' : IsUsageIn old.n
       (nothing_acts old.now.schema t apart) (record { lets = []; body = plain_query t totals_tests totals_shown }) totals_tests totals_shown means.0 (refl, refl) means.1 (rw place'.stored) count h in
       record { schema = made.schema_is; rows = sets_row made; others = made.tables }
 
-pub sets_usage : (old new : state.State) (u : Usage) (r : Result ℕ Error) → ExecutesInside 0 totals_text (totals_params u) old new r → OnOk r (GoesOn old new) × OnOk r (SetsUsage u old new)
+pub sets_usage : (old new : state.State) (u : UsageRecord) (r : Result ℕ Error) → ExecutesInside 0 totals_text (totals_params u) old new r → OnOk r (IsTrue new.in_transaction) × OnOk r (WritesUsage (write.Update u) old new)
 sets_usage old new u (Err e) h = (tt, tt)
-sets_usage old new u (Ok count) h = (goes_so old new h.1, λ t place' apart. set_so old new u t place' apart count h.0)
+sets_usage old new u (Ok count) h = (
+  h.1.mode,
+  λ t l was rest same hit apart.
+      let it = set_so old new u l.at.usage l.tables.usage l.tables.usage_alone count h.0 in
+      usage_changed old.now new.now t l it.schema it.others (set_usage u was ∷ rest) (it.rows was rest (held_so usage_fields _ t.usage (was ∷ rest) l.holds.usage same) hit apart),
+)

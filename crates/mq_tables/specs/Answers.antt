@@ -1,29 +1,12 @@
--- The rows of `answer`, which are numbered from 1 on without a gap.
-use Rattle.std.specs.Prelude.{ℕ, ◌+◌, ℤ, pos, List, [], ◌∷◌, Option, Some, None, slice_get, option_and_then, option_map, unwrap_or, codes}
+-- What the table of answers means, whatever the store holds: the requests as bytes.
+use Rattle.std.specs.Prelude.{ℕ, List, [], Option, Some, None, slice_get, option_and_then, option_map, unwrap_or, codes}
 use Rattle.std.specs.List.{filter_map}
 use Rattle.sqlite.specs.declared.types.Value.{Value}
-use Rattle.sqlite.specs.declared.types.Value.TheVariants.{Null, Int, Blob}
+use Rattle.sqlite.specs.declared.types.Value.TheVariants.{Blob}
 use Rattle.sqlite.specs.Order.{Row, column}
 use Rattle.sqlite.specs.Effect.{Database}
 use Rattle.sqlite.specs.Schema.{Schema}
 use Rattle.sqlite_schema.specs.Names.{table_named}
-
--- a numbered request and its reply, as bytes
-pub record Answer : Type 0 where
-  pub host : List ℕ
-  pub run : ℤ
-  pub seq : ℤ
-  pub request : List ℕ
-  pub reply : List ℕ
-
--- the column that the rowid stands for is kept as NULL
-abbrev pub answer_row : ℕ → Answer → Row
-answer_row n a = Int (pos n) ∷ Null ∷ Blob a.host ∷ Int a.run ∷ Int a.seq ∷ Blob a.request ∷ Blob a.reply ∷ []
-
--- numbered from here on
-abbrev pub rows_from : ℕ → List Answer → List Row
-rows_from n [] = []
-rows_from n (a ∷ more) = answer_row n a ∷ rows_from (n + 1) more
 
 -- the tree of a table that goes by this name, where there is one
 abbrev pub tree_named : Schema → List ℕ → Option ℕ

@@ -1,11 +1,12 @@
 -- A store that has the five tables, and what they hold.
-use Rattle.std.specs.Prelude.{◌≡◌, ℕ, List, [], ◌∷◌}
+use Rattle.std.specs.Prelude.{◌≡◌, ℕ, pos, [], ◌∷◌}
 use Rattle.sqlite.specs.Effect.{Database}
 use Rattle.sqlite.specs.Schema.{Schema}
 use Rattle.sqlite.specs.Tree.{Trees}
-use Rattle.mq_tables.specs.Answers.{Answer, rows_from}
+use Rattle.mq_rows.specs.declared.record.SettingRecord.{SettingRecord}
+use Rattle.mq_rows.specs.Tables.{Tables}
 use Rattle.mq_tables.specs.Places.{IsSettingIn, IsAnswerIn, IsTransIn, IsUsageIn, IsCeilingIn, IsUnreferred}
-use Rattle.mq_tables.specs.Records.{Trans, Usage, Ceiling, HoldsTrans, HoldsUsage, HoldsCeilings}
+use Rattle.mq_tables.specs.Records.{HoldsAnswers, HoldsTransactions, HoldsUsage, HoldsCeilings}
 use Rattle.mq_tables.specs.Settings.{SettingRow, setting_fields}
 
 -- the trees of the five tables
@@ -28,23 +29,19 @@ pub record IsLedgerIn (schema : Schema) (at : Places) : Type 0 where
   pub usage_alone : IsUnreferred schema at.usage
   pub ceiling_alone : IsUnreferred schema at.ceiling
 
--- the rows of the five tables: those of `answer` in order, those of the last three in any
-pub record LedgerRows : Type 0 where
-  pub setting : SettingRow
-  pub answers : List Answer
-  pub trans : List Trans
-  pub usage : List Usage
-  pub ceilings : List Ceiling
+abbrev pub setting_in : SettingRecord → SettingRow
+setting_in s = record { version = pos s.version; minutes = s.minutes; cap = pos s.cap; arrivals = pos s.arrivals }
 
-pub record HoldsRows (trees : Trees) (at : Places) (rows : LedgerRows) : Type 0 where
-  pub setting : trees at.setting ≡ setting_fields rows.setting ∷ []
-  pub answers : trees at.answer ≡ rows_from 1 rows.answers
-  pub trans : HoldsTrans (trees at.trans) rows.trans
-  pub usage : HoldsUsage (trees at.usage) rows.usage
-  pub ceilings : HoldsCeilings (trees at.ceiling) rows.ceilings
+-- the trees hold these rows
+pub record HoldsRows (trees : Trees) (at : Places) (t : Tables) : Type 0 where
+  pub setting : trees at.setting ≡ setting_fields (setting_in t.setting) ∷ []
+  pub answers : HoldsAnswers (trees at.answer) t.answers
+  pub transactions : HoldsTransactions (trees at.trans) t.transactions
+  pub usage : HoldsUsage (trees at.usage) t.usage
+  pub ceilings : HoldsCeilings (trees at.ceiling) t.ceilings
 
 -- the store has the five tables at some places, and they hold these rows
-pub record HasLedger (db : Database) (rows : LedgerRows) : Type 0 where
+pub record HasLedger (db : Database) (t : Tables) : Type 0 where
   pub at : Places
   pub tables : IsLedgerIn db.schema at
-  pub holds : HoldsRows db.trees at rows
+  pub holds : HoldsRows db.trees at t

@@ -1,45 +1,95 @@
--- What the code lends.
-use Rattle.std.specs.Prelude.{◌≡◌, ℕ, pos, List, [], ◌∷◌, Option, Some, None}
-use Rattle.std.specs.List.Sorted.{IsPermutation}
+-- Parameters of statements, and what is read of the rows of an answer.
+use Rattle.std.specs.Prelude.{◌≡◌, ℕ, ℤ, pos, List, [], ◌∷◌, Option, Some, None, not}
+use Rattle.std.specs.Ordering.{int_eq}
 use Rattle.sqlite.specs.Order.{Row, column}
 use Rattle.sqlite.specs.declared.types.Value.TheVariants.{Int, Blob}
-use Rattle.mq_tables.specs.declared.answer.NewAnswer.{NewAnswer}
-use Rattle.mq_tables.specs.declared.usage.LoginDay.{LoginDay}
-use Rattle.mq_tables.specs.declared.usage.NewUsage.{NewUsage}
-use Rattle.mq_tables.specs.declared.usage.Totals.{Totals}
-use Rattle.mq_tables.specs.Answers.{Answer}
-use Rattle.mq_tables.specs.Records.{Usage}
-
-abbrev pub answer_in : NewAnswer → Answer
-answer_in a = record { host = a.host.now; run = pos a.run; seq = pos a.seq; request = a.request.now; reply = a.reply.now }
+use Rattle.mq_frame.specs.declared.message.Id.{Id}
+use Rattle.mq_rows.specs.declared.record.AnswerRecord.{AnswerRecord}
+use Rattle.mq_rows.specs.declared.record.TransactionRecord.{TransactionRecord}
+use Rattle.mq_rows.specs.declared.record.UsageRecord.{UsageRecord}
+use Rattle.mq_rows.specs.declared.record.CeilingRecord.{CeilingRecord}
+use Rattle.mq_tables.specs.Records.{bit}
 
 -- the parameters of the INSERT of an answer
-abbrev pub answer_params : ℕ → Answer → Row
-answer_params n a = Int (pos n) ∷ Blob a.host ∷ Int a.run ∷ Int a.seq ∷ Blob a.request ∷ Blob a.reply ∷ []
+abbrev pub answer_params : AnswerRecord → Row
+answer_params a =
+    Int (pos a.n) ∷ Blob a.id.host ∷ Int (pos a.id.run) ∷ Int (pos a.id.seq) ∷ Blob a.request ∷ Blob a.reply ∷ []
 
-abbrev pub usage_in : NewUsage → Usage
-usage_in u = record { login = u.login.now; day = pos u.day; settled = pos u.settled; reserved = pos u.reserved }
+abbrev pub key_params : List ℕ → ℕ → Row
+key_params login day = Blob login ∷ Int (pos day) ∷ []
 
-abbrev pub key_row : LoginDay → Row
-key_row k = Blob k.login.now ∷ Int (pos k.day) ∷ []
+-- the parameters of the UPDATE of totals
+abbrev pub totals_params : UsageRecord → Row
+totals_params u = Int (pos u.settled) ∷ Int (pos u.reserved) ∷ Blob u.login ∷ Int (pos u.day) ∷ []
 
-abbrev pub AreTotalsOf : Usage → Totals → Type 0
-AreTotalsOf u t = (u.settled ≡ pos t.settled) × (u.reserved ≡ pos t.reserved)
+-- what the query for totals shows
+abbrev pub totals_row : UsageRecord → Row
+totals_row u = Int (pos u.settled) ∷ Int (pos u.reserved) ∷ []
 
-abbrev pub IsTotals : Row → Totals → Type 0
-IsTotals row t = (column row 0 ≡ Int (pos t.settled)) × (column row 1 ≡ Int (pos t.reserved))
+-- what the row of that login and day shows
+pub record IsShownAs (l : List ℕ) (d : ℕ) (row : Row) (u : UsageRecord) : Type 0 where
+  pub login : u.login ≡ l
+  pub day : u.day ≡ d
+  pub settled : column row 0 ≡ Int (pos u.settled)
+  pub reserved : column row 1 ≡ Int (pos u.reserved)
 
--- no row, or the first
-abbrev pub IsFirst : List Row → Option Totals → Type 0
-IsFirst rows None = rows ≡ []
-IsFirst rows (Some t) = (row : Row) × (more : List Row) × (rows ≡ row ∷ more) × IsTotals row t
+-- no row, or what the first shows
+abbrev pub IsFirst : List ℕ → ℕ → List Row → Option UsageRecord → Type 0
+IsFirst login day rows None = rows ≡ []
+IsFirst login day rows (Some u) = (row : Row) × (more : List Row) × (rows ≡ row ∷ more) × IsShownAs login day row u
 
--- none, or one of them
-abbrev pub IsFoundUsage : List Row → Option Totals → Type 0
-IsFoundUsage rows None = rows ≡ []
-IsFoundUsage rows (Some t) = (row : Row) × (more : List Row) × IsPermutation (row ∷ more) rows × IsTotals row t
+-- the parameters of the UPDATE of a transaction
+abbrev pub standing_params : TransactionRecord → Row
+standing_params t =
+    Int (pos t.held) ∷ Int (pos t.settled) ∷ Int (pos (bit t.closed)) ∷
+    Blob t.host ∷ Int (pos t.run) ∷ Int (pos t.txn) ∷ []
 
--- no row, or the cap in the first
-abbrev pub IsFirstCap : List Row → Option ℕ → Type 0
-IsFirstCap rows None = rows ≡ []
-IsFirstCap rows (Some cap) = (row : Row) × (more : List Row) × (rows ≡ row ∷ more) × (column row 0 ≡ Int (pos cap))
+abbrev pub transaction_key : List ℕ → ℕ → ℕ → Row
+transaction_key host run txn = Blob host ∷ Int (pos run) ∷ Int (pos txn) ∷ []
+
+-- what the query for a transaction shows
+abbrev pub standing_row : TransactionRecord → Row
+standing_row t =
+    Blob t.login ∷ Int (pos t.moment) ∷ Int (pos t.day) ∷
+    Int (pos t.held) ∷ Int (pos t.settled) ∷ Int (pos (bit t.closed)) ∷ []
+
+-- what the row of that transaction shows
+pub record IsTransactionShown (h : List ℕ) (r x : ℕ) (row : Row) (t : TransactionRecord) : Type 0 where
+  pub host : t.host ≡ h
+  pub run : t.run ≡ r
+  pub txn : t.txn ≡ x
+  pub login : column row 0 ≡ Blob t.login
+  pub moment : column row 1 ≡ Int (pos t.moment)
+  pub day : column row 2 ≡ Int (pos t.day)
+  pub held : column row 3 ≡ Int (pos t.held)
+  pub settled : column row 4 ≡ Int (pos t.settled)
+  pub closed : (n : ℤ) × (column row 5 ≡ Int n) × (t.closed ≡ not (int_eq n (pos 0)))
+
+-- no row, or what the first shows
+abbrev pub IsFirstTransaction : List ℕ → ℕ → ℕ → List Row → Option TransactionRecord → Type 0
+IsFirstTransaction h r x rows None = rows ≡ []
+IsFirstTransaction h r x rows (Some t) =
+    (row : Row) × (more : List Row) × (rows ≡ row ∷ more) × IsTransactionShown h r x row t
+
+-- the parameters of the UPDATE of a limit
+abbrev pub cap_params : CeilingRecord → Row
+cap_params c = Int (pos c.cap) ∷ Blob c.login ∷ Int (pos c.day) ∷ []
+
+abbrev pub id_key : Id → Row
+id_key id = Blob id.host ∷ Int (pos id.run) ∷ Int (pos id.seq) ∷ []
+
+-- what the query for an answer shows
+abbrev pub bodies_row : AnswerRecord → Row
+bodies_row a = Int (pos a.n) ∷ Blob a.request ∷ Blob a.reply ∷ []
+
+-- what the row of that number shows
+pub record IsAnswerShown (number : Id) (row : Row) (a : AnswerRecord) : Type 0 where
+  pub id : a.id ≡ number
+  pub n : column row 0 ≡ Int (pos a.n)
+  pub request : column row 1 ≡ Blob a.request
+  pub reply : column row 2 ≡ Blob a.reply
+
+-- no row, or what the first shows
+abbrev pub IsFirstAnswer : Id → List Row → Option AnswerRecord → Type 0
+IsFirstAnswer number rows None = rows ≡ []
+IsFirstAnswer number rows (Some a) = (row : Row) × (more : List Row) × (rows ≡ row ∷ more) × IsAnswerShown number row a

@@ -3,6 +3,7 @@ pub mod Places
 pub mod Settings
 pub mod Answers
 pub mod Records
+pub mod Keys
 pub mod Ledger
 pub mod Reading
 pub mod Making
@@ -10,3 +11,4 @@ pub mod Written
 pub mod Inside
 pub mod Updates
 pub mod Lent
+pub mod Governing

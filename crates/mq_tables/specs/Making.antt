@@ -16,7 +16,8 @@ use Rattle.sqlite.specs.Tree.{Trees}
 use Rattle.mq_tables.specs.Tables.{setting_table, answer_table, trans_table, usage_table, ceiling_table}
 use Rattle.mq_tables.specs.declared.setting.NewSetting.{NewSetting}
 use Rattle.mq_tables.specs.Settings.{HasSetting, setting_fields, setting_after}
-use Rattle.mq_tables.specs.Ledger.{LedgerRows, HasLedger}
+use Rattle.mq_rows.specs.Tables.{Tables}
+use Rattle.mq_tables.specs.Ledger.{HasLedger}
 use Rattle.mq_tables.specs.Written.{Created}
 
 -- the schema after each CREATE, in turn
@@ -52,8 +53,14 @@ abbrev pub setting_row : NewSetting → Row
 setting_row made_with = setting_fields (setting_after (pos 0) made_with)
 
 -- the rows of a new ledger
-abbrev pub new_rows : NewSetting → LedgerRows
-new_rows made_with = record { setting = setting_after (pos 0) made_with; answers = []; trans = []; usage = []; ceilings = [] }
+abbrev pub new_rows : NewSetting → Tables
+new_rows made_with = record {
+  setting = record { version = 1; minutes = made_with.minutes; cap = made_with.cap; arrivals = 0 };
+  answers = [];
+  transactions = [];
+  usage = [];
+  ceilings = [];
+}
 
 abbrev pub setting_params : NewSetting → Row
 setting_params made_with = Int made_with.minutes ∷ Int (pos made_with.cap) ∷ []
@@ -63,7 +70,8 @@ other_tables = answer_table ∷ trans_table ∷ usage_table ∷ ceiling_table �
 
 -- What one CREATE leaves, and that the transaction goes on.
 abbrev pub Makes : Table → State → State → Type 0
-Makes table old new = IsTrue new.in_transaction × (HasCounters old → Created old.now.schema table old new × HasCounters new)
+Makes table old new =
+    IsTrue new.in_transaction × (HasCounters old → Created old.now.schema table old new × HasCounters new)
 
 -- the table of settings, whose rows are in this tree, has its row
 pub record HasPut (tree : ℕ) (made_with : NewSetting) (old new : State) : Type 0 where
@@ -75,7 +83,9 @@ pub record HasPut (tree : ℕ) (made_with : NewSetting) (old new : State) : Type
 abbrev pub Puts : NewSetting → State → State → Type 0
 Puts made_with old new =
     IsTrue new.in_transaction
-    × ((at tree : ℕ) → table_named old.now.schema setting_table.name ≡ Some at → slice_get old.now.schema.tables at ≡ Some (record setting_table { tree = tree }) → old.now.trees tree ≡ [] → HasPut tree made_with old new)
+    × ((at tree : ℕ) → table_named old.now.schema setting_table.name ≡ Some at
+    → slice_get old.now.schema.tables at ≡ Some (record setting_table { tree = tree })
+    → old.now.trees tree ≡ [] → HasPut tree made_with old new)
 
 -- the table of settings is new, and has its row
 pub record HasStarted (made_with : NewSetting) (old new : State) : Type 0 where
@@ -89,13 +99,16 @@ abbrev pub ledger_over : Schema → Schema
 ledger_over s = chain s (setting_table ∷ other_tables)
 
 abbrev pub is_ours : List ℕ → Bool
-is_ours name = same_name setting_table.name name || (same_name answer_table.name name || (same_name trans_table.name name || (same_name usage_table.name name || same_name ceiling_table.name name)))
+is_ours name =
+    same_name setting_table.name name || (same_name answer_table.name name
+    || (same_name trans_table.name name || (same_name usage_table.name name || same_name ceiling_table.name name)))
 
 -- no foreign key of a table that is there names one of the five
 abbrev pub AreUnnamed : Schema → Type 0
 AreUnnamed s = AllByRecursion (λ t. AllByRecursion (λ ref. is_ours ref.parent ≡ false) t.references) s.tables
 
--- The five tables stand behind those that were there, and hold the rows of a new ledger. Each table that was there has its rows.
+-- The five tables stand behind those that were there, and hold the rows of a new ledger. Each table
+-- that was there has its rows.
 pub record IsMade (made_with : NewSetting) (old new : Database) : Type 0 where
   pub sound : IsDatabase new
   pub schema : new.schema ≡ ledger_over old.schema
@@ -117,7 +130,9 @@ abbrev pub has_table : Schema → List ℕ → Bool
 has_table s name = list_any (λ t. same_name t.name name) s.tables || list_any (is_aside name) s.views
 
 abbrev pub has_ledger_table : Schema → Bool
-has_ledger_table s = has_table s setting_table.name || (has_table s answer_table.name || (has_table s trans_table.name || (has_table s usage_table.name || has_table s ceiling_table.name)))
+has_ledger_table s =
+    has_table s setting_table.name || (has_table s answer_table.name
+    || (has_table s trans_table.name || (has_table s usage_table.name || has_table s ceiling_table.name)))
 
 -- the same, where each table with AUTOINCREMENT had the table that counts for it
 pub record IsMadeOver (made_with : NewSetting) (old new : Database) : Type 0 where

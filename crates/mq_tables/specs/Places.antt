@@ -40,4 +40,5 @@ refers schema tree ref = is_tree tree (find (λ t. same_name t.name ref.parent) 
 
 -- no foreign key refers to the table
 abbrev pub IsUnreferred : Schema → ℕ → Type 0
-IsUnreferred schema tree = AllByRecursion (λ t. AllByRecursion (λ ref. refers schema tree ref ≡ false) t.references) schema.tables
+IsUnreferred schema tree =
+    AllByRecursion (λ t. AllByRecursion (λ ref. refers schema tree ref ≡ false) t.references) schema.tables

@@ -1,97 +1,62 @@
--- The rows of `trans`, `usage` and `ceiling`, as typed records.
-use Rattle.std.specs.Prelude.{◌≡◌, ◌≤ℤ◌, ℕ, ℤ, pos, Bool, true, false, ◌&&◌, List, [], ◌∷◌, map, drop, bytes_eq, Option, Some, None}
+-- The rows that stand for typed records.
+use Rattle.std.specs.Prelude.{◌≡◌, ◌+◌, ℕ, pos, Bool, true, false, List, [], ◌∷◌, map, drop, Option, Some, None}
 use Rattle.std.specs.List.{AllByRecursion}
-use Rattle.sqlite_rules.specs.Lists.{Has}
 use Rattle.std.specs.List.Sorted.{IsPermutation}
-use Rattle.std.specs.Ordering.{int_eq, int_cmp, is_le}
-use Rattle.sqlite.specs.declared.types.Value.TheVariants.{Int, Blob}
+use Rattle.sqlite.specs.declared.types.Value.TheVariants.{Null, Int, Blob}
 use Rattle.sqlite.specs.Order.{Row}
 use Rattle.sqlite.specs.View.{IsShaped}
+use Rattle.sqlite_rules.specs.Lists.{Has}
 use Rattle.sqlite_trees.specs.declared.store.Shape.TheVariants.{Table}
+use Rattle.mq_rows.specs.declared.record.AnswerRecord.{AnswerRecord}
+use Rattle.mq_rows.specs.declared.record.TransactionRecord.{TransactionRecord}
+use Rattle.mq_rows.specs.declared.record.UsageRecord.{UsageRecord}
+use Rattle.mq_rows.specs.declared.record.CeilingRecord.{CeilingRecord}
 
--- the rows from this column on are those of the records, each once, in the order of their rowids
+-- a column that stands for the rowid is kept as NULL
+abbrev pub answer_fields : AnswerRecord → Row
+answer_fields a =
+    Int (pos a.n) ∷ Null ∷ Blob a.id.host ∷ Int (pos a.id.run) ∷ Int (pos a.id.seq) ∷ Blob a.request ∷ Blob a.reply ∷ []
+
+abbrev pub bit : Bool → ℕ
+bit false = 0
+bit true = 1
+
+abbrev pub transaction_fields : TransactionRecord → Row
+transaction_fields t =
+    Blob t.host ∷ Int (pos t.run) ∷ Int (pos t.txn) ∷ Blob t.login ∷ Int (pos t.moment) ∷ Int (pos t.day) ∷
+    Int (pos t.held) ∷ Int (pos t.settled) ∷ Int (pos (bit t.closed)) ∷ []
+
+abbrev pub usage_fields : UsageRecord → Row
+usage_fields u = Blob u.login ∷ Int (pos u.day) ∷ Int (pos u.settled) ∷ Int (pos u.reserved) ∷ []
+
+abbrev pub ceiling_fields : CeilingRecord → Row
+ceiling_fields c = Blob c.login ∷ Int (pos c.day) ∷ Int (pos c.cap) ∷ []
+
+-- numbered from here on, without a gap
+abbrev pub AreNumbered : ℕ → List AnswerRecord → Type 0
+AreNumbered n [] = Unit {0}
+AreNumbered n (a ∷ more) = (a.n ≡ n) × AreNumbered (n + 1) more
+
+-- the rows are the answers, numbered from 1 on
+pub record HoldsAnswers (stored : List Row) (answers : List AnswerRecord) : Type 0 where
+  pub rows : stored ≡ map answer_fields answers
+  pub numbered : AreNumbered 1 answers
+
+-- the rows, without their rowids, are those of the records, each once, in any order
 pub record Holds {R : Type 0} (from : ℕ) (fields : R → Row) (rows : List Row) (records : List R) : Type 0 where
   pub numbered : IsShaped Table rows
   pub same : IsPermutation (map (drop from) rows) (map fields records)
 
--- no record is the one asked for, or this is read of one that is
-abbrev pub IsFound : {R X : Type 0} → (R → Bool) → (R → X → Type 0) → List R → Option X → Type 0
-IsFound is_it ReadsAs all None = AllByRecursion (λ r. is_it r ≡ false) all
-IsFound {R} is_it ReadsAs all (Some x) = (r : R) × Has all r × (is_it r ≡ true) × ReadsAs r x
+abbrev pub HoldsTransactions : List Row → List TransactionRecord → Type 0
+HoldsTransactions rows all = Holds 1 transaction_fields rows all
 
--- a transaction, with what it holds or settled; `closed` is 1 or 0
-pub record Trans : Type 0 where
-  pub host : List ℕ
-  pub run : ℤ
-  pub txn : ℤ
-  pub login : List ℕ
-  pub moment : ℤ
-  pub day : ℤ
-  pub held : ℤ
-  pub settled : ℤ
-  pub closed : ℤ
-
-abbrev pub trans_fields : Trans → Row
-trans_fields t = Blob t.host ∷ Int t.run ∷ Int t.txn ∷ Blob t.login ∷ Int t.moment ∷ Int t.day ∷ Int t.held ∷ Int t.settled ∷ Int t.closed ∷ []
-
-abbrev pub is_trans_of : List ℕ → ℤ → ℤ → Trans → Bool
-is_trans_of host run txn t = bytes_eq t.host host && (int_eq t.run run && int_eq t.txn txn)
-
-abbrev pub HoldsTrans : List Row → List Trans → Type 0
-HoldsTrans rows all = Holds 1 trans_fields rows all
-
--- what a login has on a day
-pub record Usage : Type 0 where
-  pub login : List ℕ
-  pub day : ℤ
-  pub settled : ℤ
-  pub reserved : ℤ
-
-abbrev pub usage_fields : Usage → Row
-usage_fields u = Blob u.login ∷ Int u.day ∷ Int u.settled ∷ Int u.reserved ∷ []
-
--- what the query for totals shows
-abbrev pub totals_row : Usage → Row
-totals_row u = Int u.settled ∷ Int u.reserved ∷ []
-
-abbrev pub is_usage_of : List ℕ → ℤ → Usage → Bool
-is_usage_of login day u = bytes_eq u.login login && int_eq u.day day
-
--- the record with other totals
-abbrev pub set_to : Usage → Usage → Usage
-set_to u was = record was { settled = u.settled; reserved = u.reserved }
-
-abbrev pub HoldsUsage : List Row → List Usage → Type 0
+abbrev pub HoldsUsage : List Row → List UsageRecord → Type 0
 HoldsUsage rows all = Holds 1 usage_fields rows all
 
--- the limit of a login from a day on
-pub record Ceiling : Type 0 where
-  pub login : List ℕ
-  pub day : ℤ
-  pub cap : ℤ
-
-abbrev pub ceiling_fields : Ceiling → Row
-ceiling_fields c = Blob c.login ∷ Int c.day ∷ Int c.cap ∷ []
-
--- it is this login's, from no later day
-abbrev pub is_due : List ℕ → ℤ → Ceiling → Bool
-is_due login day c = bytes_eq c.login login && is_le (int_cmp c.day day)
-
-abbrev pub HoldsCeilings : List Row → List Ceiling → Type 0
+abbrev pub HoldsCeilings : List Row → List CeilingRecord → Type 0
 HoldsCeilings rows all = Holds 1 ceiling_fields rows all
 
--- of the ceilings that are due this is the latest
-pub record IsLatest (login : List ℕ) (day : ℤ) (all : List Ceiling) (c : Ceiling) : Type 0 where
-  pub there : Has all c
-  pub due : is_due login day c ≡ true
-  pub latest : AllByRecursion (λ other. is_due login day other ≡ true → other.day ≤ℤ c.day) all
-
--- no ceiling is due, or the one row shows the latest
-abbrev pub IsLatestShown : List ℕ → ℤ → List Ceiling → List Row → Type 0
-IsLatestShown login day all [] = AllByRecursion (λ c. is_due login day c ≡ false) all
-IsLatestShown login day all (row ∷ more) = (c : Ceiling) × IsLatest login day all c × (row ≡ Int c.cap ∷ []) × (more ≡ [])
-
--- the same of the cap
-abbrev pub IsLatestCap : List ℕ → ℤ → List Ceiling → Option ℕ → Type 0
-IsLatestCap login day all None = AllByRecursion (λ c. is_due login day c ≡ false) all
-IsLatestCap login day all (Some cap) = (c : Ceiling) × IsLatest login day all c × (c.cap ≡ pos cap)
+-- no record passes the test, or this is one that does
+abbrev pub IsOneOf : {R : Type 0} → (R → Bool) → List R → Option R → Type 0
+IsOneOf test all None = AllByRecursion (λ r. test r ≡ false) all
+IsOneOf test all (Some r) = Has all r × (test r ≡ true)

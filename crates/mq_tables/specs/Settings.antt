@@ -23,7 +23,8 @@ setting_fields s = Int (pos 1) ∷ Null ∷ Int s.version ∷ Int s.minutes ∷ 
 
 -- that of a ledger that has applied so many requests
 abbrev pub setting_after : ℤ → NewSetting → SettingRow
-setting_after arrivals made = record { version = pos 1; minutes = made.minutes; cap = pos made.cap; arrivals = arrivals }
+setting_after arrivals made =
+    record { version = pos 1; minutes = made.minutes; cap = pos made.cap; arrivals = arrivals }
 
 -- our table of settings is there, at some place, and has this one row
 pub record HasSetting (db : Database) (s : SettingRow) : Type 0 where
@@ -33,7 +34,8 @@ pub record HasSetting (db : Database) (s : SettingRow) : Type 0 where
 
 -- three values, where they are whole numbers
 abbrev pub setting_of_values : Value → Value → Value → Option Setting
-setting_of_values (Int version) (Int minutes) (Int cap) = Some (record { version = version; minutes = minutes; cap = cap })
+setting_of_values (Int version) (Int minutes) (Int cap) =
+    Some (record { version = version; minutes = minutes; cap = cap })
 setting_of_values _ _ _ = None
 
 abbrev pub setting_of : Row → Option Setting

@@ -9,16 +9,20 @@ use Rattle.sqlite_schema.specs.declared.schema.Column.{Column}
 use Rattle.sqlite_value.specs.Keys.{plain}
 
 abbrev pub required : List ℕ → Kind → Column
-required name kind = record { name = name; kind = kind; is_strict = true; not_null = true; default = Null; collation = Binary }
+required name kind =
+    record { name = name; kind = kind; is_strict = true; not_null = true; default = Null; collation = Binary }
 
 abbrev pub keyed : List ℕ → Column
-keyed name = record { name = name; kind = Integer; is_strict = true; not_null = false; default = Null; collation = Binary }
+keyed name =
+    record { name = name; kind = Integer; is_strict = true; not_null = false; default = Null; collation = Binary }
 
 abbrev pub setting_table : Table
 setting_table = record {
   name = codes "setting";
   tree = 0;
-  columns = keyed (codes "id") ∷ required (codes "version") Integer ∷ required (codes "minutes") Integer ∷ required (codes "cap") Integer ∷ required (codes "arrivals") Integer ∷ [];
+  columns =
+      keyed (codes "id") ∷ required (codes "version") Integer ∷ required (codes "minutes") Integer ∷
+      required (codes "cap") Integer ∷ required (codes "arrivals") Integer ∷ [];
   key = Some 0;
   primary = 0 ∷ [];
   uniques = [];
@@ -34,7 +38,10 @@ abbrev pub answer_table : Table
 answer_table = record {
   name = codes "answer";
   tree = 0;
-  columns = keyed (codes "n") ∷ required (codes "host") Blob ∷ required (codes "run") Integer ∷ required (codes "seq") Integer ∷ required (codes "request") Blob ∷ required (codes "reply") Blob ∷ [];
+  columns =
+      keyed (codes "n") ∷ required (codes "host") Blob ∷ required (codes "run") Integer ∷
+      required (codes "seq") Integer ∷ required (codes "request") Blob ∷
+      required (codes "reply") Blob ∷ [];
   key = Some 0;
   primary = 0 ∷ [];
   uniques = (2 ∷ 3 ∷ 4 ∷ []) ∷ [];
@@ -50,7 +57,11 @@ abbrev pub trans_table : Table
 trans_table = record {
   name = codes "trans";
   tree = 0;
-  columns = required (codes "host") Blob ∷ required (codes "run") Integer ∷ required (codes "txn") Integer ∷ required (codes "login") Blob ∷ required (codes "moment") Integer ∷ required (codes "day") Integer ∷ required (codes "held") Integer ∷ required (codes "settled") Integer ∷ required (codes "closed") Integer ∷ [];
+  columns =
+      required (codes "host") Blob ∷ required (codes "run") Integer ∷ required (codes "txn") Integer ∷
+      required (codes "login") Blob ∷ required (codes "moment") Integer ∷
+      required (codes "day") Integer ∷ required (codes "held") Integer ∷
+      required (codes "settled") Integer ∷ required (codes "closed") Integer ∷ [];
   key = None;
   primary = 1 ∷ 2 ∷ 3 ∷ [];
   uniques = (1 ∷ 2 ∷ 3 ∷ []) ∷ [];
@@ -66,7 +77,9 @@ abbrev pub usage_table : Table
 usage_table = record {
   name = codes "usage";
   tree = 0;
-  columns = required (codes "login") Blob ∷ required (codes "day") Integer ∷ required (codes "settled") Integer ∷ required (codes "reserved") Integer ∷ [];
+  columns =
+      required (codes "login") Blob ∷ required (codes "day") Integer ∷
+      required (codes "settled") Integer ∷ required (codes "reserved") Integer ∷ [];
   key = None;
   primary = 1 ∷ 2 ∷ [];
   uniques = (1 ∷ 2 ∷ []) ∷ [];

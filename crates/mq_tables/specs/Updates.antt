@@ -1,49 +1,82 @@
--- What each statement on our tables leaves, over any schema that has the table at some place.
-use Rattle.std.specs.Prelude.{◌≡◌, ◌≢◌, ℕ, ℤ, true, false, List, [], ◌∷◌}
+-- What a statement leaves, over any schema that has its table at some place.
+use Rattle.std.specs.Prelude.{◌≡◌, ◌≢◌, ◌<◌, ◌^◌, ℕ, ◌+◌, ℤ, Bool, true, false, List, [], ◌∷◌, ◌++◌, length}
 use Rattle.std.specs.List.{AllByRecursion}
-use Rattle.sqlite.specs.declared.types.Value.TheVariants.{Int, Blob}
 use Rattle.sqlite.specs.Order.{Row}
 use Rattle.sqlite.specs.Schema.{Schema}
 use Rattle.sqlite.specs.Tree.{Trees, put_row}
 use Rattle.sqlite.specs.Effect.{Database}
 use Rattle.sqlite.specs.State.{State}
-use Rattle.mq_tables.specs.Answers.{Answer, answer_row}
-use Rattle.mq_tables.specs.Records.{Usage, is_usage_of, set_to, HoldsUsage}
-use Rattle.mq_tables.specs.Places.{IsAnswerIn, IsUsageIn, IsSettingIn, IsUnreferred}
+use Rattle.mq_rows.specs.declared.plan.Write.{Write}
+use Rattle.mq_rows.specs.declared.plan.Write.TheVariants.{Keep, Insert, Update}
+use Rattle.mq_rows.specs.declared.record.AnswerRecord.{AnswerRecord}
+use Rattle.mq_rows.specs.declared.record.TransactionRecord.{TransactionRecord}
+use Rattle.mq_rows.specs.declared.record.UsageRecord.{UsageRecord}
+use Rattle.mq_rows.specs.declared.record.CeilingRecord.{CeilingRecord}
+use Rattle.mq_rows.specs.Plan.{Leads}
+use Rattle.mq_rows.specs.Tables.{Tables}
+use Rattle.mq_tables.specs.Keys.{same_transaction, set_transaction, same_usage, set_usage, same_ceiling, set_ceiling}
+use Rattle.mq_tables.specs.Ledger.{HasLedger}
 use Rattle.mq_tables.specs.Settings.{SettingRow, setting_fields}
 
 -- each table but that of this tree has its rows
 abbrev pub KeepsOthers : Schema → ℕ → Trees → Trees → Type 0
 KeepsOthers schema tree old new = AllByRecursion (λ t. t.tree ≢ tree → new t.tree ≡ old t.tree) schema.tables
 
--- one more row of answers, and each other table as it was
-pub record HasAppended (n : ℕ) (a : Answer) (tree : ℕ) (old new : Database) : Type 0 where
+-- one more row, and each other table as it was
+pub record HasPut (row : Row) (tree : ℕ) (old new : Database) : Type 0 where
   pub schema : new.schema ≡ old.schema
-  pub rows : new.trees tree ≡ put_row (answer_row n a) (old.trees tree)
+  pub rows : new.trees tree ≡ put_row row (old.trees tree)
   pub others : KeepsOthers old.schema tree old.trees new.trees
 
-abbrev pub Appends : ℕ → Answer → State → State → Type 0
-Appends n a old new = (tree : ℕ) → IsAnswerIn old.now.schema tree → HasAppended n a tree old.now new.now
-
--- the parameters of the UPDATE of totals
-abbrev pub totals_params : Usage → Row
-totals_params u = Int u.settled ∷ Int u.reserved ∷ Blob u.login ∷ Int u.day ∷ []
-
--- The one row of this login and day has new totals, and each other row of the table, and each other table, is as it was.
-pub record HasSetUsage (u : Usage) (tree : ℕ) (old new : Database) : Type 0 where
+-- The one record of this key that the table held is changed so, and each other table is as it was.
+pub record HasSet {R : Type 0} (Held : List Row → List R → Type 0) (same : R → R → Bool) (set : R → R → R) (r : R)
+    (tree : ℕ) (old new : Database) : Type 0 where
   pub schema : new.schema ≡ old.schema
-  pub rows : (was : Usage) (rest : List Usage) → HoldsUsage (old.trees tree) (was ∷ rest) → is_usage_of u.login u.day was ≡ true
-      → AllByRecursion (λ v. is_usage_of u.login u.day v ≡ false) rest → HoldsUsage (new.trees tree) (set_to u was ∷ rest)
+  pub rows : (was : R) (rest : List R) → Held (old.trees tree) (was ∷ rest) → same r was ≡ true
+      → AllByRecursion (λ other. same r other ≡ false) rest → Held (new.trees tree) (set r was ∷ rest)
   pub others : KeepsOthers old.schema tree old.trees new.trees
 
 -- The row of settings counts so many arrivals, and each other table is as it was.
 pub record HasSetArrivals (arrivals : ℤ) (tree : ℕ) (old new : Database) : Type 0 where
   pub schema : new.schema ≡ old.schema
-  pub row : (s : SettingRow) → old.trees tree ≡ setting_fields s ∷ [] → new.trees tree ≡ setting_fields (record s { arrivals = arrivals }) ∷ []
+  pub row : (s : SettingRow) → old.trees tree ≡ setting_fields s ∷ []
+      → new.trees tree ≡ setting_fields (record s { arrivals = arrivals }) ∷ []
   pub others : KeepsOthers old.schema tree old.trees new.trees
 
-abbrev pub SetsUsage : Usage → State → State → Type 0
-SetsUsage u old new = (tree : ℕ) → IsUsageIn old.now.schema tree → IsUnreferred old.now.schema tree → HasSetUsage u tree old.now new.now
+-- What functions on a table leave in the five: where they held some rows, they hold these.
 
-abbrev pub SetsArrivals : ℤ → State → State → Type 0
-SetsArrivals arrivals old new = (tree : ℕ) → IsSettingIn old.now.schema tree → IsUnreferred old.now.schema tree → HasSetArrivals arrivals tree old.now new.now
+abbrev pub CountsArrivals : ℕ → State → State → Type 0
+CountsArrivals arrivals old new =
+    (t : Tables) → HasLedger old.now t
+    → HasLedger new.now (record t { setting = record t.setting { arrivals = arrivals } })
+
+-- the answer has the next place
+abbrev pub Appends : AnswerRecord → State → State → Type 0
+Appends a old new =
+    (t : Tables) → HasLedger old.now t → a.n ≡ 1 + length t.answers
+    → HasLedger new.now (record t { answers = t.answers ++ a ∷ [] })
+
+abbrev pub WritesUsage : Write UsageRecord → State → State → Type 0
+WritesUsage write old new =
+    (t : Tables) → HasLedger old.now t
+    → Leads same_usage set_usage write t.usage (λ after. HasLedger new.now (record t { usage = after }))
+
+-- a whole number of 64 bits with its sign has a place for its run and its moment
+abbrev pub IsStorable : TransactionRecord → Type 0
+IsStorable t = (t.run < 2 ^ 63) × (t.moment < 2 ^ 63)
+
+abbrev pub AreStorable : Write TransactionRecord → Type 0
+AreStorable Keep = Unit {0}
+AreStorable (Insert t) = IsStorable t
+AreStorable (Update t) = IsStorable t
+
+abbrev pub WritesTransaction : Write TransactionRecord → State → State → Type 0
+WritesTransaction write old new =
+    (t : Tables) → HasLedger old.now t
+    → Leads same_transaction set_transaction write t.transactions
+    (λ after. HasLedger new.now (record t { transactions = after }))
+
+abbrev pub WritesCeiling : Write CeilingRecord → State → State → Type 0
+WritesCeiling write old new =
+    (t : Tables) → HasLedger old.now t
+    → Leads same_ceiling set_ceiling write t.ceilings (λ after. HasLedger new.now (record t { ceilings = after }))

@@ -1,42 +1,35 @@
 //! The table `answer`, which keeps each numbered request with its reply, in the order of arrival.
 
-ghost use Rattle.std.specs.Prelude.{◌≡◌, ◌<◌, ◌^◌, IsTrue, OnOk};
+ghost use Rattle.std.specs.List.Sorted.{IsPermutation};
+ghost use Rattle.std.specs.Prelude.{◌≡◌, ◌<◌, ◌^◌, List, map, filter, IsTrue, OnOk, IfOk};
 ghost use Rattle.sqlite.specs.Held.{state};
-ghost use Rattle.sqlite.specs.State.{HasCleanDisk, KeepsCommit, Survives};
+ghost use Rattle.sqlite.specs.State.{HasCleanDisk, IsUnchanged, KeepsCommit, Survives};
 ghost use Rattle.sqlite.specs.Values.{bound};
-ghost use Rattle.mq_tables.specs.Inside.{GoesOn};
-ghost use Rattle.mq_tables.specs.Lent.{answer_in, answer_params};
+ghost use Rattle.mq_frame.specs.Same.{same_id};
+ghost use Rattle.mq_rows.specs.Tables.{Tables};
+ghost use Rattle.mq_tables.specs.Ledger.{HasLedger};
+ghost use Rattle.mq_tables.specs.Lent.{answer_params, bodies_row, id_key, IsFirstAnswer};
+ghost use Rattle.mq_tables.specs.Records.{IsOneOf};
 ghost use Rattle.mq_tables.specs.Updates.{Appends};
 
+use mq_frame::Id;
+use mq_rows::{AnswerRecord, Body};
 use sqlite::types::ValueRef;
-use sqlite::{Alter, Error, Transaction};
+use sqlite::{Alter, Error, Row, Transaction};
 
-/// A row that is to be written.
-#[derive(Drop)]
-pub struct NewAnswer<'a> {
-    /// The place among the answers, from 1 on; below 2 to the 63rd, as `run` is.
-    pub n: u64,
-    pub host: &'a [u8],
-    pub run: u64,
-    pub seq: u32,
-    pub request: &'a [u8],
-    pub reply: &'a [u8],
-}
-
-/// Writes a row behind those that are there.
+/// Writes a row behind those that are there. Its place and its run are below 2 to the 63rd.
 pub fn append_answer<S: Alter>(
     tx: &mut Transaction<'_, S>,
-    answer: &NewAnswer<'_>,
+    answer: &AnswerRecord,
 ) -> Result<usize, Error>
-    requires in_range { (answer.now.n < 2 ^ 63) × (answer.now.run < 2 ^ 63) }
+    requires in_range { (answer.now.n < 2 ^ 63) × (answer.now.id.run < 2 ^ 63) }
     requires inside { HasCleanDisk (state S.Store tx.old.conn.now)
         → IsTrue (state S.Store tx.old.conn.now).in_transaction }
     ensures same_reference { tx.new.conn.ghost_name ≡ tx.old.conn.ghost_name }
-    ensures goes_on { HasCleanDisk (state S.Store tx.new.conn.now)
-        → OnOk result (GoesOn (state S.Store tx.old.conn.now) (state S.Store tx.new.conn.now)) }
+    ensures inside { HasCleanDisk (state S.Store tx.new.conn.now)
+        → OnOk result (IsTrue (state S.Store tx.new.conn.now).in_transaction) }
     ensures appended { HasCleanDisk (state S.Store tx.new.conn.now)
-        → OnOk result (Appends answer.now.n (answer_in answer.now)
-        (state S.Store tx.old.conn.now) (state S.Store tx.new.conn.now)) }
+        → OnOk result (Appends answer.now (state S.Store tx.old.conn.now) (state S.Store tx.new.conn.now)) }
     ensures kept { HasCleanDisk (state S.Store tx.new.conn.now)
         → KeepsCommit (state S.Store tx.old.conn.now) (state S.Store tx.new.conn.now) }
     ensures survives { Survives (state S.Store tx.old.conn.now) (state S.Store tx.new.conn.now) (λ _. ⊥) }
@@ -47,16 +40,80 @@ pub fn append_answer<S: Alter>(
     )
 }
 
-fn answer_params<'a>(answer: &'a NewAnswer<'a>) -> [ValueRef<'a>; 6]
-    requires in_range { (answer.now.n < 2 ^ 63) × (answer.now.run < 2 ^ 63) }
-    ensures { bound result ≡ answer_params answer.now.n (answer_in answer.now) }
+fn answer_params(answer: &AnswerRecord) -> [ValueRef<'_>; 6]
+    requires in_range { (answer.now.n < 2 ^ 63) × (answer.now.id.run < 2 ^ 63) }
+    ensures { bound result ≡ answer_params answer.now }
 {
     [
         ValueRef::Int(answer.n as i64),
-        ValueRef::Blob(answer.host),
-        ValueRef::Int(answer.run as i64),
-        ValueRef::Int(i64::from(answer.seq)),
-        ValueRef::Blob(answer.request),
-        ValueRef::Blob(answer.reply),
+        ValueRef::Blob(answer.id.host.as_slice()),
+        ValueRef::Int(answer.id.run as i64),
+        ValueRef::Int(i64::from(answer.id.seq)),
+        ValueRef::Blob(answer.request.as_slice()),
+        ValueRef::Blob(answer.reply.as_slice()),
     ]
+}
+
+fn id_params(id: &Id) -> [ValueRef<'_>; 3]
+    requires { id.now.run < 2 ^ 63 }
+    ensures { bound result ≡ id_key id.now }
+{
+    [
+        ValueRef::Blob(id.host.as_slice()),
+        ValueRef::Int(id.run as i64),
+        ValueRef::Int(i64::from(id.seq)),
+    ]
+}
+
+fn answer_rows<S: Alter>(tx: &mut Transaction<'_, S>, id: &Id) -> Result<Vec<Row>, Error>
+    requires { id.now.run < 2 ^ 63 }
+    ensures same_reference { tx.new.conn.ghost_name ≡ tx.old.conn.ghost_name }
+    ensures same { HasCleanDisk (state S.Store tx.new.conn.now)
+        → OnOk result (IsUnchanged (state S.Store tx.old.conn.now) (state S.Store tx.new.conn.now)) }
+    ensures found { HasCleanDisk (state S.Store tx.new.conn.now)
+        → IfOk result (λ rows. (t : Tables) → HasLedger (state S.Store tx.old.conn.now).now t
+        → IsPermutation (map bodies_row (filter (λ a. same_id id.now a.id) t.answers)) rows.items) }
+    ensures kept { HasCleanDisk (state S.Store tx.new.conn.now)
+        → KeepsCommit (state S.Store tx.old.conn.now) (state S.Store tx.new.conn.now) }
+    ensures survives { Survives (state S.Store tx.old.conn.now) (state S.Store tx.new.conn.now) (λ _. ⊥) }
+{
+    tx.query_all(
+        "SELECT n, request, reply FROM answer WHERE host = ?1 AND run = ?2 AND seq = ?3",
+        &id_params(id),
+    )
+}
+
+/// What the first row shows, where there is one.
+fn first_answer(rows: &[Row], id: &Id) -> Result<Option<AnswerRecord>, Error>
+    ensures { IfOk result (IsFirstAnswer id.now rows.now) }
+{
+    let Some(row) = rows.first() else {
+        return Ok(None);
+    };
+    Ok(Some(AnswerRecord {
+        n: row.get(0)?,
+        id: id.clone()?,
+        request: Body::new(row.get(1)?),
+        reply: Body::new(row.get(2)?),
+    }))
+}
+
+/// The row of a number, where there is one. Its run is below 2 to the 63rd.
+pub fn find_answer<S: Alter>(
+    tx: &mut Transaction<'_, S>,
+    id: &Id,
+) -> Result<Option<AnswerRecord>, Error>
+    requires { id.now.run < 2 ^ 63 }
+    ensures same_reference { tx.new.conn.ghost_name ≡ tx.old.conn.ghost_name }
+    ensures same { HasCleanDisk (state S.Store tx.new.conn.now)
+        → OnOk result (IsUnchanged (state S.Store tx.old.conn.now) (state S.Store tx.new.conn.now)) }
+    ensures found { HasCleanDisk (state S.Store tx.new.conn.now)
+        → IfOk result (λ found. (t : Tables) → HasLedger (state S.Store tx.old.conn.now).now t
+        → IsOneOf (λ a. same_id id.now a.id) t.answers found) }
+    ensures kept { HasCleanDisk (state S.Store tx.new.conn.now)
+        → KeepsCommit (state S.Store tx.old.conn.now) (state S.Store tx.new.conn.now) }
+    ensures survives { Survives (state S.Store tx.old.conn.now) (state S.Store tx.new.conn.now) (λ _. ⊥) }
+{
+    let rows = answer_rows(tx, id)?;
+    first_answer(rows.as_slice(), id)
 }

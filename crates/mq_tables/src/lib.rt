@@ -6,4 +6,5 @@ pub mod ceiling;
 pub mod create;
 pub mod names;
 pub mod setting;
+pub mod transaction;
 pub mod usage;

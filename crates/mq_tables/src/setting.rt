@@ -1,16 +1,15 @@
 //! The table `setting`, which has one row.
 
-ghost use Rattle.std.specs.Prelude.{◌≡◌, None, IsTrue, OnOk, [], ◌∷◌, false};
+ghost use Rattle.std.specs.Prelude.{◌≡◌, ◌<◌, ◌^◌, pos, None, IsTrue, OnOk, [], ◌∷◌, false};
 ghost use Rattle.sqlite.specs.Held.{state};
 ghost use Rattle.sqlite.specs.Order.{column};
 ghost use Rattle.sqlite.specs.State.{HasCleanDisk, KeepsCommit, Survives};
 ghost use Rattle.sqlite.specs.Values.{bound};
 ghost use Rattle.sqlite.specs.declared.types.Value.TheVariants.{Int};
 ghost use Rattle.sqlite_value.specs.Value.{owned};
-ghost use Rattle.mq_tables.specs.Inside.{GoesOn};
 ghost use Rattle.mq_tables.specs.Reading.{IsRead, Spares};
 ghost use Rattle.mq_tables.specs.Settings.{SettingRow, HasSetting, IsOf, setting_of};
-ghost use Rattle.mq_tables.specs.Updates.{SetsArrivals};
+ghost use Rattle.mq_tables.specs.Updates.{CountsArrivals};
 
 use sqlite::types::ValueRef;
 use sqlite::{Alter, Connection, Error, Row, Transaction};
@@ -86,15 +85,16 @@ pub fn read_setting<S: Alter>(connection: &mut Connection<S>) -> Result<Option<S
     }
 }
 
-/// Writes the count of arrivals.
-pub fn set_arrivals<S: Alter>(tx: &mut Transaction<'_, S>, arrivals: i64) -> Result<usize, Error>
+/// Writes the count of arrivals, which is below 2 to the 63rd.
+pub fn set_arrivals<S: Alter>(tx: &mut Transaction<'_, S>, arrivals: u64) -> Result<usize, Error>
+    requires in_range { arrivals < 2 ^ 63 }
     requires inside { HasCleanDisk (state S.Store tx.old.conn.now)
         → IsTrue (state S.Store tx.old.conn.now).in_transaction }
     ensures same_reference { tx.new.conn.ghost_name ≡ tx.old.conn.ghost_name }
-    ensures goes_on { HasCleanDisk (state S.Store tx.new.conn.now)
-        → OnOk result (GoesOn (state S.Store tx.old.conn.now) (state S.Store tx.new.conn.now)) }
-    ensures set { HasCleanDisk (state S.Store tx.new.conn.now)
-        → OnOk result (SetsArrivals arrivals (state S.Store tx.old.conn.now) (state S.Store tx.new.conn.now)) }
+    ensures inside { HasCleanDisk (state S.Store tx.new.conn.now)
+        → OnOk result (IsTrue (state S.Store tx.new.conn.now).in_transaction) }
+    ensures counted { HasCleanDisk (state S.Store tx.new.conn.now)
+        → OnOk result (CountsArrivals arrivals (state S.Store tx.old.conn.now) (state S.Store tx.new.conn.now)) }
     ensures kept { HasCleanDisk (state S.Store tx.new.conn.now)
         → KeepsCommit (state S.Store tx.old.conn.now) (state S.Store tx.new.conn.now) }
     ensures survives { Survives (state S.Store tx.old.conn.now) (state S.Store tx.new.conn.now) (λ _. ⊥) }
@@ -105,8 +105,9 @@ pub fn set_arrivals<S: Alter>(tx: &mut Transaction<'_, S>, arrivals: i64) -> Res
     )
 }
 
-fn arrivals_params(arrivals: i64) -> [ValueRef<'static>; 1]
-    ensures { bound result ≡ Int arrivals ∷ [] }
+fn arrivals_params(arrivals: u64) -> [ValueRef<'static>; 1]
+    requires in_range { arrivals < 2 ^ 63 }
+    ensures { bound result ≡ Int (pos arrivals) ∷ [] }
 {
-    [ValueRef::Int(arrivals)]
+    [ValueRef::Int(arrivals as i64)]
 }

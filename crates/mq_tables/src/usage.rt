@@ -1,123 +1,136 @@
 //! The table `usage`, which keeps what each login has on each day.
 
 ghost use Rattle.std.specs.List.Sorted.{IsPermutation};
-ghost use Rattle.std.specs.Prelude.{◌≡◌, ℕ, pos, List, map, filter, IsTrue, OnOk, IfOk};
+ghost use Rattle.std.specs.Prelude.{◌≡◌, ℕ, List, map, filter, IsTrue, OnOk, IfOk};
 ghost use Rattle.sqlite.specs.Held.{state};
 ghost use Rattle.sqlite.specs.State.{HasCleanDisk, IsUnchanged, KeepsCommit, Survives};
 ghost use Rattle.sqlite.specs.Values.{bound};
-ghost use Rattle.mq_tables.specs.Inside.{GoesOn};
-ghost use Rattle.mq_tables.specs.Lent.{key_row, usage_in, IsFirst, IsFoundUsage};
-ghost use Rattle.mq_tables.specs.Places.{IsUsageIn};
-ghost use Rattle.mq_tables.specs.Records.{Usage, HoldsUsage, totals_row, is_usage_of};
-ghost use Rattle.mq_tables.specs.Updates.{SetsUsage, totals_params};
+ghost use Rattle.mq_rows.specs.Rows.{is_usage};
+ghost use Rattle.mq_rows.specs.Tables.{Tables};
+ghost use Rattle.mq_rows.specs.declared.plan.Write.TheVariants.{Insert, Update};
+ghost use Rattle.mq_tables.specs.Ledger.{HasLedger};
+ghost use Rattle.mq_tables.specs.Lent.{key_params, totals_params, totals_row, IsFirst};
+ghost use Rattle.mq_tables.specs.Records.{IsOneOf, usage_fields};
+ghost use Rattle.mq_tables.specs.Updates.{WritesUsage};
 
+use mq_frame::Login;
+use mq_rows::{UsageRecord, Write};
 use sqlite::types::ValueRef;
 use sqlite::{Alter, Error, Row, Transaction};
 
-/// A login and a day.
-#[derive(Drop)]
-pub struct LoginDay<'a> {
-    pub login: &'a [u8],
-    pub day: u32,
-}
-
-/// Recipients of a login and day.
-#[derive(Clone, Copy, Debug, PartialEq, Eq)]
-pub struct Totals {
-    pub settled: u32,
-    pub reserved: u32,
-}
-
-/// A row that is to be written.
-#[derive(Drop)]
-pub struct NewUsage<'a> {
-    pub login: &'a [u8],
-    pub day: u32,
-    pub settled: u32,
-    pub reserved: u32,
-}
-
-pub(crate) fn key_params<'a>(key: &'a LoginDay<'a>) -> [ValueRef<'a>; 2]
-    ensures { bound result ≡ key_row key.now }
+pub(crate) fn key_params(login: &Login, day: u32) -> [ValueRef<'_>; 2]
+    ensures { bound result ≡ key_params login.now day }
 {
-    [ValueRef::Blob(key.login), ValueRef::Int(i64::from(key.day))]
+    [
+        ValueRef::Blob(login.as_slice()),
+        ValueRef::Int(i64::from(day)),
+    ]
 }
 
-fn usage_rows<S: Alter>(tx: &mut Transaction<'_, S>, key: &LoginDay<'_>) -> Result<Vec<Row>, Error>
+fn usage_rows<S: Alter>(
+    tx: &mut Transaction<'_, S>,
+    login: &Login,
+    day: u32,
+) -> Result<Vec<Row>, Error>
     ensures same_reference { tx.new.conn.ghost_name ≡ tx.old.conn.ghost_name }
     ensures same { HasCleanDisk (state S.Store tx.new.conn.now)
         → OnOk result (IsUnchanged (state S.Store tx.old.conn.now) (state S.Store tx.new.conn.now)) }
     ensures found { HasCleanDisk (state S.Store tx.new.conn.now)
-        → IfOk result (λ rows. (tree : ℕ) (all : List Usage)
-        → IsUsageIn (state S.Store tx.old.conn.now).now.schema tree
-        → HoldsUsage ((state S.Store tx.old.conn.now).now.trees tree) all
-        → IsPermutation (map totals_row (filter (is_usage_of key.now.login.now (pos key.now.day)) all)) rows.items) }
+        → IfOk result (λ rows. (t : Tables) → HasLedger (state S.Store tx.old.conn.now).now t
+        → IsPermutation (map totals_row (filter (is_usage login.now day) t.usage)) rows.items) }
     ensures kept { HasCleanDisk (state S.Store tx.new.conn.now)
         → KeepsCommit (state S.Store tx.old.conn.now) (state S.Store tx.new.conn.now) }
     ensures survives { Survives (state S.Store tx.old.conn.now) (state S.Store tx.new.conn.now) (λ _. ⊥) }
 {
     tx.query_all(
         "SELECT settled, reserved FROM usage WHERE login = ?1 AND day = ?2",
-        &key_params(key),
+        &key_params(login, day),
     )
 }
 
-fn first_totals(rows: &[Row]) -> Result<Option<Totals>, Error>
-    ensures { IfOk result (IsFirst rows.now) }
+/// What the first row shows, where there is one.
+fn first_usage(rows: &[Row], login: &Login, day: u32) -> Result<Option<UsageRecord>, Error>
+    ensures { IfOk result (IsFirst login.now day rows.now) }
 {
     let Some(row) = rows.first() else {
         return Ok(None);
     };
-    Ok(Some(Totals {
+    Ok(Some(UsageRecord {
+        login: login.clone()?,
+        day,
         settled: row.get(0)?,
         reserved: row.get(1)?,
     }))
 }
 
-/// The totals of a login and day, where they have a row.
+/// The row of a login and day, where there is one.
 pub fn find_usage<S: Alter>(
     tx: &mut Transaction<'_, S>,
-    key: &LoginDay<'_>,
-) -> Result<Option<Totals>, Error>
+    login: &Login,
+    day: u32,
+) -> Result<Option<UsageRecord>, Error>
     ensures same_reference { tx.new.conn.ghost_name ≡ tx.old.conn.ghost_name }
     ensures same { HasCleanDisk (state S.Store tx.new.conn.now)
         → OnOk result (IsUnchanged (state S.Store tx.old.conn.now) (state S.Store tx.new.conn.now)) }
     ensures found { HasCleanDisk (state S.Store tx.new.conn.now)
-        → IfOk result (λ found. (tree : ℕ) (all : List Usage)
-        → IsUsageIn (state S.Store tx.old.conn.now).now.schema tree
-        → HoldsUsage ((state S.Store tx.old.conn.now).now.trees tree) all
-        → IsFoundUsage (map totals_row (filter (is_usage_of key.now.login.now (pos key.now.day)) all)) found) }
+        → IfOk result (λ found. (t : Tables) → HasLedger (state S.Store tx.old.conn.now).now t
+        → IsOneOf (is_usage login.now day) t.usage found) }
     ensures kept { HasCleanDisk (state S.Store tx.new.conn.now)
         → KeepsCommit (state S.Store tx.old.conn.now) (state S.Store tx.new.conn.now) }
     ensures survives { Survives (state S.Store tx.old.conn.now) (state S.Store tx.new.conn.now) (λ _. ⊥) }
 {
-    let rows = usage_rows(tx, key)?;
-    first_totals(rows.as_slice())
+    let rows = usage_rows(tx, login, day)?;
+    first_usage(rows.as_slice(), login, day)
 }
 
-fn totals_params<'a>(usage: &'a NewUsage<'a>) -> [ValueRef<'a>; 4]
-    ensures { bound result ≡ totals_params (usage_in usage.now) }
+fn usage_params(usage: &UsageRecord) -> [ValueRef<'_>; 4]
+    ensures { bound result ≡ usage_fields usage.now }
+{
+    [
+        ValueRef::Blob(usage.login.as_slice()),
+        ValueRef::Int(i64::from(usage.day)),
+        ValueRef::Int(i64::from(usage.settled)),
+        ValueRef::Int(i64::from(usage.reserved)),
+    ]
+}
+
+fn insert_usage<S: Alter>(tx: &mut Transaction<'_, S>, usage: &UsageRecord) -> Result<usize, Error>
+    requires inside { HasCleanDisk (state S.Store tx.old.conn.now)
+        → IsTrue (state S.Store tx.old.conn.now).in_transaction }
+    ensures same_reference { tx.new.conn.ghost_name ≡ tx.old.conn.ghost_name }
+    ensures inside { HasCleanDisk (state S.Store tx.new.conn.now)
+        → OnOk result (IsTrue (state S.Store tx.new.conn.now).in_transaction) }
+    ensures written { HasCleanDisk (state S.Store tx.new.conn.now)
+        → OnOk result (WritesUsage (Insert usage.now) (state S.Store tx.old.conn.now) (state S.Store tx.new.conn.now)) }
+    ensures kept { HasCleanDisk (state S.Store tx.new.conn.now)
+        → KeepsCommit (state S.Store tx.old.conn.now) (state S.Store tx.new.conn.now) }
+    ensures survives { Survives (state S.Store tx.old.conn.now) (state S.Store tx.new.conn.now) (λ _. ⊥) }
+{
+    tx.execute(
+        "INSERT INTO usage (login, day, settled, reserved) VALUES (?1, ?2, ?3, ?4)",
+        &usage_params(usage),
+    )
+}
+
+fn totals_params(usage: &UsageRecord) -> [ValueRef<'_>; 4]
+    ensures { bound result ≡ totals_params usage.now }
 {
     [
         ValueRef::Int(i64::from(usage.settled)),
         ValueRef::Int(i64::from(usage.reserved)),
-        ValueRef::Blob(usage.login),
+        ValueRef::Blob(usage.login.as_slice()),
         ValueRef::Int(i64::from(usage.day)),
     ]
 }
 
-/// Writes the totals of a login and day that has a row.
-pub fn set_usage<S: Alter>(
-    tx: &mut Transaction<'_, S>,
-    usage: &NewUsage<'_>,
-) -> Result<usize, Error>
+fn update_usage<S: Alter>(tx: &mut Transaction<'_, S>, usage: &UsageRecord) -> Result<usize, Error>
     requires inside { HasCleanDisk (state S.Store tx.old.conn.now)
         → IsTrue (state S.Store tx.old.conn.now).in_transaction }
     ensures same_reference { tx.new.conn.ghost_name ≡ tx.old.conn.ghost_name }
-    ensures goes_on { HasCleanDisk (state S.Store tx.new.conn.now)
-        → OnOk result (GoesOn (state S.Store tx.old.conn.now) (state S.Store tx.new.conn.now)) }
-    ensures set { HasCleanDisk (state S.Store tx.new.conn.now)
-        → OnOk result (SetsUsage (usage_in usage.now) (state S.Store tx.old.conn.now) (state S.Store tx.new.conn.now)) }
+    ensures inside { HasCleanDisk (state S.Store tx.new.conn.now)
+        → OnOk result (IsTrue (state S.Store tx.new.conn.now).in_transaction) }
+    ensures written { HasCleanDisk (state S.Store tx.new.conn.now)
+        → OnOk result (WritesUsage (Update usage.now) (state S.Store tx.old.conn.now) (state S.Store tx.new.conn.now)) }
     ensures kept { HasCleanDisk (state S.Store tx.new.conn.now)
         → KeepsCommit (state S.Store tx.old.conn.now) (state S.Store tx.new.conn.now) }
     ensures survives { Survives (state S.Store tx.old.conn.now) (state S.Store tx.new.conn.now) (λ _. ⊥) }
@@ -126,4 +139,27 @@ pub fn set_usage<S: Alter>(
         "UPDATE usage SET settled = ?1, reserved = ?2 WHERE login = ?3 AND day = ?4",
         &totals_params(usage),
     )
+}
+
+/// Writes what becomes of the table, and answers how many rows that are.
+pub fn write_usage<S: Alter>(
+    tx: &mut Transaction<'_, S>,
+    write: &Write<UsageRecord>,
+) -> Result<usize, Error>
+    requires inside { HasCleanDisk (state S.Store tx.old.conn.now)
+        → IsTrue (state S.Store tx.old.conn.now).in_transaction }
+    ensures same_reference { tx.new.conn.ghost_name ≡ tx.old.conn.ghost_name }
+    ensures inside { HasCleanDisk (state S.Store tx.new.conn.now)
+        → OnOk result (IsTrue (state S.Store tx.new.conn.now).in_transaction) }
+    ensures written { HasCleanDisk (state S.Store tx.new.conn.now)
+        → OnOk result (WritesUsage write.now (state S.Store tx.old.conn.now) (state S.Store tx.new.conn.now)) }
+    ensures kept { HasCleanDisk (state S.Store tx.new.conn.now)
+        → KeepsCommit (state S.Store tx.old.conn.now) (state S.Store tx.new.conn.now) }
+    ensures survives { Survives (state S.Store tx.old.conn.now) (state S.Store tx.new.conn.now) (λ _. ⊥) }
+{
+    match write {
+        Write::Keep => Ok(0),
+        Write::Insert(usage) => insert_usage(tx, usage),
+        Write::Update(usage) => update_usage(tx, usage),
+    }
 }

@@ -1,0 +1,160 @@
+-- Where one of the five tables changes, the other four hold what they held.
+use Rattle.std.proofs.Common.{arith, slice_index_or, ◌≡◌, ◌≢◌, ◌==◌, ℕ, find, List, [], ◌∷◌, Some, sym, ap, subst, ◌∙◌}
+use Rattle.sqlite_trees.proofs.ListLemmas.{all-slice_get}
+use Rattle.sqlite.specs.Schema.{Schema}
+use Rattle.sqlite.specs.Table.{Table}
+use Rattle.sqlite.specs.Tree.{Trees}
+use Rattle.sqlite.specs.Effect.{Database}
+use Rattle.mq_rows.specs.declared.record.SettingRecord.{SettingRecord}
+use Rattle.mq_rows.specs.declared.record.AnswerRecord.{AnswerRecord}
+use Rattle.mq_rows.specs.declared.record.TransactionRecord.{TransactionRecord}
+use Rattle.mq_rows.specs.declared.record.UsageRecord.{UsageRecord}
+use Rattle.mq_rows.specs.declared.record.CeilingRecord.{CeilingRecord}
+use Rattle.mq_rows.specs.Tables.{Tables}
+use Rattle.mq_tables.specs.Tables.{setting_table, answer_table, trans_table, usage_table, ceiling_table}
+use Rattle.mq_tables.specs.Places.{IsTableIn}
+use Rattle.mq_tables.specs.Records.{HoldsAnswers, HoldsTransactions, HoldsUsage, HoldsCeilings}
+use Rattle.mq_tables.specs.Settings.{setting_fields}
+use Rattle.mq_tables.specs.Ledger.{IsLedgerIn, HasLedger, setting_in}
+use Rattle.mq_tables.specs.Updates.{KeepsOthers}
+
+-- two tables of different names have different trees
+trees_differ : (s : Schema) (one two : Table) (m n : ℕ) → IsTableIn s one m → IsTableIn s two n → one.name ≢ two.name → m ≢ n
+trees_differ s one two m n p q apart same =
+    let both : Some (record one { tree = m }) ≡ Some (record two { tree = n }) = sym p.found ∙ ap (λ k. find (λ (t : Table). t.tree == k) s.tables) same ∙ q.found in
+    let tables : record one { tree = m } ≡ record two { tree = n } = cc in
+    apart (ap (λ (t : Table). t.name) tables)
+
+-- what is kept of each other table is kept of this one
+kept_of : (s : Schema) (one two : Table) (m n : ℕ) (old new : Trees) → IsTableIn s one m → IsTableIn s two n → one.name ≢ two.name → KeepsOthers s n old new → new m ≡ old m
+kept_of s one two m n old new p q apart h = all-slice_get _ s.tables p.at (record one { tree = m }) p.there h (trees_differ s one two m n p q apart)
+
+-- their names differ
+setting_answer : setting_table.name ≢ answer_table.name
+setting_answer e = absurd cc
+
+setting_trans : setting_table.name ≢ trans_table.name
+setting_trans e = absurd cc
+
+setting_usage : setting_table.name ≢ usage_table.name
+setting_usage e = absurd cc
+
+setting_ceiling : setting_table.name ≢ ceiling_table.name
+setting_ceiling e = let first : 115 ≡ 99 = ap (λ name. slice_index_or name 0 0) e in absurd (omega (arith, first))
+
+answer_trans : answer_table.name ≢ trans_table.name
+answer_trans e = absurd cc
+
+answer_usage : answer_table.name ≢ usage_table.name
+answer_usage e = absurd cc
+
+answer_ceiling : answer_table.name ≢ ceiling_table.name
+answer_ceiling e = absurd cc
+
+trans_usage : trans_table.name ≢ usage_table.name
+trans_usage e = let first : 116 ≡ 117 = ap (λ name. slice_index_or name 0 0) e in absurd (omega (arith, first))
+
+trans_ceiling : trans_table.name ≢ ceiling_table.name
+trans_ceiling e = absurd cc
+
+usage_ceiling : usage_table.name ≢ ceiling_table.name
+usage_ceiling e = absurd cc
+
+answer_setting : answer_table.name ≢ setting_table.name
+answer_setting e = setting_answer (sym e)
+
+trans_setting : trans_table.name ≢ setting_table.name
+trans_setting e = setting_trans (sym e)
+
+trans_answer : trans_table.name ≢ answer_table.name
+trans_answer e = answer_trans (sym e)
+
+usage_setting : usage_table.name ≢ setting_table.name
+usage_setting e = setting_usage (sym e)
+
+usage_answer : usage_table.name ≢ answer_table.name
+usage_answer e = answer_usage (sym e)
+
+usage_trans : usage_table.name ≢ trans_table.name
+usage_trans e = trans_usage (sym e)
+
+ceiling_setting : ceiling_table.name ≢ setting_table.name
+ceiling_setting e = setting_ceiling (sym e)
+
+ceiling_answer : ceiling_table.name ≢ answer_table.name
+ceiling_answer e = answer_ceiling (sym e)
+
+ceiling_trans : ceiling_table.name ≢ trans_table.name
+ceiling_trans e = trans_ceiling (sym e)
+
+ceiling_usage : ceiling_table.name ≢ usage_table.name
+ceiling_usage e = usage_ceiling (sym e)
+
+module _ (old new : Database) (t : Tables) (l : HasLedger old t) (schema : new.schema ≡ old.schema) where
+  tables : IsLedgerIn new.schema l.at
+  tables = subst (λ s. IsLedgerIn s l.at) (sym schema) l.tables
+
+  pub setting_changed : KeepsOthers old.schema l.at.setting old.trees new.trees → (after : SettingRecord) → new.trees l.at.setting ≡ setting_fields (setting_in after) ∷ [] → HasLedger new (record t { setting = after })
+  setting_changed others after holds = record {
+    at = l.at;
+    tables = tables;
+    holds = record {
+      setting = holds;
+      answers = subst (λ rows. HoldsAnswers rows t.answers) (sym (kept_of old.schema _ _ _ _ _ _ l.tables.answer l.tables.setting answer_setting others)) l.holds.answers;
+      transactions = subst (λ rows. HoldsTransactions rows t.transactions) (sym (kept_of old.schema _ _ _ _ _ _ l.tables.trans l.tables.setting trans_setting others)) l.holds.transactions;
+      usage = subst (λ rows. HoldsUsage rows t.usage) (sym (kept_of old.schema _ _ _ _ _ _ l.tables.usage l.tables.setting usage_setting others)) l.holds.usage;
+      ceilings = subst (λ rows. HoldsCeilings rows t.ceilings) (sym (kept_of old.schema _ _ _ _ _ _ l.tables.ceiling l.tables.setting ceiling_setting others)) l.holds.ceilings;
+    };
+  }
+
+  pub answers_changed : KeepsOthers old.schema l.at.answer old.trees new.trees → (after : List AnswerRecord) → HoldsAnswers (new.trees l.at.answer) after → HasLedger new (record t { answers = after })
+  answers_changed others after holds = record {
+    at = l.at;
+    tables = tables;
+    holds = record {
+      setting = kept_of old.schema _ _ _ _ _ _ l.tables.setting l.tables.answer setting_answer others ∙ l.holds.setting;
+      answers = holds;
+      transactions = subst (λ rows. HoldsTransactions rows t.transactions) (sym (kept_of old.schema _ _ _ _ _ _ l.tables.trans l.tables.answer trans_answer others)) l.holds.transactions;
+      usage = subst (λ rows. HoldsUsage rows t.usage) (sym (kept_of old.schema _ _ _ _ _ _ l.tables.usage l.tables.answer usage_answer others)) l.holds.usage;
+      ceilings = subst (λ rows. HoldsCeilings rows t.ceilings) (sym (kept_of old.schema _ _ _ _ _ _ l.tables.ceiling l.tables.answer ceiling_answer others)) l.holds.ceilings;
+    };
+  }
+
+  pub transactions_changed : KeepsOthers old.schema l.at.trans old.trees new.trees → (after : List TransactionRecord) → HoldsTransactions (new.trees l.at.trans) after → HasLedger new (record t { transactions = after })
+  transactions_changed others after holds = record {
+    at = l.at;
+    tables = tables;
+    holds = record {
+      setting = kept_of old.schema _ _ _ _ _ _ l.tables.setting l.tables.trans setting_trans others ∙ l.holds.setting;
+      answers = subst (λ rows. HoldsAnswers rows t.answers) (sym (kept_of old.schema _ _ _ _ _ _ l.tables.answer l.tables.trans answer_trans others)) l.holds.answers;
+      transactions = holds;
+      usage = subst (λ rows. HoldsUsage rows t.usage) (sym (kept_of old.schema _ _ _ _ _ _ l.tables.usage l.tables.trans usage_trans others)) l.holds.usage;
+      ceilings = subst (λ rows. HoldsCeilings rows t.ceilings) (sym (kept_of old.schema _ _ _ _ _ _ l.tables.ceiling l.tables.trans ceiling_trans others)) l.holds.ceilings;
+    };
+  }
+
+  pub usage_changed : KeepsOthers old.schema l.at.usage old.trees new.trees → (after : List UsageRecord) → HoldsUsage (new.trees l.at.usage) after → HasLedger new (record t { usage = after })
+  usage_changed others after holds = record {
+    at = l.at;
+    tables = tables;
+    holds = record {
+      setting = kept_of old.schema _ _ _ _ _ _ l.tables.setting l.tables.usage setting_usage others ∙ l.holds.setting;
+      answers = subst (λ rows. HoldsAnswers rows t.answers) (sym (kept_of old.schema _ _ _ _ _ _ l.tables.answer l.tables.usage answer_usage others)) l.holds.answers;
+      transactions = subst (λ rows. HoldsTransactions rows t.transactions) (sym (kept_of old.schema _ _ _ _ _ _ l.tables.trans l.tables.usage trans_usage others)) l.holds.transactions;
+      usage = holds;
+      ceilings = subst (λ rows. HoldsCeilings rows t.ceilings) (sym (kept_of old.schema _ _ _ _ _ _ l.tables.ceiling l.tables.usage ceiling_usage others)) l.holds.ceilings;
+    };
+  }
+
+  pub ceilings_changed : KeepsOthers old.schema l.at.ceiling old.trees new.trees → (after : List CeilingRecord) → HoldsCeilings (new.trees l.at.ceiling) after → HasLedger new (record t { ceilings = after })
+  ceilings_changed others after holds = record {
+    at = l.at;
+    tables = tables;
+    holds = record {
+      setting = kept_of old.schema _ _ _ _ _ _ l.tables.setting l.tables.ceiling setting_ceiling others ∙ l.holds.setting;
+      answers = subst (λ rows. HoldsAnswers rows t.answers) (sym (kept_of old.schema _ _ _ _ _ _ l.tables.answer l.tables.ceiling answer_ceiling others)) l.holds.answers;
+      transactions = subst (λ rows. HoldsTransactions rows t.transactions) (sym (kept_of old.schema _ _ _ _ _ _ l.tables.trans l.tables.ceiling trans_ceiling others)) l.holds.transactions;
+      usage = subst (λ rows. HoldsUsage rows t.usage) (sym (kept_of old.schema _ _ _ _ _ _ l.tables.usage l.tables.ceiling usage_ceiling others)) l.holds.usage;
+      ceilings = holds;
+    };
+  }
