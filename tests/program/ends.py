@@ -28,6 +28,13 @@ def wait_for_listener(port, process):
         time.sleep(0.01)
 
 
+def apart(errors):
+    """The log's lines of what came on standard error, and what is printed behind them."""
+    lines = errors.splitlines(keepends=True)
+    log = [line for line in lines if line.startswith("[")]
+    return log, "".join(line for line in lines if not line.startswith("["))
+
+
 def toml(settings):
     def spelled(value):
         return f'"{value}"' if isinstance(value, str) else str(value)
@@ -103,10 +110,12 @@ def reset(peer):
 
 SILENCE = object()
 RESET = object()
+DRIP = object()
 
 
 class Script:
-    """A server that answers its connections by a list: bytes, SILENCE until the peer gives up, or RESET.
+    """A server that answers its connections by a list: bytes, SILENCE until the peer gives up, DRIP, a byte now and
+    then for as long, or RESET.
 
     A function in the list is given what came and makes the bytes. After the list nobody listens.
     """
@@ -141,6 +150,8 @@ class Script:
             self.heard.append(read_all(peer))
             if answer is SILENCE:
                 self.silent.append(peer)
+            elif answer is DRIP:
+                self.drip(peer)
             elif answer is RESET:
                 reset(peer)
             else:
@@ -153,6 +164,18 @@ class Script:
             if select.select([self.listener], [], [], 0.05)[0]:
                 return self.listener.accept()[0]
         return None
+
+    def drip(self, peer):
+        """A reply of 65,535 bytes, one each tenth of a second."""
+        try:
+            for byte in b"\xff" * 65_537:
+                if self.over:
+                    break
+                peer.sendall(bytes([byte]))
+                time.sleep(0.1)
+        except OSError:
+            pass
+        peer.close()
 
     @staticmethod
     def give(peer, reply):

@@ -1,7 +1,7 @@
 """`limit` and `report`, asked of the real server and of one that answers by a script."""
 import time
 
-from ends import RESET, SILENCE, Script, Server, free_port
+from ends import DRIP, RESET, SILENCE, Script, Server, free_port
 from wire import BAD, RETRY, frame, full, granted, identity, limit, number, page, page_reply, release, reserve, row, settle, text, usage
 
 ADMIN = {"host": b"admin", "run": 7}
@@ -105,6 +105,12 @@ def limit_by_script(world, checks):
         took = time.monotonic() - start
     checks.equal("limit of a silent server", (came, server.heard), (unavailable, [asked] * 3))
     checks.holds("limit of a silent server: three tries of 2,000 ms", 5.9 < took < 8, "6 s", f"{took:.1f} s")
+    with Script([DRIP] * 3) as server:
+        start = time.monotonic()
+        came = report(world, server.address)
+        took = time.monotonic() - start
+    checks.equal("report of a server that drips", came, unavailable)
+    checks.holds("report of a server that drips: three tries of 2,000 ms", 5.9 < took < 8, "6 s", f"{took:.1f} s")
 
 
 def usage_reply(login=b"u", day=1):

@@ -1,5 +1,5 @@
 """Settings of the filter: accepted ones end in the refusal of an empty input, so that nothing is asked."""
-from ends import free_port
+from ends import apart, free_port
 
 ACCEPTED = "input ended before config ready"
 GOOD = {"host": '"mx1"', "server": '"127.0.0.1:7025"'}
@@ -16,19 +16,20 @@ def run(world, checks):
 
 
 def expect(world, checks, what, content, wanted):
-    came = world.run("filter", "--config", world.new_file(content), "--run", "1")
-    checks.equal(f"filter settings, {what}", came, (1, b"", f"mailquota: {wanted}\n"))
+    status, output, errors = world.run("filter", "--config", world.new_file(content), "--run", "1")
+    checks.equal(f"filter settings, {what}", (status, output, apart(errors)[1]), (1, b"", f"mailquota: {wanted}\n"))
 
 
 def files(world, checks):
     for what, path in [("no file", f"{world.folder}/none"), ("a folder", world.folder), ("an empty path", "")]:
         came = world.run("filter", "--config", path)
-        checks.equal(f"filter settings, {what}", came, (1, b"", "mailquota: settings can't be read\n"))
+        log = f"[ERROR mq_program::fault] {path}: settings can't be read\n"
+        checks.equal(f"filter settings, {what}", came, (1, b"", log + "mailquota: settings can't be read\n"))
     text = text_of()
     expect(world, checks, "65,536 bytes", text + "#" * (65_536 - len(text)), ACCEPTED)
     expect(world, checks, "65,537 bytes", text + "#" * (65_537 - len(text)), "settings too large")
-    came = world.run("filter", "--config", "/dev/zero")
-    checks.equal("filter settings, a file without end", came, (1, b"", "mailquota: settings too large\n"))
+    status, output, errors = world.run("filter", "--config", "/dev/zero")
+    checks.equal("filter settings, a file without end", (status, output, apart(errors)[1]), (1, b"", "mailquota: settings too large\n"))
     for what, content in [
         ("no TOML", "host"),
         ("bytes that are no text", b'host = "\xff\xfe"\n'),

@@ -4,7 +4,7 @@ import socket
 import subprocess
 import time
 
-from ends import RESET, SECONDS, SILENCE, Script, free_port
+from ends import DRIP, RESET, SECONDS, SILENCE, Script, apart, free_port
 from wire import BAD, RETRY, frame, granted, identity, number, reserve, settled
 
 REGISTRATION = b"".join(
@@ -176,6 +176,12 @@ def no_server(world, checks):
         start = time.monotonic()
         status, output, _ = world.filter(server.address, INPUT, timeout=200)
         took = time.monotonic() - start
+    with Script([DRIP, DRIP]) as server:
+        start = time.monotonic()
+        dripped = world.filter(server.address, INPUT, tries=2, timeout=300)[:2]
+        dripping = time.monotonic() - start
+    good = dripped == (0, REGISTRATION + answer(SERVICE)) and 0.55 < dripping < 2
+    checks.holds("a server that drips: 2 tries of 300 ms", good, "451 after 600 ms", (dripped, f"{dripping:.2f} s"))
     checks.holds("a silent server: 3 tries of 200 ms", (status, output) == (0, REGISTRATION + answer(SERVICE)) and 0.55 < took < 2, "451 after 600 ms", (output, f"{took:.2f} s"))
 
 
@@ -219,15 +225,19 @@ def faults(world, checks):
     ]
     for what, text, written, error in cases:
         came = world.filter("127.0.0.1:1", text)
-        checks.equal(f"{what}: status, lines, errors", came, (1, written, f"mailquota: {error}\n"))
+        log = f"[ERROR mq_program::filter] the filter ends: {error}\n"
+        checks.equal(f"{what}: status, lines, errors", came, (1, written, f"{log}mailquota: {error}\n"))
+    quiet = world.filter("127.0.0.1:1", b"", log="off")
+    checks.equal('an empty input with log = "off"', quiet, (1, b"", "mailquota: input ended before config ready\n"))
     came = world.filter("127.0.0.1:1", ready + b"x" * 65_536 + b"\n" + b"\n" + b"anything|else\n")
     checks.equal("a line of 65,536 bytes, an empty and a strange one: passed over", came, (0, REGISTRATION, ""))
     with open("/dev/full", "wb") as device:
         file = world.filter_file("127.0.0.1:1")
         status, _, errors = world.run("filter", "--config", file, text=CONFIG, output=device)
-    checks.equal("an output that takes nothing", (status, errors), (1, "mailquota: write failed\n"))
+    checks.equal("an output that takes nothing", (status, apart(errors)[1]), (1, "mailquota: write failed\n"))
     with Script([GRANTED]) as server:
-        came = world.filter(server.address, INPUT + b"report|0.6|")
+        status, output, errors = world.filter(server.address, INPUT + b"report|0.6|")
+    came = (status, output, apart(errors)[1])
     checks.equal("an end inside a line after an answer", came, (1, REGISTRATION + answer(PROCEED), "mailquota: input ends inside a line\n"))
 
 
@@ -241,7 +251,8 @@ def a_socket_that_breaks(world, checks):
     select.select([ours], [], [], SECONDS)
     ours.close()
     _, errors = process.communicate(timeout=SECONDS)
-    checks.equal("a socket pair whose other end went", (process.returncode, errors), (1, b"mailquota: read failed\n"))
+    came = (process.returncode, apart(errors.decode())[1])
+    checks.equal("a socket pair whose other end went", came, (1, "mailquota: read failed\n"))
 
 
 def a_thousand_recipients(world, checks):

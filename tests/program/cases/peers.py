@@ -1,9 +1,14 @@
 """What a peer may do to the server: it answers what is a request, logs what isn't, and goes on."""
+import os
 import random
+import resource
+import select
 import socket
+import threading
 import time
 
-from ends import Server, read_all, reset
+from cases.filters import INPUT, PROCEED, REGISTRATION, answer
+from ends import SECONDS, Server, read_all, reset
 from wire import BAD, frame, full, granted, limit, number, page, page_reply, release, released, reserve, row, settle, settled, usage
 
 NOTHING_USED = bytes.fromhex("0013" "8b" "0175" "00000001" "00000000" "00000000" "00000003")
@@ -130,6 +135,8 @@ def slow_and_broken(world, checks):
         resets(server, checks)
         waits_for_its_turn(server, checks)
     a_peer_that_reads_nothing(world, checks)
+    peers_that_drip(world, checks)
+    no_files_left(world, checks)
 
 
 def resets(server, checks):
@@ -156,7 +163,7 @@ def waits_for_its_turn(server, checks):
 
 def a_peer_that_reads_nothing(world, checks):
     """A page of ten logins of 255 bytes is 2,686 bytes; 10,000 of them don't fit into what the kernel keeps."""
-    with Server(world, timeout=400) as server:
+    with Server(world, timeout=1_000) as server:
         logins = [b"%03d" % n + b"x" * 252 for n in range(10)]
         sent = b"".join(reserve(n + 1, txn=n + 1, login=login) for n, login in enumerate(logins))
         checks.equal("ten logins", server.ask(sent), b"".join(granted(n + 1, 1) for n in range(10)))
@@ -166,6 +173,68 @@ def a_peer_that_reads_nothing(world, checks):
         peer.sendall(page() * 10_000)
         goes_on(server, checks, "a peer that reads nothing", before, word=(name_of(peer), "write failed"))
         peer.close()
+
+
+def drip(peer, sent, pause):
+    """Sends byte by byte until the server has had enough; gives the seconds that it took."""
+    start = time.monotonic()
+    try:
+        for byte in sent:
+            peer.sendall(bytes([byte]))
+            if select.select([peer], [], [], pause)[0] and not peer.recv(65_536):
+                break
+    except OSError:
+        pass
+    peer.close()
+    return time.monotonic() - start
+
+
+def peers_that_drip(world, checks):
+    """A byte now and then, each inside the timeout: a connection ends after two timeouts all the same."""
+    with Server(world, timeout=400) as server:
+        before = len(server.log_lines())
+        peer = server.connect()
+        name = name_of(peer)
+        took = drip(peer, reserve(1) * 100, 0.1)
+        checks.holds("a peer that drips: two timeouts end it", 0.7 < took < 1.5, "after 800 ms", f"{took:.2f} s")
+        goes_on(server, checks, "a peer that drips", before, word=(name, "read failed"))
+    with Server(world, timeout=200, default=1_000) as server:
+        over = threading.Event()
+
+        def drip_on():
+            while not over.is_set():
+                drip(server.connect(), reserve(1) * 100, 0.1)
+
+        dripping = threading.Thread(target=drip_on, daemon=True)
+        dripping.start()
+        time.sleep(0.05)
+        came = [world.filter(server.address, INPUT, timeout=1_000)[:2] for _ in range(5)]
+        over.set()
+        dripping.join(timeout=SECONDS)
+        checks.equal("a filter beside a peer that drips all the while", came, [(0, REGISTRATION + answer(PROCEED))] * 5)
+
+
+def no_files_left(world, checks):
+    """accept fails while the server may open no file, and is tried again until it may."""
+    with Server(world) as server:
+        before = len(server.log_lines())
+        taken = {int(name) for name in os.listdir(f"/proc/{server.process.pid}/fd")}
+        free = min(set(range(len(taken) + 1)) - taken)
+        was = resource.prlimit(server.process.pid, resource.RLIMIT_NOFILE)
+        resource.prlimit(server.process.pid, resource.RLIMIT_NOFILE, (free, was[1]))
+        # the accept that waits has its file already
+        server.connect().close()
+        peer = server.connect()
+        peer.sendall(usage())
+        peer.shutdown(socket.SHUT_WR)
+        time.sleep(0.5)
+        resource.prlimit(server.process.pid, resource.RLIMIT_NOFILE, was)
+        checks.equal("a server that may open no file: the reply once it may", read_all(peer), NOTHING_USED)
+        peer.close()
+        lines = server.log_lines()[before:]
+        waits = [line for line in lines if "no connection accepted: Too many open files" in line]
+        good = 3 <= len(waits) <= 8 and len(lines) - len(waits) <= 1
+        checks.holds("a server that may open no file: the log", good, "a line for each attempt, with pauses that grow", lines)
 
 
 def random_bytes(world, checks):
@@ -188,7 +257,7 @@ def random_bytes(world, checks):
 
 
 def ends(world, checks):
-    with Server(world) as server:
+    with Server(world, timeout=20_000) as server:
         peer = server.connect()
         peer.sendall(usage() * 9_999)
         came = b""
@@ -216,7 +285,13 @@ def ends(world, checks):
         checks.equal('log = "off": status and log', (server.status(), server.log_lines()), (0, []))
     with Server(world) as one:
         two = world.run("server", "--config", world.new_file(f'listen = "{one.address}"\nstore = "memory"\ndefault = 3\noffset = 0\n'))
-        checks.equal("a port in use", two, (1, b"", "mailquota: listen failed\n"))
+        log = f"[ERROR mq_program::server] listening on {one.address}: Address already in use (os error 98)\n"
+        checks.equal("a port in use", two, (1, b"", log + "mailquota: listen failed\n"))
+    with Server(world, connections=1, log="info") as server:
+        server.ask(usage())
+        begin = f"[INFO  mq_program::server] listening on {server.address} for 1 connections"
+        end = "[INFO  mq_program::server] ending after 1 connections"
+        checks.equal('log = "info": status, start and end', (server.status(), server.log_lines()), (0, [begin, end]))
     with Server(world, offset=60) as server:
         asked = reserve(1, at=1_576_105_199) + reserve(2, txn=2, at=1_576_105_200) + page(day=18_241) + page(day=18_242)
         wanted = granted(1, 1) + granted(2, 1) + page_reply([row(b"u", 0, 1, 3)], day=18_241) + page_reply([row(b"u", 0, 1, 3)], day=18_242)

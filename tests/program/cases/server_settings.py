@@ -1,6 +1,8 @@
 """Settings of the server: accepted ones end in the refusal of a port that is in use, so that nothing is served."""
 import socket
 
+from ends import apart
+
 ACCEPTED = "listen failed"
 
 
@@ -22,13 +24,14 @@ class Cases:
         return "".join(f"{key} = {value}\n" for key, value in {**self.good, **settings}.items() if value is not None)
 
     def expect(self, what, content, wanted, *words):
-        came = self.world.run("server", "--config", self.world.new_file(content), *words)
-        self.checks.equal(f"server settings, {what}", came, (1, b"", f"mailquota: {wanted}\n"))
+        status, output, errors = self.world.run("server", "--config", self.world.new_file(content), *words)
+        self.checks.equal(f"server settings, {what}", (status, output, apart(errors)[1]), (1, b"", f"mailquota: {wanted}\n"))
 
     def files(self):
         for what, path in [("no file", f"{self.world.folder}/none"), ("a folder", self.world.folder)]:
             came = self.world.run("server", "--config", path)
-            self.checks.equal(f"server settings, {what}", came, (1, b"", "mailquota: settings can't be read\n"))
+            log = f"[ERROR mq_program::fault] {path}: settings can't be read\n"
+            self.checks.equal(f"server settings, {what}", came, (1, b"", log + "mailquota: settings can't be read\n"))
         text = self.text_of()
         self.expect("65,536 bytes", text + "#" * (65_536 - len(text)), ACCEPTED)
         self.expect("65,537 bytes", text + "#" * (65_537 - len(text)), "settings too large")
