@@ -1,5 +1,5 @@
 -- What `open` answers to what the store answers.
-use Rattle.std.specs.Prelude.{◌≡◌, ◌⊎◌, ℕ, ℤ, pos, if◌then◌else◌, Option, Some, None, Result, Ok, Err}
+use Rattle.std.specs.Prelude.{◌≡◌, ◌⊎◌, ℕ, pos, if◌then◌else◌, Option, Some, None, Result, Ok, Err}
 use Rattle.std.specs.Ordering.{int_eq}
 use Rattle.sqlite.specs.State.{State}
 use Rattle.sqlite.specs.declared.error.ErrorCode.{ErrorCode}
@@ -35,7 +35,11 @@ fault_of _ = NotOurs
 -- version, offset and default, checked in this order
 abbrev pub fault_in : Zone → ℕ → Setting → Option OpenFault
 fault_in zone default s =
-    if int_eq s.version (pos 1) then (if int_eq s.minutes zone then (if int_eq s.cap (pos default) then None else Some DefaultDiffers) else Some ZoneDiffers) else Some NotOurs
+    if int_eq s.version (pos 1) then (
+    if int_eq s.minutes zone then (if int_eq s.cap (pos default) then None else Some DefaultDiffers)
+    else Some ZoneDiffers
+    )
+    else Some NotOurs
 
 abbrev pub judged : Zone → ℕ → Result (Option Setting) Error → Option OpenFault
 judged zone default (Ok (Some s)) = fault_in zone default s
@@ -50,4 +54,5 @@ pub record IsJudged (zone : Zone) (default : ℕ) (old new : State) (fault : Opt
 
 -- the fault is that of this row, or memory or the disk stopped the reading
 abbrev pub IsOf : Zone → ℕ → SettingRow → Option OpenFault → Type 0
-IsOf zone default s fault = (fault ≡ fault_in zone default (shown_of s)) ⊎ ((fault ≡ Some Memory) ⊎ (fault ≡ Some Store))
+IsOf zone default s fault =
+    (fault ≡ fault_in zone default (shown_of s)) ⊎ ((fault ≡ Some Memory) ⊎ (fault ≡ Some Store))

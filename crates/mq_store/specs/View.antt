@@ -12,7 +12,9 @@ pub record LedgerView (S : Type 0) : Type 0 where
 
 abbrev pub view_code : {S : Type 0} → Coded S → Coded (LedgerView S)
 view_code {S} store =
-    code_by (Held S × (ℤ × ℕ)) (coded× (held_code store) (coded× coded_ℤ coded_ℕ)) (λ v. (v.connection, (v.zone, v.default))) (λ p. record { connection = p.0; zone = p.1.0; default = p.1.1 }) (λ _. refl)
+    code_by (Held S × (ℤ × ℕ)) (coded× (held_code store) (coded× coded_ℤ coded_ℕ))
+    (λ v. (v.connection, (v.zone, v.default))) (λ p. record { connection = p.0; zone = p.1.0; default = p.1.1 })
+    (λ _. refl)
 
 -- no transaction is open, no statement is cut short, and the default is in range
 pub record IsReady {S : Type 0} (l : LedgerView S) : Type 0 where

@@ -3,10 +3,12 @@ ghost use Rattle.sqlite.specs.Held.{state};
 ghost use Rattle.sqlite.specs.State.{HasCleanDisk};
 ghost use Rattle.sqlite.specs.Tree.{Trees};
 ghost use Rattle.mq_frame.specs.Range.{IsAmount};
-ghost use Rattle.mq_tables.specs.Making.{has_ledger_table, IsMadeOver, AreMadeOver};
+ghost use Rattle.mq_ledger.specs.Day.{IsOffset};
+ghost use Rattle.mq_tables.specs.Making.{has_ledger_table, AreUnnamed, HasCounters, IsMadeOver, AreMadeOver};
 ghost use Rattle.mq_tables.specs.Reading.{Spares};
 ghost use Rattle.mq_tables.specs.Settings.{SettingRow, HasSetting};
 ghost use Rattle.mq_store.specs.Opening.{made_with, IsJudged, IsOf};
+ghost use Rattle.mq_store.specs.Soundness.{HasKept, IsNew, IsOpened};
 ghost use Rattle.mq_store.specs.declared.fault.OpenFault.TheVariants.{NotOurs};
 
 use crate::fault::{OpenFault, OpenRefused, judged};
@@ -57,6 +59,17 @@ fn fault_in_store<S: Alter>(
     judged(zone, default, &read)
 }
 
+/// What the tables are made with.
+fn new_setting(zone: Zone, default: u32) -> NewSetting
+    ensures value { result ≡ made_with zone default }
+    ensures in_range { IsOffset zone }
+{
+    NewSetting {
+        minutes: zone.minutes(),
+        cap: default,
+    }
+}
+
 /// What a refusal to make the tables is answered by.
 fn create_fault(error: &Error) -> OpenFault
     ensures { result ≢ NotOurs }
@@ -78,12 +91,18 @@ impl<S: Alter> SqlLedger<S> {
         zone: Zone,
         default: u32,
     ) -> Result<SqlLedger<S>, OpenRefused<S>>
-        requires { IsAmount default }
+        requires in_range { IsAmount default }
         ensures lent { IfOk result (λ l. (l.zone ≡ zone) × (l.default ≡ default)) }
         ensures made { IfOk result (λ l. HasCleanDisk (state S.Store l.connection)
             → IsMadeOver (made_with zone default) (state S.Store connection).now (state S.Store l.connection).now) }
         ensures open { IfOk result (λ l. HasCleanDisk (state S.Store l.connection)
             → IsTrue (state S.Store l.connection).is_open) }
+
+        // It is a sound ledger of the empty history, where no foreign key that was there names a
+        // table of ours.
+        ensures sound { IfOk result (λ l. HasCleanDisk (state S.Store l.connection)
+            → HasCounters (state S.Store connection) → AreUnnamed (state S.Store connection).now.schema
+            → IsNew zone default (state S.Store l.connection)) }
         ensures not_ours { IfErr result (λ e. e.fault ≡ NotOurs
             → IsTrue (has_ledger_table (state S.Store connection).now.schema)) }
         ensures ours_ok { IfOk result (λ _. has_ledger_table (state S.Store connection).now.schema ≡ false) }
@@ -110,10 +129,7 @@ impl<S: Alter> SqlLedger<S> {
             return Err(OpenRefused { fault, connection });
         }
         connection.set_step_limit(None);
-        let made_with = NewSetting {
-            minutes: zone.minutes(),
-            cap: default,
-        };
+        let made_with = new_setting(zone, default);
         match make_ledger(&mut connection, &made_with) {
             Ok(()) => Ok(SqlLedger {
                 connection,
@@ -136,7 +152,7 @@ impl<S: Alter> SqlLedger<S> {
         zone: Zone,
         default: u32,
     ) -> Result<SqlLedger<S>, OpenRefused<S>>
-        requires { IsAmount default }
+        requires in_range { IsAmount default }
         ensures lent { IfOk result (λ l. (l.zone ≡ zone) × (l.default ≡ default)) }
 
         // Over any store: what the store answers to the one query decides.
@@ -152,6 +168,10 @@ impl<S: Alter> SqlLedger<S> {
         ensures exact_err { IfErr result (λ e. HasCleanDisk (state S.Store e.connection)
             → connection.in_transaction ≡ false → (s : SettingRow)
             → HasSetting (state S.Store connection).now s → IsOf zone default s (Some e.fault)) }
+
+        // Over sound tables: they are this ledger's, and mean what they meant.
+        ensures sound { IfOk result (λ l. HasKept (state S.Store l.connection)
+            → IsOpened zone default (state S.Store connection) (state S.Store l.connection)) }
 
         // Nothing is written.
         ensures spares_ok { IfOk result (λ l. HasCleanDisk (state S.Store l.connection)

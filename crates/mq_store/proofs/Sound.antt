@@ -1,0 +1,97 @@
+-- A ledger that was just made is sound, and one that is opened over sound tables.
+use Rattle.std.proofs.Common.{arith, length, ◌≡◌, inl, inr, ℕ, ℤ, pos, List, [], ◌∷◌, map, Bool, true, false, Some, None, codes, refl, sym, ap, ap₂, subst, ◌∙◌}
+use Rattle.std.specs.Prelude.{if◌then◌else◌, slice_get, option_and_then, option_map, unwrap_or}
+use Rattle.std.specs.List.{filter_map}
+use Rattle.std.specs.Ordering.{int_eq}
+use Rattle.std.specs.Cmp.{signed_Decides}
+use Rattle.sqlite_schema.specs.Names.{table_named}
+use Rattle.sqlite.specs.Order.{column}
+use Rattle.sqlite.specs.Effect.{Database}
+use Rattle.sqlite.specs.State.{State}
+use Rattle.mq_frame.specs.Range.{IsAmount}
+use Rattle.mq_frame.specs.Reading.{request_at}
+use Rattle.mq_ledger.specs.declared.zone.Zone.{Zone}
+use Rattle.mq_ledger.specs.Answer.{build}
+use Rattle.mq_ledger.specs.Day.{IsOffset, day_of}
+use Rattle.mq_ledger.specs.Legal.{IsLegal, IsLegalBook}
+use Rattle.mq_rows.specs.declared.record.AnswerRecord.{AnswerRecord}
+use Rattle.mq_rows.specs.Tables.{Tables, AreRows}
+use Rattle.mq_tables.specs.Answers.{blob_in, bodies_in, rows_named}
+use Rattle.mq_tables.specs.Ledger.{HasLedger, setting_in}
+use Rattle.mq_tables.specs.Making.{AreUnnamed, IsMadeOver, new_rows}
+use Rattle.mq_tables.specs.Reading.{Spares}
+use Rattle.mq_tables.specs.Records.{answer_fields}
+use Rattle.mq_tables.specs.Settings.{SettingRow, HasSetting}
+use Rattle.sqlite.specs.Does.{lacks_sequence}
+use Rattle.mq_store.specs.declared.fault.OpenFault.TheVariants.{ZoneDiffers, DefaultDiffers}
+use Rattle.mq_store.specs.Opening.{made_with, IsOf}
+use Rattle.mq_store.specs.Soundness.{requests_in, book_in, HasKept, IsSound, IsNew, IsOpened}
+
+bodies_of : (answers : List AnswerRecord) → filter_map (λ row. blob_in (column row 5)) (map answer_fields answers) ≡ map (λ a. a.request) answers
+bodies_of [] = refl
+bodies_of (a ∷ more) = ap (λ bodies. a.request ∷ bodies) (bodies_of more)
+
+rows_are : (db : Database) (t : Tables) → HasLedger db t → rows_named db (codes "answer") ≡ map answer_fields t.answers
+rows_are db t l =
+    let at : option_and_then (slice_get db.schema.tables) (table_named db.schema (codes "answer")) ≡ slice_get db.schema.tables l.tables.answer.at = ap (option_and_then (slice_get db.schema.tables)) l.tables.answer.named in
+    ap (λ o. unwrap_or (option_map db.trees (option_map (λ t. t.tree) o)) []) (at ∙ l.tables.answer.there) ∙ l.holds.answers.rows
+
+-- what the tables mean is what their answers mean
+pub bodies_are : (db : Database) (t : Tables) → HasLedger db t → bodies_in db ≡ map (λ a. a.request) t.answers
+bodies_are db t l = ap (filter_map (λ row. blob_in (column row 5))) (rows_are db t l) ∙ bodies_of t.answers
+
+pub made_new : (zone : Zone) (default : ℕ) (old new : State) → IsOffset zone → IsAmount default → IsMadeOver (made_with zone default) old.now new.now → HasKept new → lacks_sequence old.now.schema ≡ false → AreUnnamed old.now.schema → IsNew zone default new
+made_new zone default old new offset amount made kept counters unnamed =
+    let l = (made.made counters).ledger unnamed in
+    let none : requests_in new.now ≡ [] = ap (filter_map request_at) (bodies_are new.now (new_rows (made_with zone default)) l) in
+    record {
+      sound = record {
+        kept = kept;
+        legal = record { zone = offset; default = amount; legal = subst (λ rs. IsLegal (day_of zone) default (build (day_of zone) default rs)) (sym none) (record { range = λ k d low. absurd (omega (arith, low)); distinct = refl; built = refl }) };
+        tables = new_rows (made_with zone default);
+        holds = l;
+        rows = subst (λ rs. AreRows (record { zone = zone; default = default; history = build (day_of zone) default rs }) (new_rows (made_with zone default))) (sym none)
+            (record { setting = refl; answers = refl; transactions = λ t. refl; usage = λ l d. refl; ceilings = λ l d. refl });
+      };
+      blank = none;
+    }
+
+-- ---- the row of settings agrees
+
+same_number : (a b : ℤ) → int_eq a b ≡ true → a ≡ b
+same_number a b hit = (signed_Decides a b).0 hit
+
+agrees : (zone : Zone) (default : ℕ) (z : Zone) (d n : ℕ) → IsOf zone default (record { version = pos 1; minutes = z; cap = pos d; arrivals = pos n }) None → (z ≡ zone) × (d ≡ default)
+agrees zone default z d n (inr (inl e)) = absurd cc
+agrees zone default z d n (inr (inr e)) = absurd cc
+agrees zone default z d n (inl e) = go (int_eq z zone) (int_eq (pos d) (pos default)) refl refl e
+  where
+    go : (a b : Bool) → int_eq z zone ≡ a → int_eq (pos d) (pos default) ≡ b
+        → None ≡ (if a then (if b then None else Some DefaultDiffers) else Some ZoneDiffers) → (z ≡ zone) × (d ≡ default)
+    go true true p q e = (same_number z zone p, (let is : pos d ≡ pos default = same_number (pos d) (pos default) q in cc))
+    go true false p q e = absurd cc
+    go false b p q e = absurd cc
+
+setting_of : (db : Database) (t : Tables) → HasLedger db t → HasSetting db (setting_in t.setting)
+setting_of db t l = record { tree = l.at.setting; table = l.tables.setting; row = l.holds.setting }
+
+pub opens : (zone : Zone) (default : ℕ) (old new : State) → ((s : SettingRow) → HasSetting old.now s → IsOf zone default s None) → Spares old new → HasKept new → IsOpened zone default old new
+opens zone default old new exact spares kept = record {
+  opened = λ z d sound.
+      let of = exact (setting_in sound.tables.setting) (setting_of old.now sound.tables sound.holds) in
+      let same = agrees zone default z d (length (book_in z d old.now).history) (subst (λ s. IsOf zone default (setting_in s) None) sound.rows.setting of) in
+      let now : new.now ≡ old.now = spares.now kept.is_open in
+      let zoned : IsSound zone d old = subst (λ k. IsSound k d old) same.0 sound in
+      let meant : IsSound zone default old = subst (λ k. IsSound zone k old) same.1 zoned in (
+        same.0,
+        same.1,
+        record {
+          kept = kept;
+          legal = subst (λ db. IsLegalBook (book_in zone default db)) (sym now) meant.legal;
+          tables = meant.tables;
+          holds = subst (λ db. HasLedger db meant.tables) (sym now) meant.holds;
+          rows = subst (λ db. AreRows (book_in zone default db) meant.tables) (sym now) meant.rows;
+        },
+        ap (book_in zone default) now ∙ sym (ap₂ (λ k n. book_in k n old.now) same.0 same.1),
+      );
+}

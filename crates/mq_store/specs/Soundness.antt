@@ -1,0 +1,52 @@
+-- What a store means as a ledger, and when it is a sound one.
+use Rattle.std.specs.Prelude.{◌≡◌, ℕ, List, [], IsTrue}
+use Rattle.std.specs.List.{filter_map}
+use Rattle.sqlite.specs.Effect.{Database}
+use Rattle.sqlite.specs.State.{State, HasCleanDisk}
+use Rattle.mq_frame.specs.Reading.{request_at}
+use Rattle.mq_frame.specs.declared.message.Request.{Request}
+use Rattle.mq_ledger.specs.declared.zone.Zone.{Zone}
+use Rattle.mq_ledger.specs.Answer.{build}
+use Rattle.mq_ledger.specs.Day.{day_of}
+use Rattle.mq_ledger.specs.Legal.{Book, IsLegalBook}
+use Rattle.mq_rows.specs.Tables.{Tables, AreRows}
+use Rattle.mq_tables.specs.Answers.{bodies_in}
+use Rattle.mq_tables.specs.Ledger.{HasLedger}
+
+-- the requests that the rows of `answer` spell, in the order of n
+abbrev pub requests_in : Database → List Request
+requests_in db = filter_map request_at (bodies_in db)
+
+-- Its zone, its default, and those requests, each with its answer over the history before it: a
+-- function of the tables alone.
+abbrev pub book_in : Zone → ℕ → Database → Book
+book_in zone default db = record {
+  zone = zone;
+  default = default;
+  history = build (day_of zone) default (requests_in db);
+}
+
+-- the disk has returned what was written, and the connection is open
+pub record HasKept (s : State) : Type 0 where
+  pub clean : HasCleanDisk s
+  pub is_open : IsTrue s.is_open
+
+-- The store has kept, it means a legal history of that zone and default, and its five tables are the
+-- rows of that history.
+pub record IsSound (zone : Zone) (default : ℕ) (s : State) : Type 0 where
+  pub kept : HasKept s
+  pub legal : IsLegalBook (book_in zone default s.now)
+  pub tables : Tables
+  pub holds : HasLedger s.now tables
+  pub rows : AreRows (book_in zone default s.now) tables
+
+-- a new ledger: sound, and no request was applied
+pub record IsNew (zone : Zone) (default : ℕ) (s : State) : Type 0 where
+  pub sound : IsSound zone default s
+  pub blank : requests_in s.now ≡ []
+
+-- Where the tables were sound with a zone and a default, these are the ledger's, it is sound, and it
+-- means what they meant.
+pub record IsOpened (zone : Zone) (default : ℕ) (old new : State) : Type 0 where
+  pub opened : (z : Zone) (d : ℕ) → IsSound z d old
+      → (z ≡ zone) × (d ≡ default) × IsSound zone default new × (book_in zone default new.now ≡ book_in z d old.now)

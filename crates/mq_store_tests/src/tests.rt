@@ -1,0 +1,137 @@
+use mq_ledger::Zone;
+use mq_store::{OpenFault, OpenRefused, SqlLedger};
+use sqlite::{Connection, MemStore};
+use std::test::*;
+
+type Outcome = Result<SqlLedger<MemStore>, OpenRefused<MemStore>>;
+
+/// A store in memory over which this text was run.
+fn store(rt: HostRuntime, text: &str) -> Result<Connection<MemStore>, Fail> {
+    let mut connection = Connection::open_in_memory(rt.alloc())?;
+    connection.execute_batch(text)?;
+    Ok(connection)
+}
+
+fn zone(minutes: i32) -> Result<Zone, Fail> {
+    Zone::of_offset(minutes).map_err(|_| Fail::from("no such zone"))
+}
+
+/// A ledger of that zone and default 3, opened.
+fn open(connection: Connection<MemStore>, minutes: i32) -> Result<Outcome, Fail> {
+    Ok(SqlLedger::open(connection, zone(minutes)?, 3))
+}
+
+/// One of zone 60 and default 3, made.
+fn make(connection: Connection<MemStore>) -> Result<Outcome, Fail> {
+    Ok(SqlLedger::create(connection, zone(60)?, 3))
+}
+
+/// The connection of a ledger that was made or opened.
+fn done(outcome: Outcome) -> Result<Connection<MemStore>, Fail> {
+    match outcome {
+        Ok(ledger) => Ok(ledger.into_connection()),
+        Err(_) => Err(Fail::from("refused")),
+    }
+}
+
+/// The connection of a refusal for that cause.
+fn refused(outcome: Outcome, fault: OpenFault) -> Result<Connection<MemStore>, Fail> {
+    let Err(refusal) = outcome else {
+        return Err(Fail::from("not refused"));
+    };
+    let OpenRefused {
+        fault: found,
+        connection,
+    } = refusal;
+    if found == fault {
+        Ok(connection)
+    } else {
+        Err(Fail::from("another fault"))
+    }
+}
+
+/// Opening stores of others, each with its fault.
+#[test]
+fn stores_of_others(rt: HostRuntime) -> Result<(), Fail> {
+    for (text, fault) in [
+        ("", OpenFault::NotOurs),
+        ("CREATE TABLE setting (a TEXT)", OpenFault::NotOurs),
+        (
+            "CREATE TABLE setting (id INTEGER PRIMARY KEY, version TEXT, minutes INTEGER, cap INTEGER); \
+            INSERT INTO setting VALUES (1, 'x', 0, 3)",
+            OpenFault::NotOurs,
+        ),
+        (
+            "CREATE TABLE setting (id INTEGER PRIMARY KEY, version INTEGER, minutes INTEGER, cap INTEGER); \
+            INSERT INTO setting VALUES (1, 2, 60, 3)",
+            OpenFault::NotOurs,
+        ),
+        (
+            "CREATE TABLE other (b TEXT); \
+            CREATE VIEW setting AS SELECT 1 AS id, 1 AS version, 60 AS minutes, 4 AS cap",
+            OpenFault::DefaultDiffers,
+        ),
+    ] {
+        refused(open(store(rt, text)?, 60)?, fault)?;
+    }
+    Ok(())
+}
+
+/// A table of one of the five names is there, in either case.
+#[test]
+fn names_that_are_taken(rt: HostRuntime) -> Result<(), Fail> {
+    for text in [
+        "CREATE TABLE setting (a TEXT)",
+        "CREATE TABLE answer (a TEXT)",
+        "CREATE TABLE trans (a TEXT)",
+        "CREATE TABLE USAGE (a TEXT)",
+        "CREATE TABLE Ceiling (a TEXT)",
+    ] {
+        refused(make(store(rt, text)?)?, OpenFault::NotOurs)?;
+    }
+    Ok(())
+}
+
+/// A ledger made behind another table is taken apart and opened.
+#[test]
+fn taken_apart_and_opened(rt: HostRuntime) -> Result<(), Fail> {
+    let text = "CREATE TABLE note (a INTEGER PRIMARY KEY AUTOINCREMENT, b TEXT); \
+        INSERT INTO note (b) VALUES ('x')";
+    let connection = done(make(store(rt, text)?)?)?;
+    let connection = refused(open(connection, 0)?, OpenFault::ZoneDiffers)?;
+    let other_default = SqlLedger::open(connection, zone(60)?, 4);
+    let connection = refused(other_default, OpenFault::DefaultDiffers)?;
+    let connection = done(open(connection, 60)?)?;
+    let mut connection = refused(make(connection)?, OpenFault::NotOurs)?;
+    let notes: i64 = connection
+        .query_row("SELECT count(*) FROM note", &[])?
+        .get(0)?;
+    assert_eq!(rt; notes, 1);
+    Ok(())
+}
+
+/// What a ledger goes by is what it was made with.
+#[test]
+fn zone_and_default(rt: HostRuntime) -> Result<(), Fail> {
+    let Ok(ledger) = make(store(rt, "")?)? else {
+        return Err(Fail::from("refused"));
+    };
+    assert_eq!(rt; ledger.zone(), zone(60)?);
+    assert_eq!(rt; ledger.default_cap(), 3);
+    Ok(())
+}
+
+/// The printed texts.
+#[test]
+fn texts(rt: HostRuntime) -> Result<(), Fail> {
+    for (fault, text) in [
+        (OpenFault::NotOurs, "store is not this ledger"),
+        (OpenFault::ZoneDiffers, "store has another offset"),
+        (OpenFault::DefaultDiffers, "store has another default"),
+        (OpenFault::Memory, "out of memory"),
+        (OpenFault::Store, "store failed"),
+    ] {
+        assert_eq!(rt; fault.to_string(rt.alloc())?.as_str(), text);
+    }
+    Ok(())
+}
