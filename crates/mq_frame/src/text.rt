@@ -15,11 +15,11 @@ pub struct Text<K> {
 
 /// Marks the name of a host.
 #[derive(Debug, Drop)]
-pub enum OfHost {}
+pub struct OfHost;
 
 /// Marks a login.
 #[derive(Debug, Drop)]
-pub enum OfLogin {}
+pub struct OfLogin;
 
 /// The name of a mail host, as bytes.
 ///
