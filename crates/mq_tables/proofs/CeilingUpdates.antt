@@ -53,7 +53,7 @@ use Rattle.mq_tables.specs.Updates.{HasSet, WritesCeiling}
 use Rattle.mq_tables.proofs.Plain.{parsed_in}
 use Rattle.mq_tables.proofs.Makes.{cast_int}
 use Rattle.mq_tables.proofs.Changes.{ceilings_changed}
-use Rattle.mq_tables.proofs.Tests.{text_test, nat_test}
+use Rattle.mq_tables.proofs.Tests.{text_test, day_test}
 use Rattle.mq_tables.proofs.RowFacts.{only, keyed_row, holds_set, held_so}
 use Rattle.mq_tables.proofs.Selecting.{column_lowered, parameter_lowered, equal_lowered, and_lowered, tested}
 use Rattle.mq_tables.proofs.Updating.{IsUpdate, set_next, updated_is, understood_update, nothing_acts}
@@ -207,7 +207,7 @@ tied r [] = refl
 tied r (x ∷ c) = refl
 
 decides : (r was : CeilingRecord) → test r (ceiling_fields was) ≡ same_ceiling r was
-decides r was = rw (text_test was.login r.login, nat_test was.day r.day) (ap (λ b. (same_text r.login was.login) && b) (and-true (r.day == was.day)))
+decides r was = rw (text_test was.login r.login, day_test was.day r.day) (ap (λ b. (same_text r.login was.login) && b) (and-true (was.day == r.day)))
 
 module _ (old new : state.State) (r : CeilingRecord) (t : ℕ) (place' : IsCeilingIn old.now.schema t) where
   abbrev in_tree : Table

@@ -33,7 +33,7 @@ use Rattle.mq_tables.specs.Ledger.{HasLedger}
 use Rattle.mq_tables.specs.Lent.{key_params, totals_row, IsShownAs, IsFirst}
 use Rattle.mq_tables.proofs.Plain.{any_apart}
 use Rattle.mq_tables.proofs.Queries.{selects, of_records}
-use Rattle.mq_tables.proofs.Tests.{text_test, nat_test}
+use Rattle.mq_tables.proofs.Tests.{text_test, day_test}
 use Rattle.mq_tables.proofs.Finds.{none_of, empty_mapped, shown_of}
 use Rattle.std.specs.List.{AllByRecursion}
 use Rattle.std.specs.Cmp.{unsigned_Decides}
@@ -60,7 +60,7 @@ shows params [] = refl
 shows params (x ∷ r) = refl
 
 decides : (login : List ℕ) (day : ℕ) (u : UsageRecord) → list_all (holds (key_params login day ∷ (Null ∷ usage_fields u) ∷ [])) usage_tests ≡ is_usage login day u
-decides login day u = rw (text_test u.login login, nat_test u.day day) (ap (λ b. same_text login u.login && b) (and-true (day == u.day)))
+decides login day u = rw (text_test u.login login, day_test u.day day) (ap (λ b. same_text login u.login && b) (and-true (u.day == day)))
 
 stored : (db : Trees) (t : ℕ) → nat_le (2 ^ 31) t ≡ false → overlay db [] t ≡ db t
 stored db t low = rw low
@@ -93,7 +93,7 @@ int_same e = cc
 
 module _ (login : List ℕ) (day : ℕ) where
   keyed : (u : UsageRecord) → is_usage login day u ≡ true → (login ≡ u.login) × (day ≡ u.day)
-  keyed u hit = let both = and_parts _ _ hit in ((slice_eq-Decides unsigned_Decides login u.login _ refl).0 both.0, (unsigned_Decides day u.day).0 both.1)
+  keyed u hit = let both = and_parts _ _ hit in ((slice_eq-Decides unsigned_Decides login u.login _ refl).0 both.0, sym ((unsigned_Decides u.day day).0 both.1))
 
   is_it : (row : Row) (u v : UsageRecord) → IsShownAs login day row u → is_usage login day v ≡ true → row ≡ totals_row v → v ≡ u
   is_it row u v shown hit is =

@@ -53,7 +53,7 @@ use Rattle.mq_tables.specs.Updates.{HasSet, WritesUsage}
 use Rattle.mq_tables.proofs.Plain.{parsed_in}
 use Rattle.mq_tables.proofs.Makes.{cast_int}
 use Rattle.mq_tables.proofs.Changes.{usage_changed}
-use Rattle.mq_tables.proofs.Tests.{text_test, nat_test}
+use Rattle.mq_tables.proofs.Tests.{text_test, day_test}
 use Rattle.mq_tables.proofs.RowFacts.{only, keyed_row, holds_set, held_so}
 use Rattle.mq_tables.proofs.Selecting.{column_lowered, parameter_lowered, equal_lowered, and_lowered, tested}
 use Rattle.mq_tables.proofs.Updating.{IsUpdate, set_next, updated_is, understood_update, nothing_acts}
@@ -215,7 +215,7 @@ tied u [] = refl
 tied u (x ∷ r) = refl
 
 decides : (u was : UsageRecord) → test u (usage_fields was) ≡ same_usage u was
-decides u was = rw (text_test was.login u.login, nat_test was.day u.day) (ap (λ b. same_text u.login was.login && b) (and-true (u.day == was.day)))
+decides u was = rw (text_test was.login u.login, day_test was.day u.day) (ap (λ b. same_text u.login was.login && b) (and-true (was.day == u.day)))
 
 module _ (old new : state.State) (u : UsageRecord) (t : ℕ) (place' : IsUsageIn old.now.schema t) where
   abbrev in_tree : Table

@@ -1,6 +1,7 @@
 -- What a statement leaves, over any schema that has its table at some place.
 use Rattle.std.specs.Prelude.{◌≡◌, ◌≢◌, ◌<◌, ◌^◌, ℕ, ◌+◌, ℤ, Bool, true, false, List, [], ◌∷◌, ◌++◌, length}
 use Rattle.std.specs.List.{AllByRecursion}
+use Rattle.std.specs.List.Sorted.{IsPermutation}
 use Rattle.sqlite.specs.Order.{Row}
 use Rattle.sqlite.specs.Schema.{Schema}
 use Rattle.sqlite.specs.Tree.{Trees, put_row}
@@ -12,7 +13,6 @@ use Rattle.mq_rows.specs.declared.record.AnswerRecord.{AnswerRecord}
 use Rattle.mq_rows.specs.declared.record.TransactionRecord.{TransactionRecord}
 use Rattle.mq_rows.specs.declared.record.UsageRecord.{UsageRecord}
 use Rattle.mq_rows.specs.declared.record.CeilingRecord.{CeilingRecord}
-use Rattle.mq_rows.specs.Plan.{Leads}
 use Rattle.mq_rows.specs.Tables.{Tables}
 use Rattle.mq_tables.specs.Keys.{same_transaction, set_transaction, same_usage, set_usage, same_ceiling, set_ceiling}
 use Rattle.mq_tables.specs.Ledger.{HasLedger}
@@ -43,6 +43,15 @@ pub record HasSetArrivals (arrivals : ℤ) (tree : ℕ) (old new : Database) : T
       → new.trees tree ≡ setting_fields (record s { arrivals = arrivals }) ∷ []
   pub others : KeepsOthers old.schema tree old.trees new.trees
 
+-- P holds of the rows of a table after the write. Of an update that is said where one row alone has its
+-- key. `same` compares keys, and `set` gives a row the new one's other fields.
+abbrev pub Leaves : {R : Type 0} → (R → R → Bool) → (R → R → R) → Write R → List R → (List R → Type 0) → Type 0
+Leaves same set Keep rows P = P rows
+Leaves same set (Insert new) rows P = P (new ∷ rows)
+Leaves {R} same set (Update new) rows P =
+    (was : R) (rest : List R) → IsPermutation (was ∷ rest) rows → same new was ≡ true
+    → AllByRecursion (λ other. same new other ≡ false) rest → P (set new was ∷ rest)
+
 -- What functions on a table leave in the five: where they held some rows, they hold these.
 
 abbrev pub CountsArrivals : ℕ → State → State → Type 0
@@ -59,7 +68,7 @@ Appends a old new =
 abbrev pub WritesUsage : Write UsageRecord → State → State → Type 0
 WritesUsage write old new =
     (t : Tables) → HasLedger old.now t
-    → Leads same_usage set_usage write t.usage (λ after. HasLedger new.now (record t { usage = after }))
+    → Leaves same_usage set_usage write t.usage (λ after. HasLedger new.now (record t { usage = after }))
 
 -- a whole number of 64 bits with its sign has a place for its run and its moment
 abbrev pub IsStorable : TransactionRecord → Type 0
@@ -73,10 +82,10 @@ AreStorable (Update t) = IsStorable t
 abbrev pub WritesTransaction : Write TransactionRecord → State → State → Type 0
 WritesTransaction write old new =
     (t : Tables) → HasLedger old.now t
-    → Leads same_transaction set_transaction write t.transactions
+    → Leaves same_transaction set_transaction write t.transactions
     (λ after. HasLedger new.now (record t { transactions = after }))
 
 abbrev pub WritesCeiling : Write CeilingRecord → State → State → Type 0
 WritesCeiling write old new =
     (t : Tables) → HasLedger old.now t
-    → Leads same_ceiling set_ceiling write t.ceilings (λ after. HasLedger new.now (record t { ceilings = after }))
+    → Leaves same_ceiling set_ceiling write t.ceilings (λ after. HasLedger new.now (record t { ceilings = after }))
