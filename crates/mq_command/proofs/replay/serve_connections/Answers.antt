@@ -4,7 +4,7 @@ use Rattle.mq_command.proofs.replay.serve_connections.Goals as goal
 
 pub returns : goal.returns
 returns c =
-    let (seen, served, after) = c.in_ok-ends.ensures.served tt c.new-ledger.ensures.sound in
+    let (seen, served, after, told) = c.in_ok-ends.ensures.served tt c.new-ledger.ensures.sound in
     let same : length c.serve_all.new.outputs ≡ length c.loop-connection.written.items = c.serve_all.auto.outputs ∙ ap length c.as_mut_slice-2.ensures.value in
     let kept : c.loop-connection.written.len ≡ length c.serve_all.new.outputs = omega (arith, same, c.loop-connection.written.ok.0) in
     let new = written_back c.loop-connection.written.len c.serve_all.new.outputs c.loop-connection.written.items kept in
