@@ -120,8 +120,7 @@ pub fn reply_follows()
 }
 
 /// One more numbered request, over tables that are the rows of a legal history without its number:
-/// its reply is the ledger's, the planned writes lead to the rows of the history with it, and that
-/// history is legal.
+/// its reply is the ledger's, and the planned writes lead to the rows of the history with it.
 pub fn one_more_answer()
     ensures reply { (b : Book) (t : Tables) (r : AnyRequest) (id : Id) (f : Found) →
         IsLegalBook b → AreRows b t → id_of r ≡ Some id → stored b.history id ≡ None →
