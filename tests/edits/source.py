@@ -9,14 +9,17 @@ Function = namedtuple("Function", "begins ends names is_of_type is_public")
 # Comments, strings, characters and lifetimes, in which a brace opens nothing.
 TOKEN = re.compile(
     r"""//[^\n]*|/\*.*?\*/|b?r(#*)".*?"\1|b?"(?:[^"\\]|\\.)*"|b?'(?:[^'\\\n]|\\[^'\n]+|\\')'|'\w+""", re.S)
+# An array's type or value, whose semicolon ends nothing.
+ARRAY = re.compile(r"\[[^\[\]{}]*;[^\[\]{}]*\]")
 CLAUSE = re.compile(r"\b(?:requires|ensures)\*?(?:\s+\w+)?\s*\Z|\bghost\b[^;]*\Z")
 FUNCTION = re.compile(r"\bfn\s+(\w+)")
 TYPE = re.compile(r"\b(impl|trait)\b(.*)", re.S)
 
 
 def blanked(text):
-    """Returns the text with spaces for what TOKEN finds, each character in its place."""
-    return TOKEN.sub(lambda it: re.sub(r"[^\n]", " ", it[0]), text)
+    """Returns the text with spaces for what TOKEN finds and for the semicolons of arrays, each character in its place."""
+    text = TOKEN.sub(lambda it: re.sub(r"[^\n]", " ", it[0]), text)
+    return ARRAY.sub(lambda it: it[0].replace(";", " "), text)
 
 
 def without_brackets(text):
