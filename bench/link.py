@@ -1,10 +1,11 @@
 #!/usr/bin/env python3
-"""Reserves per second over loopback, one a connection, beside a peer that only echoes (echo.rs).
+"""Reserves per second over loopback, one a connection, over memory and over a file, beside a peer that only echoes (echo.rs).
 
 usage: link.py PROGRAM [RESERVES]
 
-The server's ledger is empty at each start. asker.rs asks both, by turns, median of 15 runs.
+The server's ledger is empty at each start. asker.rs asks all three, by turns, median of 15 runs.
 """
+import itertools
 import statistics
 import subprocess
 import sys
@@ -38,24 +39,30 @@ def main():
     with tempfile.TemporaryDirectory() as folder:
         for name in ("echo", "asker"):
             subprocess.run(["rustc", "-O", "--edition", "2021", "-o", f"{folder}/{name}", HERE / f"{name}.rs"], check=True)
-        world = World(program, folder)
+        world, files = World(program, folder), itertools.count()
 
-        def ours(port, count):
-            settings = {"listen": f"127.0.0.1:{port}", "store": "memory", "default": 1_000_000, "offset": 0, "timeout": 2_000}
-            return [program, "server", "--config", world.new_file(toml(settings)), "--connections", str(count)]
+        def ours(store):
+            def words(port, count):
+                place = "memory" if store == "memory" else f"{folder}/{next(files)}.db"
+                settings = {"listen": f"127.0.0.1:{port}", "store": place, "default": 1_000_000, "offset": 0, "timeout": 2_000}
+                return [program, "server", "--config", world.new_file(toml(settings)), "--create", "--connections", str(count)]
+
+            return words
 
         def floor(port, count):
             return [f"{folder}/echo", str(port), str(count)]
 
+        kinds = {"memory": ours("memory"), "file": ours("file"), "echo": floor}
         for count in counts:
             for clients in (1, 4):
-                times = {ours: [], floor: []}
+                times = {name: [] for name in kinds}
                 for _ in range(ROUNDS):
-                    for kind, taken in times.items():
+                    for name, words in kinds.items():
                         port = free_port()
-                        taken.append(seconds(f"{folder}/asker", kind(port, count), port, clients, count))
-                a, b = (statistics.median(times[kind]) for kind in (ours, floor))
-                print(f"{count} reserves, {clients} clients: mailquota {count / a:8.0f}/s   echo {count / b:8.0f}/s   {100 * b / a:5.1f}% of the floor", flush=True)
+                        times[name].append(seconds(f"{folder}/asker", words(port, count), port, clients, count))
+                taken = {name: statistics.median(each) for name, each in times.items()}
+                shown = "   ".join(f"{name} {count / each:8.0f}/s {100 * taken['echo'] / each:5.1f}%" for name, each in taken.items())
+                print(f"{count} reserves, {clients} clients: {shown} of the floor", flush=True)
 
 
 if __name__ == "__main__":

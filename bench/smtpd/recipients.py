@@ -1,4 +1,4 @@
-"""Time of 1,000 recipients of one session of a real smtpd, with mailquota and with a filter that says yes to all.
+"""Time of 1,000 recipients of one session of a real smtpd, with mailquota over memory and over a file, and with a filter that says yes to all.
 
 Run it by bench/smtpd/run.sh.
 """
@@ -9,7 +9,7 @@ from pathlib import Path
 
 sys.path.append(str(Path(__file__).parent.parent.parent / "tests" / "smtpd"))
 
-from host import ROOT, session_at, start_server, start_smtpd, stop  # noqa: E402
+from host import PROGRAM, ROOT, session_at, start, start_smtpd, stop, wait_for  # noqa: E402
 
 RECIPIENTS, ROUNDS = 1_000, 7
 
@@ -25,7 +25,8 @@ listen on 127.0.0.1 port 2503 tls pki quota.test auth-optional <credentials>
 action "sink" mda "cat >/dev/null" virtual { "@" = nobody }
 match from any for any action "sink"
 """
-SERVER = 'listen = "127.0.0.1:7025"\nstore = "memory"\ndefault = 1000000\noffset = 0\ntimeout = 500\n'
+SERVER = 'listen = "127.0.0.1:7025"\nstore = "{store}"\ndefault = 1000000\noffset = 0\ntimeout = 500\n'
+STORE = "/var/tmp/mailquota-bench.db"
 
 
 def seconds(smtp):
@@ -39,24 +40,33 @@ def seconds(smtp):
     return taken
 
 
+def start_server(store):
+    """A server over an empty ledger, in memory or in the file."""
+    for file in (ROOT / STORE[1:], ROOT / f"{STORE[1:]}-wal"):
+        file.unlink(missing_ok=True)
+    (ROOT / "etc/mailquota/bench.toml").write_text(SERVER.format(store=store))
+    server = start("server", PROGRAM, "server", "--config", "/etc/mailquota/bench.toml", "--create")
+    wait_for(7025)
+    return server
+
+
 def main():
     (ROOT / "etc/mailquota/bench.conf").write_text(SMTPD)
-    (ROOT / "etc/mailquota/bench.toml").write_text(SERVER)
-    kinds = {2501: "mailquota", 2502: "says yes", 2503: "no filter"}
-    times = {port: [] for port in kinds}
+    kinds = [("mailquota, memory", 2501, "memory"), ("mailquota, file", 2501, STORE), ("says yes", 2502, "memory"), ("no filter", 2503, "memory")]
+    times = {name: [] for name, _, _ in kinds}
     for _ in range(ROUNDS):
-        server = start_server("/etc/mailquota/bench.toml")
-        smtpd = start_smtpd("/etc/mailquota/bench.conf")
-        try:
-            for port, taken in times.items():
-                taken.append(seconds(session_at(port, "u01")))
-        finally:
-            stop(smtpd)
-            stop(server)
-    for port, name in kinds.items():
-        median = statistics.median(times[port])
-        print(f"{name:10} {median:6.3f} s for {RECIPIENTS} recipients of one session, median of {ROUNDS}")
-    print(f"mailquota adds {(statistics.median(times[2501]) - statistics.median(times[2502])) * 1_000_000 / RECIPIENTS:.0f} microseconds a recipient")
+        for name, port, store in kinds:
+            server = start_server(store)
+            smtpd = start_smtpd("/etc/mailquota/bench.conf")
+            try:
+                times[name].append(seconds(session_at(port, "u01")))
+            finally:
+                stop(smtpd)
+                stop(server)
+    medians = {name: statistics.median(taken) for name, taken in times.items()}
+    for name, median in medians.items():
+        print(f"{name:17} {median:6.3f} s for {RECIPIENTS} recipients of one session, median of {ROUNDS};"
+              f" {median / medians['says yes']:.2f} times a filter that says yes")
 
 
 main()

@@ -45,14 +45,14 @@ def toml(settings):
 class Server:
     """The real server in a process of its own."""
 
-    def __init__(self, world, connections=1_000_000, host="127.0.0.1", **settings):
+    def __init__(self, world, connections=1_000_000, host="127.0.0.1", words=(), **settings):
         self.port = free_port()
         self.host = host
         shown = f"[{host}]" if ":" in host else host
         self.address = f"{shown}:{self.port}"
         whole = {"listen": self.address, "store": "memory", "default": 3, "offset": 0, "timeout": 400, **settings}
         self.log = open(world.new_file(""), "w+b")
-        words = ["server", "--config", world.new_file(toml(whole)), "--connections", str(connections)]
+        words = ["server", "--config", world.new_file(toml(whole)), "--connections", str(connections), *words]
         self.process = subprocess.Popen([world.program, *words], stderr=self.log, stdin=subprocess.DEVNULL, stdout=self.log)
         wait_for_listener(self.port, self.process)
 

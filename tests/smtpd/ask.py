@@ -143,7 +143,9 @@ def no_server():
     smtp.rset()
     note("no login without a quota server", no_login_answer(), "250")
     lines = log_of("smtpd").read_text(errors="replace").splitlines()
-    note("smtpd's log", next((line for line in lines if line.startswith("quota1: ")), "nothing"), "quota1: [WARN")
+    said = [line for line in lines if line.startswith("quota1: ")] + ["nothing"] * 2
+    note("smtpd's log, why there is no answer", said[0], "quota1: [ERROR mq_tcp::logged] quota server 127.0.0.1:7025: Connection refused")
+    note("smtpd's log, whose recipient it was", said[1], "quota1: [WARN")
     return smtp
 
 

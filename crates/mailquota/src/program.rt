@@ -4,16 +4,11 @@ use crate::words::{WordsFault, read_arguments};
 use mq_program::{ProgramFault, or_memory, refuse, run_subcommand};
 use std::env;
 use std::io::Write;
-use std::net::{Net, TcpListener, TcpStream};
-use std::rt::{Clock, Env, Files};
+use std::rt::Env;
 
 /// Runs the program by the words of the process and gives its exit status: 0 done, 1 fault,
 /// 2 usage.
-pub fn run<R, E: Write>(rt: &R, errors: &mut E) -> u8
-where
-    R: Env + Files + Clock + Net<Listener = TcpListener, Stream = TcpStream>,
-    R: Input + Print + Eprint + AllocGlobal,
-{
+pub fn run<E: Write>(rt: &HostRuntime, errors: &mut E) -> u8 {
     match words_of(rt) {
         Ok(words) => run_words(rt, words.as_slice(), errors),
         Err(fault) => refuse(&fault, errors),
@@ -30,11 +25,7 @@ fn words_of<R: Env + AllocGlobal>(rt: &R) -> Result<Vec<String>, ProgramFault> {
 }
 
 /// Runs the program by these words, the program's name first, and gives its exit status.
-fn run_words<R, E: Write>(rt: &R, words: &[String], errors: &mut E) -> u8
-where
-    R: Files + Clock + Net<Listener = TcpListener, Stream = TcpStream>,
-    R: Input + Print + Eprint + AllocGlobal,
-{
+fn run_words<E: Write>(rt: &HostRuntime, words: &[String], errors: &mut E) -> u8 {
     match read_arguments(rt.alloc(), words) {
         Ok(given) => run_subcommand(rt, given, errors),
         Err(WordsFault::Memory) => refuse(&ProgramFault::Memory, errors),

@@ -141,6 +141,15 @@ const DEFAULT: CommandOption = CommandOption {
     default: Some("100"),
 };
 
+const SQL: CommandOption = CommandOption {
+    name: "sql",
+    value: "",
+    help: "Keep the ledger in tables in memory",
+    takes: Takes::Nothing,
+    is_required: false,
+    default: None,
+};
+
 const EAST: CommandOption = CommandOption {
     name: "east",
     value: "M",
@@ -184,6 +193,6 @@ pub const SUBCOMMANDS: [Subcommand; 5] = [
     Subcommand {
         name: "replay",
         about: "Answer frames in hexadecimal from standard input over a new ledger",
-        options: &[DEFAULT, EAST, WEST],
+        options: &[DEFAULT, EAST, WEST, SQL],
     },
 ];

@@ -1,5 +1,5 @@
 //! The words of the command line.
-ghost use Rattle.std.specs.Prelude.{◌≤◌, IfOk, IfSome};
+ghost use Rattle.std.specs.Prelude.{◌≡◌, ◌≤◌, IfOk, IfSome};
 ghost use Rattle.mq_frame.specs.Range.{IsRun, IsWithin};
 ghost use Rattle.mq_program.specs.Arguments.{IsArguments, IsReplayArguments};
 
@@ -20,6 +20,10 @@ pub enum WordsFault {
 }
 
 impl From<AllocError> for WordsFault {
+    ghost use Rattle.mailquota.specs.declared.words.WordsFault.TheVariants.{Memory};
+
+    ghost from_gives = { λ _ fault. fault ≡ Memory };
+
     fn from(_error: AllocError) -> WordsFault {
         WordsFault::Memory
     }
@@ -47,6 +51,7 @@ pub fn read_arguments<'a>(alloc: Global, words: &'a [String]) -> Result<Argument
         })),
         Some(("server", found)) => Ok(Arguments::Server(ServerArguments {
             config: text_of(found, "config"),
+            create: found.get_flag("create"),
             connections: number_of(found, "connections", 1, 1_000_000),
         })),
         Some(("limit", found)) => Ok(Arguments::Limit(LimitArguments {
@@ -150,5 +155,6 @@ fn replay_of(found: &ArgMatches<'_>) -> ReplayArguments
     ReplayArguments {
         default,
         offset: east as i32 - west as i32,
+        sql: found.get_flag("sql"),
     }
 }

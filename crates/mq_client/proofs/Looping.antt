@@ -12,7 +12,7 @@ use Rattle.mq_line.specs.Text.{IsLine, Holds, text_of}
 use Rattle.mq_line.specs.declared.reading.Line.{Line}
 use Rattle.mq_line.specs.declared.reading.Line.TheVariants as line
 use Rattle.mq_track.specs.Sessions.{closing, fault}
-use Rattle.mq_track.specs.State.{StandsAt, State as State'}
+use Rattle.mq_track.specs.State.{TracksAt, State as State'}
 use Rattle.mq_track.specs.declared.fault.TrackFault.{TrackFault}
 use Rattle.mq_client.specs.Link.{Tells}
 use Rattle.mq_client.specs.Exchanges.{Exchange, told_all}
@@ -116,7 +116,7 @@ pub at_before : (f : Filter) (stage : Stage) → f.is_ready ≡ false → IsAt f
 at_before f BeforeReady h a = refl
 at_before f (AfterReady L) h a = let no : ⊥ = cc (h, a.0) in absurd no
 
-pub at_after : (f : Filter) (stage : Stage) → f.is_ready ≡ true → IsAt f stage → (L : List Meaning) × (stage ≡ AfterReady L) × StandsAt f.tracker L × (f.answers ≡ answer_count L)
+pub at_after : (f : Filter) (stage : Stage) → f.is_ready ≡ true → IsAt f stage → (L : List Meaning) × (stage ≡ AfterReady L) × TracksAt f.tracker L × (f.answers ≡ answer_count L)
 at_after f BeforeReady h a = let no : ⊥ = cc (h, a.0) in absurd no
 at_after f (AfterReady L) h a = (L, refl, a.1, a.2)
 
@@ -162,7 +162,7 @@ carries_ready m f f' sink sink' told client h e app now tracker answers = λ o b
 -- a line after `config|ready`
 pub carries_take : (m : Meaning) (f f' : Filter) (old new : Outside) (step : Option Step) (text : List ℕ)
     → f.is_ready ≡ true → Does old new step text
-    → ((L : List Meaning) → StandsAt f.tracker L → Takes L m step text × StandsAt f'.tracker (m ∷ L))
+    → ((L : List Meaning) → TracksAt f.tracker L → Takes L m step text × TracksAt f'.tracker (m ∷ L))
     → f'.is_ready ≡ true → ((L : List Meaning) → f.answers ≡ answer_count L → f'.answers ≡ answer_count (m ∷ L))
     → Carries m f f' old new
 carries_take m f f' old new step text h does takes now count = λ o bytes line rest one reads s.
@@ -267,7 +267,7 @@ count_noted L (line.Filter seconds subsystem phase session token rest) apart = a
 count_noted L line.Other apart = refl
 
 -- a request tells nothing of sessions
-pub tracks_filter : (t : State') (L : List Meaning) (seconds : ℕ) (subsystem phase session token rest : List ℕ) → StandsAt t L → StandsAt t (FilterLine seconds subsystem phase session token rest ∷ L)
+pub tracks_filter : (t : State') (L : List Meaning) (seconds : ℕ) (subsystem phase session token rest : List ℕ) → TracksAt t L → TracksAt t (FilterLine seconds subsystem phase session token rest ∷ L)
 tracks_filter t L seconds subsystem phase session token rest st = record { sessions = st.sessions; begins = st.begins }
 
 -- one more request was answered
@@ -277,7 +277,7 @@ answer_counted L seconds subsystem phase session token rest n e = omega (arith, 
 -- a request whose work was cut short
 pub may_go : (f : Filter) (stage : Stage) (line rest : List ℕ) (seconds : ℕ) (subsystem phase session token more : List ℕ) (step : Option Step) (next : List ℕ) → f.is_ready ≡ true → IsAt f stage → IsLine line
     → Reads line (FilterLine seconds subsystem phase session token more)
-    → ((step ≡ None) × (next ≡ [])) ⊎ ((L : List Meaning) → StandsAt f.tracker L → Replies L subsystem phase session token step next)
+    → ((step ≡ None) × (next ≡ [])) ⊎ ((L : List Meaning) → TracksAt f.tracker L → Replies L subsystem phase session token step next)
     → MayGo stage (line ++ 10 ∷ rest) step next
 may_go f stage line rest seconds subsystem phase session token more step next h a one reads (inl quiet) = inl quiet
 may_go f stage line rest seconds subsystem phase session token more step next h a one reads (inr replies) =
@@ -296,7 +296,7 @@ track_apart h = cc (h)
 
 -- a line that wasn't noted
 pub refused_stops : (fault : FilterFault) (f : Filter) (stage : Stage) (bytes line rest : List ℕ) (m : Meaning) (source : Option (List ℕ)) (read_failed write_failed : Bool) → f.is_ready ≡ true → IsAt f stage → IsLine line → Reads line m
-    → ((L : List Meaning) → StandsAt f.tracker L → IsRefused fault L m)
+    → ((L : List Meaning) → TracksAt f.tracker L → IsRefused fault L m)
     → IsFound fault stage bytes (line ++ 10 ∷ rest) source read_failed write_failed × IsInHand fault stage (line ++ 10 ∷ rest) None [] × (fault ≡ at.Memory → IsAtWork stage (line ++ 10 ∷ rest))
 refused_stops (at.Track e) f stage bytes line rest m source read_failed write_failed h a one reads refused =
     let (L, is, tracks, counted) = at_after f stage h a in
@@ -349,7 +349,7 @@ no_line : IsLine []
 no_line = record { one = search rules; short = omega arith }
 
 -- nothing was read yet
-pub so_far_start : (sink : Option (List ℕ)) (told : Option (List Told)) (client : State) (f : Filter) (held : List ℕ) → held ≡ [] → f.is_ready ≡ false → StandsAt f.tracker [] → f.answers ≡ 0
+pub so_far_start : (sink : Option (List ℕ)) (told : Option (List Told)) (client : State) (f : Filter) (held : List ℕ) → held ≡ [] → f.is_ready ≡ false → TracksAt f.tracker [] → f.answers ≡ 0
     → SoFar (around sink told client) [] held f (around sink told client)
 so_far_start sink told client f held none h tracks zero = record {
   lines = [];

@@ -6,7 +6,7 @@ use Rattle.mq_line.specs.Results.{result_text}
 use Rattle.mq_line.specs.Text.{IsLine, Holds}
 use Rattle.mq_line.specs.declared.results.Decision.{Decision}
 use Rattle.mq_track.specs.Sessions.{fault as track_fault}
-use Rattle.mq_track.specs.State.{StandsAt as TracksAt}
+use Rattle.mq_track.specs.State.{TracksAt}
 use Rattle.mq_track.specs.declared.fault.TrackFault.{TrackFault}
 use Rattle.mq_track.specs.declared.fault.TrackFault.TheVariants as track
 use Rattle.mq_client.specs.Link.{Tells}

@@ -10,7 +10,7 @@ use Rattle.mq_client.specs.declared.verdict.Verdict.TheVariants as verdict
 -- the verdict is what the reply says
 abbrev pub Says : Reply → Verdict → Type 0
 Says (reply.Granted id used) v = v ≡ verdict.Granted
-Says (reply.Full id used cap) v = v ≡ verdict.Full
+Says (reply.Full id used cap) v = v ≡ verdict.Full used cap
 Says (reply.Settled id count) v = v ≡ verdict.Settled
 Says (reply.Released id held) v = v ≡ verdict.Released
 Says (reply.Closed id) v = v ≡ verdict.Closed

@@ -4,7 +4,7 @@ ghost use Rattle.std.specs.Prelude.{OnOk, OnErr, IfErr};
 ghost use Rattle.std.specs.Str.{bytes_eq};
 ghost use Rattle.mq_frame.specs.Flow.{IsFlushed};
 ghost use Rattle.mq_track.specs.Sessions.{Sending};
-ghost use Rattle.mq_track.specs.State.{StandsAt};
+ghost use Rattle.mq_track.specs.State.{TracksAt};
 ghost use Rattle.mq_line.specs.Grammar.{Meaning};
 ghost use Rattle.mq_client.specs.Link.{Tells};
 ghost use Rattle.mq_client.specs.Past.{Step};
@@ -16,6 +16,7 @@ use crate::client::Client;
 use crate::faults::{FilterFault, Memory};
 use crate::held::Asked;
 use crate::link::Link;
+use crate::refusal::Cause;
 use log::Log;
 use mq_frame::{Failed, Sink, is_login, is_moment, write_and_flush};
 use mq_line::{Decision, write_result};
@@ -38,6 +39,15 @@ fn may_ask(name: &[u8], at: u64) -> bool
     is_login(name) && is_moment(at)
 }
 
+/// Why a recipient of this login can't be asked for.
+fn cause_of(name: &[u8]) -> Cause {
+    if is_login(name) {
+        Cause::Moment
+    } else {
+        Cause::Login
+    }
+}
+
 fn is_recipient(subsystem: &[u8], phase: &[u8]) -> bool
     ensures { result ≡ (bytes_eq subsystem.now (codes "smtp-in") && bytes_eq phase.now (codes "rcpt-to")) }
 {
@@ -57,6 +67,7 @@ fn decision_of(answer: Asked) -> Decision
 /// Asks for a recipient of the transaction that is open in a session.
 fn ask<R: Log, K: Link>(
     rt: &R,
+    session: &[u8],
     name: &[u8],
     txn: u32,
     at: u64,
@@ -70,8 +81,10 @@ fn ask<R: Log, K: Link>(
     ensures link { OnErr result (link.new ≡ link.old) }
 {
     if !may_ask(name, at) {
+        client.warn_refused(rt, session, name, cause_of(name));
         return Ok(Decision::RejectService);
     }
+    client.warn_before(rt, session, txn, at, name);
     match client.reserve(rt, link, txn, at, name) {
         Ok(answer) => Ok(decision_of(answer)),
         Err(refused) => Err(refused),
@@ -88,7 +101,7 @@ fn decide<R: Log, K: Link>(
 ) -> Result<Decision, Memory>
     ensures ok { IfOk result (λ d. (step : Option Step) × Tells (K.told link.old) (K.told link.new) (told_one step)
         × MakesOne client.old client.new step
-        × ((L : List Meaning) → StandsAt tracker.now L →
+        × ((L : List Meaning) → TracksAt tracker.now L →
         Answers (query L inquiry.entry.subsystem.now inquiry.entry.phase.now inquiry.entry.session.now) step d)) }
     ensures client { OnErr result (client.new ≡ client.old) }
     ensures link { OnErr result (link.new ≡ link.old) }
@@ -98,8 +111,11 @@ fn decide<R: Log, K: Link>(
     }
     match tracker.standing(inquiry.session) {
         Standing::Anonymous => Ok(Decision::Proceed),
-        Standing::Login { .. } => Ok(Decision::RejectService),
-        Standing::Open { name, txn, at } => ask(rt, name, txn, at, link, client),
+        Standing::Login { name, .. } => {
+            client.warn_refused(rt, inquiry.session, name, Cause::NoTransaction);
+            Ok(Decision::RejectService)
+        }
+        Standing::Open { name, txn, at } => ask(rt, inquiry.session, name, txn, at, link, client),
     }
 }
 
@@ -116,7 +132,7 @@ pub fn answer<R: Log, W: Sink, K: Link>(
     ensures ok { OnOk result ((step : Option Step) × (text : List ℕ)
         × Does (around (W.contents output.old) (K.told link.old) client.old)
         (around (W.contents output.new) (K.told link.new) client.new) step text
-        × ((L : List Meaning) → StandsAt tracker.now L →
+        × ((L : List Meaning) → TracksAt tracker.now L →
         Replies L inquiry.entry.subsystem.now inquiry.entry.phase.now inquiry.entry.session.now
         inquiry.entry.token.now step text)) }
     ensures fault { IfErr result (λ f. IsCut f (W.has_failed output.new)) }
@@ -126,7 +142,7 @@ pub fn answer<R: Log, W: Sink, K: Link>(
     ensures cut { OnErr result ((step : Option Step) × (front : List ℕ) × (rest : List ℕ)
         × Does (around (W.contents output.old) (K.told link.old) client.old)
         (around (W.contents output.new) (K.told link.new) client.new) step front
-        × (((step ≡ None) × (front ++ rest ≡ [])) ⊎ ((L : List Meaning) → StandsAt tracker.now L →
+        × (((step ≡ None) × (front ++ rest ≡ [])) ⊎ ((L : List Meaning) → TracksAt tracker.now L →
         Replies L inquiry.entry.subsystem.now inquiry.entry.phase.now inquiry.entry.session.now
         inquiry.entry.token.now step (front ++ rest)))) }
 {

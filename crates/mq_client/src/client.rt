@@ -8,11 +8,12 @@ ghost use Rattle.mq_client.specs.Past.{refuses as refuses_lem};
 
 use crate::faults::Memory;
 use crate::held::{
-    Asked, Held, answer_to, closing_request, count, hold, refuses, release, reserve_request,
+    Asked, Held, answer_to, closing_request, count, hold, refusal, release, reserve_request,
 };
 use crate::link::Link;
+use crate::refusal::{Cause, RefusedRecipient, Warned};
 use crate::tries::{Framed, send_all, try_all};
-use log::Log;
+use log::{Log, warn};
 use mq_frame::Host;
 use mq_track::Closing;
 use std::alloc::Global;
@@ -32,6 +33,7 @@ pub struct Client {
     held: BTreeMap<u32, Held>,
     numbers: u32,
     outbox: VecDeque<Framed>,
+    warned: Warned,
 }
 
 impl Model for Client {
@@ -65,6 +67,7 @@ impl Client {
             held: BTreeMap::new(alloc),
             numbers: 0,
             outbox: VecDeque::new(alloc),
+            warned: Warned::new(alloc),
         })
     }
 
@@ -112,7 +115,7 @@ impl Client {
         ensures client { OnErr result (self.new ≡ self.old) }
         ensures link { OnErr result (link.new ≡ link.old) }
     {
-        if refuses(&self.held, self.numbers, self.outbox.len(), txn, at, login) {
+        if refusal(&self.held, self.numbers, self.outbox.len(), txn, at, login).is_some() {
             return Ok(Asked::Unavailable);
         }
         let seq = self.numbers + 1;
@@ -124,6 +127,30 @@ impl Client {
         let answer = answer_to(verdict);
         count(&mut self.held, txn, answer);
         Ok(answer)
+    }
+
+    /// Warns where `reserve` would refuse a recipient with no exchange, once for each cause in a session.
+    pub fn warn_before<R: Log>(&mut self, rt: &R, session: &[u8], txn: u32, at: u64, login: &[u8])
+        ensures { self.new ≡ self.old }
+    {
+        let waiting = self.outbox.len();
+        if let Some(cause) = refusal(&self.held, self.numbers, waiting, txn, at, login) {
+            self.warn_refused(rt, session, login, cause);
+        }
+    }
+
+    /// Warns that recipients of a session are refused, once for each cause.
+    pub fn warn_refused<R: Log>(&mut self, rt: &R, session: &[u8], login: &[u8], cause: Cause)
+        ensures { self.new ≡ self.old }
+    {
+        if self.warned.is_first(session, cause) {
+            let refused = RefusedRecipient {
+                session,
+                login,
+                cause,
+            };
+            warn!(rt; "{refused}");
+        }
     }
 
     /// Closes a transaction and sends what waits; one that isn't held changes and sends nothing. On

@@ -8,7 +8,7 @@ ghost use Rattle.mq_line.specs.Grammar.{Meaning, ReadyLine, meaning};
 ghost use Rattle.mq_line.specs.Results.{registration};
 ghost use Rattle.mq_line.specs.Text.{IsLine};
 ghost use Rattle.mq_track.specs.Sessions.{closing as closing_lem, fault as fault_lem};
-ghost use Rattle.mq_track.specs.State.{StandsAt as TracksAt};
+ghost use Rattle.mq_track.specs.State.{TracksAt};
 ghost use Rattle.mq_client.specs.Link.{Tells};
 ghost use Rattle.mq_client.specs.Past.{Step, State};
 ghost use Rattle.mq_client.specs.Filter.{Closes};

@@ -9,6 +9,7 @@ ghost use Rattle.mq_client.specs.Verdict.{IsVerdict};
 ghost use Rattle.mq_frame.specs.declared.message.Reply.{Reply};
 ghost use Rattle.mq_client.specs.declared.held.Held.{Held};
 
+use crate::refusal::Cause;
 use crate::verdict::Verdict;
 use mq_frame::{Host, Id, Login, Request};
 use mq_track::CloseEnd;
@@ -50,27 +51,43 @@ fn is_other(known: &Held, at: u64, login: &[u8]) -> bool
     known.login.as_slice() != login || known.at != at
 }
 
-/// Whether a recipient isn't asked for: its transaction is held with another login or moment, or has
+/// Why a recipient isn't asked for: its transaction is held with another login or moment, or has
 /// let its last one through; or it isn't held and no place is left; or a number would be lacking for
 /// this request or for the closing of a held transaction.
-pub fn refuses(
+pub fn refusal(
     held: &BTreeMap<u32, Held>,
     numbers: u32,
     waiting: usize,
     txn: u32,
     at: u64,
     login: &[u8],
-) -> bool
+) -> Option<Cause>
     requires { waiting < 2 ^ 32 }
-    ensures { result ≡ refuses_lem (find held.now.entries txn) (length held.now.entries) numbers waiting at login.now }
+    ensures { is_some result ≡ refuses_lem (find held.now.entries txn) (length held.now.entries) numbers waiting at login.now }
 {
     let live = held.len();
     let unused = (u32::MAX - numbers) as usize;
     match held.get(&txn) {
-        Some(known) => is_other(known, at, login)
-            || known.granted >= RECIPIENTS
-            || unused < 1 + live,
-        None => live + waiting >= PLACES || unused < 2 + live,
+        Some(known) => {
+            if is_other(known, at, login) {
+                Some(Cause::Changed)
+            } else if known.granted >= RECIPIENTS {
+                Some(Cause::Recipients)
+            } else if unused < 1 + live {
+                Some(Cause::Numbers)
+            } else {
+                None
+            }
+        }
+        None => {
+            if live + waiting >= PLACES {
+                Some(Cause::Places)
+            } else if unused < 2 + live {
+                Some(Cause::Numbers)
+            } else {
+                None
+            }
+        }
     }
 }
 
@@ -80,7 +97,7 @@ pub fn answer_to(verdict: Option<Verdict>) -> Asked
 {
     match verdict {
         Some(Verdict::Granted) => Asked::Granted,
-        Some(Verdict::Full) => Asked::Full,
+        Some(Verdict::Full { .. }) => Asked::Full,
         _ => Asked::Unavailable,
     }
 }

@@ -12,6 +12,7 @@ mod held;
 mod laws;
 mod link;
 mod named;
+mod refusal;
 mod script;
 mod tries;
 mod verdict;

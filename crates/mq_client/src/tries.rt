@@ -12,8 +12,8 @@ ghost use Rattle.mq_client.specs.Framed.{IsFramed, requests_of};
 use crate::faults::Memory;
 use crate::link::Link;
 use crate::verdict::{Verdict, verdict_in};
-use crate::warnings::{Refused, Unanswered, is_refusal};
-use log::{Log, warn};
+use crate::warnings::{LimitReached, Refused, Unanswered, is_refusal};
+use log::{Log, info, warn};
 use mq_frame::{Request, encode_request};
 use std::alloc::Global;
 use std::collections::VecDeque;
@@ -55,6 +55,18 @@ fn warn_unanswered<R: Log>(rt: &R, request: &Request, tries: u32) {
     warn!(rt; "{unanswered}");
 }
 
+/// Tells of a limit that is reached, and warns where the server refused a request.
+fn tell_verdict<R: Log>(rt: &R, request: &Request, verdict: Verdict) {
+    if let Verdict::Full { used, cap } = verdict {
+        let reached = LimitReached { request, used, cap };
+        info!(rt; "{reached}");
+    }
+    if is_refusal(verdict) {
+        let refused = Refused { request, verdict };
+        warn!(rt; "{refused}");
+    }
+}
+
 /// Exchanges a framed request until a reply decides it, up to so many times.
 pub fn try_all<R: Log, L: Link>(
     rt: &R,
@@ -71,19 +83,12 @@ pub fn try_all<R: Log, L: Link>(
     let mut body = Vec::new(alloc);
     for _attempt in 0..tries {
         if let Some(verdict) = try_once(link, framed, &mut body) {
+            tell_verdict(rt, &framed.request, verdict);
             return Some(verdict);
         }
     }
     warn_unanswered(rt, &framed.request, tries);
     None
-}
-
-/// Warns where the server refused a closing.
-fn warn_refused<R: Log>(rt: &R, request: &Request, verdict: Verdict) {
-    if is_refusal(verdict) {
-        let refused = Refused { request, verdict };
-        warn!(rt; "{refused}");
-    }
 }
 
 /// Sends a closing up to so many times, and answers whether a reply decided it.
@@ -93,10 +98,7 @@ fn send<R: Log, L: Link>(rt: &R, alloc: Global, link: &mut L, closing: &Framed, 
         × IsSent tries closing.now.request group result }
 {
     match try_all(rt, alloc, link, closing, tries) {
-        Some(verdict) => {
-            warn_refused(rt, &closing.request, verdict);
-            true
-        }
+        Some(_) => true,
         None => false,
     }
 }

@@ -14,7 +14,8 @@ use mq_frame::{Id, IdParts, ReplyParts, Request, read_reply};
 #[derive(Clone, Copy, Debug, PartialEq, Eq)]
 pub enum Verdict {
     Granted,
-    Full,
+    /// So many are used of the limit.
+    Full { used: u32, cap: u32 },
     Settled,
     Released,
     Closed,
@@ -38,7 +39,7 @@ fn reserve_verdict(id: &Id, reply: ReplyParts<'_>) -> Option<Verdict>
 {
     let (other, verdict) = match reply {
         ReplyParts::Granted { id, .. } => (id, Verdict::Granted),
-        ReplyParts::Full { id, .. } => (id, Verdict::Full),
+        ReplyParts::Full { id, used, cap } => (id, Verdict::Full { used, cap }),
         ReplyParts::Closed { id } => (id, Verdict::Closed),
         ReplyParts::Mismatch { id } => (id, Verdict::Mismatch),
         ReplyParts::Conflict { id } => (id, Verdict::Conflict),

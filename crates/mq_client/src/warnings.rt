@@ -24,7 +24,25 @@ impl fmt::Display for Unanswered<'_> {
     }
 }
 
-/// Whether the server refused a closing.
+/// A recipient that the login's limit doesn't allow.
+#[derive(Clone, Copy)]
+pub struct LimitReached<'a> {
+    pub request: &'a Request,
+    /// Recipients of the login on that day.
+    pub used: u32,
+    pub cap: u32,
+}
+
+impl fmt::Display for LimitReached<'_> {
+    fn fmt<W: fmt::Write>(&self, f: &mut fmt::Formatter<W>) -> fmt::Result {
+        let named = Named(self.request);
+        let used = self.used;
+        let cap = self.cap;
+        write!(f, "{named}: refused by the limit, {used} used of {cap}")
+    }
+}
+
+/// Whether the server refused a request for another cause than the limit.
 pub fn is_refusal(verdict: Verdict) -> bool {
     matches!(
         verdict,
@@ -32,7 +50,7 @@ pub fn is_refusal(verdict: Verdict) -> bool {
     )
 }
 
-/// A closing that the server refused.
+/// A request that the server refused for another cause than the limit.
 #[derive(Clone, Copy)]
 pub struct Refused<'a> {
     pub request: &'a Request,

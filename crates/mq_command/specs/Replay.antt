@@ -19,7 +19,7 @@ use Rattle.mq_command.specs.declared.connections.TextFault.TheVariants as refuse
 
 -- what is wrong with the end of a connection, if anything; over memory a read or a write fails for want of memory alone
 abbrev pub ending_of : ConnectionEnd → Option Ending
-ending_of (ends.Served served.Ended) = None
+ending_of (ends.Served served.InputEnd) = None
 ending_of (ends.Served served.Enough) = Some Enough
 ending_of (ends.Served served.BadFrame) = Some BadFrame
 ending_of (ends.Served served.CutFrame) = Some CutFrame

@@ -14,7 +14,7 @@ use std::alloc::Global;
 use thiserror::Error;
 
 /// How often a request is sent.
-const TRIES: u32 = 3;
+pub const TRIES: u32 = 3;
 
 /// Why a question brought no answer.
 #[derive(Clone, Copy, Debug, PartialEq, Error)]

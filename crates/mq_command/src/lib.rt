@@ -9,7 +9,7 @@ mod printed;
 mod replay;
 mod report;
 
-pub use ask::AskFault;
+pub use ask::{AskFault, TRIES};
 pub use connections::{TEXT_LIMIT, TextFault, read_connections};
 pub use limit::{SetFault, run_limit};
 pub use output::OutputFault;

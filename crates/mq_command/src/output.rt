@@ -19,6 +19,10 @@ pub enum OutputFault {
 }
 
 impl From<AllocError> for OutputFault {
+    ghost use Rattle.mq_command.specs.declared.output.OutputFault.TheVariants.{Memory};
+
+    ghost from_gives = { λ _ fault. fault ≡ Memory };
+
     fn from(_error: AllocError) -> OutputFault {
         OutputFault::Memory
     }

@@ -1,16 +1,17 @@
 //! `replay`: frames in hexadecimal, answered over a new ledger.
-ghost use Rattle.std.specs.Prelude.{◌≡◌, Ok, Err, None, Some, Result as AResult, [], map, IfOk, IfErr};
+ghost use Rattle.std.specs.Prelude.{◌≡◌, ℕ, ℤ, Ok, Err, None, Some, Result as AResult, [], map, IfOk, IfErr};
 ghost use Rattle.std.specs.Io.KnownBytes.{Keeps};
 ghost use Rattle.std.specs.List.{slice_get};
 ghost use Rattle.mq_frame.specs.Range.{IsAmount};
 ghost use Rattle.mq_command.specs.declared.replay.ReplayFault.{ReplayFault as AReplayFault};
-ghost use Rattle.mq_command.specs.Replay.{ending_of, faults_of, IsReplay, Replays, status_of};
+ghost use Rattle.mq_command.specs.Replay.{empty_book, ending_of, faults_of, IsReplay, Replays, status_of};
 
 use crate::connections::{TextFault, read_connections};
 use crate::output::{OutputFault, write_hex_lines};
 use mq_frame::{FromRead, ToWrite};
-use mq_ledger::{PlainLedger, Zone};
+use mq_ledger::{Ledger, PlainLedger, Zone};
 use mq_server::{ConnectionEnd, ServeFault, Served, serve_all};
+use mq_store::{OpenFault, SqlLedger};
 use std::alloc::Global;
 use std::io::Write;
 use thiserror::Error;
@@ -55,7 +56,7 @@ fn ending_of(end: ConnectionEnd) -> Option<Ending>
     ensures { result ≡ ending_of end }
 {
     match end {
-        ConnectionEnd::Served(Served::Ended) => None,
+        ConnectionEnd::Served(Served::InputEnd) => None,
         ConnectionEnd::Served(Served::Enough) => Some(Ending::Enough),
         ConnectionEnd::Served(Served::BadFrame) => Some(Ending::BadFrame),
         ConnectionEnd::Served(Served::CutFrame) => Some(Ending::CutFrame),
@@ -75,15 +76,15 @@ fn first_fault(ends: &[ConnectionEnd]) -> Option<(usize, Ending)>
     None
 }
 
-/// Serves the connections in turn over a new ledger.
-fn serve_connections(
+/// Serves the connections in turn over a ledger.
+fn serve_over<L: Ledger>(
     alloc: Global,
     connections: &[Vec<u8>],
-    default: u32,
-    zone: Zone,
+    ledger: &mut L,
 ) -> Result<Answered, ServeFault>
-    requires { IsAmount default }
-    ensures { IfOk result (λ answered. IsReplay zone default (map (λ c. c.items) connections.now)
+    ensures { L.has_kept ledger.new → L.is_sound ledger.old → (zone : ℤ) (default : ℕ)
+        → L.book ledger.old ≡ empty_book zone default
+        → IfOk result (λ answered. IsReplay zone default (map (λ c. c.items) connections.now)
         (map (λ s. s.inner.items) answered.written.items) answered.ends.items) }
 {
     let mut inputs = Vec::with_capacity(alloc, connections.len())?;
@@ -94,14 +95,59 @@ fn serve_connections(
             return Err(ServeFault::Memory);
         }
     }
-    let mut ledger = PlainLedger::new(alloc, zone, default);
-    let ends = serve_all(
-        alloc,
-        inputs.as_mut_slice(),
-        written.as_mut_slice(),
-        &mut ledger,
-    )?;
+    let ends = serve_all(alloc, inputs.as_mut_slice(), written.as_mut_slice(), ledger)?;
     Ok(Answered { written, ends })
+}
+
+/// Serves the connections in turn over a new list.
+fn serve_list(
+    alloc: Global,
+    connections: &[Vec<u8>],
+    default: u32,
+    zone: Zone,
+) -> Result<Answered, ServeFault>
+    requires { IsAmount default }
+    ensures { IfOk result (λ answered. IsReplay zone default (map (λ c. c.items) connections.now)
+        (map (λ s. s.inner.items) answered.written.items) answered.ends.items) }
+{
+    let mut ledger = PlainLedger::new(alloc, zone, default);
+    serve_over(alloc, connections, &mut ledger)
+}
+
+/// Serves the connections in turn over new tables in a store in memory.
+fn serve_tables(
+    alloc: Global,
+    connections: &[Vec<u8>],
+    default: u32,
+    zone: Zone,
+) -> Result<Answered, ServeFault>
+    requires { IsAmount default }
+    ensures { IfOk result (λ answered. IsReplay zone default (map (λ c. c.items) connections.now)
+        (map (λ s. s.inner.items) answered.written.items) answered.ends.items) }
+{
+    match SqlLedger::in_memory(alloc, zone, default) {
+        Ok(mut ledger) => serve_over(alloc, connections, &mut ledger),
+        Err(OpenFault::Memory) => Err(ServeFault::Memory),
+        Err(_) => Err(ServeFault::Store),
+    }
+}
+
+/// Serves the connections in turn over a new ledger: a list, or with `sql` tables in memory.
+fn serve_connections(
+    alloc: Global,
+    connections: &[Vec<u8>],
+    default: u32,
+    zone: Zone,
+    sql: bool,
+) -> Result<Answered, ServeFault>
+    requires { IsAmount default }
+    ensures { IfOk result (λ answered. IsReplay zone default (map (λ c. c.items) connections.now)
+        (map (λ s. s.inner.items) answered.written.items) answered.ends.items) }
+{
+    if sql {
+        return serve_tables(alloc, connections, default, zone);
+    }
+    serve_list(alloc, connections, default, zone)
 }
 
 /// Answers the connections of a text over a new ledger, a line of hexadecimal for each.
@@ -110,6 +156,7 @@ fn replay<W: Write>(
     text: &[u8],
     default: u32,
     zone: Zone,
+    sql: bool,
     output: &mut W,
 ) -> Result<(), ReplayFault>
     requires { IsAmount default }
@@ -124,6 +171,7 @@ fn replay<W: Write>(
         connections.as_slice(),
         default,
         zone,
+        sql,
     ) {
         Ok(answered) => answered,
         Err(fault) => return Err(ReplayFault::Serve(fault)),
@@ -143,7 +191,8 @@ fn replay<W: Write>(
 /// Answers the connections of a text over a new ledger, a line of hexadecimal for each, and says
 /// on `errors` why it isn't done.
 ///
-/// `default` is the limit of a login that has none of its own, 0 to 1,000,000 recipients a day.
+/// `default` is the limit of a login that has none of its own, 0 to 1,000,000 recipients a day. The ledger is a list, or
+/// with `sql` tables in a store in memory.
 /// The result is the exit status: 0, or 1 where the text is refused, a connection doesn't end as
 /// it should, or the output fails.
 pub fn run_replay<W: Write, E: Write>(
@@ -151,6 +200,7 @@ pub fn run_replay<W: Write, E: Write>(
     text: &[u8],
     default: u32,
     zone: Zone,
+    sql: bool,
     output: &mut W,
     errors: &mut E,
 ) -> u8
@@ -159,7 +209,7 @@ pub fn run_replay<W: Write, E: Write>(
         × Replays zone default text.now (W.contents output.old) (W.contents output.new) outcome }
     ensures quiet { result ≡ 0 → errors.new ≡ errors.old }
 {
-    match replay(alloc, text, default, zone, output) {
+    match replay(alloc, text, default, zone, sql, output) {
         Ok(()) => 0,
         Err(fault) => {
             let _ = writeln!(errors, "mailquota: {fault}");

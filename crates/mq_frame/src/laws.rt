@@ -2,6 +2,14 @@
 ghost use Rattle.std.specs.Prelude.{◌≡◌, ◌↔◌, ℕ, ◌+◌, ◌<◌, ◌≤◌, List, [], ◌∷◌, ◌++◌, length, drop, true, Some, None};
 ghost use Rattle.std.specs.Prelude.{Ok, All, ◌⊎◌};
 ghost use Rattle.std.specs.List.{flat_map};
+ghost use Rattle.mq_frame.specs.declared.feed.TheConstants.{REQUEST_LIMIT, REPLY_LIMIT};
+ghost use Rattle.mq_frame.specs.declared.format.TheConstants.{RESERVE, SETTLE, RELEASE, LIMIT, USAGE, LIST};
+ghost use Rattle.mq_frame.specs.declared.format.TheConstants.{GRANTED, FULL, SETTLED, RELEASED, LIMIT_SET, OVER};
+ghost use Rattle.mq_frame.specs.declared.format.TheConstants.{CLOSED, MISMATCH, TOO_MANY, CONFLICT, RETRY, BAD};
+ghost use Rattle.mq_frame.specs.declared.format.TheConstants.{USAGE_REPLY, LIST_REPLY, HEAD_BYTES, HOST_LIMIT};
+ghost use Rattle.mq_frame.specs.declared.format.TheConstants.{LOGIN_LIMIT, LAST_RUN, LAST_ORDINAL, FIRST_MOMENT};
+ghost use Rattle.mq_frame.specs.declared.format.TheConstants.{LAST_MOMENT, LAST_DAY, COUNT_LIMIT, AMOUNT_LIMIT};
+ghost use Rattle.mq_frame.specs.declared.format.TheConstants.{ROW_LIMIT};
 ghost use Rattle.mq_frame.specs.Range.{IsWithin, IsRequest, IsReply};
 ghost use Rattle.mq_frame.specs.Same.{same_id, same_request};
 ghost use Rattle.mq_frame.specs.Spelling.{in_2_bytes, request_body, reply_body, SpellsRequest, SpellsReply, frame};
@@ -11,6 +19,28 @@ ghost use Rattle.mq_frame.specs.Feed.{left_by_next, BeginsWith, HasNoFrame, Fram
 ghost use Rattle.mq_frame.specs.declared.message.Id.{Id};
 ghost use Rattle.mq_frame.specs.declared.message.Request.{Request};
 ghost use Rattle.mq_frame.specs.declared.message.Reply.{Reply};
+
+/// The kinds of bodies, and how long bodies are, as numbers: the definitions have their names alone.
+pub fn numbers_of_bodies()
+    ensures requests { RESERVE ∷ SETTLE ∷ RELEASE ∷ LIMIT ∷ USAGE ∷ LIST ∷ [] ≡ 1 ∷ 2 ∷ 3 ∷ 4 ∷ 5 ∷ 6 ∷ [] }
+    ensures granted_or_not { GRANTED ∷ FULL ∷ SETTLED ∷ RELEASED ∷ [] ≡ 129 ∷ 130 ∷ 131 ∷ 132 ∷ [] }
+    ensures limits { LIMIT_SET ∷ OVER ∷ [] ≡ 133 ∷ 134 ∷ [] }
+    ensures refusals { CLOSED ∷ MISMATCH ∷ TOO_MANY ∷ CONFLICT ∷ [] ≡ 135 ∷ 136 ∷ 137 ∷ 138 ∷ [] }
+    ensures reports { USAGE_REPLY ∷ LIST_REPLY ∷ [] ≡ 139 ∷ 140 ∷ [] }
+    ensures bare { RETRY ∷ BAD ∷ [] ≡ 141 ∷ 142 ∷ [] }
+    ensures head { HEAD_BYTES ≡ 2 }
+    ensures longest { (REQUEST_LIMIT ≡ 512) × (REPLY_LIMIT ≡ 65535) }
+{}
+
+/// The ranges of the fields of bodies, as numbers.
+pub fn numbers_of_fields()
+    ensures names { (HOST_LIMIT ≡ 64) × (LOGIN_LIMIT ≡ 255) }
+    ensures places { (LAST_RUN ≡ 281474976710655) × (LAST_ORDINAL ≡ 4294967295) }
+    ensures moments { (FIRST_MOMENT ≡ 86400) × (LAST_MOMENT ≡ 32503680000) }
+    ensures days { LAST_DAY ≡ 376200 }
+    ensures recipients { (COUNT_LIMIT ≡ 1000) × (AMOUNT_LIMIT ≡ 1000000) }
+    ensures rows { ROW_LIMIT ≡ 100 }
+{}
 
 /// Each request and reply in range has one body, and no body spells two of them.
 pub fn one_spelling()

@@ -6,24 +6,12 @@ use std::process::Abort;
 /// What a test says as it ends where memory is refused.
 pub const NO_MEMORY: &str = "memory is there";
 
-/// The bytes of a text of hexadecimal digits; spaces are passed over.
+/// The bytes of a text of hexadecimal digits, with spaces between whole bytes.
 pub fn bytes_of(rt: &(impl Abort + AllocGlobal), text: &str) -> Vec<u8> {
     let mut bytes = Vec::new(rt.alloc());
-    let mut high: Option<u8> = None;
-    for digit in text.as_bytes() {
-        let value = match *digit {
-            b'0'..=b'9' => digit.wrapping_sub(b'0'),
-            b'a'..=b'f' => digit.wrapping_sub(b'a' - 10),
-            _ => continue,
-        };
-        match high {
-            None => high = Some(value),
-            Some(first) => {
-                let byte = first.wrapping_mul(16).wrapping_add(value);
-                bytes.push(byte).expect(rt, NO_MEMORY);
-                high = None;
-            }
-        }
+    for digits in text.split(' ') {
+        let more = hex::decode(rt.alloc(), digits.as_bytes()).expect(rt, "it is hexadecimal");
+        bytes.extend_from_slice(&more).expect(rt, NO_MEMORY);
     }
     bytes
 }

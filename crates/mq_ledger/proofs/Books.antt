@@ -7,7 +7,7 @@ use Rattle.mq_frame.specs.declared.message.Request.{Request}
 use Rattle.mq_frame.specs.declared.message.Reply.{Reply}
 use Rattle.mq_frame.specs.Range.{IsRequest, IsReply, IsAmount}
 use Rattle.mq_ledger.specs.declared.entry.Entry.{Entry}
-use Rattle.mq_ledger.specs.Answer.{if_open, answer, appended, stored_by, reply, reply_to, reply_by, taken, taken_by, history_of}
+use Rattle.mq_ledger.specs.Answer.{if_open, answer, appended, stored_by, reply, reply_to, reply_by, with_arrival, with_arrival_by, history_of}
 use Rattle.mq_ledger.specs.Arrivals.{id_of}
 use Rattle.mq_ledger.specs.Day.{IsOffset, day_of}
 use Rattle.mq_ledger.specs.History.{requests, transaction, granted_in, used, IsOpenTo}
@@ -36,27 +36,27 @@ pub reply_fresh : (day : ℕ → ℕ) (default : ℕ) (H : List Entry) (r : Requ
 reply_fresh day default H r None e h = ap (reply_to day default H r) e
 reply_fresh day default H r (Some id) e h = ap (reply_to day default H r) e ∙ ap (reply_by day default H r id) h
 
-pub taken_stored : (day : ℕ → ℕ) (default : ℕ) (H : List Entry) (r : Request) (o : Option Id) → is_some (stored_by H o) ≡ true → taken_by day default H r o ≡ H
-taken_stored day default H r None h = refl
-taken_stored day default H r (Some id) h = rw h refl
+pub arrival_of_stored : (day : ℕ → ℕ) (default : ℕ) (H : List Entry) (r : Request) (o : Option Id) → is_some (stored_by H o) ≡ true → with_arrival_by day default H r o ≡ H
+arrival_of_stored day default H r None h = refl
+arrival_of_stored day default H r (Some id) h = rw h refl
 
-pub taken_unnumbered : (day : ℕ → ℕ) (default : ℕ) (H : List Entry) (r : Request) (o : Option Id) → is_some o ≡ false → taken_by day default H r o ≡ H
-taken_unnumbered day default H r None h = refl
-taken_unnumbered day default H r (Some id) h = cc
+pub arrival_unnumbered : (day : ℕ → ℕ) (default : ℕ) (H : List Entry) (r : Request) (o : Option Id) → is_some o ≡ false → with_arrival_by day default H r o ≡ H
+arrival_unnumbered day default H r None h = refl
+arrival_unnumbered day default H r (Some id) h = cc
 
-pub taken_fresh : (day : ℕ → ℕ) (default : ℕ) (H : List Entry) (r : Request) (o : Option Id) → is_some o ≡ true → stored_by H o ≡ None → taken_by day default H r o ≡ appended day default H r
-taken_fresh day default H r None t h = cc
-taken_fresh day default H r (Some id) t h = rw h refl
+pub arrival_fresh : (day : ℕ → ℕ) (default : ℕ) (H : List Entry) (r : Request) (o : Option Id) → is_some o ≡ true → stored_by H o ≡ None → with_arrival_by day default H r o ≡ appended day default H r
+arrival_fresh day default H r None t h = cc
+arrival_fresh day default H r (Some id) t h = rw h refl
 
-pub legal_taken : (day : ℕ → ℕ) (default : ℕ) (H : List Entry) (r : Request) → IsLegal day default H → IsRequest r → IsLegal day default (taken day default H r)
-legal_taken day default H r legal h =
+pub legal_arrival : (day : ℕ → ℕ) (default : ℕ) (H : List Entry) (r : Request) → IsLegal day default H → IsRequest r → IsLegal day default (with_arrival day default H r)
+legal_arrival day default H r legal h =
     let all : All IsRequest (requests H ++ r ∷ []) = All-push IsRequest (requests H) r (All-map IsRequest (λ e. e.request) H legal.range) h in
     subst (IsLegal day default) (legal_more day default H r legal) (legal_build day default (requests H ++ r ∷ []) all)
 
 -- a book after an arrival
-pub book_taken : (b c : Book) (r : Request) → IsLegalBook b → IsRequest r → c.zone ≡ b.zone → c.default ≡ b.default → c.history ≡ taken (day_of b.zone) b.default b.history r → IsLegalBook c
-book_taken b c r h range same_zone same_default after =
-    let legal = legal_taken (day_of b.zone) b.default b.history r h.legal range in
+pub book_arrival : (b c : Book) (r : Request) → IsLegalBook b → IsRequest r → c.zone ≡ b.zone → c.default ≡ b.default → c.history ≡ with_arrival (day_of b.zone) b.default b.history r → IsLegalBook c
+book_arrival b c r h range same_zone same_default after =
+    let legal = legal_arrival (day_of b.zone) b.default b.history r h.legal range in
     record {
       zone = subst IsOffset (sym same_zone) h.zone;
       default = subst IsAmount (sym same_default) h.default;
@@ -66,12 +66,12 @@ book_taken b c r h range same_zone same_default after =
 pub book_reply : (b : Book) (r : Request) (a : Reply) → IsLegalBook b → IsRequest r → a ≡ reply (day_of b.zone) b.default b.history r → IsReply a
 book_reply b r a h range is = subst IsReply (sym is) (reply_range (day_of b.zone) b.default b.history r h.default (offset_days b.zone h.zone) h.legal range)
 
-pub book_history : (b : Book) (r : Request) (K : List Entry) → IsLegalBook b → K ≡ taken (day_of b.zone) b.default b.history r → K ≡ history_of (day_of b.zone) b.default (requests b.history ++ r ∷ [])
+pub book_history : (b : Book) (r : Request) (K : List Entry) → IsLegalBook b → K ≡ with_arrival (day_of b.zone) b.default b.history r → K ≡ history_of (day_of b.zone) b.default (requests b.history ++ r ∷ [])
 book_history b r K h is = is ∙ sym (legal_more (day_of b.zone) b.default b.history r h.legal)
 
-pub book_appended : (b : Book) (r : Request) (a : Reply) → stored_by b.history (id_of r) ≡ None → is_some (id_of r) ≡ true → a ≡ answer (day_of b.zone) b.default b.history r → b.history ++ entry r a ∷ [] ≡ taken (day_of b.zone) b.default b.history r
+pub book_appended : (b : Book) (r : Request) (a : Reply) → stored_by b.history (id_of r) ≡ None → is_some (id_of r) ≡ true → a ≡ answer (day_of b.zone) b.default b.history r → b.history ++ entry r a ∷ [] ≡ with_arrival (day_of b.zone) b.default b.history r
 book_appended b r a fresh numbered is =
-    ap (λ x. b.history ++ entry r x ∷ []) is ∙ sym (taken_fresh (day_of b.zone) b.default b.history r (id_of r) numbered fresh)
+    ap (λ x. b.history ++ entry r x ∷ []) is ∙ sym (arrival_fresh (day_of b.zone) b.default b.history r (id_of r) numbered fresh)
 
 pub book_fresh_reply : (b : Book) (r : Request) (a : Reply) → stored_by b.history (id_of r) ≡ None → a ≡ answer (day_of b.zone) b.default b.history r → a ≡ reply (day_of b.zone) b.default b.history r
 book_fresh_reply b r a fresh is = is ∙ sym (reply_fresh (day_of b.zone) b.default b.history r (id_of r) refl fresh)

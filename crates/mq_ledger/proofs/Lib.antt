@@ -4,6 +4,7 @@ pub mod Overs
 pub mod Transactions
 pub mod Within
 pub mod Numbers
+pub mod Firsts
 pub mod Pages
 pub mod PageFacts
 pub mod Ranges

@@ -14,7 +14,7 @@ use Rattle.mq_frame.specs.declared.message.Reply.{Reply}
 use Rattle.mq_frame.specs.Range.{IsRequest}
 use Rattle.mq_frame.specs.Same.{same_request}
 use Rattle.mq_ledger.specs.declared.entry.Entry.{Entry}
-use Rattle.mq_ledger.specs.Answer.{answer, appended, build, stored, reply, reply_to, reply_by, taken, taken_by, history_of}
+use Rattle.mq_ledger.specs.Answer.{answer, appended, build, stored, reply, reply_to, reply_by, with_arrival, with_arrival_by, history_of}
 use Rattle.mq_ledger.specs.Arrivals.{id_of, has_id, kept_with, first}
 use Rattle.mq_ledger.specs.History.{requests}
 use Rattle.mq_ledger.specs.Legal.{IsLegal}
@@ -101,7 +101,7 @@ pub stored_any : (H : List Entry) (id : Id) → list_any (has_id id) (requests H
 stored_any [] id = refl
 stored_any (e ∷ H) id = elim (either (has_id id e.request)) [ inl t ↦ rw t refl | inr f ↦ rw f (stored_any H id) ]
 
-one_more_by : (day : ℕ → ℕ) (default : ℕ) (A : List Request) (r : Request) (o : Option Id) → build day default (kept_with (first A) r o) ≡ taken_by day default (history_of day default A) r o
+one_more_by : (day : ℕ → ℕ) (default : ℕ) (A : List Request) (r : Request) (o : Option Id) → build day default (kept_with (first A) r o) ≡ with_arrival_by day default (history_of day default A) r o
 one_more_by day default A r None = refl
 one_more_by day default A r (Some id) =
     let H : List Entry = history_of day default A in
@@ -111,24 +111,24 @@ one_more_by day default A r (Some id) =
       | inr f ↦ (let s : list_any (has_id id) (first A) ≡ false = same ∙ f in rw (s, f) (build_push day default (first A) r))
     ]
 
-pub one_more : (day : ℕ → ℕ) (default : ℕ) (A : List Request) (r : Request) → history_of day default (A ++ r ∷ []) ≡ taken day default (history_of day default A) r
+pub one_more : (day : ℕ → ℕ) (default : ℕ) (A : List Request) (r : Request) → history_of day default (A ++ r ∷ []) ≡ with_arrival day default (history_of day default A) r
 one_more day default A r = ap (build day default) (first_push A r) ∙ one_more_by day default A r (id_of r)
 
 -- a legal history is that of its own requests
 pub legal_again : (day : ℕ → ℕ) (default : ℕ) (H : List Entry) → IsLegal day default H → history_of day default (requests H) ≡ H
 legal_again day default H legal = ap (build day default) legal.distinct ∙ sym legal.built
 
-pub legal_more : (day : ℕ → ℕ) (default : ℕ) (H : List Entry) (r : Request) → IsLegal day default H → history_of day default (requests H ++ r ∷ []) ≡ taken day default H r
-legal_more day default H r legal = one_more day default (requests H) r ∙ ap (λ K. taken day default K r) (legal_again day default H legal)
+pub legal_more : (day : ℕ → ℕ) (default : ℕ) (H : List Entry) (r : Request) → IsLegal day default H → history_of day default (requests H ++ r ∷ []) ≡ with_arrival day default H r
+legal_more day default H r legal = one_more day default (requests H) r ∙ ap (λ K. with_arrival day default K r) (legal_again day default H legal)
 
 -- A number keeps its reply.
 
 stored_push : (H : List Entry) (id : Id) (x e : Entry) → stored H id ≡ Some x → stored (H ++ e ∷ []) id ≡ Some x
 stored_push H id x e h = find-append (λ e. has_id id e.request) H (e ∷ []) ∙ rw h refl
 
-stored_taken_by : (day : ℕ → ℕ) (default : ℕ) (H : List Entry) (r : Request) (o : Option Id) (id : Id) (x : Entry) → stored H id ≡ Some x → stored (taken_by day default H r o) id ≡ Some x
-stored_taken_by day default H r None id x h = h
-stored_taken_by day default H r (Some other) id x h = elim (either (is_some (stored H other))) [
+stored_with_arrival : (day : ℕ → ℕ) (default : ℕ) (H : List Entry) (r : Request) (o : Option Id) (id : Id) (x : Entry) → stored H id ≡ Some x → stored (with_arrival_by day default H r o) id ≡ Some x
+stored_with_arrival day default H r None id x h = h
+stored_with_arrival day default H r (Some other) id x h = elim (either (is_some (stored H other))) [
   | inl t ↦ rw t h
   | inr f ↦ rw f (stored_push H id x (entry r (answer day default H r)) h)
 ]
@@ -136,7 +136,7 @@ stored_taken_by day default H r (Some other) id x h = elim (either (is_some (sto
 pub stored_later : (day : ℕ → ℕ) (default : ℕ) (A B : List Request) (id : Id) (x : Entry) → stored (history_of day default A) id ≡ Some x → stored (history_of day default (A ++ B)) id ≡ Some x
 stored_later day default A [] id x h = ap (λ (C : List Request). stored (history_of day default C) id) (append-nil A) ∙ h
 stored_later day default A (r ∷ B) id x h =
-    let next : stored (history_of day default (A ++ r ∷ [])) id ≡ Some x = ap (λ (K : List Entry). stored K id) (one_more day default A r) ∙ stored_taken_by day default (history_of day default A) r (id_of r) id x h in
+    let next : stored (history_of day default (A ++ r ∷ [])) id ≡ Some x = ap (λ (K : List Entry). stored K id) (one_more day default A r) ∙ stored_with_arrival day default (history_of day default A) r (id_of r) id x h in
     ap (λ (C : List Request). stored (history_of day default C) id) (sym (append_assoc A (r ∷ []) B)) ∙ stored_later day default (A ++ r ∷ []) B id x next
 
 reply_stored : (day : ℕ → ℕ) (default : ℕ) (H : List Entry) (r : Request) (id : Id) (x : Entry) → id_of r ≡ Some id → stored H id ≡ Some x → reply day default H r ≡ reply_by day default [] r id (Some x)
@@ -159,17 +159,17 @@ same_itself (ListRequest d after) = rw (number_itself d, text_itself after) refl
 stored_new : (H : List Entry) (r : Request) (a : Reply) (id : Id) → id_of r ≡ Some id → stored H id ≡ None → stored (H ++ entry r a ∷ []) id ≡ Some (entry r a)
 stored_new H r a id e none = find-append (λ x. has_id id x.request) H (entry r a ∷ []) ∙ rw (none, e, id_itself id) refl
 
--- a request that was taken is stored, and its reply is still the one that it got
-record IsTaken (day : ℕ → ℕ) (default : ℕ) (H : List Entry) (r : Request) (id : Id) (K : List Entry) : Type 0 where
+-- a request that has arrived is stored, and its reply is still the one that it got
+record HasArrived (day : ℕ → ℕ) (default : ℕ) (H : List Entry) (r : Request) (id : Id) (K : List Entry) : Type 0 where
   found : Entry
   there : stored K id ≡ Some found
   same : reply day default K r ≡ reply day default H r
 
-taken_is : (day : ℕ → ℕ) (default : ℕ) (H : List Entry) (r : Request) (id : Id) → id_of r ≡ Some id → (o : Option Entry) → stored H id ≡ o → IsTaken day default H r id (taken_by day default H r (Some id))
-taken_is day default H r id e (Some x) h =
-    let P : List Entry → Type 0 = λ K. IsTaken day default H r id K in
+arrival_is_stored : (day : ℕ → ℕ) (default : ℕ) (H : List Entry) (r : Request) (id : Id) → id_of r ≡ Some id → (o : Option Entry) → stored H id ≡ o → HasArrived day default H r id (with_arrival_by day default H r (Some id))
+arrival_is_stored day default H r id e (Some x) h =
+    let P : List Entry → Type 0 = λ K. HasArrived day default H r id K in
     rw h (record { found = x; there = h; same = refl })
-taken_is day default H r id e None h =
+arrival_is_stored day default H r id e None h =
     let a : Reply = answer day default H r in
     let there : stored (H ++ entry r a ∷ []) id ≡ Some (entry r a) = stored_new H r a id e h in
     let before : reply day default H r ≡ a = ap (reply_to day default H r) e ∙ ap (reply_by day default H r id) h in
@@ -180,8 +180,8 @@ taken_is day default H r id e None h =
 pub reply_stays : (day : ℕ → ℕ) (default : ℕ) (A B : List Request) (r : Request) (id : Id) → id_of r ≡ Some id → reply day default (history_of day default (A ++ r ∷ B)) r ≡ reply day default (history_of day default A) r
 reply_stays day default A B r id e =
     let H : List Entry = history_of day default A in
-    let next : history_of day default (A ++ r ∷ []) ≡ taken_by day default H r (Some id) = one_more day default A r ∙ ap (taken_by day default H r) e in
-    let t = taken_is day default H r id e (stored H id) refl in
+    let next : history_of day default (A ++ r ∷ []) ≡ with_arrival_by day default H r (Some id) = one_more day default A r ∙ ap (with_arrival_by day default H r) e in
+    let t = arrival_is_stored day default H r id e (stored H id) refl in
     let there : stored (history_of day default (A ++ r ∷ [])) id ≡ Some t.found = ap (λ (K : List Entry). stored K id) next ∙ t.there in
     ap (λ (C : List Request). reply day default (history_of day default C) r) (sym (append_assoc A (r ∷ []) B))
     ∙ stored_reply_stays day default (A ++ r ∷ []) B r id t.found e there

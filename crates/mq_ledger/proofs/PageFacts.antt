@@ -5,7 +5,7 @@ use Rattle.std.specs.List.{AllByRecursion, list_any}
 use Rattle.std.proofs.lemmas.List.{length-take}
 use Rattle.std.proofs.lemmas.List.Elements.{recursion_from_All, All-from_recursion}
 use Rattle.mq_ledger.specs.declared.entry.Entry.{Entry}
-use Rattle.mq_ledger.specs.Page.{below, login_on, logins_on, logins_above, page, IsAscending, is_login, has_reserve, IsPage}
+use Rattle.mq_ledger.specs.Page.{below, login_on, logins_on, logins_above, page, IsAscending, is_login, has_reserve, IsLoginPage}
 use Rattle.mq_ledger.proofs.Basics.{either, text_is, text_itself, In, all_of, all_at, all_push, in_filter_map, filter_map_in}
 use Rattle.mq_ledger.proofs.Pages.{below_trans, not_below_itself, same_ascending, above_ascending, IsAbove, above_in, in_above}
 
@@ -99,7 +99,7 @@ page_placed : (day : ℕ → ℕ) (H : List Entry) (d : ℕ) (after l : List ℕ
 unfolding page
 page_placed day H d after l h = placed 100 (logins_above day H d after) l (above_ascending day H d after) (above_in day H d after l h)
 
-pub page_is : (day : ℕ → ℕ) (H : List Entry) (d : ℕ) (after : List ℕ) → IsPage day H d after (page day H d after)
+pub page_is : (day : ℕ → ℕ) (H : List Entry) (d : ℕ) (after : List ℕ) → IsLoginPage day H d after (page day H d after)
 page_is day H d after =
     let ls : List (List ℕ) = page day H d after in
     record {
@@ -142,7 +142,7 @@ push_ascending [] l up all = (tt, tt)
 push_ascending (m ∷ ms) l up all = (all_push (λ x. below m x ≡ true) ms l up.0 all.0, push_ascending ms l up.1 all.1)
 
 -- each login of a page is on every other page of that day and login
-page_part : (day : ℕ → ℕ) (H : List Entry) (d : ℕ) (after : List ℕ) (xs ys : List (List ℕ)) → IsPage day H d after xs → IsPage day H d after ys → (x : List ℕ) → In x xs → In x ys
+page_part : (day : ℕ → ℕ) (H : List Entry) (d : ℕ) (after : List ℕ) (xs ys : List (List ℕ)) → IsLoginPage day H d after xs → IsLoginPage day H d after ys → (x : List ℕ) → In x xs → In x ys
 page_part day H d after xs ys p q x i =
     let all_above = recursion_from_All (λ l. below after l ≡ true) in
     let all_there = recursion_from_All (λ l. has_reserve day H d l ≡ true) in
@@ -163,7 +163,7 @@ page_part day H d after xs ys p q x i =
           absurd (omega (arith, more, length-append ys (x ∷ []), p.few, full.0)))
     ]
 
-pub is_page : (day : ℕ → ℕ) (H : List Entry) (d : ℕ) (after : List ℕ) (ls : List (List ℕ)) → IsPage day H d after ls → ls ≡ page day H d after
+pub is_page : (day : ℕ → ℕ) (H : List Entry) (d : ℕ) (after : List ℕ) (ls : List (List ℕ)) → IsLoginPage day H d after ls → ls ≡ page day H d after
 is_page day H d after ls p =
     let q = page_is day H d after in
     same_ascending ls (page day H d after) p.ascending q.ascending (page_part day H d after ls (page day H d after) p q) (page_part day H d after (page day H d after) ls q p)

@@ -1,12 +1,16 @@
 -- What a ledger answers, and the history that its answers make.
 --
 -- `day` gives the day of a moment, and `default` the limit of a login that has none.
-use Rattle.std.specs.Prelude.{ℕ, ◌+◌, List, [], ◌∷◌, ◌++◌, map, find, fold, not, nat_lt, if◌then◌else◌, Option, Some, None, is_some}
+use Rattle.std.specs.Prelude.{ℕ, ◌+◌, List, [], ◌∷◌, ◌++◌, map, find, fold, not, nat_lt, if◌then◌else◌, Option, Some}
+use Rattle.std.specs.Prelude.{None, is_some}
 use Rattle.mq_frame.specs.declared.message.Id.{Id}
 use Rattle.mq_frame.specs.declared.message.Request.{Request}
-use Rattle.mq_frame.specs.declared.message.Request.TheVariants.{Reserve, Settle, Release, Limit, Usage, List as ListRequest}
+use Rattle.mq_frame.specs.declared.message.Request.TheVariants.{Reserve, Settle, Release, Limit, Usage}
+use Rattle.mq_frame.specs.declared.message.Request.TheVariants.{List as ListRequest}
 use Rattle.mq_frame.specs.declared.message.Reply.{Reply}
-use Rattle.mq_frame.specs.declared.message.Reply.TheVariants.{Granted, Full, Settled, Released, LimitSet, Over, Closed, Mismatch, TooMany, Conflict, Usage as UsageReply, List as ListReply}
+use Rattle.mq_frame.specs.declared.message.Reply.TheVariants.{Granted, Full, Settled, Released, LimitSet, Over, Closed}
+use Rattle.mq_frame.specs.declared.message.Reply.TheVariants.{Mismatch, TooMany, Conflict, Usage as UsageReply}
+use Rattle.mq_frame.specs.declared.message.Reply.TheVariants.{List as ListReply}
 use Rattle.mq_frame.specs.Same.{same_request}
 use Rattle.mq_ledger.specs.declared.entry.Entry.{Entry}
 use Rattle.mq_ledger.specs.Arrivals.{id_of, has_id, first}
@@ -83,13 +87,13 @@ abbrev pub reply : (ℕ → ℕ) → ℕ → List Entry → Request → Reply
 reply day default H r = reply_to day default H r (id_of r)
 
 -- H after an arrival: a request whose number isn't in H stands behind it, with its answer
-abbrev pub taken_by : (ℕ → ℕ) → ℕ → List Entry → Request → Option Id → List Entry
-taken_by day default H r None = H
-taken_by day default H r (Some id) = if is_some (stored H id) then H else appended day default H r
+abbrev pub with_arrival_by : (ℕ → ℕ) → ℕ → List Entry → Request → Option Id → List Entry
+with_arrival_by day default H r None = H
+with_arrival_by day default H r (Some id) = if is_some (stored H id) then H else appended day default H r
 
 -- the same, by the number of the request
-abbrev pub taken : (ℕ → ℕ) → ℕ → List Entry → Request → List Entry
-taken day default H r = taken_by day default H r (id_of r)
+abbrev pub with_arrival : (ℕ → ℕ) → ℕ → List Entry → Request → List Entry
+with_arrival day default H r = with_arrival_by day default H r (id_of r)
 
 -- the history of arrivals
 abbrev pub history_of : (ℕ → ℕ) → ℕ → List Request → List Entry
@@ -98,7 +102,8 @@ history_of day default arrivals = build day default (first arrivals)
 -- the replies to arrivals, after earlier ones
 abbrev pub replies_after : (ℕ → ℕ) → ℕ → List Request → List Request → List Reply
 replies_after day default earlier [] = []
-replies_after day default earlier (r ∷ rs) = reply day default (history_of day default earlier) r ∷ replies_after day default (earlier ++ r ∷ []) rs
+replies_after day default earlier (r ∷ rs) =
+    reply day default (history_of day default earlier) r ∷ replies_after day default (earlier ++ r ∷ []) rs
 
 -- each arrival's reply is that over the history of the arrivals before it
 abbrev pub replies : (ℕ → ℕ) → ℕ → List Request → List Reply

@@ -1,9 +1,10 @@
 -- Numbered requests, and the first arrival of each number.
-use Rattle.std.specs.Prelude.{List, [], ◌∷◌, ◌++◌, fold, Bool, false, if◌then◌else◌, Option, Some, None}
+use Rattle.std.specs.Prelude.{List, [], ◌∷◌, ◌++◌, fold, Bool, false, not, if◌then◌else◌, Option, Some, None}
 use Rattle.std.specs.List.{list_any}
 use Rattle.mq_frame.specs.declared.message.Id.{Id}
 use Rattle.mq_frame.specs.declared.message.Request.{Request}
-use Rattle.mq_frame.specs.declared.message.Request.TheVariants.{Reserve, Settle, Release, Limit, Usage, List as ListRequest}
+use Rattle.mq_frame.specs.declared.message.Request.TheVariants.{Reserve, Settle, Release, Limit, Usage}
+use Rattle.mq_frame.specs.declared.message.Request.TheVariants.{List as ListRequest}
 use Rattle.mq_frame.specs.Same.{same_id}
 
 -- the number of a request: usage and list have none
@@ -32,3 +33,12 @@ kept_with kept r (Some id) = if list_any (has_id id) kept then kept else kept ++
 -- the numbered requests, without each whose number an earlier one has
 abbrev pub first : List Request → List Request
 first arrivals = fold (λ kept r. kept_with kept r (id_of r)) [] arrivals
+
+-- by the number of an arrival: it is there, and no earlier arrival has it
+abbrev pub is_first_by : List Request → Option Id → Bool
+is_first_by earlier None = false
+is_first_by earlier (Some id) = not (list_any (has_id id) earlier)
+
+-- an arrival is numbered, and no earlier one has its number
+abbrev pub is_first : List Request → Request → Bool
+is_first earlier r = is_first_by earlier (id_of r)

@@ -2,11 +2,13 @@
 --
 -- A history is a list of entries, oldest first: numbered requests, each with its reply. `day` gives
 -- the day of a moment.
-use Rattle.std.specs.Prelude.{◌≡◌, ℕ, ◌+◌, List, map, find, sum_by, Bool, true, false, ◌==◌, ◌&&◌, not, if◌then◌else◌, Option, Some, None}
+use Rattle.std.specs.Prelude.{◌≡◌, ℕ, ◌+◌, List, map, find, sum_by, Bool, true, false, ◌==◌, ◌&&◌, not, if◌then◌else◌}
+use Rattle.std.specs.Prelude.{Option, Some, None}
 use Rattle.std.specs.List.{list_any}
 use Rattle.mq_frame.specs.declared.message.Id.{Id}
 use Rattle.mq_frame.specs.declared.message.Request.{Request}
-use Rattle.mq_frame.specs.declared.message.Request.TheVariants.{Reserve, Settle, Release, Limit, Usage, List as ListRequest}
+use Rattle.mq_frame.specs.declared.message.Request.TheVariants.{Reserve, Settle, Release, Limit, Usage}
+use Rattle.mq_frame.specs.declared.message.Request.TheVariants.{List as ListRequest}
 use Rattle.mq_frame.specs.declared.message.Reply.{Reply}
 use Rattle.mq_frame.specs.declared.message.Reply.TheVariants.{Granted, Settled, Released}
 use Rattle.mq_frame.specs.Same.{same_text}
@@ -90,7 +92,7 @@ granted_in H t = sum_by (λ e. if is_of t e.request then granted e.request e.rep
 abbrev pub held : List Entry → Transaction → ℕ
 held H t = if closed H t then 0 else granted_in H t
 
--- the sum of counts of the transaction's settled settles: a legal history has one of them at most
+-- the sum of counts of the transaction's settled settles
 abbrev pub settled_in : List Entry → Transaction → ℕ
 settled_in H t = sum_by (λ e. if is_of t e.request then counted e.request e.reply else 0) H
 
@@ -129,8 +131,11 @@ used day H l d = reserved day H l d + settled day H l d
 abbrev pub gained : (ℕ → ℕ) → List ℕ → ℕ → Request → Reply → ℕ
 gained day l d r a = if concerns day l d r then granted r a else 0
 
--- what an entry behind H ends of what the login has reserved on that day: what its transaction holds, where it closes it
+-- what an entry behind H ends of what the login has reserved on that day: what its transaction holds, where it
+-- closes it
 abbrev pub freed : (ℕ → ℕ) → List Entry → List ℕ → ℕ → Request → Reply → ℕ
-freed day H l d (Settle id txn at login count) (Settled id' count') = if same_text l login && (day at == d) then held H (transaction id txn) else 0
-freed day H l d (Release id txn at login) (Released id' n) = if same_text l login && (day at == d) then held H (transaction id txn) else 0
+freed day H l d (Settle id txn at login count) (Settled id' count') =
+    if same_text l login && (day at == d) then held H (transaction id txn) else 0
+freed day H l d (Release id txn at login) (Released id' n) =
+    if same_text l login && (day at == d) then held H (transaction id txn) else 0
 freed day H l d _ _ = 0

@@ -1,5 +1,6 @@
 -- The limit of a login on a day.
-use Rattle.std.specs.Prelude.{ℕ, List, filter, fold, Bool, false, ◌==◌, ◌&&◌, nat_lt, nat_le, if◌then◌else◌, Option, Some, None}
+use Rattle.std.specs.Prelude.{ℕ, List, filter, fold, Bool, false, ◌==◌, ◌&&◌, nat_lt, nat_le, if◌then◌else◌, Option}
+use Rattle.std.specs.Prelude.{Some, None}
 use Rattle.mq_frame.specs.declared.message.Request.{Request}
 use Rattle.mq_frame.specs.declared.message.Request.TheVariants.{Limit}
 use Rattle.mq_frame.specs.declared.message.Reply.{Reply}

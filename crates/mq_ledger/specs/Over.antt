@@ -1,5 +1,6 @@
 -- The first day on which a login has used more than a limit would allow.
-use Rattle.std.specs.Prelude.{ℕ, ◌<◌, ◌≤◌, List, [], ◌∷◌, filter, ◌&&◌, nat_lt, nat_le, if◌then◌else◌, Option, Some, None}
+use Rattle.std.specs.Prelude.{ℕ, ◌<◌, ◌≤◌, List, [], ◌∷◌, filter, ◌&&◌, nat_lt, nat_le, if◌then◌else◌, Option, Some}
+use Rattle.std.specs.Prelude.{None}
 use Rattle.std.specs.List.{filter_map}
 use Rattle.mq_frame.specs.declared.message.Request.{Request}
 use Rattle.mq_frame.specs.declared.message.Request.TheVariants.{Reserve, Settle}
@@ -11,8 +12,10 @@ use Rattle.mq_ledger.specs.History.{used}
 
 -- the day of the login's granted reserve or settled settle, where it is that day or a later one
 abbrev pub day_from : (ℕ → ℕ) → List ℕ → ℕ → Request → Reply → Option ℕ
-day_from day l from (Reserve id txn at login count) (Granted id' n) = if same_text l login && nat_le from (day at) then Some (day at) else None
-day_from day l from (Settle id txn at login count) (Settled id' n) = if same_text l login && nat_le from (day at) then Some (day at) else None
+day_from day l from (Reserve id txn at login count) (Granted id' n) =
+    if same_text l login && nat_le from (day at) then Some (day at) else None
+day_from day l from (Settle id txn at login count) (Settled id' n) =
+    if same_text l login && nat_le from (day at) then Some (day at) else None
 day_from day l from _ _ = None
 
 -- the days from that day on on which the login has any
@@ -36,4 +39,5 @@ over day H l from c = least (filter (λ d. nat_lt c (used day H l d)) (days_from
 -- of all days from that day on it is the least with more than c used; where there is none, no day has
 abbrev pub IsLeastOver : (ℕ → ℕ) → List Entry → List ℕ → ℕ → ℕ → Option ℕ → Type 0
 IsLeastOver day H l from c None = (d : ℕ) → from ≤ d → used day H l d ≤ c
-IsLeastOver day H l from c (Some d) = (from ≤ d) × (c < used day H l d) × ((e : ℕ) → from ≤ e → e < d → used day H l e ≤ c)
+IsLeastOver day H l from c (Some d) =
+    (from ≤ d) × (c < used day H l d) × ((e : ℕ) → from ≤ e → e < d → used day H l e ≤ c)

@@ -1,5 +1,6 @@
 -- A page of the logins of a day.
-use Rattle.std.specs.Prelude.{◌≡◌, ℕ, ◌≤◌, List, [], ◌∷◌, length, take, filter, fold, Bool, true, false, ◌==◌, if◌then◌else◌, Option, Some, None, Contains, All, ◌⊎◌}
+use Rattle.std.specs.Prelude.{◌≡◌, ℕ, ◌≤◌, List, [], ◌∷◌, length, take, filter, fold, Bool, true, false, ◌==◌}
+use Rattle.std.specs.Prelude.{if◌then◌else◌, Option, Some, None, Contains, All, ◌⊎◌}
 use Rattle.std.specs.List.{filter_map, AllByRecursion, list_any}
 use Rattle.std.specs.Ordering.{nat_cmp, is_lt}
 use Rattle.std.specs.Cmp.Lexicographic.{slice_cmp}
@@ -50,7 +51,8 @@ page day H d after = take 100 (logins_above day H d after)
 
 -- a login's numbers on that day
 abbrev pub row : (ℕ → ℕ) → ℕ → List Entry → ℕ → List ℕ → UsageRow
-row day default H d l = record { login = l; settled = settled day H l d; reserved = reserved day H l d; cap = cap default H l d }
+row day default H d l =
+    record { login = l; settled = settled day H l d; reserved = reserved day H l d; cap = cap default H l d }
 
 -- each login is below all that follow it
 abbrev pub IsAscending : List (List ℕ) → Type 0
@@ -68,9 +70,10 @@ has_reserve day H d l = list_any (λ e. is_login l (login_on day d e.request e.r
 
 -- they are logins above `after` that have a granted reserve on that day, ascending, at most a
 -- hundred; a login that is left out is above a hundred that are there
-pub record IsPage (day : ℕ → ℕ) (H : List Entry) (d : ℕ) (after : List ℕ) (ls : List (List ℕ)) : Type 0 where
+pub record IsLoginPage (day : ℕ → ℕ) (H : List Entry) (d : ℕ) (after : List ℕ) (ls : List (List ℕ)) : Type 0 where
   pub ascending : IsAscending ls
   pub above : All (λ l. below after l ≡ true) ls
   pub there : All (λ l. has_reserve day H d l ≡ true) ls
   pub few : length ls ≤ 100
-  pub first : (l : List ℕ) → below after l ≡ true → has_reserve day H d l ≡ true → Contains ls l ⊎ ((length ls ≡ 100) × All (λ m. below m l ≡ true) ls)
+  pub first : (l : List ℕ) → below after l ≡ true → has_reserve day H d l ≡ true →
+      Contains ls l ⊎ ((length ls ≡ 100) × All (λ m. below m l ≡ true) ls)

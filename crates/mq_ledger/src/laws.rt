@@ -1,19 +1,22 @@
 //! Laws of the definitions, for whoever builds on a ledger. Each function does nothing: its
 //! contract is the law.
-ghost use Rattle.std.specs.Prelude.{◌≡◌, ◌≤◌, ◌<◌, ◌+◌, ℕ, ℤ, List, [], ◌∷◌, ◌++◌, Option, Some, None, All, true, false, ◌&&◌, ◌||◌, nat_le, if◌then◌else◌, sum_by};
+ghost use Rattle.std.specs.Prelude.{◌≡◌, ◌≤◌, ◌<◌, ◌+◌, ℕ, ℤ, List, [], ◌∷◌, ◌++◌, Option, Some, None, All, true};
+ghost use Rattle.std.specs.Prelude.{false, ◌&&◌, ◌||◌, find, nat_le, if◌then◌else◌, sum_by};
 ghost use Rattle.std.specs.Option.{option_or};
 ghost use Rattle.mq_frame.specs.declared.message.Id.{Id};
 ghost use Rattle.mq_frame.specs.declared.message.Request.{Request as AnyRequest};
 ghost use Rattle.mq_frame.specs.Range.{IsRequest, IsReply, IsAmount};
 ghost use Rattle.mq_ledger.specs.declared.entry.Entry.{Entry as AnyEntry};
-ghost use Rattle.mq_ledger.specs.Answer.{answer, stored, reply, taken, history_of};
-ghost use Rattle.mq_ledger.specs.Arrivals.{id_of};
+ghost use Rattle.mq_ledger.specs.Answer.{answer, stored, reply, with_arrival, history_of};
+ghost use Rattle.mq_ledger.specs.Arrivals.{id_of, has_id, first, is_first};
 ghost use Rattle.mq_ledger.specs.Day.{IsOffset, IsDayRule, day_of};
-ghost use Rattle.mq_ledger.specs.History.{requests, Transaction, same_transaction, is_of, named, agrees, closes, closed, granted, counted, held, settled_in, settled_of, reserved, settled, used, gained, freed};
+ghost use Rattle.mq_ledger.specs.History.{requests, Transaction, same_transaction, is_of, named, agrees, closes};
+ghost use Rattle.mq_ledger.specs.History.{closed, granted, counted, held, settled_in, settled_of, reserved, settled};
+ghost use Rattle.mq_ledger.specs.History.{used, gained, freed};
 ghost use Rattle.mq_ledger.specs.Legal.{IsLegal};
 ghost use Rattle.mq_ledger.specs.Limits.{from_of, cap_of, governs, limits, latest, cap, sets_from, set_cap};
 ghost use Rattle.mq_ledger.specs.Over.{over, IsLeastOver};
-ghost use Rattle.mq_ledger.specs.Page.{page, IsPage, is_login, login_on, has_reserve};
+ghost use Rattle.mq_ledger.specs.Page.{page, IsLoginPage, is_login, login_on, has_reserve};
 ghost use Rattle.mq_ledger.specs.Suits.{Suits};
 ghost use Rattle.mq_ledger.specs.Sums.{held_on, settled_on, AreDistinct, HasAllNamed};
 
@@ -31,13 +34,23 @@ pub fn built_is_legal()
         IsLegal day default (history_of day default A) }
 {}
 
+/// The first arrivals, in the order in which they came, are the numbered ones before which no arrival
+/// has their number.
+pub fn first_arrivals()
+    ensures none { first [] ≡ [] }
+    ensures one_more { (A : List AnyRequest) (r : AnyRequest) →
+        first (A ++ r ∷ []) ≡ first A ++ (if is_first A r then r ∷ [] else []) }
+    ensures each { (A : List AnyRequest) (id : Id) →
+        find (has_id id) (first A) ≡ find (has_id id) A }
+{}
+
 /// What one more arrival does to a history.
 pub fn one_more_arrival()
     ensures arrived { (day : ℕ → ℕ) (default : ℕ) (A : List AnyRequest) (r : AnyRequest) →
-        history_of day default (A ++ r ∷ []) ≡ taken day default (history_of day default A) r }
+        history_of day default (A ++ r ∷ []) ≡ with_arrival day default (history_of day default A) r }
     ensures legal { (day : ℕ → ℕ) (default : ℕ) (H : List AnyEntry) (r : AnyRequest) →
         IsLegal day default H →
-        history_of day default (requests H ++ r ∷ []) ≡ taken day default H r }
+        history_of day default (requests H ++ r ∷ []) ≡ with_arrival day default H r }
     ensures again { (day : ℕ → ℕ) (default : ℕ) (H : List AnyEntry) →
         IsLegal day default H → history_of day default (requests H) ≡ H }
 {}
@@ -81,9 +94,9 @@ pub fn over_is_least()
 /// A page has the first hundred logins of a day above a login, ascending; and nothing else is one.
 pub fn page_is_first()
     ensures first { (day : ℕ → ℕ) (H : List AnyEntry) (d : ℕ) (after : List ℕ) →
-        IsPage day H d after (page day H d after) }
+        IsLoginPage day H d after (page day H d after) }
     ensures only { (day : ℕ → ℕ) (H : List AnyEntry) (d : ℕ) (after : List ℕ)
-        (ls : List (List ℕ)) → IsPage day H d after ls → ls ≡ page day H d after }
+        (ls : List (List ℕ)) → IsLoginPage day H d after ls → ls ≡ page day H d after }
 {}
 
 /// What one more entry does to a transaction, in any history.

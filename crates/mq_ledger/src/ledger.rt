@@ -18,7 +18,7 @@ pub enum LedgerFault {
     /// A growth was refused.
     #[error("out of memory")]
     Memory,
-    /// The store failed, and takes no more requests.
+    /// The store failed at this request.
     #[error("store failed")]
     Store,
 }

@@ -3,10 +3,12 @@ ghost use Rattle.std.specs.Prelude.{◌≡◌, ◌*◌, min};
 
 use crate::fault::ProgramFault;
 use log::{Log, error, warn};
+use mq_tcp::deadline_after;
+use std::io;
+use std::io::ErrorKind;
 use std::net::{OpenListener, SocketAddr, TcpListener, TcpStream};
 use std::rt::Clock;
-use std::time::Duration;
-use std::{io, thread};
+use std::time::{Duration, Instant};
 
 /// The first pause before another attempt, in milliseconds.
 const FIRST_PAUSE: u64 = 10;
@@ -37,27 +39,91 @@ fn next_pause(pause: u64) -> u64
     }
 }
 
-/// The next connection. An error that passes is logged and waited out, each time for longer; any
-/// other is logged, and ends the serving.
-pub fn accept<C: Clock, G: Log>(
-    clock: &C,
-    log: &G,
-    listener: &TcpListener,
-) -> Result<(TcpStream, SocketAddr), ProgramFault> {
-    let mut pause = FIRST_PAUSE;
-    for _attempt in 0..u64::MAX {
-        match listener.accept() {
-            Ok(accepted) => return Ok(accepted),
+/// A listener, and what it still has to accept.
+#[derive(Drop)]
+pub struct Acceptor<'a> {
+    listener: &'a TcpListener,
+    /// How many connections are accepted still.
+    left: u32,
+    /// Whether a connection may have come.
+    may_have: bool,
+    /// The next pause, in milliseconds.
+    pause: u64,
+    /// When the pause is over that is made.
+    resume: Option<Instant>,
+}
+
+impl<'a> Acceptor<'a> {
+    /// The listener, which doesn't block, accepts so many.
+    pub fn new(listener: &'a TcpListener, connections: u32) -> Acceptor<'a> {
+        Acceptor {
+            listener,
+            left: connections,
+            may_have: true,
+            pause: FIRST_PAUSE,
+            resume: None,
+        }
+    }
+
+    /// Whether no further connection is accepted.
+    pub fn is_done(&self) -> bool {
+        self.left == 0
+    }
+
+    /// The system says that a connection came.
+    pub fn arrived(&mut self) {
+        self.may_have = true;
+    }
+
+    /// How long to wait for the next attempt, where one is due without the system's word.
+    pub fn wait_at(&self, now: Instant) -> Option<Duration> {
+        if self.left == 0 || !self.may_have {
+            return None;
+        }
+        match self.resume {
+            Some(resume) => Some(resume.duration_since(now)),
+            None => Some(Duration::ZERO),
+        }
+    }
+
+    /// Whether an attempt is due.
+    fn is_due(&self, clock: &impl Clock) -> io::Result<bool> {
+        let wait = self.wait_at(Instant::now(clock)?);
+        Ok(wait.is_some_and(|wait| wait.is_zero()))
+    }
+
+    /// The next connection, if one is there. An error that passes is logged and waited out, each time for longer; any
+    /// other is logged, and ends the serving.
+    pub fn next<C: Clock, G: Log>(
+        &mut self,
+        clock: &C,
+        log: &G,
+    ) -> Result<Option<(TcpStream, SocketAddr)>, ProgramFault> {
+        if !self.is_due(clock).unwrap_or(true) {
+            return Ok(None);
+        }
+        match self.listener.accept() {
+            Ok(accepted) => {
+                self.left = self.left.saturating_sub(1);
+                self.pause = FIRST_PAUSE;
+                self.resume = None;
+                Ok(Some(accepted))
+            }
+            Err(error) if error.kind() == ErrorKind::WouldBlock => {
+                self.may_have = false;
+                Ok(None)
+            }
             Err(error) if passes(&error) => {
+                let pause = self.pause;
                 warn!(log; "no connection accepted: {error}; next attempt in {pause} ms");
-                thread::sleep(clock, Duration::from_millis(pause));
-                pause = next_pause(pause);
+                self.resume = deadline_after(clock, Duration::from_millis(pause)).ok();
+                self.pause = next_pause(pause);
+                Ok(None)
             }
             Err(error) => {
                 error!(log; "no connection accepted: {error}");
-                break;
+                Err(ProgramFault::Accept)
             }
         }
     }
-    Err(ProgramFault::Accept)
 }

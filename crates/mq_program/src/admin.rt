@@ -8,9 +8,11 @@ ghost use Rattle.mq_program.specs.Arguments.{IsLimitArguments, IsNoAddress, Limi
 use crate::arguments::{LimitArguments, ReportArguments};
 use crate::clock::run_number;
 use crate::fault::ProgramFault;
-use mq_command::{run_limit, run_report};
+use log::sink::Console;
+use log::{LevelFilter, Logged};
+use mq_command::{TRIES, run_limit, run_report};
 use mq_frame::{Host, Id, Login, Request, is_host, is_login};
-use mq_tcp::TcpLink;
+use mq_tcp::{LoggedLink, TcpLink};
 use std::alloc::{AllocError, Global};
 use std::io;
 use std::io::{BufWriter, Write};
@@ -49,7 +51,7 @@ fn limit_request(alloc: Global, given: LimitArguments<'_>, run: u64) -> Result<R
 }
 
 /// `limit`: sets the limit of a login from a day on.
-pub fn limit<R: Clock + Net + Print + AllocGlobal, E: Write>(
+pub fn limit<R: Clock + Net + Print + Eprint + AllocGlobal, E: Write>(
     rt: &R,
     given: LimitArguments<'_>,
     errors: &mut E,
@@ -66,7 +68,9 @@ pub fn limit<R: Clock + Net + Print + AllocGlobal, E: Write>(
     let address = address_of(given.server)?;
     let run = run_number(rt, given.run)?;
     let request = limit_request(rt.alloc(), given, run)?;
-    let mut link = TcpLink::new(rt, address, Duration::from_millis(TIMEOUT));
+    let logged = Logged::new(rt, LevelFilter::Error, Console(rt));
+    let link = TcpLink::new(rt, address, Duration::from_millis(TIMEOUT));
+    let mut link = LoggedLink::new(link, &logged, TRIES);
     Ok(run_limit(rt.alloc(), &mut link, &request, &mut io::writer(rt), errors))
 }
 
@@ -81,7 +85,7 @@ fn login_of(alloc: Global, given: Option<&str>) -> Result<Option<Login>, AllocEr
 }
 
 /// `report`: prints what one login, or all, used on a day.
-pub fn report<R: Clock + Net + Print + AllocGlobal, E: Write>(
+pub fn report<R: Clock + Net + Print + Eprint + AllocGlobal, E: Write>(
     rt: &R,
     given: ReportArguments<'_>,
     errors: &mut E,
@@ -94,7 +98,9 @@ pub fn report<R: Clock + Net + Print + AllocGlobal, E: Write>(
     }
     let address = address_of(given.server)?;
     let login = login_of(rt.alloc(), given.login)?;
-    let mut link = TcpLink::new(rt, address, Duration::from_millis(TIMEOUT));
+    let logged = Logged::new(rt, LevelFilter::Error, Console(rt));
+    let link = TcpLink::new(rt, address, Duration::from_millis(TIMEOUT));
+    let mut link = LoggedLink::new(link, &logged, TRIES);
     let mut output = BufWriter::new(rt.alloc(), io::writer(rt)).map_err(|_| ProgramFault::Memory)?;
     Ok(run_report(
         rt.alloc(),

@@ -7,6 +7,8 @@ pub struct ReplayArguments {
     pub default: u32,
     /// How far the ledger's days are east of UTC, in minutes: -1,439 to 1,439.
     pub offset: i32,
+    /// Whether the ledger is tables in a store in memory, and no list.
+    pub sql: bool,
 }
 
 /// What `filter` is given.
@@ -23,6 +25,8 @@ pub struct FilterArguments<'a> {
 pub struct ServerArguments<'a> {
     /// The file of settings.
     pub config: &'a str,
+    /// Whether a new ledger is made in the database file of the settings.
+    pub create: bool,
     /// How many connections are served, 1 to 1,000,000.
     pub connections: u32,
 }

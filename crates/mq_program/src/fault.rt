@@ -8,6 +8,7 @@ use log::{LevelFilter, Logged, error};
 use mq_client::FilterFault;
 use mq_server::ServeFault;
 use mq_settings::{FileFault, SettingsFault};
+use mq_store::OpenFault;
 use std::alloc::{AllocError, AllocFailed};
 use std::io;
 use std::io::ErrorKind;
@@ -40,6 +41,11 @@ pub enum ProgramFault {
     NoRun,
     #[error("{0}")]
     Filter(FilterFault),
+    /// The database file, for another cause than memory.
+    #[error("store can't be opened")]
+    Store,
+    #[error("{0}")]
+    Open(OpenFault),
     #[error("listen failed")]
     Listen,
     #[error("accept failed")]
@@ -66,12 +72,20 @@ impl ProgramFault {
 }
 
 impl From<AllocError> for ProgramFault {
+    ghost use Rattle.mq_program.specs.declared.fault.ProgramFault.TheVariants.{Memory};
+
+    ghost from_gives = { λ _ fault. fault ≡ Memory };
+
     fn from(_error: AllocError) -> ProgramFault {
         ProgramFault::Memory
     }
 }
 
 impl<T: Drop> From<AllocFailed<T>> for ProgramFault {
+    ghost use Rattle.mq_program.specs.declared.fault.ProgramFault.TheVariants.{Memory};
+
+    ghost from_gives = { λ _ fault. fault ≡ Memory };
+
     fn from(_error: AllocFailed<T>) -> ProgramFault {
         ProgramFault::Memory
     }
@@ -92,6 +106,10 @@ pub fn logged_of<R: Eprint>(rt: &R, file: &str, fault: ProgramFault) -> ProgramF
     ensures { result ≡ fault }
 {
     let logged = Logged::new(rt, LevelFilter::Error, Console(rt));
-    error!(logged; "{file}: {fault}");
+    match &fault {
+        ProgramFault::File(FileFault::Unreadable(cause)) => error!(logged; "{file}: {cause}"),
+        ProgramFault::Settings(SettingsFault::Text(flaw)) => error!(logged; "{file}: {flaw}"),
+        _ => error!(logged; "{file}: {fault}"),
+    }
     fault
 }

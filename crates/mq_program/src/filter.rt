@@ -10,7 +10,7 @@ use log::{Logged, error};
 use mq_client::{Client, run_filter};
 use mq_frame::{FromRead, ToWrite};
 use mq_settings::{read_file, read_filter_settings};
-use mq_tcp::TcpLink;
+use mq_tcp::{LoggedLink, TcpLink};
 use std::io;
 use std::net::Net;
 use std::rt::{Clock, Files};
@@ -33,7 +33,8 @@ pub fn filter<R: Files + Clock + Net + Input + Print + Eprint + AllocGlobal>(
     let run = run_number(rt, given.run)?;
     let logged = Logged::new(rt, settings.log, Console(rt));
     let timeout = Duration::from_millis(u64::from(settings.timeout));
-    let mut link = TcpLink::new(rt, settings.server, timeout);
+    let link = TcpLink::new(rt, settings.server, timeout);
+    let mut link = LoggedLink::new(link, &logged, settings.tries);
     let mut client = match Client::new(rt.alloc(), &settings.host, run, settings.tries) {
         Ok(client) => client,
         Err(_) => return Err(ProgramFault::Memory),

@@ -7,8 +7,12 @@ mod arguments;
 mod clock;
 mod fault;
 mod filter;
+mod guest;
+mod portion;
 mod replay;
+mod room;
 mod server;
+mod store;
 mod subcommand;
 
 pub use admin::{limit, report};

@@ -28,6 +28,7 @@ pub fn replay<R: Input + Print + AllocGlobal, E: Write>(
         text.as_slice(),
         given.default,
         zone,
+        given.sql,
         &mut output,
         errors,
     ))

@@ -10,15 +10,10 @@ use crate::filter::filter;
 use crate::replay::replay;
 use crate::server::server;
 use std::io::Write;
-use std::net::{Net, TcpListener, TcpStream};
-use std::rt::{Clock, Files};
 
 /// Runs a subcommand, prints on `errors` why it isn't done, and gives the exit status: 0 done,
 /// 1 fault, 2 usage.
-pub fn run_subcommand<R, E: Write>(rt: &R, given: Arguments<'_>, errors: &mut E) -> u8
-where
-    R: Files + Clock + Net<Listener = TcpListener, Stream = TcpStream>,
-    R: Input + Print + Eprint + AllocGlobal,
+pub fn run_subcommand<E: Write>(rt: &HostRuntime, given: Arguments<'_>, errors: &mut E) -> u8
     requires { IsArguments given }
     ensures { Refuses given.entry (λ fault. result ≡ fault_status fault) }
 {
@@ -36,10 +31,11 @@ pub fn refuse<E: Write>(fault: &ProgramFault, errors: &mut E) -> u8
     fault.status()
 }
 
-fn status_of<R, E: Write>(rt: &R, given: Arguments<'_>, errors: &mut E) -> Result<u8, ProgramFault>
-where
-    R: Files + Clock + Net<Listener = TcpListener, Stream = TcpStream>,
-    R: Input + Print + Eprint + AllocGlobal,
+fn status_of<E: Write>(
+    rt: &HostRuntime,
+    given: Arguments<'_>,
+    errors: &mut E,
+) -> Result<u8, ProgramFault>
     requires { IsArguments given }
     ensures { Refuses given.entry (λ fault. result ≡ Err fault) }
 {

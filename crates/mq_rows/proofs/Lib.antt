@@ -1,5 +1,6 @@
 pub mod Ceilings
 pub mod Days
+pub mod Distinct
 pub mod Lists
 pub mod Lookups
 pub mod Numbered

@@ -1,5 +1,5 @@
 -- Tests, texts, lists, and rows that stand under a key at most once.
-use Rattle.std.proofs.Common.{ap, swap, ◌≡◌, ℕ, zero, suc, ◌<◌, List, [], ◌∷◌, Bool, true, false, refl, ◌∙◌, sym, inl, inr, arith, length, get_or}
+use Rattle.std.proofs.Common.{ap, subst, swap, ◌≡◌, ℕ, zero, suc, ◌<◌, List, [], ◌∷◌, Bool, true, false, refl, ◌∙◌, sym, inl, inr, arith, length, get_or}
 use Rattle.std.specs.Prelude.{find, filter, ◌==◌, ◌⊎◌, Option, Some, None}
 use Rattle.std.specs.List.{AllByRecursion}
 use Rattle.std.specs.List.Sorted.{IsPermutation}
@@ -48,6 +48,25 @@ find_of_those p (x ∷ rows) o h = elim (either (p x)) [
 pub one_of_those : {R : Type 0} (x : R) (rest : List R) (o : Option R) → x ∷ rest ≡ those o → (Some x ≡ o) × (rest ≡ [])
 one_of_those x rest None h = cc
 one_of_those x rest (Some r) h = (cc, cc)
+
+none_passes : {R : Type 0} (p : R → Bool) (P : R → Type 0) (rows : List R) → filter p rows ≡ [] → AllByRecursion (λ r. p r ≡ true → P r) rows
+none_passes p P [] h = tt
+none_passes p P (x ∷ rows) h = elim (either (p x)) [
+  | inl t ↦ (let h' : x ∷ filter p rows ≡ [] = rw t at h in absurd (cc h'))
+  | inr f ↦ (let h' : filter p rows ≡ [] = rw f at h in ((λ t. absurd (cc (f, t))), none_passes p P rows h'))
+]
+
+-- a row that passes is the one that is found
+pub those_are_found : {R : Type 0} (p : R → Bool) (rows : List R) (o : Option R) → filter p rows ≡ those o → AllByRecursion (λ r. p r ≡ true → Some r ≡ find p rows) rows
+those_are_found p [] o h = tt
+those_are_found {R} p (x ∷ rows) o h = elim (either (p x)) [
+  | inl t ↦ (let h' : x ∷ filter p rows ≡ those o = rw t at h in
+      let hit : Some x ≡ find p (x ∷ rows) = rw t refl in
+      ((λ _. hit), none_passes p (λ r. Some r ≡ find p (x ∷ rows)) rows (one_of_those x (filter p rows) o h').1))
+  | inr f ↦ (let h' : filter p rows ≡ those o = rw f at h in
+      let passed : find p rows ≡ find p (x ∷ rows) = rw f refl in
+      ((λ t. absurd (cc (f, t))), subst (λ (q : Option R). AllByRecursion (λ r. p r ≡ true → Some r ≡ q) rows) passed (those_are_found p rows o h')))
+]
 
 -- An order of rows tells nothing of those that pass, where there is one at most.
 module _ {R : Type 0} (p : R → Bool) where

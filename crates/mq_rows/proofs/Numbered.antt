@@ -38,7 +38,7 @@ some_run n h = elim (either (n == 0)) [
 ]
 
 -- the number of a row is that of its request, where it is a number in range
-number_test : (id : Id) (r : Request) → IsId id → same_id id (number_of r) ≡ has_id id r
+pub number_test : (id : Id) (r : Request) → IsId id → same_id id (number_of r) ≡ has_id id r
 number_test id (Reserve id' txn at login count) h = refl
 number_test id (Settle id' txn at login count) h = refl
 number_test id (Release id' txn at login) h = refl

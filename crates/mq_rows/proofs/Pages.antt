@@ -11,7 +11,7 @@ use Rattle.std.proofs.lemmas.Cmp.{nat_list_cmp_total}
 use Rattle.std.proofs.lemmas.List.{length-map}
 use Rattle.mq_ledger.specs.declared.entry.Entry.{Entry}
 use Rattle.mq_ledger.specs.History.{settled, reserved}
-use Rattle.mq_ledger.specs.Page.{below, has_reserve, IsAscending, IsPage}
+use Rattle.mq_ledger.specs.Page.{below, has_reserve, IsAscending, IsLoginPage}
 use Rattle.mq_rows.specs.declared.record.UsageRecord.{UsageRecord}
 use Rattle.mq_rows.specs.Rows.{usage_row, is_usage}
 use Rattle.mq_rows.specs.Tables.{those, AreUsage}
@@ -128,7 +128,7 @@ module _ (day : ℕ → ℕ) (H : List Entry) (rows : List UsageRecord) (are : A
   finish after l us here (inr none) (Behind all b) =
       (let f : is_above d (behind after us) (row_of l) ≡ false = has_row l here (λ u. is_above d (behind after us) u ≡ false) none in absurd (cc (f, is_above_row (behind after us) l b)))
 
-  pub page_of : (after : List ℕ) (us : List UsageRecord) → AreNext d after rows us → length us ≤ 100 → (length us ≡ 100) ⊎ IsNext d (behind after us) rows None → IsPage day H d after (logins us)
+  pub page_of : (after : List ℕ) (us : List UsageRecord) → AreNext d after rows us → length us ≤ 100 → (length us ≡ 100) ⊎ IsNext d (behind after us) rows None → IsLoginPage day H d after (logins us)
   page_of after us next few end =
       let r = rising after us next in
       record {

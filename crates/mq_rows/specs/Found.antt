@@ -1,8 +1,10 @@
 -- What is read of the tables for a request.
-use Rattle.std.specs.Prelude.{◌≡◌, ℕ, ◌+◌, ◌≤◌, List, find, Bool, true, false, ◌&&◌, nat_lt, nat_le, Option, Some, None, Contains}
+use Rattle.std.specs.Prelude.{◌≡◌, ℕ, ◌+◌, ◌≤◌, List, find, Bool, true, false, ◌&&◌, nat_lt, nat_le, Option, Some}
+use Rattle.std.specs.Prelude.{None, Contains}
 use Rattle.std.specs.List.{AllByRecursion}
 use Rattle.mq_frame.specs.declared.message.Request.{Request}
-use Rattle.mq_frame.specs.declared.message.Request.TheVariants.{Reserve, Settle, Release, Limit, Usage, List as ListRequest}
+use Rattle.mq_frame.specs.declared.message.Request.TheVariants.{Reserve, Settle, Release, Limit, Usage}
+use Rattle.mq_frame.specs.declared.message.Request.TheVariants.{List as ListRequest}
 use Rattle.mq_frame.specs.Same.{same_text}
 use Rattle.mq_ledger.specs.History.{transaction}
 use Rattle.mq_rows.specs.declared.record.UsageRecord.{UsageRecord}
@@ -18,7 +20,9 @@ is_due login day c = same_text login c.login && nat_le c.day day
 -- of the rows that are due it is the latest; none where none is due
 abbrev pub IsGoverning : List ℕ → ℕ → List CeilingRecord → Option CeilingRecord → Type 0
 IsGoverning login day rows None = AllByRecursion (λ c. is_due login day c ≡ false) rows
-IsGoverning login day rows (Some c) = Contains rows c × (is_due login day c ≡ true) × AllByRecursion (λ other. is_due login day other ≡ true → other.day ≤ c.day) rows
+IsGoverning login day rows (Some c) =
+    Contains rows c × (is_due login day c ≡ true)
+    × AllByRecursion (λ other. is_due login day other ≡ true → other.day ≤ c.day) rows
 
 -- the day is the login's, that one or a later one, and more than the cap is used
 abbrev pub is_over : List ℕ → ℕ → ℕ → UsageRecord → Bool
@@ -27,7 +31,9 @@ is_over login from cap u = same_text login u.login && (nat_le from u.day && nat_
 -- of the rows that are over it is that of the first day; none where none is over
 abbrev pub IsFirstOver : List ℕ → ℕ → ℕ → List UsageRecord → Option UsageRecord → Type 0
 IsFirstOver login from cap rows None = AllByRecursion (λ u. is_over login from cap u ≡ false) rows
-IsFirstOver login from cap rows (Some u) = Contains rows u × (is_over login from cap u ≡ true) × AllByRecursion (λ other. is_over login from cap other ≡ true → u.day ≤ other.day) rows
+IsFirstOver login from cap rows (Some u) =
+    Contains rows u × (is_over login from cap u ≡ true)
+    × AllByRecursion (λ other. is_over login from cap other ≡ true → u.day ≤ other.day) rows
 
 -- what was found is what the tables have about the request
 abbrev pub IsFound : (ℕ → ℕ) → Tables → Request → Found → Type 0

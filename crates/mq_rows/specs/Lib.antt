@@ -2,6 +2,7 @@ pub mod Found
 pub mod Listing
 pub mod Meaning
 pub mod Plan
+pub mod Storable
 pub mod Repeat
 pub mod Rows
 pub mod Tables

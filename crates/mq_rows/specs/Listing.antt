@@ -1,5 +1,6 @@
 -- What is read and replied of what logins have used.
-use Rattle.std.specs.Prelude.{◌≡◌, ℕ, List, [], ◌∷◌, Bool, true, false, ◌==◌, ◌&&◌, nat_le, Option, Some, None, Contains}
+use Rattle.std.specs.Prelude.{◌≡◌, ℕ, List, [], ◌∷◌, Bool, true, false, ◌==◌, ◌&&◌, nat_le, Option, Some, None}
+use Rattle.std.specs.Prelude.{Contains}
 use Rattle.std.specs.List.{AllByRecursion}
 use Rattle.mq_frame.specs.declared.message.Reply.{Reply}
 use Rattle.mq_frame.specs.declared.message.Reply.TheVariants.{Usage as UsageReply}
@@ -32,7 +33,9 @@ is_above day after u = (day == u.day) && below after u.login
 -- of the rows that are above it is the one with the least login; none where none is above
 abbrev pub IsNext : ℕ → List ℕ → List UsageRecord → Option UsageRecord → Type 0
 IsNext day after rows None = AllByRecursion (λ u. is_above day after u ≡ false) rows
-IsNext day after rows (Some u) = Contains rows u × (is_above day after u ≡ true) × AllByRecursion (λ other. is_above day after other ≡ true → below other.login u.login ≡ false) rows
+IsNext day after rows (Some u) =
+    Contains rows u × (is_above day after u ≡ true)
+    × AllByRecursion (λ other. is_above day after other ≡ true → below other.login u.login ≡ false) rows
 
 -- the last login of a page, and what it begins behind where it has none
 abbrev pub behind : List ℕ → List UsageRecord → List ℕ

@@ -20,7 +20,8 @@ history_in day default answers = build day default (requests_in answers)
 
 -- the zone, the default limit and that history
 abbrev pub meaning : ℤ → ℕ → List AnswerRecord → Book
-meaning zone default answers = record { zone = zone; default = default; history = history_in (day_of zone) default answers }
+meaning zone default answers =
+    record { zone = zone; default = default; history = history_in (day_of zone) default answers }
 
 -- the tables mean a legal history, and they are its rows
 pub record AreSound (zone : ℤ) (default : ℕ) (t : Tables) : Type 0 where

@@ -1,13 +1,16 @@
 -- The reply to a numbered request whose number is new, and what is written with it, by what was
 -- found in the tables.
-use Rattle.std.specs.Prelude.{◌≡◌, ℕ, ◌+◌, ◌-◌, List, ◌∷◌, Bool, true, false, not, ◌==◌, ◌&&◌, nat_le, if◌then◌else◌, Option, Some, None}
+use Rattle.std.specs.Prelude.{◌≡◌, ℕ, ◌+◌, ◌-◌, List, ◌∷◌, Bool, true, false, not, ◌==◌, ◌&&◌, nat_le, if◌then◌else◌}
+use Rattle.std.specs.Prelude.{Option, Some, None}
 use Rattle.std.specs.List.{AllByRecursion}
 use Rattle.std.specs.List.Sorted.{IsPermutation}
 use Rattle.mq_frame.specs.declared.message.Id.{Id}
 use Rattle.mq_frame.specs.declared.message.Request.{Request}
-use Rattle.mq_frame.specs.declared.message.Request.TheVariants.{Reserve, Settle, Release, Limit, Usage, List as ListRequest}
+use Rattle.mq_frame.specs.declared.message.Request.TheVariants.{Reserve, Settle, Release, Limit, Usage}
+use Rattle.mq_frame.specs.declared.message.Request.TheVariants.{List as ListRequest}
 use Rattle.mq_frame.specs.declared.message.Reply.{Reply}
-use Rattle.mq_frame.specs.declared.message.Reply.TheVariants.{Granted, Settled, Released, LimitSet, Over, Closed, Mismatch, Bad}
+use Rattle.mq_frame.specs.declared.message.Reply.TheVariants.{Granted, Settled, Released, LimitSet, Over, Closed}
+use Rattle.mq_frame.specs.declared.message.Reply.TheVariants.{Mismatch, Bad}
 use Rattle.mq_frame.specs.Same.{same_text}
 use Rattle.mq_ledger.specs.Answer.{granted_or_full, settled_or_too_many}
 use Rattle.mq_rows.specs.declared.record.TransactionRecord.{TransactionRecord}
@@ -52,7 +55,8 @@ cap_by default (Some c) = c.cap
 
 -- Mismatch where the row has another login or moment, Closed where it is closed, else that reply
 abbrev pub if_row_open : Id → ℕ → List ℕ → Option TransactionRecord → Reply → Reply
-if_row_open id at login t a = if not (agrees_with at login t) then Mismatch id else (if is_closed t then Closed id else a)
+if_row_open id at login t a =
+    if not (agrees_with at login t) then Mismatch id else (if is_closed t then Closed id else a)
 
 -- a limit, where that row is the first with more used
 abbrev pub set_or_over_by : Id → Option UsageRecord → Reply
@@ -61,9 +65,12 @@ set_or_over_by id (Some u) = Over id u.day (u.reserved + u.settled)
 
 -- the reply to a numbered request
 abbrev pub decided : ℕ → Request → Found → Reply
-decided default (Reserve id txn at login count) f = if_row_open id at login f.transaction (granted_or_full id (used_by f.usage) (cap_by default f.governing) count)
-decided default (Settle id txn at login count) f = if_row_open id at login f.transaction (settled_or_too_many id (held_by f.transaction) count)
-decided default (Release id txn at login) f = if_row_open id at login f.transaction (Released id (held_by f.transaction))
+decided default (Reserve id txn at login count) f =
+    if_row_open id at login f.transaction (granted_or_full id (used_by f.usage) (cap_by default f.governing) count)
+decided default (Settle id txn at login count) f =
+    if_row_open id at login f.transaction (settled_or_too_many id (held_by f.transaction) count)
+decided default (Release id txn at login) f =
+    if_row_open id at login f.transaction (Released id (held_by f.transaction))
 decided default (Limit id from_day asked login) f = set_or_over_by id f.over
 decided default (Usage login day) f = Bad
 decided default (ListRequest day after) f = Bad
@@ -72,7 +79,17 @@ decided default (ListRequest day after) f = Bad
 
 -- the row of a transaction before its first request is answered
 abbrev pub fresh : (ℕ → ℕ) → Id → ℕ → ℕ → List ℕ → TransactionRecord
-fresh day id txn at login = record { host = id.host; run = id.run; txn = txn; login = login; moment = at; day = day at; held = 0; settled = 0; closed = false }
+fresh day id txn at login = record {
+  host = id.host;
+  run = id.run;
+  txn = txn;
+  login = login;
+  moment = at;
+  day = day at;
+  held = 0;
+  settled = 0;
+  closed = false;
+}
 
 -- the reply changes how its transaction stands
 abbrev pub moves : Reply → Bool
@@ -108,7 +125,8 @@ reserved_more login day count (Some u) = Update (record u { reserved = u.reserve
 -- of what was held so many are settled, and none of it is reserved any more
 abbrev pub freed : ℕ → ℕ → Option UsageRecord → Write UsageRecord
 freed count held None = Keep
-freed count held (Some u) = if held == 0 then Keep else Update (record u { settled = u.settled + count; reserved = u.reserved - held })
+freed count held (Some u) =
+    if held == 0 then Keep else Update (record u { settled = u.settled + count; reserved = u.reserved - held })
 
 -- usage, where the transaction held so many
 abbrev pub usage_write : (ℕ → ℕ) → Request → Reply → ℕ → Option UsageRecord → Write UsageRecord
@@ -150,7 +168,8 @@ fits t u = nat_le (used_by u) 1000000 && nat_le (held_by t) (reserved_by u)
 
 -- so they are where the transaction is open to the request, and the limit is in range
 abbrev pub fits_if_open : ℕ → List ℕ → ℕ → Option TransactionRecord → Option UsageRecord → Bool
-fits_if_open at login cap t u = if agrees_with at login t && not (is_closed t) then fits t u && nat_le cap 1000000 else true
+fits_if_open at login cap t u =
+    if agrees_with at login t && not (is_closed t) then fits t u && nat_le cap 1000000 else true
 
 -- the day and what is used on it are in range
 abbrev pub is_day_over : Option UsageRecord → Bool
@@ -159,7 +178,8 @@ is_day_over (Some u) = nat_le u.day 376200 && nat_le (u.reserved + u.settled) 10
 
 -- the rows that were found may be those of a legal history
 abbrev pub may_be_found : ℕ → Request → Found → Bool
-may_be_found default (Reserve id txn at login count) f = fits_if_open at login (cap_by default f.governing) f.transaction f.usage
+may_be_found default (Reserve id txn at login count) f =
+    fits_if_open at login (cap_by default f.governing) f.transaction f.usage
 may_be_found default (Settle id txn at login count) f = fits_if_open at login 0 f.transaction f.usage
 may_be_found default (Release id txn at login) f = fits_if_open at login 0 f.transaction f.usage
 may_be_found default (Limit id from_day asked login) f = is_day_over f.over
@@ -173,7 +193,8 @@ pub record Inserts {R : Type 0} (same : R → R → Bool) (new : R) (rows : List
   pub after : P (new ∷ rows)
 
 -- One row has the key, and `set` makes it the new one; P holds of the rows then.
-pub record Updates {R : Type 0} (same : R → R → Bool) (set : R → R → R) (new : R) (rows : List R) (P : List R → Type 0) : Type 0 where
+pub record Updates {R : Type 0} (same : R → R → Bool) (set : R → R → R) (new : R) (rows : List R) (P : List R → Type 0)
+    : Type 0 where
   pub was : R
   pub rest : List R
   pub order : IsPermutation (was ∷ rest) rows
@@ -181,7 +202,8 @@ pub record Updates {R : Type 0} (same : R → R → Bool) (set : R → R → R) 
   pub alone : AllByRecursion (λ other. same new other ≡ false) rest
   pub after : P (set new was ∷ rest)
 
--- The write can be made, and P holds of the rows then. `same` compares keys, and `set` gives a row the new one's other fields.
+-- The write can be made, and P holds of the rows then. `same` compares keys, and `set` gives a row the
+-- new one's other fields.
 abbrev pub Leads : {R : Type 0} → (R → R → Bool) → (R → R → R) → Write R → List R → (List R → Type 0) → Type 0
 Leads same set Keep rows P = P rows
 Leads same set (Insert new) rows P = Inserts same new rows P

@@ -2,7 +2,8 @@
 --
 -- `day` gives the day of a moment. A table but the answers has at most one row under a key, and the
 -- rule gives the row of each key, where there is one.
-use Rattle.std.specs.Prelude.{ℕ, List, [], map, length, Bool, ◌==◌, ◌&&◌, if◌then◌else◌, Option, Some, None, option_map, unwrap_or}
+use Rattle.std.specs.Prelude.{ℕ, List, [], map, length, Bool, ◌==◌, ◌&&◌, if◌then◌else◌, Option, Some, None}
+use Rattle.std.specs.Prelude.{option_map, unwrap_or}
 use Rattle.std.specs.List.{enumerate_from}
 use Rattle.mq_frame.specs.declared.message.Id.{Id}
 use Rattle.mq_frame.specs.declared.message.Request.{Request}
@@ -31,7 +32,8 @@ number_of r = unwrap_or (id_of r) (record { host = []; run = 0; seq = 0 })
 
 -- answer: the n-th entry's number, and the bodies that spell its request and its reply
 abbrev pub answer_row : ℕ → Entry → AnswerRecord
-answer_row n e = record { n = n; id = number_of e.request; request = request_body e.request; reply = reply_body e.reply }
+answer_row n e =
+    record { n = n; id = number_of e.request; request = request_body e.request; reply = reply_body e.reply }
 
 -- the rows of all entries, in their order, from n = 1 on
 abbrev pub answer_rows : List Entry → List AnswerRecord
@@ -72,7 +74,8 @@ transaction_row day H t = option_map (transaction_of day H t) (named H t)
 -- usage: a row for each login and day that has a granted reserve
 abbrev pub usage_row : (ℕ → ℕ) → List Entry → List ℕ → ℕ → Option UsageRecord
 usage_row day H l d =
-    if has_reserve day H d l then Some (record { login = l; day = d; settled = settled day H l d; reserved = reserved day H l d })
+    if has_reserve day H d l
+    then Some (record { login = l; day = d; settled = settled day H l d; reserved = reserved day H l d })
     else None
 
 -- ceiling: a row for each login and day from which a limit was set, with the cap of the last of them

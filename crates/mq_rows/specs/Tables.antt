@@ -9,7 +9,8 @@ use Rattle.mq_rows.specs.declared.record.AnswerRecord.{AnswerRecord}
 use Rattle.mq_rows.specs.declared.record.TransactionRecord.{TransactionRecord}
 use Rattle.mq_rows.specs.declared.record.UsageRecord.{UsageRecord}
 use Rattle.mq_rows.specs.declared.record.CeilingRecord.{CeilingRecord}
-use Rattle.mq_rows.specs.Rows.{setting_row, answer_rows, transaction_row, usage_row, ceiling_row, is_transaction, is_usage, is_ceiling}
+use Rattle.mq_rows.specs.Rows.{setting_row, answer_rows, transaction_row, usage_row, ceiling_row, is_transaction}
+use Rattle.mq_rows.specs.Rows.{is_usage, is_ceiling}
 
 -- the tables' rows: the answers in the order of n, the rows of the last three in any order
 pub record Tables : Type 0 where

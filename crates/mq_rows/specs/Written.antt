@@ -12,6 +12,7 @@ use Rattle.mq_rows.specs.Plan.{Leads, same_key, set_transaction, same_day, set_u
 pub record LeadTo (b : Book) (t : Tables) (p : Plan) : Type 0 where
   pub setting : record t.setting { arrivals = p.arrivals } ≡ setting_row b
   pub answers : t.answers ++ p.answer ∷ [] ≡ answer_rows b.history
-  pub transactions : Leads same_key set_transaction p.transaction t.transactions (AreTransactions (day_of b.zone) b.history)
+  pub transactions :
+      Leads same_key set_transaction p.transaction t.transactions (AreTransactions (day_of b.zone) b.history)
   pub usage : Leads same_day set_usage p.usage t.usage (AreUsage (day_of b.zone) b.history)
   pub ceilings : Leads same_from set_ceiling p.ceiling t.ceilings (AreCeilings b.history)

@@ -1,6 +1,7 @@
 //! Laws of the rows of a history, for a ledger that keeps them in a store. Each function does
 //! nothing: its contract is the law.
-ghost use Rattle.std.specs.Prelude.{◌≡◌, ◌≤◌, ◌⊎◌, ℕ, ◌+◌, ℤ, List, [], ◌∷◌, ◌++◌, length, map, find, true, Option, Some, None, is_some};
+ghost use Rattle.std.specs.Prelude.{◌≡◌, ◌≤◌, ◌⊎◌, ℕ, ◌+◌, ℤ, List, [], ◌∷◌, ◌++◌, length, map, find, true, Option};
+ghost use Rattle.std.specs.Prelude.{Some, None, is_some};
 ghost use Rattle.std.specs.List.{AllByRecursion};
 ghost use Rattle.std.specs.List.Sorted.{IsPermutation};
 ghost use Rattle.mq_frame.specs.declared.message.Id.{Id};
@@ -21,18 +22,21 @@ ghost use Rattle.mq_rows.specs.declared.record.TransactionRecord.{TransactionRec
 ghost use Rattle.mq_rows.specs.declared.record.UsageRecord.{UsageRecord};
 ghost use Rattle.mq_rows.specs.declared.record.CeilingRecord.{CeilingRecord};
 ghost use Rattle.mq_rows.specs.declared.plan.Found.{Found};
-ghost use Rattle.mq_rows.specs.Rows.{setting_row, answer_row, answer_rows, transaction_row, usage_row, ceiling_row, is_transaction, is_usage, is_ceiling};
+ghost use Rattle.mq_rows.specs.Rows.{setting_row, answer_row, answer_rows, transaction_row, usage_row, ceiling_row};
+ghost use Rattle.mq_rows.specs.Rows.{is_transaction, is_usage, is_ceiling};
 ghost use Rattle.mq_rows.specs.Tables.{Tables, AreTransactions, AreUsage, AreCeilings, AreRows};
 ghost use Rattle.mq_rows.specs.Meaning.{meaning, AreSound};
 ghost use Rattle.mq_rows.specs.Found.{IsFound, IsGoverning};
 ghost use Rattle.mq_rows.specs.Repeat.{IsRepeatOf};
 ghost use Rattle.mq_rows.specs.Listing.{usage_reply_by, page_row_by, IsNext, AreNext, behind};
-ghost use Rattle.mq_rows.specs.Plan.{held_by, decided, transaction_write, usage_write, ceiling_write, planned, may_be_found, Leads, same_key, set_transaction, same_day, set_usage, same_from, set_ceiling};
+ghost use Rattle.mq_rows.specs.Plan.{held_by, decided, transaction_write, usage_write, ceiling_write, planned};
+ghost use Rattle.mq_rows.specs.Plan.{may_be_found, Leads, same_key, set_transaction, same_day, set_usage, same_from};
+ghost use Rattle.mq_rows.specs.Plan.{set_ceiling};
 ghost use Rattle.mq_rows.specs.Written.{LeadTo};
 
 use mq_frame::laws::{bodies_are_read_back, one_spelling};
 use mq_ledger::laws::{
-    amounts_in_range, latest_limit_governs, one_more_arrival, one_more_limit,
+    amounts_in_range, built_is_legal, latest_limit_governs, one_more_arrival, one_more_limit,
     one_more_of_a_transaction, one_more_on_a_day, open_transactions, over_is_least, page_is_first,
     replies_in_range, replies_suit, used_where_reserved,
 };
@@ -55,6 +59,9 @@ pub fn rows_by_key()
         AreUsage day H rows → find (is_usage l d) rows ≡ usage_row day H l d }
     ensures ceiling { (H : List AnyEntry) (rows : List CeilingRecord) (l : List ℕ) (d : ℕ) →
         AreCeilings H rows → find (is_ceiling l d) rows ≡ ceiling_row H l d }
+    ensures only_usage { (day : ℕ → ℕ) (H : List AnyEntry) (rows : List UsageRecord) (l : List ℕ) (d : ℕ) →
+        AreUsage day H rows →
+        AllByRecursion (λ u. is_usage l d u ≡ true → Some u ≡ find (is_usage l d) rows) rows }
 {}
 
 /// What is written of transactions leads to their rows with one more answer. At most one row
@@ -139,6 +146,9 @@ pub fn one_more_answer()
         IsLegalBook b → AreRows b t → IsRequest r → id_of r ≡ Some id →
         stored b.history id ≡ None → IsFound (day_of b.zone) t r f →
         may_be_found b.default r f ≡ true }
+    ensures legal { (day : ℕ → ℕ) (default : ℕ) (H : List AnyEntry) (r : AnyRequest) (id : Id) →
+        IsLegal day default H → IsRequest r → id_of r ≡ Some id → stored H id ≡ None →
+        IsLegal day default (appended day default H r) }
 {
     transactions_follow();
     usage_follows();
@@ -153,9 +163,23 @@ pub fn one_more_answer()
     latest_limit_governs();
     amounts_in_range();
     replies_in_range();
+    built_is_legal();
 }
 
-/// The reply by a number's row is the ledger's, and a number without a row has no entry.
+/// A request that has no number, or one that is stored, adds no entry.
+pub fn nothing_is_added()
+    ensures unnumbered { (day : ℕ → ℕ) (default : ℕ) (H : List AnyEntry) (r : AnyRequest) →
+        IsLegal day default H → id_of r ≡ None →
+        build day default (first (requests H ++ r ∷ [])) ≡ H }
+    ensures stored { (day : ℕ → ℕ) (default : ℕ) (H : List AnyEntry) (r : AnyRequest) (id : Id) →
+        IsLegal day default H → id_of r ≡ Some id → is_some (stored H id) ≡ true →
+        build day default (first (requests H ++ r ∷ [])) ≡ H }
+{
+    one_more_arrival();
+}
+
+/// The reply by a number's row is the ledger's, and a number without a row has no entry. A number has
+/// one row at most.
 pub fn repeats_are_answered()
     ensures known { (day : ℕ → ℕ) (default : ℕ) (H : List AnyEntry) (r : AnyRequest) (id : Id)
         (row : AnswerRecord) (a : AnyReply) →
@@ -173,6 +197,10 @@ pub fn repeats_are_answered()
     ensures unknown { (H : List AnyEntry) (r : AnyRequest) (id : Id) → IsRequest r →
         id_of r ≡ Some id → find (λ x. same_id id x.id) (answer_rows H) ≡ None →
         stored H id ≡ None }
+    ensures one { (day : ℕ → ℕ) (default : ℕ) (H : List AnyEntry) (r : AnyRequest) (id : Id) →
+        IsLegal day default H → IsRequest r → id_of r ≡ Some id →
+        AllByRecursion (λ row. same_id id row.id ≡ true →
+        find (λ x. same_id id x.id) (answer_rows H) ≡ Some row) (answer_rows H) }
 {
     replies_in_range();
     one_spelling();

@@ -4,7 +4,8 @@ ghost use Rattle.std.specs.Option.{MatchOption};
 ghost use Rattle.mq_frame.specs.declared.message.Reply.{Reply as AnyReply};
 ghost use Rattle.mq_frame.specs.Range.{IsId, IsCount, IsAmount, IsRequest, IsReply};
 ghost use Rattle.mq_ledger.specs.Answer.{granted_or_full, settled_or_too_many};
-ghost use Rattle.mq_rows.specs.Plan.{agrees_with, is_closed, held_by, reserved_by, used_by, cap_by, if_row_open, set_or_over_by, decided, moves, fits, fits_if_open, is_day_over, may_be_found};
+ghost use Rattle.mq_rows.specs.Plan.{agrees_with, is_closed, held_by, reserved_by, used_by, cap_by, if_row_open};
+ghost use Rattle.mq_rows.specs.Plan.{set_or_over_by, decided, moves, fits, fits_if_open, is_day_over, may_be_found};
 
 use crate::plan::Found;
 use mq_frame::{Id, Login, Reply, Request};
@@ -138,7 +139,8 @@ impl Found {
         ensures in_range { IfOk result IsReply }
         ensures fits { IfOk result (λ a. moves a ≡ true → fits self.now.transaction self.now.usage ≡ true) }
         ensures store { IfErr result (λ fault. fault ≡ LedgerFault.Store
-            → fits_if_open at login.now (cap_by default self.now.governing) self.now.transaction self.now.usage ≡ false) }
+            → fits_if_open at login.now (cap_by default self.now.governing) self.now.transaction self.now.usage
+            ≡ false) }
     {
         if let Some(refused) = self.refusal(id, at, login)? {
             return Ok(refused);

@@ -5,20 +5,21 @@ ghost use Rattle.mq_frame.specs.Spelling.{request_body, reply_body};
 ghost use Rattle.mq_ledger.specs.Arrivals.{id_of};
 ghost use Rattle.mq_ledger.specs.Day.{day_of};
 ghost use Rattle.mq_rows.specs.Rows.{number_of, answer_row};
-ghost use Rattle.mq_rows.specs.Plan.{moves, moved, fresh, moved_or_made, transaction_write, reserved_more, freed, usage_write, set_ceiling_to, ceiling_write, held_by, reserved_by, used_by, planned, may_be_found};
+ghost use Rattle.mq_rows.specs.Plan.{moves, moved, fresh, moved_or_made, transaction_write};
+ghost use Rattle.mq_rows.specs.Plan.{reserved_more, freed, usage_write, set_ceiling_to, ceiling_write};
+ghost use Rattle.mq_rows.specs.Plan.{held_by, reserved_by, used_by, planned, may_be_found};
+ghost use Rattle.mq_rows.specs.Storable.{AreStorableIf, IsStorablePlan};
 
 use crate::body::Body;
 use crate::plan::{Found, Plan, Write};
 use crate::record::{AnswerRecord, CeilingRecord, TransactionRecord, UsageRecord};
+use mq_frame::format::HEAD_BYTES;
 use mq_frame::{Id, Login, Memory, Reply, Request, encode_reply, encode_request};
 use mq_ledger::{LedgerFault, Zone};
 use std::alloc::{AllocError, Global};
 
 /// So many answers are stored at most.
 const MOST_ANSWERS: u64 = 4_611_686_018_427_387_904;
-
-/// The bytes of a frame's length, which stand before its body.
-const HEAD: usize = 2;
 
 /// The row of a transaction before its first request is answered.
 fn fresh(
@@ -218,7 +219,7 @@ fn request_body(alloc: Global, request: &Request) -> Result<Body, Memory>
 {
     let mut frame = Vec::new(alloc);
     encode_request(alloc, request, &mut frame)?;
-    Ok(Body::from_slice(alloc, &frame[HEAD..])?)
+    Ok(Body::from_slice(alloc, &frame[HEAD_BYTES..])?)
 }
 
 /// The body of the reply's frame.
@@ -228,7 +229,7 @@ fn reply_body(alloc: Global, reply: &Reply) -> Result<Body, Memory>
 {
     let mut frame = Vec::new(alloc);
     encode_reply(alloc, reply, &mut frame)?;
-    Ok(Body::from_slice(alloc, &frame[HEAD..])?)
+    Ok(Body::from_slice(alloc, &frame[HEAD_BYTES..])?)
 }
 
 /// The row of the n-th answer.
@@ -270,6 +271,7 @@ pub fn decide(
     requires number { id_of request.now ≡ Some id.now }
     ensures plan { IfOk result (λ plan. plan ≡ planned (day_of zone) default arrivals request.now found) }
     ensures in_range { IfOk result (λ plan. IsReply plan.reply) }
+    ensures storable { IfOk result (λ plan. AreStorableIf found.transaction → IsStorablePlan plan) }
     ensures store { IfErr result (λ fault. fault ≡ LedgerFault.Store
         → arrivals < 4611686018427387904 → may_be_found default request.now found ≡ false) }
 {

@@ -9,7 +9,7 @@ use Rattle.mq_frame.specs.Feed.{Front, Nothing, Cut, EmptyHead, LongHead, Whole,
 use Rattle.mq_frame.specs.Spelling.{SpellsRequest}
 use Rattle.mq_ledger.specs.Legal.{Book}
 use Rattle.mq_server.specs.declared.connection.Served.{Served}
-use Rattle.mq_server.specs.declared.connection.Served.TheVariants.{Ended, Enough, BadFrame, CutFrame}
+use Rattle.mq_server.specs.declared.connection.Served.TheVariants.{InputEnd, Enough, BadFrame, CutFrame}
 use Rattle.mq_server.specs.Connection.{Wire, Serves}
 use Rattle.mq_server.specs.Connections.{wires, AreServed, AreServedWhole, AppendEach}
 use Rattle.mq_server.specs.Delivery.{Delivery, asked, answer_to}
@@ -57,7 +57,7 @@ at_end read more e = sym (append-nil read) ∙ ap (λ (q : List ℕ). read ++ q)
 
 -- an end by the bytes read is an end by all of them
 all_read : Stay → (read more : List ℕ) (came : List Delivery) (rest : List ℕ) (e : Served) → Asks read (asked came) rest → end e (length came) rest (Some more) → IsServed (read ++ more) came e
-all_read stay read more came rest Ended asks (few, nothing, over) = let P : List ℕ → Type 0 = λ q. IsServed q came Ended in subst P (at_end read more over) (record { rest = rest; asks = asks; ends = (few, nothing, refl) })
+all_read stay read more came rest InputEnd asks (few, nothing, over) = let P : List ℕ → Type 0 = λ q. IsServed q came InputEnd in subst P (at_end read more over) (record { rest = rest; asks = asks; ends = (few, nothing, refl) })
 all_read stay read more came rest CutFrame asks (few, cut, over) = let P : List ℕ → Type 0 = λ q. IsServed q came CutFrame in subst P (at_end read more over) (record { rest = rest; asks = asks; ends = (few, cut, refl) })
 all_read stay read more came rest BadFrame asks (few, bad) = served_more stay read more came BadFrame (inl refl) (record { rest = rest; asks = asks; ends = (few, bad) })
 all_read stay read more came rest Enough asks all = served_more stay read more came Enough (inr refl) (record { rest = rest; asks = asks; ends = all })
@@ -81,25 +81,25 @@ cut_nothing : Cut ≡ Nothing → ⊥
 cut_nothing e = cc
 
 same_end : (count : ℕ) (behind : Front) (e f : Served) → IsEnd e count behind (Some []) → IsEnd f count behind (Some []) → e ≡ f
-same_end count behind Ended Ended p q = refl
-same_end count behind Ended CutFrame p q = absurd (nothing_cut (sym p.1 ∙ q.1))
-same_end count behind Ended BadFrame p q = absurd (subst IsBad p.1 q.1)
-same_end count behind Ended Enough p q = absurd (omega (arith, p.0, q))
-same_end count behind CutFrame Ended p q = absurd (cut_nothing (sym p.1 ∙ q.1))
+same_end count behind InputEnd InputEnd p q = refl
+same_end count behind InputEnd CutFrame p q = absurd (nothing_cut (sym p.1 ∙ q.1))
+same_end count behind InputEnd BadFrame p q = absurd (subst IsBad p.1 q.1)
+same_end count behind InputEnd Enough p q = absurd (omega (arith, p.0, q))
+same_end count behind CutFrame InputEnd p q = absurd (cut_nothing (sym p.1 ∙ q.1))
 same_end count behind CutFrame CutFrame p q = refl
 same_end count behind CutFrame BadFrame p q = absurd (subst IsBad p.1 q.1)
 same_end count behind CutFrame Enough p q = absurd (omega (arith, p.0, q))
-same_end count behind BadFrame Ended p q = absurd (subst IsBad q.1 p.1)
+same_end count behind BadFrame InputEnd p q = absurd (subst IsBad q.1 p.1)
 same_end count behind BadFrame CutFrame p q = absurd (subst IsBad q.1 p.1)
 same_end count behind BadFrame BadFrame p q = refl
 same_end count behind BadFrame Enough p q = absurd (omega (arith, p.0, q))
-same_end count behind Enough Ended p q = absurd (omega (arith, q.0, p))
+same_end count behind Enough InputEnd p q = absurd (omega (arith, q.0, p))
 same_end count behind Enough CutFrame p q = absurd (omega (arith, q.0, p))
 same_end count behind Enough BadFrame p q = absurd (omega (arith, q.0, p))
 same_end count behind Enough Enough p q = refl
 
 at_most : (count : ℕ) (behind : Front) (left : Option (List ℕ)) (e : Served) → IsEnd e count behind left → count < 10001
-at_most count behind left Ended p = omega (arith, p.0)
+at_most count behind left InputEnd p = omega (arith, p.0)
 at_most count behind left CutFrame p = omega (arith, p.0)
 at_most count behind left BadFrame p = omega (arith, p.0)
 at_most count behind left Enough p = omega (arith, p)
@@ -112,7 +112,7 @@ cut_whole body after e = cc
 
 -- where a frame of a request stands, only the count ends a connection
 goes_on : (count : ℕ) (behind : Front) (body after : List ℕ) (r : Request) (e : Served) → behind ≡ Whole body after → SpellsRequest body r → IsEnd e count behind (Some []) → count ≡ 10000
-goes_on count behind body after r Ended at s p = absurd (nothing_whole body after (sym at ∙ p.1))
+goes_on count behind body after r InputEnd at s p = absurd (nothing_whole body after (sym at ∙ p.1))
 goes_on count behind body after r CutFrame at s p = absurd (cut_whole body after (sym at ∙ p.1))
 goes_on count behind body after r BadFrame at s p = let none : SpellsNone body = subst IsBad at p.1 in absurd (none r s)
 goes_on count behind body after r Enough at s p = p

@@ -18,9 +18,9 @@ use Rattle.mq_server.specs.declared.fault.ServeFault.TheVariants.{Read, Write, M
 use Rattle.mq_server.specs.Delivery.{Delivery, history_after, answer_to, answers}
 use Rattle.mq_server.specs.Connection.{Wire, Serves, calls_of}
 use Rattle.mq_server.specs.Exits.{IsPart}
-use Rattle.mq_server.specs.Steps.{IsUnsent, Refills, Takes, end_at}
+use Rattle.mq_server.specs.Steps.{IsUnsent, Refills, AnswersBody, end_at}
 use Rattle.mq_server.specs.Text.{IsBad, IsEnd, IsPartial, farewell, frames_of, next}
-use Rattle.mq_server.proofs.Heads.{partial_short, left_short}
+use Rattle.mq_server.proofs.Heads.{nothing_whole, some_behind, partial_short, left_short}
 use Rattle.mq_server.proofs.Telling.{Tells-trans, Tells-kept, Tells-all, told_push}
 use Rattle.mq_server.proofs.Running.{SoFar, Finds, came_read, came_more, due_here, frames_of_push, answered_more}
 
@@ -70,7 +70,7 @@ refill_failed b t u old mid left held from now piece count history Memory few pa
         written = s.written;
         asks = c.asks;
         ahead = omega (arith, length-append held piece, partial_short 512 held partial);
-        leaves = record { done = s.came; last = None; all = no_last s.came; few = omega (arith, s.all.counted); told = refl };
+        leaves = record { done = s.came; last = None; all = no_last s.came; few = omega (arith, s.all.counted); wanted = some_behind 512 (held ++ piece) (omega (arith, length-append held piece, told.0)); told = refl };
       },
       s.all.stored,
       Tells-all t u _ s.told,
@@ -149,7 +149,7 @@ bad_unsent : (b : Book) (t u : Option (List Told)) (old mid : Wire) (holds : Opt
     → Exits b t u old (record { remaining = mid.remaining; contents = holds }) (Err e) history
 bad_unsent b t u old mid holds held count history Read few short bad s unsent = absurd unsent
 bad_unsent b t u old mid holds held count history Store few short bad s unsent = absurd unsent
-bad_unsent b t u old mid holds held count history Write few short bad s (part, fits, sent) = (
+bad_unsent b t u old mid holds held count history Write few short bad s (part, more, fits, sent) = (
   s.came,
   record {
     read = s.read;
@@ -159,7 +159,7 @@ bad_unsent b t u old mid holds held count history Write few short bad s (part, f
     written = Appends-trans old.contents mid.contents holds _ _ s.written sent;
     asks = s.all.asks;
     ahead = short;
-    leaves = record { done = s.came; last = None; all = no_last s.came; few = omega (arith, s.all.counted); bad = bad; part = part; begins = fits; told = refl };
+    leaves = record { done = s.came; last = None; all = no_last s.came; few = omega (arith, s.all.counted); bad = bad; part = part; begins = (more, fits); told = refl };
   },
   s.all.stored,
   Tells-all t u _ s.told,
@@ -174,7 +174,7 @@ bad_unsent b t u old mid holds held count history Memory few short bad s unsent 
     written = Appends-kept old.contents mid.contents holds _ s.written unsent;
     asks = s.all.asks;
     ahead = short;
-    leaves = record { done = s.came; last = None; all = no_last s.came; few = omega (arith, s.all.counted); told = refl };
+    leaves = record { done = s.came; last = None; all = no_last s.came; few = omega (arith, s.all.counted); wanted = λ is. subst IsBad is bad; told = refl };
   },
   s.all.stored,
   Tells-all t u _ s.told,
@@ -188,7 +188,7 @@ refused b t u old mid holds held count history (Ok e) few short bad s sent unsen
 refused b t u old mid holds held count history (Err e) few short bad s sent unsent = bad_unsent b t u old mid holds held count history e few short bad s unsent
 
 pub no_request : (b : Book) (t u v : Option (List Told)) (old mid : Wire) (k : Book) (body after held : List ℕ) (count : ℕ) (history : List Entry)
-    → next held ≡ Whole body after → Takes k u body (Ok None) history v → SoFar b t u old mid held count k.history
+    → next held ≡ Whole body after → AnswersBody k u body (Ok None) history v → SoFar b t u old mid held count k.history
     → IsBad (next held) × SoFar b t v old mid held count history
 no_request b t u v old mid k body after held count history e (none, same, tells) s =
     let P : List Entry → Type 0 = λ H. SoFar b t v old mid held count H in
@@ -196,11 +196,11 @@ no_request b t u v old mid k body after held count history e (none, same, tells)
 
 -- ---- a request that couldn't come
 
-pub take_failed : (b k : Book) (t u v : Option (List Told)) (old mid : Wire) (body after held : List ℕ) (count : ℕ) (history : List Entry) (e : ServeFault)
-    → count < 10000 → length held < 4610 → next held ≡ Whole body after → SoFar b t u old mid held count k.history → Takes k u body (Err e) history v → Exits b t v old mid (Err e) history
-take_failed b k t u v old mid body after held count history Read few short e s told = absurd told
-take_failed b k t u v old mid body after held count history Write few short e s told = absurd told
-take_failed b k t u v old mid body after held count history Memory few short e s (same, tells) = (
+pub unanswered : (b k : Book) (t u v : Option (List Told)) (old mid : Wire) (body after held : List ℕ) (count : ℕ) (history : List Entry) (e : ServeFault)
+    → count < 10000 → length held < 4610 → next held ≡ Whole body after → SoFar b t u old mid held count k.history → AnswersBody k u body (Err e) history v → Exits b t v old mid (Err e) history
+unanswered b k t u v old mid body after held count history Read few short e s told = absurd told
+unanswered b k t u v old mid body after held count history Write few short e s told = absurd told
+unanswered b k t u v old mid body after held count history Memory few short e s (same, tells) = (
   s.came,
   record {
     read = s.read;
@@ -210,12 +210,12 @@ take_failed b k t u v old mid body after held count history Memory few short e s
     written = s.written;
     asks = s.all.asks;
     ahead = short;
-    leaves = record { done = s.came; last = None; all = no_last s.came; few = omega (arith, s.all.counted); told = refl };
+    leaves = record { done = s.came; last = None; all = no_last s.came; few = omega (arith, s.all.counted); wanted = λ is. nothing_whole body after (sym is ∙ e); told = refl };
   },
   same ∙ s.all.stored,
   Tells-all t v _ (Tells-kept t u v _ s.told tells),
 )
-take_failed b k t u v old mid body after held count history Store few short e s (request, spelled, same, tells) = (
+unanswered b k t u v old mid body after held count history Store few short e s (request, spelled, same, tells) = (
   s.came,
   record {
     read = s.read;
@@ -235,11 +235,11 @@ take_failed b k t u v old mid body after held count history Store few short e s 
 
 pub send_failed : (b k : Book) (t u v : Option (List Told)) (old mid : Wire) (holds : Option (List ℕ)) (held body after : List ℕ) (count : ℕ) (history : List Entry) (x : Reply) (e : ServeFault)
     → count < 10000 → length held < 4610 → Finds b k → SoFar b t u old mid held count k.history → next held ≡ Whole body after
-    → Takes k u body (Ok (Some x)) history v → IsUnsent mid.contents holds (frame (reply_body x)) e
+    → AnswersBody k u body (Ok (Some x)) history v → IsUnsent mid.contents holds (frame (reply_body x)) e
     → Exits b t v old (record { remaining = mid.remaining; contents = holds }) (Err e) history
 send_failed b k t u v old mid holds held body after count history x Read few short f s stands told unsent = absurd unsent
 send_failed b k t u v old mid holds held body after count history x Store few short f s stands told unsent = absurd unsent
-send_failed b k t u v old mid holds held body after count history x Write few short f s stands (d, spelled, a, h, tells) (part, fits, sent) =
+send_failed b k t u v old mid holds held body after count history x Write few short f s stands (d, spelled, a, h, tells) (part, more, fits, sent) =
     let c = came_more b k s.read held body after count history s.came d f s.all stands spelled h in
     let here = due_here b k s.read held count s.came d x f s.all a in
     let P : Reply → Type 0 = λ r. IsPart part (frame (reply_body r)) in (
@@ -252,7 +252,7 @@ send_failed b k t u v old mid holds held body after count history x Write few sh
         written = Appends-trans old.contents mid.contents holds _ _ s.written sent;
         asks = c.asks;
         ahead = omega (arith, left_short 512 held body after stands);
-        leaves = record { done = s.came; last = Some d; all = refl; few = omega (arith, s.all.counted); bad = tt; part = part; begins = subst P here fits; told = refl };
+        leaves = record { done = s.came; last = Some d; all = refl; few = omega (arith, s.all.counted); bad = tt; part = part; begins = subst P here (more, fits); told = refl };
       },
       c.stored,
       Tells-all t v _ (told_push (answer_to b) s.came d x t u v (due_here b k s.read held count s.came d x f s.all a) s.told tells),
@@ -268,7 +268,7 @@ send_failed b k t u v old mid holds held body after count history x Memory few s
         written = Appends-kept old.contents mid.contents holds _ s.written unsent;
         asks = c.asks;
         ahead = omega (arith, left_short 512 held body after stands);
-        leaves = record { done = s.came; last = Some d; all = refl; few = omega (arith, s.all.counted); told = refl };
+        leaves = record { done = s.came; last = Some d; all = refl; few = omega (arith, s.all.counted); wanted = tt; told = refl };
       },
       c.stored,
       Tells-all t v _ (told_push (answer_to b) s.came d x t u v (due_here b k s.read held count s.came d x f s.all a) s.told tells),
@@ -277,7 +277,7 @@ send_failed b k t u v old mid holds held body after count history x Memory few s
 -- ---- an answer that was sent
 
 pub sent : (b k : Book) (t u v : Option (List Told)) (old mid : Wire) (holds : Option (List ℕ)) (held body after : List ℕ) (count : ℕ) (history : List Entry) (x : Reply)
-    → Finds b k → SoFar b t u old mid held count k.history → next held ≡ Whole body after → Takes k u body (Ok (Some x)) history v → Appends mid.contents holds (frame (reply_body x))
+    → Finds b k → SoFar b t u old mid held count k.history → next held ≡ Whole body after → AnswersBody k u body (Ok (Some x)) history v → Appends mid.contents holds (frame (reply_body x))
     → SoFar b t v old (record { remaining = mid.remaining; contents = holds }) after (count + 1) history
 sent b k t u v old mid holds held body after count history x f s stands (d, spelled, a, h, tells) out = answered_more b k t u v old mid holds held body after count history d x f s stands spelled a h tells out
 

@@ -14,7 +14,7 @@ either false = inr refl
 whole_is : (a b c d : List ℕ) → Whole a b ≡ Whole c d → (a ≡ c) × (b ≡ d)
 whole_is a b c d e = (cc, cc)
 
-nothing_whole : (a b : List ℕ) → Nothing ≡ Whole a b → ⊥
+pub nothing_whole : (a b : List ℕ) → Nothing ≡ Whole a b → ⊥
 nothing_whole a b e = cc
 
 cut_whole : (a b : List ℕ) → Cut ≡ Whole a b → ⊥
@@ -26,7 +26,39 @@ empty_whole a b e = cc
 long_whole : (a b : List ℕ) → LongHead ≡ Whole a b → ⊥
 long_whole a b e = cc
 
+empty_nothing : EmptyHead ≡ Nothing → ⊥
+empty_nothing e = cc
+
+long_nothing : LongHead ≡ Nothing → ⊥
+long_nothing e = cc
+
+cut_nothing : Cut ≡ Nothing → ⊥
+cut_nothing e = cc
+
+whole_nothing : (a b : List ℕ) → Whole a b ≡ Nothing → ⊥
+whole_nothing a b e = cc
+
 -- the four cases of a head
+some_behind_head : (limit n : ℕ) (bytes : List ℕ) → front_behind limit n bytes ≡ Nothing → ⊥
+some_behind_head limit n bytes e =
+    elim (either (n == 0)) [
+      | inl t ↦ empty_nothing (rw t at e)
+      | inr f ↦ elim (either (nat_lt limit n)) [
+        | inl t ↦ long_nothing (rw (f, t) at e)
+        | inr g ↦ elim (either (nat_lt (length bytes) n)) [
+          | inl t ↦ cut_nothing (rw (f, g, t) at e)
+          | inr h ↦ whole_nothing (take n bytes) (drop n bytes) (rw (f, g, h) at e)
+        ]
+      ]
+    ]
+
+-- something stands at the front of a byte
+pub some_behind : (limit : ℕ) (bytes : List ℕ) → 0 < length bytes → front limit bytes ≡ Nothing → ⊥
+some_behind limit [] h e = omega (arith, h)
+some_behind limit (a ∷ []) h e = cut_nothing e
+some_behind limit (a ∷ b ∷ bytes) h e = some_behind_head limit (256 * a + b) bytes e
+
+-- the same four cases
 short_behind : (limit n : ℕ) (bytes : List ℕ) → IsPartial (front_behind limit n bytes) → length bytes < limit
 short_behind limit n bytes e =
     elim (either (n == 0)) [

@@ -1,5 +1,5 @@
 -- One connection more is served.
-use Rattle.std.proofs.Common.{◌≡◌, ℕ, zero, suc, ◌<◌, List, [], ◌∷◌, ◌++◌, ◌+◌, length, length-drop, drop, map, get_or, set, refl, sym, ap, subst, ◌∙◌, append-nil, append_assoc, arith, Option, Result, Ok, Err}
+use Rattle.std.proofs.Common.{◌≡◌, ℕ, zero, suc, ◌<◌, List, [], ◌∷◌, ◌++◌, ◌+◌, length, length-drop, take, drop, map, get_or, set, refl, sym, ap, subst, ◌∙◌, append-nil, append_assoc, arith, Option, Result, Ok, Err}
 use Rattle.std.specs.List.{AllZip}
 use Rattle.std.specs.Prelude.{All}
 use Rattle.std.proofs.lemmas.List.{map-set, get_or-map, get_or-drop, drop-drop, drop-set-lt, length-map}
@@ -15,9 +15,9 @@ use Rattle.mq_server.specs.declared.connections.ConnectionEnd.{ConnectionEnd}
 use Rattle.mq_server.specs.declared.connections.ConnectionEnd.TheVariants as ends
 use Rattle.mq_server.specs.declared.fault.ServeFault.{ServeFault}
 use Rattle.mq_server.specs.declared.fault.ServeFault.TheVariants.{Read, Write, Memory, Store}
-use Rattle.mq_server.specs.Delivery.{Delivery, answer_to, history_after, calls, failed_call}
+use Rattle.mq_server.specs.Delivery.{Delivery, answer_to, history_after, calls}
 use Rattle.mq_server.specs.Connection.{Wire, Serves, calls_of}
-use Rattle.mq_server.specs.Connections.{wires, result_of, AreServed}
+use Rattle.mq_server.specs.Connections.{wires, result_of, AreServed, AreStopped, calls_until}
 use Rattle.mq_server.proofs.Deliveries.{Follows, answer_more, history_more}
 use Rattle.mq_server.proofs.Telling.{Tells-trans, calls_more}
 
@@ -41,6 +41,23 @@ wire_at [] held i left holds e h p q = absurd (omega arith)
 wire_at (x ∷ lefts) [] i left holds e h p q = absurd (omega arith)
 wire_at (x ∷ lefts) (y ∷ held) zero left holds e h p q = λ j. wire (p j) (q j)
 wire_at (x ∷ lefts) (y ∷ held) (suc i) left holds e h p q = wire_at lefts held i left holds (omega arith) (omega arith) p q
+
+-- ---- a list around one of its elements
+
+length_front : {X : Type 0} (xs : List X) (i : ℕ) → i < length xs → length (take i xs) ≡ i
+length_front [] i h = absurd (omega (arith, h))
+length_front (x ∷ xs) zero h = refl
+length_front (x ∷ xs) (suc i) h = ap suc (length_front xs i (omega (arith, h)))
+
+split_at : {X : Type 0} (xs : List X) (i : ℕ) (x : X) → i < length xs → x ≡ get_or xs i x → xs ≡ take i xs ++ x ∷ drop (suc i) xs
+split_at [] i y h e = absurd (omega (arith, h))
+split_at (x ∷ xs) zero y h e = ap (λ z. z ∷ xs) (sym e)
+split_at (x ∷ xs) (suc i) y h e = ap (λ zs. x ∷ zs) (split_at xs i y (omega (arith, h)) e)
+
+split_set : {X : Type 0} (xs : List X) (i : ℕ) (x : X) → i < length xs → set xs i x ≡ take i xs ++ x ∷ drop (suc i) xs
+split_set [] i y h = absurd (omega (arith, h))
+split_set (x ∷ xs) zero y h = refl
+split_set (x ∷ xs) (suc i) y h = ap (λ zs. x ∷ zs) (split_set xs i y (omega (arith, h)))
 
 -- ---- the relation
 
@@ -96,6 +113,47 @@ module _ {S W : Type 0} (left : S → Option (List ℕ)) (held : W → Option (L
         stored ∙ history_more b k seen came f,
       )
 
+  -- the store failed at a connection
+  pub stopped : (b k : Book) (olds : List Wire) (inputs : List S) (outputs : List W) (i : ℕ) (input input' : S) (output output' : W) (ends : List ConnectionEnd) (seen : List Delivery)
+      → length inputs ≡ length outputs → i < length inputs → length ends ≡ i → input ≡ get_or inputs i input → output ≡ get_or outputs i output
+      → AreServed b [] olds (wires (map left inputs) (map held outputs)) (map result_of ends) seen → Follows b k seen
+      → (came : List Delivery) (result : Result Served ServeFault) → result ≡ Err Store → (served : Serves (answer_to k) came (wire (left input) (held output)) (wire (left input') (held output')) result)
+      → (s : AreStopped b olds (wires (map left (set inputs i input')) (map held (set outputs i output'))) ends (seen ++ came)) × (calls_until s ≡ calls (answer_to b) seen ++ calls_of served)
+  stopped b k olds inputs outputs i input input' output output' ends seen pairs here counted from_input from_output others f came result failed served =
+      let lefts = map left inputs in
+      let holds = map held outputs in
+      let same : length lefts ≡ length holds = omega (arith, length-map inputs left, length-map outputs held) in
+      let p : left input ≡ get_or lefts i (left input) = ap left from_input ∙ sym (get_or-map left inputs i input (left input) here) in
+      let q : held output ≡ get_or holds i (held output) = ap held from_output ∙ sym (get_or-map held outputs i output (held output) (omega arith)) in
+      let old : Wire = wire (left input) (held output) in
+      let new : Wire = wire (left input') (held output') in
+      let at : old ≡ get_or (wires lefts holds) i old = wire_at lefts holds i (left input) (held output) same (omega (arith, length-map inputs left)) p q in
+      let after : set (wires lefts holds) i new ≡ wires (map left (set inputs i input')) (map held (set outputs i output')) =
+      sym (wires-set lefts holds i (left input') (held output') same) ∙ ap (λ (l : List (Option (List ℕ))). wires l (set holds i (held output'))) (sym (map-set left inputs i input')) ∙ ap (wires (map left (set inputs i input'))) (sym (map-set held outputs i output')) in
+      let there : i < length (wires lefts holds) = omega (arith, length-wires lefts holds same, length-map inputs left) in
+      let P : List Wire → Type 0 = λ ws. AreServed b [] olds ws (map result_of ends) seen in (
+        record {
+          before = seen;
+          came = came;
+          all = refl;
+          theirs = take i (wires lefts holds);
+          behind = drop (suc i) (wires lefts holds);
+          old = old;
+          new = new;
+          stands = length_front (wires lefts holds) i there ∙ sym counted;
+          others = subst P (split_at (wires lefts holds) i old there at) others;
+          left = sym after ∙ split_set (wires lefts holds) i new there;
+          found = k;
+          zone = f.zone;
+          default = f.default;
+          history = f.history;
+          result = result;
+          failed = failed;
+          last = served;
+        },
+        refl,
+      )
+
 -- ---- what the ledger told
 
 same_answers : (b k : Book) (seen : List Delivery) → Follows b k seen → answer_to k ≡ from b seen
@@ -116,30 +174,12 @@ calls_unfailed ends.Read (Err Store) s is = cc
 calls_unfailed ends.Write (Err Store) s is = cc
 calls_unfailed ends.Memory (Err Store) s is = cc
 
--- and of one at which it failed, the failed call behind them
-calls_failed : {answer : List Delivery → Delivery → Reply} {came : List Delivery} {old new : Wire} (result : Result Served ServeFault) (s : Serves answer came old new result) → result ≡ Err Store → (request : Request) × (calls_of s ≡ calls answer came ++ failed_call request ∷ [])
-calls_failed (Ok e) s is = cc
-calls_failed (Err Read) s is = cc
-calls_failed (Err Write) s is = cc
-calls_failed (Err Memory) s is = cc
-calls_failed (Err Store) s is = (s.leaves.request, refl)
-
 pub told_turn : (b k : Book) (t u v : Option (List Told)) (seen came : List Delivery) {old new : Wire} (end : ConnectionEnd) (result : Result Served ServeFault) (s : Serves (answer_to k) came old new result)
     → Follows b k seen → result_of end ≡ result → Tells t u (calls (answer_to b) seen) → Tells u v (calls_of s) → Tells t v (calls (answer_to b) (seen ++ came))
 told_turn b k t u v seen came end result s f is before tells =
     let P : List Told → Type 0 = λ q. Tells u v q in
     let Q : List Told → Type 0 = λ q. Tells t v q in
     subst Q (calls_turn b k seen came f) (Tells-trans t u v _ _ before (subst P (calls_unfailed end result s is) tells))
-
-pub told_failed : (b k : Book) (t u v : Option (List Told)) (seen came : List Delivery) {old new : Wire} (result : Result Served ServeFault) (s : Serves (answer_to k) came old new result)
-    → Follows b k seen → result ≡ Err Store → Tells t u (calls (answer_to b) seen) → Tells u v (calls_of s) → (request : Request) × Tells t v (calls (answer_to b) (seen ++ came) ++ failed_call request ∷ [])
-told_failed b k t u v seen came result s f is before tells =
-    let (request, those) = calls_failed result s is in
-    let P : List Told → Type 0 = λ q. Tells u v q in
-    let Q : List Told → Type 0 = λ q. Tells t v q in
-    let all : calls (answer_to b) seen ++ (calls (answer_to k) came ++ failed_call request ∷ []) ≡ calls (answer_to b) (seen ++ came) ++ failed_call request ∷ [] =
-    sym (append_assoc (calls (answer_to b) seen) (calls (answer_to k) came) (failed_call request ∷ [])) ∙ ap (λ (q : List Told). q ++ failed_call request ∷ []) (calls_turn b k seen came f) in
-    (request, subst Q all (Tells-trans t u v _ _ before (subst P those tells)))
 
 -- ---- what holds of each end and its source or sink
 
@@ -148,6 +188,28 @@ zip_push P [] [] x y all p = (p, tt)
 zip_push P [] (b ∷ ys) x y all p = absurd all
 zip_push P (a ∷ xs) [] x y all p = absurd all
 zip_push P (a ∷ xs) (b ∷ ys) x y all p = (all.0, zip_push P xs ys x y all.1 p)
+
+-- the same of how the connections ended
+pub zip_results : {A : Type 0} (P : ConnectionEnd → A → Type 0) (Q : Result Served ServeFault → A → Type 0) → ((e : ConnectionEnd) (a : A) → P e a → Q (result_of e) a)
+    → (es : List ConnectionEnd) (ys : List A) → AllZip P es ys → AllZip Q (map result_of es) ys
+zip_results P Q f [] [] all = tt
+zip_results P Q f [] (a ∷ ys) all = absurd all
+zip_results P Q f (e ∷ es) [] all = absurd all
+zip_results P Q f (e ∷ es) (a ∷ ys) all = (f e a all.0, zip_results P Q f es ys all.1)
+
+pub store_read : (e : Result Served ServeFault) → e ≡ Err Store → e ≡ Err Read → ⊥
+store_read (Ok e) is other = cc
+store_read (Err Read) is other = cc
+store_read (Err Write) is other = cc
+store_read (Err Memory) is other = cc
+store_read (Err Store) is other = cc
+
+pub store_write : (e : Result Served ServeFault) → e ≡ Err Store → e ≡ Err Write → ⊥
+store_write (Ok e) is other = cc
+store_write (Err Read) is other = cc
+store_write (Err Write) is other = cc
+store_write (Err Memory) is other = cc
+store_write (Err Store) is other = cc
 
 -- ---- devices of connections that weren't served yet
 

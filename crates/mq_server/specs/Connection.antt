@@ -19,16 +19,18 @@ pub record Wire : Type 0 where
   pub contents : Option (List ℕ)
 
 -- the text that was written when the serving ended so, with this behind the frames of the deliveries
-abbrev pub Leaves : (List Delivery → Delivery → Reply) → List Delivery → Front → List ℕ → Option (List ℕ) → Result Served ServeFault → Type 0
+abbrev pub Leaves : (List Delivery → Delivery → Reply) → List Delivery → Front → List ℕ
+    → Option (List ℕ) → Result Served ServeFault → Type 0
 Leaves answer came behind text left (Ok e) = (text ≡ served answer came e) × IsEnd e (length came) behind left
 Leaves answer came behind text left (Err Read) = LeavesAtRead answer came behind text
 Leaves answer came behind text left (Err Write) = LeavesAtWrite answer came behind text
-Leaves answer came behind text left (Err Memory) = LeavesAtMemory answer came text
+Leaves answer came behind text left (Err Memory) = LeavesAtMemory answer came behind text
 Leaves answer came behind text left (Err Store) = LeavesAtStore answer came behind text
 
 -- A connection was served: bytes were read, which begin with the frames of these deliveries; a text was written;
 -- and no more was read ahead than the rest of a frame and a piece.
-pub record Serves (answer : List Delivery → Delivery → Reply) (came : List Delivery) (old new : Wire) (result : Result Served ServeFault) : Type 0 where
+pub record Serves (answer : List Delivery → Delivery → Reply) (came : List Delivery) (old new : Wire)
+    (result : Result Served ServeFault) : Type 0 where
   pub read : List ℕ
   pub rest : List ℕ
   pub text : List ℕ
@@ -39,8 +41,9 @@ pub record Serves (answer : List Delivery → Delivery → Reply) (came : List D
   pub leaves : Leaves answer came (next rest) text new.remaining result
 
 -- the call behind those of the deliveries: the one at which the store failed, where it did
-abbrev pub last_call : (answer : List Delivery → Delivery → Reply) (came : List Delivery) (behind : Front) (text : List ℕ)
-    (left : Option (List ℕ)) (result : Result Served ServeFault) → Leaves answer came behind text left result → List Told
+abbrev pub last_call : (answer : List Delivery → Delivery → Reply) (came : List Delivery) (behind : Front)
+    (text : List ℕ) (left : Option (List ℕ)) (result : Result Served ServeFault)
+    → Leaves answer came behind text left result → List Told
 last_call answer came behind text left (Ok e) leaves = []
 last_call answer came behind text left (Err Read) leaves = []
 last_call answer came behind text left (Err Write) leaves = []
@@ -48,7 +51,8 @@ last_call answer came behind text left (Err Memory) leaves = []
 last_call answer came behind text left (Err Store) leaves = failed_call leaves.request ∷ []
 
 -- the calls of `apply` that the serving of a connection made, each with its answer
-abbrev pub calls_of : {answer : List Delivery → Delivery → Reply} {came : List Delivery} {old new : Wire} {result : Result Served ServeFault}
+abbrev pub calls_of : {answer : List Delivery → Delivery → Reply} {came : List Delivery} {old new : Wire}
+    {result : Result Served ServeFault}
     → Serves answer came old new result → List Told
 calls_of {answer = answer} {came = came} {new = new} {result = result} s =
     calls answer came ++ last_call answer came (next s.rest) s.text new.remaining result s.leaves

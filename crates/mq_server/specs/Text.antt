@@ -9,7 +9,7 @@ use Rattle.mq_frame.specs.declared.message.Reply.TheVariants.{Bad}
 use Rattle.mq_frame.specs.Feed.{Front, Nothing, Cut, EmptyHead, LongHead, Whole, front, BeginsWith}
 use Rattle.mq_frame.specs.Spelling.{SpellsRequest, frame, reply_body}
 use Rattle.mq_server.specs.declared.connection.Served.{Served}
-use Rattle.mq_server.specs.declared.connection.Served.TheVariants.{Ended, Enough, BadFrame, CutFrame}
+use Rattle.mq_server.specs.declared.connection.Served.TheVariants.{InputEnd, Enough, BadFrame, CutFrame}
 use Rattle.mq_server.specs.declared.connection.TheConstants.{ENOUGH}
 use Rattle.mq_server.specs.Delivery.{Delivery, asked, answers}
 
@@ -46,7 +46,7 @@ IsBad (Whole body after) = SpellsNone body
 -- how a connection ends whose frames were answered so far: by their count, by what stands behind them, and by
 -- what the input has left
 abbrev pub IsEnd : Served → ℕ → Front → Option (List ℕ) → Type 0
-IsEnd Ended count behind left = (count < ENOUGH) × (behind ≡ Nothing) × IsAtEnd left
+IsEnd InputEnd count behind left = (count < ENOUGH) × (behind ≡ Nothing) × IsAtEnd left
 IsEnd CutFrame count behind left = (count < ENOUGH) × (behind ≡ Cut) × IsAtEnd left
 IsEnd BadFrame count behind left = (count < ENOUGH) × IsBad behind
 IsEnd Enough count behind left = count ≡ ENOUGH
@@ -58,7 +58,7 @@ frames_of replies = flat_map (λ r. frame (reply_body r)) replies
 -- the last reply of a connection that ends so: Bad, or none
 abbrev pub farewell : Served → List Reply
 farewell BadFrame = Bad ∷ []
-farewell Ended = []
+farewell InputEnd = []
 farewell CutFrame = []
 farewell Enough = []
 

@@ -1,7 +1,7 @@
 //! Putting a request to a ledger.
 ghost use Rattle.std.specs.Prelude.{◌≡◌, ◌⊎◌, IfOk, IfErr, IfSome};
 ghost use Rattle.mq_frame.specs.Range.{IsReply};
-ghost use Rattle.mq_server.specs.Steps.{Takes};
+ghost use Rattle.mq_server.specs.Steps.{AnswersBody};
 
 use crate::fault::ServeFault;
 use mq_frame::{DecodeFault, Reply, decode_request};
@@ -13,7 +13,7 @@ use std::alloc::Global;
 ///
 /// `Memory` where the request had no room, before it came to the ledger; `Store` where the ledger's
 /// store failed. After either the ledger means what it meant before.
-pub fn take<L: Ledger>(
+pub fn answer_body<L: Ledger>(
     alloc: Global,
     body: &[u8],
     ledger: &mut L,
@@ -27,8 +27,9 @@ pub fn take<L: Ledger>(
 
     // Of a sound one that has kept its premise.
     ensures sound { L.has_kept ledger.new → L.is_sound ledger.old → L.is_sound ledger.new }
-    ensures takes { L.has_kept ledger.new → L.is_sound ledger.old →
-        Takes (L.book ledger.old) (L.told ledger.old) body.now result (L.book ledger.new).history (L.told ledger.new) }
+    ensures answers { L.has_kept ledger.new → L.is_sound ledger.old →
+        AnswersBody (L.book ledger.old) (L.told ledger.old) body.now result
+        (L.book ledger.new).history (L.told ledger.new) }
 {
     let request = match decode_request(alloc, body) {
         Ok(request) => request,

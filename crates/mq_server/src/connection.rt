@@ -7,7 +7,7 @@ ghost use Rattle.mq_server.specs.Steps.{end_at};
 ghost use Rattle.mq_frame.specs.Feed.{front};
 ghost use Rattle.mq_frame.specs.Flow.{IsFlushed};
 
-use crate::answer::take;
+use crate::answer::answer_body;
 use crate::fault::ServeFault;
 use crate::input::refill;
 use crate::output::{refuse, send};
@@ -19,7 +19,7 @@ use std::alloc::Global;
 #[derive(Clone, Copy, Debug, PartialEq, Eq)]
 pub enum Served {
     /// The input ended behind whole frames, or was empty.
-    Ended,
+    InputEnd,
     /// 10,000 frames were answered; nothing more is read.
     Enough,
     /// What is no request came, and was answered by `Bad`.
@@ -36,7 +36,7 @@ fn input_end(feed: &FrameFeed) -> Served
     ensures { result ≡ end_at (front feed.now.limit feed.now.rest) }
 {
     match feed.finish() {
-        Ok(()) => Served::Ended,
+        Ok(()) => Served::InputEnd,
         Err(_) => Served::CutFrame,
     }
 }
@@ -59,11 +59,14 @@ pub fn serve<S: Source, W: Sink, L: Ledger>(
 ) -> Result<Served, ServeFault>
     // Of any ledger, sound or not.
     ensures read { result ≡ Err ServeFault.Read → S.has_failed input.new ≡ true }
-    ensures source_works { S.has_failed input.old ≡ false → result ≢ Err ServeFault.Read → S.has_failed input.new ≡ false }
+    ensures source_works { S.has_failed input.old ≡ false →
+        result ≢ Err ServeFault.Read → S.has_failed input.new ≡ false }
     ensures write { result ≡ Err ServeFault.Write → W.has_failed output.new ≡ true }
-    ensures sink_works { W.has_failed output.old ≡ false → result ≢ Err ServeFault.Write → W.has_failed output.new ≡ false }
+    ensures sink_works { W.has_failed output.old ≡ false →
+        result ≢ Err ServeFault.Write → W.has_failed output.new ≡ false }
     // What was written is handed on at every end but a failed write, and so wherever a read fails.
-    ensures flushed { IsFlushed (W.has_flushed output.old) → result ≢ Err ServeFault.Write → IsFlushed (W.has_flushed output.new) }
+    ensures flushed { IsFlushed (W.has_flushed output.old) →
+        result ≢ Err ServeFault.Write → IsFlushed (W.has_flushed output.new) }
     ensures same_zone { (L.book ledger.new).zone ≡ (L.book ledger.old).zone }
     ensures same_default { (L.book ledger.new).default ≡ (L.book ledger.old).default }
     ensures kept { L.has_kept ledger.new → L.has_kept ledger.old }
@@ -88,7 +91,7 @@ pub fn serve<S: Source, W: Sink, L: Ledger>(
                 }
             }
             Ok(Some(body)) => {
-                match take(alloc, body, ledger)? {
+                match answer_body(alloc, body, ledger)? {
                     None => return refuse(alloc, output),
                     Some(reply) => send(alloc, &reply, output)?,
                 }

@@ -1,12 +1,12 @@
 //! Several connections, one after another.
-ghost use Rattle.std.specs.Prelude.{◌≡◌, ◌≢◌, ◌⊎◌, [], ◌∷◌, ◌++◌, true, false, length, map, List, All, Err, IfOk, IfErr};
+ghost use Rattle.std.specs.Prelude.{◌≡◌, ◌≢◌, ◌⊎◌, [], ◌∷◌, ◌++◌, true, false, length, map, List, All, Err, IfOk};
+ghost use Rattle.std.specs.Prelude.{IfErr};
 ghost use Rattle.std.specs.List.{AllZip};
 ghost use Rattle.mq_frame.specs.Flow.{IsFlushed};
-ghost use Rattle.mq_frame.specs.declared.message.Request.{Request as AnyRequest};
 ghost use Rattle.mq_ledger.specs.Told.{Tells};
 ghost use Rattle.mq_server.specs.declared.connections.ConnectionEnd.{ConnectionEnd as AnEnd};
-ghost use Rattle.mq_server.specs.Connections.{wires, result_of, AreServed};
-ghost use Rattle.mq_server.specs.Delivery.{Delivery, answer_to, history_after, calls, failed_call};
+ghost use Rattle.mq_server.specs.Connections.{wires, result_of, AreServed, AreStopped, calls_until, DevicesAgree};
+ghost use Rattle.mq_server.specs.Delivery.{Delivery, answer_to, history_after, calls};
 
 use crate::connection::{Served, serve};
 use crate::fault::ServeFault;
@@ -82,14 +82,17 @@ pub fn serve_all<S: Source, W: Sink, L: Ledger>(
         (wires (map S.remaining inputs.new) (map W.contents outputs.new)) (map result_of ends.items) seen
         × ((L.book ledger.new).history ≡ history_after (L.book ledger.old) seen)
         × Tells (L.told ledger.old) (L.told ledger.new) (calls (answer_to (L.book ledger.old)) seen)) }
-    ensures store { L.has_kept ledger.new → L.is_sound ledger.old → result ≡ Err ServeFault.Store →
-        (ends : List AnEnd) × (seen : List Delivery)
-        × AreServed (L.book ledger.old) []
+
+    // Where the store failed: how the connections before ended, and behind them the one at which it did.
+    ensures store { result ≡ Err ServeFault.Store → (ends : List AnEnd)
+        × DevicesAgree S.has_failed W.has_failed W.has_flushed inputs.old inputs.new outputs.old outputs.new
+        (map result_of ends ++ Err ServeFault.Store ∷ [])
+        × (L.has_kept ledger.new → L.is_sound ledger.old → (seen : List Delivery)
+        × (s : AreStopped (L.book ledger.old)
         (wires (map S.remaining inputs.old) (map W.contents outputs.old))
-        (wires (map S.remaining inputs.new) (map W.contents outputs.new)) (map result_of ends ++ Err ServeFault.Store ∷ []) seen
+        (wires (map S.remaining inputs.new) (map W.contents outputs.new)) ends seen)
         × ((L.book ledger.new).history ≡ history_after (L.book ledger.old) seen)
-        × ((request : AnyRequest) × Tells (L.told ledger.old) (L.told ledger.new)
-        (calls (answer_to (L.book ledger.old)) seen ++ failed_call request ∷ [])) }
+        × Tells (L.told ledger.old) (L.told ledger.new) (calls_until s)) }
 {
     let mut ends = Vec::with_capacity(alloc, inputs.len())?;
     for i in 0..inputs.len() {

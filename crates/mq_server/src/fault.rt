@@ -16,7 +16,7 @@ pub enum ServeFault {
     /// A growth was refused.
     #[error("out of memory")]
     Memory,
-    /// The ledger's store failed, and takes no more requests.
+    /// The ledger's store failed.
     #[error("store failed")]
     Store,
 }

@@ -6,6 +6,8 @@ ghost use Rattle.mq_ledger.specs.Answer.{replies_after};
 ghost use Rattle.mq_ledger.specs.Day.{day_of};
 ghost use Rattle.mq_ledger.specs.History.{requests};
 ghost use Rattle.mq_ledger.specs.Legal.{Book};
+ghost use Rattle.mq_server.specs.declared.connection.TheConstants.{ENOUGH};
+ghost use Rattle.mq_server.specs.declared.input.TheConstants.{PIECE};
 ghost use Rattle.mq_server.specs.declared.connection.Served.{Served};
 ghost use Rattle.mq_server.specs.declared.connection.Served.TheVariants.{BadFrame, Enough};
 ghost use Rattle.mq_server.specs.Connection.{Wire, Serves};
@@ -15,11 +17,18 @@ ghost use Rattle.mq_server.specs.Text.{IsServed, LosesAlike, served};
 
 use mq_frame::laws::{frames_stay, one_spelling};
 
+/// The numbers of serving: the frames that are answered on a connection, and the bytes of a read.
+pub fn numbers_of_serving()
+    ensures frames { ENOUGH ≡ 10000 }
+    ensures bytes { PIECE ≡ 4096 }
+{}
+
 /// What is served depends on the input's bytes and on the ledger alone, and not on how reads cut
 /// the input into pieces.
 pub fn any_cutting()
     // Where the input's bytes are known, what is written is what is served for all of them.
-    ensures whole { (answer : List Delivery → Delivery → Reply) (came : List Delivery) (old new : Wire) (e : Served) (input : List ℕ) →
+    ensures whole { (answer : List Delivery → Delivery → Reply) (came : List Delivery) (old new : Wire)
+        (e : Served) (input : List ℕ) →
         Serves answer came old new (Ok e) → old.remaining ≡ Some input →
         IsServed input came e × Appends old.contents new.contents (served answer came e) }
 
@@ -59,5 +68,6 @@ pub fn any_cuttings()
 /// come to it.
 pub fn arrivals_get_their_replies()
     ensures { (b : Book) (came : List Delivery) →
-        taken_answers (answer_to b) came ≡ replies_after (day_of b.zone) b.default (requests b.history) (arrivals came) }
+        taken_answers (answer_to b) came
+        ≡ replies_after (day_of b.zone) b.default (requests b.history) (arrivals came) }
 {}

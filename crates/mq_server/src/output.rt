@@ -1,30 +1,15 @@
 //! Writing to a sink.
-ghost use Rattle.std.specs.Prelude.{◌≡◌, ◌≢◌, true, false, is_err, OnOk, OnErr, IfOk, IfErr, Err};
+ghost use Rattle.std.specs.Prelude.{◌≡◌, ◌≢◌, true, false, OnOk, IfOk, IfErr, Err};
 ghost use Rattle.std.specs.Io.KnownBytes.{Appends};
 ghost use Rattle.mq_frame.specs.Flow.{IsFlushed};
 ghost use Rattle.mq_frame.specs.Range.{IsReply};
 ghost use Rattle.mq_frame.specs.Spelling.{frame, reply_body};
-ghost use Rattle.mq_server.specs.Steps.{AppendsPart, IsUnsent};
+ghost use Rattle.mq_server.specs.Steps.{IsUnsent};
 
 use crate::connection::Served;
 use crate::fault::ServeFault;
-use mq_frame::{Failed, Reply, Sink, encode_reply};
+use mq_frame::{Failed, Reply, Sink, encode_reply, write_and_flush};
 use std::alloc::Global;
-
-/// Writes and flushes all the bytes, or writes a part of them before the sink fails.
-fn write_all<W: Sink>(output: &mut W, bytes: &[u8]) -> Result<(), Failed>
-    ensures ok { OnOk result (Appends (W.contents output.old) (W.contents output.new) bytes.now) }
-    ensures err { OnErr result (AppendsPart (W.contents output.old) (W.contents output.new) bytes.now) }
-    ensures failed { W.has_failed output.new ≡ is_err result }
-    ensures flushed { OnOk result (IsFlushed (W.has_flushed output.new)) }
-{
-    let mut rest = bytes;
-    while !rest.is_empty() {
-        let count = output.write(rest)?;
-        rest = &rest[count..];
-    }
-    output.flush()
-}
 
 /// Writes and flushes the frame of a reply.
 ///
@@ -32,14 +17,16 @@ fn write_all<W: Sink>(output: &mut W, bytes: &[u8]) -> Result<(), Failed>
 pub fn send<W: Sink>(alloc: Global, reply: &Reply, output: &mut W) -> Result<(), ServeFault>
     requires { IsReply reply.now }
     ensures ok { OnOk result (Appends (W.contents output.old) (W.contents output.new) (frame (reply_body reply.now))) }
-    ensures err { IfErr result (IsUnsent (W.contents output.old) (W.contents output.new) (frame (reply_body reply.now))) }
+    ensures err { IfErr result (IsUnsent (W.contents output.old) (W.contents output.new)
+        (frame (reply_body reply.now))) }
     ensures failed { result ≡ Err ServeFault.Write → W.has_failed output.new ≡ true }
     ensures works { W.has_failed output.old ≡ false → result ≢ Err ServeFault.Write → W.has_failed output.new ≡ false }
-    ensures flushed { IsFlushed (W.has_flushed output.old) → result ≢ Err ServeFault.Write → IsFlushed (W.has_flushed output.new) }
+    ensures flushed { IsFlushed (W.has_flushed output.old) →
+        result ≢ Err ServeFault.Write → IsFlushed (W.has_flushed output.new) }
 {
     let mut bytes = Vec::new(alloc);
     encode_reply(alloc, reply, &mut bytes)?;
-    match write_all(output, &bytes) {
+    match write_and_flush(output, &bytes) {
         Ok(()) => Ok(()),
         Err(Failed) => Err(ServeFault::Write),
     }
@@ -49,10 +36,12 @@ pub fn send<W: Sink>(alloc: Global, reply: &Reply, output: &mut W) -> Result<(),
 pub fn refuse<W: Sink>(alloc: Global, output: &mut W) -> Result<Served, ServeFault>
     ensures ok { IfOk result (λ served. (served ≡ Served.BadFrame)
         × Appends (W.contents output.old) (W.contents output.new) (frame (reply_body Reply.Bad))) }
-    ensures err { IfErr result (IsUnsent (W.contents output.old) (W.contents output.new) (frame (reply_body Reply.Bad))) }
+    ensures err { IfErr result (IsUnsent (W.contents output.old) (W.contents output.new)
+        (frame (reply_body Reply.Bad))) }
     ensures failed { result ≡ Err ServeFault.Write → W.has_failed output.new ≡ true }
     ensures works { W.has_failed output.old ≡ false → result ≢ Err ServeFault.Write → W.has_failed output.new ≡ false }
-    ensures flushed { IsFlushed (W.has_flushed output.old) → result ≢ Err ServeFault.Write → IsFlushed (W.has_flushed output.new) }
+    ensures flushed { IsFlushed (W.has_flushed output.old) →
+        result ≢ Err ServeFault.Write → IsFlushed (W.has_flushed output.new) }
 {
     send(alloc, &Reply::Bad, output)?;
     Ok(Served::BadFrame)

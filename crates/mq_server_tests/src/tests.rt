@@ -1,8 +1,8 @@
 //! Worked examples of the link, and what no contract says.
 mod devices;
 
-use devices::{Faulty, Flushing, Pieces, Room, Watching};
-use mq_frame::{FromRead, Sink, Source, ToWrite};
+use devices::{Faulty, Flushing, Pieces, Room, Telling, Watching};
+use mq_frame::{FromRead, Reply, Request, Sink, Source, ToWrite};
 use mq_ledger::{BadOffset, Ledger, LedgerFault, PlainLedger, Zone};
 use mq_server::{ConnectionEnd, ServeFault, Served, serve, serve_all};
 use std::alloc::{AllocError, Global};
@@ -43,29 +43,17 @@ const SETTLED: [&str; 5] = [
     "000f 87 0161 0000000000000001 00000004",
 ];
 
-/// The bytes of a text of hexadecimal digits; spaces are passed over.
-fn bytes_of(alloc: Global, text: &str) -> Result<Vec<u8>, AllocError> {
+/// The bytes of a text of hexadecimal digits, with spaces between whole bytes.
+fn bytes_of(alloc: Global, text: &str) -> Result<Vec<u8>, Fail> {
     let mut bytes = Vec::new(alloc);
-    let mut high: Option<u8> = None;
-    for digit in text.bytes() {
-        let value = match digit {
-            b'0'..=b'9' => digit - b'0',
-            b'a'..=b'f' => digit - b'a' + 10,
-            _ => continue,
-        };
-        match high {
-            None => high = Some(value),
-            Some(first) => {
-                bytes.push(first.wrapping_mul(16).wrapping_add(value))?;
-                high = None;
-            }
-        }
+    for digits in text.split(' ') {
+        bytes.extend_from_slice(&hex::decode(alloc, digits.as_bytes())?)?;
     }
     Ok(bytes)
 }
 
 /// The bytes of the first of some texts.
-fn bytes_of_first(alloc: Global, texts: &[&str], count: usize) -> Result<Vec<u8>, AllocError> {
+fn bytes_of_first(alloc: Global, texts: &[&str], count: usize) -> Result<Vec<u8>, Fail> {
     let mut bytes = Vec::new(alloc);
     for text in texts.iter().take(count) {
         bytes.extend_from_slice(&bytes_of(alloc, text)?)?;
@@ -74,12 +62,12 @@ fn bytes_of_first(alloc: Global, texts: &[&str], count: usize) -> Result<Vec<u8>
 }
 
 /// The bytes of texts, one behind the other.
-fn bytes_of_all(alloc: Global, texts: &[&str]) -> Result<Vec<u8>, AllocError> {
+fn bytes_of_all(alloc: Global, texts: &[&str]) -> Result<Vec<u8>, Fail> {
     bytes_of_first(alloc, texts, texts.len())
 }
 
 /// The bytes of each of some texts.
-fn each_bytes_of(alloc: Global, texts: &[&str]) -> Result<Vec<Vec<u8>>, AllocError> {
+fn each_bytes_of(alloc: Global, texts: &[&str]) -> Result<Vec<Vec<u8>>, Fail> {
     let mut all = Vec::new(alloc);
     for text in texts {
         all.push(bytes_of(alloc, text)?)?;
@@ -158,8 +146,8 @@ fn check_outputs(rt: &impl Abort, outputs: &[Room], wanted: &[Vec<u8>]) {
 
 /// Inputs, and what is written and how the connection ends on each.
 const ENDS_BY_INPUT: [(&str, &str, Served); 9] = [
-    ("", "", Served::Ended),
-    (RESERVE, GRANTED, Served::Ended),
+    ("", "", Served::InputEnd),
+    (RESERVE, GRANTED, Served::InputEnd),
     ("00", "", Served::CutFrame),
     ("002101", "", Served::CutFrame),
     ("0000", "0001 8e", Served::BadFrame),
@@ -201,7 +189,7 @@ fn check_pieces(
     let mut ledger = ledger(alloc)?;
     let mut sink = Room::new(Vec::new(alloc), usize::MAX);
     let end = run(alloc, &mut Pieces::new(&input, 1), &mut sink, &mut ledger);
-    assert_eq!(rt; end, Ok(Served::Ended));
+    assert_eq!(rt; end, Ok(Served::InputEnd));
     assert_eq!(rt; sink.bytes, output);
     Ok(())
 }
@@ -229,7 +217,7 @@ fn flushes_before_it_reads(rt: HostRuntime) -> Result<(), Fail> {
         unflushed: &unflushed,
     };
     let end = run(alloc, &mut source, &mut sink, &mut ledger(alloc)?);
-    assert_eq!(rt; end, Ok(Served::Ended));
+    assert_eq!(rt; end, Ok(Served::InputEnd));
     assert!(rt; !source.early);
     Ok(())
 }
@@ -255,7 +243,7 @@ fn repeats_over_two_connections(rt: HostRuntime) -> Result<(), Fail> {
     let first = bytes_of_all(alloc, &[RESERVE, RESERVE, RESERVE])?;
     let second = bytes_of_all(alloc, &[RESERVE, USAGE])?;
     let (ends, outputs) = served_both(&rt, alloc, &mut ledger(alloc)?, &first, &second)?;
-    let ended = ConnectionEnd::Served(Served::Ended);
+    let ended = ConnectionEnd::Served(Served::InputEnd);
     assert_eq!(rt; ends?.as_slice(), [ended, ended].as_slice());
     let wanted = [
         bytes_of_all(alloc, &[GRANTED, GRANTED, GRANTED])?,
@@ -266,7 +254,7 @@ fn repeats_over_two_connections(rt: HostRuntime) -> Result<(), Fail> {
 }
 
 /// The bytes of a text, so many times over.
-fn repeated(alloc: Global, text: &str, count: usize) -> Result<Vec<u8>, AllocError> {
+fn repeated(alloc: Global, text: &str, count: usize) -> Result<Vec<u8>, Fail> {
     let once = bytes_of(alloc, text)?;
     let mut bytes = Vec::new(alloc);
     for _ in 0..count {
@@ -314,7 +302,36 @@ fn ledger_out_of_memory_once(rt: HostRuntime) -> Result<(), Fail> {
         before: 0,
         fault: LedgerFault::Memory,
     };
-    check_served(&rt, alloc, &mut faulty, &input, Served::Ended, &output);
+    check_served(&rt, alloc, &mut faulty, &input, Served::InputEnd, &output);
+    Ok(())
+}
+
+/// Each frame is one call of the ledger, and `Retry` is the answer to the call that had no memory alone.
+#[test]
+fn calls_of_a_connection(rt: HostRuntime) -> Result<(), Fail> {
+    let alloc = rt.alloc();
+    let input = bytes_of_all(alloc, &[RESERVE, RESERVE, USAGE, "0001 07"])?;
+    let output = bytes_of_all(alloc, &["0001 8d", GRANTED, ONE_USED, "0001 8e"])?;
+    let mut telling = Telling {
+        inner: Faulty {
+            inner: ledger(alloc)?,
+            before: 0,
+            fault: LedgerFault::Memory,
+        },
+        calls: Vec::new(alloc),
+        tells: true,
+    };
+    check_served(&rt, alloc, &mut telling, &input, Served::BadFrame, &output);
+    assert!(rt; telling.tells);
+    let [first, second, third] = telling.calls.as_slice() else {
+        return Err("not three calls".into());
+    };
+    assert!(rt; matches!(first.request, Request::Reserve { .. }));
+    assert!(rt; matches!(first.answer, Err(LedgerFault::Memory)));
+    assert!(rt; first.request.is_same(&second.request));
+    assert!(rt; matches!(second.answer, Ok(Reply::Granted { used: 1, .. })));
+    assert!(rt; matches!(third.request, Request::Usage { day: 1, .. }));
+    assert!(rt; matches!(third.answer, Ok(Reply::Usage { reserved: 1, .. })));
     Ok(())
 }
 
@@ -360,18 +377,18 @@ fn writer_fails_after_ten_bytes(rt: HostRuntime) -> Result<(), Fail> {
     for (input, output) in [(RESERVE, GRANTED), (USAGE, ONE_USED)] {
         let input = bytes_of(alloc, input)?;
         let output = bytes_of(alloc, output)?;
-        check_served(&rt, alloc, &mut ledger, &input, Served::Ended, &output);
+        check_served(&rt, alloc, &mut ledger, &input, Served::InputEnd, &output);
     }
     Ok(())
 }
 
 /// How many bytes the first of some frames have.
-fn length_of_first(alloc: Global, frames: &[&str], count: usize) -> Result<usize, AllocError> {
+fn length_of_first(alloc: Global, frames: &[&str], count: usize) -> Result<usize, Fail> {
     Ok(bytes_of_first(alloc, frames, count)?.len())
 }
 
 /// How many of the first frames are whole in so many bytes.
-fn whole_frames(alloc: Global, frames: &[&str], count: usize) -> Result<usize, AllocError> {
+fn whole_frames(alloc: Global, frames: &[&str], count: usize) -> Result<usize, Fail> {
     for whole in 0..frames.len() {
         if count < length_of_first(alloc, frames, whole + 1)? {
             return Ok(whole);
@@ -390,7 +407,7 @@ fn writer_fails_anywhere(rt: HostRuntime) -> Result<(), Fail> {
     for count in 0..output.len() {
         let mut ledger = ledger(alloc)?;
         check_writer_failing(&rt, alloc, &mut ledger, &input, &output[..count]);
-        check_served(&rt, alloc, &mut ledger, &input, Served::Ended, &output);
+        check_served(&rt, alloc, &mut ledger, &input, Served::InputEnd, &output);
     }
     Ok(())
 }
@@ -423,7 +440,7 @@ fn reader_fails_anywhere(rt: HostRuntime) -> Result<(), Fail> {
         let told = bytes_of_first(alloc, &SETTLED, whole)?;
         let mut ledger = ledger(alloc)?;
         check_reader_failing(&rt, alloc, &mut ledger, &input, count, &told);
-        check_served(&rt, alloc, &mut ledger, &input, Served::Ended, &output);
+        check_served(&rt, alloc, &mut ledger, &input, Served::InputEnd, &output);
     }
     Ok(())
 }
@@ -437,7 +454,7 @@ fn input_ends_anywhere(rt: HostRuntime) -> Result<(), Fail> {
         let whole = whole_frames(alloc, &SETTLING, count)?;
         let told = bytes_of_first(alloc, &SETTLED, whole)?;
         let end = if length_of_first(alloc, &SETTLING, whole)? == count {
-            Served::Ended
+            Served::InputEnd
         } else {
             Served::CutFrame
         };
@@ -467,7 +484,7 @@ fn goes_on_after_an_end(rt: HostRuntime) -> Result<(), Fail> {
         ConnectionEnd::Write,
         ConnectionEnd::Served(Served::BadFrame),
         ConnectionEnd::Served(Served::CutFrame),
-        ConnectionEnd::Served(Served::Ended),
+        ConnectionEnd::Served(Served::InputEnd),
     ];
     assert_eq!(rt; ends.as_slice(), wanted.as_slice());
     let texts = ["", "00138101", "0001 8e", "", GRANTED];

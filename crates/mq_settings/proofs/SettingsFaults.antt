@@ -5,7 +5,7 @@ use Rattle.std.specs.Result.{IsErrAnd}
 use Rattle.std.specs.declared.net.SocketAddr.{SocketAddr}
 use Rattle.toml.specs.Data.{Members}
 use Rattle.mq_settings.specs.Keys.{filter_keys, server_keys, HasOnly}
-use Rattle.mq_settings.specs.Settings.{Spells, IsTableRefusal, memory, IsHostAt, IsAddressAt, tries_at, timeout_at, default_at, offset_at, store_at, level_at, IsFilterRefusal, IsServerRefusal}
+use Rattle.mq_settings.specs.Settings.{Spells, IsTableRefusal, memory, IsHostAt, IsAddressAt, tries_at, timeout_at, default_at, offset_at, IsPlaceAt, level_at, IsFilterRefusal, IsServerRefusal}
 use Rattle.mq_settings.specs.declared.settings.key.Key.TheVariants.{Server, Listen}
 use Rattle.mq_settings.specs.declared.settings.value.Place.{Place}
 use Rattle.mq_settings.specs.declared.settings.fault.SettingsFault.{SettingsFault}
@@ -18,7 +18,7 @@ of_error P (Err f) e h p = subst P (sym h) p
 
 -- a host is refused for its text, or for want of memory
 pub host_fault : (table : Members) (e : SettingsFault) → (e ≢ Memory → IsHostAt table (Err e)) → (e ≡ Memory) ⊎ IsHostAt table (Err e)
-host_fault table Text h = inr (h (λ q. cc))
+host_fault table (Text why) h = inr (h (λ q. cc))
 host_fault table (Unknown name) h = inr (h (λ q. cc))
 host_fault table (Missing key) h = inr (h (λ q. cc))
 host_fault table (Bad key) h = inr (h (λ q. cc))
@@ -45,20 +45,36 @@ pub filter_at_log : (text : List ℕ) (table : Members) (host : List ℕ) (serve
     → IsHostAt table (Ok host) → IsAddressAt Server table (Ok server) → tries_at table ≡ Ok tries → timeout_at table ≡ Ok timeout → level_at table ≡ Err e → IsFilterRefusal text e
 filter_at_log text table host server tries timeout e spells names h s t m bad = inr (table, spells, names, inr (host, h, inr (server, s, inr (tries, t, inr (timeout, m, bad)))))
 
+-- a place is refused for its text, or for want of memory
+pub place_fault : (table : Members) (e : SettingsFault) → (e ≢ Memory → IsPlaceAt table (Err e)) → (e ≡ Memory) ⊎ IsPlaceAt table (Err e)
+place_fault table (Text why) h = inr (h (λ q. cc))
+place_fault table (Unknown name) h = inr (h (λ q. cc))
+place_fault table (Missing key) h = inr (h (λ q. cc))
+place_fault table (Bad key) h = inr (h (λ q. cc))
+place_fault table Memory h = inl refl
+
 -- ---- the server
 
+pub server_at_store : (text : List ℕ) (table : Members) (listen : SocketAddr) (e : SettingsFault) → Spells text table → HasOnly server_keys table
+    → IsAddressAt Listen table (Ok listen) → (e ≢ Memory → IsPlaceAt table (Err e)) → IsServerRefusal text e
+server_at_store text table listen e spells names l h =
+    elim (place_fault table e h) [
+      | inl out ↦ inl (subst (IsTableRefusal server_keys text) (sym out) memory)
+      | inr bad ↦ inr (table, spells, names, inr (listen, l, inl bad))
+    ]
+
 pub server_at_default : (text : List ℕ) (table : Members) (listen : SocketAddr) (store : Place) (e : SettingsFault) → Spells text table → HasOnly server_keys table
-    → IsAddressAt Listen table (Ok listen) → store_at table ≡ Ok store → default_at table ≡ Err e → IsServerRefusal text e
+    → IsAddressAt Listen table (Ok listen) → IsPlaceAt table (Ok store) → default_at table ≡ Err e → IsServerRefusal text e
 server_at_default text table listen store e spells names l s bad = inr (table, spells, names, inr (listen, l, inr (store, s, inl bad)))
 
 pub server_at_offset : (text : List ℕ) (table : Members) (listen : SocketAddr) (store : Place) (default : ℕ) (e : SettingsFault) → Spells text table → HasOnly server_keys table
-    → IsAddressAt Listen table (Ok listen) → store_at table ≡ Ok store → default_at table ≡ Ok default → offset_at table ≡ Err e → IsServerRefusal text e
+    → IsAddressAt Listen table (Ok listen) → IsPlaceAt table (Ok store) → default_at table ≡ Ok default → offset_at table ≡ Err e → IsServerRefusal text e
 server_at_offset text table listen store default e spells names l s d bad = inr (table, spells, names, inr (listen, l, inr (store, s, inr (default, d, inl bad))))
 
 pub server_at_timeout : (text : List ℕ) (table : Members) (listen : SocketAddr) (store : Place) (default : ℕ) (offset : ℤ) (e : SettingsFault) → Spells text table → HasOnly server_keys table
-    → IsAddressAt Listen table (Ok listen) → store_at table ≡ Ok store → default_at table ≡ Ok default → offset_at table ≡ Ok offset → timeout_at table ≡ Err e → IsServerRefusal text e
+    → IsAddressAt Listen table (Ok listen) → IsPlaceAt table (Ok store) → default_at table ≡ Ok default → offset_at table ≡ Ok offset → timeout_at table ≡ Err e → IsServerRefusal text e
 server_at_timeout text table listen store default offset e spells names l s d o bad = inr (table, spells, names, inr (listen, l, inr (store, s, inr (default, d, inr (offset, o, inl bad)))))
 
 pub server_at_log : (text : List ℕ) (table : Members) (listen : SocketAddr) (store : Place) (default : ℕ) (offset : ℤ) (timeout : ℕ) (e : SettingsFault) → Spells text table → HasOnly server_keys table
-    → IsAddressAt Listen table (Ok listen) → store_at table ≡ Ok store → default_at table ≡ Ok default → offset_at table ≡ Ok offset → timeout_at table ≡ Ok timeout → level_at table ≡ Err e → IsServerRefusal text e
+    → IsAddressAt Listen table (Ok listen) → IsPlaceAt table (Ok store) → default_at table ≡ Ok default → offset_at table ≡ Ok offset → timeout_at table ≡ Ok timeout → level_at table ≡ Err e → IsServerRefusal text e
 server_at_log text table listen store default offset timeout e spells names l s d o m bad = inr (table, spells, names, inr (listen, l, inr (store, s, inr (default, d, inr (offset, o, inr (timeout, m, bad))))))

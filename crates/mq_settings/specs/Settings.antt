@@ -1,5 +1,5 @@
 -- What settings mean, read off the table that the text spells.
-use Rattle.std.specs.Prelude.{◌≡◌, ℕ, ℤ, pos, negsuc, nat_le, int_le, ◌&&◌, ◌⊎◌, List, codes, bytes_eq, Option, None, Some, Result, Ok, Err, MatchOption, MatchResult, IsOkAnd, String, string_bytes, if◌then◌else◌}
+use Rattle.std.specs.Prelude.{◌≡◌, ◌≢◌, [], ℕ, ℤ, pos, negsuc, nat_le, int_le, ◌&&◌, ◌⊎◌, List, codes, bytes_eq, Option, None, Some, Result, Ok, Err, MatchOption, MatchResult, IsOkAnd, String, string_bytes, if◌then◌else◌}
 use Rattle.std.specs.Borrow.{Bor}
 use Rattle.std.specs.Str.{IsUtf8}
 use Rattle.std.specs.declared.alloc.Global.{Global}
@@ -17,6 +17,7 @@ use Rattle.mq_settings.specs.declared.settings.value.Place.{Place}
 use Rattle.mq_settings.specs.declared.settings.value.Place.TheVariants as place
 use Rattle.mq_settings.specs.declared.settings.FilterSettings.{FilterSettings}
 use Rattle.mq_settings.specs.declared.settings.ServerSettings.{ServerSettings}
+use Rattle.mq_settings.specs.declared.settings.flaw.Flaw.{Flaw}
 use Rattle.mq_settings.specs.declared.settings.fault.SettingsFault.{SettingsFault}
 use Rattle.mq_settings.specs.declared.settings.fault.SettingsFault.TheVariants.{Text, Unknown, Missing, Bad, Memory}
 
@@ -28,7 +29,7 @@ pub record Spells (text : List ℕ) (table : Members) : Type 0 where
 -- why no table of these keys alone is read; want of memory may come before any other cause
 pub data IsTableRefusal (keys : List Key) (text : List ℕ) : SettingsFault → Type 0 where
   memory : IsTableRefusal keys text Memory
-  no_table : ((table : Members) → ¬ Spells text table) → IsTableRefusal keys text Text
+  no_table : (why : Flaw) → ((table : Members) → ¬ Spells text table) → IsTableRefusal keys text (Text why)
   unknown_name : (table : Members) (name : String Global) → Spells text table → IsLeastUnknown keys table (string_bytes name) → IsTableRefusal keys text (Unknown name)
 
 -- ---- what the entry of one key gives: a value, or why there is none
@@ -116,20 +117,13 @@ tries_at table = count_at Tries 1 10 (Ok 3) table
 abbrev pub default_at : Members → Result ℕ SettingsFault
 default_at table = count_at Default 0 1000000 (Err (Missing Default)) table
 
--- where the ledger is kept
-abbrev pub store_named : List ℕ → Result Place SettingsFault
-store_named name = if bytes_eq name (codes "memory") then Ok place.Memory else Err (Bad Store)
+-- where the ledger is kept: `memory`, or any other text that isn't empty, which is a path
+abbrev pub NamesPlace : List ℕ → Place → Type 0
+NamesPlace text place.Memory = text ≡ codes "memory"
+NamesPlace text (place.File path) = (string_bytes path ≡ text) × (text ≢ codes "memory") × (text ≢ [])
 
-abbrev pub store_in : Option (List ℕ) → Result Place SettingsFault
-store_in None = Err (Bad Store)
-store_in (Some name) = store_named name
-
-abbrev pub store_of : Option Data → Result Place SettingsFault
-store_of None = Err (Missing Store)
-store_of (Some entry) = store_in (as_str entry)
-
-abbrev pub store_at : Members → Result Place SettingsFault
-store_at table = store_of (get_member (key_name Store) table)
+abbrev pub IsPlaceAt : Members → Result Place SettingsFault → Type 0
+IsPlaceAt table r = TextAs Store NamesPlace (get_member (key_name Store) table) r
 
 -- ---- the settings of a file
 
@@ -159,7 +153,7 @@ IsFilterRefusal text e = IsTableRefusal filter_keys text e ⊎ ((table : Members
 pub record IsServerSettings (table : Members) (settings : ServerSettings) : Type 0 where
   pub names : HasOnly server_keys table
   pub listen : IsAddressAt Listen table (Ok settings.listen)
-  pub store : store_at table ≡ Ok settings.store
+  pub store : IsPlaceAt table (Ok settings.store)
   pub default : default_at table ≡ Ok settings.default
   pub offset : offset_at table ≡ Ok settings.offset
   pub timeout : timeout_at table ≡ Ok settings.timeout
@@ -168,7 +162,7 @@ pub record IsServerSettings (table : Members) (settings : ServerSettings) : Type
 -- the first of the server's keys that gives no value
 abbrev pub IsServerFault : Members → SettingsFault → Type 0
 IsServerFault table e =
-    FailsOr (IsAddressAt Listen table) (FailsOr (λ r. store_at table ≡ r) (FailsOr (λ r. default_at table ≡ r) (FailsOr (λ r. offset_at table ≡ r) (FailsOr (λ r. timeout_at table ≡ r) (λ f. level_at table ≡ Err f))))) e
+    FailsOr (IsAddressAt Listen table) (FailsOr (IsPlaceAt table) (FailsOr (λ r. default_at table ≡ r) (FailsOr (λ r. offset_at table ≡ r) (FailsOr (λ r. timeout_at table ≡ r) (λ f. level_at table ≡ Err f))))) e
 
 -- why the server's settings are refused
 abbrev pub IsServerRefusal : List ℕ → SettingsFault → Type 0

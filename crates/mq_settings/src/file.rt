@@ -12,23 +12,24 @@ use thiserror::Error;
 const LIMIT: u64 = 65_536;
 
 /// Why a settings file isn't read.
-#[derive(Clone, Copy, Debug, PartialEq, Error)]
+#[derive(Debug, Drop, Error)]
 pub enum FileFault {
+    /// The system refused to open or to read it.
     #[error("settings can't be read")]
-    Unreadable,
+    Unreadable(io::Error),
     #[error("settings too large")]
     TooLarge,
     #[error("out of memory")]
     Memory,
 }
 
-fn fault_of(error: &io::Error) -> FileFault
+fn fault_of(error: io::Error) -> FileFault
     ensures { result ≢ FileFault.TooLarge }
 {
     if error.kind() == ErrorKind::OutOfMemory {
         return FileFault::Memory;
     }
-    FileFault::Unreadable
+    FileFault::Unreadable(error)
 }
 
 /// All bytes of a source, if they are at most 65,536.
@@ -41,7 +42,7 @@ pub fn read_limited<S: Read + Drop>(alloc: Global, source: S) -> Result<Vec<u8>,
     match source.take(LIMIT + 1).read_to_end(&mut bytes) {
         Ok(_) if bytes.len() as u64 <= LIMIT => Ok(bytes),
         Ok(_) => Err(FileFault::TooLarge),
-        Err(error) => Err(fault_of(&error)),
+        Err(error) => Err(fault_of(error)),
     }
 }
 
@@ -51,6 +52,6 @@ pub fn read_file<R: Files + AllocGlobal>(rt: &R, path: &str) -> Result<Vec<u8>, 
 {
     match File::open(rt, path) {
         Ok(file) => read_limited(rt.alloc(), file),
-        Err(error) => Err(fault_of(&error)),
+        Err(error) => Err(fault_of(error)),
     }
 }

@@ -6,6 +6,6 @@ mod settings;
 
 pub use file::{FileFault, read_file, read_limited};
 pub use settings::{
-    FilterSettings, Key, Place, ServerSettings, SettingsFault, read_filter_settings,
+    FilterSettings, Flaw, Key, Place, ServerSettings, SettingsFault, read_filter_settings,
     read_server_settings,
 };

@@ -4,11 +4,13 @@ ghost use Rattle.toml.specs.Data.{Members};
 ghost use Rattle.mq_settings.specs.Settings.{Spells, IsFilterSettings, IsFilterRefusal, IsServerSettings, IsServerRefusal};
 
 mod fault;
+mod flaw;
 mod key;
 mod table;
 mod value;
 
 pub use fault::SettingsFault;
+pub use flaw::Flaw;
 pub use key::Key;
 use log::LevelFilter;
 use mq_frame::Host;
@@ -85,7 +87,7 @@ pub fn read_server_settings(alloc: Global, text: &[u8]) -> Result<ServerSettings
 {
     let table = table::read_table(alloc, text, &SERVER_KEYS)?;
     let listen = value::read_address(&table, Key::Listen)?;
-    let store = value::read_place(&table)?;
+    let store = value::read_place(alloc, &table)?;
     let default = value::read_count(&table, Key::Default, 0, 1_000_000, None)?;
     let offset = value::read_offset(&table)?;
     let timeout = value::read_count(&table, Key::Timeout, 1, 60_000, Some(2_000))?;

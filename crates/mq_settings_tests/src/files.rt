@@ -9,8 +9,8 @@ fn size_of_the_settings_file(rt: HostRuntime) -> Result<(), Fail> {
     let read = read_limited(rt.alloc(), text.as_slice())?;
     assert_eq!(rt; read.as_slice(), text.as_slice());
     text.push(b'#')?;
-    let refused = read_limited(rt.alloc(), text.as_slice()).err();
-    assert_eq!(rt; refused, Some(FileFault::TooLarge));
+    let refused = read_limited(rt.alloc(), text.as_slice());
+    assert!(rt; matches!(refused, Err(FileFault::TooLarge)));
     let text = FileFault::TooLarge.to_string(rt.alloc())?;
     assert_eq!(rt; text.as_str(), "settings too large");
     Ok(())
@@ -19,11 +19,8 @@ fn size_of_the_settings_file(rt: HostRuntime) -> Result<(), Fail> {
 #[test]
 fn no_file_and_a_folder(rt: HostRuntime) -> Result<(), Fail> {
     for path in ["/", "/no/such/file", ""] {
-        assert_eq!(rt;
-            read_file(&rt, path).err(),
-            Some(FileFault::Unreadable),
-            "{path}"
-        );
+        let refused = read_file(&rt, path);
+        assert!(rt; matches!(refused, Err(FileFault::Unreadable(_))), "{path}");
     }
     Ok(())
 }

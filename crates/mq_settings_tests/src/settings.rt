@@ -23,7 +23,7 @@ fn filter_settings(rt: HostRuntime) -> Result<(), Fail> {
 
 #[test]
 fn refused_filter_settings(rt: HostRuntime) -> Result<(), Fail> {
-    let rows: [(&str, &str); 14] = [
+    let rows: [(&str, &str); 15] = [
         ("", "setting host: missing"),
         ("host = \"mx1\"", "setting server: missing"),
         ("host = 1", "setting host: bad value"),
@@ -43,6 +43,10 @@ fn refused_filter_settings(rt: HostRuntime) -> Result<(), Fail> {
             "setting hots: unknown",
         ),
         ("z = 1\na = 1\nhost = 1", "setting a: unknown"),
+        (
+            "\"a b\\n\\u00e9\" = 1",
+            "setting a\\x20b\\x0a\\xc3\\xa9: unknown",
+        ),
         (
             "host = \"mx1\"\nserver = \"127.0.0.1:7025\"\ntries = 11",
             "setting tries: bad value",
@@ -80,11 +84,24 @@ fn server_settings(rt: HostRuntime) -> Result<(), Fail> {
         settings.listen.to_string(rt.alloc())?.as_str(),
         "[::1]:7025"
     );
-    assert_eq!(rt; settings.store, Place::Memory);
+    assert!(rt; matches!(settings.store, Place::Memory));
     assert_eq!(rt; settings.default, 1_000_000);
     assert_eq!(rt; settings.offset, -1439);
     assert_eq!(rt; settings.timeout, 2000);
     assert_eq!(rt; settings.log, LevelFilter::Off);
+    Ok(())
+}
+
+#[test]
+fn path_of_the_store(rt: HostRuntime) -> Result<(), Fail> {
+    let settings = read_server_settings(
+        rt.alloc(),
+        b"listen = \"[::1]:7025\"\nstore = \"/var/lib/mailquota/ledger\"\ndefault = 0\noffset = 0\n",
+    )?;
+    let Place::File(path) = &settings.store else {
+        return Err("no path".into());
+    };
+    assert_eq!(rt; path.as_str(), "/var/lib/mailquota/ledger");
     Ok(())
 }
 
@@ -98,7 +115,7 @@ fn refused_server_settings(rt: HostRuntime) -> Result<(), Fail> {
             "setting store: bad value",
         ),
         (
-            "listen = \"127.0.0.1:7025\"\nstore = \"/var/lib/mailquota\"",
+            "listen = \"127.0.0.1:7025\"\nstore = \"\"",
             "setting store: bad value",
         ),
         (

@@ -1,2 +1,5 @@
+pub mod Chain
 pub mod Faults
+pub mod Keyed
 pub mod Sound
+pub mod Writing

@@ -1,7 +1,7 @@
 -- A ledger that was just made is sound, and one that is opened over sound tables.
 use Rattle.std.proofs.Common.{arith, length, ◌≡◌, inl, inr, ℕ, ℤ, pos, List, [], ◌∷◌, map, Bool, true, false, Some, None, codes, refl, sym, ap, ap₂, subst, ◌∙◌}
 use Rattle.std.specs.Prelude.{if◌then◌else◌, slice_get, option_and_then, option_map, unwrap_or}
-use Rattle.std.specs.List.{filter_map}
+use Rattle.std.specs.List.{filter_map, cons_option}
 use Rattle.std.specs.Ordering.{int_eq}
 use Rattle.std.specs.Cmp.{signed_Decides}
 use Rattle.sqlite_schema.specs.Names.{table_named}
@@ -13,7 +13,7 @@ use Rattle.mq_frame.specs.Reading.{request_at}
 use Rattle.mq_ledger.specs.declared.zone.Zone.{Zone}
 use Rattle.mq_ledger.specs.Answer.{build}
 use Rattle.mq_ledger.specs.Day.{IsOffset, day_of}
-use Rattle.mq_ledger.specs.Legal.{IsLegal, IsLegalBook}
+use Rattle.mq_ledger.specs.Legal.{Book, IsLegal, IsLegalBook}
 use Rattle.mq_rows.specs.declared.record.AnswerRecord.{AnswerRecord}
 use Rattle.mq_rows.specs.Tables.{Tables, AreRows}
 use Rattle.mq_tables.specs.Answers.{blob_in, bodies_in, rows_named}
@@ -25,6 +25,7 @@ use Rattle.mq_tables.specs.Settings.{SettingRow, HasSetting}
 use Rattle.sqlite.specs.Does.{lacks_sequence}
 use Rattle.mq_store.specs.declared.fault.OpenFault.TheVariants.{ZoneDiffers, DefaultDiffers}
 use Rattle.mq_store.specs.Opening.{made_with, IsOf}
+use Rattle.mq_store.specs.Taking.{HasBook, book_of}
 use Rattle.mq_store.specs.Soundness.{requests_in, book_in, HasKept, IsSound, IsNew, IsOpened}
 
 bodies_of : (answers : List AnswerRecord) → filter_map (λ row. blob_in (column row 5)) (map answer_fields answers) ≡ map (λ a. a.request) answers
@@ -39,6 +40,11 @@ rows_are db t l =
 -- what the tables mean is what their answers mean
 pub bodies_are : (db : Database) (t : Tables) → HasLedger db t → bodies_in db ≡ map (λ a. a.request) t.answers
 bodies_are db t l = ap (filter_map (λ row. blob_in (column row 5))) (rows_are db t l) ∙ bodies_of t.answers
+
+-- the requests that bodies spell are those that their rows spell
+pub spelled_by : (answers : List AnswerRecord) → filter_map request_at (map (λ (a : AnswerRecord). a.request) answers) ≡ filter_map (λ (a : AnswerRecord). request_at a.request) answers
+spelled_by [] = refl
+spelled_by (a ∷ more) = ap (cons_option (request_at a.request)) (spelled_by more)
 
 pub made_new : (zone : Zone) (default : ℕ) (old new : State) → IsOffset zone → IsAmount default → IsMadeOver (made_with zone default) old.now new.now → HasKept new → lacks_sequence old.now.schema ≡ false → AreUnnamed old.now.schema → IsNew zone default new
 made_new zone default old new offset amount made kept counters unnamed =
@@ -55,6 +61,31 @@ made_new zone default old new offset amount made kept counters unnamed =
       };
       blank = none;
     }
+
+-- ---- one request
+
+pub book_had : (zone : Zone) (default : ℕ) (s : State) → IsSound zone default s → HasBook (book_of zone default (book_in zone default s.now).history) s.now
+book_had zone default s sound = record { legal = sound.legal; has = record { tables = sound.tables; holds = sound.holds; rows = sound.rows } }
+
+-- a store that keeps the rows of a book that it means is sound
+pub sound_with : (b : Book) (s : State) → HasKept s → HasBook b s.now → book_in b.zone b.default s.now ≡ b → IsSound b.zone b.default s
+sound_with b s kept has means = record {
+  kept = kept;
+  legal = subst IsLegalBook (sym means) has.legal;
+  tables = has.has.tables;
+  holds = has.has.holds;
+  rows = subst (λ (x : Book). AreRows x has.has.tables) (sym means) has.has.rows;
+}
+
+-- a store whose tables stay is as sound as before
+pub sound_still : (zone : Zone) (default : ℕ) (old new : State) → IsSound zone default old → HasKept new → new.now ≡ old.now → IsSound zone default new
+sound_still zone default old new sound kept now = record {
+  kept = kept;
+  legal = subst (λ db. IsLegalBook (book_in zone default db)) (sym now) sound.legal;
+  tables = sound.tables;
+  holds = subst (λ db. HasLedger db sound.tables) (sym now) sound.holds;
+  rows = subst (λ db. AreRows (book_in zone default db) sound.tables) (sym now) sound.rows;
+}
 
 -- ---- the row of settings agrees
 
@@ -85,13 +116,7 @@ opens zone default old new exact spares kept = record {
       let meant : IsSound zone default old = subst (λ k. IsSound zone k old) same.1 zoned in (
         same.0,
         same.1,
-        record {
-          kept = kept;
-          legal = subst (λ db. IsLegalBook (book_in zone default db)) (sym now) meant.legal;
-          tables = meant.tables;
-          holds = subst (λ db. HasLedger db meant.tables) (sym now) meant.holds;
-          rows = subst (λ db. AreRows (book_in zone default db) meant.tables) (sym now) meant.rows;
-        },
+        sound_still zone default old new meant kept now,
         ap (book_in zone default) now ∙ sym (ap₂ (λ k n. book_in k n old.now) same.0 same.1),
       );
 }

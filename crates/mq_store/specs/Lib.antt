@@ -1,3 +1,5 @@
 pub mod View
 pub mod Opening
 pub mod Soundness
+pub mod Taking
+pub mod Paging

@@ -3,10 +3,13 @@ use Rattle.std.specs.Prelude.{◌≡◌, ◌⊎◌, ℕ, pos, if◌then◌else�
 use Rattle.std.specs.Ordering.{int_eq}
 use Rattle.sqlite.specs.State.{State}
 use Rattle.sqlite.specs.declared.error.ErrorCode.{ErrorCode}
-use Rattle.sqlite.specs.declared.error.ErrorCode.TheVariants.{OutOfMemory, SystemIoFailure, DatabaseCorrupt, DiskFull, Closed, TooBig}
+use Rattle.sqlite.specs.declared.error.ErrorCode.TheVariants.{OutOfMemory, SystemIoFailure, DatabaseCorrupt, DiskFull}
+use Rattle.sqlite.specs.declared.error.ErrorCode.TheVariants.{Closed, TooBig}
 use Rattle.sqlite.specs.declared.error.Error.{Error}
 use Rattle.sqlite.specs.declared.error.Error.TheVariants.{SqliteFailure}
 use Rattle.mq_ledger.specs.declared.zone.Zone.{Zone}
+use Rattle.mq_ledger.specs.declared.ledger.LedgerFault.{LedgerFault}
+use Rattle.mq_ledger.specs.declared.ledger.LedgerFault.TheVariants as ledger
 use Rattle.mq_tables.specs.declared.setting.Setting.{Setting}
 use Rattle.mq_tables.specs.declared.setting.NewSetting.{NewSetting}
 use Rattle.mq_tables.specs.Reading.{IsRead}
@@ -56,3 +59,8 @@ pub record IsJudged (zone : Zone) (default : ℕ) (old new : State) (fault : Opt
 abbrev pub IsOf : Zone → ℕ → SettingRow → Option OpenFault → Type 0
 IsOf zone default s fault =
     (fault ≡ fault_in zone default (shown_of s)) ⊎ ((fault ≡ Some Memory) ⊎ (fault ≡ Some Store))
+
+-- want of memory, and any other cause
+abbrev pub ledger_fault : Error → LedgerFault
+ledger_fault (SqliteFailure OutOfMemory) = ledger.Memory
+ledger_fault _ = ledger.Store

@@ -1,9 +1,10 @@
 ghost use Rattle.std.specs.Prelude.{◌≡◌};
-ghost use Rattle.mq_store.specs.Opening.{fault_of, fault_of_code, fault_in, judged};
+ghost use Rattle.mq_store.specs.Opening.{fault_of, fault_of_code, fault_in, judged, ledger_fault};
 
-use mq_ledger::Zone;
+use mq_ledger::{LedgerFault, Zone};
 use mq_tables::setting::Setting;
 use sqlite::{Alter, Connection, Error, ErrorCode};
+use std::alloc::{AllocError, AllocFailed};
 use thiserror::Error as Described;
 
 /// Why a store isn't opened, or isn't made a ledger's.
@@ -84,5 +85,69 @@ pub(crate) fn judged(
         Ok(Some(setting)) => fault_in(zone, default, setting),
         Ok(None) => Some(OpenFault::NotOurs),
         Err(error) => Some(fault_of(error)),
+    }
+}
+
+/// Why a request isn't taken.
+#[derive(Drop)]
+pub(crate) struct Refused {
+    pub fault: LedgerFault,
+}
+
+/// What a ledger answers where the store answers so.
+fn ledger_fault(error: &Error) -> LedgerFault
+    ensures { result ≡ ledger_fault error.now }
+{
+    match error {
+        Error::SqliteFailure(ErrorCode::OutOfMemory) => LedgerFault::Memory,
+        _ => LedgerFault::Store,
+    }
+}
+
+impl From<Error> for Refused {
+    ghost use Rattle.mq_store.specs.Opening.{ledger_fault};
+
+    ghost from_gives = { λ error refused. refused.fault ≡ ledger_fault error };
+
+    fn from(error: Error) -> Refused {
+        Refused {
+            fault: ledger_fault(&error),
+        }
+    }
+}
+
+impl From<LedgerFault> for Refused {
+    ghost from_gives = { λ fault refused. refused.fault ≡ fault };
+
+    fn from(fault: LedgerFault) -> Refused {
+        Refused { fault }
+    }
+}
+
+impl From<AllocError> for Refused {
+    ghost use Rattle.mq_ledger.specs.declared.ledger.LedgerFault.TheVariants.{Memory};
+
+    ghost from_gives = { λ _ refused. refused.fault ≡ Memory };
+
+    fn from(_error: AllocError) -> Refused {
+        Refused {
+            fault: LedgerFault::Memory,
+        }
+    }
+}
+
+impl<T: Drop> From<AllocFailed<T>> for Refused {
+    fn from(_error: AllocFailed<T>) -> Refused {
+        Refused {
+            fault: LedgerFault::Memory,
+        }
+    }
+}
+
+impl From<Refused> for LedgerFault {
+    ghost from_gives = { λ refused fault. fault ≡ refused.fault };
+
+    fn from(refused: Refused) -> LedgerFault {
+        refused.fault
     }
 }

@@ -11,17 +11,22 @@ ghost use Rattle.mq_store.specs.Opening.{made_with, IsJudged, IsOf};
 ghost use Rattle.mq_store.specs.Soundness.{HasKept, IsNew, IsOpened};
 ghost use Rattle.mq_store.specs.declared.fault.OpenFault.TheVariants.{NotOurs};
 
+use crate::apply::apply;
 use crate::fault::{OpenFault, OpenRefused, judged};
-use mq_ledger::Zone;
+use crate::laws::tables_mean_their_book;
+use mq_frame::{Reply, Request};
+use mq_ledger::{Ledger, LedgerFault, Zone};
 use mq_tables::create::make_ledger;
 use mq_tables::names::has_ledger_table;
 use mq_tables::setting::{NewSetting, read_setting};
 use sqlite::{Alter, Connection, Error, ErrorCode};
+use std::alloc::Global;
 use std::marker::Model;
 
 /// A ledger in five tables of a store, which may hold others too.
 #[derive(Drop)]
 pub struct SqlLedger<S: Alter> {
+    alloc: Global,
     connection: Connection<S>,
     zone: Zone,
     default: u32,
@@ -87,6 +92,7 @@ impl<S: Alter> SqlLedger<S> {
     /// Refused, the store has the tables that it had. `NotOurs` comes exactly where a table of one
     /// of the five names is there. A connection within a transaction is `Store`.
     pub fn create(
+        alloc: Global,
         connection: Connection<S>,
         zone: Zone,
         default: u32,
@@ -132,6 +138,7 @@ impl<S: Alter> SqlLedger<S> {
         let made_with = new_setting(zone, default);
         match make_ledger(&mut connection, &made_with) {
             Ok(()) => Ok(SqlLedger {
+                alloc,
                 connection,
                 zone,
                 default,
@@ -148,6 +155,7 @@ impl<S: Alter> SqlLedger<S> {
     /// The faults for content come in this order: `NotOurs`, `ZoneDiffers`, `DefaultDiffers`;
     /// `Memory` and `Store` stop the reading. A connection within a transaction is `Store`.
     pub fn open(
+        alloc: Global,
         connection: Connection<S>,
         zone: Zone,
         default: u32,
@@ -186,6 +194,7 @@ impl<S: Alter> SqlLedger<S> {
         }
         match fault_in_store(&mut connection, zone, default) {
             None => Ok(SqlLedger {
+                alloc,
                 connection,
                 zone,
                 default,
@@ -194,30 +203,62 @@ impl<S: Alter> SqlLedger<S> {
         }
     }
 
-    /// What its days go by.
-    pub fn zone(&self) -> Zone
+    /// The connection, with the tables as they are.
+    pub fn into_connection(self) -> Connection<S>
+        ensures { result ≡ self.connection }
+    {
+        let SqlLedger {
+            alloc: _,
+            connection,
+            zone: _,
+            default: _,
+        } = self;
+        connection
+    }
+}
+
+impl<S: Alter> Ledger for SqlLedger<S> {
+    ghost use Rattle.sqlite.specs.Held.{state};
+    ghost use Rattle.mq_store.specs.Soundness.{book_in, HasKept, IsSound};
+
+    ghost book = { λ l. book_in l.zone l.default (state S.Store l.connection).now };
+
+    ghost has_kept = { λ l. HasKept (state S.Store l.connection) };
+
+    ghost is_sound = { λ l. IsSound l.zone l.default (state S.Store l.connection) };
+
+    ghost sound_is_kept = { λ _ sound. sound.kept };
+
+    ghost sound_is_legal = { λ _ sound. sound.legal };
+
+    fn zone(&self) -> Zone
         ensures { result ≡ self.now.zone }
     {
         self.zone
     }
 
-    /// The limit of a login that has none for a day: recipients, 0 to 1,000,000.
-    pub fn default_cap(&self) -> u32
+    fn default_cap(&self) -> u32
         ensures value { result ≡ self.now.default }
         ensures in_range { IsAmount result }
     {
         self.default
     }
 
-    /// The connection, with the tables as they are.
-    pub fn into_connection(self) -> Connection<S>
-        ensures { result ≡ self.connection }
-    {
-        let SqlLedger {
-            connection,
-            zone: _,
-            default: _,
-        } = self;
-        connection
+    /// Replies to a request. What it writes is committed before the reply is given: each numbered
+    /// request that is new is one transaction of the store, and any other writes no row.
+    ///
+    /// The fault is `Memory`, or `Store` where a statement was refused for another cause, where the
+    /// tables are the rows of no legal history, or where 4,611,686,018,427,387,904 answers are
+    /// stored. The tables are then as they were.
+    fn apply(&mut self, request: &Request) -> Result<Reply, LedgerFault> {
+        tables_mean_their_book();
+        let reply = apply(
+            self.alloc,
+            &mut self.connection,
+            self.zone,
+            self.default,
+            request,
+        )?;
+        Ok(reply)
     }
 }

@@ -1,8 +1,14 @@
 //! A quota ledger in the tables of a store.
 #![tactic(auto)]
 
+mod apply;
 mod fault;
+mod laws;
 mod ledger;
+mod listing;
+mod memory;
+mod take;
+mod write;
 
 pub use fault::{OpenFault, OpenRefused};
 pub use ledger::SqlLedger;

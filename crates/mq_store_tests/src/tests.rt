@@ -1,4 +1,11 @@
-use mq_ledger::Zone;
+//! Stores of others, and a ledger's own taken apart and opened; what a ledger replies.
+
+mod asks;
+mod lists;
+mod worked;
+
+use asks::zone;
+use mq_ledger::Ledger;
 use mq_store::{OpenFault, OpenRefused, SqlLedger};
 use sqlite::{Connection, MemStore};
 use std::test::*;
@@ -12,18 +19,14 @@ fn store(rt: HostRuntime, text: &str) -> Result<Connection<MemStore>, Fail> {
     Ok(connection)
 }
 
-fn zone(minutes: i32) -> Result<Zone, Fail> {
-    Zone::of_offset(minutes).map_err(|_| Fail::from("no such zone"))
-}
-
 /// A ledger of that zone and default 3, opened.
-fn open(connection: Connection<MemStore>, minutes: i32) -> Result<Outcome, Fail> {
-    Ok(SqlLedger::open(connection, zone(minutes)?, 3))
+fn open(rt: HostRuntime, connection: Connection<MemStore>, minutes: i32) -> Result<Outcome, Fail> {
+    Ok(SqlLedger::open(rt.alloc(), connection, zone(minutes)?, 3))
 }
 
 /// One of zone 60 and default 3, made.
-fn make(connection: Connection<MemStore>) -> Result<Outcome, Fail> {
-    Ok(SqlLedger::create(connection, zone(60)?, 3))
+fn make(rt: HostRuntime, connection: Connection<MemStore>) -> Result<Outcome, Fail> {
+    Ok(SqlLedger::create(rt.alloc(), connection, zone(60)?, 3))
 }
 
 /// The connection of a ledger that was made or opened.
@@ -72,7 +75,7 @@ fn stores_of_others(rt: HostRuntime) -> Result<(), Fail> {
             OpenFault::DefaultDiffers,
         ),
     ] {
-        refused(open(store(rt, text)?, 60)?, fault)?;
+        refused(open(rt, store(rt, text)?, 60)?, fault)?;
     }
     Ok(())
 }
@@ -87,7 +90,7 @@ fn names_that_are_taken(rt: HostRuntime) -> Result<(), Fail> {
         "CREATE TABLE USAGE (a TEXT)",
         "CREATE TABLE Ceiling (a TEXT)",
     ] {
-        refused(make(store(rt, text)?)?, OpenFault::NotOurs)?;
+        refused(make(rt, store(rt, text)?)?, OpenFault::NotOurs)?;
     }
     Ok(())
 }
@@ -97,12 +100,12 @@ fn names_that_are_taken(rt: HostRuntime) -> Result<(), Fail> {
 fn taken_apart_and_opened(rt: HostRuntime) -> Result<(), Fail> {
     let text = "CREATE TABLE note (a INTEGER PRIMARY KEY AUTOINCREMENT, b TEXT); \
         INSERT INTO note (b) VALUES ('x')";
-    let connection = done(make(store(rt, text)?)?)?;
-    let connection = refused(open(connection, 0)?, OpenFault::ZoneDiffers)?;
-    let other_default = SqlLedger::open(connection, zone(60)?, 4);
+    let connection = done(make(rt, store(rt, text)?)?)?;
+    let connection = refused(open(rt, connection, 0)?, OpenFault::ZoneDiffers)?;
+    let other_default = SqlLedger::open(rt.alloc(), connection, zone(60)?, 4);
     let connection = refused(other_default, OpenFault::DefaultDiffers)?;
-    let connection = done(open(connection, 60)?)?;
-    let mut connection = refused(make(connection)?, OpenFault::NotOurs)?;
+    let connection = done(open(rt, connection, 60)?)?;
+    let mut connection = refused(make(rt, connection)?, OpenFault::NotOurs)?;
     let notes: i64 = connection
         .query_row("SELECT count(*) FROM note", &[])?
         .get(0)?;
@@ -113,7 +116,7 @@ fn taken_apart_and_opened(rt: HostRuntime) -> Result<(), Fail> {
 /// What a ledger goes by is what it was made with.
 #[test]
 fn zone_and_default(rt: HostRuntime) -> Result<(), Fail> {
-    let Ok(ledger) = make(store(rt, "")?)? else {
+    let Ok(ledger) = make(rt, store(rt, "")?)? else {
         return Err(Fail::from("refused"));
     };
     assert_eq!(rt; ledger.zone(), zone(60)?);

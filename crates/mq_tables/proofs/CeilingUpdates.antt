@@ -44,7 +44,7 @@ use Rattle.mq_frame.specs.Same.{same_text}
 use Rattle.mq_rows.specs.declared.record.CeilingRecord.{CeilingRecord}
 use Rattle.mq_rows.specs.declared.plan.Write.TheVariants as write
 use Rattle.mq_tables.specs.Tables.{ceiling_table, required}
-use Rattle.mq_tables.specs.Keys.{same_ceiling, set_ceiling}
+use Rattle.mq_rows.specs.Plan.{same_from, set_ceiling}
 use Rattle.mq_tables.specs.Lent.{cap_params}
 use Rattle.mq_tables.specs.Records.{Holds, HoldsCeilings, ceiling_fields}
 use Rattle.mq_tables.specs.Places.{IsCeilingIn, IsUnreferred}
@@ -206,7 +206,7 @@ tied : (r : CeilingRecord) (c : Row) → pass r c ≡ test r (drop 1 c)
 tied r [] = refl
 tied r (x ∷ c) = refl
 
-decides : (r was : CeilingRecord) → test r (ceiling_fields was) ≡ same_ceiling r was
+decides : (r was : CeilingRecord) → test r (ceiling_fields was) ≡ same_from r was
 decides r was = rw (text_test was.login r.login, day_test was.day r.day) (ap (λ b. (same_text r.login was.login) && b) (and-true (was.day == r.day)))
 
 module _ (old new : state.State) (r : CeilingRecord) (t : ℕ) (place' : IsCeilingIn old.now.schema t) where
@@ -218,7 +218,7 @@ module _ (old new : state.State) (r : CeilingRecord) (t : ℕ) (place' : IsCeili
   one_edit db was id hits one = rw one (rw (cast_int id, cast_int (pos was.day), cast_int (pos r.cap)) refl)
 
   sets_row : Updated old.now.schema in_tree key_tests set_shown (cap_params r) old new → (was : CeilingRecord) (rest : List CeilingRecord) → HoldsCeilings (old.now.trees t) (was ∷ rest)
-      → same_ceiling r was ≡ true → AllByRecursion (λ v. same_ceiling r v ≡ false) rest → HoldsCeilings (new.now.trees t) (set_ceiling r was ∷ rest)
+      → same_from r was ≡ true → AllByRecursion (λ v. same_from r v ≡ false) rest → HoldsCeilings (new.now.trees t) (set_ceiling r was ∷ rest)
   sets_row made was rest held hit apart =
       let db = old.now.trees in
       let hit' = decides r was ∙ hit in
@@ -234,7 +234,7 @@ module _ (old new : state.State) (r : CeilingRecord) (t : ℕ) (place' : IsCeili
       let fresh' : are_fresh (without_rowid id (db t)) ((Int id ∷ ceiling_fields (set_ceiling r was)) ∷ []) ≡ true = subst (λ (e : Edit). are_fresh (left_by db e) e.news ≡ true) edit made.fresh in
       subst (λ rs. Holds 1 ceiling_fields rs (set_ceiling r was ∷ rest)) (sym rows) (holds_set ceiling_fields (pass r) (test r) (tied r) (db t) was rest held hit' apart' (set_ceiling r was) (not-true _ (and_parts _ _ fresh').0))
 
-  set_so : IsUnreferred old.now.schema t → (count : ℕ) → Executes update_text (cap_params r) old new (Ok count) → HasSet HoldsCeilings same_ceiling set_ceiling r t old.now new.now
+  set_so : IsUnreferred old.now.schema t → (count : ℕ) → Executes update_text (cap_params r) old new (Ok count) → HasSet HoldsCeilings same_from set_ceiling r t old.now new.now
   set_so apart count h =
       let means = means_update old.now.schema place'.at t place'.named place'.there place'.stored place'.found in
       let made = updates update_text (cap_params r) old new old.now.schema refl place'.at in_tree

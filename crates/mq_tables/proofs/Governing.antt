@@ -1,98 +1,122 @@
 -- What the query for the latest limit answers of the records.
-use Rattle.std.proofs.Common.{◌≡◌, inl, inr, ℕ, pos, ◌<◌, ◌≤◌, ◌<ℤ◌, ◌≤ℤ◌, ◌&&◌, nat_le, suc, List, [], ◌∷◌, map, true, false, Option, Some, None, Ok, Err, Result, Contains, arith, Ordering, Less, Equal, Greater, refl, sym, ap, ap₂, subst, ◌∙◌}
-use Rattle.std.specs.Prelude.{Vec, IfOk}
+use Rattle.std.proofs.Common.{◌≡◌, inl, inr, ℕ, pos, ◌<◌, ◌≤◌, ◌<ℤ◌, ◌&&◌, nat_le, suc, List, [], ◌∷◌, map, true, false, Option, Some, None, Ok, Err, Result, Contains, arith, Ordering, Less, Equal, Greater, refl, sym, ap, subst, ◌∙◌}
+use Rattle.std.specs.Prelude.{Vec, IfOk, drop}
 use Rattle.std.specs.declared.alloc.Global.{Global}
-use Rattle.std.specs.List.{AllByRecursion}
-use Rattle.std.specs.List.Sorted.{IsPermutation}
-use Rattle.std.specs.Ordering.{is_le, int_cmp, MatchOrdering}
+use Rattle.std.specs.List.{AllByRecursion, list_all}
+use Rattle.std.specs.Ordering.{is_lt, int_cmp, ordering_then, MatchOrdering}
+use Rattle.std.specs.Cmp.{int_ranks}
 use Rattle.std.specs.Cmp.{unsigned_Decides}
-use Rattle.std.proofs.lemmas.Bool.{le-leb, lt-leb}
-use Rattle.std.proofs.lemmas.Bool.Decides.{same_from_decides}
-use Rattle.std.proofs.lemmas.Slice.Eq.{bytes_eq-Decides, slice_eq-Decides}
-use Rattle.sqlite_trees.proofs.ListLemmas.{map-map}
+use Rattle.std.proofs.Math.Bool.{and-true}
+use Rattle.std.proofs.lemmas.Bool.{and_parts}
+use Rattle.std.proofs.lemmas.Slice.Eq.{slice_eq-Decides}
+use Rattle.sqlite_trees.proofs.ListLemmas.{all_weaker}
+use Rattle.sqlite_value.proofs.OrderLemmas.{value_cmp-Int}
 use Rattle.sqlite.specs.Order.{Row, column}
-use Rattle.sqlite.specs.declared.types.Value.TheVariants.{Int}
+use Rattle.sqlite.specs.Term.{eval_all, holds}
+use Rattle.sqlite.specs.declared.types.Value.TheVariants.{Null, Int}
 use Rattle.sqlite.specs.declared.error.Error.{Error}
 use Rattle.sqlite.specs.State.{State, Shown}
+use Rattle.sqlite.proofs.Callers.{IsPlain, command_of}
 use Rattle.sqlite_rules.specs.Lists.{Has}
+use Rattle.mq_frame.specs.Same.{same_text}
 use Rattle.mq_rows.specs.declared.record.CeilingRecord.{CeilingRecord}
-use Rattle.mq_rows.specs.Found.{is_due}
+use Rattle.mq_rows.specs.Found.{is_due, IsGoverning}
 use Rattle.mq_rows.specs.Tables.{Tables}
-use Rattle.mq_tables.specs.Governing.{IsGoverningShown, IsGoverningCap, IsFirstCap}
+use Rattle.mq_tables.specs.Governing.{limit_row, IsGoverningShown, IsCeilingShown, IsFirstCeiling}
 use Rattle.mq_tables.specs.Ledger.{HasLedger}
 use Rattle.mq_tables.specs.Lent.{key_params}
-use Rattle.mq_tables.proofs.DueRecords as due
-use Rattle.mq_tables.proofs.DueRecords.{Ceiling, IsLatestShown}
-use Rattle.mq_tables.proofs.Ceilings.{finds_latest, int_ranked}
-use Rattle.mq_tables.proofs.Latest.{latest_text}
+use Rattle.mq_tables.specs.Records.{ceiling_fields}
+use Rattle.mq_tables.proofs.Firsts as firsts
+use Rattle.mq_tables.proofs.Plain.{any_apart}
+use Rattle.mq_tables.proofs.Tests.{text_test, until_test}
+use Rattle.mq_tables.proofs.Latest.{select_text, select_parsed, select_query, select_unlisted, key_tests, shown_terms, order_terms, names, select_compiled, understood_so}
 
-abbrev signed : CeilingRecord → Ceiling
-signed c = record { login = c.login; day = pos c.day; cap = pos c.cap }
-
-at_most_same : (a b : ℕ) → is_le (int_cmp (pos a) (pos b)) ≡ nat_le a b
-at_most_same a b = go (int_cmp (pos a) (pos b)) (int_ranked (pos a) (pos b))
-  where
-    go : (o : Ordering) → MatchOrdering o (pos a <ℤ pos b) (pos a ≡ pos b) (pos b <ℤ pos a) → is_le o ≡ nat_le a b
-    go Less low = sym (le-leb a b (let e : a < b = grind arith in omega (arith, e)))
-    go Equal same = sym (le-leb a b (let e : a ≡ b = cc in omega (arith, e)))
-    go Greater low = sym (lt-leb a b (grind arith))
-
-due_same : (login : List ℕ) (day : ℕ) (c : CeilingRecord) → due.is_due login (pos day) (signed c) ≡ is_due login day c
-due_same login day c =
-    ap₂ (λ x y. x && y) (same_from_decides _ _ (bytes_eq-Decides c.login login) ((λ hit. sym ((slice_eq-Decides unsigned_Decides login c.login _ refl).0 hit)), (λ same. (slice_eq-Decides unsigned_Decides login c.login _ refl).1 (sym same))))
-    (at_most_same c.day day)
-
-has_contains : {X : Type 0} (xs : List X) (x : X) → Has xs x → Contains xs x
+pub has_contains : {X : Type 0} (xs : List X) (x : X) → Has xs x → Contains xs x
 has_contains [] x h = absurd h
 has_contains (y ∷ ys) x (inl same) = (0, omega arith, sym same)
 has_contains (y ∷ ys) x (inr more) = let it = has_contains ys x more in (suc it.0, omega (arith, it.1), it.2)
 
-has_mapped : {X Y : Type 0} (f : X → Y) (xs : List X) (y : Y) → Has (map f xs) y → (x : X) × Has xs x × (y ≡ f x)
-has_mapped f [] y h = absurd h
-has_mapped f (x ∷ xs) y (inl same) = (x, inl refl, same)
-has_mapped f (x ∷ xs) y (inr more) = let it = has_mapped f xs y more in (it.0, inr it.1, it.2)
+tied : (params r : Row) → list_all (holds (params ∷ r ∷ [])) key_tests ≡ list_all (holds (params ∷ (Null ∷ drop 1 r) ∷ [])) key_tests
+tied params [] = refl
+tied params (x ∷ r) = refl
 
-all_unmapped : {X Y : Type 0} (f : X → Y) (P : Y → Type 0) (Q : X → Type 0) → ((x : X) → P (f x) → Q x) → (xs : List X) → AllByRecursion P (map f xs) → AllByRecursion Q xs
-all_unmapped f P Q to [] h = tt
-all_unmapped f P Q to (x ∷ xs) h = (to x h.0, all_unmapped f P Q to xs h.1)
+-- a later day comes first
+not_later : (a b : ℕ) → is_lt (int_cmp (pos a) (pos b)) ≡ false → b ≤ a
+not_later a b h = go (int_cmp (pos a) (pos b)) h (int_ranks (pos a) (pos b))
+  where
+    go : (o : Ordering) → is_lt o ≡ false → MatchOrdering o (pos a <ℤ pos b) (pos a ≡ pos b) (pos b <ℤ pos a) → b ≤ a
+    go Less h k = absurd cc
+    go Equal h k = let e : a ≡ b = cc in omega (arith, e)
+    go Greater h k = let e : b < a = grind arith in omega (arith, e)
+
+then_nothing : (o : Ordering) → is_lt (ordering_then o Equal) ≡ is_lt o
+then_nothing Less = refl
+then_nothing Equal = refl
+then_nothing Greater = refl
 
 module _ (login : List ℕ) (day : ℕ) where
-  governing : (all : List CeilingRecord) (rows : List Row) → IsLatestShown login (pos day) (map signed all) rows → IsGoverningShown login day all rows
-  governing all [] none = all_unmapped signed (λ g. due.is_due login (pos day) g ≡ false) (λ c. is_due login day c ≡ false) (λ c free. sym (due_same login day c) ∙ free) all none
-  governing all (row ∷ more) (g, latest, is, alone) =
-      let of = has_mapped signed all g latest.there in
-      let c = of.0 in
-      let it = subst (due.IsLatest login (pos day) (map signed all)) of.2 latest in (
-        c,
-        (
-          has_contains all c of.1,
-          sym (due_same login day c) ∙ it.due,
-          all_unmapped signed (λ o. due.is_due login (pos day) o ≡ true → o.day ≤ℤ pos c.day) (λ o. is_due login day o ≡ true → o.day ≤ c.day)
-              (λ o low hit. let e : pos o.day ≤ℤ pos c.day = low (due_same login day o ∙ hit) in grind arith) all it.latest,
-        ),
-        is ∙ ap (λ x. Int x.cap ∷ []) of.2,
-      )
+  abbrev params : Row
+  params = key_params login day
 
-  pub found_governing : (old new : State) (outcome : Result (Vec Row Global) Error) → IfOk outcome (λ rows. Shown latest_text (key_params login day) old new rows.items)
+  decides : (c : CeilingRecord) → firsts.pass ceiling_fields key_tests shown_terms params c ≡ is_due login day c
+  decides c = rw (text_test c.login login, until_test c.day day) (ap (λ b. same_text login c.login && b) (and-true (nat_le c.day day)))
+
+  same_made : (r : Row) → firsts.made ceiling_fields key_tests shown_terms params (tied params) order_terms r ≡ firsts.made ceiling_fields key_tests shown_terms params (tied params) order_terms (Null ∷ drop 1 r)
+  same_made [] = refl
+  same_made (x ∷ r) = refl
+
+  abbrev out : CeilingRecord → Row × Row
+  out c = firsts.out ceiling_fields key_tests shown_terms params (tied params) order_terms c
+
+  ordered : (t : ℕ) (c other : CeilingRecord) → firsts.before ceiling_fields key_tests shown_terms params (tied params) order_terms t (out other) (out c) ≡ is_lt (int_cmp (pos c.day) (pos other.day))
+  ordered t c other = rw (value_cmp-Int (pos c.day) (pos other.day)) (then_nothing (int_cmp (pos c.day) (pos other.day)))
+
+  governing : (t : ℕ) (all : List CeilingRecord) (rows : List Row) → firsts.IsFirstRow ceiling_fields key_tests shown_terms params (tied params) order_terms t all rows → IsGoverningShown login day all rows
+  governing t all [] none = all_weaker _ (λ c. is_due login day c ≡ false) (λ c free. sym (decides c) ∙ free) all none
+  governing t all (row ∷ more) (c, it, is) = (
+    c,
+    (
+      has_contains all c it.there,
+      sym (decides c) ∙ it.passing,
+      all_weaker _ (λ other. is_due login day other ≡ true → other.day ≤ c.day) (λ other low hit. not_later c.day other.day (sym (ordered t c other) ∙ low (decides other ∙ hit))) all it.first,
+    ),
+    is,
+  )
+
+  pub found_governing : (old new : State) (outcome : Result (Vec Row Global) Error) → IfOk outcome (λ rows. Shown select_text (key_params login day) old new rows.items)
       → IfOk outcome (λ rows. (t : Tables) → HasLedger old.now t → IsGoverningShown login day t.ceilings rows.items)
   found_governing old new (Ok rows) h = λ t l.
-      let held : due.HoldsCeilings (old.now.trees l.at.ceiling) (map signed t.ceilings) = record {
-        numbered = l.holds.ceilings.numbered;
-        same = subst (IsPermutation _) (sym (map-map due.ceiling_fields signed t.ceilings)) l.holds.ceilings.same;
-      } in
-      governing t.ceilings rows.items (finds_latest login (pos day) old new rows.items h l.at.ceiling (map signed t.ceilings) l.tables.ceiling held)
+      let place = l.tables.ceiling in
+      let tree = l.at.ceiling in
+      let is = understood_so old.now.schema tree place in
+      governing tree t.ceilings rows.items (firsts.shows_first ceiling_fields key_tests shown_terms params (tied params) order_terms same_made select_text names old new tree rows.items t.ceilings (ap command_of is) (subst IsPlain (sym is) (refl, refl))
+      (any_apart select_text select_parsed select_query select_unlisted old.now.schema (select_compiled tree) is) place.stored l.holds.ceilings h)
   found_governing old new (Err e) h = tt
 
-  cap_so : (all : List CeilingRecord) (rows : List Row) (cap : Option ℕ) → IsGoverningShown login day all rows → IsFirstCap rows cap → IsGoverningCap login day all cap
-  cap_so all [] None shown first = shown
-  cap_so all (row ∷ more) None shown first = absurd cc
-  cap_so all [] (Some cap) shown first = absurd (let e = first.2 in cc)
-  cap_so all (row ∷ more) (Some cap) (c, it, is) (r, rest, whole, at) =
-      let head : row ≡ r = cc in
-      let shown : Int (pos c.cap) ≡ Int (pos cap) = ap (λ x. column x 0) (sym is ∙ head) ∙ at in
-      (c, it, cc)
+  int_same : {x y : ℕ} → Int (pos x) ≡ Int (pos y) → x ≡ y
+  int_same e = cc
 
-  pub cap_after : (Held : Tables → Type 0) (rows : List Row) (outcome : Result (Option ℕ) Error) → ((t : Tables) → Held t → IsGoverningShown login day t.ceilings rows)
-      → IfOk outcome (IsFirstCap rows) → IfOk outcome (λ cap. (t : Tables) → Held t → IsGoverningCap login day t.ceilings cap)
-  cap_after Held rows (Ok cap) shown first = λ t l. cap_so t.ceilings rows cap (shown t l) first
-  cap_after Held rows (Err e) shown first = tt
+  -- the row shows that limit, whose login is known
+  pub limit_is : (row : Row) (u v : CeilingRecord) → IsCeilingShown login row u → login ≡ v.login → row ≡ limit_row v → v ≡ u
+  limit_is row u v shown key is =
+      let day' : v.day ≡ u.day = int_same (sym (ap (λ r. column r 0) is) ∙ shown.day) in
+      let cap : v.cap ≡ u.cap = int_same (sym (ap (λ r. column r 1) is) ∙ shown.cap) in
+      λ i. record { login = (sym key ∙ sym shown.login) i; day = day' i; cap = cap i }
+
+  -- what is due where the first row shows it
+  due_login : (c : CeilingRecord) → is_due login day c ≡ true → login ≡ c.login
+  due_login c hit = (slice_eq-Decides unsigned_Decides login c.login _ refl).0 (and_parts _ _ hit).0
+
+  governing_so : (all : List CeilingRecord) (rows : List Row) (found : Option CeilingRecord) → IsGoverningShown login day all rows → IsFirstCeiling login rows found → IsGoverning login day all found
+  governing_so all [] None shown first = shown
+  governing_so all (row ∷ more) None shown first = absurd cc
+  governing_so all [] (Some u) shown first = absurd (let e = first.2 in cc)
+  governing_so all (row ∷ more) (Some u) (c, it, is) (r, rest, whole, shown) =
+      let head : r ≡ row = cc in
+      let same = limit_is r u c shown (due_login c it.1) (head ∙ is) in
+      subst (λ x. IsGoverning login day all (Some x)) same it
+
+  pub governing_after : (Held : Tables → Type 0) (rows : List Row) (outcome : Result (Option CeilingRecord) Error) → ((t : Tables) → Held t → IsGoverningShown login day t.ceilings rows)
+      → IfOk outcome (IsFirstCeiling login rows) → IfOk outcome (λ found. (t : Tables) → Held t → IsGoverning login day t.ceilings found)
+  governing_after Held rows (Ok found) shown first = λ t l. governing_so t.ceilings rows found (shown t l) first
+  governing_after Held rows (Err e) shown first = tt

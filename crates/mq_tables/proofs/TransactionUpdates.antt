@@ -44,7 +44,7 @@ use Rattle.mq_frame.specs.Same.{same_text}
 use Rattle.mq_rows.specs.declared.record.TransactionRecord.{TransactionRecord}
 use Rattle.mq_rows.specs.declared.plan.Write.TheVariants as write
 use Rattle.mq_tables.specs.Tables.{trans_table, required}
-use Rattle.mq_tables.specs.Keys.{same_transaction, set_transaction}
+use Rattle.mq_rows.specs.Plan.{same_key, set_transaction}
 use Rattle.mq_tables.specs.Lent.{standing_params}
 use Rattle.mq_tables.specs.Records.{Holds, HoldsTransactions, transaction_fields, bit}
 use Rattle.mq_tables.specs.Places.{IsTransIn, IsUnreferred}
@@ -251,7 +251,7 @@ tied : (r : TransactionRecord) (c : Row) → pass r c ≡ test r (drop 1 c)
 tied r [] = refl
 tied r (x ∷ c) = refl
 
-decides : (r was : TransactionRecord) → test r (transaction_fields was) ≡ same_transaction r was
+decides : (r was : TransactionRecord) → test r (transaction_fields was) ≡ same_key r was
 decides r was = rw (text_test was.host r.host, nat_test was.run r.run, nat_test was.txn r.txn) (ap (λ b. (same_text r.host was.host) && b) (ap (λ b. (r.run == was.run) && b) (and-true (r.txn == was.txn))))
 
 module _ (old new : state.State) (r : TransactionRecord) (t : ℕ) (place' : IsTransIn old.now.schema t) where
@@ -263,7 +263,7 @@ module _ (old new : state.State) (r : TransactionRecord) (t : ℕ) (place' : IsT
   one_edit db was id hits one = rw one (rw (cast_int id, cast_int (pos was.run), cast_int (pos was.txn), cast_int (pos was.moment), cast_int (pos was.day), cast_int (pos r.held), cast_int (pos r.settled), cast_int (pos (bit r.closed))) refl)
 
   sets_row : Updated old.now.schema in_tree key_tests set_shown (standing_params r) old new → (was : TransactionRecord) (rest : List TransactionRecord) → HoldsTransactions (old.now.trees t) (was ∷ rest)
-      → same_transaction r was ≡ true → AllByRecursion (λ v. same_transaction r v ≡ false) rest → HoldsTransactions (new.now.trees t) (set_transaction r was ∷ rest)
+      → same_key r was ≡ true → AllByRecursion (λ v. same_key r v ≡ false) rest → HoldsTransactions (new.now.trees t) (set_transaction r was ∷ rest)
   sets_row made was rest held hit apart =
       let db = old.now.trees in
       let hit' = decides r was ∙ hit in
@@ -279,7 +279,7 @@ module _ (old new : state.State) (r : TransactionRecord) (t : ℕ) (place' : IsT
       let fresh' : are_fresh (without_rowid id (db t)) ((Int id ∷ transaction_fields (set_transaction r was)) ∷ []) ≡ true = subst (λ (e : Edit). are_fresh (left_by db e) e.news ≡ true) edit made.fresh in
       subst (λ rs. Holds 1 transaction_fields rs (set_transaction r was ∷ rest)) (sym rows) (holds_set transaction_fields (pass r) (test r) (tied r) (db t) was rest held hit' apart' (set_transaction r was) (not-true _ (and_parts _ _ fresh').0))
 
-  set_so : IsUnreferred old.now.schema t → (count : ℕ) → Executes update_text (standing_params r) old new (Ok count) → HasSet HoldsTransactions same_transaction set_transaction r t old.now new.now
+  set_so : IsUnreferred old.now.schema t → (count : ℕ) → Executes update_text (standing_params r) old new (Ok count) → HasSet HoldsTransactions same_key set_transaction r t old.now new.now
   set_so apart count h =
       let means = means_update old.now.schema place'.at t place'.named place'.there place'.stored place'.found in
       let made = updates update_text (standing_params r) old new old.now.schema refl place'.at in_tree

@@ -44,7 +44,7 @@ use Rattle.mq_tables.specs.Tables.{usage_table, required}
 use Rattle.mq_frame.specs.Same.{same_text}
 use Rattle.mq_rows.specs.declared.record.UsageRecord.{UsageRecord}
 use Rattle.mq_rows.specs.declared.plan.Write.TheVariants as write
-use Rattle.mq_tables.specs.Keys.{same_usage, set_usage}
+use Rattle.mq_rows.specs.Plan.{same_day, set_usage}
 use Rattle.mq_tables.specs.Lent.{totals_params}
 use Rattle.mq_tables.specs.Records.{Holds, HoldsUsage, usage_fields}
 use Rattle.mq_tables.specs.Places.{IsUsageIn, IsUnreferred}
@@ -214,7 +214,7 @@ tied : (u : UsageRecord) (r : Row) → pass u r ≡ test u (drop 1 r)
 tied u [] = refl
 tied u (x ∷ r) = refl
 
-decides : (u was : UsageRecord) → test u (usage_fields was) ≡ same_usage u was
+decides : (u was : UsageRecord) → test u (usage_fields was) ≡ same_day u was
 decides u was = rw (text_test was.login u.login, day_test was.day u.day) (ap (λ b. same_text u.login was.login && b) (and-true (was.day == u.day)))
 
 module _ (old new : state.State) (u : UsageRecord) (t : ℕ) (place' : IsUsageIn old.now.schema t) where
@@ -226,7 +226,7 @@ module _ (old new : state.State) (u : UsageRecord) (t : ℕ) (place' : IsUsageIn
   one_edit db was id hits one = rw one (rw (cast_int id, cast_int (pos was.day), cast_int (pos u.settled), cast_int (pos u.reserved)) refl)
 
   sets_row : Updated old.now.schema in_tree totals_tests totals_shown (totals_params u) old new → (was : UsageRecord) (rest : List UsageRecord) → HoldsUsage (old.now.trees t) (was ∷ rest)
-      → same_usage u was ≡ true → AllByRecursion (λ v. same_usage u v ≡ false) rest → HoldsUsage (new.now.trees t) (set_usage u was ∷ rest)
+      → same_day u was ≡ true → AllByRecursion (λ v. same_day u v ≡ false) rest → HoldsUsage (new.now.trees t) (set_usage u was ∷ rest)
   sets_row made was rest held hit apart =
       let db = old.now.trees in
       let hit' = decides u was ∙ hit in
@@ -242,7 +242,7 @@ module _ (old new : state.State) (u : UsageRecord) (t : ℕ) (place' : IsUsageIn
       let fresh' : are_fresh (without_rowid id (db t)) ((Int id ∷ usage_fields (set_usage u was)) ∷ []) ≡ true = subst (λ (e : Edit). are_fresh (left_by db e) e.news ≡ true) edit made.fresh in
       subst (λ rs. Holds 1 usage_fields rs (set_usage u was ∷ rest)) (sym rows) (holds_set usage_fields (pass u) (test u) (tied u) (db t) was rest held hit' apart' (set_usage u was) (not-true _ (and_parts _ _ fresh').0))
 
-  set_so : IsUnreferred old.now.schema t → (count : ℕ) → Executes totals_text (totals_params u) old new (Ok count) → HasSet HoldsUsage same_usage set_usage u t old.now new.now
+  set_so : IsUnreferred old.now.schema t → (count : ℕ) → Executes totals_text (totals_params u) old new (Ok count) → HasSet HoldsUsage same_day set_usage u t old.now new.now
   set_so apart count h =
       let means = means_totals old.now.schema place'.at t place'.named place'.there place'.stored place'.found in
       let made = updates totals_text (totals_params u) old new old.now.schema refl place'.at in_tree

@@ -5,18 +5,23 @@ use Rattle.sqlite.specs.declared.types.Value.TheVariants.{Int}
 use Rattle.mq_rows.specs.declared.record.CeilingRecord.{CeilingRecord}
 use Rattle.mq_rows.specs.Found.{IsGoverning}
 
--- none is due, or the one row shows the cap of the latest
+-- what a query for limits shows
+abbrev pub limit_row : CeilingRecord → Row
+limit_row c = Int (pos c.day) ∷ Int (pos c.cap) ∷ []
+
+-- none is due, or the one row shows the latest
 abbrev pub IsGoverningShown : List ℕ → ℕ → List CeilingRecord → List Row → Type 0
 IsGoverningShown login day all [] = IsGoverning login day all None
 IsGoverningShown login day all (row ∷ more) =
-    (c : CeilingRecord) × IsGoverning login day all (Some c) × (row ≡ Int (pos c.cap) ∷ [])
+    (c : CeilingRecord) × IsGoverning login day all (Some c) × (row ≡ limit_row c)
 
--- the same of the cap
-abbrev pub IsGoverningCap : List ℕ → ℕ → List CeilingRecord → Option ℕ → Type 0
-IsGoverningCap login day all None = IsGoverning login day all None
-IsGoverningCap login day all (Some cap) = (c : CeilingRecord) × IsGoverning login day all (Some c) × (c.cap ≡ cap)
+-- what the row of a limit of that login shows
+pub record IsCeilingShown (l : List ℕ) (row : Row) (c : CeilingRecord) : Type 0 where
+  pub login : c.login ≡ l
+  pub day : column row 0 ≡ Int (pos c.day)
+  pub cap : column row 1 ≡ Int (pos c.cap)
 
--- no row, or the cap in the first
-abbrev pub IsFirstCap : List Row → Option ℕ → Type 0
-IsFirstCap rows None = rows ≡ []
-IsFirstCap rows (Some cap) = (row : Row) × (more : List Row) × (rows ≡ row ∷ more) × (column row 0 ≡ Int (pos cap))
+-- no row, or what the first shows
+abbrev pub IsFirstCeiling : List ℕ → List Row → Option CeilingRecord → Type 0
+IsFirstCeiling login rows None = rows ≡ []
+IsFirstCeiling login rows (Some c) = (row : Row) × (more : List Row) × (rows ≡ row ∷ more) × IsCeilingShown login row c

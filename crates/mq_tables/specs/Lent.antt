@@ -1,5 +1,5 @@
 -- Parameters of statements, and what is read of the rows of an answer.
-use Rattle.std.specs.Prelude.{◌≡◌, ℕ, ℤ, pos, List, [], ◌∷◌, Option, Some, None, not}
+use Rattle.std.specs.Prelude.{◌≡◌, ◌<◌, ◌^◌, ℕ, ℤ, pos, List, [], ◌∷◌, Option, Some, None, not}
 use Rattle.std.specs.Ordering.{int_eq}
 use Rattle.sqlite.specs.Order.{Row, column}
 use Rattle.sqlite.specs.declared.types.Value.TheVariants.{Int, Blob}
@@ -93,3 +93,11 @@ pub record IsAnswerShown (number : Id) (row : Row) (a : AnswerRecord) : Type 0 w
 abbrev pub IsFirstAnswer : Id → List Row → Option AnswerRecord → Type 0
 IsFirstAnswer number rows None = rows ≡ []
 IsFirstAnswer number rows (Some a) = (row : Row) × (more : List Row) × (rows ≡ row ∷ more) × IsAnswerShown number row a
+
+-- a whole number from 0 on, of 64 bits with its sign
+abbrev pub IsNaturalAt : Row → ℕ → ℕ → Type 0
+IsNaturalAt row at n = (column row at ≡ Int (pos n)) × (n < 2 ^ 63)
+
+-- there is a row, and this is the number in the first
+abbrev pub IsFirstNatural : List Row → ℕ → Type 0
+IsFirstNatural rows n = (row : Row) × (more : List Row) × (rows ≡ row ∷ more) × IsNaturalAt row 0 n

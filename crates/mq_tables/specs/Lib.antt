@@ -3,7 +3,6 @@ pub mod Places
 pub mod Settings
 pub mod Answers
 pub mod Records
-pub mod Keys
 pub mod Ledger
 pub mod Reading
 pub mod Making
@@ -12,3 +11,6 @@ pub mod Inside
 pub mod Updates
 pub mod Lent
 pub mod Governing
+pub mod Over
+pub mod Paging
+pub mod Finding

@@ -1,5 +1,5 @@
 -- What a statement leaves, over any schema that has its table at some place.
-use Rattle.std.specs.Prelude.{◌≡◌, ◌≢◌, ◌<◌, ◌^◌, ℕ, ◌+◌, ℤ, Bool, true, false, List, [], ◌∷◌, ◌++◌, length}
+use Rattle.std.specs.Prelude.{◌≡◌, ◌≢◌, ◌<◌, ◌^◌, ℕ, ◌+◌, ℤ, Bool, true, false, List, [], ◌∷◌, ◌++◌, length, Option, Some, None}
 use Rattle.std.specs.List.{AllByRecursion}
 use Rattle.std.specs.List.Sorted.{IsPermutation}
 use Rattle.sqlite.specs.Order.{Row}
@@ -14,7 +14,7 @@ use Rattle.mq_rows.specs.declared.record.TransactionRecord.{TransactionRecord}
 use Rattle.mq_rows.specs.declared.record.UsageRecord.{UsageRecord}
 use Rattle.mq_rows.specs.declared.record.CeilingRecord.{CeilingRecord}
 use Rattle.mq_rows.specs.Tables.{Tables}
-use Rattle.mq_tables.specs.Keys.{same_transaction, set_transaction, same_usage, set_usage, same_ceiling, set_ceiling}
+use Rattle.mq_rows.specs.Plan.{same_key, set_transaction, same_day, set_usage, same_from, set_ceiling}
 use Rattle.mq_tables.specs.Ledger.{HasLedger}
 use Rattle.mq_tables.specs.Settings.{SettingRow, setting_fields}
 
@@ -68,11 +68,16 @@ Appends a old new =
 abbrev pub WritesUsage : Write UsageRecord → State → State → Type 0
 WritesUsage write old new =
     (t : Tables) → HasLedger old.now t
-    → Leaves same_usage set_usage write t.usage (λ after. HasLedger new.now (record t { usage = after }))
+    → Leaves same_day set_usage write t.usage (λ after. HasLedger new.now (record t { usage = after }))
 
 -- a whole number of 64 bits with its sign has a place for its run and its moment
 abbrev pub IsStorable : TransactionRecord → Type 0
 IsStorable t = (t.run < 2 ^ 63) × (t.moment < 2 ^ 63)
+
+-- the row that was found, where there is one
+abbrev pub IsRowStorable : Option TransactionRecord → Type 0
+IsRowStorable None = Unit {0}
+IsRowStorable (Some t) = IsStorable t
 
 abbrev pub AreStorable : Write TransactionRecord → Type 0
 AreStorable Keep = Unit {0}
@@ -82,10 +87,10 @@ AreStorable (Update t) = IsStorable t
 abbrev pub WritesTransaction : Write TransactionRecord → State → State → Type 0
 WritesTransaction write old new =
     (t : Tables) → HasLedger old.now t
-    → Leaves same_transaction set_transaction write t.transactions
+    → Leaves same_key set_transaction write t.transactions
     (λ after. HasLedger new.now (record t { transactions = after }))
 
 abbrev pub WritesCeiling : Write CeilingRecord → State → State → Type 0
 WritesCeiling write old new =
     (t : Tables) → HasLedger old.now t
-    → Leaves same_ceiling set_ceiling write t.ceilings (λ after. HasLedger new.now (record t { ceilings = after }))
+    → Leaves same_from set_ceiling write t.ceilings (λ after. HasLedger new.now (record t { ceilings = after }))

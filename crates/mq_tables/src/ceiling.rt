@@ -1,15 +1,18 @@
 //! The table `ceiling`, which keeps the limits that were set.
 
-ghost use Rattle.std.specs.Prelude.{◌≡◌, IsTrue, OnOk, IfOk};
+ghost use Rattle.std.specs.List.Sorted.{IsPermutation};
+ghost use Rattle.std.specs.Prelude.{◌≡◌, map, filter, IsTrue, OnOk, IfOk};
 ghost use Rattle.sqlite.specs.Held.{state};
 ghost use Rattle.sqlite.specs.State.{HasCleanDisk, IsUnchanged, KeepsCommit, Survives};
 ghost use Rattle.sqlite.specs.Values.{bound};
 ghost use Rattle.mq_rows.specs.declared.plan.Write.TheVariants.{Insert, Update};
+ghost use Rattle.mq_rows.specs.Found.{IsGoverning};
+ghost use Rattle.mq_rows.specs.Rows.{is_ceiling};
 ghost use Rattle.mq_rows.specs.Tables.{Tables};
-ghost use Rattle.mq_tables.specs.Governing.{IsGoverningShown, IsGoverningCap, IsFirstCap};
+ghost use Rattle.mq_tables.specs.Governing.{limit_row, IsGoverningShown, IsFirstCeiling};
 ghost use Rattle.mq_tables.specs.Ledger.{HasLedger};
 ghost use Rattle.mq_tables.specs.Lent.{cap_params};
-ghost use Rattle.mq_tables.specs.Records.{ceiling_fields};
+ghost use Rattle.mq_tables.specs.Records.{ceiling_fields, IsOneOf};
 ghost use Rattle.mq_tables.specs.Updates.{WritesCeiling};
 
 use crate::usage::key_params;
@@ -105,6 +108,27 @@ pub fn write_ceiling<S: Alter>(
     }
 }
 
+fn ceiling_rows<S: Alter>(
+    tx: &mut Transaction<'_, S>,
+    login: &Login,
+    day: u32,
+) -> Result<Vec<Row>, Error>
+    ensures same_reference { tx.new.conn.ghost_name ≡ tx.old.conn.ghost_name }
+    ensures same { HasCleanDisk (state S.Store tx.new.conn.now)
+        → OnOk result (IsUnchanged (state S.Store tx.old.conn.now) (state S.Store tx.new.conn.now)) }
+    ensures found { HasCleanDisk (state S.Store tx.new.conn.now)
+        → IfOk result (λ rows. (t : Tables) → HasLedger (state S.Store tx.old.conn.now).now t
+        → IsPermutation (map limit_row (filter (is_ceiling login.now day) t.ceilings)) rows.items) }
+    ensures kept { HasCleanDisk (state S.Store tx.new.conn.now)
+        → KeepsCommit (state S.Store tx.old.conn.now) (state S.Store tx.new.conn.now) }
+    ensures survives { Survives (state S.Store tx.old.conn.now) (state S.Store tx.new.conn.now) (λ _. ⊥) }
+{
+    tx.query_all(
+        "SELECT day, cap FROM ceiling WHERE login = ?1 AND day = ?2",
+        &key_params(login, day),
+    )
+}
+
 fn latest_rows<S: Alter>(
     tx: &mut Transaction<'_, S>,
     login: &Login,
@@ -121,37 +145,62 @@ fn latest_rows<S: Alter>(
     ensures survives { Survives (state S.Store tx.old.conn.now) (state S.Store tx.new.conn.now) (λ _. ⊥) }
 {
     tx.query_all(
-        "SELECT cap FROM ceiling WHERE login = ?1 AND day <= ?2 ORDER BY day DESC LIMIT 1",
+        "SELECT day, cap FROM ceiling WHERE login = ?1 AND day <= ?2 ORDER BY day DESC LIMIT 1",
         &key_params(login, day),
     )
 }
 
-fn first_cap(rows: &[Row]) -> Result<Option<u32>, Error>
-    ensures { IfOk result (IsFirstCap rows.now) }
+/// What the first row shows, where there is one.
+fn first_ceiling(rows: &[Row], login: &Login) -> Result<Option<CeilingRecord>, Error>
+    ensures { IfOk result (IsFirstCeiling login.now rows.now) }
 {
     let Some(row) = rows.first() else {
         return Ok(None);
     };
-    Ok(Some(row.get(0)?))
+    Ok(Some(CeilingRecord {
+        login: login.clone()?,
+        day: row.get(0)?,
+        cap: row.get(1)?,
+    }))
 }
 
-/// The cap of the limit that governs a login's day: of those from no later day the latest. `None`
-/// where there is none.
-pub fn find_cap<S: Alter>(
+/// The limit of a login from that very day on, where there is one.
+pub fn find_ceiling<S: Alter>(
     tx: &mut Transaction<'_, S>,
     login: &Login,
     day: u32,
-) -> Result<Option<u32>, Error>
+) -> Result<Option<CeilingRecord>, Error>
     ensures same_reference { tx.new.conn.ghost_name ≡ tx.old.conn.ghost_name }
     ensures same { HasCleanDisk (state S.Store tx.new.conn.now)
         → OnOk result (IsUnchanged (state S.Store tx.old.conn.now) (state S.Store tx.new.conn.now)) }
     ensures found { HasCleanDisk (state S.Store tx.new.conn.now)
-        → IfOk result (λ cap. (t : Tables) → HasLedger (state S.Store tx.old.conn.now).now t
-        → IsGoverningCap login.now day t.ceilings cap) }
+        → IfOk result (λ found. (t : Tables) → HasLedger (state S.Store tx.old.conn.now).now t
+        → IsOneOf (is_ceiling login.now day) t.ceilings found) }
+    ensures kept { HasCleanDisk (state S.Store tx.new.conn.now)
+        → KeepsCommit (state S.Store tx.old.conn.now) (state S.Store tx.new.conn.now) }
+    ensures survives { Survives (state S.Store tx.old.conn.now) (state S.Store tx.new.conn.now) (λ _. ⊥) }
+{
+    let rows = ceiling_rows(tx, login, day)?;
+    first_ceiling(rows.as_slice(), login)
+}
+
+/// The limit that governs a login's day: of those from no later day the latest. `None` where there
+/// is none.
+pub fn find_governing<S: Alter>(
+    tx: &mut Transaction<'_, S>,
+    login: &Login,
+    day: u32,
+) -> Result<Option<CeilingRecord>, Error>
+    ensures same_reference { tx.new.conn.ghost_name ≡ tx.old.conn.ghost_name }
+    ensures same { HasCleanDisk (state S.Store tx.new.conn.now)
+        → OnOk result (IsUnchanged (state S.Store tx.old.conn.now) (state S.Store tx.new.conn.now)) }
+    ensures found { HasCleanDisk (state S.Store tx.new.conn.now)
+        → IfOk result (λ found. (t : Tables) → HasLedger (state S.Store tx.old.conn.now).now t
+        → IsGoverning login.now day t.ceilings found) }
     ensures kept { HasCleanDisk (state S.Store tx.new.conn.now)
         → KeepsCommit (state S.Store tx.old.conn.now) (state S.Store tx.new.conn.now) }
     ensures survives { Survives (state S.Store tx.old.conn.now) (state S.Store tx.new.conn.now) (λ _. ⊥) }
 {
     let rows = latest_rows(tx, login, day)?;
-    first_cap(rows.as_slice())
+    first_ceiling(rows.as_slice(), login)
 }

@@ -4,7 +4,10 @@
 pub mod answer;
 pub mod ceiling;
 pub mod create;
+pub mod find;
 pub mod names;
+pub mod over;
+pub mod page;
 pub mod setting;
 pub mod transaction;
 pub mod usage;

@@ -1,12 +1,15 @@
 //! The table `setting`, which has one row.
 
-ghost use Rattle.std.specs.Prelude.{◌≡◌, ◌<◌, ◌^◌, pos, None, IsTrue, OnOk, [], ◌∷◌, false};
+ghost use Rattle.std.specs.Prelude.{◌≡◌, ◌<◌, ◌^◌, pos, None, IsTrue, OnOk, IfOk, [], ◌∷◌, false};
 ghost use Rattle.sqlite.specs.Held.{state};
 ghost use Rattle.sqlite.specs.Order.{column};
-ghost use Rattle.sqlite.specs.State.{HasCleanDisk, KeepsCommit, Survives};
+ghost use Rattle.sqlite.specs.State.{HasCleanDisk, IsUnchanged, KeepsCommit, Survives};
 ghost use Rattle.sqlite.specs.Values.{bound};
 ghost use Rattle.sqlite.specs.declared.types.Value.TheVariants.{Int};
 ghost use Rattle.sqlite_value.specs.Value.{owned};
+ghost use Rattle.mq_rows.specs.Tables.{Tables};
+ghost use Rattle.mq_tables.specs.Ledger.{HasLedger};
+ghost use Rattle.mq_tables.specs.Lent.{IsNaturalAt, IsFirstNatural};
 ghost use Rattle.mq_tables.specs.Reading.{IsRead, Spares};
 ghost use Rattle.mq_tables.specs.Settings.{SettingRow, HasSetting, IsOf, setting_of};
 ghost use Rattle.mq_tables.specs.Updates.{CountsArrivals};
@@ -83,6 +86,57 @@ pub fn read_setting<S: Alter>(connection: &mut Connection<S>) -> Result<Option<S
         Ok(row) => Ok(setting_of(&row)),
         Err(error) => Err(error),
     }
+}
+
+/// A whole number of the row from 0 on, which is below 2 to the 63rd.
+pub(crate) fn natural_at(row: &Row, at: usize) -> Result<u64, Error>
+    ensures { IfOk result (IsNaturalAt row.now at) }
+{
+    let value: i64 = row.get(at)?;
+    u64::try_from(value).map_err(|_| Error::IntegralValueOutOfRange(at))
+}
+
+fn arrivals_rows<S: Alter>(tx: &mut Transaction<'_, S>) -> Result<Vec<Row>, Error>
+    ensures same_reference { tx.new.conn.ghost_name ≡ tx.old.conn.ghost_name }
+    ensures same { HasCleanDisk (state S.Store tx.new.conn.now)
+        → OnOk result (IsUnchanged (state S.Store tx.old.conn.now) (state S.Store tx.new.conn.now)) }
+    ensures found { HasCleanDisk (state S.Store tx.new.conn.now)
+        → IfOk result (λ rows. (t : Tables) → HasLedger (state S.Store tx.old.conn.now).now t
+        → rows.items ≡ (Int (pos t.setting.arrivals) ∷ []) ∷ []) }
+    ensures kept { HasCleanDisk (state S.Store tx.new.conn.now)
+        → KeepsCommit (state S.Store tx.old.conn.now) (state S.Store tx.new.conn.now) }
+    ensures survives { Survives (state S.Store tx.old.conn.now) (state S.Store tx.new.conn.now) (λ _. ⊥) }
+{
+    tx.query_all("SELECT arrivals FROM setting WHERE id = 1", &[])
+}
+
+fn first_natural(rows: &[Row]) -> Result<u64, Error>
+    ensures { IfOk result (IsFirstNatural rows.now) }
+{
+    let Some(row) = rows.first() else {
+        return Err(Error::QueryReturnedNoRows);
+    };
+    natural_at(row, 0)
+}
+
+/// Reads the count of arrivals, which is below 2 to the 63rd.
+///
+/// An error is the store's: `QueryReturnedNoRows` where the row is absent, `InvalidColumnType` where no
+/// whole number stands there, and `IntegralValueOutOfRange` where it is below 0.
+pub fn read_arrivals<S: Alter>(tx: &mut Transaction<'_, S>) -> Result<u64, Error>
+    ensures same_reference { tx.new.conn.ghost_name ≡ tx.old.conn.ghost_name }
+    ensures same { HasCleanDisk (state S.Store tx.new.conn.now)
+        → OnOk result (IsUnchanged (state S.Store tx.old.conn.now) (state S.Store tx.new.conn.now)) }
+    ensures found { HasCleanDisk (state S.Store tx.new.conn.now)
+        → IfOk result (λ arrivals. (t : Tables) → HasLedger (state S.Store tx.old.conn.now).now t
+        → arrivals ≡ t.setting.arrivals) }
+    ensures in_range { IfOk result (λ arrivals. arrivals < 2 ^ 63) }
+    ensures kept { HasCleanDisk (state S.Store tx.new.conn.now)
+        → KeepsCommit (state S.Store tx.old.conn.now) (state S.Store tx.new.conn.now) }
+    ensures survives { Survives (state S.Store tx.old.conn.now) (state S.Store tx.new.conn.now) (λ _. ⊥) }
+{
+    let rows = arrivals_rows(tx)?;
+    first_natural(rows.as_slice())
 }
 
 /// Writes the count of arrivals, which is below 2 to the 63rd.

@@ -11,8 +11,9 @@ ghost use Rattle.mq_rows.specs.declared.plan.Write.TheVariants.{Insert, Update};
 ghost use Rattle.mq_tables.specs.Ledger.{HasLedger};
 ghost use Rattle.mq_tables.specs.Lent.{standing_params, standing_row, transaction_key, IsFirstTransaction};
 ghost use Rattle.mq_tables.specs.Records.{IsOneOf, transaction_fields};
-ghost use Rattle.mq_tables.specs.Updates.{WritesTransaction, IsStorable, AreStorable};
+ghost use Rattle.mq_tables.specs.Updates.{WritesTransaction, IsStorable, IsRowStorable, AreStorable};
 
+use crate::setting::natural_at;
 use mq_frame::{Host, Login};
 use mq_rows::{TransactionRecord, Write};
 use sqlite::types::ValueRef;
@@ -60,7 +61,9 @@ fn first_transaction(
     run: u64,
     txn: u32,
 ) -> Result<Option<TransactionRecord>, Error>
-    ensures { IfOk result (IsFirstTransaction host.now run txn rows.now) }
+    requires { run < 2 ^ 63 }
+    ensures shown { IfOk result (IsFirstTransaction host.now run txn rows.now) }
+    ensures storable { IfOk result IsRowStorable }
 {
     let Some(row) = rows.first() else {
         return Ok(None);
@@ -70,7 +73,7 @@ fn first_transaction(
         run,
         txn,
         login: Login::new(row.get(0)?),
-        moment: row.get(1)?,
+        moment: natural_at(row, 1)?,
         day: row.get(2)?,
         held: row.get(3)?,
         settled: row.get(4)?,
@@ -78,7 +81,8 @@ fn first_transaction(
     }))
 }
 
-/// The row of a transaction, where there is one. Its run is below 2 to the 63rd.
+/// The row of a transaction, where there is one. Its run is below 2 to the 63rd, and so is the moment
+/// of a row that is found.
 pub fn find_transaction<S: Alter>(
     tx: &mut Transaction<'_, S>,
     host: &Host,
@@ -92,6 +96,7 @@ pub fn find_transaction<S: Alter>(
     ensures found { HasCleanDisk (state S.Store tx.new.conn.now)
         → IfOk result (λ found. (t : Tables) → HasLedger (state S.Store tx.old.conn.now).now t
         → IsOneOf (is_transaction (record { host = host.now; run = run; txn = txn })) t.transactions found) }
+    ensures storable { IfOk result IsRowStorable }
     ensures kept { HasCleanDisk (state S.Store tx.new.conn.now)
         → KeepsCommit (state S.Store tx.old.conn.now) (state S.Store tx.new.conn.now) }
     ensures survives { Survives (state S.Store tx.old.conn.now) (state S.Store tx.new.conn.now) (λ _. ⊥) }

@@ -1,29 +1,19 @@
 //! The link to the quota server over TCP: a connection for each exchange.
 ghost use Rattle.std.specs.Prelude.{◌≡◌, ◌≢◌, ◌≤◌, ℕ, List, [], ◌∷◌, Option, None, IsSome, IfSome, IfOk, Err, OnOk, OnErr, IfErr, MatchOption, vec_len};
 ghost use Rattle.std.specs.Io.KnownBytes.{Appends};
-ghost use Rattle.std.specs.IoError.{error_kind};
 ghost use Rattle.mq_client.specs.Link.{Tells, outcome_of};
 ghost use Rattle.mq_frame.specs.Spelling.{in_2_bytes};
-ghost use Rattle.mq_tcp.specs.Exchange.{fault_of, IsReceived, IsHeadOnly};
+ghost use Rattle.mq_tcp.specs.Exchange.{IsReceived, IsHeadOnly, trouble_fault};
 
 use crate::timed::{Timed, deadline_after};
+use crate::trouble::Trouble;
 use mq_client::{Link, LinkFault};
 use std::io;
-use std::io::{ErrorKind, Read, Write};
+use std::io::{Read, Write};
 use std::marker::Model;
 use std::net::{Net, OpenStream, Shutdown, SocketAddr, TcpStream};
 use std::rt::Clock;
 use std::time::Duration;
-
-/// A call that took too long is `TimedOut`, whatever else went wrong is `Down`.
-fn fault_of(error: &io::Error) -> LinkFault
-    ensures { result ≡ fault_of (error_kind error.now) }
-{
-    match error.kind() {
-        ErrorKind::TimedOut | ErrorKind::WouldBlock => LinkFault::TimedOut,
-        _ => LinkFault::Down,
-    }
-}
 
 /// The stream with one timeout for all that is done with it from now on.
 fn timed<'a, C: Clock, S: OpenStream + Drop>(
@@ -58,31 +48,49 @@ fn length_of(high: u8, low: u8) -> usize
     usize::from(u16::from_be_bytes([high, low]))
 }
 
-/// Reads the body of one frame. The end of the input and a length of 0 are `Down`.
-fn read_body<S: Read>(stream: &mut S, reply: &mut Vec<u8>) -> Result<(), LinkFault>
+/// Reads the body of one frame.
+fn read_body<S: Read>(stream: &mut S, reply: &mut Vec<u8>) -> Result<(), Trouble>
     ensures body { OnOk result (IsReceived (S.remaining stream.old) (S.remaining stream.new) reply.new.items) }
     ensures empty { OnErr result (reply.new.items ≡ []) }
-    ensures memory { result ≡ Err LinkFault.Memory → IsHeadOnly (S.remaining stream.old) (S.remaining stream.new) }
+    ensures memory { result ≡ Err Trouble.Memory → IsHeadOnly (S.remaining stream.old) (S.remaining stream.new) }
 {
     reply.clear();
     let mut head = [0u8; 2];
     if let Err(error) = stream.read_exact(&mut head) {
-        return Err(fault_of(&error));
+        return Err(Trouble::System(error));
     }
     let length = length_of(head[0], head[1]);
     if length == 0 {
-        return Err(LinkFault::Down);
+        return Err(Trouble::Empty);
     }
     if reply.resize(length, 0).is_err() {
         reply.clear();
-        return Err(LinkFault::Memory);
+        return Err(Trouble::Memory);
     }
     match stream.read_exact(reply.as_mut_slice()) {
         Ok(()) => Ok(()),
         Err(error) => {
             reply.clear();
-            Err(fault_of(&error))
+            Err(Trouble::System(error))
         }
+    }
+}
+
+/// Reads the body of one frame with one timeout for all of it.
+fn read_within<C: Clock, S: Read + OpenStream + Drop>(
+    stream: S,
+    clock: &C,
+    timeout: Duration,
+    reply: &mut Vec<u8>,
+) -> Result<(), Trouble>
+    ensures body { OnOk result ((left : Option (List ℕ)) × IsReceived (S.remaining stream) left reply.new.items) }
+    ensures empty { OnErr result (reply.new.items ≡ []) }
+    ensures memory { result ≡ Err Trouble.Memory → (left : Option (List ℕ)) × IsHeadOnly (S.remaining stream) left }
+{
+    reply.clear();
+    match timed(stream, clock, timeout) {
+        Ok(mut stream) => read_body(&mut stream, reply),
+        Err(error) => Err(Trouble::System(error)),
     }
 }
 
@@ -93,6 +101,7 @@ pub struct TcpLink<'a, R: Net> {
     address: SocketAddr,
     timeout: Duration,
     stream: Option<R::Stream>,
+    trouble: Option<Trouble>,
 }
 
 impl<'a, R: Net> Model for TcpLink<'a, R> {
@@ -112,7 +121,18 @@ impl<'a, R: Net + Clock> TcpLink<'a, R> {
             address,
             timeout,
             stream: None,
+            trouble: None,
         }
+    }
+
+    /// Where the server is.
+    pub fn address(&self) -> SocketAddr {
+        self.address
+    }
+
+    /// Why the last exchange brought no reply, if it brought none.
+    pub fn trouble(&self) -> Option<&Trouble> {
+        self.trouble.as_ref()
     }
 
     /// Makes a new connection, writes the frame and ends the writing side. Where it fails no
@@ -123,13 +143,25 @@ impl<'a, R: Net + Clock> TcpLink<'a, R> {
         ensures no_memory { IfErr result (λ fault. fault ≢ LinkFault.Memory) }
     {
         self.stream = None;
+        self.trouble = None;
         match self.connect_and_write(frame) {
             Ok(stream) => {
                 self.stream = Some(stream);
                 Ok(())
             }
-            Err(error) => Err(fault_of(&error)),
+            Err(error) => Err(self.fail(Trouble::System(error))),
         }
+    }
+
+    /// Keeps why an exchange brought no reply, and gives it as a link tells it.
+    fn fail(&mut self, trouble: Trouble) -> LinkFault
+        ensures fault { result ≡ trouble_fault trouble }
+        ensures memory { result ≡ LinkFault.Memory → trouble ≡ Trouble.Memory }
+        ensures same { self.new ≡ self.old }
+    {
+        let fault = trouble.fault();
+        self.trouble = Some(trouble);
+        fault
     }
 
     fn connect_and_write(&self, frame: &[u8]) -> io::Result<R::Stream> {
@@ -149,11 +181,11 @@ impl<'a, R: Net + Clock> TcpLink<'a, R> {
     {
         reply.clear();
         let Some(stream) = self.stream.take() else {
-            return Err(LinkFault::Down);
+            return Err(self.fail(Trouble::Unconnected));
         };
-        match timed(stream, self.net, self.timeout) {
-            Ok(mut stream) => read_body(&mut stream, reply),
-            Err(fault) => Err(fault_of(&fault)),
+        match read_within(stream, self.net, self.timeout, reply) {
+            Ok(()) => Ok(()),
+            Err(trouble) => Err(self.fail(trouble)),
         }
     }
 }

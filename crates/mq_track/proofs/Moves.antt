@@ -8,7 +8,7 @@ use Rattle.std.specs.Cmp.Lexicographic.{bytes_decides}
 use Rattle.mq_line.specs.Grammar.{Meaning}
 use Rattle.mq_track.specs.Events.{Event, Passed, Began, Ended, Left, Nothing, event}
 use Rattle.mq_track.specs.Sessions.{login, open_transaction, begin_count, session_of}
-use Rattle.mq_track.specs.State.{State, StandsAt, Known, known, Learns}
+use Rattle.mq_track.specs.State.{State, TracksAt, Known, known, Learns}
 use Rattle.mq_track.specs.Steps.{Steps, brought}
 use Rattle.mq_track.specs.declared.closing.Closing.{Closing}
 use Rattle.mq_track.proofs.Lookback.{login-more, open-more, login_after, open_after, login-apart, open-apart}
@@ -25,7 +25,7 @@ same_bytes : (s : List ℕ) → bytes_eq s s ≡ true
 same_bytes s = (bytes_decides s s).1 refl
 
 -- what was learned of one session, where the line is of that session
-learned : (old new : State) (past : List Meaning) (line : Meaning) (s : List ℕ) (what : Known) → StandsAt old past → Learns old.sessions new.sessions s what → session_of (event line) ≡ Some s → what ≡ given (line ∷ past) s
+learned : (old new : State) (past : List Meaning) (line : Meaning) (s : List ℕ) (what : Known) → TracksAt old past → Learns old.sessions new.sessions s what → session_of (event line) ≡ Some s → what ≡ given (line ∷ past) s
     → (q : List ℕ) → known new.sessions q ≡ given (line ∷ past) q
 learned old new past line s what stands learns of here q = either (bytes_eq s q) (known new.sessions q ≡ given (line ∷ past) q)
     (λ y. let e : known new.sessions q ≡ what = rw y at (learns q) in subst (λ (l : List ℕ). known new.sessions q ≡ given (line ∷ past) l) ((bytes_decides s q).0 y) (e ∙ here))
@@ -59,16 +59,16 @@ given-more e line past s is =
 here : (e : Event) (old : State) (past : List Meaning) (line : Meaning) (s : List ℕ) (what : Known) → event line ≡ e → what ≡ given_after past e s → what ≡ given (line ∷ past) s
 here e old past line s what is same = same ∙ sym (given-more e line past s is)
 
-given_login : (old : State) (past : List Meaning) (s : List ℕ) → StandsAt old past → (known old.sessions s).login ≡ login past s
+given_login : (old : State) (past : List Meaning) (s : List ℕ) → TracksAt old past → (known old.sessions s).login ≡ login past s
 given_login old past s stands = ap (λ k. k.login) (stands.sessions s)
 
-given_open : (old : State) (past : List Meaning) (s : List ℕ) → StandsAt old past → (known old.sessions s).transaction ≡ open_transaction past s
+given_open : (old : State) (past : List Meaning) (s : List ℕ) → TracksAt old past → (known old.sessions s).transaction ≡ open_transaction past s
 given_open old past s stands = ap (λ k. k.transaction) (stands.sessions s)
 
 of_session : (e : Event) (line : Meaning) (s : List ℕ) → event line ≡ e → session_of e ≡ Some s → session_of (event line) ≡ Some s
 of_session e line s is of = rw is of
 
-stands_by : (e : Event) (old new : State) (past : List Meaning) (line : Meaning) → event line ≡ e → StandsAt old past → Steps old new e → StandsAt new (line ∷ past)
+stands_by : (e : Event) (old new : State) (past : List Meaning) (line : Meaning) → event line ≡ e → TracksAt old past → Steps old new e → TracksAt new (line ∷ past)
 stands_by (Passed s name) old new past line is stands steps = record {
   sessions = learned old new past line s _ stands steps.0 (of_session (Passed s name) line s is refl)
       (here (Passed s name) old past line s _ is (rw (same_bytes s, given_open old past s stands) refl));
@@ -95,18 +95,18 @@ stands_by Nothing old new past line is stands steps = record {
 }
 
 -- a step of the tracker is one more line of the past
-pub stands_on : (old new : State) (past : List Meaning) (line : Meaning) → StandsAt old past → Steps old new (event line) → StandsAt new (line ∷ past)
+pub stands_on : (old new : State) (past : List Meaning) (line : Meaning) → TracksAt old past → Steps old new (event line) → TracksAt new (line ∷ past)
 stands_on old new past line stands steps = stands_by (event line) old new past line refl stands steps
 
 -- ---- a step that may be refused
 
 stands_after : (r : Result (Option Closing) TrackFault) (F : TrackFault → Type 0) (e : Event) (old new : State) (line : Meaning) → e ≡ event line
-    → MatchResult r (λ c. (c ≡ brought old e) × Steps old new e) F → OnOk r ((past : List Meaning) → StandsAt old past → StandsAt new (line ∷ past))
+    → MatchResult r (λ c. (c ≡ brought old e) × Steps old new e) F → OnOk r ((past : List Meaning) → TracksAt old past → TracksAt new (line ∷ past))
 stands_after (Ok c) F e old new line is h = λ past stands. stands_on old new past line stands (subst (λ (v : Event). Steps old new v) is h.1)
 stands_after (Err f) F e old new line is h = tt
 
 -- where the step isn't refused the tracker stands at one more line
 pub stands_if_ok : (b : Bool) (r : Result (Option Closing) TrackFault) (F : TrackFault → Type 0) (e : Event) (old new : State) (line : Meaning) → e ≡ event line
-    → MatchBool b (r ≡ Err Exhausted) (MatchResult r (λ c. (c ≡ brought old e) × Steps old new e) F) → OnOk r ((past : List Meaning) → StandsAt old past → StandsAt new (line ∷ past))
+    → MatchBool b (r ≡ Err Exhausted) (MatchResult r (λ c. (c ≡ brought old e) × Steps old new e) F) → OnOk r ((past : List Meaning) → TracksAt old past → TracksAt new (line ∷ past))
 stands_if_ok true r F e old new line is h = rw h tt
 stands_if_ok false r F e old new line is h = stands_after r F e old new line is h

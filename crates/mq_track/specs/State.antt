@@ -30,7 +30,7 @@ abbrev pub Learns : List (List ℕ × Known) → List (List ℕ × Known) → Li
 Learns old new s what = (q : List ℕ) → known new q ≡ (if bytes_eq s q then what else known old q)
 
 -- the tracker has the logins, the open transactions and the count that the past gives
-pub record StandsAt (state : State) (past : List Meaning) : Type 0 where
+pub record TracksAt (state : State) (past : List Meaning) : Type 0 where
   pub sessions : (s : List ℕ) →
       known state.sessions s ≡ record { login = login past s; transaction = open_transaction past s }
   pub begins : state.begins ≡ begin_count past

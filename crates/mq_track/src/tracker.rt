@@ -35,12 +35,12 @@ impl Tracker {
     ghost use Rattle.mq_track.specs.Events.{event, Passed, Began, Ended, Left};
     ghost use Rattle.mq_track.specs.Told.{told};
     ghost use Rattle.mq_track.specs.Sessions.{closing, fault, position, is_exhausted, last_number};
-    ghost use Rattle.mq_track.specs.State.{StandsAt, IsNumbered, shown};
+    ghost use Rattle.mq_track.specs.State.{TracksAt, IsNumbered, shown};
     ghost use Rattle.mq_track.specs.Steps.{closing_in, brought, Steps, needs_memory};
 
     /// A tracker that accepted no line yet.
     pub fn new(alloc: Global) -> Tracker
-        ensures { StandsAt result [] }
+        ensures { TracksAt result [] }
     {
         Tracker::counting_from(alloc, 0)
     }
@@ -63,12 +63,12 @@ impl Tracker {
     /// a fault the tracker is unchanged: that line isn't accepted. `Memory` comes only at a login
     /// that passed and at a tx-begin.
     pub fn apply(&mut self, line: &Line<'_>) -> Result<Option<Closing>, TrackFault>
-        ensures refused { (past : List Meaning) → StandsAt self.old past →
+        ensures refused { (past : List Meaning) → TracksAt self.old past →
             IfSome (fault past (meaning line.now)) (λ f. result ≡ Err f) }
-        ensures accepted { (past : List Meaning) → StandsAt self.old past → fault past (meaning line.now) ≡ None →
+        ensures accepted { (past : List Meaning) → TracksAt self.old past → fault past (meaning line.now) ≡ None →
             MatchResult result (λ c. c ≡ closing past (meaning line.now)) (λ f. f ≡ TrackFault.Memory) }
         ensures stands { OnOk result ((past : List Meaning) →
-            StandsAt self.old past → StandsAt self.new (meaning line.now ∷ past)) }
+            TracksAt self.old past → TracksAt self.new (meaning line.now ∷ past)) }
         ensures memory { result ≡ Err TrackFault.Memory → IsTrue (needs_memory (event (meaning line.now))) }
         ensures unchanged { OnErr result (self.new ≡ self.old) }
     {
@@ -79,7 +79,7 @@ impl Tracker {
     /// How a session stands after the accepted lines. Names of sessions compare byte for byte.
     pub fn standing(&self, session: &[u8]) -> Standing<'_>
         ensures numbered { IsNumbered result }
-        ensures position { (past : List Meaning) → StandsAt self.now past → shown result ≡ position past session.now }
+        ensures position { (past : List Meaning) → TracksAt self.now past → shown result ≡ position past session.now }
     {
         let Some(record) = self.sessions.get(session) else {
             return Standing::Anonymous;

@@ -1,7 +1,7 @@
 """`limit` and `report`, asked of the real server and of one that answers by a script."""
 import time
 
-from ends import DRIP, RESET, SILENCE, Script, Server, free_port
+from ends import DRIP, RESET, SILENCE, Script, Server, apart, free_port
 from wire import BAD, RETRY, frame, full, granted, identity, limit, number, page, page_reply, release, reserve, row, settle, text, usage
 
 ADMIN = {"host": b"admin", "run": 7}
@@ -27,6 +27,18 @@ def report(world, address, *, day=1, login=None, **more):
 
 def fault(message, output=b""):
     return (1, output, f"mailquota: {message}\n")
+
+
+def without_log(came):
+    status, output, errors = came
+    return status, output, apart(errors)[1]
+
+
+def causes(checks, what, came, address, cause):
+    """Before the text there is one line of log: the server's address, and why no answer came."""
+    log = apart(came[2])[0]
+    good = log == [f"[ERROR mq_tcp::logged] quota server {address}: {cause}\n"]
+    checks.holds(f"{what}: the log", good, f"one line with {address} and '{cause}'", log)
 
 
 def of_the_real_server(world, checks):
@@ -96,20 +108,37 @@ def limit_by_script(world, checks):
             if len(script) < 3 and wanted == unavailable:
                 server.answers += [b""] * 2
                 times = 3
-            came = set_limit(world, server.address, cap=5)
+            came = without_log(set_limit(world, server.address, cap=5))
         checks.equal(f"limit, {what}", (came, server.heard), (wanted, [asked] * times))
-    checks.equal("limit without a server", set_limit(world, f"127.0.0.1:{free_port()}", cap=5), unavailable)
+    address = f"127.0.0.1:{free_port()}"
+    came = set_limit(world, address, cap=5)
+    checks.equal("limit without a server", without_log(came), unavailable)
+    causes(checks, "limit without a server", came, address, "Connection refused (os error 111)")
+    for what, script, cause in [
+        ("closed at once", [b""] * 3, "closed before its reply was whole"),
+        ("a reply cut short", [good[:-1]] * 3, "closed before its reply was whole"),
+        ("a reply of no bytes", [b"\x00\x00"] * 3, "a reply of no bytes"),
+        ("words of another protocol", [frame(b"HTTP/1.1 400 Bad Request")] * 3, "24 bytes that are no reply"),
+        ("a reset", [RESET] * 3, "Connection reset by peer (os error 104)"),
+        ("bad", [BAD] * 3, "it takes the request for none"),
+        ("no memory", [RETRY] * 3, "it has no memory for the request"),
+    ]:
+        with Script(script) as server:
+            came = set_limit(world, server.address, cap=5)
+        causes(checks, f"limit, {what}", came, server.address, cause)
     with Script([SILENCE] * 3) as server:
         start = time.monotonic()
         came = set_limit(world, server.address, cap=5)
         took = time.monotonic() - start
-    checks.equal("limit of a silent server", (came, server.heard), (unavailable, [asked] * 3))
+    checks.equal("limit of a silent server", (without_log(came), server.heard), (unavailable, [asked] * 3))
+    causes(checks, "limit of a silent server", came, server.address, "no answer in time")
     checks.holds("limit of a silent server: three tries of 2,000 ms", 5.9 < took < 8, "6 s", f"{took:.1f} s")
     with Script([DRIP] * 3) as server:
         start = time.monotonic()
         came = report(world, server.address)
         took = time.monotonic() - start
-    checks.equal("report of a server that drips", came, unavailable)
+    checks.equal("report of a server that drips", without_log(came), unavailable)
+    causes(checks, "report of a server that drips", came, server.address, "no answer in time")
     checks.holds("report of a server that drips: three tries of 2,000 ms", 5.9 < took < 8, "6 s", f"{took:.1f} s")
 
 
@@ -130,9 +159,9 @@ def usage_by_script(world, checks):
         ("a number of 1,000,001, thrice", [frame(b"\x8b" + text(b"u") + number(1) + number(1_000_001) * 3)] * 3, 3, unavailable),
     ]:
         with Script(script) as server:
-            came = report(world, server.address, login="u")
+            came = without_log(report(world, server.address, login="u"))
         checks.equal(f"report of a login, {what}", (came, server.heard), (wanted, [usage()] * times))
-    checks.equal("report without a server", report(world, f"127.0.0.1:{free_port()}"), unavailable)
+    checks.equal("report without a server", without_log(report(world, f"127.0.0.1:{free_port()}")), unavailable)
 
 
 def rows_of(names):
@@ -164,7 +193,7 @@ def pages_by_script(world, checks):
         ("a page of 101 rows, thrice", [page_reply(rows_of(first + [b"b"]))] * 3, [page()] * 3, fault("quota service unavailable")),
     ]:
         with Script(script) as server:
-            came = report(world, server.address)
+            came = without_log(report(world, server.address))
         checks.equal(f"report, {what}", (came, server.heard), (wanted, asked))
 
 

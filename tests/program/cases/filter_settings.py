@@ -21,9 +21,10 @@ def expect(world, checks, what, content, wanted):
 
 
 def files(world, checks):
-    for what, path in [("no file", f"{world.folder}/none"), ("a folder", world.folder), ("an empty path", "")]:
+    missing, folder = "No such file or directory (os error 2)", "Is a directory (os error 21)"
+    for what, path, cause in [("no file", f"{world.folder}/none", missing), ("a folder", world.folder, folder), ("an empty path", "", missing)]:
         came = world.run("filter", "--config", path)
-        log = f"[ERROR mq_program::fault] {path}: settings can't be read\n"
+        log = f"[ERROR mq_program::fault] {path}: {cause}\n"
         checks.equal(f"filter settings, {what}", came, (1, b"", log + "mailquota: settings can't be read\n"))
     text = text_of()
     expect(world, checks, "65,536 bytes", text + "#" * (65_536 - len(text)), ACCEPTED)
@@ -38,6 +39,14 @@ def files(world, checks):
         ("an open string", 'host = "mx1\n'),
     ]:
         expect(world, checks, what, content, "settings are not TOML")
+    for what, content, place in [
+        ("no TOML in line 3", "# first\n\n= 1\n", "line 3, column 1: "),
+        ("a string that is open behind two characters of two bytes", 'host = "\u00e9\u00e9\n', "line 1, column 11: "),
+        ("bytes that are no text, in line 2", b'\nhost = "\xff"\n', "line 2, column 9: "),
+    ]:
+        path = world.new_file(content)
+        log, _ = apart(world.run("filter", "--config", path)[2])
+        checks.holds(f"filter settings, {what}: the log", len(log) == 1 and f"{path}: {place}" in log[0], f"one line with {place}", log)
 
 
 def order(world, checks):
@@ -46,6 +55,8 @@ def order(world, checks):
     expect(world, checks, "host and server", text_of(), ACCEPTED)
     expect(world, checks, "an unknown key", text_of(hots=1), "setting hots: unknown")
     expect(world, checks, "two unknown keys, the least in byte order", text_of(zone=1, Zone=2, y=3), "setting Zone: unknown")
+    strange = b'"a b\\u001b[2J\xc3\xa9" = 1\n'
+    expect(world, checks, "an unknown key of any characters", strange, "setting a\\x20b\\x1b[2J\\xc3\\xa9: unknown")
     expect(world, checks, "an unknown key before what is missing", "hots = 1\n", "setting hots: unknown")
     expect(world, checks, "no TOML before an unknown key", "hots = 1\nhots = 2\n", "settings are not TOML")
     expect(world, checks, "a key of the server", text_of(listen='"127.0.0.1:1"'), "setting listen: unknown")

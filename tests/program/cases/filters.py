@@ -1,4 +1,5 @@
 """The filter on standard input and output, with a server that answers by a script."""
+import re
 import select
 import socket
 import subprocess
@@ -134,8 +135,16 @@ def warnings(world, checks):
     reply = frame(b"\x89" + identity(2, **MX1) + number(0))
     errors = scripted(world, checks, "a settle answered too many", INPUT + COMMIT, [GRANTED, reply], results=[answer(PROCEED)], frames=[RESERVE, SETTLE])
     told(checks, "a settle answered too many", errors, 1, ["mx1", "alice", "transaction 1"])
-    for level in ("off", "error"):
-        scripted(world, checks, f'a lost reserve with log = "{level}"', INPUT, [b""] * 3, results=[answer(SERVICE)], frames=[RESERVE] * 3, errors="", log=level)
+    scripted(world, checks, 'a lost reserve with log = "off"', INPUT, [b""] * 3, results=[answer(SERVICE)], frames=[RESERVE] * 3, errors="", log="off")
+    errors = scripted(world, checks, 'a lost reserve with log = "error"', INPUT, [b""] * 3, results=[answer(SERVICE)], frames=[RESERVE] * 3, log="error")
+    good = re.fullmatch(r"\[ERROR mq_tcp::logged\] quota server 127.0.0.1:\d+: closed before its reply was whole\n", errors)
+    checks.holds('a lost reserve with log = "error": the log', good, "one line with the address and why no answer came", errors)
+    away = INPUT + RCPT * 2
+    errors = scripted(world, checks, "a server that is away for two recipients", away, [b""] * 6 + [granted(3, 1, **MX1), RELEASED], results=[answer(SERVICE)] * 2 + [answer(PROCEED)], frames=[RESERVE] * 3 + [reserve(2, login=b"alice", at=1_576_146_009, **MX1)] * 3 + [reserve(3, login=b"alice", at=1_576_146_009, **MX1)], log="info")
+    marks = [line.split("]")[0] for line in errors.splitlines()]
+    wanted = ["[ERROR mq_tcp::logged", "[WARN  mq_client::tries", "[WARN  mq_client::tries", "[INFO  mq_tcp::logged"]
+    checks.equal("a server that is away for two recipients: why once, each recipient, and that it answers again", marks, wanted)
+    refusals(world, checks)
     login = b"a\x1b[2J \\" + b"x" * 200
     long = INPUT.replace(b"alice", login)
     asked = reserve(1, login=login, at=1_576_146_009, **MX1)
@@ -144,9 +153,28 @@ def warnings(world, checks):
 
 
 def told(checks, what, errors, count, words):
-    lines = errors.splitlines()
+    """So many lines with these words, beside what the link says of the server."""
+    lines = [line for line in errors.splitlines() if not line.startswith("[ERROR mq_tcp::logged] quota server ")]
     good = len(lines) == count and all(word in line for word in words for line in lines)
     checks.holds(f"{what}: the log", good, f"{count} lines, each with {', '.join(words)}", lines)
+
+
+def refusals(world, checks):
+    """What is logged beside a 550, and beside the 451s that the filter gives by itself: the first of a cause in a session."""
+    errors = scripted(world, checks, 'a full answer with log = "info"', INPUT, [FULL], results=[answer(LIMIT)], frames=[RESERVE], log="info")
+    told(checks, 'a full answer with log = "info"', errors, 1, ["INFO ", "mx1", "alice", "transaction 1", "3 used of 3"])
+    for what, body in [("closed", b"\x87"), ("mismatch", b"\x88"), ("conflict", b"\x8a")]:
+        reply = frame(body + identity(1, **MX1))
+        errors = scripted(world, checks, f"a reserve answered {what}", INPUT, [reply], results=[answer(SERVICE)], frames=[RESERVE])
+        told(checks, f"a reserve answered {what}", errors, 1, ["WARN ", "mx1", "alice", "transaction 1"])
+    other = b"0123456789abcdef"
+    other_session = (AUTH + RCPT).replace(b"7641df9771b4ed00", other)
+    came = world.filter("127.0.0.1:1", CONFIG + AUTH + RCPT * 3 + other_session + RCPT + RCPT.replace(b"7641df9771b4ed00", other))
+    results = answer(SERVICE) * 3 + answer(SERVICE, session=other) + answer(SERVICE) + answer(SERVICE, session=other)
+    checks.equal("no transaction in two sessions: status and lines", came[:2], (0, REGISTRATION + results))
+    lines = came[2].splitlines()
+    good = len(lines) == 2 and "session 7641df9771b4ed00" in lines[0] and other.decode() in lines[1] and all("no transaction" in line for line in lines)
+    checks.holds("no transaction in two sessions: the log", good, "one line for each session", lines)
 
 
 def no_server(world, checks):
@@ -203,7 +231,11 @@ def without_a_question(world, checks):
     for what, text, result in cases:
         with Script([GRANTED]) as server:
             came = world.filter(server.address, text)
-        checks.equal(f"{what}: status, lines, errors, frames", (*came, server.heard), (0, REGISTRATION + answer(result), "", []))
+        checks.equal(f"{what}: status, lines, frames", (*came[:2], server.heard), (0, REGISTRATION + answer(result), []))
+        if result is PROCEED:
+            checks.equal(f"{what}: the log", came[2], "")
+        else:
+            told(checks, what, came[2], 1, ["WARN ", "7641df9771b4ed00", "recipients are refused"])
 
 
 def faults(world, checks):

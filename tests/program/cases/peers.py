@@ -133,9 +133,11 @@ def slow_and_broken(world, checks):
         peer.close()
         goes_on(server, checks, "a request byte by byte", before, word=None)
         resets(server, checks)
-        waits_for_its_turn(server, checks)
+        waits_for_nobody(server, checks)
     a_peer_that_reads_nothing(world, checks)
     peers_that_drip(world, checks)
+    silent_peers(world, checks)
+    two_on_one_connection_each(world, checks)
     no_files_left(world, checks)
 
 
@@ -150,15 +152,18 @@ def resets(server, checks):
     checks.holds("connections that were reset: the log", len(lines) <= 4 and all("127.0.0.1:" in line for line in lines), "at most a line for each, with its address", lines)
 
 
-def waits_for_its_turn(server, checks):
-    """A silent peer holds the others back for the server's timeout, and no longer."""
+def waits_for_nobody(server, checks):
+    """Peers that send nothing, half a frame, or a whole one and then nothing hold nobody back."""
+    stuck = [server.connect() for _ in range(3)]
+    stuck[1].sendall(reserve(1)[:9])
+    stuck[2].sendall(usage() + reserve(1)[:9])
+    checks.equal("a whole frame before half a one: its reply", stuck[2].recv(65_536), NOTHING_USED)
     start = time.monotonic()
-    silent = server.connect()
-    time.sleep(0.05)
-    came = server.ask(usage())
+    came = [server.ask(usage()) for _ in range(3)]
     took = time.monotonic() - start
-    silent.close()
-    checks.holds("a request behind a silent peer", came == NOTHING_USED and 0.35 < took < 2, "its answer after 400 ms", (came, f"{took:.2f} s"))
+    for peer in stuck:
+        peer.close()
+    checks.holds("requests behind three stuck peers", came == [NOTHING_USED] * 3 and took < 0.2, "their answers at once", (came, f"{took:.2f} s"))
 
 
 def a_peer_that_reads_nothing(world, checks):
@@ -214,6 +219,60 @@ def peers_that_drip(world, checks):
         checks.equal("a filter beside a peer that drips all the while", came, [(0, REGISTRATION + answer(PROCEED))] * 5)
 
 
+def silent_peers(world, checks):
+    """500 peers that send nothing hold a connection each; filters are answered meanwhile, at their first try."""
+    with Server(world, timeout=60_000, default=1_000) as server:
+        silent = [server.connect() for _ in range(500)]
+        came, log, slowest = [], "", 0
+        for _ in range(5):
+            start = time.monotonic()
+            status, output, errors = world.filter(server.address, INPUT, timeout=1_000)
+            slowest = max(slowest, time.monotonic() - start)
+            came.append((status, output))
+            log += errors
+        checks.equal("filters beside 500 silent peers", (came, log), ([(0, REGISTRATION + answer(PROCEED))] * 5, ""))
+        checks.holds("filters beside 500 silent peers: how long the slowest took", slowest < 0.5, "below 0.5 s", f"{slowest:.2f} s")
+        for peer in silent[:-1]:
+            peer.close()
+        silent[-1].sendall(usage())
+        checks.equal("the last of 500 silent peers asks at last", silent[-1].recv(65_536), NOTHING_USED.replace(number(3), number(1_000)))
+        silent[-1].close()
+        checks.equal("the log beside 500 silent peers that go", server.log_lines(), [])
+    with Server(world, timeout=300) as server:
+        silent = [server.connect() for _ in range(500)]
+        start = time.monotonic()
+        ended = [read_all(peer) for peer in silent]
+        took = time.monotonic() - start
+        for peer in silent:
+            peer.close()
+        checks.holds("500 silent peers are ended side by side", ended == [b""] * 500 and took < 2, "within 2 s, at 300 ms each", f"{took:.2f} s")
+        lines = server.log_lines()
+        checks.holds("500 silent peers: the log", len(lines) == 500 and all("read failed" in line for line in lines), "a line for each", lines)
+    with Server(world, timeout=60_000) as server:
+        crowd = [server.connect() for _ in range(905)]
+        checks.equal("more connections than places: the next is answered", server.ask(usage()), NOTHING_USED)
+        lines = server.log_lines()
+        names = [name_of(peer) for peer in crowd[:6]]
+        good = len(lines) == 6 and all(f"connection of {name}: too many connections" in line for name, line in zip(names, lines))
+        checks.holds("more connections than places: those that waited longest went", good, "a line for each of the first six", lines)
+        for peer in crowd:
+            peer.close()
+
+
+def two_on_one_connection_each(world, checks):
+    """Two peers that keep their connections are answered by turns."""
+    with Server(world, timeout=5_000, default=1_000) as server:
+        one, two = server.connect(), server.connect()
+        came = []
+        for turn in range(20):
+            for peer, host in ((one, b"a"), (two, b"b")):
+                peer.sendall(reserve(turn + 1, host=host))
+                came.append(peer.recv(65_536))
+        wanted = [granted(turn + 1, 2 * turn + of, host=host) for turn in range(20) for of, host in ((1, b"a"), (2, b"b"))]
+        checks.equal("two peers by turns, each on one connection", came, wanted)
+        checks.equal("two peers by turns: the log", (one.close(), two.close(), server.ask(usage(day=2)), server.log_lines())[3], [])
+
+
 def no_files_left(world, checks):
     """accept fails while the server may open no file, and is tried again until it may."""
     with Server(world) as server:
@@ -222,8 +281,6 @@ def no_files_left(world, checks):
         free = min(set(range(len(taken) + 1)) - taken)
         was = resource.prlimit(server.process.pid, resource.RLIMIT_NOFILE)
         resource.prlimit(server.process.pid, resource.RLIMIT_NOFILE, (free, was[1]))
-        # the accept that waits has its file already
-        server.connect().close()
         peer = server.connect()
         peer.sendall(usage())
         peer.shutdown(socket.SHUT_WR)

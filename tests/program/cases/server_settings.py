@@ -28,9 +28,12 @@ class Cases:
         self.checks.equal(f"server settings, {what}", (status, output, apart(errors)[1]), (1, b"", f"mailquota: {wanted}\n"))
 
     def files(self):
-        for what, path in [("no file", f"{self.world.folder}/none"), ("a folder", self.world.folder)]:
+        for what, path, cause in [
+            ("no file", f"{self.world.folder}/none", "No such file or directory (os error 2)"),
+            ("a folder", self.world.folder, "Is a directory (os error 21)"),
+        ]:
             came = self.world.run("server", "--config", path)
-            log = f"[ERROR mq_program::fault] {path}: settings can't be read\n"
+            log = f"[ERROR mq_program::fault] {path}: {cause}\n"
             self.checks.equal(f"server settings, {what}", came, (1, b"", log + "mailquota: settings can't be read\n"))
         text = self.text_of()
         self.expect("65,536 bytes", text + "#" * (65_536 - len(text)), ACCEPTED)
@@ -62,7 +65,7 @@ class Cases:
         ]
         refused = [
             ("listen", ['"localhost:7025"', '"127.0.0.1"', '"*:7025"', '"127.0.0.1:65536"', "7025", '""']),
-            ("store", ['"/var/db/mailquota"', '"Memory"', '""', "1", "true"]),
+            ("store", ['""', "1", "true"]),
             ("default", ["-1", "1000001", '"3"', "3.5", "true"]),
             ("offset", ["-1440", "1440", '"0"', "0.0", "true"]),
             ("timeout", ["0", "60001", '"300"', "300.0"]),

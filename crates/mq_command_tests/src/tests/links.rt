@@ -156,7 +156,7 @@ fn reply_to(alloc: Global, ledger: &mut PlainLedger, frames: &[u8]) -> Option<Ve
     let _ = input.into_inner();
     let written = output.into_inner();
     match end {
-        Ok(Served::Ended) => Some(written),
+        Ok(Served::InputEnd) => Some(written),
         _ => None,
     }
 }

@@ -202,8 +202,20 @@ const ONE_RESERVE: &str = "00210101610000000000000001000000010000000100000000000
 
 const ONE_REPLY: &str = "001381016100000000000000010000000100000001\n";
 
-/// What `replay` does with a text.
+/// What `replay` does with a text, over a list and over tables alike.
 fn replayed(alloc: Global, default: u32, text: &str) -> Result<Ended, Fail> {
+    let listed = replayed_over(alloc, default, text, false)?;
+    let tabled = replayed_over(alloc, default, text, true)?;
+    if tabled.printed != listed.printed
+        || tabled.said != listed.said
+        || tabled.status != listed.status
+    {
+        return Err("tables answer otherwise".into());
+    }
+    Ok(listed)
+}
+
+fn replayed_over(alloc: Global, default: u32, text: &str, sql: bool) -> Result<Ended, Fail> {
     let Ok(zone) = Zone::of_offset(0) else {
         return Err("no zone".into());
     };
@@ -217,6 +229,7 @@ fn replayed(alloc: Global, default: u32, text: &str) -> Result<Ended, Fail> {
         text.as_bytes(),
         default,
         zone,
+        sql,
         &mut output,
         &mut errors,
     );

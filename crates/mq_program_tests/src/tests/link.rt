@@ -65,7 +65,7 @@ fn one_reserve(rt: HostRuntime) -> Result<(), Fail> {
         &mut ledger,
     );
     drop(stream);
-    assert_eq!(rt; served.ok(), Some(Served::Ended));
+    assert_eq!(rt; served.ok(), Some(Served::InputEnd));
     link.receive(&mut reply)?;
     assert_eq!(rt; reply.as_slice(), ONE_REPLY);
     // The connection is gone with its reply.
@@ -185,9 +185,9 @@ fn connections_in_turn(rt: HostRuntime) -> Result<(), Fail> {
         (b"\x00\x00", false, BAD, "bad frame"),
         (b"\x02\x01", false, BAD, "bad frame"),
         (GARBAGE, false, BAD, "bad frame"),
+        (ONE_RESERVE, false, ONE_REPLY_FRAME, ""),
         (b"", true, b"", "read failed"),
         (b"\x00", true, b"", "read failed"),
-        (ONE_RESERVE, false, ONE_REPLY_FRAME, ""),
     ];
     let mut peers = Vec::new(alloc);
     let mut lines = Vec::new(alloc);
@@ -195,9 +195,7 @@ fn connections_in_turn(rt: HostRuntime) -> Result<(), Fail> {
         let stream = peer(&rt, address, bytes, *waits)?;
         if !end.is_empty() {
             let from = stream.local_addr()?;
-            lines.push(format!(in alloc;
-                "[WARN  mq_program::server] connection of {from}: {end}"
-            )?)?;
+            lines.push(format!(in alloc; "[WARN  mq_program::room] connection of {from}: {end}")?)?;
         }
         peers.push(stream)?;
     }

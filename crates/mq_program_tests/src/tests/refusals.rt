@@ -9,27 +9,32 @@ use mq_program::{
 };
 use mq_track::TrackFault;
 use std::fmt::Display;
-use std::net::{Net, TcpListener, TcpStream};
 use std::process::Abort;
-use std::rt::{Clock, Files};
 use std::test::Fail;
 
 /// A login of 256 bytes.
 const LONG: &str =
     "aaaaaaaaaaaaaaaaaaaaaaaaaaaaaaaaaaaaaaaaaaaaaaaaaaaaaaaaaaaaaaaaaaaaaaaaaaaaaaaaaaaaaaaaaaaaaaaaaaaaaaaaaaaaaaaaaaaaaaaaaaaaaaaaaaaaaaaaaaaaaaaaaaaaaaaaaaaaaaaaaaaaaaaaaaaaaaaaaaaaaaaaaaaaaaaaaaaaaaaaaaaaaaaaaaaaaaaaaaaaaaaaaaaaaaaaaaaaaaaaaaaaaaaaaaaaaaaa";
 
-/// Asserts what is printed for a subcommand, with the status.
-fn assert_refused<R>(rt: &R, given: Arguments<'_>, status: u8, text: &str) -> Result<(), Fail>
-where
-    R: Files + Clock + Net<Listener = TcpListener, Stream = TcpStream>,
-    R: Input + Print + Eprint + AllocGlobal + Abort,
+/// The status of a subcommand, and what it prints on standard error.
+fn refused(rt: &HostRuntime, given: Arguments<'_>) -> Result<(u8, String), Fail>
     requires { IsArguments given }
 {
     let mut errors = Vec::new(rt.alloc());
-    let ended = run_subcommand(rt, given, &mut errors);
-    let printed = String::from_utf8(errors)?;
-    assert_eq!(rt; printed.as_str(), text, "{given:?}");
-    assert_eq!(rt; ended, status, "{given:?}");
+    let status = run_subcommand(rt, given, &mut errors);
+    Ok((status, String::from_utf8(errors)?))
+}
+
+/// Asserts a status and what was printed with it.
+fn assert_printed(
+    rt: &(impl Abort + AllocGlobal),
+    seen: (u8, String),
+    status: u8,
+    text: &str,
+) -> Result<(), Fail> {
+    let (ended, printed) = seen;
+    assert_eq!(rt; printed.as_str(), text);
+    assert_eq!(rt; ended, status, "{text}");
     Ok(())
 }
 
@@ -54,7 +59,8 @@ fn words_of_limit(rt: HostRuntime) -> Result<(), Fail> {
             cap: 2,
             run: None,
         };
-        assert_refused(&rt, Arguments::Limit(given), 2, text)?;
+        let seen = refused(&rt, Arguments::Limit(given))?;
+        assert_printed(&rt, seen, 2, text)?;
     }
     Ok(())
 }
@@ -74,7 +80,8 @@ fn words_of_report(rt: HostRuntime) -> Result<(), Fail> {
             day: 1,
             login,
         };
-        assert_refused(&rt, Arguments::Report(given), 2, text)?;
+        let seen = refused(&rt, Arguments::Report(given))?;
+        assert_printed(&rt, seen, 2, text)?;
     }
     Ok(())
 }
@@ -88,10 +95,12 @@ fn no_settings(rt: HostRuntime) -> Result<(), Fail> {
         };
         let server = ServerArguments {
             config,
+            create: false,
             connections: 1,
         };
         for given in [Arguments::Filter(filter), Arguments::Server(server)] {
-            assert_refused(&rt, given, 1, "mailquota: settings can't be read\n")?;
+            let seen = refused(&rt, given)?;
+            assert_printed(&rt, seen, 1, "mailquota: settings can't be read\n")?;
         }
     }
     Ok(())

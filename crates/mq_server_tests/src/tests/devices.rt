@@ -1,8 +1,10 @@
 //! Sources, sinks and ledgers that fail where a test wants it.
+ghost use Rattle.std.specs.Prelude.{◌≡◌, ◌∷◌, ◌++◌, [], IfOk, OnOk, OnErr};
 ghost use Rattle.mq_ledger.specs.Legal.{IsLegalBook};
 
 use mq_frame::{Failed, Reply, Request, Sink, Source};
-use mq_ledger::{Ledger, LedgerFault, PlainLedger, Zone};
+use mq_ledger::{Ledger, LedgerFault, PlainLedger, Told, Zone};
+use std::alloc::AllocError;
 use std::cell::Cell;
 
 /// Gives its bytes in pieces of at most `size`, and fails once `reads` of them were read.
@@ -179,5 +181,76 @@ impl Ledger for Faulty {
         }
         self.before -= 1;
         self.inner.apply(request)
+    }
+}
+
+/// A copy of an answer.
+fn same_answer(
+    answer: &Result<Reply, LedgerFault>,
+) -> Result<Result<Reply, LedgerFault>, AllocError>
+    ensures { IfOk result (λ same. same ≡ answer.now) }
+{
+    match answer {
+        Ok(reply) => {
+            let reply = reply.clone()?;
+            Ok(Ok(reply))
+        }
+        Err(fault) => Ok(Err(*fault)),
+    }
+}
+
+/// Keeps a call. An `Err` keeps nothing.
+fn keep(
+    calls: &mut Vec<Told>,
+    request: &Request,
+    answer: &Result<Reply, LedgerFault>,
+) -> Result<(), AllocError>
+    ensures kept { OnOk result (calls.new.items
+        ≡ calls.old.items ++ record { request = request.now; answer = answer.now } ∷ []) }
+    ensures lost { OnErr result (calls.new.items ≡ calls.old.items) }
+{
+    let answer = same_answer(answer)?;
+    let request = request.clone()?;
+    calls.push(Told { request, answer })?;
+    Ok(())
+}
+
+/// A ledger that keeps its calls, and tells them as long as none was lost for want of memory.
+#[derive(Drop)]
+pub struct Telling {
+    pub inner: Faulty,
+    pub calls: Vec<Told>,
+    pub tells: bool,
+}
+
+impl Ledger for Telling {
+    ghost use Rattle.std.specs.Prelude.{if◌then◌else◌, Some, None};
+
+    ghost told = { λ ledger. if ledger.tells then Some ledger.calls.items else None };
+
+    ghost book = { λ ledger. ledger.inner.inner };
+
+    ghost has_kept = { λ _. Unit {0} };
+
+    ghost is_sound = { λ ledger. IsLegalBook ledger.inner.inner };
+
+    ghost sound_is_kept = { λ _ _. tt };
+
+    ghost sound_is_legal = { λ _ sound. sound };
+
+    fn zone(&self) -> Zone {
+        self.inner.zone()
+    }
+
+    fn default_cap(&self) -> u32 {
+        self.inner.default_cap()
+    }
+
+    fn apply(&mut self, request: &Request) -> Result<Reply, LedgerFault> {
+        let answer = self.inner.apply(request);
+        if keep(&mut self.calls, request, &answer).is_err() {
+            self.tells = false;
+        }
+        answer
     }
 }

@@ -1,6 +1,8 @@
 //! Why settings are refused.
 
+use crate::settings::flaw::Flaw;
 use crate::settings::key::Key;
+use mq_frame::Escaped;
 use std::alloc::AllocError;
 use thiserror::Error;
 
@@ -8,11 +10,11 @@ use thiserror::Error;
 /// entries, then each key in the order of its file.
 #[derive(Debug, Drop, Error)]
 pub enum SettingsFault {
-    /// The text is no UTF-8 or no TOML.
+    /// The text is no UTF-8 or no TOML: where, and why.
     #[error("settings are not TOML")]
-    Text,
-    /// The least name, byte for byte, that is no key of this file.
-    #[error("setting {0}: unknown")]
+    Text(Flaw),
+    /// The least name, byte for byte, that is no key of this file. It is printed escaped.
+    #[error("setting {name}: unknown", name = Escaped(.0.as_bytes()))]
     Unknown(String),
     #[error("setting {0}: missing")]
     Missing(Key),

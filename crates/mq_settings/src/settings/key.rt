@@ -1,5 +1,5 @@
 //! The keys of both settings files.
-ghost use Rattle.std.specs.Prelude.{◌≡◌};
+ghost use Rattle.std.specs.Prelude.{◌≡◌, Some};
 ghost use Rattle.mq_settings.specs.Keys.{key_name};
 
 use std::fmt;
@@ -38,6 +38,8 @@ impl Key {
 }
 
 impl fmt::Display for Key {
+    ghost output = { λ key. Some (key_name key) };
+
     fn fmt<W: fmt::Write>(&self, f: &mut fmt::Formatter<W>) -> fmt::Result {
         let name = self.name();
         write!(f, "{name}")

@@ -6,6 +6,7 @@ ghost use Rattle.mq_settings.specs.Settings.{Spells, IsTableRefusal};
 ghost use Rattle.mq_settings.specs.Keys.{key_name, is_known, IsLeastUnknown, HasOnly};
 
 use crate::settings::fault::SettingsFault;
+use crate::settings::flaw::Flaw;
 use crate::settings::key::Key;
 use std::alloc::Global;
 use toml::{Table, Value};
@@ -49,7 +50,7 @@ pub fn read_table(alloc: Global, text: &[u8], keys: &[Key]) -> Result<Table, Set
             return Err(if error.is_memory() {
                 SettingsFault::Memory
             } else {
-                SettingsFault::Text
+                SettingsFault::Text(Flaw::new(text, error))
             });
         }
     };

@@ -1,7 +1,7 @@
 //! The value of one key of a table of settings.
 ghost use Rattle.std.specs.Prelude.{◌≡◌, ◌≤ℤ◌, pos, negsuc, Ok, Err, None, Some, ◌≢◌, IfOk, IfErr, ok_or};
 ghost use Rattle.toml.specs.View.{table_view};
-ghost use Rattle.mq_settings.specs.Settings.{IsTextAt, IsHostAt, IsAddressAt, count_at, count_in, offset_in, offset_at, level_named, level_at, store_named, store_at};
+ghost use Rattle.mq_settings.specs.Settings.{IsTextAt, IsHostAt, IsAddressAt, count_at, count_in, offset_in, offset_at, level_named, level_at, IsPlaceAt};
 
 use crate::settings::fault::SettingsFault;
 use crate::settings::key::Key;
@@ -122,31 +122,25 @@ pub fn read_level(table: &Table) -> Result<LevelFilter, SettingsFault>
 }
 
 /// Where the ledger is kept.
-#[derive(Clone, Copy, Debug, PartialEq, Eq)]
+#[derive(Debug, Drop)]
 pub enum Place {
     /// In the memory of the server, for as long as it runs.
     Memory,
-}
-
-/// The place of that name.
-fn place_named(name: &str) -> Result<Place, SettingsFault>
-    ensures { result ≡ store_named name.now }
-{
-    if name == "memory" {
-        return Ok(Place::Memory);
-    }
-    Err(SettingsFault::Bad(Key::Store))
+    /// In the database file at this path, which isn't empty.
+    File(String),
 }
 
 /// Where the ledger is kept, which has to be said.
-pub fn read_place(table: &Table) -> Result<Place, SettingsFault>
-    ensures { result ≡ store_at (table_view table.now) }
+pub fn read_place(alloc: Global, table: &Table) -> Result<Place, SettingsFault>
+    ensures ok { IfOk result (λ place. IsPlaceAt (table_view table.now) (Ok place)) }
+    ensures fault { IfErr result (λ e. e ≢ SettingsFault.Memory → IsPlaceAt (table_view table.now) (Err e)) }
 {
-    match value_at(table, Key::Store) {
-        None => Err(SettingsFault::Missing(Key::Store)),
-        Some(value) => match value.as_str() {
-            Some(name) => place_named(name),
-            None => Err(SettingsFault::Bad(Key::Store)),
-        },
+    let text = read_text(table, Key::Store)?;
+    if text == "memory" {
+        return Ok(Place::Memory);
     }
+    if text.is_empty() {
+        return Err(SettingsFault::Bad(Key::Store));
+    }
+    Ok(Place::File(String::from_str(alloc, text)?))
 }

@@ -5,6 +5,6 @@ use Rattle.mq_client.proofs.answer.ask.Goals as goal
 
 pub returns-in-Ok-clause-ok : goal.returns-in-Ok-clause-ok
 returns-in-Ok-clause-ok g c =
-    let (group, told, answer, made) = c.in-Ok.ensures.ok in
+    let (group, told, answer, made) = rw c.warn_before.ensures at c.in-Ok.ensures.ok in
     let may : (is_login c.args.name.now && is_moment c.args.at) ≡ true = search rules in
     (Some (record { action = Ask c.args.txn c.args.at c.args.name.now; group = group }), told, made, rw may (group, refl, c.decision_of.ensures ∙ ap decision_of answer))

@@ -1,14 +1,17 @@
 use Rattle.std.proofs.Common.{◌≡◌, ℕ, ◌+◌, List, [], ◌∷◌, ◌++◌, refl, ◌∙◌, ap, sym, subst, arith, length, length-append}
-use Rattle.std.specs.Prelude.{true, Some, None, is_some}
+use Rattle.std.specs.Prelude.{true, Some, None, is_some, All}
+use Rattle.std.specs.List.{AllByRecursion}
+use Rattle.std.proofs.lemmas.List.Elements.{recursion_from_All, All-from_recursion}
 use Rattle.mq_frame.specs.declared.message.Id.{Id}
 use Rattle.mq_frame.specs.declared.message.Request.{Request}
 use Rattle.mq_frame.specs.declared.message.Reply.{Reply}
-use Rattle.mq_frame.specs.Range.{IsReply}
+use Rattle.mq_frame.specs.Range.{IsRequest, IsReply}
 use Rattle.mq_ledger.specs.declared.entry.Entry.{Entry}
-use Rattle.mq_ledger.specs.Answer.{answer, appended, reply, stored, taken}
+use Rattle.mq_ledger.specs.Answer.{answer, appended, reply, stored, with_arrival}
 use Rattle.mq_ledger.specs.Arrivals.{id_of}
 use Rattle.mq_ledger.specs.Day.{day_of}
-use Rattle.mq_ledger.specs.Legal.{Book}
+use Rattle.mq_ledger.specs.History.{requests}
+use Rattle.mq_ledger.specs.Legal.{Book, IsLegal}
 use Rattle.mq_rows.specs.declared.record.SettingRecord.{SettingRecord}
 use Rattle.mq_rows.specs.Rows.{setting_row, answer_row, answer_rows}
 use Rattle.mq_rows.specs.Plan.{decided, written}
@@ -26,8 +29,8 @@ numbered r id h = rw h refl
 new_reply : (day : ℕ → ℕ) (default : ℕ) (H : List Entry) (r : Request) (id : Id) → id_of r ≡ Some id → stored H id ≡ None → reply day default H r ≡ answer day default H r
 new_reply day default H r id h none = rw (h, none) refl
 
-taken_new : (day : ℕ → ℕ) (default : ℕ) (H : List Entry) (r : Request) (id : Id) → id_of r ≡ Some id → stored H id ≡ None → taken day default H r ≡ appended day default H r
-taken_new day default H r id h none = rw (h, none) refl
+arrival_new : (day : ℕ → ℕ) (default : ℕ) (H : List Entry) (r : Request) (id : Id) → id_of r ≡ Some id → stored H id ≡ None → with_arrival day default H r ≡ appended day default H r
+arrival_new day default H r id h none = rw (h, none) refl
 
 longer : (H : List Entry) (e : Entry) → length (H ++ e ∷ []) ≡ length H + 1
 longer H e = omega (arith, length-append H (e ∷ []))
@@ -59,7 +62,7 @@ returns-clause-rows c = λ b t r id f legal rows h none found.
     subst (λ (x : Reply). LeadTo b' t (written day t.setting.arrivals r f x)) (sym same) lead
 
 pub returns-clause-history : goal.returns-clause-history
-returns-clause-history c = λ day default H r id legal h none. c.one_more_arrival.ensures.legal day default H r legal ∙ taken_new day default H r id h none
+returns-clause-history c = λ day default H r id legal h none. c.one_more_arrival.ensures.legal day default H r legal ∙ arrival_new day default H r id h none
 
 pub returns-clause-found : goal.returns-clause-found
 returns-clause-found c =
@@ -95,3 +98,15 @@ returns-clause-found c =
     (λ l d. (c.amounts_in_range.ensures.used day b.default H l d legal.default days legal.legal).0.to)
     (λ l d. (c.amounts_in_range.ensures.used day b.default H l d legal.default days legal.legal).3.to)
     t r f rows.ceilings (transaction_found day H t r f rows.transactions found) (usage_found day b.default H us t r f rows.usage found) found fits'
+
+-- the requests of a legal history and one more are in range
+all_more : (H : List Entry) (r : Request) → All (λ (e : Entry). IsRequest e.request) H → IsRequest r → All IsRequest (requests H ++ r ∷ [])
+all_more H r all one = All-from_recursion IsRequest (requests H ++ r ∷ []) (pushed H (recursion_from_All (λ (e : Entry). IsRequest e.request) H all)) where
+  pushed : (xs : List Entry) → AllByRecursion (λ (e : Entry). IsRequest e.request) xs → AllByRecursion IsRequest (requests xs ++ r ∷ [])
+  pushed [] a = (one, tt)
+  pushed (x ∷ xs) a = (a.0, pushed xs a.1)
+
+pub returns-clause-legal : goal.returns-clause-legal
+returns-clause-legal c = λ day default H r id legal in_range h none.
+    subst (IsLegal day default) (c.one_more_arrival.ensures.legal day default H r legal ∙ arrival_new day default H r id h none)
+    (c.built_is_legal.ensures day default (requests H ++ r ∷ []) (all_more H r legal.range in_range))

@@ -1,4 +1,4 @@
-use Rattle.std.proofs.Common.{◌≡◌, Bool, true, false, refl, subst}
+use Rattle.std.proofs.Common.{◌≡◌, [], Bool, true, false, refl, subst}
 use Rattle.std.specs.Prelude.{if◌then◌else◌}
 use Rattle.mq_frame.specs.declared.message.Id.{Id}
 use Rattle.mq_frame.specs.declared.message.Reply.{Reply}
@@ -11,6 +11,7 @@ use Rattle.mq_ledger.specs.Arrivals.{has_id}
 use Rattle.mq_rows.specs.declared.record.AnswerRecord.{AnswerRecord}
 use Rattle.mq_rows.specs.Rows.{answer_row}
 use Rattle.mq_rows.specs.Repeat.{IsKept, IsRepeatOf}
+use Rattle.mq_rows.proofs.Distinct.{one_row}
 use Rattle.mq_rows.proofs.Numbered.{Stored, stored_row, no_row, found_has, number_in_range}
 use Rattle.mq_rows.proofs.laws.repeats_are_answered.Goals as goal
 
@@ -43,3 +44,6 @@ returns-clause-stored c = λ H r id row in_range h there.
 
 pub returns-clause-unknown : goal.returns-clause-unknown
 returns-clause-unknown c = λ H r id in_range h none. no_row 1 H id (number_in_range r id in_range h) none
+
+pub returns-clause-one : goal.returns-clause-one
+returns-clause-one c = λ day default H r id legal in_range h. one_row 1 id [] H (number_in_range r id in_range h) legal.distinct

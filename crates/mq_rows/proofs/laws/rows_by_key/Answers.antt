@@ -1,5 +1,5 @@
 use Rattle.mq_rows.specs.Rows.{transaction_row, usage_row, ceiling_row, is_transaction, is_usage, is_ceiling}
-use Rattle.mq_rows.proofs.Lists.{find_of_those}
+use Rattle.mq_rows.proofs.Lists.{find_of_those, those_are_found}
 use Rattle.mq_rows.proofs.laws.rows_by_key.Goals as goal
 
 pub returns-clause-transaction : goal.returns-clause-transaction
@@ -10,3 +10,6 @@ returns-clause-usage c = λ day H rows l d are. find_of_those (is_usage l d) row
 
 pub returns-clause-ceiling : goal.returns-clause-ceiling
 returns-clause-ceiling c = λ H rows l d are. find_of_those (is_ceiling l d) rows (ceiling_row H l d) (are l d)
+
+pub returns-clause-only_usage : goal.returns-clause-only_usage
+returns-clause-only_usage c = λ day H rows l d are. those_are_found (is_usage l d) rows (usage_row day H l d) (are l d)

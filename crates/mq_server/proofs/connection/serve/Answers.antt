@@ -1,11 +1,11 @@
 use Rattle.std.proofs.Common.{◌≡◌, ℕ, ◌+◌, List, [], ◌++◌, length, refl, ap, subst, ◌∙◌, arith, true, false, Ok, Err, Some, None, Option, Bool, length-append}
 use Rattle.std.proofs.lemmas.Result.{err_from_is_err_and}
 use Rattle.mq_frame.specs.declared.message.Reply.{Reply}
-use Rattle.mq_server.specs.Steps.{Refills, Takes, end_at}
+use Rattle.mq_server.specs.Steps.{Refills, AnswersBody, end_at}
 use Rattle.mq_server.specs.declared.fault.ServeFault.{ServeFault}
 use Rattle.mq_server.proofs.Heads.{Answers, bad_head, no_frame, no_frame_left, a_frame, same_limit, front_of, partial_short, left_short}
 use Rattle.mq_server.proofs.Running.{Finds, start_empty, read_more}
-use Rattle.mq_server.proofs.Exits.{exits_as, refill_failed, input_ended, refused, no_request, take_failed, sent, send_failed, enough}
+use Rattle.mq_server.proofs.Exits.{exits_as, refill_failed, input_ended, refused, no_request, unanswered, sent, send_failed, enough}
 use Rattle.mq_server.proofs.connection.serve.Goals as goal
 
 no_fault : {A : Type 0} (x : A) (fault : ServeFault) → Ok x ≡ Err fault → ⊥
@@ -89,25 +89,25 @@ frames-smaller-else-not-branch g c =
     let grown : c.refill.new.feed.rest ≡ c.frames.feed.rest ++ piece = some.1 ∙ ap (λ (q : List ℕ). q ++ piece) still in
     omega (arith, some.0, ap length grown, length-append c.frames.feed.rest piece, partial_short 512 c.frames.feed.rest partial)
 
-pub returns-in_err-take-in-Ok-Some-clause-serves : goal.returns-in_err-take-in-Ok-Some-clause-serves
-returns-in_err-take-in-Ok-Some-clause-serves g c = λ kept sound.
+pub returns-in_err-answer_body-in-Ok-Some-clause-serves : goal.returns-in_err-answer_body-in-Ok-Some-clause-serves
+returns-in_err-answer_body-in-Ok-Some-clause-serves g c = λ kept sound.
     let i = c.frames.invariant in
     let answer : Answers c.frames.feed (Ok (Some c.in-Ok-Some.body.now)) = rw c.in-Ok-Some.field-0-is at c.in-Ok-Some.ensures.answer in
     let stands = a_frame c.frames.feed c.next_body.follows.lender-at-none c.in-Ok-Some.body.now i.limit answer c.next_body.follows.holds-at-none in
-    let before = c.take.ensures.kept kept in
+    let before = c.answer_body.ensures.kept kept in
     let s = i.so_far before sound in
-    let p = err_from_is_err_and c.from_residual-in_err-take-in-Ok-Some.result c.from_residual-in_err-take-in-Ok-Some.ensures.1 in
-    let told = c.in_err-take-in-Ok-Some.ensures.takes kept (i.stays_sound before sound) in
-    exits_as (g.L.Ledger.book c.args.ledger.now) _ _ _ _ _ _ _ (p.1 ∙ ap Err p.2) (take_failed (g.L.Ledger.book c.args.ledger.now) (g.L.Ledger.book c.frames.ledger) _ _ _ _ _ c.in-Ok-Some.body.now _ c.frames.feed.rest c.frames.answered _ _ i.under i.ahead stands s told)
+    let p = err_from_is_err_and c.from_residual-in_err-answer_body-in-Ok-Some.result c.from_residual-in_err-answer_body-in-Ok-Some.ensures.1 in
+    let told = c.in_err-answer_body-in-Ok-Some.ensures.answers kept (i.stays_sound before sound) in
+    exits_as (g.L.Ledger.book c.args.ledger.now) _ _ _ _ _ _ _ (p.1 ∙ ap Err p.2) (unanswered (g.L.Ledger.book c.args.ledger.now) (g.L.Ledger.book c.frames.ledger) _ _ _ _ _ c.in-Ok-Some.body.now _ c.frames.feed.rest c.frames.answered _ _ i.under i.ahead stands s told)
 
 pub returns-in-None-clause-serves : goal.returns-in-None-clause-serves
 returns-in-None-clause-serves g c = λ kept sound.
     let i = c.frames.invariant in
     let answer : Answers c.frames.feed (Ok (Some c.in-Ok-Some.body.now)) = rw c.in-Ok-Some.field-0-is at c.in-Ok-Some.ensures.answer in
     let stands = a_frame c.frames.feed c.next_body.follows.lender-at-none c.in-Ok-Some.body.now i.limit answer c.next_body.follows.holds-at-none in
-    let before = c.take.ensures.kept kept in
-    let P : Option Reply → Type 0 = λ o. Takes (g.L.Ledger.book c.frames.ledger) (g.L.Ledger.told c.frames.ledger) c.in-Ok-Some.body.now (Ok o) (g.L.Ledger.book c.take.new.ledger).history (g.L.Ledger.told c.take.new.ledger) in
-    let told = subst P c.in-None.is (c.in_ok-take-in-Ok-Some.ensures.takes kept (i.stays_sound before sound)) in
+    let before = c.answer_body.ensures.kept kept in
+    let P : Option Reply → Type 0 = λ o. AnswersBody (g.L.Ledger.book c.frames.ledger) (g.L.Ledger.told c.frames.ledger) c.in-Ok-Some.body.now (Ok o) (g.L.Ledger.book c.answer_body.new.ledger).history (g.L.Ledger.told c.answer_body.new.ledger) in
+    let told = subst P c.in-None.is (c.in_ok-answer_body-in-Ok-Some.ensures.answers kept (i.stays_sound before sound)) in
     let (bad, s) = no_request (g.L.Ledger.book c.args.ledger.now) _ _ _ _ _ (g.L.Ledger.book c.frames.ledger) c.in-Ok-Some.body.now _ c.frames.feed.rest c.frames.answered _ stands told (i.so_far before sound) in
     refused (g.L.Ledger.book c.args.ledger.now) _ _ _ _ _ c.frames.feed.rest c.frames.answered _ c.refuse-in-None.result i.under i.ahead bad s c.refuse-in-None.ensures.ok c.refuse-in-None.ensures.err
 
@@ -116,9 +116,9 @@ returns-in_err-send-in-Some-clause-serves g c = λ kept sound.
     let i = c.frames.invariant in
     let answer : Answers c.frames.feed (Ok (Some c.in-Ok-Some.body.now)) = rw c.in-Ok-Some.field-0-is at c.in-Ok-Some.ensures.answer in
     let stands = a_frame c.frames.feed c.next_body.follows.lender-at-none c.in-Ok-Some.body.now i.limit answer c.next_body.follows.holds-at-none in
-    let before = c.take.ensures.kept kept in
-    let P : Option Reply → Type 0 = λ o. Takes (g.L.Ledger.book c.frames.ledger) (g.L.Ledger.told c.frames.ledger) c.in-Ok-Some.body.now (Ok o) (g.L.Ledger.book c.take.new.ledger).history (g.L.Ledger.told c.take.new.ledger) in
-    let told = subst P c.in-Some.is (c.in_ok-take-in-Ok-Some.ensures.takes kept (i.stays_sound before sound)) in
+    let before = c.answer_body.ensures.kept kept in
+    let P : Option Reply → Type 0 = λ o. AnswersBody (g.L.Ledger.book c.frames.ledger) (g.L.Ledger.told c.frames.ledger) c.in-Ok-Some.body.now (Ok o) (g.L.Ledger.book c.answer_body.new.ledger).history (g.L.Ledger.told c.answer_body.new.ledger) in
+    let told = subst P c.in-Some.is (c.in_ok-answer_body-in-Ok-Some.ensures.answers kept (i.stays_sound before sound)) in
     let p = err_from_is_err_and c.from_residual-in_err-send-in-Some.result c.from_residual-in_err-send-in-Some.ensures.1 in
     let finds : Finds (g.L.Ledger.book c.args.ledger.now) (g.L.Ledger.book c.frames.ledger) = record { zone = i.same_zone; default = i.same_default; legal = g.met.L.Ledger.sound_is_legal c.frames.ledger (i.stays_sound before sound) } in
     exits_as (g.L.Ledger.book c.args.ledger.now) _ _ _ _ _ _ _ (p.1 ∙ ap Err p.2)
@@ -129,9 +129,9 @@ returns-then-answered-eq-ENOUGH-clause-serves g c = λ kept sound.
     let i = c.frames.invariant in
     let answer : Answers c.frames.feed (Ok (Some c.in-Ok-Some.body.now)) = rw c.in-Ok-Some.field-0-is at c.in-Ok-Some.ensures.answer in
     let stands = a_frame c.frames.feed c.next_body.follows.lender-at-none c.in-Ok-Some.body.now i.limit answer c.next_body.follows.holds-at-none in
-    let before = c.take.ensures.kept kept in
-    let P : Option Reply → Type 0 = λ o. Takes (g.L.Ledger.book c.frames.ledger) (g.L.Ledger.told c.frames.ledger) c.in-Ok-Some.body.now (Ok o) (g.L.Ledger.book c.take.new.ledger).history (g.L.Ledger.told c.take.new.ledger) in
-    let told = subst P c.in-Some.is (c.in_ok-take-in-Ok-Some.ensures.takes kept (i.stays_sound before sound)) in
+    let before = c.answer_body.ensures.kept kept in
+    let P : Option Reply → Type 0 = λ o. AnswersBody (g.L.Ledger.book c.frames.ledger) (g.L.Ledger.told c.frames.ledger) c.in-Ok-Some.body.now (Ok o) (g.L.Ledger.book c.answer_body.new.ledger).history (g.L.Ledger.told c.answer_body.new.ledger) in
+    let told = subst P c.in-Some.is (c.in_ok-answer_body-in-Ok-Some.ensures.answers kept (i.stays_sound before sound)) in
     let finds : Finds (g.L.Ledger.book c.args.ledger.now) (g.L.Ledger.book c.frames.ledger) = record { zone = i.same_zone; default = i.same_default; legal = g.met.L.Ledger.sound_is_legal c.frames.ledger (i.stays_sound before sound) } in
     enough (g.L.Ledger.book c.args.ledger.now) _ _ _ _ c.next_body.follows.lender-at-none.rest (c.frames.answered + 1) _ c.if-answered-eq-ENOUGH.true (omega (arith, i.ahead, left_short 512 c.frames.feed.rest c.in-Ok-Some.body.now c.next_body.follows.lender-at-none.rest stands))
     (sent (g.L.Ledger.book c.args.ledger.now) (g.L.Ledger.book c.frames.ledger) _ _ _ _ _ _ c.frames.feed.rest c.in-Ok-Some.body.now _ c.frames.answered _ c.in-Some.reply finds (i.so_far before sound) stands told c.in_ok-send-in-Some.ensures.ok)
@@ -148,14 +148,14 @@ frames-preserved g c =
       source_works = i.source_works;
       sink_works = λ w. c.in_ok-send-in-Some.ensures.works (i.sink_works w) (no_fault _ _);
       flushed = λ f. c.in_ok-send-in-Some.ensures.flushed (i.flushed f) (no_fault _ _);
-      same_zone = c.take.ensures.same_zone ∙ i.same_zone;
-      same_default = c.take.ensures.same_default ∙ i.same_default;
-      was_kept = λ k. i.was_kept (c.take.ensures.kept k);
-      stays_sound = λ k s. c.take.ensures.sound k (i.stays_sound (c.take.ensures.kept k) s);
+      same_zone = c.answer_body.ensures.same_zone ∙ i.same_zone;
+      same_default = c.answer_body.ensures.same_default ∙ i.same_default;
+      was_kept = λ k. i.was_kept (c.answer_body.ensures.kept k);
+      stays_sound = λ k s. c.answer_body.ensures.sound k (i.stays_sound (c.answer_body.ensures.kept k) s);
       so_far = λ k s.
-          let before = c.take.ensures.kept k in
-          let P : Option Reply → Type 0 = λ o. Takes (g.L.Ledger.book c.frames.ledger) (g.L.Ledger.told c.frames.ledger) c.in-Ok-Some.body.now (Ok o) (g.L.Ledger.book c.take.new.ledger).history (g.L.Ledger.told c.take.new.ledger) in
-          let told = subst P c.in-Some.is (c.in_ok-take-in-Ok-Some.ensures.takes k (i.stays_sound before s)) in
+          let before = c.answer_body.ensures.kept k in
+          let P : Option Reply → Type 0 = λ o. AnswersBody (g.L.Ledger.book c.frames.ledger) (g.L.Ledger.told c.frames.ledger) c.in-Ok-Some.body.now (Ok o) (g.L.Ledger.book c.answer_body.new.ledger).history (g.L.Ledger.told c.answer_body.new.ledger) in
+          let told = subst P c.in-Some.is (c.in_ok-answer_body-in-Ok-Some.ensures.answers k (i.stays_sound before s)) in
           let finds : Finds (g.L.Ledger.book c.args.ledger.now) (g.L.Ledger.book c.frames.ledger) = record { zone = i.same_zone; default = i.same_default; legal = g.met.L.Ledger.sound_is_legal c.frames.ledger (i.stays_sound before s) } in
           sent (g.L.Ledger.book c.args.ledger.now) (g.L.Ledger.book c.frames.ledger) _ _ _ _ _ _ c.frames.feed.rest c.in-Ok-Some.body.now _ c.frames.answered _ c.in-Some.reply finds (i.so_far before s) stands told c.in_ok-send-in-Some.ensures.ok;
     }

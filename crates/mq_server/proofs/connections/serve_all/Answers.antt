@@ -1,26 +1,63 @@
-use Rattle.std.proofs.Common.{◌≡◌, ◌+◌, ◌<◌, [], ◌∷◌, ◌++◌, length, map, take, get_or, set, sym, ap, ◌∙◌, arith, false, Err, Result}
+use Rattle.mq_ledger.specs.declared.ledger.Told.{Told}
+use Rattle.mq_ledger.specs.Told.{Tells}
+use Rattle.std.proofs.Common.{◌≡◌, List, ◌+◌, ◌<◌, [], ◌∷◌, ◌++◌, length, map, take, get_or, set, refl, sym, ap, subst, ◌∙◌, arith, false, Err, Result}
 use Rattle.std.proofs.lemmas.List.{take_more_set, map-append, length-map, length-append, length-set}
 use Rattle.mq_server.specs.declared.connections.ConnectionEnd.{ConnectionEnd as End}
 use Rattle.mq_server.specs.declared.connection.Served.{Served}
 use Rattle.mq_server.specs.declared.fault.ServeFault.{ServeFault}
 use Rattle.mq_server.specs.declared.fault.ServeFault.TheVariants.{Store}
 use Rattle.mq_server.specs.Connections.{result_of}
-use Rattle.mq_server.proofs.Deliveries.{Follows}
-use Rattle.mq_server.proofs.Turns.{turn, told_turn, told_failed, zip_push, still, still_next, read_end, write_end}
+use Rattle.mq_server.proofs.Deliveries.{Follows, history_more}
+use Rattle.mq_server.proofs.Telling.{Tells-trans}
+use Rattle.mq_server.proofs.Turns.{turn, stopped, told_turn, zip_push, zip_results, store_read, store_write, still, still_next, read_end, write_end}
 use Rattle.mq_frame.specs.Flow.{IsFlushed}
 use Rattle.mq_server.proofs.connections.serve_all.Goals as goal
 
 pub returns-in_err-end-clause-store : goal.returns-in_err-end-clause-store
-returns-in_err-end-clause-store g c = λ kept sound _.
+returns-in_err-end-clause-store g c = λ _.
     let i = c.loop-i.invariant in
-    let before = c.serve.ensures.kept kept in
-    let (seen, told, stored, tells) = i.so_far before sound in
-    let f : Follows (g.L.Ledger.book c.args.ledger.now) (g.L.Ledger.book c.loop-i.ledger) seen = record { zone = i.same_zone; default = i.same_default; legal = g.met.L.Ledger.sound_is_legal c.loop-i.ledger (i.stays_sound before sound); history = stored } in
-    let counted : length (map result_of c.loop-i.ends.items) ≡ c.loop-i.i = length-map c.loop-i.ends.items result_of ∙ sym c.loop-i.ends.ok.0 ∙ i.counted in
-    let (came, served, after, more) = c.serve.ensures.serves kept (i.stays_sound before sound) in
+    let ends = c.loop-i.ends.items in
+    let here : c.loop-i.i < length c.loop-i.inputs = omega (arith, c.loop-i-test.true) in
+    let there : c.loop-i.i < length c.loop-i.outputs = omega (arith, here, i.pairs) in
     let failed : c.serve.result ≡ Err Store = c.in_err-end.ensures.store.1 in
-    let (told', stored') = turn g.S.Source.remaining g.W.Sink.contents (g.L.Ledger.book c.args.ledger.now) (g.L.Ledger.book c.loop-i.ledger) _ c.loop-i.inputs c.loop-i.outputs c.loop-i.i (get_or c.loop-i.inputs c.loop-i.i c.index-inputs-i.result) c.serve.new.input (get_or c.loop-i.outputs c.loop-i.i c.index-outputs-i.result) c.serve.new.output (map result_of c.loop-i.ends.items) _ c.serve.result seen _ i.pairs (omega (arith, c.loop-i-test.true)) counted (ap (get_or c.loop-i.inputs c.loop-i.i) c.index-inputs-i.is) (ap (get_or c.loop-i.outputs c.loop-i.i) c.index-outputs-i.is) told f came served after (ap (λ (r : Result Served ServeFault). map result_of c.loop-i.ends.items ++ r ∷ []) failed) in
-    (c.loop-i.ends.items, seen ++ came, told', stored', told_failed (g.L.Ledger.book c.args.ledger.now) (g.L.Ledger.book c.loop-i.ledger) _ _ _ seen came c.serve.result served f failed tells more)
+    let counted : length ends ≡ c.loop-i.i = sym c.loop-i.ends.ok.0 ∙ i.counted in
+    let all : length (map result_of ends ++ Err Store ∷ []) ≡ c.loop-i.i + 1 = length-append (map result_of ends) (Err Store ∷ []) ∙ ap (λ n. n + 1) (length-map ends result_of ∙ counted) in
+    let inputs : take (length (map result_of ends ++ Err Store ∷ [])) (set c.loop-i.inputs c.loop-i.i c.serve.new.input) ≡ take c.loop-i.i c.loop-i.inputs ++ c.serve.new.input ∷ [] =
+    ap (λ n. take n (set c.loop-i.inputs c.loop-i.i c.serve.new.input)) all ∙ take_more_set c.loop-i.inputs c.loop-i.i c.serve.new.input here in
+    let outputs : take (length (map result_of ends ++ Err Store ∷ [])) (set c.loop-i.outputs c.loop-i.i c.serve.new.output) ≡ take c.loop-i.i c.loop-i.outputs ++ c.serve.new.output ∷ [] =
+    ap (λ n. take n (set c.loop-i.outputs c.loop-i.i c.serve.new.output)) all ∙ take_more_set c.loop-i.outputs c.loop-i.i c.serve.new.output there in (
+      ends,
+      record {
+        read = rw inputs (zip_push _ (map result_of ends) (take c.loop-i.i c.loop-i.inputs) (Err Store) c.serve.new.input
+            (zip_results _ _ (λ e a p is. p (read_end e is)) ends (take c.loop-i.i c.loop-i.inputs) i.reads) (λ e. absurd (store_read (Err Store) refl e)));
+        write = rw outputs (zip_push _ (map result_of ends) (take c.loop-i.i c.loop-i.outputs) (Err Store) c.serve.new.output
+            (zip_results _ _ (λ e a p is. p (write_end e is)) ends (take c.loop-i.i c.loop-i.outputs) i.writes) (λ e. absurd (store_write (Err Store) refl e)));
+        source_works = λ worked.
+            let works = still (λ input. g.S.Source.has_failed input ≡ false) c.loop-i.inputs c.args.inputs.now c.loop-i.i c.index-inputs-i.result i.inputs_left here worked in
+            rw inputs (zip_push _ (map result_of ends) (take c.loop-i.i c.loop-i.inputs) (Err Store) c.serve.new.input
+            (zip_results _ _ (λ e a p other. p (λ is. other (ap result_of is))) ends (take c.loop-i.i c.loop-i.inputs) (i.sources worked)) (λ _. c.serve.ensures.source_works works (store_read c.serve.result failed)));
+        sink_works = λ worked.
+            let works = still (λ output. g.W.Sink.has_failed output ≡ false) c.loop-i.outputs c.args.outputs.now c.loop-i.i c.index-outputs-i.result i.outputs_left there worked in
+            rw outputs (zip_push _ (map result_of ends) (take c.loop-i.i c.loop-i.outputs) (Err Store) c.serve.new.output
+            (zip_results _ _ (λ e a p other. p (λ is. other (ap result_of is))) ends (take c.loop-i.i c.loop-i.outputs) (i.sinks worked)) (λ _. c.serve.ensures.sink_works works (store_write c.serve.result failed)));
+        flushed = λ handed.
+            let handed_on = still (λ output. IsFlushed (g.W.Sink.has_flushed output)) c.loop-i.outputs c.args.outputs.now c.loop-i.i c.index-outputs-i.result i.outputs_left there handed in
+            rw outputs (zip_push _ (map result_of ends) (take c.loop-i.i c.loop-i.outputs) (Err Store) c.serve.new.output
+            (zip_results _ _ (λ e a p other. p (λ is. other (ap result_of is))) ends (take c.loop-i.i c.loop-i.outputs) (i.flushes handed)) (λ _. c.serve.ensures.flushed handed_on (store_write c.serve.result failed)));
+      },
+      λ kept sound.
+          let before = c.serve.ensures.kept kept in
+          let (seen, told, stored, tells) = i.so_far before sound in
+          let f : Follows (g.L.Ledger.book c.args.ledger.now) (g.L.Ledger.book c.loop-i.ledger) seen = record { zone = i.same_zone; default = i.same_default; legal = g.met.L.Ledger.sound_is_legal c.loop-i.ledger (i.stays_sound before sound); history = stored } in
+          let (came, served, after, more) = c.serve.ensures.serves kept (i.stays_sound before sound) in
+          let (stop, called) = stopped g.S.Source.remaining g.W.Sink.contents (g.L.Ledger.book c.args.ledger.now) (g.L.Ledger.book c.loop-i.ledger) _ c.loop-i.inputs c.loop-i.outputs c.loop-i.i (get_or c.loop-i.inputs c.loop-i.i c.index-inputs-i.result) c.serve.new.input (get_or c.loop-i.outputs c.loop-i.i c.index-outputs-i.result) c.serve.new.output ends seen i.pairs here counted (ap (get_or c.loop-i.inputs c.loop-i.i) c.index-inputs-i.is) (ap (get_or c.loop-i.outputs c.loop-i.i) c.index-outputs-i.is) told f came c.serve.result failed served in
+          let P : List Told → Type 0 = λ q. Tells (g.L.Ledger.told c.args.ledger.now) (g.L.Ledger.told c.serve.new.ledger) q in (
+            seen ++ came,
+            stop,
+            after ∙ history_more (g.L.Ledger.book c.args.ledger.now) (g.L.Ledger.book c.loop-i.ledger) seen came f,
+            subst P (sym called) (Tells-trans _ _ _ _ _ tells more),
+          ),
+    )
 
 pub loop-i-preserved : goal.loop-i-preserved
 loop-i-preserved g c =

@@ -6,4 +6,4 @@ use Rattle.mq_tables.proofs.transaction.find_transaction.Goals as goal
 pub returns-clause-found : goal.returns-clause-found
 returns-clause-found g c clean =
     let old = state g.S.Store c.args.tx.now.conn.now in
-    found_after c.args.host.now c.args.run c.args.txn (HasLedger old.now) _ c.first_transaction.result (c.in_ok-rows.ensures.found clean) (rw c.as_slice.ensures.value at c.first_transaction.ensures)
+    found_after c.args.host.now c.args.run c.args.txn (HasLedger old.now) _ c.first_transaction.result (c.in_ok-rows.ensures.found clean) (rw c.as_slice.ensures.value at c.first_transaction.ensures.shown)

@@ -10,8 +10,8 @@ use Rattle.mq_client.proofs.Making.{refused, asked, answer_of_tries, held_and_co
 use Rattle.mq_client.proofs.Keeping.{has_room, asked_in_range}
 use Rattle.mq_client.proofs.client.Client.reserve.Goals as goal
 
-pub returns-then-refuses-clause-ok : goal.returns-then-refuses-clause-ok
-returns-then-refuses-clause-ok g c =
+pub returns-then-is_some-clause-ok : goal.returns-then-is_some-clause-ok
+returns-then-is_some-clause-ok g c =
     let F : State → Type 0 = λ s. Makes s s (record { action = Ask c.args.txn c.args.at c.args.login.now; group = [] }) in
     let i = c.self.inside in
     let h : refuses (find i.held.entries c.args.txn) (length i.held.entries) i.numbers (length i.outbox.items) c.args.at c.args.login.now ≡ true = search rules in

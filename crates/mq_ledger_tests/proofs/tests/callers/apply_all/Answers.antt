@@ -3,16 +3,16 @@ use Rattle.std.proofs.lemmas.List.{take_more, drop_more}
 use Rattle.mq_frame.specs.declared.message.Request.{Request}
 use Rattle.mq_frame.specs.declared.message.Reply.{Reply}
 use Rattle.mq_ledger.specs.declared.entry.Entry.{Entry}
-use Rattle.mq_ledger.specs.Answer.{reply, replies_after, taken, history_of}
+use Rattle.mq_ledger.specs.Answer.{reply, replies_after, with_arrival, history_of}
 use Rattle.mq_ledger.specs.Day.{day_of}
 use Rattle.mq_ledger.specs.History.{requests}
 use Rattle.mq_ledger.specs.Legal.{IsLegal}
 use Rattle.mq_ledger_tests.proofs.tests.callers.apply_all.Goals as goal
 
 -- an arrival at the ledger is one more arrival of all
-history_step : (day : ℕ → ℕ) (default : ℕ) (A xs : List Request) (r : Request) (H K : List Entry) → H ≡ history_of day default (A ++ xs) → K ≡ history_of day default (requests H ++ r ∷ []) → history_of day default (requests H ++ r ∷ []) ≡ taken day default H r → history_of day default ((A ++ xs) ++ r ∷ []) ≡ taken day default (history_of day default (A ++ xs)) r → K ≡ history_of day default (A ++ (xs ++ r ∷ []))
+history_step : (day : ℕ → ℕ) (default : ℕ) (A xs : List Request) (r : Request) (H K : List Entry) → H ≡ history_of day default (A ++ xs) → K ≡ history_of day default (requests H ++ r ∷ []) → history_of day default (requests H ++ r ∷ []) ≡ with_arrival day default H r → history_of day default ((A ++ xs) ++ r ∷ []) ≡ with_arrival day default (history_of day default (A ++ xs)) r → K ≡ history_of day default (A ++ (xs ++ r ∷ []))
 history_step day default A xs r H K so_far grown legal arrived =
-    grown ∙ legal ∙ ap (λ (L : List Entry). taken day default L r) so_far ∙ sym arrived ∙ ap (history_of day default) (append_assoc A xs (r ∷ []))
+    grown ∙ legal ∙ ap (λ (L : List Entry). with_arrival day default L r) so_far ∙ sym arrived ∙ ap (history_of day default) (append_assoc A xs (r ∷ []))
 
 replies_step : (day : ℕ → ℕ) (default : ℕ) (A xs rest left : List Request) (r : Request) (H : List Entry) (out all : List Reply) (a : Reply) → H ≡ history_of day default (A ++ xs) → a ≡ reply day default H r → left ≡ r ∷ rest → out ++ replies_after day default (A ++ xs) left ≡ all → (out ++ a ∷ []) ++ replies_after day default (A ++ (xs ++ r ∷ [])) rest ≡ all
 replies_step day default A xs rest left r H out all a so_far told is h =

@@ -21,7 +21,7 @@ returns-in-Err-clause-refusal c =
       | then-is_memory w ↦ subst (λ f. IsTableRefusal c.args.keys.now c.args.text.now f) (sym w.result-is) memory
       | else-is_memory w ↦
           subst (λ f. IsTableRefusal c.args.keys.now c.args.text.now f) (sym w.result-is)
-          (no_table (λ table spells.
+          (no_table w.new.result (λ table spells.
           let none = c.in-Err.ensures.refused (λ out. false≢true (sym w.if-is_memory.false ∙ c.is_memory.ensures.1 out)) spells.utf8 in
           let some = spells.document in
           cc))

@@ -1,0 +1,118 @@
+//! Why the filter refuses a recipient by itself, and of which of these causes it has warned.
+ghost use Rattle.std.specs.Prelude.{◌≡◌, ◌≤◌, length};
+
+use mq_frame::Escaped;
+use std::alloc::Global;
+use std::collections::VecDeque;
+use std::fmt;
+
+/// The most warnings that are remembered.
+const REMEMBERED: usize = 64;
+
+/// How many bytes of a session's name tell it from others. smtpd gives each a name of 16.
+const NAME: usize = 16;
+
+/// Why a recipient is refused without asking the server.
+#[derive(Clone, Copy, Debug, PartialEq, Eq)]
+pub enum Cause {
+    /// smtpd told of no transaction in the session.
+    NoTransaction,
+    /// The login is empty or longer than 255 bytes.
+    Login,
+    /// The transaction began before 1970-01-02 or after the year 2999.
+    Moment,
+    /// The transaction is held with another login or moment.
+    Changed,
+    /// The transaction has let 1,000 recipients through.
+    Recipients,
+    /// 4,096 transactions are held or wait to be closed.
+    Places,
+    /// The numbers of the run are used up.
+    Numbers,
+}
+
+impl fmt::Display for Cause {
+    fn fmt<W: fmt::Write>(&self, f: &mut fmt::Formatter<W>) -> fmt::Result {
+        f.write_str(match self {
+            Cause::NoTransaction => "smtpd told of no transaction",
+            Cause::Login => "the login is empty or longer than 255 bytes",
+            Cause::Moment => "the transaction's second is out of range",
+            Cause::Changed => "the transaction began with another login or at another second",
+            Cause::Recipients => "the transaction has 1,000 recipients already",
+            Cause::Places => "4,096 transactions are open or wait for the server",
+            Cause::Numbers => "the numbers of this run are used up",
+        })
+    }
+}
+
+/// A recipient of a session that is refused.
+#[derive(Clone, Copy)]
+pub struct RefusedRecipient<'a> {
+    pub session: &'a [u8],
+    pub login: &'a [u8],
+    pub cause: Cause,
+}
+
+impl fmt::Display for RefusedRecipient<'_> {
+    fn fmt<W: fmt::Write>(&self, f: &mut fmt::Formatter<W>) -> fmt::Result {
+        let session = Escaped(front(self.session, 64));
+        let login = Escaped(front(self.login, 255));
+        let cause = self.cause;
+        write!(
+            f,
+            "session {session} (login {login}): recipients are refused, {cause}"
+        )
+    }
+}
+
+/// At most so many bytes of a text.
+fn front(text: &[u8], most: usize) -> &[u8] {
+    if text.len() <= most {
+        text
+    } else {
+        &text[..most]
+    }
+}
+
+/// A warning that was given.
+#[derive(Clone, Copy, PartialEq, Eq, Drop)]
+struct Given {
+    session: [u8; NAME],
+    cause: Cause,
+}
+
+/// The latest warnings, so that each cause is warned of once in a session. Sessions whose names begin with the same 16
+/// bytes count as one, and behind 64 other warnings a session is warned of again.
+#[derive(Drop)]
+pub struct Warned {
+    given: VecDeque<Given>,
+    ghost few: { length given.items ≤ 64 },
+}
+
+impl Warned {
+    pub fn new(alloc: Global) -> Warned {
+        Warned {
+            given: VecDeque::new(alloc),
+        }
+    }
+
+    /// Whether this is the first warning of the session for this cause; it is remembered, unless memory is wanted.
+    pub fn is_first(&mut self, session: &[u8], cause: Cause) -> bool {
+        let mut name = [0u8; NAME];
+        for (place, byte) in name.iter_mut().zip(session) {
+            *place = *byte;
+        }
+        let warning = Given {
+            session: name,
+            cause,
+        };
+        if self.given.contains(&warning) {
+            return false;
+        }
+        if self.given.len() == REMEMBERED {
+            let _ = self.given.pop_front();
+        }
+        let _ = self.given.push_back(warning);
+        true
+    }
+}

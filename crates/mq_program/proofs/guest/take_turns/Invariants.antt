@@ -1,0 +1,11 @@
+use Rattle.std.proofs.Common.{◌≡◌}
+use Rattle.mq_program.proofs.guest.take_turns.Given as goal
+
+-- what each turn leaves of the ledger's promises
+abbrev pub invariant-loop-turn : goal.invariant-loop-turn
+invariant-loop-turn g l = record {
+  same_zone : (g.L.Ledger.book l.ledger).zone ≡ (g.L.Ledger.book l.initial.ledger).zone;
+  same_default : (g.L.Ledger.book l.ledger).default ≡ (g.L.Ledger.book l.initial.ledger).default;
+  kept : g.L.Ledger.has_kept l.ledger → g.L.Ledger.has_kept l.initial.ledger;
+  sound : g.L.Ledger.has_kept l.ledger → g.L.Ledger.is_sound l.initial.ledger → g.L.Ledger.is_sound l.ledger;
+}

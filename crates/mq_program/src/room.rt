@@ -1,0 +1,251 @@
+//! The connections that are open, and the system's word on which of them something came.
+ghost use Rattle.std.specs.Prelude.{◌≡◌};
+
+use crate::accept::Acceptor;
+use crate::fault::ProgramFault;
+use crate::guest::{Guest, Turn, take_turns};
+use log::{Log, error, warn};
+use mio::unix::SourceFd;
+use mio::{Events, Interest, Poll, Token};
+use mq_ledger::Ledger;
+use mq_server::{ServeFault, Served};
+use std::alloc::Global;
+use std::collections::BTreeMap;
+use std::io;
+use std::net::{Net, SocketAddr, TcpListener};
+use std::os::fd::AsRawFd;
+use std::rt::Clock;
+use std::time::{Duration, Instant};
+
+/// The most connections that are open at once: a process may commonly have 1,024 files.
+const PLACES: usize = 900;
+
+/// The most connections that are told of at once: all of them.
+pub const EVENTS: usize = 1_024;
+
+/// The most connections that are accepted before others have their turns.
+const ARRIVALS: usize = 64;
+
+/// Under which the system tells of the listener; a connection has a number above it.
+const LISTENER: Token = Token(0);
+
+/// The listener and the connections that are open.
+#[derive(Drop)]
+pub struct Room<'a> {
+    poll: Poll,
+    acceptor: Acceptor<'a>,
+    guests: BTreeMap<usize, Guest>,
+    /// The number of the connection that was accepted last.
+    last: usize,
+}
+
+impl<'a> Room<'a> {
+    /// A room with no connection, which accepts so many.
+    pub fn new(
+        net: &impl Net,
+        alloc: Global,
+        listener: &'a TcpListener,
+        connections: u32,
+    ) -> io::Result<Room<'a>> {
+        listener.set_nonblocking(true)?;
+        let poll = Poll::new(net)?;
+        let descriptor = listener.as_raw_fd();
+        poll.registry()
+            .register(&mut SourceFd(&descriptor), LISTENER, Interest::READABLE)?;
+        Ok(Room {
+            poll,
+            acceptor: Acceptor::new(listener, connections),
+            guests: BTreeMap::new(alloc),
+            last: 0,
+        })
+    }
+
+    /// Whether all connections were accepted, and have ended.
+    pub fn is_over(&self) -> bool {
+        self.acceptor.is_done() && self.guests.is_empty()
+    }
+
+    /// Waits until something comes, or until a connection is late, or a pause is over, and tells when that was.
+    pub fn wait(&mut self, clock: &impl Clock, events: &mut Events) -> io::Result<Instant> {
+        let now = Instant::now(clock)?;
+        let mut wait = self.acceptor.wait_at(now);
+        for guest in self.guests.values() {
+            let left = guest.until.duration_since(now);
+            wait = match wait {
+                Some(wait) if wait <= left => Some(wait),
+                _ => Some(left),
+            };
+        }
+        self.poll.poll(events, wait)?;
+        Instant::now(clock)
+    }
+
+    /// Accepts the connections that have come. Where no place is left, the one that would be late first goes.
+    pub fn admit<C: Clock, G: Log>(
+        &mut self,
+        clock: &C,
+        log: &G,
+        timeout: Duration,
+    ) -> Result<(), ProgramFault> {
+        for _arrival in 0..ARRIVALS {
+            let Some((stream, peer)) = self.acceptor.next(clock, log)? else {
+                return Ok(());
+            };
+            match Guest::new(clock, stream, peer, timeout) {
+                Ok(guest) => self.seat(log, guest),
+                Err(cause) => warn!(log; "connection of {peer}: {cause}"),
+            }
+        }
+        Ok(())
+    }
+
+    /// Gives each connection of which something came its turns.
+    pub fn attend<C: Clock, G: Log, L: Ledger>(
+        &mut self,
+        clock: &C,
+        log: &G,
+        alloc: Global,
+        events: &Events,
+        timeout: Duration,
+        ledger: &mut L,
+    ) -> Result<(), ProgramFault>
+        ensures same_zone { (L.book ledger.new).zone ≡ (L.book ledger.old).zone }
+        ensures same_default { (L.book ledger.new).default ≡ (L.book ledger.old).default }
+        ensures kept { L.has_kept ledger.new → L.has_kept ledger.old }
+        ensures sound { L.has_kept ledger.new → L.is_sound ledger.old → L.is_sound ledger.new }
+    {
+        for event in events.iter() {
+            let token = event.token();
+            if token == LISTENER {
+                self.acceptor.arrived();
+                continue;
+            }
+            let is_last = event.is_read_closed();
+            self.attend_one(clock, log, alloc, token, is_last, timeout, ledger)?;
+        }
+        Ok(())
+    }
+
+    /// Gives a connection its turns, and lets it go where it ended. `is_last` where its peer sends no more.
+    fn attend_one<C: Clock, G: Log, L: Ledger>(
+        &mut self,
+        clock: &C,
+        log: &G,
+        alloc: Global,
+        token: Token,
+        is_last: bool,
+        timeout: Duration,
+        ledger: &mut L,
+    ) -> Result<(), ProgramFault>
+        ensures same_zone { (L.book ledger.new).zone ≡ (L.book ledger.old).zone }
+        ensures same_default { (L.book ledger.new).default ≡ (L.book ledger.old).default }
+        ensures kept { L.has_kept ledger.new → L.has_kept ledger.old }
+        ensures sound { L.has_kept ledger.new → L.is_sound ledger.old → L.is_sound ledger.new }
+    {
+        let Some(guest) = self.guests.get_mut(&token.0) else {
+            return Ok(());
+        };
+        let peer = guest.peer;
+        match take_turns(clock, alloc, guest, is_last, timeout, ledger) {
+            Turn::Waits => Ok(()),
+            Turn::Answered => {
+                self.tell_again(log, token);
+                Ok(())
+            }
+            Turn::Ended(ended) => {
+                let _ = self.guests.remove(&token.0);
+                end_of(log, &peer, ended)
+            }
+        }
+    }
+
+    /// Has the system tell again of a connection that may have more.
+    fn tell_again<G: Log>(&mut self, log: &G, token: Token) {
+        let Some(guest) = self.guests.get(&token.0) else {
+            return;
+        };
+        let peer = guest.peer;
+        let descriptor = guest.stream.as_raw_fd();
+        let told = self
+            .poll
+            .registry()
+            .reregister(&mut SourceFd(&descriptor), token, Interest::READABLE);
+        if let Err(cause) = told {
+            warn!(log; "connection of {peer}: {cause}");
+            let _ = self.guests.remove(&token.0);
+        }
+    }
+
+    /// Ends the connections that were late at that moment.
+    pub fn dismiss_late<G: Log>(&mut self, log: &G, now: Instant) {
+        self.guests.retain(|_number, guest| {
+            let is_late = guest.until.duration_since(now).is_zero();
+            if is_late {
+                guest.pass_over();
+                let peer = guest.peer;
+                warn!(log; "connection of {peer}: {}", ServeFault::Read);
+            }
+            !is_late
+        });
+    }
+
+    /// Gives a connection a place. One that can't have it is dropped.
+    fn seat<G: Log>(&mut self, log: &G, guest: Guest) {
+        if self.guests.len() >= PLACES {
+            self.send_away(log);
+        }
+        self.last = self.last.wrapping_add(1);
+        let peer = guest.peer;
+        let descriptor = guest.stream.as_raw_fd();
+        let registered = self.poll.registry().register(
+            &mut SourceFd(&descriptor),
+            Token(self.last),
+            Interest::READABLE,
+        );
+        match registered {
+            Ok(()) => {
+                if self.guests.insert(self.last, guest).is_err() {
+                    warn!(log; "connection of {peer}: {}", ServeFault::Memory);
+                }
+            }
+            Err(cause) => warn!(log; "connection of {peer}: {cause}"),
+        }
+    }
+
+    /// Ends the connection that would be late first.
+    fn send_away<G: Log>(&mut self, log: &G) {
+        let mut first: Option<(usize, Instant)> = None;
+        for (number, guest) in &self.guests {
+            first = match first {
+                Some((_, until)) if until <= guest.until => first,
+                _ => Some((*number, guest.until)),
+            };
+        }
+        if let Some((number, _)) = first {
+            if let Some(guest) = self.guests.remove(&number) {
+                let peer = guest.peer;
+                warn!(log; "connection of {peer}: too many connections");
+            }
+        }
+    }
+}
+
+/// Warns of a connection that didn't end behind whole frames. A store that failed ends the serving.
+fn end_of<G: Log>(
+    log: &G,
+    peer: &SocketAddr,
+    ended: Result<Served, ServeFault>,
+) -> Result<(), ProgramFault> {
+    match ended {
+        Ok(Served::InputEnd) => {}
+        Ok(Served::Enough) => warn!(log; "connection of {peer}: enough"),
+        Ok(Served::BadFrame) => warn!(log; "connection of {peer}: bad frame"),
+        Ok(Served::CutFrame) => warn!(log; "connection of {peer}: cut frame"),
+        Err(ServeFault::Store) => {
+            error!(log; "connection of {peer}: {}", ServeFault::Store);
+            return Err(ProgramFault::Serve(ServeFault::Store));
+        }
+        Err(fault) => warn!(log; "connection of {peer}: {fault}"),
+    }
+    Ok(())
+}

@@ -1,0 +1,103 @@
+//! The store of the server's ledger: opened, or made.
+ghost use Rattle.std.specs.Prelude.{◌≡◌, IfOk};
+ghost use Rattle.sqlite.specs.Held.{state};
+ghost use Rattle.sqlite.specs.Steps.{over_memory};
+ghost use Rattle.mq_frame.specs.Range.{IsAmount};
+ghost use Rattle.mq_store.specs.Soundness.{IsNew};
+
+use crate::fault::ProgramFault;
+use log::{Log, error};
+use mq_ledger::Zone;
+use mq_store::SqlLedger;
+use sqlite::{Connection, Error, ErrorCode, File, FileStore, MemStore};
+use std::alloc::Global;
+use std::fs::OpenOptions;
+use std::io::ErrorKind;
+use std::os::unix::fs::OpenOptionsExt;
+use std::{fs, io};
+
+/// Who may read and write a file that is made: its owner alone.
+const MODE: u32 = 0o600;
+
+/// A new ledger in the memory of the server. `default` is 0 to 1,000,000.
+pub fn memory_ledger(
+    alloc: Global,
+    zone: Zone,
+    default: u32,
+) -> Result<SqlLedger<MemStore>, ProgramFault>
+    requires { IsAmount default }
+    ensures lent { IfOk result (λ ledger. (ledger.zone ≡ zone) × (ledger.default ≡ default)) }
+    ensures new { IfOk result (λ ledger. IsNew zone default (state over_memory ledger.connection)) }
+{
+    match SqlLedger::in_memory(alloc, zone, default) {
+        Ok(ledger) => Ok(ledger),
+        Err(fault) => Err(ProgramFault::Open(fault)),
+    }
+}
+
+/// Logs why a database file can't be opened.
+fn unopened<G: Log, C: std::fmt::Display + Drop>(log: &G, path: &str, cause: C) -> ProgramFault {
+    error!(log; "{path}: {cause}");
+    ProgramFault::Store
+}
+
+/// Makes the file, if it isn't there.
+fn make_file(rt: &HostRuntime, path: &str) -> io::Result<()> {
+    match OpenOptions::new()
+        .write(true)
+        .create_new(true)
+        .mode(MODE)
+        .open(rt, path)
+    {
+        Ok(_file) => Ok(()),
+        Err(error) if error.kind() == ErrorKind::AlreadyExists => Ok(()),
+        Err(error) => Err(error),
+    }
+}
+
+/// A connection to the database file at a path. A file that isn't there is made where a ledger is made, with mode 0600.
+fn connect<G: Log>(
+    rt: &HostRuntime,
+    log: &G,
+    path: &str,
+    create: bool,
+) -> Result<Connection<FileStore<File>>, ProgramFault> {
+    if create {
+        if let Err(cause) = make_file(rt, path) {
+            return Err(unopened(log, path, cause));
+        }
+    } else if let Err(cause) = fs::metadata(rt, path) {
+        return Err(unopened(log, path, cause));
+    }
+    match Connection::open(rt, path) {
+        Ok(connection) => Ok(connection),
+        Err(Error::SqliteFailure(ErrorCode::OutOfMemory)) => Err(ProgramFault::Memory),
+        Err(cause) => Err(unopened(log, path, cause)),
+    }
+}
+
+/// The ledger in the database file at a path; with `create` a new one. `default` is 0 to 1,000,000. The cause of
+/// `ProgramFault::Store` is logged.
+pub fn file_ledger<G: Log>(
+    rt: &HostRuntime,
+    log: &G,
+    path: &str,
+    create: bool,
+    zone: Zone,
+    default: u32,
+) -> Result<SqlLedger<FileStore<File>>, ProgramFault>
+    requires { IsAmount default }
+    ensures { IfOk result (λ ledger. (ledger.zone ≡ zone) × (ledger.default ≡ default)) }
+{
+    let connection = connect(rt, log, path, create)?;
+    if create {
+        return match SqlLedger::create(rt.alloc(), connection, zone, default) {
+            Ok(ledger) => Ok(ledger),
+            Err(refused) => Err(ProgramFault::Open(refused.fault)),
+        };
+    }
+    match SqlLedger::open(rt.alloc(), connection, zone, default) {
+        Ok(ledger) => Ok(ledger),
+        Err(refused) => Err(ProgramFault::Open(refused.fault)),
+    }
+}

@@ -1,0 +1,28 @@
+-- What an integer column has a place for: a whole number of 64 bits with its sign.
+use Rattle.std.specs.Prelude.{◌<◌, ◌^◌, Option, Some, None}
+use Rattle.mq_rows.specs.declared.record.TransactionRecord.{TransactionRecord}
+use Rattle.mq_rows.specs.declared.plan.Plan.{Plan}
+use Rattle.mq_rows.specs.declared.plan.Write.{Write}
+use Rattle.mq_rows.specs.declared.plan.Write.TheVariants.{Keep, Insert, Update}
+
+-- there is a place for its run and its moment
+abbrev pub IsStorable : TransactionRecord → Type 0
+IsStorable t = (t.run < 2 ^ 63) × (t.moment < 2 ^ 63)
+
+-- so there is where there is a row
+abbrev pub AreStorableIf : Option TransactionRecord → Type 0
+AreStorableIf None = Unit {0}
+AreStorableIf (Some t) = IsStorable t
+
+-- so there is in what is written
+abbrev pub AreStorable : Write TransactionRecord → Type 0
+AreStorable Keep = Unit {0}
+AreStorable (Insert t) = IsStorable t
+AreStorable (Update t) = IsStorable t
+
+-- each number of the plan has a place
+pub record IsStorablePlan (p : Plan) : Type 0 where
+  pub place : p.answer.n < 2 ^ 63
+  pub run : p.answer.id.run < 2 ^ 63
+  pub arrivals : p.arrivals < 2 ^ 63
+  pub transaction : AreStorable p.transaction

@@ -1,0 +1,17 @@
+-- One call after another inside a transaction.
+use Rattle.std.proofs.Common.{arith, ◌∙◌}
+use Rattle.sqlite.specs.State.{State, Survives, HasCleanDisk, KeepsCommit}
+use Rattle.mq_store.specs.Taking.{Stays}
+use Rattle.sqlite.proofs.StateLemmas.{survives_then}
+use Rattle.sqlite.proofs.InsideLemmas.{keeps_then}
+
+pub survives_both : (a b c : State) → Survives a b (λ _. ⊥) → Survives b c (λ _. ⊥) → Survives a c (λ _. ⊥)
+survives_both a b c one two = survives_then a b c _ _ (λ _. ⊥) (λ _ db none. none) (λ _ db none. none) one two
+
+pub keeps_both : (a b c : State) → Survives b c (λ _. ⊥) → (HasCleanDisk b → KeepsCommit a b) → (HasCleanDisk c → KeepsCommit b c) → HasCleanDisk c → KeepsCommit a c
+keeps_both a b c later one two clean = keeps_then a b c (one (omega (arith, later.clean))) (two clean)
+
+pub stays_both : (a b c : State) → Stays a b → Stays b c → Stays a c
+stays_both a b c one two = record { now = two.now ∙ one.now; inside = two.inside ∙ one.inside }
+
+pub ruleset calls = (survives_both, keeps_both, stays_both)

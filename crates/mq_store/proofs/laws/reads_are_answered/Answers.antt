@@ -1,0 +1,88 @@
+use Rattle.std.proofs.Common.{◌≡◌, ℕ, ◌≤◌, List, [], ◌∷◌, ◌++◌, map, length, find, Bool, true, false, refl, sym, ap, subst, ◌∙◌, inl, inr, arith, length-append}
+use Rattle.std.specs.Prelude.{Contains, Option, Some, None, ◌&&◌, ◌==◌, ◌⊎◌}
+use Rattle.std.specs.List.{AllByRecursion}
+use Rattle.std.proofs.lemmas.List.{map-append}
+use Rattle.std.proofs.lemmas.List.Elements.{All-from_recursion}
+use Rattle.std.proofs.lemmas.Bool.Decides.{Decides-eqb}
+use Rattle.std.specs.Cmp.Lexicographic.{bytes_decides}
+use Rattle.mq_frame.specs.Same.{same_text}
+use Rattle.mq_frame.specs.declared.usage.UsageRow.{UsageRow}
+use Rattle.mq_ledger.specs.Day.{day_of}
+use Rattle.mq_ledger.specs.Page.{below, row}
+use Rattle.mq_rows.specs.declared.record.UsageRecord.{UsageRecord}
+use Rattle.mq_rows.specs.Listing.{IsNext, behind, is_above}
+use Rattle.mq_rows.specs.Rows.{is_usage}
+use Rattle.mq_tables.specs.Records.{IsOneOf}
+use Rattle.mq_store.proofs.Keyed.{has_all, none_found}
+use Rattle.mq_store.proofs.laws.reads_are_answered.Goals as goal
+
+-- a row that is there once is the one that is found
+the_one : (test : UsageRecord → Bool) (rows : List UsageRecord) (u : Option UsageRecord) → AllByRecursion (λ (x : UsageRecord). test x ≡ true → Some x ≡ find test rows) rows → IsOneOf test rows u → u ≡ find test rows
+the_one test rows None only none = sym (none_found test rows none)
+the_one test rows (Some x) only one = has_all (λ (y : UsageRecord). test y ≡ true → Some y ≡ find test rows) rows x only one.0 one.1
+
+contained : (P : UsageRecord → Type 0) (rows : List UsageRecord) (u : UsageRecord) → AllByRecursion P rows → Contains rows u → P u
+contained P rows u all there = subst P there.2 (All-from_recursion P rows all there.0 u there.1)
+
+first_of : (a b : Bool) → (a && b) ≡ true → a ≡ true
+first_of true b h = refl
+first_of false b h = absurd (cc h)
+
+-- a row above is of that day
+day_is : (d : ℕ) (after : List ℕ) (u : UsageRecord) → is_above d after u ≡ true → d ≡ u.day
+day_is d after u h = (Decides-eqb d u.day).0 (first_of (d == u.day) (below after u.login) h)
+
+its_own : (d : ℕ) (u : UsageRecord) → d ≡ u.day → is_usage u.login d u ≡ true
+its_own d u same =
+    let text : same_text u.login u.login ≡ true = (bytes_decides u.login u.login).1 refl in
+    let day : (u.day == d) ≡ true = (Decides-eqb u.day d).1 (sym same) in
+    rw (text, day) refl
+
+pub returns-clause-usage : goal.returns-clause-usage
+returns-clause-usage c = λ zone default H db b l d u g one governs.
+    let only = c.rows_by_key.ensures.only_usage (day_of zone) H b.has.tables.usage l d b.has.rows.usage in
+    c.usage_is_answered.ensures.reply (day_of zone) default H b.has.tables l d u g b.legal.legal b.has.rows.usage b.has.rows.ceilings
+    (the_one (is_usage l d) b.has.tables.usage u only one) governs
+
+pub returns-clause-row : goal.returns-clause-row
+returns-clause-row c = λ zone default H db b d after u g next governs.
+    let only = c.rows_by_key.ensures.only_usage (day_of zone) H b.has.tables.usage u.login d b.has.rows.usage in
+    let found : Some u ≡ find (is_usage u.login d) b.has.tables.usage =
+    contained (λ (x : UsageRecord). is_usage u.login d x ≡ true → Some x ≡ find (is_usage u.login d) b.has.tables.usage) b.has.tables.usage u only next.0 (its_own d u (day_is d after u next.1)) in
+    c.usage_is_answered.ensures.row (day_of zone) default H b.has.tables u.login d u g b.legal.legal b.has.rows.usage b.has.rows.ceilings found governs
+
+pub returns-clause-begun : goal.returns-clause-begun
+returns-clause-begun c = λ default d after db zone H b. record { us = []; next = tt; count = refl; are = refl; ends = refl }
+
+last_is : (after : List ℕ) (us : List UsageRecord) (u : UsageRecord) → behind after (us ++ u ∷ []) ≡ u.login
+last_is after [] u = refl
+last_is after (x ∷ us) u = last_is x.login us u
+
+pub returns-clause-more : goal.returns-clause-more
+returns-clause-more c = λ default d after db n shown last r begun next zone H b.
+    let g = begun zone H b in
+    let it = next zone H b in
+    let u : UsageRecord = it.0 in
+    let next' : IsNext d (behind after g.us) b.has.tables.usage (Some u) = subst (λ (l : List ℕ). IsNext d l b.has.tables.usage (Some u)) g.ends it.1 in
+    let day = day_of zone in
+    let names : map (λ (x : UsageRecord). x.login) (g.us ++ u ∷ []) ≡ map (λ (x : UsageRecord). x.login) g.us ++ u.login ∷ [] = map-append (λ (x : UsageRecord). x.login) g.us (u ∷ []) in
+    let rows : map (row day default H d) (map (λ (x : UsageRecord). x.login) g.us ++ u.login ∷ []) ≡ map (row day default H d) (map (λ (x : UsageRecord). x.login) g.us) ++ row day default H d u.login ∷ [] =
+    map-append (row day default H d) (map (λ (x : UsageRecord). x.login) g.us) (u.login ∷ []) in
+    record {
+      us = g.us ++ u ∷ [];
+      next = c.pages_go_by_login.ensures.more d b.has.tables.usage after g.us u g.next next';
+      count = omega (arith, g.count, length-append g.us (u ∷ []));
+      are = (λ i. g.are i ++ it.2 i ∷ []) ∙ sym (ap (map (row day default H d)) names ∙ rows);
+      ends = ap (λ (x : UsageRow). x.login) it.2 ∙ sym (last_is after g.us u);
+    }
+
+pub returns-clause-ended : goal.returns-clause-ended
+returns-clause-ended c = λ default d after db n shown last few begun end zone H b.
+    let g = begun zone H b in
+    let day = day_of zone in
+    let few' : length g.us ≤ 100 = omega (arith, g.count, few) in
+    let end' : (length g.us ≡ 100) ⊎ IsNext d (behind after g.us) b.has.tables.usage None = elim end [
+      | inl all ↦ inl (g.count ∙ all)
+      | inr none ↦ inr (subst (λ (l : List ℕ). IsNext d l b.has.tables.usage None) g.ends (none zone H b))
+    ] in
+    g.are ∙ ap (map (row day default H d)) (c.pages_go_by_login.ensures.page day H d b.has.tables.usage after g.us b.has.rows.usage g.next few' end')

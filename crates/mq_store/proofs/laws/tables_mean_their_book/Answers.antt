@@ -1,0 +1,19 @@
+use Rattle.std.proofs.Common.{◌≡◌, List, map, ap, ◌∙◌}
+use Rattle.std.specs.List.{filter_map}
+use Rattle.mq_frame.specs.Reading.{request_at}
+use Rattle.mq_frame.specs.declared.message.Request.{Request}
+use Rattle.mq_ledger.specs.Answer.{build}
+use Rattle.mq_ledger.specs.Day.{day_of}
+use Rattle.mq_rows.specs.declared.record.AnswerRecord.{AnswerRecord}
+use Rattle.mq_rows.specs.Meaning.{meaning, requests_in}
+use Rattle.mq_store.specs.Soundness.{book_in}
+use Rattle.mq_store.proofs.Sound.{bodies_are, spelled_by}
+use Rattle.mq_store.proofs.laws.tables_mean_their_book.Goals as goal
+
+pub returns : goal.returns
+returns c = λ b db has.
+    let same : filter_map request_at (map (λ (a : AnswerRecord). a.request) has.has.tables.answers) ≡ requests_in has.has.tables.answers = spelled_by has.has.tables.answers in
+    let asked = ap (filter_map request_at) (bodies_are db has.has.tables has.has.holds) ∙ same in
+    let read : book_in b.zone b.default db ≡ meaning b.zone b.default has.has.tables.answers =
+    ap (λ (rs : List Request). record { zone = b.zone; default = b.default; history = build (day_of b.zone) b.default rs }) asked in
+    read ∙ c.rows_mean_their_history.ensures.meaning b has.has.tables has.legal has.has.rows

@@ -1,0 +1,115 @@
+-- What a request does to the tables of a ledger.
+use Rattle.std.specs.Prelude.{◌≡◌, ℕ, List, [], ◌∷◌, ◌++◌, true, Option, Some, None, is_some}
+use Rattle.sqlite.specs.Effect.{Database}
+use Rattle.sqlite.specs.State.{State}
+use Rattle.mq_frame.specs.declared.message.Id.{Id}
+use Rattle.mq_frame.specs.declared.message.Request.{Request}
+use Rattle.mq_frame.specs.declared.message.Reply.{Reply}
+use Rattle.mq_ledger.specs.declared.entry.Entry.{Entry}
+use Rattle.mq_ledger.specs.declared.zone.Zone.{Zone}
+use Rattle.mq_ledger.specs.Answer.{appended, build, reply, stored}
+use Rattle.mq_ledger.specs.Arrivals.{first}
+use Rattle.mq_ledger.specs.Day.{day_of}
+use Rattle.mq_ledger.specs.History.{requests}
+use Rattle.mq_ledger.specs.Legal.{Book, IsLegalBook}
+use Rattle.mq_rows.specs.declared.plan.Plan.{Plan}
+use Rattle.mq_rows.specs.Plan.{Leads, same_key, set_transaction, same_day, set_usage, same_from, set_ceiling}
+use Rattle.mq_rows.specs.Rows.{setting_row, answer_rows}
+use Rattle.mq_rows.specs.Tables.{Tables, AreTransactions, AreUsage, AreCeilings, AreRows}
+use Rattle.mq_rows.specs.Written.{LeadTo}
+use Rattle.mq_tables.specs.Ledger.{HasLedger}
+use Rattle.mq_store.specs.declared.take.Taken.{Taken}
+use Rattle.mq_store.specs.declared.take.Taken.TheVariants.{Read, Written}
+
+-- the five tables are the rows of this book
+pub record HasRows (b : Book) (db : Database) : Type 0 where
+  pub tables : Tables
+  pub holds : HasLedger db tables
+  pub rows : AreRows b tables
+
+-- they are, and the book is legal
+pub record HasBook (b : Book) (db : Database) : Type 0 where
+  pub legal : IsLegalBook b
+  pub has : HasRows b db
+
+abbrev pub book_of : Zone → ℕ → List Entry → Book
+book_of zone default H = record { zone = zone; default = default; history = H }
+
+-- A reading leaves the tables and the transaction as they are.
+pub record Stays (old new : State) : Type 0 where
+  pub now : new.now ≡ old.now
+  pub inside : new.in_transaction ≡ old.in_transaction
+
+-- What is written.
+
+-- The settings and the answers are those of the book, and the planned writes lead to its other rows.
+pub record RowsLead (b : Book) (t : Tables) (p : Plan) : Type 0 where
+  pub setting : t.setting ≡ setting_row b
+  pub answers : t.answers ≡ answer_rows b.history
+  pub transactions :
+      Leads same_key set_transaction p.transaction t.transactions (AreTransactions (day_of b.zone) b.history)
+  pub usage : Leads same_day set_usage p.usage t.usage (AreUsage (day_of b.zone) b.history)
+  pub ceilings : Leads same_from set_ceiling p.ceiling t.ceilings (AreCeilings b.history)
+
+-- where the planned writes of those rows lead to a book, the tables are its rows
+abbrev pub MovesRows : Plan → Database → Database → Type 0
+MovesRows p old new = (b : Book) (t : Tables) → HasLedger old t → RowsLead b t p → HasRows b new
+
+-- where the plan leads to a book, the tables are its rows
+abbrev pub WritesPlan : Plan → Database → Database → Type 0
+WritesPlan p old new = (b : Book) (t : Tables) → HasLedger old t → LeadTo b t p → HasRows b new
+
+-- What is replied and written, whatever the history is of which the tables are the rows.
+
+-- the number is new, or the reply is the ledger's
+abbrev pub IsKnown : Zone → ℕ → List Entry → Request → Id → Option Reply → Type 0
+IsKnown zone default H r id None = stored H id ≡ None
+IsKnown zone default H r id (Some a) = (is_some (stored H id) ≡ true) × (a ≡ reply (day_of zone) default H r)
+
+-- the plan's reply is the ledger's, and its writes lead to the history with the request
+abbrev pub IsPlannedOver : Zone → ℕ → List Entry → Request → Tables → Plan → Type 0
+IsPlannedOver zone default H r t p =
+    (p.reply ≡ reply (day_of zone) default H r)
+    × LeadTo (book_of zone default (appended (day_of zone) default H r)) t p
+
+-- so it is where the number is new
+abbrev pub IsPlanned : Zone → ℕ → Request → Id → Database → Plan → Type 0
+IsPlanned zone default r id db p =
+    (H : List Entry) (b : HasBook (book_of zone default H) db) → stored H id ≡ None
+    → IsPlannedOver zone default H r b.has.tables p
+
+-- the history with one more arrival
+abbrev pub with_arrival : Zone → ℕ → List Entry → Request → List Entry
+with_arrival zone default H r = build (day_of zone) default (first (requests H ++ r ∷ []))
+
+-- the reply is the ledger's, and the tables are the rows of the history with the arrival
+abbrev pub AppliesOver : Zone → ℕ → List Entry → Request → Reply → Database → Type 0
+AppliesOver zone default H r a new =
+    (a ≡ reply (day_of zone) default H r) × HasBook (book_of zone default (with_arrival zone default H r)) new
+
+-- so it is where the number is new
+abbrev pub AppliesNew : Zone → ℕ → Request → Id → Reply → Database → Database → Type 0
+AppliesNew zone default r id a old new =
+    (H : List Entry) → HasBook (book_of zone default H) old → stored H id ≡ None
+    → AppliesOver zone default H r a new
+
+-- so it is for any request
+abbrev pub Applies : Zone → ℕ → Request → Reply → Database → Database → Type 0
+Applies zone default r a old new =
+    (H : List Entry) → HasBook (book_of zone default H) old → AppliesOver zone default H r a new
+
+-- so it is, and where nothing was written the store is as it was
+abbrev pub IsTaken : Zone → ℕ → Request → Database → Database → Taken → Type 0
+IsTaken zone default r old new (Read a) = Applies zone default r a old new × (new ≡ old)
+IsTaken zone default r old new (Written a) = Applies zone default r a old new
+
+-- What is read, whatever the zone is.
+
+-- the reply is the ledger's
+abbrev pub IsReplied : ℕ → Request → Database → Reply → Type 0
+IsReplied default r db a =
+    (zone : Zone) (H : List Entry) → HasBook (book_of zone default H) db → a ≡ reply (day_of zone) default H r
+
+abbrev pub reply_in : Taken → Reply
+reply_in (Read a) = a
+reply_in (Written a) = a

@@ -1,0 +1,44 @@
+//! One request, in one transaction of the store.
+
+ghost use Rattle.std.specs.Prelude.{◌≡◌, false, IfOk, OnErr};
+ghost use Rattle.sqlite.specs.Held.{state};
+ghost use Rattle.mq_frame.specs.Range.{IsRequest, IsReply};
+ghost use Rattle.mq_store.specs.Soundness.{HasKept};
+ghost use Rattle.mq_store.specs.Taking.{Applies};
+
+use crate::fault::Refused;
+use crate::take::{Taken, take};
+use mq_frame::{Reply, Request};
+use mq_ledger::Zone;
+use sqlite::{Alter, Connection};
+use std::alloc::Global;
+
+/// Replies to a request. What it writes is committed before the reply is given, or not at all.
+pub(crate) fn apply<S: Alter>(
+    alloc: Global,
+    connection: &mut Connection<S>,
+    zone: Zone,
+    default: u32,
+    request: &Request,
+) -> Result<Reply, Refused>
+    requires in_range { IsRequest request.now }
+    requires autocommit { connection.old.in_transaction ≡ false }
+    ensures autocommit { connection.new.in_transaction ≡ false }
+    ensures limit { connection.new.step_limit ≡ connection.old.step_limit }
+    ensures in_range { IfOk result IsReply }
+    ensures kept { HasKept (state S.Store connection.new) → HasKept (state S.Store connection.old) }
+    ensures applied { HasKept (state S.Store connection.new)
+        → IfOk result (λ a. Applies zone default request.now a
+        (state S.Store connection.old).now (state S.Store connection.new).now) }
+    ensures fault { HasKept (state S.Store connection.new)
+        → OnErr result ((state S.Store connection.new).now ≡ (state S.Store connection.old).now) }
+{
+    let _settled = connection.is_autocommit();
+    let mut tx = connection.transaction();
+    let reply = match take(alloc, &mut tx, zone, default, request)? {
+        Taken::Read(reply) => return Ok(reply),
+        Taken::Written(reply) => reply,
+    };
+    tx.commit()?;
+    Ok(reply)
+}

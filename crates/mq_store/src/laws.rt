@@ -1,0 +1,120 @@
+//! Laws that lead from what was read and written to the ledger's history. Each function does
+//! nothing: its contract is the law.
+ghost use Rattle.std.specs.Prelude.{◌≡◌, ◌≤◌, ◌⊎◌, ◌+◌, ℕ, List, [], ◌∷◌, ◌++◌, true, Option, Some, None, is_some};
+ghost use Rattle.sqlite.specs.Effect.{Database};
+ghost use Rattle.mq_frame.specs.declared.message.Id.{Id};
+ghost use Rattle.mq_frame.specs.declared.message.Request.{Request as AnyRequest};
+ghost use Rattle.mq_frame.specs.declared.message.Reply.{Reply as AnyReply};
+ghost use Rattle.mq_frame.specs.declared.usage.UsageRow.{UsageRow as AnyUsageRow};
+ghost use Rattle.mq_frame.specs.Range.{IsRequest};
+ghost use Rattle.mq_frame.specs.Same.{same_id};
+ghost use Rattle.mq_ledger.specs.declared.entry.Entry.{Entry as AnyEntry};
+ghost use Rattle.mq_ledger.specs.declared.zone.Zone.{Zone as AnyZone};
+ghost use Rattle.mq_ledger.specs.Answer.{appended, reply, stored};
+ghost use Rattle.mq_ledger.specs.Arrivals.{id_of};
+ghost use Rattle.mq_ledger.specs.Day.{day_of};
+ghost use Rattle.mq_ledger.specs.Page.{row};
+ghost use Rattle.mq_ledger.specs.Legal.{Book, IsLegalBook};
+ghost use Rattle.mq_rows.specs.declared.record.AnswerRecord.{AnswerRecord};
+ghost use Rattle.mq_rows.specs.declared.record.UsageRecord.{UsageRecord};
+ghost use Rattle.mq_rows.specs.declared.record.CeilingRecord.{CeilingRecord};
+ghost use Rattle.mq_rows.specs.declared.plan.Found.{Found};
+ghost use Rattle.mq_rows.specs.Found.{IsFound, IsGoverning};
+ghost use Rattle.mq_rows.specs.Plan.{planned};
+ghost use Rattle.mq_rows.specs.Listing.{IsNext, page_row_by, usage_reply_by};
+ghost use Rattle.mq_rows.specs.Rows.{is_usage};
+ghost use Rattle.mq_rows.specs.Repeat.{IsRepeatOf};
+ghost use Rattle.mq_rows.specs.Tables.{Tables, AreRows};
+ghost use Rattle.mq_tables.specs.Finding.{AreKeyed};
+ghost use Rattle.mq_tables.specs.Records.{IsOneOf};
+ghost use Rattle.mq_store.specs.Paging.{IsNextRow, IsPageOf, IsBegunIn};
+ghost use Rattle.mq_store.specs.Soundness.{book_in};
+ghost use Rattle.mq_store.specs.Taking.{HasRows, HasBook, book_of, IsKnown, with_arrival, AppliesOver, IsPlannedOver};
+
+use mq_ledger::laws::replies_in_range;
+use mq_rows::laws::{
+    nothing_is_added, one_more_answer, pages_go_by_login, repeats_are_answered, rows_by_key,
+    rows_mean_their_history, usage_is_answered,
+};
+
+/// A number without a row is new, and by a row the reply is the ledger's.
+pub(crate) fn numbers_are_known()
+    ensures new { (zone : AnyZone) (default : ℕ) (H : List AnyEntry) (r : AnyRequest) (id : Id)
+        (db : Database) (b : HasBook (book_of zone default H) db) → IsRequest r → id_of r ≡ Some id →
+        IsOneOf (λ a. same_id id a.id) b.has.tables.answers None →
+        IsKnown zone default H r id None }
+    ensures known { (zone : AnyZone) (default : ℕ) (H : List AnyEntry) (r : AnyRequest) (id : Id)
+        (db : Database) (b : HasBook (book_of zone default H) db) (row : AnswerRecord) (a : AnyReply) →
+        IsRequest r → id_of r ≡ Some id →
+        IsOneOf (λ a. same_id id a.id) b.has.tables.answers (Some row) →
+        IsRepeatOf row id r a → IsKnown zone default H r id (Some a) }
+{
+    repeats_are_answered();
+    replies_in_range();
+}
+
+/// What is decided of a new number is the ledger's reply, and leads to the history with it.
+pub(crate) fn new_numbers_are_planned()
+    ensures { (zone : AnyZone) (default : ℕ) (H : List AnyEntry) (r : AnyRequest) (id : Id)
+        (t : Tables) (f : Found) → IsLegalBook (book_of zone default H) →
+        AreRows (book_of zone default H) t → id_of r ≡ Some id → stored H id ≡ None →
+        (AreKeyed t → IsFound (day_of zone) t r f) →
+        IsPlannedOver zone default H r t (planned (day_of zone) default t.setting.arrivals r f) }
+{
+    one_more_answer();
+}
+
+/// A new number is applied where the tables are the rows of the history with it; any other request
+/// leaves them as they were.
+pub(crate) fn arrivals_are_applied()
+    ensures new { (zone : AnyZone) (default : ℕ) (H : List AnyEntry) (r : AnyRequest) (id : Id)
+        (db : Database) → IsLegalBook (book_of zone default H) → IsRequest r → id_of r ≡ Some id →
+        stored H id ≡ None → HasRows (book_of zone default (appended (day_of zone) default H r)) db →
+        HasBook (book_of zone default (with_arrival zone default H r)) db }
+    ensures known { (zone : AnyZone) (default : ℕ) (H : List AnyEntry) (r : AnyRequest) (id : Id)
+        (db : Database) → id_of r ≡ Some id → is_some (stored H id) ≡ true →
+        HasBook (book_of zone default H) db →
+        HasBook (book_of zone default (with_arrival zone default H r)) db }
+    ensures unnumbered { (zone : AnyZone) (default : ℕ) (H : List AnyEntry) (r : AnyRequest)
+        (db : Database) → id_of r ≡ None → HasBook (book_of zone default H) db →
+        HasBook (book_of zone default (with_arrival zone default H r)) db }
+{
+    one_more_answer();
+    nothing_is_added();
+}
+
+/// What is read of a login's rows is the ledger's, and the rows of a day, gone through from login to
+/// login, are its page.
+pub(crate) fn reads_are_answered()
+    ensures usage { (zone : AnyZone) (default : ℕ) (H : List AnyEntry) (db : Database)
+        (b : HasBook (book_of zone default H) db) (l : List ℕ) (d : ℕ) (u : Option UsageRecord)
+        (g : Option CeilingRecord) → IsOneOf (is_usage l d) b.has.tables.usage u →
+        IsGoverning l d b.has.tables.ceilings g →
+        usage_reply_by default l d u g ≡ reply (day_of zone) default H (AnyRequest.Usage l d) }
+    ensures row { (zone : AnyZone) (default : ℕ) (H : List AnyEntry) (db : Database)
+        (b : HasBook (book_of zone default H) db) (d : ℕ) (after : List ℕ) (u : UsageRecord)
+        (g : Option CeilingRecord) → IsNext d after b.has.tables.usage (Some u) →
+        IsGoverning u.login d b.has.tables.ceilings g →
+        page_row_by default u g ≡ row (day_of zone) default H d u.login }
+    ensures begun { (default : ℕ) (d : ℕ) (after : List ℕ) (db : Database) →
+        IsBegunIn default d after db 0 [] after }
+    ensures more { (default : ℕ) (d : ℕ) (after : List ℕ) (db : Database) (n : ℕ)
+        (shown : List AnyUsageRow) (last : List ℕ) (r : AnyUsageRow) →
+        IsBegunIn default d after db n shown last → IsNextRow default d last db (Some r) →
+        IsBegunIn default d after db (n + 1) (shown ++ r ∷ []) r.login }
+    ensures ended { (default : ℕ) (d : ℕ) (after : List ℕ) (db : Database) (n : ℕ)
+        (shown : List AnyUsageRow) (last : List ℕ) → n ≤ 100 →
+        IsBegunIn default d after db n shown last →
+        (n ≡ 100) ⊎ IsNextRow default d last db None → IsPageOf default d after db shown }
+{
+    usage_is_answered();
+    rows_by_key();
+    pages_go_by_login();
+}
+
+/// A book whose rows the tables are is what they mean.
+pub(crate) fn tables_mean_their_book()
+    ensures { (b : Book) (db : Database) → HasBook b db → book_in b.zone b.default db ≡ b }
+{
+    rows_mean_their_history();
+}

@@ -1,0 +1,134 @@
+//! What is replied to a usage and to a list.
+
+ghost use Rattle.std.specs.Prelude.{◌≡◌, IfOk, IfSome, OnOk};
+ghost use Rattle.sqlite.specs.Held.{state};
+ghost use Rattle.sqlite.specs.State.{HasCleanDisk, KeepsCommit, Survives};
+ghost use Rattle.mq_frame.specs.declared.message.Request.{Request as AnyRequest};
+ghost use Rattle.mq_frame.specs.Range.{IsLogin, IsDay, IsReply, IsRow, IsPage};
+ghost use Rattle.mq_store.specs.Taking.{Stays, IsReplied};
+ghost use Rattle.mq_store.specs.Paging.{IsNextRow, IsPageOf};
+
+use crate::fault::Refused;
+use crate::laws::reads_are_answered;
+use mq_frame::{Login, Reply, UsageRow, UsageRows};
+use mq_rows::{page_row, usage_reply};
+use mq_tables::ceiling::find_governing;
+use mq_tables::page::next_usage;
+use mq_tables::usage::find_usage;
+use sqlite::{Alter, Transaction};
+use std::alloc::Global;
+
+/// The rows of a page at most.
+const PAGE: u32 = 100;
+
+/// What the login has used on that day, and its limit.
+#[tactic(auto, using(crate::proofs::Chain::calls))]
+pub(crate) fn reply_to_usage<S: Alter>(
+    tx: &mut Transaction<'_, S>,
+    default: u32,
+    login: &Login,
+    day: u32,
+) -> Result<Reply, Refused>
+    requires login { IsLogin login.now }
+    requires day { IsDay day }
+    ensures same_reference { tx.new.conn.ghost_name ≡ tx.old.conn.ghost_name }
+    ensures stays { HasCleanDisk (state S.Store tx.new.conn.now)
+        → OnOk result (Stays (state S.Store tx.old.conn.now) (state S.Store tx.new.conn.now)) }
+    ensures replied { HasCleanDisk (state S.Store tx.new.conn.now)
+        → IfOk result (IsReplied default (AnyRequest.Usage login.now day) (state S.Store tx.old.conn.now).now) }
+    ensures in_range { IfOk result IsReply }
+    ensures kept { HasCleanDisk (state S.Store tx.new.conn.now)
+        → KeepsCommit (state S.Store tx.old.conn.now) (state S.Store tx.new.conn.now) }
+    ensures survives { Survives (state S.Store tx.old.conn.now) (state S.Store tx.new.conn.now) (λ _. ⊥) }
+{
+    reads_are_answered();
+    let usage = find_usage(tx, login, day)?;
+    let governing = find_governing(tx, login, day)?;
+    Ok(usage_reply(default, login, day, &usage, &governing)?)
+}
+
+/// The row of the next login above `after` that has one on that day.
+#[tactic(auto, using(crate::proofs::Chain::calls))]
+fn next_row<S: Alter>(
+    tx: &mut Transaction<'_, S>,
+    default: u32,
+    day: u32,
+    after: &Login,
+) -> Result<Option<UsageRow>, Refused>
+    ensures same_reference { tx.new.conn.ghost_name ≡ tx.old.conn.ghost_name }
+    ensures stays { HasCleanDisk (state S.Store tx.new.conn.now)
+        → OnOk result (Stays (state S.Store tx.old.conn.now) (state S.Store tx.new.conn.now)) }
+    ensures next { HasCleanDisk (state S.Store tx.new.conn.now)
+        → IfOk result (IsNextRow default day after.now (state S.Store tx.old.conn.now).now) }
+    ensures in_range { IfOk result (λ next. IfSome next IsRow) }
+    ensures kept { HasCleanDisk (state S.Store tx.new.conn.now)
+        → KeepsCommit (state S.Store tx.old.conn.now) (state S.Store tx.new.conn.now) }
+    ensures survives { Survives (state S.Store tx.old.conn.now) (state S.Store tx.new.conn.now) (λ _. ⊥) }
+{
+    reads_are_answered();
+    let Some(usage) = next_usage(tx, day, after)? else {
+        return Ok(None);
+    };
+    let governing = find_governing(tx, &usage.login, day)?;
+    Ok(Some(page_row(default, usage, &governing)?))
+}
+
+/// The rows of the first hundred logins above `after` that have one on that day. It goes from login
+/// to login.
+#[tactic(auto, using(crate::proofs::Chain::calls))]
+fn page<S: Alter>(
+    alloc: Global,
+    tx: &mut Transaction<'_, S>,
+    default: u32,
+    day: u32,
+    after: &Login,
+) -> Result<Vec<UsageRow>, Refused>
+    ensures same_reference { tx.new.conn.ghost_name ≡ tx.old.conn.ghost_name }
+    ensures stays { HasCleanDisk (state S.Store tx.new.conn.now)
+        → OnOk result (Stays (state S.Store tx.old.conn.now) (state S.Store tx.new.conn.now)) }
+    ensures page { HasCleanDisk (state S.Store tx.new.conn.now)
+        → IfOk result (λ rows. IsPageOf default day after.now (state S.Store tx.old.conn.now).now rows.items) }
+    ensures in_range { IfOk result (λ rows. IsPage rows.items) }
+    ensures kept { HasCleanDisk (state S.Store tx.new.conn.now)
+        → KeepsCommit (state S.Store tx.old.conn.now) (state S.Store tx.new.conn.now) }
+    ensures survives { Survives (state S.Store tx.old.conn.now) (state S.Store tx.new.conn.now) (λ _. ⊥) }
+{
+    reads_are_answered();
+    let mut rows = Vec::new(alloc);
+    let mut last = after.clone()?;
+    for _ in 0..PAGE {
+        let Some(row) = next_row(tx, default, day, &last)? else {
+            return Ok(rows);
+        };
+        last = row.login.clone()?;
+        rows.push(row)?;
+    }
+    Ok(rows)
+}
+
+/// The page of a day behind `after`.
+#[tactic(auto, using(crate::proofs::Chain::calls))]
+pub(crate) fn reply_to_list<S: Alter>(
+    alloc: Global,
+    tx: &mut Transaction<'_, S>,
+    default: u32,
+    day: u32,
+    after: &Login,
+) -> Result<Reply, Refused>
+    requires { IsDay day }
+    ensures same_reference { tx.new.conn.ghost_name ≡ tx.old.conn.ghost_name }
+    ensures stays { HasCleanDisk (state S.Store tx.new.conn.now)
+        → OnOk result (Stays (state S.Store tx.old.conn.now) (state S.Store tx.new.conn.now)) }
+    ensures replied { HasCleanDisk (state S.Store tx.new.conn.now)
+        → IfOk result (IsReplied default (AnyRequest.List day after.now) (state S.Store tx.old.conn.now).now) }
+    ensures in_range { IfOk result IsReply }
+    ensures kept { HasCleanDisk (state S.Store tx.new.conn.now)
+        → KeepsCommit (state S.Store tx.old.conn.now) (state S.Store tx.new.conn.now) }
+    ensures survives { Survives (state S.Store tx.old.conn.now) (state S.Store tx.new.conn.now) (λ _. ⊥) }
+{
+    let rows = page(alloc, tx, default, day, after)?;
+    Ok(Reply::List {
+        day,
+        rows: UsageRows::new(rows),
+    })
+}

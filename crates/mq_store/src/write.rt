@@ -1,0 +1,55 @@
+//! What a numbered request whose number is new writes.
+
+ghost use Rattle.std.specs.Prelude.{◌≡◌, IsTrue, OnOk};
+ghost use Rattle.sqlite.specs.Held.{state};
+ghost use Rattle.sqlite.specs.State.{HasCleanDisk, KeepsCommit, Survives};
+ghost use Rattle.mq_rows.specs.Storable.{AreStorable, IsStorablePlan};
+ghost use Rattle.mq_store.specs.Taking.{MovesRows, WritesPlan};
+
+use mq_rows::Plan;
+use mq_tables::answer::append_answer;
+use mq_tables::ceiling::write_ceiling;
+use mq_tables::setting::set_arrivals;
+use mq_tables::transaction::write_transaction;
+use mq_tables::usage::write_usage;
+use sqlite::{Alter, Error, Transaction};
+
+/// What becomes of the transactions, of what logins have used, and of the limits.
+#[tactic(auto, using(crate::proofs::Chain::calls))]
+fn write_rows<S: Alter>(tx: &mut Transaction<'_, S>, plan: &Plan) -> Result<usize, Error>
+    requires storable { AreStorable plan.now.transaction }
+    requires inside { HasCleanDisk (state S.Store tx.old.conn.now)
+        → IsTrue (state S.Store tx.old.conn.now).in_transaction }
+    ensures same_reference { tx.new.conn.ghost_name ≡ tx.old.conn.ghost_name }
+    ensures inside { HasCleanDisk (state S.Store tx.new.conn.now)
+        → OnOk result (IsTrue (state S.Store tx.new.conn.now).in_transaction) }
+    ensures written { HasCleanDisk (state S.Store tx.new.conn.now)
+        → OnOk result (MovesRows plan.now (state S.Store tx.old.conn.now).now (state S.Store tx.new.conn.now).now) }
+    ensures kept { HasCleanDisk (state S.Store tx.new.conn.now)
+        → KeepsCommit (state S.Store tx.old.conn.now) (state S.Store tx.new.conn.now) }
+    ensures survives { Survives (state S.Store tx.old.conn.now) (state S.Store tx.new.conn.now) (λ _. ⊥) }
+{
+    write_transaction(tx, &plan.transaction)?;
+    write_usage(tx, &plan.usage)?;
+    write_ceiling(tx, &plan.ceiling)
+}
+
+/// All that the plan writes.
+#[tactic(auto, using(crate::proofs::Chain::calls))]
+pub(crate) fn write_plan<S: Alter>(tx: &mut Transaction<'_, S>, plan: &Plan) -> Result<usize, Error>
+    requires storable { IsStorablePlan plan.now }
+    requires inside { HasCleanDisk (state S.Store tx.old.conn.now)
+        → IsTrue (state S.Store tx.old.conn.now).in_transaction }
+    ensures same_reference { tx.new.conn.ghost_name ≡ tx.old.conn.ghost_name }
+    ensures inside { HasCleanDisk (state S.Store tx.new.conn.now)
+        → OnOk result (IsTrue (state S.Store tx.new.conn.now).in_transaction) }
+    ensures written { HasCleanDisk (state S.Store tx.new.conn.now)
+        → OnOk result (WritesPlan plan.now (state S.Store tx.old.conn.now).now (state S.Store tx.new.conn.now).now) }
+    ensures kept { HasCleanDisk (state S.Store tx.new.conn.now)
+        → KeepsCommit (state S.Store tx.old.conn.now) (state S.Store tx.new.conn.now) }
+    ensures survives { Survives (state S.Store tx.old.conn.now) (state S.Store tx.new.conn.now) (λ _. ⊥) }
+{
+    append_answer(tx, &plan.answer)?;
+    set_arrivals(tx, plan.arrivals)?;
+    write_rows(tx, plan)
+}

@@ -1,0 +1,120 @@
+-- What the query for a login's days answers of the records.
+use Rattle.std.proofs.Common.{◌≡◌, inl, inr, ℕ, ◌+◌, pos, ◌<◌, ◌≤◌, ◌&&◌, ◌==◌, nat_le, nat_lt, suc, List, [], ◌∷◌, map, filter, length, cond, Bool, true, false, true≢false, Option, Some, None, Ok, Err, Result, Contains, arith, refl, sym, ap, ap₂, subst, ◌∙◌}
+use Rattle.std.specs.Prelude.{Vec, IfOk, drop}
+use Rattle.std.specs.declared.alloc.Global.{Global}
+use Rattle.std.specs.List.{AllByRecursion, list_all}
+use Rattle.std.specs.List.Sorted.{IsPermutation}
+use Rattle.std.specs.Cmp.{unsigned_Decides}
+use Rattle.std.proofs.Math.Bool.{and-true}
+use Rattle.std.proofs.lemmas.Bool.{and_parts}
+use Rattle.std.proofs.lemmas.List.Sorted.{IsPermutation-sym, length_permutation}
+use Rattle.std.proofs.lemmas.Slice.Eq.{slice_eq-Decides}
+use Rattle.sqlite.specs.Order.{Row, column}
+use Rattle.sqlite.specs.Term.{eval_all, holds}
+use Rattle.sqlite.specs.declared.types.Value.TheVariants.{Null, Int, Blob}
+use Rattle.sqlite.specs.declared.error.Error.{Error}
+use Rattle.sqlite.specs.State.{State, Shown}
+use Rattle.sqlite.proofs.Callers.{IsPlain, command_of}
+use Rattle.sqlite_rules.specs.Lists.{Has}
+use Rattle.sqlite_rules.proofs.ListLemmas.{all_has}
+use Rattle.sqlite_trees.proofs.ListLemmas.{all-permutation, all_weaker}
+use Rattle.mq_frame.specs.Same.{same_text}
+use Rattle.mq_rows.specs.Tables.{Tables}
+use Rattle.mq_tables.specs.Ledger.{HasLedger}
+use Rattle.mq_tables.specs.Lent.{key_params}
+use Rattle.mq_tables.proofs.Finds.{none_of, empty_mapped, shown_of}
+use Rattle.mq_tables.proofs.Firsts as firsts
+use Rattle.mq_tables.proofs.Plain.{any_apart}
+use Rattle.mq_rows.specs.declared.record.UsageRecord.{UsageRecord}
+use Rattle.mq_rows.specs.Found.{is_over, IsFirstOver}
+use Rattle.mq_tables.specs.declared.over.DayTotals.{DayTotals}
+use Rattle.mq_tables.specs.Over.{day_row, is_from, is_past, totals_of, IsTotalsShown, IsEarliest, IsFirstShown}
+use Rattle.mq_tables.specs.Records.{usage_fields}
+use Rattle.mq_tables.proofs.Tests.{text_test, from_test}
+use Rattle.mq_tables.proofs.Governing.{has_contains}
+use Rattle.mq_tables.proofs.OverText.{select_text, select_parsed, select_query, select_unlisted, key_tests, shown_terms, names, select_compiled, understood_so}
+
+tied : (params r : Row) → list_all (holds (params ∷ r ∷ [])) key_tests ≡ list_all (holds (params ∷ (Null ∷ drop 1 r) ∷ [])) key_tests
+tied params [] = refl
+tied params (x ∷ r) = refl
+
+shows : (params r : Row) → eval_all shown_terms (params ∷ r ∷ []) ≡ eval_all shown_terms (params ∷ (Null ∷ drop 1 r) ∷ [])
+shows params [] = refl
+shows params (x ∷ r) = refl
+
+int_same : {x y : ℕ} → Int (pos x) ≡ Int (pos y) → x ≡ y
+int_same e = cc
+
+-- the row of a record shows its numbers
+totals_are : (row : Row) (d : DayTotals) (v : UsageRecord) → IsTotalsShown row d → row ≡ day_row v → d ≡ totals_of v
+totals_are row d v shown is =
+    let day : d.day ≡ v.day = int_same (sym shown.day ∙ ap (λ r. column r 0) is) in
+    let settled : d.settled ≡ v.settled = int_same (sym shown.settled ∙ ap (λ r. column r 1) is) in
+    let reserved : d.reserved ≡ v.reserved = int_same (sym shown.reserved ∙ ap (λ r. column r 2) is) in
+    λ i. record { day = day i; settled = settled i; reserved = reserved i }
+
+module _ (login : List ℕ) (from : ℕ) where
+  decides : (u : UsageRecord) → firsts.pass usage_fields key_tests shown_terms (key_params login from) u ≡ is_from login from u
+  decides u = rw (text_test u.login login, from_test u.day from) (ap (λ b. same_text login u.login && b) (and-true (nat_le from u.day)))
+
+  finds : (old new : State) (rows : List Row) → Shown select_text (key_params login from) old new rows → (t : Tables) → HasLedger old.now t → IsPermutation (map day_row (filter (is_from login from) t.usage)) rows
+  finds old new rows h t l =
+      let params = key_params login from in
+      let place = l.tables.usage in
+      let tree = l.at.usage in
+      let is = understood_so old.now.schema tree place in
+      let all = firsts.shows_all usage_fields key_tests shown_terms params (tied params) (shows params) select_text names old new tree rows t.usage (ap command_of is) (subst IsPlain (sym is) (refl, refl))
+      (any_apart select_text select_parsed select_query select_unlisted old.now.schema (select_compiled tree) is) place.stored l.holds.usage h in
+      subst (λ (p : UsageRecord → Bool). IsPermutation (map day_row (filter p t.usage)) rows) (λ i u. decides u i) all
+
+  pub found_all : (old new : State) (outcome : Result (Vec Row Global) Error) → IfOk outcome (λ rows. Shown select_text (key_params login from) old new rows.items)
+      → IfOk outcome (λ rows. (t : Tables) → HasLedger old.now t → IsPermutation (map day_row (filter (is_from login from) t.usage)) rows.items)
+  found_all old new (Ok rows) h = finds old new rows.items h
+  found_all old new (Err e) h = tt
+
+  -- what is said of each row is said of each of the login's days from that one on
+  of_rows : (P : DayTotals → Type 0) (all : List UsageRecord) (rows : List Row) → IsPermutation (map day_row (filter (is_from login from) all)) rows
+      → AllByRecursion (λ row. (d : DayTotals) × IsTotalsShown row d × P d) rows → AllByRecursion (λ u. is_from login from u ≡ true → P (totals_of u)) all
+  of_rows P all rows same each =
+      let back = all-permutation _ _ _ (IsPermutation-sym _ _ same) each in
+      firsts.all_of_filtered (is_from login from) (λ u. P (totals_of u)) all
+      (all_weaker _ (λ u. P (totals_of u)) (λ u it. subst P (totals_are (day_row u) it.0 u it.1 refl) it.2) (filter (is_from login from) all) (firsts.all_unmapped day_row _ (filter (is_from login from) all) back))
+
+  over_parts : (cap : ℕ) (u : UsageRecord) → is_over login from cap u ≡ true → (is_from login from u ≡ true) × (is_past cap (totals_of u) ≡ true)
+  over_parts cap u hit =
+      let one = and_parts _ _ hit in
+      let two = and_parts _ _ one.1 in
+      (ap₂ (λ x y. x && y) one.0 two.0, two.1)
+
+  over_whole : (cap : ℕ) (u : UsageRecord) → is_from login from u ≡ true → is_past cap (totals_of u) ≡ true → is_over login from cap u ≡ true
+  over_whole cap u p q = let one = and_parts _ _ p in ap₂ (λ x y. x && y) one.0 (ap₂ (λ x y. x && y) one.1 q)
+
+  not_over : (cap : ℕ) (u : UsageRecord) → (is_from login from u ≡ true → is_past cap (totals_of u) ≡ false) → is_over login from cap u ≡ false
+  not_over cap u low = go (is_over login from cap u) refl
+    where
+      go : (b : Bool) → is_over login from cap u ≡ b → is_over login from cap u ≡ false
+      go true is = let it = over_parts cap u is in absurd (true≢false (sym it.1 ∙ low it.0))
+      go false is = is
+
+  keyed : (u : UsageRecord) → is_from login from u ≡ true → login ≡ u.login
+  keyed u hit = (slice_eq-Decides unsigned_Decides login u.login _ refl).0 (and_parts _ _ hit).0
+
+  found_first : (cap : ℕ) (all : List UsageRecord) (rows : List Row) (found : Option UsageRecord) → IsPermutation (map day_row (filter (is_from login from) all)) rows → IsFirstShown login cap rows found
+      → IsFirstOver login from cap all found
+  found_first cap all rows None same each = all_weaker _ (λ u. is_over login from cap u ≡ false) (λ u low. not_over cap u low) all (of_rows (λ d. is_past cap d ≡ false) all rows same each)
+  found_first cap all rows (Some u) same (owner, ((row, there, shown), past, each)) =
+      let of = all_has _ rows row (all-permutation _ _ _ same (shown_of day_row (is_from login from) all)) there in
+      let v = of.0 in
+      let totals : totals_of u ≡ totals_of v = totals_are row (totals_of u) v shown of.2 in
+      let name : u.login ≡ v.login = owner ∙ keyed v of.1.1 in
+      let whole : v ≡ u = λ i. record { login = sym name i; day = sym (ap (λ (d : DayTotals). d.day) totals) i; settled = sym (ap (λ (d : DayTotals). d.settled) totals) i; reserved = sym (ap (λ (d : DayTotals). d.reserved) totals) i } in (
+        has_contains all u (subst (Has all) whole of.1.0),
+        over_whole cap u (subst (λ x. is_from login from x ≡ true) whole of.1.1) past,
+        all_weaker _ (λ other. is_over login from cap other ≡ true → u.day ≤ other.day) (λ other low hit. let it = over_parts cap other hit in low it.0 it.1) all
+            (of_rows (λ d. is_past cap d ≡ true → u.day ≤ d.day) all rows same each),
+      )
+
+  pub found_after : (cap : ℕ) (Held : Tables → Type 0) (rows : List Row) (outcome : Result (Option UsageRecord) Error) → ((t : Tables) → Held t → IsPermutation (map day_row (filter (is_from login from) t.usage)) rows)
+      → IfOk outcome (IsFirstShown login cap rows) → IfOk outcome (λ found. (t : Tables) → Held t → IsFirstOver login from cap t.usage found)
+  found_after cap Held rows (Ok found) same first = λ t l. found_first cap t.usage rows found (same t l) first
+  found_after cap Held rows (Err e) same first = tt

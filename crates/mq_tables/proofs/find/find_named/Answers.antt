@@ -1,0 +1,11 @@
+use Rattle.std.proofs.Common.{arith}
+use Rattle.sqlite.specs.State.{HasCleanDisk}
+use Rattle.sqlite.specs.Held.{state}
+use Rattle.mq_tables.proofs.Keyed.{named_so}
+use Rattle.mq_tables.proofs.find.find_named.Goals as goal
+
+pub returns-clause-found : goal.returns-clause-found
+returns-clause-found g c clean =
+    let mid : HasCleanDisk (state g.S.Store c.find_transaction.new.tx.conn.now) = omega (arith, c.find_usage.ensures.survives.clean) in
+    named_so (state g.S.Store c.args.tx.now.conn.now) (state g.S.Store c.find_transaction.new.tx.conn.now) (c.in_ok-transaction.ensures.same mid)
+    c.args.id.now c.args.txn c.args.login.now c.args.day c.in_ok-transaction.transaction c.in_ok-usage.usage (c.in_ok-transaction.ensures.found mid) (c.in_ok-usage.ensures.found clean)

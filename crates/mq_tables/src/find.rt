@@ -1,0 +1,164 @@
+//! What the tables have about a numbered request.
+
+ghost use Rattle.std.specs.Prelude.{◌≡◌, ◌<◌, ◌^◌, OnOk, IfOk, IsSome};
+ghost use Rattle.sqlite.specs.Held.{state};
+ghost use Rattle.sqlite.specs.State.{HasCleanDisk, IsUnchanged, KeepsCommit, Survives};
+ghost use Rattle.mq_frame.specs.Range.{IsRequest};
+ghost use Rattle.mq_ledger.specs.Arrivals.{id_of};
+ghost use Rattle.mq_ledger.specs.Day.{day_of};
+ghost use Rattle.mq_rows.specs.Found.{IsFound};
+ghost use Rattle.mq_rows.specs.Tables.{Tables};
+ghost use Rattle.mq_tables.specs.Finding.{AreKeyed, IsTransactionFound, IsReserveFound, IsLimitFound};
+ghost use Rattle.mq_tables.specs.Ledger.{HasLedger};
+ghost use Rattle.mq_tables.specs.Updates.{IsRowStorable};
+
+use crate::ceiling::{find_ceiling, find_governing};
+use crate::over::find_over;
+use crate::transaction::find_transaction;
+use crate::usage::find_usage;
+use mq_frame::{Id, Login, Request};
+use mq_ledger::Zone;
+use mq_rows::Found;
+use sqlite::{Alter, Error, Transaction};
+
+/// Nothing was looked for.
+const NOTHING: Found = Found {
+    transaction: None,
+    usage: None,
+    governing: None,
+    over: None,
+    ceiling: None,
+};
+
+/// The rows of a request's transaction, and of its login and day.
+#[tactic(auto, using(crate::proofs::Chain::survives_both, crate::proofs::Chain::keeps_both))]
+fn find_named<S: Alter>(
+    tx: &mut Transaction<'_, S>,
+    id: &Id,
+    txn: u32,
+    login: &Login,
+    day: u32,
+) -> Result<Found, Error>
+    requires { id.now.run < 2 ^ 63 }
+    ensures same_reference { tx.new.conn.ghost_name ≡ tx.old.conn.ghost_name }
+    ensures same { HasCleanDisk (state S.Store tx.new.conn.now)
+        → OnOk result (IsUnchanged (state S.Store tx.old.conn.now) (state S.Store tx.new.conn.now)) }
+    ensures found { HasCleanDisk (state S.Store tx.new.conn.now)
+        → IfOk result (λ found. (t : Tables) → HasLedger (state S.Store tx.old.conn.now).now t → AreKeyed t
+        → IsTransactionFound id.now txn login.now day t found) }
+    ensures storable { IfOk result (λ found. IsRowStorable found.transaction) }
+    ensures kept { HasCleanDisk (state S.Store tx.new.conn.now)
+        → KeepsCommit (state S.Store tx.old.conn.now) (state S.Store tx.new.conn.now) }
+    ensures survives { Survives (state S.Store tx.old.conn.now) (state S.Store tx.new.conn.now) (λ _. ⊥) }
+{
+    let transaction = find_transaction(tx, &id.host, id.run, txn)?;
+    let usage = find_usage(tx, login, day)?;
+    Ok(Found {
+        transaction,
+        usage,
+        ..NOTHING
+    })
+}
+
+/// The same, and the limit that governs the day.
+#[tactic(auto, using(crate::proofs::Chain::survives_both, crate::proofs::Chain::keeps_both))]
+fn find_for_reserve<S: Alter>(
+    tx: &mut Transaction<'_, S>,
+    id: &Id,
+    txn: u32,
+    login: &Login,
+    day: u32,
+) -> Result<Found, Error>
+    requires { id.now.run < 2 ^ 63 }
+    ensures same_reference { tx.new.conn.ghost_name ≡ tx.old.conn.ghost_name }
+    ensures same { HasCleanDisk (state S.Store tx.new.conn.now)
+        → OnOk result (IsUnchanged (state S.Store tx.old.conn.now) (state S.Store tx.new.conn.now)) }
+    ensures found { HasCleanDisk (state S.Store tx.new.conn.now)
+        → IfOk result (λ found. (t : Tables) → HasLedger (state S.Store tx.old.conn.now).now t → AreKeyed t
+        → IsReserveFound id.now txn login.now day t found) }
+    ensures storable { IfOk result (λ found. IsRowStorable found.transaction) }
+    ensures kept { HasCleanDisk (state S.Store tx.new.conn.now)
+        → KeepsCommit (state S.Store tx.old.conn.now) (state S.Store tx.new.conn.now) }
+    ensures survives { Survives (state S.Store tx.old.conn.now) (state S.Store tx.new.conn.now) (λ _. ⊥) }
+{
+    let found = find_named(tx, id, txn, login, day)?;
+    let governing = find_governing(tx, login, day)?;
+    Ok(Found { governing, ..found })
+}
+
+/// The first day from `from_day` on that is past the cap, and the limit from that day on.
+#[tactic(auto, using(crate::proofs::Chain::survives_both, crate::proofs::Chain::keeps_both))]
+fn find_for_limit<S: Alter>(
+    tx: &mut Transaction<'_, S>,
+    login: &Login,
+    from_day: u32,
+    cap: u32,
+) -> Result<Found, Error>
+    ensures same_reference { tx.new.conn.ghost_name ≡ tx.old.conn.ghost_name }
+    ensures same { HasCleanDisk (state S.Store tx.new.conn.now)
+        → OnOk result (IsUnchanged (state S.Store tx.old.conn.now) (state S.Store tx.new.conn.now)) }
+    ensures found { HasCleanDisk (state S.Store tx.new.conn.now)
+        → IfOk result (λ found. (t : Tables) → HasLedger (state S.Store tx.old.conn.now).now t → AreKeyed t
+        → IsLimitFound login.now from_day cap t found) }
+    ensures storable { IfOk result (λ found. IsRowStorable found.transaction) }
+    ensures kept { HasCleanDisk (state S.Store tx.new.conn.now)
+        → KeepsCommit (state S.Store tx.old.conn.now) (state S.Store tx.new.conn.now) }
+    ensures survives { Survives (state S.Store tx.old.conn.now) (state S.Store tx.new.conn.now) (λ _. ⊥) }
+{
+    let over = find_over(tx, login, from_day, cap)?;
+    let ceiling = find_ceiling(tx, login, from_day)?;
+    Ok(Found {
+        over,
+        ceiling,
+        ..NOTHING
+    })
+}
+
+/// What the tables have about a numbered request.
+///
+/// An error is the store's, also where a value of a row is out of its range.
+pub fn find<S: Alter>(
+    tx: &mut Transaction<'_, S>,
+    zone: Zone,
+    request: &Request,
+) -> Result<Found, Error>
+    requires in_range { IsRequest request.now }
+    requires numbered { IsSome (id_of request.now) }
+    ensures same_reference { tx.new.conn.ghost_name ≡ tx.old.conn.ghost_name }
+    ensures same { HasCleanDisk (state S.Store tx.new.conn.now)
+        → OnOk result (IsUnchanged (state S.Store tx.old.conn.now) (state S.Store tx.new.conn.now)) }
+    ensures found { HasCleanDisk (state S.Store tx.new.conn.now)
+        → IfOk result (λ found. (t : Tables) → HasLedger (state S.Store tx.old.conn.now).now t → AreKeyed t
+        → IsFound (day_of zone) t request.now found) }
+    ensures storable { IfOk result (λ found. IsRowStorable found.transaction) }
+    ensures kept { HasCleanDisk (state S.Store tx.new.conn.now)
+        → KeepsCommit (state S.Store tx.old.conn.now) (state S.Store tx.new.conn.now) }
+    ensures survives { Survives (state S.Store tx.old.conn.now) (state S.Store tx.new.conn.now) (λ _. ⊥) }
+{
+    match request {
+        Request::Reserve {
+            id,
+            txn,
+            at,
+            login,
+            ..
+        } => find_for_reserve(tx, id, *txn, login, zone.day(*at)),
+        Request::Settle {
+            id,
+            txn,
+            at,
+            login,
+            ..
+        }
+        | Request::Release { id, txn, at, login } => {
+            find_named(tx, id, *txn, login, zone.day(*at))
+        }
+        Request::Limit {
+            from_day,
+            cap,
+            login,
+            ..
+        } => find_for_limit(tx, login, *from_day, *cap),
+        Request::Usage { .. } | Request::List { .. } => Ok(NOTHING),
+    }
+}

@@ -1,0 +1,60 @@
+//! Why an exchange brought no reply, for those who look after the link.
+ghost use Rattle.std.specs.Prelude.{◌≡◌};
+ghost use Rattle.std.specs.IoError.{error_kind};
+ghost use Rattle.mq_tcp.specs.Exchange.{fault_of, trouble_fault};
+
+use mq_client::LinkFault;
+use std::io::ErrorKind;
+use std::{fmt, io};
+
+/// Why an exchange brought no reply.
+#[derive(Debug, Drop)]
+pub enum Trouble {
+    /// A call of the system failed, or took too long.
+    System(io::Error),
+    /// The reply has no bytes.
+    Empty,
+    /// The reply found no memory.
+    Memory,
+    /// There is no connection.
+    Unconnected,
+}
+
+/// A call that took too long is `TimedOut`, whatever else went wrong is `Down`.
+fn fault_of(error: &io::Error) -> LinkFault
+    ensures { result ≡ fault_of (error_kind error.now) }
+{
+    match error.kind() {
+        ErrorKind::TimedOut | ErrorKind::WouldBlock => LinkFault::TimedOut,
+        _ => LinkFault::Down,
+    }
+}
+
+impl Trouble {
+    /// The same, as a link tells it.
+    pub fn fault(&self) -> LinkFault
+        ensures fault { result ≡ trouble_fault self.now }
+        ensures memory { result ≡ LinkFault.Memory → self.now ≡ Trouble.Memory }
+    {
+        match self {
+            Trouble::System(error) => fault_of(error),
+            Trouble::Empty | Trouble::Unconnected => LinkFault::Down,
+            Trouble::Memory => LinkFault::Memory,
+        }
+    }
+}
+
+impl fmt::Display for Trouble {
+    fn fmt<W: fmt::Write>(&self, f: &mut fmt::Formatter<W>) -> fmt::Result {
+        match self {
+            Trouble::System(error) => match error.kind() {
+                ErrorKind::TimedOut | ErrorKind::WouldBlock => f.write_str("no answer in time"),
+                ErrorKind::UnexpectedEof => f.write_str("closed before its reply was whole"),
+                _ => write!(f, "{error}"),
+            },
+            Trouble::Empty => f.write_str("a reply of no bytes"),
+            Trouble::Memory => f.write_str("no memory for its reply"),
+            Trouble::Unconnected => f.write_str("no connection"),
+        }
+    }
+}

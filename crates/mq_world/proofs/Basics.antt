@@ -1,0 +1,154 @@
+-- Tests, options, members of lists and sums.
+use Rattle.std.proofs.Common.{◌≡◌, ℕ, zero, suc, ◌+◌, ◌≤◌, ◌<◌, Bool, true, false, List, [], ◌∷◌, ◌++◌, refl, sym, ap, ◌∙◌, subst, inl, inr, arith, Option, None, Some}
+use Rattle.std.specs.Prelude.{◌⊎◌, ◌&&◌, ◌||◌, ◌==◌, slice_get, find, sum_by, if◌then◌else◌}
+use Rattle.std.specs.List.{AllByRecursion, list_any}
+use Rattle.std.specs.Cmp.Lexicographic.{bytes_decides}
+use Rattle.std.proofs.lemmas.Bool.Decides.{Decides-eqb}
+use Rattle.std.proofs.lemmas.List.Sums.{sum_by-cons}
+use Rattle.mq_frame.specs.Same.{same_text}
+
+pub either : (b : Bool) → (b ≡ true) ⊎ (b ≡ false)
+either true = inl refl
+either false = inr refl
+
+pub clash : (b : Bool) → b ≡ true → b ≡ false → ⊥
+clash b h g = let bad : true ≡ false = sym h ∙ g in cc
+
+pub first_so : (a b : Bool) → (a && b) ≡ true → a ≡ true
+first_so true b h = refl
+first_so false b h = h
+
+pub second_so : (a b : Bool) → (a && b) ≡ true → b ≡ true
+second_so true b h = h
+second_so false b h = cc
+
+pub both_so : (a b : Bool) → a ≡ true → b ≡ true → (a && b) ≡ true
+both_so a b h g = rw (h, g) refl
+
+pub first_not : (a b : Bool) → (a || b) ≡ false → a ≡ false
+first_not true b e = e
+first_not false b e = refl
+
+pub second_not : (a b : Bool) → (a || b) ≡ false → b ≡ false
+second_not true b e = let no_way : ⊥ = cc (e) in absurd no_way
+second_not false b e = e
+
+pub none_some : {A : Type 0} (x : A) → None ≡ Some x → ⊥
+none_some x e = cc
+
+pub some_is : {A : Type 0} (x y : A) → Some x ≡ Some y → x ≡ y
+some_is x y e = cc
+
+pub option_cases : {A : Type 0} (o : Option A) → (o ≡ None) ⊎ ((x : A) × (o ≡ Some x))
+option_cases None = inl refl
+option_cases (Some x) = inr (x, refl)
+
+pub zero_or_more : (n : ℕ) → (n ≡ 0) ⊎ (0 < n)
+zero_or_more n = grind arith
+
+pub text_is : (a b : List ℕ) → same_text a b ≡ true → a ≡ b
+text_is a b h = (bytes_decides a b).0 h
+
+pub text_itself : (a : List ℕ) → same_text a a ≡ true
+text_itself a = (bytes_decides a a).1 refl
+
+pub number_is : (m n : ℕ) → (m == n) ≡ true → m ≡ n
+number_is m n h = (Decides-eqb m n).0 h
+
+pub number_itself : (n : ℕ) → (n == n) ≡ true
+number_itself n = (Decides-eqb n n).1 refl
+
+-- ---- members
+
+abbrev pub In : {X : Type 0} → X → List X → Type 0
+In x [] = ⊥
+In x (y ∷ ys) = (y ≡ x) ⊎ In x ys
+
+pub in_push : {X : Type 0} (xs : List X) (y x : X) → In x (xs ++ y ∷ []) → In x xs ⊎ (y ≡ x)
+in_push [] y x (inl e) = inr e
+in_push [] y x (inr i) = absurd i
+in_push (z ∷ xs) y x (inl e) = inl (inl e)
+in_push (z ∷ xs) y x (inr i) = elim (in_push xs y x i) [ inl j ↦ inl (inr j) | inr e ↦ inr e ]
+
+pub in_front : {X : Type 0} (xs ys : List X) (x : X) → In x xs → In x (xs ++ ys)
+in_front [] ys x i = absurd i
+in_front (y ∷ xs) ys x (inl e) = inl e
+in_front (y ∷ xs) ys x (inr i) = inr (in_front xs ys x i)
+
+pub in_last : {X : Type 0} (xs : List X) (x : X) → In x (xs ++ x ∷ [])
+in_last [] x = inl refl
+in_last (y ∷ xs) x = inr (in_last xs x)
+
+pub in_get : {X : Type 0} (xs : List X) (n : ℕ) (x : X) → slice_get xs n ≡ Some x → In x xs
+in_get [] n x h = absurd (none_some x h)
+in_get (y ∷ xs) zero x h = inl (some_is y x h)
+in_get (y ∷ xs) (suc n) x h = inr (in_get xs n x h)
+
+pub all_at : {X : Type 0} (P : X → Type 0) (xs : List X) (x : X) → AllByRecursion P xs → In x xs → P x
+all_at P [] x all i = absurd i
+all_at P (y ∷ xs) x all (inl e) = subst P e all.0
+all_at P (y ∷ xs) x all (inr i) = all_at P xs x all.1 i
+
+pub all_push : {X : Type 0} (P : X → Type 0) (xs : List X) (x : X) → AllByRecursion P xs → P x → AllByRecursion P (xs ++ x ∷ [])
+all_push P [] x all h = (h, tt)
+all_push P (y ∷ xs) x all h = (all.0, all_push P xs x all.1 h)
+
+-- ---- finding
+
+pub record Found {X : Type 0} (p : X → Bool) (xs : List X) (x : X) : Type 0 where
+  pub among : In x xs
+  pub so : p x ≡ true
+
+found_or : {X : Type 0} (p : X → Bool) (y : X) (xs : List X) (x : X) (b : Bool) → p y ≡ b → (if b then Some y else find p xs) ≡ Some x → (find p xs ≡ Some x → Found p xs x) → Found p (y ∷ xs) x
+found_or p y xs x true e h f = let same = some_is y x h in record { among = inl same; so = ap p (sym same) ∙ e }
+found_or p y xs x false e h f = let g = f h in record { among = inr g.among; so = g.so }
+
+pub found : {X : Type 0} (p : X → Bool) (xs : List X) (x : X) → find p xs ≡ Some x → Found p xs x
+found p [] x h = absurd (none_some x h)
+found p (y ∷ xs) x h = found_or p y xs x (p y) refl h (found p xs x)
+
+pub not_found : {X : Type 0} (p : X → Bool) (xs : List X) → find p xs ≡ None → (x : X) → In x xs → p x ≡ false
+not_found p [] h x i = absurd i
+not_found p (y ∷ xs) h x i = elim (either (p y)) [
+  | inl t ↦ (let bad : Some y ≡ None = rw t at h in absurd (none_some y (sym bad)))
+  | inr f ↦ elim i [ inl e ↦ ap p (sym e) ∙ f | inr j ↦ not_found p xs (rw f at h) x j ]
+]
+
+pub any_found : {X : Type 0} (p : X → Bool) (xs : List X) → list_any p xs ≡ true → (x : X) × Found p xs x
+any_found p [] h = absurd (clash false h refl)
+any_found p (y ∷ xs) h = elim (either (p y)) [
+  | inl t ↦ (y, record { among = inl refl; so = t })
+  | inr f ↦ (let r = any_found p xs (rw f at h) in (r.0, record { among = inr r.1.among; so = r.1.so }))
+]
+
+pub not_any : {X : Type 0} (p : X → Bool) (xs : List X) → list_any p xs ≡ false → (x : X) → In x xs → p x ≡ false
+not_any p [] h x i = absurd i
+not_any p (y ∷ xs) h x i = elim (either (p y)) [
+  | inl t ↦ (let bad : true ≡ false = rw t at h in absurd (clash true refl bad))
+  | inr f ↦ elim i [ inl e ↦ ap p (sym e) ∙ f | inr j ↦ not_any p xs (rw f at h) x j ]
+]
+
+-- ---- sums
+
+pub sum_below : {X : Type 0} (f g : X → ℕ) → ((x : X) → f x ≤ g x) → (xs : List X) → sum_by f xs ≤ sum_by g xs
+sum_below f g h [] = omega arith
+sum_below f g h (x ∷ xs) = omega (arith, sum_by-cons f x xs, sum_by-cons g x xs, h x, sum_below f g h xs)
+
+-- where one element's part grows by one and none falls, the sum grows by one
+pub sum_grows : {X : Type 0} (f g : X → ℕ) → ((x : X) → f x ≤ g x) → (x : X) (xs : List X) → In x xs → f x + 1 ≤ g x → sum_by f xs + 1 ≤ sum_by g xs
+sum_grows f g h x [] i more = absurd i
+sum_grows f g h x (y ∷ xs) (inl e) more =
+    let a : f y ≡ f x = ap f e in
+    let b : g y ≡ g x = ap g e in
+    omega (arith, a, b, more, sum_by-cons f y xs, sum_by-cons g y xs, sum_below f g h xs)
+sum_grows f g h x (y ∷ xs) (inr i) more = omega (arith, h y, sum_by-cons f y xs, sum_by-cons g y xs, sum_grows f g h x xs i more)
+
+-- one element's part of a sum
+pub sum_has : {X : Type 0} (f : X → ℕ) (x : X) (xs : List X) → In x xs → f x ≤ sum_by f xs
+sum_has f x [] i = absurd i
+sum_has f x (y ∷ xs) (inl e) = let s : f y ≡ f x = ap f e in omega (arith, s, sum_by-cons f y xs)
+sum_has f x (y ∷ xs) (inr i) = omega (arith, sum_has f x xs i, sum_by-cons f y xs)
+
+pub sum_plus : {X : Type 0} (f g : X → ℕ) (xs : List X) → sum_by (λ x. f x + g x) xs ≡ sum_by f xs + sum_by g xs
+sum_plus f g [] = refl
+sum_plus f g (x ∷ xs) = omega (arith, sum_by-cons (λ x. f x + g x) x xs, sum_by-cons f x xs, sum_by-cons g x xs, sum_plus f g xs)

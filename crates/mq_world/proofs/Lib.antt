@@ -1,0 +1,10 @@
+pub mod Basics
+pub mod Known
+pub mod Numbers
+pub mod Ranges
+pub mod Lines
+pub mod Grounds
+pub mod Runs
+pub mod Takes
+pub mod Worlds
+pub mod Within

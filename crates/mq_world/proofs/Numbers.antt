@@ -1,0 +1,66 @@
+-- The numbers of a run: an exchange more, or one that ends otherwise, takes no request away.
+use Rattle.std.proofs.Common.{◌≡◌, ℕ, ◌+◌, ◌≤◌, ◌==◌, Bool, true, false, List, [], ◌∷◌, sym, ap, ◌∙◌, arith, Some}
+use Rattle.std.specs.Prelude.{if◌then◌else◌}
+use Rattle.std.proofs.lemmas.Bool.{ne_eqb}
+use Rattle.mq_frame.specs.declared.message.Id.{Id}
+use Rattle.mq_frame.specs.declared.message.Request.{Request}
+use Rattle.mq_client.specs.Exchanges.{Exchange}
+use Rattle.mq_client.specs.Past.{Source, Action, Ask, Close, Drain, Step, id_of}
+use Rattle.mq_client.specs.Reading.{numbers_in, takes_number}
+use Rattle.mq_client.specs.Numbered.{id_in, request_under, IsNumbered}
+use Rattle.mq_world.specs.World.{source_of, begun}
+use Rattle.mq_world.proofs.Basics.{some_is}
+
+-- the request has a number of the source
+pub record IsOwn (s : Source) (q : Request) : Type 0 where
+  pub number : ℕ
+  pub id : id_in q ≡ Some (id_of s number)
+
+pub numbered_own : (s : Source) (P : List Step) (q : Request) → IsNumbered s P q → IsOwn s q
+numbered_own s P q i = record { number = i.number; id = i.id }
+
+pub same_own : (s u : Source) (q : Request) → IsOwn s q → IsOwn u q → s ≡ u
+same_own s u q a b = ap source_of (some_is (id_of s a.number) (id_of u b.number) (sym a.id ∙ b.id))
+
+seq_is : (s : Source) (m n : ℕ) → Some (id_of s m) ≡ Some (id_of s n) → m ≡ n
+seq_is s m n e = ap (λ (i : Id). i.seq) (some_is (id_of s m) (id_of s n) e)
+
+-- a number has one request
+pub one_request : (s : Source) (P : List Step) (q r : Request) → IsNumbered s P q → IsNumbered s P r → id_in q ≡ id_in r → q ≡ r
+one_request s P q r i j e =
+    let same : i.number ≡ j.number = seq_is s i.number j.number (sym i.id ∙ e ∙ j.id) in
+    some_is q r (sym i.under ∙ ap (request_under s P) same ∙ j.under)
+
+more_numbers : (n : ℕ) (b : Bool) → n ≤ (if b then n + 1 else n)
+more_numbers n true = omega arith
+more_numbers n false = omega arith
+
+-- a step begins
+pub begun_numbered : (s : Source) (a : Action) (P : List Step) (q : Request) → IsNumbered s P q → IsNumbered s (begun a ∷ P) q
+begun_numbered s a P q i = record {
+  number = i.number;
+  used = (let m = more_numbers (numbers_in P) (takes_number P a []) in let u = i.used in omega (arith, u, m));
+  id = i.id;
+  under = (let u = i.used in rw (ne_eqb (numbers_in P + 1) i.number (λ e. omega (arith, e, u))) i.under);
+}
+
+-- an exchange more
+pub more_numbered : (s : Source) (a : Action) (x : Exchange) (g : List Exchange) (P : List Step) (q : Request) → IsNumbered s (record { action = a; group = g } ∷ P) q → IsNumbered s (record { action = a; group = x ∷ g } ∷ P) q
+more_numbered s (Ask txn at login) x [] P q i = record {
+  number = i.number;
+  used = (let u : i.number ≤ numbers_in P = i.used in omega (arith, u));
+  id = i.id;
+  under = (let u : i.number ≤ numbers_in P = i.used in
+      let other : (numbers_in P + 1 == i.number) ≡ false = ne_eqb (numbers_in P + 1) i.number (λ e. omega (arith, e, u)) in
+      let old : request_under s P i.number ≡ Some q = rw other at i.under in
+      rw other old);
+}
+more_numbered s (Ask txn at login) x (y ∷ g) P q i = record { number = i.number; used = i.used; id = i.id; under = i.under }
+more_numbered s (Close txn end) x g P q i = record { number = i.number; used = i.used; id = i.id; under = i.under }
+more_numbered s Drain x g P q i = record { number = i.number; used = i.used; id = i.id; under = i.under }
+
+-- an exchange ends otherwise
+pub ended_numbered : (s : Source) (a : Action) (x y : Exchange) (g : List Exchange) (P : List Step) (q : Request) → IsNumbered s (record { action = a; group = x ∷ g } ∷ P) q → IsNumbered s (record { action = a; group = y ∷ g } ∷ P) q
+ended_numbered s (Ask txn at login) x y g P q i = record { number = i.number; used = i.used; id = i.id; under = i.under }
+ended_numbered s (Close txn end) x y g P q i = record { number = i.number; used = i.used; id = i.id; under = i.under }
+ended_numbered s Drain x y g P q i = record { number = i.number; used = i.used; id = i.id; under = i.under }

@@ -1,0 +1,290 @@
+-- One run against any others.
+use Rattle.std.proofs.Common.{◌≡◌, ℕ, ◌+◌, List, [], ◌∷◌, Bool, true, false, refl, ◌∙◌, ap, sym, subst, inl, inr, Option, None, Some}
+use Rattle.std.specs.Prelude.{length}
+use Rattle.mq_frame.specs.Range.{IsHost, IsRun, IsRequest, IsReply}
+use Rattle.mq_frame.specs.Spelling.{request_body, reply_body, frame}
+use Rattle.mq_frame.specs.declared.message.Id.{Id}
+use Rattle.mq_frame.specs.declared.message.Request.{Request}
+use Rattle.mq_frame.specs.declared.message.Request.TheVariants.{Reserve, Settle, Release, Limit, Usage, List as ListRequest}
+use Rattle.mq_frame.specs.declared.message.Reply.{Reply}
+use Rattle.mq_frame.specs.declared.message.Reply.TheVariants as reply
+use Rattle.mq_ledger.specs.declared.entry.Entry.{Entry}
+use Rattle.mq_ledger.specs.History.{counted}
+use Rattle.mq_ledger.specs.Suits.{Suits as RepliesSuit}
+use Rattle.mq_client.specs.Exchanges.{Exchange, answers_reserve, answers_closing, decides, Brings, IsDecision, request_frame}
+use Rattle.mq_client.specs.Past.{Source, Action, Ask, Close, Drain, Step, View, view, answer_of, answer_by, held_by, id_of, reserve_of, refuses}
+use Rattle.mq_client.specs.Turns.{next, AreUnderway}
+use Rattle.mq_client.specs.Numbered.{id_in, IsNumbered, NoneReturns}
+use Rattle.mq_client.specs.declared.held.Asked.TheVariants as asked
+use Rattle.mq_client.specs.declared.link.LinkFault.TheVariants.{Down}
+use Rattle.mq_client.specs.declared.link.Outcome.{Outcome}
+use Rattle.mq_client.specs.declared.link.Outcome.TheVariants.{Answered, Faulted}
+use Rattle.mq_world.specs.World.{begun, with_exchange, MayCome}
+use Rattle.mq_world.proofs.Basics.{clash, none_some, In, in_get}
+use Rattle.mq_world.proofs.Known.{OfFrames, OfClients}
+use Rattle.mq_world.proofs.Numbers.{IsOwn, one_request, numbered_own, begun_numbered, more_numbered, ended_numbered}
+use Rattle.mq_world.proofs.Ranges.{IsAsked, AreAsked, next_among, free_ask, next_in_range}
+use Rattle.mq_world.proofs.Grounds.{is_grant, GrantedIn, IsGround, IsGrounded}
+
+abbrev pub is_settle : Request → Bool
+is_settle (Settle id txn at login count) = true
+is_settle _ = false
+
+abbrev pub count_of : Request → ℕ
+count_of (Settle id txn at login count) = count
+count_of _ = 0
+
+-- the entry that a reply is of
+pub record Wrote (H : List Entry) (a : Reply) : Type 0 where
+  pub entry : Entry
+  pub among : In entry H
+  pub is : entry.reply ≡ a
+
+-- what holds of one run, whatever the others do
+pub record Holds (s : Source) (tries : ℕ) (P : List Step) (H : List Entry) (sent written : List (List ℕ)) : Type 0 where
+  pub host : IsHost s.host
+  pub run : IsRun s.run
+  pub underway : AreUnderway s tries P
+  pub returns : NoneReturns s P
+  pub asks : AreAsked P
+  pub sends : (q : Request) → In (frame (request_body q)) sent → IsRequest q → IsOwn s q → IsNumbered s P q
+  pub taken : (e : Entry) → In e H → IsOwn s e.request → IsNumbered s P e.request
+  pub wrote : (a : Reply) (q : Request) → In (frame (reply_body a)) written → IsReply a → IsOwn s q → decides q a ≡ true → Wrote H a
+  pub ground : IsGrounded s H P
+  pub settled : (e : Entry) → In e H → IsOwn s e.request → is_settle e.request ≡ true → counted e.request e.reply ≡ count_of e.request
+
+abbrev pub AllSuit : List Entry → Type 0
+AllSuit H = (e : Entry) → In e H → RepliesSuit e.request e.reply
+
+-- an exchange that is on its way counts as one that failed
+abbrev pub failing : Request → Exchange
+failing q = record { request = q; outcome = Faulted Down; decided = None }
+
+abbrev pub so_far : Option Request → List Step → List Step
+so_far None P = P
+so_far (Some q) P = with_exchange (failing q) P
+
+abbrev pub step : Action → List Exchange → Step
+step a g = record { action = a; group = g }
+
+-- ---- numbers of replies
+
+abbrev pub reply_id : Reply → Option Id
+reply_id (reply.Granted id used) = Some id
+reply_id (reply.Full id used cap) = Some id
+reply_id (reply.Settled id count) = Some id
+reply_id (reply.Released id held) = Some id
+reply_id (reply.LimitSet id) = Some id
+reply_id (reply.Over id day used) = Some id
+reply_id (reply.Closed id) = Some id
+reply_id (reply.Mismatch id) = Some id
+reply_id (reply.TooMany id held) = Some id
+reply_id (reply.Conflict id) = Some id
+reply_id _ = None
+
+reserve_answered : OfFrames → (id : Id) (a : Reply) → answers_reserve id a ≡ true → Some id ≡ reply_id a
+reserve_answered F id (reply.Granted i used) h = ap Some ((F.same_ids id i).0 h)
+reserve_answered F id (reply.Full i used cap) h = ap Some ((F.same_ids id i).0 h)
+reserve_answered F id (reply.Closed i) h = ap Some ((F.same_ids id i).0 h)
+reserve_answered F id (reply.Mismatch i) h = ap Some ((F.same_ids id i).0 h)
+reserve_answered F id (reply.Conflict i) h = ap Some ((F.same_ids id i).0 h)
+reserve_answered F id a h = absurd (clash false h refl)
+
+closing_answered : OfFrames → (id : Id) (a : Reply) → answers_closing id a ≡ true → Some id ≡ reply_id a
+closing_answered F id (reply.Settled i count) h = ap Some ((F.same_ids id i).0 h)
+closing_answered F id (reply.Released i held) h = ap Some ((F.same_ids id i).0 h)
+closing_answered F id (reply.Closed i) h = ap Some ((F.same_ids id i).0 h)
+closing_answered F id (reply.Mismatch i) h = ap Some ((F.same_ids id i).0 h)
+closing_answered F id (reply.TooMany i held) h = ap Some ((F.same_ids id i).0 h)
+closing_answered F id (reply.Conflict i) h = ap Some ((F.same_ids id i).0 h)
+closing_answered F id a h = absurd (clash false h refl)
+
+-- a reply that decides a request has its number
+pub decided_id : OfFrames → (q : Request) (a : Reply) → decides q a ≡ true → id_in q ≡ reply_id a
+decided_id F (Reserve id txn at login count) a h = reserve_answered F id a h
+decided_id F (Settle id txn at login count) a h = closing_answered F id a h
+decided_id F (Release id txn at login) a h = closing_answered F id a h
+decided_id F q a h = absurd (clash false h refl)
+
+-- a reply to a request has its number
+pub suited_id : (r : Request) (a : Reply) (i : Id) → RepliesSuit r a → reply_id a ≡ Some i → id_in r ≡ Some i
+suited_id (Reserve id txn at login count) (reply.Granted j used) i h e = ap Some (sym h) ∙ e
+suited_id (Reserve id txn at login count) (reply.Full j used cap) i h e = ap Some (sym h) ∙ e
+suited_id (Reserve id txn at login count) (reply.Closed j) i h e = ap Some (sym h) ∙ e
+suited_id (Reserve id txn at login count) (reply.Mismatch j) i h e = ap Some (sym h) ∙ e
+suited_id (Reserve id txn at login count) (reply.Conflict j) i h e = ap Some (sym h) ∙ e
+suited_id (Settle id txn at login count) (reply.Settled j n) i h e = ap Some (sym h.0) ∙ e
+suited_id (Settle id txn at login count) (reply.TooMany j held) i h e = ap Some (sym h) ∙ e
+suited_id (Settle id txn at login count) (reply.Closed j) i h e = ap Some (sym h) ∙ e
+suited_id (Settle id txn at login count) (reply.Mismatch j) i h e = ap Some (sym h) ∙ e
+suited_id (Settle id txn at login count) (reply.Conflict j) i h e = ap Some (sym h) ∙ e
+suited_id (Release id txn at login) (reply.Released j held) i h e = ap Some (sym h) ∙ e
+suited_id (Release id txn at login) (reply.Closed j) i h e = ap Some (sym h) ∙ e
+suited_id (Release id txn at login) (reply.Mismatch j) i h e = ap Some (sym h) ∙ e
+suited_id (Release id txn at login) (reply.Conflict j) i h e = ap Some (sym h) ∙ e
+suited_id (Limit id from c login) (reply.LimitSet j) i h e = ap Some (sym h) ∙ e
+suited_id (Limit id from c login) (reply.Over j day used) i h e = ap Some (sym h) ∙ e
+suited_id (Limit id from c login) (reply.Conflict j) i h e = ap Some (sym h) ∙ e
+suited_id (Usage login day) (reply.Usage l d x y z) i h e = absurd (none_some i e)
+suited_id (ListRequest day after) (reply.List d rows) i h e = absurd (none_some i e)
+suited_id r a i h e = absurd h
+
+-- so the request that it replies to has the number of the one that it decides
+pub same_id_by : OfFrames → (s : Source) (q r : Request) (a : Reply) → IsOwn s q → decides q a ≡ true → RepliesSuit r a → id_in r ≡ id_in q
+same_id_by F s q r a own d suits = suited_id r a (id_of s own.number) suits (sym (decided_id F q a d) ∙ own.id) ∙ sym own.id
+
+pub own_by : (s : Source) (q r : Request) → IsOwn s q → id_in r ≡ id_in q → IsOwn s r
+own_by s q r own same = record { number = own.number; id = same ∙ own.id }
+
+-- ---- a step begins
+
+unavailable_not : asked.Unavailable ≡ asked.Granted → ⊥
+unavailable_not e = cc
+
+no_ground : (s : Source) (H : List Entry) (v : View) (a : Action) (g : List Exchange) → answer_of g ≡ asked.Unavailable → IsGround s H v a g
+no_ground s H v (Ask txn at login) g z = λ o. absurd (unavailable_not (sym z ∙ o))
+no_ground s H v (Close txn end) g z = tt
+no_ground s H v Drain g z = tt
+
+pub begins : (s : Source) (tries : ℕ) (P : List Step) (H : List Entry) (sent written : List (List ℕ)) (a : Action) → NoneReturns s (begun a ∷ P) → IsAsked a → Holds s tries P H sent written → Holds s tries (begun a ∷ P) H sent written
+begins s tries P H sent written a fresh i h = record {
+  host = h.host;
+  run = h.run;
+  underway = (tt, h.underway);
+  returns = fresh;
+  asks = (i, h.asks);
+  sends = λ q j r own. begun_numbered s a P q (h.sends q j r own);
+  taken = λ e j own. begun_numbered s a P e.request (h.taken e j own);
+  wrote = h.wrote;
+  ground = (no_ground s H (view s P) a [] refl, h.ground);
+  settled = h.settled;
+}
+
+-- ---- a frame is sent
+
+none_brought : (q : Request) → IsDecision q (Faulted Down) None
+none_brought q = λ a b. absurd b
+
+pub sends_on : OfFrames → OfClients → (s : Source) (tries : ℕ) (P : List Step) (H : List Entry) (sent written : List (List ℕ)) (a : Action) (g : List Exchange) (q : Request) → next s tries (view s P) a g ≡ Some q
+    → Holds s tries (step a g ∷ P) H sent written → Holds s tries (step a (failing q ∷ g) ∷ P) H (request_frame q ∷ sent) written
+sends_on F C s tries P H sent written a g q e h =
+    let u : AreUnderway s tries (step a (failing q ∷ g) ∷ P) = ((e, none_brought q, h.underway.0), h.underway.1) in
+    let range : IsRequest q = next_in_range C.bounded s tries a g (failing q) P h.host h.run h.asks u in
+    let new : IsNumbered s (step a (failing q ∷ g) ∷ P) q = (C.sent s tries (step a (failing q ∷ g) ∷ P) u).0 in
+    record {
+      host = h.host;
+      run = h.run;
+      underway = u;
+      returns = h.returns;
+      asks = h.asks;
+      sends = λ r i k own. elim i [
+        | inl same ↦ subst (IsNumbered s (step a (failing q ∷ g) ∷ P)) (F.one_request q r range k same) new
+        | inr j ↦ more_numbered s a (failing q) g P r (h.sends r j k own)
+      ];
+      taken = λ x i own. more_numbered s a (failing q) g P x.request (h.taken x i own);
+      wrote = h.wrote;
+      ground = (no_ground s H (view s P) a (failing q ∷ g) refl, h.ground.1);
+      settled = h.settled;
+    }
+
+-- what is sent has a number of the run
+pub sends_own : OfClients → (s : Source) (tries : ℕ) (P : List Step) (H : List Entry) (sent written : List (List ℕ)) (a : Action) (g : List Exchange) (q : Request) → next s tries (view s P) a g ≡ Some q → Holds s tries (step a g ∷ P) H sent written → IsRequest q × IsOwn s q
+sends_own C s tries P H sent written a g q e h =
+    let u : AreUnderway s tries (step a (failing q ∷ g) ∷ P) = ((e, none_brought q, h.underway.0), h.underway.1) in
+    (next_in_range C.bounded s tries a g (failing q) P h.host h.run h.asks u, numbered_own s (step a (failing q ∷ g) ∷ P) q (C.sent s tries (step a (failing q ∷ g) ∷ P) u).0)
+
+-- ---- an exchange ends
+
+-- a reply that the exchange brings, and that decides the request, was written
+abbrev pub Comes : (written : List (List ℕ)) → Request → Outcome → Type 0
+Comes written q o = (a : Reply) → Brings o a → decides q a ≡ true → In (frame (reply_body a)) written × IsReply a
+
+-- an answer Granted comes of a reply Granted
+granted_by : (o : Option Reply) → answer_by o ≡ asked.Granted → (a : Reply) × (o ≡ Some a) × (is_grant a ≡ true)
+granted_by (Some (reply.Granted id used)) e = (reply.Granted id used, refl, refl)
+granted_by (Some (reply.Full id used cap)) e = absurd (full_not e)
+  where
+    full_not : asked.Full ≡ asked.Granted → ⊥
+    full_not e = cc
+granted_by o e = absurd (unavailable_not e)
+
+grant_of : (q : Request) (o : Outcome) (d : Option Reply) (a : Reply) → IsDecision q o d → d ≡ Some a → Brings o a × (decides q a ≡ true)
+grant_of q o d a dec e = let D : Option Reply → Type 0 = λ x. IsDecision q o x in subst D e dec
+
+heard : OfFrames → OfClients → (s : Source) (tries : ℕ) (P : List Step) (H : List Entry) (sent written : List (List ℕ)) (txn at : ℕ) (login : List ℕ) (g : List Exchange) (x : Exchange)
+    → AllSuit H → Holds s tries (step (Ask txn at login) (failing x.request ∷ g) ∷ P) H sent written → Comes written x.request x.outcome → IsDecision x.request x.outcome x.decided
+    → answer_by x.decided ≡ asked.Granted → GrantedIn s H (view s P).numbers txn at login
+heard F C s tries P H sent written txn at login g x suits h may dec e =
+    let v = view s P in
+    let Q : List Step = step (Ask txn at login) (failing x.request ∷ g) ∷ P in
+    let k = granted_by x.decided e in
+    let d = grant_of x.request x.outcome x.decided k.0 dec k.1 in
+    let came = may k.0 d.0 d.1 in
+    let number : IsNumbered s Q x.request = (C.sent s tries Q h.underway).0 in
+    let own : IsOwn s x.request = numbered_own s Q x.request number in
+    let w = h.wrote k.0 x.request came.0 came.1 own d.1 in
+    let R : Reply → Type 0 = λ a. RepliesSuit w.entry.request a in
+    let fits : RepliesSuit w.entry.request k.0 = subst R w.is (suits w.entry w.among) in
+    let same = same_id_by F s x.request w.entry.request k.0 own d.1 fits in
+    let there = h.taken w.entry w.among (own_by s x.request w.entry.request own same) in
+    let is : w.entry.request ≡ x.request = one_request s Q w.entry.request x.request there number same in
+    let free = free_ask (refuses (held_by (v.standing txn)) (length v.live) v.numbers (length v.waiting) at login) (reserve_of s (v.numbers + 1) txn at login) x.request (next_among tries _ g x.request h.underway.0.0) in
+    record {
+      entry = w.entry;
+      among = w.among;
+      request = is ∙ sym free.1;
+      granted = ap is_grant w.is ∙ k.2;
+    }
+
+heard_ground : OfFrames → OfClients → (s : Source) (tries : ℕ) (P : List Step) (H : List Entry) (sent written : List (List ℕ)) (a : Action) (g : List Exchange) (x : Exchange)
+    → AllSuit H → Holds s tries (step a (failing x.request ∷ g) ∷ P) H sent written → Comes written x.request x.outcome → IsDecision x.request x.outcome x.decided → IsGround s H (view s P) a (x ∷ g)
+heard_ground F C s tries P H sent written (Ask txn at login) g x suits h may dec = λ e. heard F C s tries P H sent written txn at login g x suits h may dec e
+heard_ground F C s tries P H sent written (Close txn end) g x suits h may dec = tt
+heard_ground F C s tries P H sent written Drain g x suits h may dec = tt
+
+pub ends_on : OfFrames → OfClients → (s : Source) (tries : ℕ) (P : List Step) (H : List Entry) (sent written : List (List ℕ)) (a : Action) (g : List Exchange) (x : Exchange)
+    → AllSuit H → Holds s tries (step a (failing x.request ∷ g) ∷ P) H sent written → Comes written x.request x.outcome → IsDecision x.request x.outcome x.decided → Holds s tries (step a (x ∷ g) ∷ P) H sent written
+ends_on F C s tries P H sent written a g x suits h may dec = record {
+  host = h.host;
+  run = h.run;
+  underway = ((h.underway.0.0, dec, h.underway.0.2), h.underway.1);
+  returns = h.returns;
+  asks = h.asks;
+  sends = λ q i r own. ended_numbered s a (failing x.request) x g P q (h.sends q i r own);
+  taken = λ e i own. ended_numbered s a (failing x.request) x g P e.request (h.taken e i own);
+  wrote = h.wrote;
+  ground = (heard_ground F C s tries P H sent written a g x suits h may dec, h.ground.1);
+  settled = h.settled;
+}
+
+-- ---- others send, and the ledger writes what it wrote
+
+pub others_send : (s : Source) (tries : ℕ) (P : List Step) (H : List Entry) (sent written : List (List ℕ)) (bytes : List ℕ) → ((q : Request) → bytes ≡ frame (request_body q) → IsRequest q → IsOwn s q → ⊥)
+    → Holds s tries P H sent written → Holds s tries P H (bytes ∷ sent) written
+others_send s tries P H sent written bytes others h = record {
+  host = h.host;
+  run = h.run;
+  underway = h.underway;
+  returns = h.returns;
+  asks = h.asks;
+  sends = λ q i r own. elim i [ inl e ↦ absurd (others q e r own) | inr j ↦ h.sends q j r own ];
+  taken = h.taken;
+  wrote = h.wrote;
+  ground = h.ground;
+  settled = h.settled;
+}
+
+pub writes_on : (s : Source) (tries : ℕ) (P : List Step) (H : List Entry) (sent written : List (List ℕ)) (bytes : List ℕ) → ((a : Reply) (q : Request) → bytes ≡ frame (reply_body a) → IsReply a → IsOwn s q → decides q a ≡ true → Wrote H a)
+    → Holds s tries P H sent written → Holds s tries P H sent (bytes ∷ written)
+writes_on s tries P H sent written bytes known h = record {
+  host = h.host;
+  run = h.run;
+  underway = h.underway;
+  returns = h.returns;
+  asks = h.asks;
+  sends = h.sends;
+  taken = h.taken;
+  wrote = λ a q i r own d. elim i [ inl e ↦ known a q e r own d | inr j ↦ h.wrote a q j r own d ];
+  ground = h.ground;
+  settled = h.settled;
+}

@@ -1,0 +1,140 @@
+-- Every state of the world.
+use Rattle.std.proofs.Common.{◌≡◌, ℕ, ◌≤◌, List, [], ◌∷◌, ◌++◌, Bool, true, false, refl, ◌∙◌, ap, sym, subst, inl, inr, arith, Option, None, Some, if◌then◌else◌}
+use Rattle.std.specs.Prelude.{◌==◌, slice_get, is_some}
+use Rattle.std.specs.List.{AllByRecursion}
+use Rattle.std.specs.Option.{option_map}
+use Rattle.std.proofs.lemmas.List.Elements.{recursion_from_All, All-from_recursion}
+use Rattle.mq_line.specs.Grammar.{Meaning}
+use Rattle.mq_track.specs.Sessions.{fault, begin_count}
+use Rattle.mq_frame.specs.Range.{IsRequest, IsReply}
+use Rattle.mq_frame.specs.Same.{same_text, same_request}
+use Rattle.mq_frame.specs.Spelling.{request_body, reply_body, SpellsRequest, frame}
+use Rattle.mq_frame.specs.declared.message.Id.{Id}
+use Rattle.mq_frame.specs.declared.message.Request.{Request}
+use Rattle.mq_frame.specs.declared.message.Reply.{Reply}
+use Rattle.mq_frame.specs.declared.message.Reply.TheVariants as reply
+use Rattle.mq_ledger.specs.declared.entry.Entry.{Entry}
+use Rattle.mq_ledger.specs.Answer.{answer, appended, stored, reply, reply_to, reply_by, with_arrival, with_arrival_by, history_of}
+use Rattle.mq_ledger.specs.Arrivals.{has_id, is_id, id_of as ledger_id}
+use Rattle.mq_ledger.specs.Day.{day_of}
+use Rattle.mq_ledger.specs.History.{requests}
+use Rattle.mq_ledger.specs.Legal.{Book, IsLegalBook}
+use Rattle.mq_ledger.specs.Suits.{Suits as RepliesSuit}
+use Rattle.mq_client.specs.Exchanges.{Exchange, decides, IsDecision, request_frame}
+use Rattle.mq_client.specs.Past.{Source, Action, Drain, Step, id_of}
+use Rattle.mq_client.specs.Numbered.{id_in, NoneReturns}
+use Rattle.mq_client.specs.Filter.{push, action_of, actions, actions_of}
+use Rattle.mq_world.specs.World.{Site, Run, World, fresh, IsOfOthers, IsFrameOfOthers, IsReplyToOthers, IsStart, IsUp, ReadsOn, begun, after_line, after_end, next_request, with_on_way, with_exchange, after_exchange, after_stop, MayCome, same_source, put, with_run, with_sent, book_after, after_arrival, Next, Reads, ReadsEnd, Sends, Ends, Takes, OthersSend, Stops, Reaches, AtOnce, Later}
+use Rattle.mq_world.proofs.Basics.{either, clash, none_some, first_so, second_so, both_so, text_is, text_itself, number_is, number_itself, In, in_get, all_at, all_push, found}
+use Rattle.mq_world.proofs.Known.{OfLedgers, Known}
+use Rattle.mq_world.proofs.Numbers.{IsOwn, same_own, one_request}
+use Rattle.mq_world.proofs.Lines.{counted, line_asks, push_actions}
+use Rattle.mq_world.proofs.Runs.{Wrote, Holds, AllSuit, failing, so_far, begins, sends_on, sends_own, ends_on, others_send, writes_on, same_id_by, own_by}
+use Rattle.mq_world.proofs.Takes.{ledger_number, takes_new}
+
+-- what a run read
+pub record IsRead (r : Run) : Type 0 where
+  pub counted : begin_count r.lines ≤ 4294967295
+  pub acts : r.is_at_end ≡ false → actions r.past ≡ actions_of r.lines
+
+pub record IsSound (site : Site) (w : World) : Type 0 where
+  pub ledger : IsLegalBook w.ledger
+  pub reading : (s : Source) → site.is_run s ≡ true → IsRead (w.runs s)
+  pub runs : (s : Source) → site.is_run s ≡ true → Holds s (site.tries s) (so_far (w.runs s).on_way (w.runs s).past) w.ledger.history w.sent w.written
+  pub idle : (s : Source) → site.is_run s ≡ false → w.runs s ≡ fresh
+
+pub all_suit : OfLedgers → (b : Book) → IsLegalBook b → AllSuit b.history
+all_suit L b h = λ e i. all_at (λ x. RepliesSuit x.request x.reply) b.history e (recursion_from_All (λ x. RepliesSuit x.request x.reply) b.history (L.stored (day_of b.zone) b.default b.history h.legal)) i
+
+-- ---- one run's step
+
+pub same_itself : (s : Source) → same_source s s ≡ true
+same_itself s = both_so (same_text s.host s.host) (s.run == s.run) (text_itself s.host) (number_itself s.run)
+
+source_is : (a b : Source) → same_source a b ≡ true → a ≡ b
+source_is a b h =
+    let host : a.host ≡ b.host = text_is a.host b.host (first_so (same_text a.host b.host) _ h) in
+    let run : a.run ≡ b.run = number_is a.run b.run (second_so (same_text a.host b.host) (a.run == b.run) h) in
+    λ i. record { host = host i; run = run i }
+
+-- a run in its place, and perhaps a frame that was sent
+pub put_sound : (site : Site) (w : World) (s : Source) (r : Run) (sent : List (List ℕ)) → IsSound site w → site.is_run s ≡ true → IsRead r
+    → Holds s (site.tries s) (so_far r.on_way r.past) w.ledger.history sent w.written
+    → ((u : Source) → same_source s u ≡ false → site.is_run u ≡ true → Holds u (site.tries u) (so_far (w.runs u).on_way (w.runs u).past) w.ledger.history sent w.written)
+    → IsSound site (record { runs = put s r w.runs; ledger = w.ledger; sent = sent; written = w.written })
+put_sound site w s r sent h y read own other = record {
+  ledger = h.ledger;
+  reading = λ u yu. elim (either (same_source s u)) [
+    | inl same ↦ rw same read
+    | inr differs ↦ rw differs (h.reading u yu)
+  ];
+  runs = λ u yu. elim (either (same_source s u)) [
+    | inl same ↦ (let F : Source → Type 0 = λ x. Holds x (site.tries x) (so_far r.on_way r.past) w.ledger.history sent w.written in rw same (subst F (source_is s u same) own))
+    | inr differs ↦ rw differs (other u differs yu)
+  ];
+  idle = λ u nu. elim (either (same_source s u)) [
+    | inl same ↦ absurd (clash (site.is_run u) (ap site.is_run (sym (source_is s u same)) ∙ y) nu)
+    | inr differs ↦ rw differs (h.idle u nu)
+  ];
+}
+
+-- ---- the ledger
+
+same_reply : (day : ℕ → ℕ) (default : ℕ) → Known → (s : Source) (tries : ℕ) (P : List Step) (H : List Entry) (sent written : List (List ℕ)) (id : Id) (q : Request) (e : Entry) (b : Bool) → same_request q e.request ≡ b → ledger_id q ≡ Some id → stored H id ≡ Some e
+    → In (frame (request_body q)) sent → IsRequest q → Holds s tries P H sent written
+    → RepliesSuit q (if b then e.reply else reply.Conflict id) → IsReply (if b then e.reply else reply.Conflict id)
+    → (a : Reply) (p : Request) → frame (reply_body (if b then e.reply else reply.Conflict id)) ≡ frame (reply_body a) → IsReply a → IsOwn s p → decides p a ≡ true → Wrote H a
+same_reply day default K s tries P H sent written id q e true same number there was range h suits fits a p f k own d =
+    let i = found (λ x. has_id id x.request) H e there in
+    record { entry = e; among = i.among; is = K.frames.one_reply e.reply a fits k f }
+same_reply day default K s tries P H sent written id q e false same number there was range h suits fits a p f k own d =
+    let i = found (λ x. has_id id x.request) H e there in
+    let is : reply.Conflict id ≡ a = K.frames.one_reply (reply.Conflict id) a fits k f in
+    let R : Reply → Type 0 = λ x. RepliesSuit q x in
+    let id_same : id_in q ≡ id_in p = same_id_by K.frames s p q a own d (subst R is suits) in
+    let q_own : IsOwn s q = own_by s p q own id_same in
+    let entry_id : id_in e.request ≡ Some id = entry_number e.request i.so in
+    let q_id : id_in q ≡ Some id = sym (ledger_number q) ∙ number in
+    let e_own : IsOwn s e.request = own_by s q e.request q_own (entry_id ∙ sym q_id) in
+    let one : q ≡ e.request = one_request s P q e.request (h.sends q was range q_own) (h.taken e i.among e_own) (q_id ∙ sym entry_id) in
+    absurd (clash (same_request q e.request) ((K.frames.same q e.request).1 one) same)
+  where
+    by_number : (r : Request) (o : Option Id) → is_id id o ≡ true → o ≡ Some id
+    by_number r None t = absurd (clash false t refl)
+    by_number r (Some j) t = ap Some (sym ((K.frames.same_ids id j).0 t))
+
+    entry_number : (r : Request) → has_id id r ≡ true → id_in r ≡ Some id
+    entry_number r t = sym (ledger_number r) ∙ by_number r (ledger_id r) t
+
+takes_by : (day : ℕ → ℕ) (default : ℕ) → Known → (s : Source) (tries : ℕ) (P : List Step) (H : List Entry) (sent written : List (List ℕ)) (id : Id) (q : Request) (m : Option Entry) → ledger_id q ≡ Some id → stored H id ≡ m
+    → In (frame (request_body q)) sent → IsRequest q → AllSuit H → RepliesSuit q (reply_by day default H q id m) → IsReply (reply_by day default H q id m) → Holds s tries P H sent written
+    → Holds s tries P (if is_some m then H else appended day default H q) sent (frame (reply_body (reply_by day default H q id m)) ∷ written)
+takes_by day default K s tries P H sent written id q None number there was range suits fit fits h =
+    takes_new day default K.frames K.clients K.ledgers s tries P H sent written id q was range number there fits suits h
+takes_by day default K s tries P H sent written id q (Some e) number there was range suits fit fits h =
+    writes_on s tries P H sent written (frame (reply_body (reply_by day default H q id (Some e))))
+    (same_reply day default K s tries P H sent written id q e (same_request q e.request) refl number there was range h fit fits) h
+
+pub takes_any : (day : ℕ → ℕ) (default : ℕ) → Known → (s : Source) (tries : ℕ) (P : List Step) (H : List Entry) (sent written : List (List ℕ)) (q : Request) (o : Option Id) → ledger_id q ≡ o
+    → In (frame (request_body q)) sent → IsRequest q → AllSuit H → RepliesSuit q (reply_to day default H q o) → IsReply (reply_to day default H q o) → Holds s tries P H sent written
+    → Holds s tries P (with_arrival_by day default H q o) sent (frame (reply_body (reply_to day default H q o)) ∷ written)
+takes_any day default K s tries P H sent written q (Some id) number was range suits fit fits h = takes_by day default K s tries P H sent written id q (stored H id) number refl was range suits fit fits h
+takes_any day default K s tries P H sent written q None number was range suits fit fits h =
+    writes_on s tries P H sent written (frame (reply_body (answer day default H q)))
+    (λ a p f k own d. (let is : answer day default H q ≡ a = K.frames.one_reply (answer day default H q) a fits k f in
+    let R : Reply → Type 0 = λ x. RepliesSuit q x in
+    let id_same : id_in q ≡ id_in p = same_id_by K.frames s p q a own d (subst R is fit) in
+    absurd (none_some (id_of s own.number) (sym number ∙ ledger_number q ∙ id_same ∙ own.id)))) h
+
+requests_all : (P : Request → Type 0) (H : List Entry) → AllByRecursion (λ e. P e.request) H → AllByRecursion P (requests H)
+requests_all P [] all = tt
+requests_all P (e ∷ H) all = (all.0, requests_all P H all.1)
+
+-- the ledger stays legal
+pub legal_after : Known → (b : Book) (q : Request) → IsRequest q → IsLegalBook b → IsLegalBook (book_after b q)
+legal_after K b q range h = record {
+  zone = h.zone;
+  default = h.default;
+  legal = K.ledgers.legal (day_of b.zone) b.default (requests b.history ++ q ∷ [])
+      (All-from_recursion IsRequest (requests b.history ++ q ∷ []) (all_push IsRequest (requests b.history) q (requests_all IsRequest b.history (recursion_from_All (λ e. IsRequest e.request) b.history h.legal.range)) range));
+}

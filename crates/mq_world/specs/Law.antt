@@ -1,0 +1,42 @@
+-- What was let through, over all hosts and runs.
+use Rattle.std.specs.Prelude.{ℕ, List, Bool, false, ◌==◌, ◌&&◌, if◌then◌else◌, Option, None, Some, sum_by}
+use Rattle.mq_frame.specs.Same.{same_text}
+use Rattle.mq_ledger.specs.Day.{day_of}
+use Rattle.mq_ledger.specs.History.{Transaction}
+use Rattle.mq_client.specs.Past.{Source, Standing, Never, Live, Ended, is_commit}
+use Rattle.mq_client.specs.Reading.{standing_in}
+use Rattle.mq_client.specs.declared.held.Held.{Held}
+use Rattle.mq_world.specs.World.{World}
+
+-- the run that a transaction is of
+abbrev pub run_of : Transaction → Source
+run_of t = record { host = t.host; run = t.run }
+
+abbrev pub standing_of : World → Transaction → Standing
+standing_of w t = standing_in (w.runs (run_of t)).past t.txn
+
+-- a transaction that is live, or whose last close that found it live was a commit
+abbrev pub counting : Standing → Option Held
+counting Never = None
+counting (Live h) = Some h
+counting (Ended end seq h) = if is_commit end then Some h else None
+
+abbrev pub granted_of : Option Held → ℕ
+granted_of None = 0
+granted_of (Some h) = h.granted
+
+-- how many of its recipients were let through
+abbrev pub let_by : Standing → ℕ
+let_by st = granted_of (counting st)
+
+abbrev pub is_on : (ℕ → ℕ) → List ℕ → ℕ → Option Held → Bool
+is_on day l d None = false
+is_on day l d (Some h) = same_text l h.login && (day h.at == d)
+
+-- the same, where it is of that login and day
+abbrev pub let_on : (ℕ → ℕ) → List ℕ → ℕ → Standing → ℕ
+let_on day l d st = if is_on day l d (counting st) then let_by st else 0
+
+-- the sum over some transactions
+abbrev pub let_together : World → List ℕ → ℕ → List Transaction → ℕ
+let_together w l d ts = sum_by (λ t. let_on (day_of w.ledger.zone) l d (standing_of w t)) ts
