@@ -293,28 +293,42 @@ fn assert_schedule<L: Ledger + Drop>(
     Ok(())
 }
 
-const NONE_YET: Tally = Tally {
-    steps: 0,
-    arrivals: 0,
-    let_through: 0,
-};
-
-#[test]
-fn schedules_over_a_list(rt: HostRuntime) -> Result<(), Fail> {
-    let mut tally = NONE_YET;
-    for seed in 0..2000u64 {
-        assert_schedule(&rt, rt.alloc(), plain(rt.alloc(), 4)?, seed, &mut tally)?;
+impl Tally {
+    fn new() -> Tally {
+        Tally {
+            steps: 0,
+            arrivals: 0,
+            let_through: 0,
+        }
     }
-    println!(rt; "2000 schedules over a list: {tally:?}")?;
-    Ok(())
 }
 
 #[test]
-fn schedules_over_tables(rt: HostRuntime) -> Result<(), Fail> {
-    let mut tally = NONE_YET;
-    for seed in 0..200u64 {
-        assert_schedule(&rt, rt.alloc(), tables(rt.alloc(), 4)?, seed, &mut tally)?;
+fn schedules_over_a_list(rt: HostRuntime) -> Result<(), Fail> {
+    let mut tally = Tally::new();
+    for seed in 0..20_000u64 {
+        assert_schedule(&rt, rt.alloc(), plain(rt.alloc(), 4)?, seed, &mut tally)?;
     }
-    println!(rt; "200 schedules over tables: {tally:?}")?;
+    println!(rt; "20,000 schedules over a list: {tally:?}")?;
+    Ok(())
+}
+
+/// Over tables each schedule goes as it goes over a list.
+#[test]
+fn schedules_over_tables(rt: HostRuntime) -> Result<(), Fail> {
+    let mut over_list = Tally::new();
+    let mut over_tables = Tally::new();
+    for seed in 100_000..102_000u64 {
+        assert_schedule(&rt, rt.alloc(), plain(rt.alloc(), 4)?, seed, &mut over_list)?;
+        assert_schedule(
+            &rt,
+            rt.alloc(),
+            tables(rt.alloc(), 4)?,
+            seed,
+            &mut over_tables,
+        )?;
+        assert_eq!(rt; over_tables, over_list, "at {seed}");
+    }
+    println!(rt; "2,000 schedules over tables: {over_tables:?}")?;
     Ok(())
 }
