@@ -79,35 +79,37 @@ pub struct Used {
     pub cap: u32,
 }
 
-/// The same, asked of a ledger.
-pub fn usage_of<L: Ledger>(
-    alloc: Global,
-    ledger: &mut L,
-    login: &[u8],
-    day: u32,
-) -> Result<Used, Fail> {
-    let login = Login::from_slice(alloc, login)?;
-    match reply_of(ledger, &Request::Usage { login, day })? {
+impl Used {
+    /// Whether what was let through is settled or reserved, and this is within the limit.
+    pub fn covers(self, let_through: u32) -> bool {
+        let taken = self.settled as u64 + self.reserved as u64;
+        let_through as u64 <= taken && taken <= self.cap as u64
+    }
+}
+
+/// What a ledger says that a login has used on a day; nothing where there is a fault.
+pub fn usage_of<L: Ledger>(alloc: Global, ledger: &mut L, login: &[u8], day: u32) -> Option<Used> {
+    let login = Login::from_slice(alloc, login).ok()?;
+    match reply_of(ledger, &Request::Usage { login, day }).ok()? {
         Reply::Usage {
             settled,
             reserved,
             cap,
             ..
-        } => Ok(Used {
+        } => Some(Used {
             settled,
             reserved,
             cap,
         }),
-        _ => Err("no usage".into()),
+        _ => None,
     }
 }
 
 /// Asserts that what was let through is settled or reserved, and that this is within the limit.
-pub fn assert_within(rt: &impl Abort, let_through: u32, used: Used) {
-    let taken = used.settled as u64 + used.reserved as u64;
-    assert!(rt;
-        let_through as u64 <= taken,
-        "{let_through} let through, {used:?}"
-    );
-    assert!(rt; taken <= used.cap as u64, "{used:?}");
+pub fn assert_covers(rt: &impl Abort, used: Option<Used>, let_through: u32) {
+    let is_covered = match used {
+        Some(used) => used.covers(let_through),
+        None => false,
+    };
+    assert!(rt; is_covered, "{let_through} let through, {used:?}");
 }

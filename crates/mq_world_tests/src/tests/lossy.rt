@@ -1,6 +1,6 @@
 //! A link that loses, repeats, delays and mixes up, by a pseudo-random generator.
 
-use super::asks::deliver;
+use super::asks::{deliver, usage_of};
 use super::scripted::answer;
 use mq_client::{Link, LinkFault};
 use mq_frame::{Request, encode_request, is_request};
@@ -51,6 +51,12 @@ impl Dice {
     }
 }
 
+/// The logins that recipients are asked for.
+pub const LOGINS: [&[u8]; 2] = [b"alice", b"bob"];
+
+/// The days of their transactions.
+pub const DAYS: [u32; 2] = [1, 2];
+
 /// A link to a ledger, with every frame that was ever sent and every reply body that was ever written.
 #[derive(Drop)]
 pub struct Lossy<L> {
@@ -59,8 +65,12 @@ pub struct Lossy<L> {
     pub dice: Dice,
     sent: Vec<Vec<u8>>,
     written: Vec<Vec<u8>>,
+    /// How many recipients of live and committed transactions were let through, for each login and day.
+    pub let_through: [u32; 4],
     /// How many frames came to the ledger.
     pub arrivals: u64,
+    /// At some moment more was let through than was settled and reserved, or this was above a limit.
+    pub passed: bool,
     /// A frame had no reply, or there was no memory.
     pub failed: bool,
 }
@@ -73,9 +83,25 @@ impl<L: Ledger + Drop> Lossy<L> {
             dice: Dice::new(seed),
             sent: Vec::new(alloc),
             written: Vec::new(alloc),
+            let_through: [0; 4],
             arrivals: 0,
+            passed: false,
             failed: false,
         }
+    }
+
+    /// Whether what was let through is settled or reserved, and this is within the limit, for each login
+    /// and day.
+    fn is_covered(&mut self) -> bool {
+        for (place, let_through) in self.let_through.iter().enumerate() {
+            let login = LOGINS[place / 2 % 2];
+            let used = usage_of(self.alloc, &mut self.ledger, login, DAYS[place % 2]);
+            match used {
+                Some(used) if used.covers(*let_through) => {}
+                _ => return false,
+            }
+        }
+        true
     }
 
     /// A frame comes to the ledger, and its reply is written.
@@ -85,6 +111,7 @@ impl<L: Ledger + Drop> Lossy<L> {
             self.failed = true;
             return None;
         };
+        self.passed |= !self.is_covered();
         let copied = Vec::from_slice(self.alloc, body.as_slice());
         self.failed |= keep(&mut self.written, copied.ok());
         Some(body)

@@ -1,7 +1,7 @@
 //! Random schedules of several hosts over one ledger, from fixed seeds.
 
-use super::asks::{assert_within, plain, tables, usage_of};
-use super::lossy::Lossy;
+use super::asks::{assert_covers, plain, tables, usage_of};
+use super::lossy::{DAYS, LOGINS, Lossy};
 use log::sink::Discard;
 use mq_client::{Asked, Client, Memory};
 use mq_frame::{Host, Id, Login, Request, is_host, is_login, is_moment, is_run};
@@ -14,12 +14,8 @@ use std::test::*;
 /// The hosts with a filter.
 const HOSTS: [&[u8]; 4] = [b"mx1", b"mx2", b"mx3", b"mx4"];
 
-const LOGINS: [&[u8]; 2] = [b"alice", b"bob"];
-
 /// The first and the last second of two days.
 const MOMENTS: [u64; 4] = [86_400, 172_799, 172_800, 259_199];
-
-const DAYS: [u32; 2] = [1, 2];
 
 /// How many steps a schedule has.
 const STEPS: u32 = 60;
@@ -50,23 +46,17 @@ struct Sender {
     open: Vec<Open>,
 }
 
-/// How many recipients of live and committed transactions were let through, for each login and day.
-#[derive(Clone, Copy)]
-struct Sums {
-    counts: [u32; 4],
+/// One more of a login and day was let through.
+fn add(sums: &mut [u32; 4], place: usize) {
+    if let Some(count) = sums.get_mut(place) {
+        *count = count.saturating_add(1);
+    }
 }
 
-impl Sums {
-    fn add(&mut self, place: usize) {
-        if let Some(count) = self.counts.get_mut(place) {
-            *count = count.saturating_add(1);
-        }
-    }
-
-    fn subtract(&mut self, place: usize, dropped: u32) {
-        if let Some(count) = self.counts.get_mut(place) {
-            *count = count.saturating_sub(dropped);
-        }
+/// So many of them were dropped.
+fn subtract(sums: &mut [u32; 4], place: usize, dropped: u32) {
+    if let Some(count) = sums.get_mut(place) {
+        *count = count.saturating_sub(dropped);
     }
 }
 
@@ -116,7 +106,7 @@ impl Sender {
     }
 
     /// A recipient of an open transaction is asked for. Where none is open, one begins.
-    fn ask<L: Ledger + Drop>(&mut self, link: &mut Lossy<L>, sums: &mut Sums) -> Result<(), Fail> {
+    fn ask<L: Ledger + Drop>(&mut self, link: &mut Lossy<L>) -> Result<(), Fail> {
         if self.open.is_empty() {
             self.begin(link)?;
         }
@@ -126,24 +116,20 @@ impl Sender {
         };
         if reserve(link, &mut self.client, open)? == Asked::Granted {
             open.let_through = open.let_through.saturating_add(1);
-            sums.add(open.place());
+            add(&mut link.let_through, open.place());
         }
         Ok(())
     }
 
     /// An open transaction ends.
-    fn close<L: Ledger + Drop>(
-        &mut self,
-        link: &mut Lossy<L>,
-        sums: &mut Sums,
-    ) -> Result<(), Fail> {
+    fn close<L: Ledger + Drop>(&mut self, link: &mut Lossy<L>) -> Result<(), Fail> {
         let place = link.dice.place(self.open.len());
         if self.open.len() <= place {
             return Ok(());
         }
         let open = self.open.swap_remove(place);
         let end = if link.dice.below(3) == 0 {
-            sums.subtract(open.place(), open.let_through);
+            subtract(&mut link.let_through, open.place(), open.let_through);
             CloseEnd::Drop
         } else {
             CloseEnd::Commit
@@ -208,7 +194,6 @@ fn step<L: Ledger + Drop>(
     alloc: Global,
     link: &mut Lossy<L>,
     senders: &mut [Sender],
-    sums: &mut Sums,
 ) -> Result<(), Fail> {
     let place = link.dice.place(senders.len());
     let Some(sender) = senders.get_mut(place) else {
@@ -216,8 +201,8 @@ fn step<L: Ledger + Drop>(
     };
     match link.dice.below(40) {
         0..=5 => sender.begin(link),
-        6..=23 => sender.ask(link, sums),
-        24..=30 => sender.close(link, sums),
+        6..=23 => sender.ask(link),
+        24..=30 => sender.close(link),
         31 => {
             let _ = sender.client.drain(&Discard, link);
             Ok(())
@@ -239,23 +224,15 @@ fn step<L: Ledger + Drop>(
 
 /// Asserts of each login and day that what was let through is settled or reserved, and within the
 /// limit.
-fn assert_state<L: Ledger + Drop>(
-    rt: &impl Abort,
-    alloc: Global,
-    link: &mut Lossy<L>,
-    sums: &Sums,
-) -> Result<(), Fail> {
-    for (place, let_through) in sums.counts.iter().enumerate() {
+fn assert_state<L: Ledger + Drop>(rt: &impl Abort, alloc: Global, link: &mut Lossy<L>) {
+    for (place, let_through) in link.let_through.iter().enumerate() {
         let login = LOGINS[place / 2 % 2];
         let day = DAYS[place % 2];
-        assert_within(
-            rt,
-            *let_through,
-            usage_of(alloc, &mut link.ledger, login, day)?,
-        );
+        let used = usage_of(alloc, &mut link.ledger, login, day);
+        assert_covers(rt, used, *let_through);
     }
+    assert!(rt; !link.passed);
     assert!(rt; !link.failed);
-    Ok(())
 }
 
 /// What came of some schedules.
@@ -280,14 +257,13 @@ fn assert_schedule<L: Ledger + Drop>(
     for name in HOSTS.iter().take(count) {
         senders.push(Sender::new(alloc, name)?)?;
     }
-    let mut sums = Sums { counts: [0; 4] };
     for _ in 0..STEPS {
-        step(alloc, &mut link, senders.as_mut_slice(), &mut sums)?;
-        assert_state(rt, alloc, &mut link, &sums)?;
+        step(alloc, &mut link, senders.as_mut_slice())?;
+        assert_state(rt, alloc, &mut link);
         tally.steps = tally.steps.saturating_add(1);
     }
     tally.arrivals = tally.arrivals.saturating_add(link.arrivals);
-    for count in sums.counts {
+    for count in link.let_through {
         tally.let_through = tally.let_through.saturating_add(count as u64);
     }
     Ok(())

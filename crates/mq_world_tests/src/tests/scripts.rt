@@ -1,6 +1,6 @@
 //! All scripts of up to five letters.
 
-use super::asks::{assert_within, plain, tables, usage_of};
+use super::asks::{assert_covers, plain, tables, usage_of};
 use super::rows::{ALICE, COMMIT, DAY, SESSION};
 use super::scripted::{Scripted, run};
 use mq_ledger::Ledger;
@@ -30,16 +30,16 @@ fn assert_script<L: Ledger + Drop>(
     let mut link = Scripted::new(alloc, ledger, script);
     let text = run(alloc, &mut link, b"mx1", &[SESSION, COMMIT])?;
     let let_through = proceeds(text.as_slice());
-    assert_within(
+    assert_covers(
         rt,
+        usage_of(alloc, &mut link.ledger, ALICE, DAY),
         let_through,
-        usage_of(alloc, &mut link.ledger, ALICE, DAY)?,
     );
     link.deliver_late();
-    assert_within(
+    assert_covers(
         rt,
+        usage_of(alloc, &mut link.ledger, ALICE, DAY),
         let_through,
-        usage_of(alloc, &mut link.ledger, ALICE, DAY)?,
     );
     Ok(())
 }
