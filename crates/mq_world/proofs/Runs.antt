@@ -18,9 +18,9 @@ use Rattle.mq_client.specs.Numbered.{id_in, IsNumbered, NoneReturns}
 use Rattle.mq_client.specs.declared.held.Asked.TheVariants as asked
 use Rattle.mq_client.specs.declared.link.LinkFault.TheVariants.{Down}
 use Rattle.mq_client.specs.declared.link.Outcome.{Outcome}
-use Rattle.mq_client.specs.declared.link.Outcome.TheVariants.{Answered, Faulted}
-use Rattle.mq_world.specs.World.{begun, with_exchange, MayCome}
-use Rattle.mq_world.proofs.Basics.{clash, none_some, In, in_get}
+use Rattle.mq_client.specs.declared.link.Outcome.TheVariants.{Faulted}
+use Rattle.mq_world.specs.World.{begun, with_exchange}
+use Rattle.mq_world.proofs.Basics.{clash, none_some, In}
 use Rattle.mq_world.proofs.Known.{OfFrames, OfClients}
 use Rattle.mq_world.proofs.Numbers.{IsOwn, one_request, numbered_own, begun_numbered, more_numbered, ended_numbered}
 use Rattle.mq_world.proofs.Ranges.{IsAsked, AreAsked, next_among, free_ask, next_in_range}

@@ -7,28 +7,24 @@ use Rattle.mq_frame.specs.declared.message.Request.{Request}
 use Rattle.mq_frame.specs.declared.message.Request.TheVariants.{Settle, Release}
 use Rattle.mq_frame.specs.declared.message.Reply.{Reply}
 use Rattle.mq_ledger.specs.declared.entry.Entry.{Entry}
-use Rattle.mq_ledger.specs.Day.{day_of}
-use Rattle.mq_ledger.specs.History.{Transaction, is_of, counted, closed, granted_in, held, settled_in, named, reserved, settled}
-use Rattle.mq_ledger.specs.Limits.{cap}
-use Rattle.mq_ledger.specs.Sums.{is_for, names_for, held_on, settled_on, AreDistinct}
+use Rattle.mq_ledger.specs.History.{Transaction, is_of, counted, closed, granted_in, held, settled_in, named}
+use Rattle.mq_ledger.specs.Sums.{is_for, names_for, held_on, settled_on}
 use Rattle.mq_client.specs.Exchanges.{Exchange, decisions}
 use Rattle.mq_client.specs.Past.{Source, Action, Ask, Close, Drain, Step, Standing, Never, Live, Ended, View, view, after, after_ask, after_close, answer_of, answer_by, let_through, opened, held_by, id_of, reserve_of, closing_of, refuses}
-use Rattle.mq_client.specs.Reading.{standing_in}
 use Rattle.mq_client.specs.Turns.{failures, next_of, AreUnderway}
 use Rattle.mq_client.specs.Numbered.{is_ended, NoneReturns, Suits}
 use Rattle.mq_track.specs.declared.closing.CloseEnd.{CloseEnd}
 use Rattle.mq_track.specs.declared.closing.CloseEnd.TheVariants as ending
 use Rattle.mq_client.specs.declared.held.Asked.TheVariants as asked
 use Rattle.mq_client.specs.declared.held.Held.{Held}
-use Rattle.mq_world.specs.World.{Site, Run, World, fresh, with_exchange}
-use Rattle.mq_world.specs.Law.{run_of, standing_of, counting, granted_of, let_by, is_on, let_on, let_together}
-use Rattle.mq_world.proofs.Basics.{either, clash, none_some, first_so, second_so, zero_or_more, number_is, In, found, any_found, not_any, sum_below, sum_plus, sum_has, option_cases}
-use Rattle.mq_world.proofs.Known.{OfLedgers, OfSums, Known}
+use Rattle.mq_world.specs.World.{with_exchange}
+use Rattle.mq_world.specs.Law.{counting, granted_of, let_by, is_on, let_on}
+use Rattle.mq_world.proofs.Basics.{either, clash, none_some, first_so, second_so, zero_or_more, number_is, In, found, any_found, not_any, sum_has, option_cases}
+use Rattle.mq_world.proofs.Known.{OfLedgers}
 use Rattle.mq_world.proofs.Ranges.{unless}
-use Rattle.mq_world.proofs.Grounds.{of_source, let_at, was_granted}
+use Rattle.mq_world.proofs.Grounds.{of_source, let_at}
 use Rattle.mq_world.proofs.Runs.{is_settle, count_of, Holds, AllSuit, failing, so_far, step}
-use Rattle.mq_world.proofs.Takes.{SuitsUnder, of_source_own, entry_suits, is_closing, not_closed, reserve_closes, reserve_settle}
-use Rattle.mq_world.proofs.Worlds.{IsSound, all_suit}
+use Rattle.mq_world.proofs.Takes.{SuitsUnder, of_source_own, is_closing, not_closed, reserve_closes, reserve_settle}
 
 -- ---- an exchange on its way lets nothing through
 

@@ -1,45 +1,45 @@
 -- Every state of the world.
-use Rattle.std.proofs.Common.{◌≡◌, ℕ, ◌≤◌, List, [], ◌∷◌, ◌++◌, Bool, true, false, refl, ◌∙◌, ap, sym, subst, inl, inr, arith, Option, None, Some, if◌then◌else◌}
-use Rattle.std.specs.Prelude.{◌==◌, slice_get, is_some}
+use Rattle.std.proofs.Common.{◌≡◌, ℕ, ◌≤◌, List, [], ◌∷◌, ◌++◌, Bool, true, false, refl, ◌∙◌, ap, sym, subst, inl, inr, Option, None, Some, if◌then◌else◌}
+use Rattle.std.specs.Prelude.{◌==◌, is_some}
 use Rattle.std.specs.List.{AllByRecursion}
-use Rattle.std.specs.Option.{option_map}
 use Rattle.std.proofs.lemmas.List.Elements.{recursion_from_All, All-from_recursion}
-use Rattle.mq_line.specs.Grammar.{Meaning}
-use Rattle.mq_track.specs.Sessions.{fault, begin_count}
+use Rattle.mq_track.specs.Sessions.{begin_count}
 use Rattle.mq_frame.specs.Range.{IsRequest, IsReply}
 use Rattle.mq_frame.specs.Same.{same_text, same_request}
-use Rattle.mq_frame.specs.Spelling.{request_body, reply_body, SpellsRequest, frame}
+use Rattle.mq_frame.specs.Spelling.{request_body, reply_body, frame}
 use Rattle.mq_frame.specs.declared.message.Id.{Id}
 use Rattle.mq_frame.specs.declared.message.Request.{Request}
 use Rattle.mq_frame.specs.declared.message.Reply.{Reply}
 use Rattle.mq_frame.specs.declared.message.Reply.TheVariants as reply
 use Rattle.mq_ledger.specs.declared.entry.Entry.{Entry}
-use Rattle.mq_ledger.specs.Answer.{answer, appended, stored, reply, reply_to, reply_by, with_arrival, with_arrival_by, history_of}
+use Rattle.mq_ledger.specs.Answer.{answer, appended, stored, reply_to, reply_by, with_arrival_by}
 use Rattle.mq_ledger.specs.Arrivals.{has_id, is_id, id_of as ledger_id}
 use Rattle.mq_ledger.specs.Day.{day_of}
 use Rattle.mq_ledger.specs.History.{requests}
 use Rattle.mq_ledger.specs.Legal.{Book, IsLegalBook}
 use Rattle.mq_ledger.specs.Suits.{Suits as RepliesSuit}
-use Rattle.mq_client.specs.Exchanges.{Exchange, decides, IsDecision, request_frame}
-use Rattle.mq_client.specs.Past.{Source, Action, Drain, Step, id_of}
-use Rattle.mq_client.specs.Numbered.{id_in, NoneReturns}
-use Rattle.mq_client.specs.Filter.{push, action_of, actions, actions_of}
-use Rattle.mq_world.specs.World.{Site, Run, World, fresh, IsOfOthers, IsFrameOfOthers, IsReplyToOthers, IsStart, IsUp, ReadsOn, begun, after_line, after_end, next_request, with_on_way, with_exchange, after_exchange, after_stop, MayCome, same_source, put, with_run, with_sent, book_after, after_arrival, Next, Reads, ReadsEnd, Sends, Ends, Takes, OthersSend, Stops, Reaches, AtOnce, Later}
-use Rattle.mq_world.proofs.Basics.{either, clash, none_some, first_so, second_so, both_so, text_is, text_itself, number_is, number_itself, In, in_get, all_at, all_push, found}
+use Rattle.mq_client.specs.Exchanges.{decides}
+use Rattle.mq_client.specs.Past.{Source, Drain, Step, id_of, IsPlayed}
+use Rattle.mq_client.specs.Numbered.{id_in}
+use Rattle.mq_client.specs.Filter.{actions, actions_of}
+use Rattle.mq_world.specs.World.{Site, Run, World, fresh, same_source, put, book_after}
+use Rattle.mq_world.specs.Law.{earlier}
+use Rattle.mq_world.proofs.Basics.{either, clash, none_some, first_so, second_so, both_so, text_is, text_itself, number_is, number_itself, In, all_at, all_push, found}
 use Rattle.mq_world.proofs.Known.{OfLedgers, Known}
-use Rattle.mq_world.proofs.Numbers.{IsOwn, same_own, one_request}
-use Rattle.mq_world.proofs.Lines.{counted, line_asks, push_actions}
-use Rattle.mq_world.proofs.Runs.{Wrote, Holds, AllSuit, failing, so_far, begins, sends_on, sends_own, ends_on, others_send, writes_on, same_id_by, own_by}
+use Rattle.mq_world.proofs.Numbers.{IsOwn, one_request}
+use Rattle.mq_world.proofs.Runs.{Wrote, Holds, AllSuit, so_far, writes_on, same_id_by, own_by}
 use Rattle.mq_world.proofs.Takes.{ledger_number, takes_new}
 
 -- what a run read
-pub record IsRead (r : Run) : Type 0 where
+pub record IsRead (s : Source) (tries : ℕ) (r : Run) : Type 0 where
   pub counted : begin_count r.lines ≤ 4294967295
   pub acts : r.is_at_end ≡ false → actions r.past ≡ actions_of r.lines
+  pub ended : r.is_at_end ≡ true → actions r.past ≡ Drain ∷ actions_of r.lines
+  pub played : IsPlayed s tries (earlier r.past)
 
 pub record IsSound (site : Site) (w : World) : Type 0 where
   pub ledger : IsLegalBook w.ledger
-  pub reading : (s : Source) → site.is_run s ≡ true → IsRead (w.runs s)
+  pub reading : (s : Source) → site.is_run s ≡ true → IsRead s (site.tries s) (w.runs s)
   pub runs : (s : Source) → site.is_run s ≡ true → Holds s (site.tries s) (so_far (w.runs s).on_way (w.runs s).past) w.ledger.history w.sent w.written
   pub idle : (s : Source) → site.is_run s ≡ false → w.runs s ≡ fresh
 
@@ -58,14 +58,14 @@ source_is a b h =
     λ i. record { host = host i; run = run i }
 
 -- a run in its place, and perhaps a frame that was sent
-pub put_sound : (site : Site) (w : World) (s : Source) (r : Run) (sent : List (List ℕ)) → IsSound site w → site.is_run s ≡ true → IsRead r
+pub put_sound : (site : Site) (w : World) (s : Source) (r : Run) (sent : List (List ℕ)) → IsSound site w → site.is_run s ≡ true → IsRead s (site.tries s) r
     → Holds s (site.tries s) (so_far r.on_way r.past) w.ledger.history sent w.written
     → ((u : Source) → same_source s u ≡ false → site.is_run u ≡ true → Holds u (site.tries u) (so_far (w.runs u).on_way (w.runs u).past) w.ledger.history sent w.written)
     → IsSound site (record { runs = put s r w.runs; ledger = w.ledger; sent = sent; written = w.written })
 put_sound site w s r sent h y read own other = record {
   ledger = h.ledger;
   reading = λ u yu. elim (either (same_source s u)) [
-    | inl same ↦ rw same read
+    | inl same ↦ (let F : Source → Type 0 = λ x. IsRead x (site.tries x) r in rw same (subst F (source_is s u same) read))
     | inr differs ↦ rw differs (h.reading u yu)
   ];
   runs = λ u yu. elim (either (same_source s u)) [

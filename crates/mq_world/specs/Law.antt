@@ -1,12 +1,14 @@
 -- What was let through, over all hosts and runs.
-use Rattle.std.specs.Prelude.{ℕ, List, Bool, false, ◌==◌, ◌&&◌, if◌then◌else◌, Option, None, Some, sum_by}
+use Rattle.std.specs.Prelude.{◌≡◌, ℕ, List, [], ◌∷◌, Bool, false, ◌==◌, ◌&&◌, if◌then◌else◌, Option, None, Some, sum_by}
 use Rattle.mq_frame.specs.Same.{same_text}
 use Rattle.mq_ledger.specs.Day.{day_of}
 use Rattle.mq_ledger.specs.History.{Transaction}
-use Rattle.mq_client.specs.Past.{Source, Standing, Never, Live, Ended, is_commit}
+use Rattle.mq_client.specs.Past.{Source, Action, Drain, Step, Standing, Never, Live, Ended, is_commit, IsPlayed}
+use Rattle.mq_client.specs.Filter.{actions, actions_of}
+use Rattle.mq_client.specs.Turns.{AreUnderway}
 use Rattle.mq_client.specs.Reading.{standing_in}
 use Rattle.mq_client.specs.declared.held.Held.{Held}
-use Rattle.mq_world.specs.World.{World}
+use Rattle.mq_world.specs.World.{Run, World}
 
 -- the run that a transaction is of
 abbrev pub run_of : Transaction → Source
@@ -40,3 +42,20 @@ let_on day l d st = if is_on day l d (counting st) then let_by st else 0
 -- the sum over some transactions
 abbrev pub let_together : World → List ℕ → ℕ → List Transaction → ℕ
 let_together w l d ts = sum_by (λ t. let_on (day_of w.ledger.zone) l d (standing_of w t)) ts
+
+-- ---- a run's past
+
+-- the steps before the last one
+abbrev pub earlier : List Step → List Step
+earlier [] = []
+earlier (x ∷ P) = P
+
+-- what the lines of a run have its client do, and the end of its input
+abbrev pub actions_in : Run → List Action
+actions_in r = if r.is_at_end then Drain ∷ actions_of r.lines else actions_of r.lines
+
+-- the past is one that the lines give: each step could come next and came to its end, but the last may be under way
+pub record IsPastOf (s : Source) (tries : ℕ) (r : Run) : Type 0 where
+  pub acts : actions r.past ≡ actions_in r
+  pub played : IsPlayed s tries (earlier r.past)
+  pub underway : AreUnderway s tries r.past

@@ -12,8 +12,7 @@ use Rattle.mq_frame.specs.declared.message.Id.{Id}
 use Rattle.mq_frame.specs.declared.message.Request.{Request}
 use Rattle.mq_frame.specs.declared.message.Reply.{Reply}
 use Rattle.mq_frame.specs.declared.message.Reply.TheVariants.{Retry, Bad}
-use Rattle.mq_ledger.specs.Answer.{build, reply}
-use Rattle.mq_ledger.specs.Arrivals.{first}
+use Rattle.mq_ledger.specs.Answer.{history_of, reply}
 use Rattle.mq_ledger.specs.Day.{day_of}
 use Rattle.mq_ledger.specs.History.{requests}
 use Rattle.mq_ledger.specs.Legal.{Book, IsLegalBook}
@@ -178,7 +177,7 @@ abbrev pub book_after : Book → Request → Book
 book_after b q = record {
   zone = b.zone;
   default = b.default;
-  history = build (day_of b.zone) b.default (first (requests b.history ++ q ∷ []));
+  history = history_of (day_of b.zone) b.default (requests b.history ++ q ∷ []);
 }
 
 abbrev pub reply_from : Book → Request → Reply

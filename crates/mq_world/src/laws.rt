@@ -5,9 +5,8 @@ ghost use Rattle.mq_ledger.specs.History.{Transaction, held, settled_in, reserve
 ghost use Rattle.mq_ledger.specs.Limits.{cap};
 ghost use Rattle.mq_ledger.specs.Sums.{AreDistinct};
 ghost use Rattle.mq_client.specs.Past.{Source, view, IsBounded};
-ghost use Rattle.mq_client.specs.Turns.{AreUnderway};
 ghost use Rattle.mq_world.specs.World.{Site, World, IsStart, Reaches};
-ghost use Rattle.mq_world.specs.Law.{standing_of, let_by, let_together};
+ghost use Rattle.mq_world.specs.Law.{standing_of, let_by, let_together, IsPastOf};
 
 use mq_client::{
     closed_is_not_asked_for, few_at_a_time, one_request_for_a_number, readings,
@@ -36,10 +35,10 @@ pub fn never_past_the_limit()
     ensures limit { (site : Site) (start w : World) → IsStart site start → Reaches site start w →
         (l : List ℕ) (d : ℕ) (ts : List Transaction) → AreDistinct ts →
         let_together w l d ts ≤ cap w.ledger.default w.ledger.history l d }
-    // Each run's past is one of a client, its last step perhaps under way: few transactions are live
-    // or waiting, and each live one has a number left for its closing.
+    // Each run's past is the one of its lines, its last step perhaps under way: few transactions are
+    // live or waiting, and each live one has a number left for its closing.
     ensures pasts { (site : Site) (start w : World) → IsStart site start → Reaches site start w →
-        (s : Source) → site.is_run s ≡ true → AreUnderway s (site.tries s) (w.runs s).past }
+        (s : Source) → site.is_run s ≡ true → IsPastOf s (site.tries s) (w.runs s) }
     ensures bounded { (site : Site) (start w : World) → IsStart site start → Reaches site start w →
         (s : Source) → site.is_run s ≡ true → IsBounded (view s (w.runs s).past) }
 {

@@ -1,6 +1,6 @@
 -- Every state of the world, step by step, and what follows in each.
-use Rattle.std.proofs.Common.{◌≡◌, ℕ, ◌≤◌, List, [], ◌∷◌, ◌++◌, true, false, refl, ◌∙◌, ap, sym, subst, inl, inr, arith, Option, None, Some, if◌then◌else◌, ◌+◌, ◌<◌}
-use Rattle.std.specs.Prelude.{◌==◌, slice_get, ◌&&◌, ◌⊎◌}
+use Rattle.std.proofs.Common.{◌≡◌, ℕ, ◌≤◌, List, [], ◌∷◌, ◌++◌, true, false, refl, ◌∙◌, ap, sym, subst, inl, inr, arith, Option, None, Some, ◌+◌}
+use Rattle.std.specs.Prelude.{slice_get}
 use Rattle.std.specs.Option.{option_map}
 use Rattle.mq_line.specs.Grammar.{Meaning}
 use Rattle.mq_track.specs.Sessions.{fault, begin_count}
@@ -9,27 +9,27 @@ use Rattle.mq_frame.specs.Spelling.{request_body, reply_body, SpellsRequest, fra
 use Rattle.mq_frame.specs.declared.message.Request.{Request}
 use Rattle.mq_frame.specs.declared.message.Reply.{Reply}
 use Rattle.mq_ledger.specs.declared.entry.Entry.{Entry}
-use Rattle.mq_ledger.specs.Answer.{stored, reply, with_arrival, history_of}
+use Rattle.mq_ledger.specs.Answer.{reply, with_arrival, history_of}
 use Rattle.mq_ledger.specs.Arrivals.{id_of as ledger_id}
 use Rattle.mq_ledger.specs.Day.{day_of}
 use Rattle.mq_ledger.specs.History.{requests, Transaction, held, settled_in, reserved, settled}
 use Rattle.mq_client.specs.Exchanges.{Exchange, decides, IsDecision, request_frame}
-use Rattle.mq_client.specs.Past.{Source, Action, Drain, Step, id_of, Standing, view}
+use Rattle.mq_client.specs.Past.{Source, Action, Drain, Step, id_of, Standing, view, IsPlayed}
 use Rattle.mq_client.specs.Numbered.{NoneReturns}
 use Rattle.mq_client.specs.Filter.{push, action_of, actions, actions_of}
 use Rattle.mq_world.specs.World.{Site, Run, World, fresh, IsOfOthers, IsFrameOfOthers, IsReplyToOthers, IsStart, IsUp, ReadsOn, begun, after_line, after_end, next_request, with_on_way, with_exchange, after_exchange, after_stop, MayCome, same_source, with_run, with_sent, after_arrival, Next, Reads, ReadsEnd, Sends, Ends, Takes, OthersSend, Stops, Reaches, AtOnce, Later}
 use Rattle.mq_world.proofs.Basics.{either, clash, none_some, In, in_get, all_at, sum_below, sum_plus}
 use Rattle.mq_world.proofs.Known.{Known, OfSums, OfFrames}
-use Rattle.mq_world.proofs.Numbers.{IsOwn, same_own, one_request}
+use Rattle.mq_world.proofs.Numbers.{IsOwn, same_own}
 use Rattle.mq_world.proofs.Lines.{counted, line_asks, push_actions}
-use Rattle.mq_world.proofs.Runs.{Holds, AllSuit, failing, so_far, begins, sends_on, sends_own, ends_on, others_send, step, Comes}
+use Rattle.mq_world.proofs.Runs.{Holds, AllSuit, failing, so_far, begins, sends_on, sends_own, ends_on, others_send, Comes}
 use Rattle.mq_world.proofs.Takes.{entry_suits}
 use Rattle.mq_frame.specs.declared.message.Request.TheVariants.{Settle, Release}
 use Rattle.mq_ledger.specs.Limits.{cap}
 use Rattle.mq_ledger.specs.Sums.{held_on, settled_on, AreDistinct}
 use Rattle.mq_client.specs.Reading.{standing_in}
 use Rattle.mq_client.specs.Turns.{AreUnderway}
-use Rattle.mq_world.specs.Law.{run_of, standing_of, counting, let_by, is_on, let_on, let_together}
+use Rattle.mq_world.specs.Law.{run_of, standing_of, counting, let_by, is_on, let_on, let_together, earlier, actions_in, IsPastOf}
 use Rattle.mq_world.proofs.Grounds.{was_granted}
 use Rattle.mq_world.proofs.Worlds.{IsRead, IsSound, all_suit, same_itself, put_sound, takes_any, legal_after}
 use Rattle.mq_world.proofs.Within.{standing_each, on_each, let_if, let_from, by_from, counts_so_far}
@@ -61,7 +61,8 @@ holds_fresh site w z s y = record {
 pub sound_start : (site : Site) (w : World) → IsStart site w → IsSound site w
 sound_start site w z = record {
   ledger = z.ledger;
-  reading = λ s y. (let fresh_read : IsRead fresh = record { counted = omega arith; acts = λ f. refl } in subst IsRead (sym (z.runs s)) fresh_read);
+  reading = λ s y. (let R : Run → Type 0 = λ r. IsRead s (site.tries s) r in
+      let fresh_read : IsRead s (site.tries s) fresh = record { counted = omega arith; acts = λ f. refl; ended = λ t. absurd (clash false t refl); played = tt } in subst R (sym (z.runs s)) fresh_read);
   runs = λ s y. (let F : Run → Type 0 = λ r. Holds s (site.tries s) (so_far r.on_way r.past) w.ledger.history w.sent w.written in
       subst F (sym (z.runs s)) (holds_fresh site w z s y));
   idle = λ s n. z.runs s;
@@ -110,6 +111,12 @@ on_way_none s tries o P H sent written e h = let F : Option Request → Type 0 =
 none_on_way : (s : Source) (tries : ℕ) (o : Option Request) (P : List Step) (H : List Entry) (sent written : List (List ℕ)) → o ≡ None → Holds s tries P H sent written → Holds s tries (so_far o P) H sent written
 none_on_way s tries o P H sent written e h = let F : Option Request → Type 0 = λ x. Holds s tries (so_far x P) H sent written in subst F (sym e) h
 
+-- one step more, where there is one
+played_push : (s : Source) (tries : ℕ) (o : Option Step) (P : List Step) → IsPlayed s tries P → IsPlayed s tries (earlier (push o P))
+played_push s tries (Some x) P h = h
+played_push s tries None [] h = h
+played_push s tries None (y ∷ P) h = h.1
+
 reads_sound : Known → (site : Site) (w : World) (s : Source) (line : Meaning) → IsSound site w → ReadsOn site w s → fault (w.runs s).lines line ≡ None → IsSound site (with_run w s (after_line line (w.runs s)))
 reads_sound K site w s line h on e =
     let y = on.up.is_run in
@@ -119,7 +126,12 @@ reads_sound K site w s line h on e =
     let none_back = K.clients.none_returns s (line ∷ r.lines) (push (option_map begun (action_of r.lines line)) r.past) acts in
     let old = on_way_none s (site.tries s) r.on_way r.past w.ledger.history w.sent w.written on.none_on_way (h.runs s y) in
     put_sound site w s (after_line line r) w.sent h y
-    (record { counted = counted r.lines line e read.counted; acts = λ f. acts })
+    (record {
+      counted = counted r.lines line e read.counted;
+      acts = λ f. acts;
+      ended = λ t. absurd (clash r.is_at_end t on.before_end);
+      played = played_push s (site.tries s) (option_map begun (action_of r.lines line)) r.past on.played;
+    })
     (none_on_way s (site.tries s) r.on_way (push (option_map begun (action_of r.lines line)) r.past) w.ledger.history w.sent w.written on.none_on_way
     (begins_if K site s r.lines line r.past w.ledger.history w.sent w.written (action_of r.lines line) refl read.counted none_back old))
     (λ u d yu. h.runs u yu)
@@ -131,7 +143,12 @@ ends_reading site w s h on =
     let read = h.reading s y in
     let old = on_way_none s (site.tries s) r.on_way r.past w.ledger.history w.sent w.written on.none_on_way (h.runs s y) in
     put_sound site w s (after_end r) w.sent h y
-    (record { counted = read.counted; acts = λ f. absurd (clash true refl f) })
+    (record {
+      counted = read.counted;
+      acts = λ f. absurd (clash true refl f);
+      ended = λ t. ap (λ xs. Drain ∷ xs) (read.acts on.before_end);
+      played = on.played;
+    })
     (none_on_way s (site.tries s) r.on_way (begun Drain ∷ r.past) w.ledger.history w.sent w.written on.none_on_way
     (begins s (site.tries s) r.past w.ledger.history w.sent w.written Drain (tt, old.returns) tt old))
     (λ u d yu. h.runs u yu)
@@ -156,7 +173,7 @@ sends_sound K site w s q h up none e =
     let old = on_way_none s (site.tries s) r.on_way r.past w.ledger.history w.sent w.written none (h.runs s y) in
     let new = sends_past K s (site.tries s) r.past w.ledger.history w.sent w.written q e old in
     put_sound site w s (with_on_way (Some q) r) (request_frame q ∷ w.sent) h y
-    (record { counted = read.counted; acts = read.acts })
+    (record { counted = read.counted; acts = read.acts; ended = read.ended; played = read.played })
     new.holds
     (λ u d yu. others_send u (site.tries u) (so_far (w.runs u).on_way (w.runs u).past) w.ledger.history w.sent w.written (request_frame q)
     (λ p same range own. (let is : q ≡ p = K.frames.one_request q p new.range range same in
@@ -174,6 +191,10 @@ same_actions : (x : Exchange) (P : List Step) → actions (with_exchange x P) �
 same_actions x [] = refl
 same_actions x (y ∷ P) = refl
 
+same_earlier : (s : Source) (tries : ℕ) (x : Exchange) (P : List Step) → IsPlayed s tries (earlier P) → IsPlayed s tries (earlier (with_exchange x P))
+same_earlier s tries x [] h = h
+same_earlier s tries x (y ∷ P) h = h
+
 ends_sound : Known → (site : Site) (w : World) (s : Source) (x : Exchange) → IsSound site w → IsUp site w s → (w.runs s).on_way ≡ Some x.request → MayCome w.written x.outcome → IsDecision x.request x.outcome x.decided
     → IsSound site (with_run w s (after_exchange x (w.runs s)))
 ends_sound K site w s x h up on may dec =
@@ -182,7 +203,12 @@ ends_sound K site w s x h up on may dec =
     let read = h.reading s y in
     let F : Option Request → Type 0 = λ o. Holds s (site.tries s) (so_far o r.past) w.ledger.history w.sent w.written in
     put_sound site w s (after_exchange x r) w.sent h y
-    (record { counted = read.counted; acts = λ f. same_actions x r.past ∙ read.acts f })
+    (record {
+      counted = read.counted;
+      acts = λ f. same_actions x r.past ∙ read.acts f;
+      ended = λ t. same_actions x r.past ∙ read.ended t;
+      played = same_earlier s (site.tries s) x r.past read.played;
+    })
     (ends_past K s (site.tries s) r.past w.ledger.history w.sent w.written x (all_suit K.ledgers w.ledger h.ledger) may dec (subst F on (h.runs s y)))
     (λ u d yu. h.runs u yu)
 
@@ -190,7 +216,7 @@ stops_sound : (site : Site) (w : World) (s : Source) → IsSound site w → IsUp
 stops_sound site w s h up =
     let y = up.is_run in
     put_sound site w s (after_stop (w.runs s)) w.sent h y
-    (record { counted = (h.reading s y).counted; acts = (h.reading s y).acts })
+    (record { counted = (h.reading s y).counted; acts = (h.reading s y).acts; ended = (h.reading s y).ended; played = (h.reading s y).played })
     (h.runs s y)
     (λ u d yu. h.runs u yu)
 
@@ -307,8 +333,17 @@ without_exchange s tries None P u = u
 without_exchange s tries (Some q) [] u = u
 without_exchange s tries (Some q) (x ∷ P) u = (u.0.2, u.1)
 
-pub sound_past : (site : Site) (w : World) → IsSound site w → (s : Source) → site.is_run s ≡ true → AreUnderway s (site.tries s) (w.runs s).past
-sound_past site w h s y = without_exchange s (site.tries s) (w.runs s).on_way (w.runs s).past (h.runs s y).underway
+pub sound_underway : (site : Site) (w : World) → IsSound site w → (s : Source) → site.is_run s ≡ true → AreUnderway s (site.tries s) (w.runs s).past
+sound_underway site w h s y = without_exchange s (site.tries s) (w.runs s).on_way (w.runs s).past (h.runs s y).underway
+
+-- what its lines have a run do, by whether its input has ended
+acts_in : (r : Run) → (r.is_at_end ≡ false → actions r.past ≡ actions_of r.lines) → (r.is_at_end ≡ true → actions r.past ≡ Drain ∷ actions_of r.lines) → actions r.past ≡ actions_in r
+acts_in r acts ended = elim (either r.is_at_end) [ inl t ↦ rw t (ended t) | inr f ↦ rw f (acts f) ]
+
+pub sound_past : (site : Site) (w : World) → IsSound site w → (s : Source) → site.is_run s ≡ true → IsPastOf s (site.tries s) (w.runs s)
+sound_past site w h s y =
+    let read = h.reading s y in
+    record { acts = acts_in (w.runs s) read.acts read.ended; played = read.played; underway = sound_underway site w h s y }
 
 pub returns : goal.returns
 returns c =
@@ -351,5 +386,5 @@ returns c =
       together = λ site start w z r. sound_together K S site w (reached_sound K site start w z r);
       limit = λ site start w z r. sound_limit K S site w (reached_sound K site start w z r);
       pasts = λ site start w z r. sound_past site w (reached_sound K site start w z r);
-      bounded = λ site start w z r s y. K.clients.bounded s (site.tries s) (w.runs s).past (sound_past site w (reached_sound K site start w z r) s y);
+      bounded = λ site start w z r s y. K.clients.bounded s (site.tries s) (w.runs s).past (sound_underway site w (reached_sound K site start w z r) s y);
     }
