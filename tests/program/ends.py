@@ -28,6 +28,15 @@ def wait_for_listener(port, process):
         time.sleep(0.01)
 
 
+def wait_until(holds):
+    """Waits until this holds; tells whether it does."""
+    for _ in range(SECONDS * 50):
+        if holds():
+            return True
+        time.sleep(0.02)
+    return False
+
+
 def apart(errors):
     """The log's lines of what came on standard error, and what is printed behind them."""
     lines = errors.splitlines(keepends=True)

@@ -8,7 +8,7 @@ import threading
 import time
 
 from cases.filters import INPUT, PROCEED, REGISTRATION, answer
-from ends import SECONDS, Server, read_all, reset
+from ends import SECONDS, Server, read_all, reset, wait_until
 from wire import BAD, frame, full, granted, limit, number, page, page_reply, release, released, reserve, row, settle, settled, usage
 
 NOTHING_USED = bytes.fromhex("0013" "8b" "0175" "00000001" "00000000" "00000000" "00000003")
@@ -168,7 +168,7 @@ def waits_for_nobody(server, checks):
 
 def a_peer_that_reads_nothing(world, checks):
     """A page of ten logins of 255 bytes is 2,686 bytes; 10,000 of them don't fit into what the kernel keeps."""
-    with Server(world, timeout=1_000) as server:
+    with Server(world, timeout=2_000) as server:
         logins = [b"%03d" % n + b"x" * 252 for n in range(10)]
         sent = b"".join(reserve(n + 1, txn=n + 1, login=login) for n, login in enumerate(logins))
         checks.equal("ten logins", server.ask(sent), b"".join(granted(n + 1, 1) for n in range(10)))
@@ -176,6 +176,14 @@ def a_peer_that_reads_nothing(world, checks):
         before = len(server.log_lines())
         peer = server.connect(room=4_096)
         peer.sendall(page() * 10_000)
+        came, slowest = [], 0
+        for _ in range(100):
+            start = time.monotonic()
+            came.append(server.ask(usage()))
+            slowest = max(slowest, time.monotonic() - start)
+        checks.equal("beside a peer that reads nothing: a hundred connections", came, [NOTHING_USED] * 100)
+        checks.holds("beside a peer that reads nothing: how long the slowest took", slowest < 1, "below 1 s, half the timeout", f"{slowest:.2f} s")
+        wait_until(lambda: len(server.log_lines()) > before)
         goes_on(server, checks, "a peer that reads nothing", before, word=(name_of(peer), "write failed"))
         peer.close()
 
