@@ -88,7 +88,7 @@ class Server:
         """What comes back on a connection of its own for these bytes."""
         with self.connect() as peer:
             peer.sendall(sent)
-            peer.shutdown(socket.SHUT_WR)
+            send_no_more(peer)
             return read_all(peer)
 
     def log_lines(self):
@@ -97,6 +97,14 @@ class Server:
 
     def status(self):
         return self.process.wait(timeout=SECONDS)
+
+
+def send_no_more(peer):
+    """Ends what is sent; a server that has ended the connection already is no fault."""
+    try:
+        peer.shutdown(socket.SHUT_WR)
+    except OSError:
+        pass
 
 
 def read_all(peer):
