@@ -1,11 +1,13 @@
 """What stands below and around the server fails: a disk that is full, files that can't be written, are cut short or have
-other bytes, and peers by the hundred.
+other bytes, memory that isn't there, and peers by the hundred.
 
 Whatever fails, no reply goes out that isn't stored, the server ends with status 1 and a text of its own, or goes on, and no
 signal ends it.
 """
+import itertools
 import os
 import random
+import resource
 import shutil
 import signal
 import sqlite3
@@ -15,13 +17,13 @@ import time
 import wire
 from cases.filters import INPUT, PROCEED, REGISTRATION, SERVICE, answer
 from ends import SECONDS, Server, apart, free_port, read_all
-from wire import BAD, granted, page, reserve, usage
+from wire import BAD, RETRY, granted, page, reserve, usage
 
 DEFAULT = 1_000_000
+# frames that are sent on one connection
 FRAMES = 200
-"""Frames that are sent on one connection."""
+# how many bytes are changed, each in a file of its own
 PLACES = 100
-"""How many bytes are changed, each in a file of its own."""
 REFUSALS = {
     f"mailquota: {text}\n"
     for text in [
@@ -38,6 +40,7 @@ def run(world, checks):
     a_file_that_becomes_read_only(world, checks)
     damaged_files(world, checks)
     other_databases(world, checks)
+    refused_memory(world, checks)
     hundreds_of_peers(world, checks)
 
 
@@ -174,23 +177,19 @@ def a_full_disk(world, checks, disk, larger):
 
 
 def too_small_a_disk(world, checks):
-    """Not even the tables have room; nothing is left that a later start takes for a ledger."""
+    """Not even the tables have room; once there is some, they are made."""
     if not can_mount(world, checks, "a disk without room for the tables"):
         return
-    for size in ("4k", "16k", "40k", "64k"):
+    for size in ("4k", "16k", "40k", "64k", "100k"):
         with Disk(world, size) as disk:
             path = f"{disk.folder}/ledger"
-            with Server(world, words=["--create"], store=path) as server:
-                replies_of(server, [reserve(1)])
-                ended = how_it_ended(server) if ends_by_itself(server, seconds=1) else None
-            good = ended is None or ended[0] == 1 and ended[1] in REFUSALS
-            checks.holds(f"--create on a disk of {size}", good, "status 1 and a text", ended)
+            status, _, errors = world.run("server", "--config", world.new_file(settings_of(path)), "--create")
+            log, text = apart(errors)
+            checks.equal(f"--create on a disk of {size}", (status, text, len(log)), (1, "mailquota: store can't be opened\n", 1))
+            checks.holds(f"--create on a disk of {size}: the log", f"{path}: database or disk is full" in log[0], "the path and the cause", log)
             disk.remount("size=8m")
-            words = ["--create"] if ended and ended[1] != "mailquota: store failed\n" else []
-            with Server(world, words=words, store=path) as server:
-                came = replies_of(server, [reserve(1)])
-                if came != [granted(1, 1)]:
-                    checks.equal(f"--create on a disk of {size}, and room again", (came, how_it_ended(server)), "a ledger")
+            with Server(world, words=["--create"], store=path) as server:
+                checks.equal(f"--create on a disk of {size}, and room again", server.ask(reserve(1)), granted(1, 1))
 
 
 def a_disk_that_is_read_only(world, checks):
@@ -338,6 +337,29 @@ def other_databases(world, checks):
         file.write(b"SQLite format 3\0" + random.Random(3).randbytes(20_000))
     status, output, errors = world.run("server", "--config", world.new_file(settings_of(path)))
     checks.equal("noise behind a database's first bytes", (status, output, apart(errors)[1]), (1, b"", "mailquota: store can't be opened\n"))
+
+
+def refused_memory(world, checks):
+    """A server that gets no more memory asks for another try, and goes on as before once it gets some."""
+    what = "a server that gets no more memory"
+    with Server(world, default=DEFAULT) as server:
+        asked = Asked()
+        asked.ask_on(server, 400)
+        with open(f"/proc/{server.process.pid}/statm") as sizes:
+            has = int(sizes.read().split()[0]) * resource.getpagesize()
+        resource.prlimit(server.process.pid, resource.RLIMIT_AS, (has, resource.RLIM_INFINITY))
+        retried = 0
+        while not retried and len(asked.replies) < 20_000:
+            came = replies_of(server, [asked.request(len(asked.replies) + place) for place in range(1, FRAMES + 1)])
+            asked.replies += itertools.takewhile(lambda reply: reply != RETRY, came)
+            retried = came.count(RETRY)
+        checks.holds(f"{what}: requests that are to be sent again", retried > 0, "some", retried)
+        came = world.filter(server.address, INPUT, timeout=1_000)[:2]
+        checks.equal(f"{what}: a filter", came, (0, REGISTRATION + answer(SERVICE)))
+        resource.prlimit(server.process.pid, resource.RLIMIT_AS, (resource.RLIM_INFINITY, resource.RLIM_INFINITY))
+        same_answers(checks, f"{what}, and then some", server, asked)
+        came = world.filter(server.address, INPUT, timeout=1_000)[:2]
+        checks.equal(f"{what}, and then some: a filter", came, (0, REGISTRATION + answer(PROCEED)))
 
 
 def hundreds_of_peers(world, checks):
