@@ -185,9 +185,9 @@ def end_of_a_filter(smtpd):
 
 
 def as_in_contrib():
-    """The files of contrib as they stand: a submission port that asks for a login, one spelling, a limit of 500."""
+    """The files of contrib as they stand: a submission port that asks for a login, one spelling, a ledger in a file."""
     address, host = "192.0.2.7", "192.0.2.1"
-    server = start_server("/etc/mailquota.toml", address=address)
+    server = start_server("/etc/mailquota.toml", "--create", address=address)
     smtpd = start_smtpd("/etc/mail/smtpd.conf", host, ports=(587,))
     try:
         smtp = session_at(587, address=host)

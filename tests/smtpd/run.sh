@@ -56,7 +56,7 @@ FILTER
 done
 rm -f "$root"/var/lib/mailquota/*
 mkdir -p "$root/var/lib/mailquota"
-for kind in memory:memory file:/var/lib/mailquota/ledger; do
+for kind in memory:memory file:/var/lib/mailquota/tested; do
     cat >"$etc/server-${kind%%:*}.toml" <<SERVER
 listen = "127.0.0.1:7025"
 store = "${kind#*:}"

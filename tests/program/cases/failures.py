@@ -4,6 +4,7 @@ other bytes, memory that isn't there, and peers by the hundred.
 Whatever fails, no reply goes out that isn't stored, the server ends with status 1 and a text of its own, or goes on, and no
 signal ends it.
 """
+import collections
 import itertools
 import os
 import random
@@ -238,36 +239,59 @@ def settings_of(path):
 
 
 def damaged_files(world, checks):
-    """Files that are cut short, and files with one other byte: as a server left them behind its end, and behind SIGKILL."""
-    whole = left_by_a_server(world)
+    """Files that are cut short, and files with one other byte: as a server left them that ended, and one that was killed."""
     source = random.Random(19)
-    size, log = os.path.getsize(whole), os.path.getsize(f"{whole}-wal")
-    cuts = [0, 1, 15, 16, 99, 100, 511, 4_095, 4_096, size - 1, size - 4_096, *(source.randrange(size) for _ in range(10))]
-    tried = [(f"the file cut after {place} bytes", cut(place), "") for place in cuts]
-    tried += [(f"the log cut after {place} bytes", cut(place), "-wal") for place in (0, 1, 31, 32, 33, log // 2, log - 1)]
-    for _ in range(PLACES):
-        end, most = source.choice([("", size), ("", size), ("-wal", log)])
-        place = source.randrange(most if source.random() < 0.8 else min(most, 4_096))
-        tried.append((f"byte {place} of {'the log' if end else 'the file'} changed", flip(place, source.randrange(1, 256)), end))
-    outcomes, faults = {}, []
-    for what, change, end in tried:
-        outcome, fault = a_damaged_file(world, whole, change, end)
-        outcomes[outcome] = outcomes.get(outcome, 0) + 1
-        if fault:
-            faults.append(f"{what}: {fault}")
-    checks.equal(f"{len(tried)} damaged files: signals, unknown texts, answers that weren't stored", faults, [])
-    checks.holds("damaged files: what came of them", len(outcomes) > 1, "several ways", outcomes)
-    print("    " + ", ".join(f"{count} times {outcome}" for outcome, count in sorted(outcomes.items())), flush=True)
+    for title, whole in [("an ended server", left_by_an_ended_server(world)), ("a killed server", left_by_a_killed_server(world))]:
+        tried = cuts(whole, source) + changed_bytes(whole, source)
+        outcomes, faults = collections.Counter(), []
+        for what, change, end in tried:
+            outcome, fault = a_damaged_file(world, whole, change, end)
+            outcomes[outcome] += 1
+            if fault:
+                faults.append(f"{what}: {fault}")
+        checks.equal(f"{len(tried)} damaged files of {title}: signals, unknown texts, answers that weren't stored", faults, [])
+        checks.holds(f"damaged files of {title}: what came of them", len(outcomes) > 1, "several ways", outcomes)
+        print("    " + ", ".join(f"{count} times {outcome}" for outcome, count in sorted(outcomes.items())), flush=True)
 
 
-def left_by_a_server(world):
+def left_by_a_killed_server(world):
     """A file with answers in it, and a log with later ones."""
-    path, asked = f"{world.folder}/whole", Asked()
+    path, asked = f"{world.folder}/killed", Asked()
     with Server(world, words=["--create"], store=path, default=DEFAULT) as server:
         asked.ask_on(server, 1_000)
         server.process.send_signal(signal.SIGKILL)
         server.status()
     return path
+
+
+def left_by_an_ended_server(world):
+    """A file with all answers in it, and an empty log."""
+    path, asked = f"{world.folder}/ended", Asked()
+    with Server(world, words=["--create"], store=path, default=DEFAULT, connections=1_000 // FRAMES) as server:
+        asked.ask_on(server, 1_000)
+        server.status()
+    return path
+
+
+def cuts(whole, source):
+    """Files and logs that are cut, at their ends, inside their first pages, and anywhere."""
+    size, log = os.path.getsize(whole), os.path.getsize(f"{whole}-wal")
+    places = [0, 1, 15, 16, 99, 100, 511, 4_095, 4_096, size - 1, size - 4_096, *(source.randrange(size) for _ in range(10))]
+    of_log = sorted({0, 1, 31, 32, 33, log // 2, log - 1})
+    return [(f"the file cut after {place} bytes", cut(place), "") for place in places] + [
+        (f"the log cut after {place} bytes", cut(place), "-wal") for place in of_log
+    ]
+
+
+def changed_bytes(whole, source):
+    """A hundred places, most of them in the file, and some of those in its first page."""
+    size, log = os.path.getsize(whole), os.path.getsize(f"{whole}-wal")
+    tried = []
+    for _ in range(PLACES):
+        end, most = source.choice([("", size), ("", size), ("-wal", log)])
+        place = source.randrange(most if source.random() < 0.8 else min(most, 4_096))
+        tried.append((f"byte {place} of {'the log' if end else 'the file'} changed", flip(place, source.randrange(1, 256)), end))
+    return tried
 
 
 def cut(place):
