@@ -34,6 +34,9 @@ from rounds import Killed, Rounds
 LONGEST_CI = 170 * 60
 SIGNALS = (signal.SIGTERM, signal.SIGINT, signal.SIGHUP)
 COUNTS = re.compile(r"(\d+) passed, (\d+) failed\Z")
+REFUSED = re.compile(r"rt: (\w+)(: its tests are)? NOT PROVED")
+# So many lines of what rt ci says of a crate that it refuses are told again.
+SAID = 12
 
 
 class Sum:
@@ -93,6 +96,17 @@ def copy_tree(wanted, tree, edits):
     os.mkdir(f"{tree}/.git")
 
 
+def refusals(lines):
+    """Returns of each crate, or its tests, that rt ci refused the line that says so and the last lines above it."""
+    section = []
+    for line in lines:
+        if line.startswith("== "):
+            section.clear()
+        if REFUSED.match(line):
+            yield line, section[-SAID:]
+        section.append(line)
+
+
 def run_ci(tree, sum_):
     """Runs rt ci over the tree, adds what it counts and the time of each crate, and returns the crates that it refused."""
     lines = []
@@ -110,7 +124,10 @@ def run_ci(tree, sum_):
     sum_.passed += passed
     if failed or ran.status != 0 or not counts:
         sum_.fail("rt ci", f"it ended with status {ran.status} and {failed} failed", max(failed, 1))
-    return {it[1] for it in map(re.compile(r"rt: (\w+) NOT PROVED").match, lines) if it}
+    # (they stand far above, and a log is often read from its end)
+    for line, above in refusals(lines):
+        print(f"FAILED {line}, behind these lines:", *(it[:400] for it in above), sep="\n    ", flush=True)
+    return {it[1] for it in map(REFUSED.match, lines) if it and not it[2]}
 
 
 def try_edits(crates, place_of, sum_, others=()):

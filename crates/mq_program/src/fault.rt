@@ -8,7 +8,8 @@ use log::{LevelFilter, Logged, error};
 use mq_client::FilterFault;
 use mq_server::ServeFault;
 use mq_settings::{FileFault, SettingsFault};
-use mq_store::OpenFault;
+use mq_store::{OpenFault, OpenRefused};
+use sqlite::Alter;
 use std::alloc::{AllocError, AllocFailed};
 use std::io;
 use std::io::ErrorKind;
@@ -88,6 +89,26 @@ impl<T: Drop> From<AllocFailed<T>> for ProgramFault {
 
     fn from(_error: AllocFailed<T>) -> ProgramFault {
         ProgramFault::Memory
+    }
+}
+
+impl From<OpenFault> for ProgramFault {
+    ghost use Rattle.mq_program.specs.declared.fault.ProgramFault.TheVariants.{Open};
+
+    ghost from_gives = { λ cause fault. fault ≡ Open cause };
+
+    fn from(cause: OpenFault) -> ProgramFault {
+        ProgramFault::Open(cause)
+    }
+}
+
+impl<S: Alter + Drop> From<OpenRefused<S>> for ProgramFault {
+    ghost use Rattle.mq_program.specs.declared.fault.ProgramFault.TheVariants.{Open};
+
+    ghost from_gives = { λ refused fault. fault ≡ Open refused.fault };
+
+    fn from(refused: OpenRefused<S>) -> ProgramFault {
+        ProgramFault::Open(refused.fault)
     }
 }
 

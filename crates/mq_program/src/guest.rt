@@ -1,15 +1,15 @@
-//! A connection that is open, and its turns.
+//! A connection that is open, and its turns: none waits for the peer, so none holds back another connection.
 ghost use Rattle.std.specs.Prelude.{◌≡◌, ◌≤◌};
 ghost use Rattle.std.specs.Io.{ReadsAtMost};
 
 use crate::portion::portion_of;
 use mq_frame::{FromRead, ToWrite};
 use mq_ledger::Ledger;
-use mq_server::{ServeFault, Served, serve};
-use mq_tcp::{Timed, deadline_after};
+use mq_server::{ENOUGH, PIECE, ServeFault, Served, serve};
+use mq_tcp::deadline_after;
 use std::alloc::Global;
 use std::io;
-use std::io::{ErrorKind, Read};
+use std::io::{ErrorKind, Read, Write};
 use std::net::{OpenStream, SocketAddr, TcpStream};
 use std::rt::Clock;
 use std::time::{Duration, Instant};
@@ -17,11 +17,9 @@ use std::time::{Duration, Instant};
 /// How many timeouts a whole connection has.
 const TIMEOUTS: u32 = 2;
 
-/// The most frames that are answered on a connection.
-const FRAMES: u32 = 10_000;
-
-/// The most bytes that are looked at in one turn.
-const PIECE: usize = 4096;
+/// The most frames that are answered in one turn: their replies are held until the peer takes them, and a page of a
+/// list has up to 28 kilobytes.
+const FRAMES: u32 = 8;
 
 /// The most turns of a connection before the others have theirs.
 const TURNS: u32 = 16;
@@ -33,69 +31,38 @@ pub struct Guest {
     pub peer: SocketAddr,
     /// The connection ends then, whatever its peer does.
     deadline: Instant,
-    /// It ends then, if nothing comes before.
+    /// It ends then, if its peer neither sends nor takes anything before.
     pub until: Instant,
     /// How many of its frames were answered.
     answered: u32,
+    /// What the peer hasn't taken of the replies.
+    replies: Vec<u8>,
+    /// How the connection ends, once the replies are taken.
+    end: Option<Result<Served, ServeFault>>,
     ghost few: { answered ≤ 10000 },
 }
 
 /// What a turn leaves of a connection.
 #[derive(Clone, Copy, Debug, PartialEq, Eq)]
 pub enum Turn {
-    /// More has to come, or the peer's end.
+    /// More has to come, or to be taken, or the peer's end.
     Waits,
     /// More may be there already.
     Answered,
     Ended(Result<Served, ServeFault>),
 }
 
-type TimedStream<'a, C> = Timed<'a, C, TcpStream>;
-
-/// A stream for reading and for writing, with a timeout for each call and one deadline for all.
-fn both_ways<'a, C: Clock>(
-    clock: &'a C,
-    stream: &TcpStream,
-    timeout: Duration,
-    deadline: Instant,
-) -> io::Result<(TimedStream<'a, C>, TimedStream<'a, C>)> {
-    stream.set_nonblocking(false)?;
-    Ok((
-        Timed::new(stream.try_clone()?, clock, timeout, deadline),
-        Timed::new(stream.try_clone()?, clock, timeout, deadline),
-    ))
-}
-
-/// Serves the next bytes of a connection, which are there. A stream that takes no deadline is one whose reads fail.
-fn serve_front<C: Clock, L: Ledger>(
-    clock: &C,
-    alloc: Global,
-    guest: &Guest,
-    bytes: usize,
-    timeout: Duration,
-    ledger: &mut L,
-) -> Result<Served, ServeFault>
-    ensures same_zone { (L.book ledger.new).zone ≡ (L.book ledger.old).zone }
-    ensures same_default { (L.book ledger.new).default ≡ (L.book ledger.old).default }
-    ensures kept { L.has_kept ledger.new → L.has_kept ledger.old }
-    ensures sound { L.has_kept ledger.new → L.is_sound ledger.old → L.is_sound ledger.new }
-{
-    let Ok((input, output)) = both_ways(clock, &guest.stream, timeout, guest.deadline) else {
-        return Err(ServeFault::Read);
-    };
-    let mut input = FromRead::new(input.take(bytes as u64));
-    let mut output = ToWrite::new(output);
-    serve(alloc, &mut input, &mut output, ledger)
-}
-
 impl Guest {
-    /// A connection that was accepted now. `timeout` is how long nothing may come; the whole has twice as long.
+    /// A connection that was accepted now. `timeout` is how long nothing may come or be taken; the whole has twice as
+    /// long.
     pub fn new(
         clock: &impl Clock,
+        alloc: Global,
         stream: TcpStream,
         peer: SocketAddr,
         timeout: Duration,
     ) -> io::Result<Guest> {
+        stream.set_nonblocking(true)?;
         let until = deadline_after(clock, timeout)?;
         let deadline = deadline_after(clock, timeout.saturating_mul(TIMEOUTS))?;
         Ok(Guest {
@@ -104,11 +71,13 @@ impl Guest {
             deadline,
             until,
             answered: 0,
+            replies: Vec::new(alloc),
+            end: None,
         })
     }
 
-    /// Answers the whole frames that are there, up to 4,096 bytes. `is_last` where the peer sends no more: then a part
-    /// of a frame is the connection's end.
+    /// Writes replies that wait and, where none is left, answers the next whole frames that are there. `is_last` where
+    /// the peer sends no more: then a part of a frame is the connection's end.
     pub fn take_turn<C: Clock, L: Ledger>(
         &mut self,
         clock: &C,
@@ -122,56 +91,115 @@ impl Guest {
         ensures kept { L.has_kept ledger.new → L.has_kept ledger.old }
         ensures sound { L.has_kept ledger.new → L.is_sound ledger.old → L.is_sound ledger.new }
     {
+        match self.write_replies(clock, timeout) {
+            Ok(true) => {}
+            Ok(false) => return Turn::Waits,
+            Err(_) => return Turn::Ended(Err(ServeFault::Write)),
+        }
+        if let Some(end) = self.end {
+            return Turn::Ended(end);
+        }
         let mut piece = [0u8; PIECE];
-        let held = match self.look(clock, timeout, &mut piece) {
+        let count = match self.look(clock, timeout, &mut piece) {
             Ok(0) => return Turn::Ended(Ok(Served::InputEnd)),
-            Ok(count) => &piece[..count],
+            Ok(count) => count,
             Err(error) if error.kind() == ErrorKind::WouldBlock => return Turn::Waits,
             Err(_) => return Turn::Ended(Err(ServeFault::Read)),
         };
-        let portion = portion_of(held, FRAMES - self.answered);
-        if portion.bytes == 0 && !is_last {
-            return Turn::Waits;
-        }
-        let bytes = if portion.bytes == 0 {
-            held.len()
-        } else {
-            portion.bytes
+        let portion = portion_of(&piece[..count], FRAMES.min(ENOUGH - self.answered));
+        let bytes = match portion.bytes {
+            0 if is_last => count,
+            0 => return Turn::Waits,
+            bytes => bytes,
         };
-        match serve_front(clock, alloc, self, bytes, timeout, ledger) {
-            Ok(Served::InputEnd) => {
-                self.answered += portion.frames;
-                if self.answered == FRAMES {
-                    Turn::Ended(Ok(Served::Enough))
-                } else {
-                    Turn::Answered
-                }
-            }
-            ended => Turn::Ended(ended),
+        match self.stream.read(&mut piece[..bytes]) {
+            Ok(taken) if taken == bytes => {}
+            _ => return Turn::Ended(Err(ServeFault::Read)),
+        }
+        self.answered += portion.frames;
+        self.answer(clock, alloc, &piece[..bytes], timeout, ledger)
+    }
+
+    /// Answers frames. Where the store failed, nothing more is waited for.
+    fn answer<C: Clock, L: Ledger>(
+        &mut self,
+        clock: &C,
+        alloc: Global,
+        frames: &[u8],
+        timeout: Duration,
+        ledger: &mut L,
+    ) -> Turn
+        ensures same_zone { (L.book ledger.new).zone ≡ (L.book ledger.old).zone }
+        ensures same_default { (L.book ledger.new).default ≡ (L.book ledger.old).default }
+        ensures kept { L.has_kept ledger.new → L.has_kept ledger.old }
+        ensures sound { L.has_kept ledger.new → L.is_sound ledger.old → L.is_sound ledger.new }
+    {
+        let mut output = ToWrite::new(Vec::new(alloc));
+        let ended = serve(alloc, &mut FromRead::new(frames), &mut output, ledger);
+        self.replies = output.into_inner();
+        self.end = match ended {
+            Ok(Served::InputEnd) if self.answered < ENOUGH => None,
+            Ok(Served::InputEnd) => Some(Ok(Served::Enough)),
+            ended => Some(ended),
+        };
+        if ended == Err(ServeFault::Store) {
+            let _ = self.write_replies(clock, timeout);
+            return Turn::Ended(ended);
+        }
+        Turn::Answered
+    }
+
+    /// Why a connection is given up whose time is over.
+    pub fn late_fault(&self) -> ServeFault {
+        if self.replies.is_empty() {
+            ServeFault::Read
+        } else {
+            ServeFault::Write
         }
     }
 
     /// Reads what came and is of no use, so that the peer's reading ends in order and not by a reset.
     pub fn pass_over(&mut self) {
         let mut piece = [0u8; PIECE];
-        if self.stream.set_nonblocking(true).is_ok() {
-            let _ = self.stream.read(&mut piece);
-        }
+        let _ = self.stream.read(&mut piece);
     }
 
-    /// Looks at what came and leaves it there; where something did, the time that nothing may come begins anew.
+    /// Writes of the replies what the peer takes now. Whether none is left.
+    fn write_replies(&mut self, clock: &impl Clock, timeout: Duration) -> io::Result<bool> {
+        // Each write takes a byte at least.
+        for _write in 0..self.replies.len() {
+            if self.replies.is_empty() {
+                break;
+            }
+            match self.stream.write(&self.replies) {
+                Ok(0) => return Err(io::Error::from(ErrorKind::WriteZero)),
+                Ok(count) => drop(self.replies.drain(..count)),
+                Err(error) if error.kind() == ErrorKind::WouldBlock => return Ok(false),
+                Err(error) => return Err(error),
+            }
+            self.stay(clock, timeout)?;
+        }
+        Ok(self.replies.is_empty())
+    }
+
+    /// Looks at what came and leaves it there.
     fn look(&mut self, clock: &impl Clock, timeout: Duration, piece: &mut [u8]) -> io::Result<usize>
         ensures { ReadsAtMost result piece.new }
     {
-        self.stream.set_nonblocking(true)?;
         let count = self.stream.peek(piece)?;
+        self.stay(clock, timeout)?;
+        Ok(count)
+    }
+
+    /// The peer sent or took something: its time begins anew, and ends by the deadline.
+    fn stay(&mut self, clock: &impl Clock, timeout: Duration) -> io::Result<()> {
         let until = deadline_after(clock, timeout)?;
         self.until = if until < self.deadline {
             until
         } else {
             self.deadline
         };
-        Ok(count)
+        Ok(())
     }
 }
 

@@ -2,9 +2,7 @@
 ghost use Rattle.std.specs.Prelude.{◌≤◌, length, IfSome};
 
 use mq_frame::REQUEST_LIMIT;
-
-/// The bytes of a frame's head.
-const HEAD: usize = 2;
+use mq_frame::format::HEAD_BYTES;
 
 /// Whole frames at the front of some bytes.
 #[derive(Clone, Copy, Debug, PartialEq, Eq)]
@@ -28,7 +26,8 @@ pub fn portion_of(held: &[u8], most: u32) -> Portion
                     frames,
                 };
             }
-            Some(length) if length <= rest.len() - HEAD => rest = &rest[HEAD + length..],
+            Some(length) if length <= rest.len() - HEAD_BYTES => rest = &rest[HEAD_BYTES
+                + length..],
             _ => {
                 return Portion {
                     bytes: held.len() - rest.len(),

@@ -35,6 +35,7 @@ pub struct Room<'a> {
     poll: Poll,
     acceptor: Acceptor<'a>,
     guests: BTreeMap<usize, Guest>,
+    alloc: Global,
     /// The number of the connection that was accepted last.
     last: usize,
 }
@@ -56,6 +57,7 @@ impl<'a> Room<'a> {
             poll,
             acceptor: Acceptor::new(listener, connections),
             guests: BTreeMap::new(alloc),
+            alloc,
             last: 0,
         })
     }
@@ -91,7 +93,7 @@ impl<'a> Room<'a> {
             let Some((stream, peer)) = self.acceptor.next(clock, log)? else {
                 return Ok(());
             };
-            match Guest::new(clock, stream, peer, timeout) {
+            match Guest::new(clock, self.alloc, stream, peer, timeout) {
                 Ok(guest) => self.seat(log, guest),
                 Err(cause) => warn!(log; "connection of {peer}: {cause}"),
             }
@@ -169,7 +171,7 @@ impl<'a> Room<'a> {
         let told = self
             .poll
             .registry()
-            .reregister(&mut SourceFd(&descriptor), token, Interest::READABLE);
+            .reregister(&mut SourceFd(&descriptor), token, both_ways());
         if let Err(cause) = told {
             warn!(log; "connection of {peer}: {cause}");
             let _ = self.guests.remove(&token.0);
@@ -183,7 +185,7 @@ impl<'a> Room<'a> {
             if is_late {
                 guest.pass_over();
                 let peer = guest.peer;
-                warn!(log; "connection of {peer}: {}", ServeFault::Read);
+                warn!(log; "connection of {peer}: {}", guest.late_fault());
             }
             !is_late
         });
@@ -197,11 +199,10 @@ impl<'a> Room<'a> {
         self.last = self.last.wrapping_add(1);
         let peer = guest.peer;
         let descriptor = guest.stream.as_raw_fd();
-        let registered = self.poll.registry().register(
-            &mut SourceFd(&descriptor),
-            Token(self.last),
-            Interest::READABLE,
-        );
+        let registered = self
+            .poll
+            .registry()
+            .register(&mut SourceFd(&descriptor), Token(self.last), both_ways());
         match registered {
             Ok(()) => {
                 if self.guests.insert(self.last, guest).is_err() {
@@ -228,6 +229,11 @@ impl<'a> Room<'a> {
             }
         }
     }
+}
+
+/// What the system tells of a connection: that something came, and that its peer takes replies again.
+fn both_ways() -> Interest {
+    Interest::READABLE | Interest::WRITABLE
 }
 
 /// Warns of a connection that didn't end behind whole frames. A store that failed ends the serving.

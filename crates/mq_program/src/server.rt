@@ -80,9 +80,9 @@ where
 }
 
 /// Accepts so many connections, and serves whichever has whole frames there, a few at a time; so no peer holds back the
-/// others by what it doesn't send. Each end but that of whole frames is logged with the peer's address. A store that
-/// failed stops the serving, and so does a listener that accepts no more. `timeout` is how long nothing may come,
-/// and that of each write; a whole connection has twice as long.
+/// others by what it doesn't send, or doesn't take of its replies. Each end but that of whole frames is logged with the
+/// peer's address. A store that failed stops the serving, and so does a listener that accepts no more. `timeout` is how
+/// long a peer may neither send nor take anything; a whole connection has twice as long.
 pub fn serve_connections<R: Clock + Net, G: Log, L: Ledger>(
     rt: &R,
     log: &G,

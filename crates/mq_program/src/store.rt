@@ -29,10 +29,7 @@ pub fn memory_ledger(
     ensures lent { IfOk result (λ ledger. (ledger.zone ≡ zone) × (ledger.default ≡ default)) }
     ensures new { IfOk result (λ ledger. IsNew zone default (state over_memory ledger.connection)) }
 {
-    match SqlLedger::in_memory(alloc, zone, default) {
-        Ok(ledger) => Ok(ledger),
-        Err(fault) => Err(ProgramFault::Open(fault)),
-    }
+    Ok(SqlLedger::in_memory(alloc, zone, default)?)
 }
 
 /// Logs why a database file can't be opened.
@@ -91,13 +88,7 @@ pub fn file_ledger<G: Log>(
 {
     let connection = connect(rt, log, path, create)?;
     if create {
-        return match SqlLedger::create(rt.alloc(), connection, zone, default) {
-            Ok(ledger) => Ok(ledger),
-            Err(refused) => Err(ProgramFault::Open(refused.fault)),
-        };
+        return Ok(SqlLedger::create(rt.alloc(), connection, zone, default)?);
     }
-    match SqlLedger::open(rt.alloc(), connection, zone, default) {
-        Ok(ledger) => Ok(ledger),
-        Err(refused) => Err(ProgramFault::Open(refused.fault)),
-    }
+    Ok(SqlLedger::open(rt.alloc(), connection, zone, default)?)
 }

@@ -12,6 +12,7 @@ mod input;
 pub mod laws;
 mod output;
 
-pub use connection::{Served, serve};
+pub use connection::{ENOUGH, Served, serve};
 pub use connections::{ConnectionEnd, serve_all};
 pub use fault::ServeFault;
+pub use input::PIECE;

@@ -135,6 +135,7 @@ def slow_and_broken(world, checks):
         resets(server, checks)
         waits_for_nobody(server, checks)
     a_peer_that_reads_nothing(world, checks)
+    many_long_requests(world, checks)
     peers_that_drip(world, checks)
     silent_peers(world, checks)
     two_on_one_connection_each(world, checks)
@@ -186,6 +187,20 @@ def a_peer_that_reads_nothing(world, checks):
         wait_until(lambda: len(server.log_lines()) > before)
         goes_on(server, checks, "a peer that reads nothing", before, word=(name_of(peer), "write failed"))
         peer.close()
+
+
+def many_long_requests(world, checks):
+    """More than the kernel keeps: 9,999 requests of 262 bytes at once, on one connection whose peer reads all the while."""
+    with Server(world, timeout=20_000) as server:
+        asked, wanted = page(after=b"x" * 255), page_reply([])
+        with server.connect() as peer:
+            asking = threading.Thread(target=peer.sendall, args=(asked * 9_999,), daemon=True)
+            asking.start()
+            came, peer_waits = b"", select.poll()
+            peer_waits.register(peer, select.POLLIN)
+            while len(came) < len(wanted) * 9_999 and peer_waits.poll(5_000):
+                came += peer.recv(65_536)
+            checks.equal("9,999 long requests at once: their replies", (len(came) // len(wanted), came == wanted * 9_999), (9_999, True))
 
 
 def drip(peer, sent, pause):
