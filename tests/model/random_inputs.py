@@ -1,16 +1,29 @@
 #!/usr/bin/env python3
-"""Runs `mailquota replay` on random inputs and compares it with the ledger of ledger.py.
+"""Runs the program on random inputs and compares it with the ledger of ledger.py.
 
-usage: random_inputs.py PROGRAM [HOW_MANY] [FIRST_SEED]
+usage: random_inputs.py PROGRAM [list|tables|file] [HOW_MANY] [FIRST_SEED]
+
+The ledger is `replay`'s plain list, by default, or the tables of `replay --sql`, or those of a server over a database file, which is
+ended by SIGKILL and started again between connections now and then.
 
 Inputs repeat numbers with the same and with other content, come in another order, are cut, and hold bytes
 that are no request. The last line counts the inputs; a difference prints its seed and ends the run.
 """
+import os
 import random
 import subprocess
 import sys
+import tempfile
+from pathlib import Path
 
-from ledger import frame, number, replay, text
+from ledger import Ledger, frame, number, replay, serve, text
+
+sys.path.append(str(Path(__file__).resolve().parent.parent / "program"))
+
+from ends import Server, World  # noqa: E402
+
+
+ANY_USAGE = frame(b"\x05" + text(b"u") + number(1))
 
 
 def id_of(dice):
@@ -83,23 +96,56 @@ def text_of(dice, connections):
     return dice.choice(["\n\n", "\n \n\n"]).join(blocks) + dice.choice(["", "\n", "\n\n"])
 
 
+def by_replay(program, dice, connections, default, east, west, options):
+    """What `replay` prints and its status, and what it should."""
+    words = ["replay", "--default", str(default), "--east", str(east), "--west", str(west), *options]
+    run = subprocess.run([program, *words], input=text_of(dice, connections), capture_output=True, text=True, timeout=60)
+    return (run.stdout, run.stderr, run.returncode), replay(connections, east - west, default)
+
+
+def by_server(world, dice, connections, default, offset):
+    """The replies of a server over a new file and how it logs the ends of connections, and what both should be."""
+    path = f"{world.folder}/ledger"
+    for name in (path, f"{path}-wal"):
+        if os.path.exists(name):
+            os.remove(name)
+    model, came, wanted, options = Ledger(offset, default), [], [], ["--create"]
+    rest = list(connections)
+    while rest:
+        count = dice.randint(1, len(rest)) if dice.random() < 0.5 else len(rest)
+        with Server(world, words=options, store=path, default=default, offset=offset, timeout=20_000) as server:
+            came += [server.ask(stream) for stream in rest[:count]]
+            # behind its reply the ends of all before are logged
+            server.ask(ANY_USAGE)
+            came.append([line.rsplit(": ", 1)[1] for line in server.log_lines()])
+            server.process.kill()
+        served = [serve(stream, model) for stream in rest[:count]]
+        wanted += [written for written, _ in served]
+        wanted.append([end for _, end in served if end])
+        rest, options = rest[count:], []
+    return came, wanted
+
+
 def main():
-    program = sys.argv[1]
-    how_many = int(sys.argv[2]) if len(sys.argv) > 2 else 1000
-    first = int(sys.argv[3]) if len(sys.argv) > 3 else 1
-    for seed in range(first, first + how_many):
-        dice = random.Random(seed)
-        default, east, west = dice.choice([0, 1, 3, 5, 100]), dice.choice([0, 60, 1439]), dice.choice([0, 90, 1439])
-        connections = connections_of(dice)
-        words = ["replay", "--default", str(default), "--east", str(east), "--west", str(west)]
-        run = subprocess.run(
-            [program, *words], input=text_of(dice, connections), capture_output=True, text=True, timeout=60
-        )
-        wanted = replay(connections, east - west, default)
-        if (run.stdout, run.stderr, run.returncode) != wanted:
-            print(f"seed {seed} differs: wanted {wanted}, got {(run.stdout, run.stderr, run.returncode)}")
-            sys.exit(1)
-    print(f"{how_many} inputs, none differs")
+    program = os.path.abspath(sys.argv[1])
+    way = sys.argv[2] if len(sys.argv) > 2 else "list"
+    how_many = int(sys.argv[3]) if len(sys.argv) > 3 else 1000
+    first = int(sys.argv[4]) if len(sys.argv) > 4 else 1
+    with tempfile.TemporaryDirectory() as folder:
+        world = World(program, folder)
+        for seed in range(first, first + how_many):
+            dice = random.Random(seed)
+            default, east, west = dice.choice([0, 1, 3, 5, 100]), dice.choice([0, 60, 1439]), dice.choice([0, 90, 1439])
+            connections = connections_of(dice)
+            if way == "file":
+                came, wanted = by_server(world, dice, connections, default, east - west)
+            else:
+                options = {"list": [], "tables": ["--sql"]}[way]
+                came, wanted = by_replay(program, dice, connections, default, east, west, options)
+            if came != wanted:
+                print(f"seed {seed} differs: wanted {wanted}, got {came}")
+                sys.exit(1)
+    print(f"{how_many} inputs over {way}, none differs")
 
 
 if __name__ == "__main__":

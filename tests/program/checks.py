@@ -15,6 +15,10 @@ class Checks:
         self.passed = 0
         self.failed = 0
 
+    @staticmethod
+    def skip(what, why):
+        print(f"--  {what}: not tried, {why}", flush=True)
+
     def equal(self, what, came, wanted):
         self.tell(what, came == wanted, short(wanted), came)
 

@@ -28,6 +28,15 @@ def wait_for_listener(port, process):
         time.sleep(0.01)
 
 
+def wait_until(holds):
+    """Waits until this holds; tells whether it does."""
+    for _ in range(SECONDS * 50):
+        if holds():
+            return True
+        time.sleep(0.02)
+    return False
+
+
 def apart(errors):
     """The log's lines of what came on standard error, and what is printed behind them."""
     lines = errors.splitlines(keepends=True)
@@ -79,7 +88,7 @@ class Server:
         """What comes back on a connection of its own for these bytes."""
         with self.connect() as peer:
             peer.sendall(sent)
-            peer.shutdown(socket.SHUT_WR)
+            send_no_more(peer)
             return read_all(peer)
 
     def log_lines(self):
@@ -88,6 +97,14 @@ class Server:
 
     def status(self):
         return self.process.wait(timeout=SECONDS)
+
+
+def send_no_more(peer):
+    """Ends what is sent; a server that has ended the connection already is no fault."""
+    try:
+        peer.shutdown(socket.SHUT_WR)
+    except OSError:
+        pass
 
 
 def read_all(peer):

@@ -11,7 +11,10 @@ import tempfile
 from checks import Checks
 from ends import World
 
-GROUPS = ["words", "filter_settings", "server_settings", "peers", "filters", "recordings", "asking", "two_hosts", "signals", "stores"]
+GROUPS = [
+    "words", "filter_settings", "server_settings", "peers", "filters", "recordings", "asking", "two_hosts", "signals", "stores", "kills",
+    "failures",
+]
 # these run only where they are named
 LONG_GROUPS = ["many_pages"]
 

@@ -8,6 +8,8 @@ import time
 from host import command, log_of, session, session_at, start_server, start_smtpd, stop
 
 ROWS = []
+# what u03's report says once the server was started again: it had sent to 2
+U03_LATER = {"memory": "0 0 3 u03", "file": "2 0 3 u03"}
 
 
 def note(what, answer, wanted):
@@ -28,6 +30,15 @@ def usage(login):
     return " ".join(text.split())
 
 
+def note_usage(what, login, wanted):
+    """What is reported of a login, once it is this: smtpd tells the filter of a message's end behind its answer to the client."""
+    for _ in range(100):
+        if usage(login).startswith(wanted):
+            break
+        time.sleep(0.05)
+    note(what, usage(login), wanted)
+
+
 def over_both_hosts():
     one, two = session(1, "u01"), session(2, "u01")
     one.mail("a@quota.test")
@@ -37,7 +48,7 @@ def over_both_hosts():
     note("u01 at host 2, recipient 3", recipient(two, 3), "250")
     note("u01 at host 2, recipient 4", recipient(two, 4), "550")
     note("u01 at host 1, recipient 4", recipient(one, 4), "550")
-    note("report of u01: settled, reserved, limit", usage("u01"), "0 3 3 u01")
+    note_usage("report of u01: settled, reserved, limit", "u01", "0 3 3 u01")
     one.quit()
     two.quit()
 
@@ -52,7 +63,7 @@ def a_reset_gives_back():
     smtp.mail("a@quota.test")
     note("u02 after RSET, recipient 1", recipient(smtp, 1), "250")
     smtp.rset()
-    note("report of u02", usage("u02"), "0 0 3 u02")
+    note_usage("report of u02", "u02", "0 0 3 u02")
     smtp.quit()
 
 
@@ -63,7 +74,7 @@ def a_commit_keeps():
     note("u03, recipient 2", recipient(smtp, 2), "250")
     code, _ = smtp.data(b"Subject: hello\r\n\r\nhello\r\n")
     note("u03, DATA", str(code), "250")
-    note("report of u03", usage("u03"), "2 0 3 u03")
+    note_usage("report of u03", "u03", "2 0 3 u03")
     smtp.mail("a@quota.test")
     note("u03, next message, recipient 3", recipient(smtp, 3), "250")
     note("u03, next message, recipient 4", recipient(smtp, 4), "550")
@@ -93,13 +104,9 @@ def a_cut_connection():
     smtp = session(2, "u06")
     smtp.mail("a@quota.test")
     recipient(smtp, 1)
-    note("report of u06 within a message", usage("u06"), "0 1 3 u06")
+    note_usage("report of u06 within a message", "u06", "0 1 3 u06")
     smtp.close()
-    for _ in range(100):
-        if usage("u06").startswith("0 0"):
-            break
-        time.sleep(0.05)
-    note("report of u06 after its connection broke", usage("u06"), "0 0 3 u06")
+    note_usage("report of u06 after its connection broke", "u06", "0 0 3 u06")
 
 
 def two_messages_on_two_hosts():
@@ -114,7 +121,7 @@ def two_messages_on_two_hosts():
     smtp = session(1, "u07")
     smtp.mail("a@quota.test")
     note("u07 at host 1, its fourth recipient", recipient(smtp, 1), "550")
-    note("report of u07", usage("u07"), "3 0 3 u07")
+    note_usage("report of u07", "u07", "3 0 3 u07")
     smtp.quit()
 
 
@@ -123,7 +130,7 @@ def spellings():
     smtp = session(1, "U01")
     smtp.mail("a@quota.test")
     note("U01, while u01 used its limit", recipient(smtp, 1), "250")
-    note("report of U01", usage("U01"), "0 1 3 U01")
+    note_usage("report of U01", "U01", "0 1 3 U01")
     smtp.quit()
     for login, wanted in (("u08", "250"), ("U08", "550 type the login in lower case")):
         smtp = session(3, login)
@@ -157,12 +164,12 @@ def no_login_answer():
     return answer
 
 
-def a_new_server(smtp):
-    """A ledger in memory begins again with its server."""
+def a_new_server(smtp, store):
+    """A ledger in memory begins again with its server, and one in a file goes on."""
     smtp.mail("a@quota.test")
     note("u05 after the server came back", recipient(smtp, 1), "250")
     smtp.quit()
-    note("report of u03, who had used 2, from the new server", usage("u03"), "0 0 3 u03")
+    note_usage("report of u03, who had used 2, from the new server", "u03", U03_LATER[store])
 
 
 def end_of_a_filter(smtpd):
@@ -178,9 +185,9 @@ def end_of_a_filter(smtpd):
 
 
 def as_in_contrib():
-    """The files of contrib as they stand: a submission port that asks for a login, one spelling, a limit of 500."""
+    """The files of contrib as they stand: a submission port that asks for a login, one spelling, a ledger in a file."""
     address, host = "192.0.2.7", "192.0.2.1"
-    server = start_server("/etc/mailquota.toml", address)
+    server = start_server("/etc/mailquota.toml", "--create", address=address)
     smtpd = start_smtpd("/etc/mail/smtpd.conf", host, ports=(587,))
     try:
         smtp = session_at(587, address=host)
@@ -202,8 +209,10 @@ def as_in_contrib():
         stop(server)
 
 
-def main():
-    server = start_server()
+def over(store):
+    """All cases over one kind of store, which is new."""
+    settings = f"/etc/mailquota/server-{store}.toml"
+    server = start_server(settings, "--create")
     smtpd = start_smtpd()
     try:
         over_both_hosts()
@@ -216,17 +225,28 @@ def main():
         spellings()
         stop(server)
         smtp = no_server()
-        server = start_server()
-        a_new_server(smtp)
+        server = start_server(settings)
+        a_new_server(smtp, store)
         end_of_a_filter(smtpd)
     finally:
         if smtpd.poll() is None:
             stop(smtpd)
         if server.poll() is None:
             stop(server)
-    as_in_contrib()
-    for what, answer, wanted, good in ROWS:
-        print(f"{'ok ' if good else 'NOT'} {what:45} {answer}" + ("" if good else f" (wanted {wanted})"))
+
+
+def main():
+    told = 0
+    for title, part in [
+        ("over a ledger in memory", lambda: over("memory")),
+        ("over a ledger in a file", lambda: over("file")),
+        ("with the files of contrib", as_in_contrib),
+    ]:
+        part()
+        print(f"-- {title}")
+        for what, answer, wanted, good in ROWS[told:]:
+            print(f"{'ok ' if good else 'NOT'} {what:45} {answer}" + ("" if good else f" (wanted {wanted})"), flush=True)
+        told = len(ROWS)
     bad = sum(not row[3] for row in ROWS)
     print(f"{len(ROWS) - bad} passed, {bad} failed")
     sys.exit(1 if bad else 0)

@@ -32,8 +32,8 @@ def log_of(name):
     return ROOT / "var/log" / f"mailquota-{name}.log"
 
 
-def start_server(settings="/etc/mailquota/server.toml", address="127.0.0.1"):
-    server = start("server", PROGRAM, "server", "--config", settings)
+def start_server(settings, *options, address="127.0.0.1"):
+    server = start("server", PROGRAM, "server", "--config", settings, *options)
     wait_for(7025, address)
     return server
 

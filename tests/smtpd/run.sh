@@ -54,13 +54,17 @@ tries = 2
 timeout = 1000
 FILTER
 done
-cat >"$etc/server.toml" <<'SERVER'
+rm -f "$root"/var/lib/mailquota/*
+mkdir -p "$root/var/lib/mailquota"
+for kind in memory:memory file:/var/lib/mailquota/tested; do
+    cat >"$etc/server-${kind%%:*}.toml" <<SERVER
 listen = "127.0.0.1:7025"
-store = "memory"
+store = "${kind#*:}"
 default = 3
 offset = 0
 timeout = 500
 SERVER
+done
 cat >"$etc/smtpd.conf" <<'CONF'
 pki quota.test cert "/etc/mailquota/cert.pem"
 pki quota.test key "/etc/mailquota/key.pem"

@@ -8,7 +8,7 @@ import threading
 import time
 
 from cases.filters import INPUT, PROCEED, REGISTRATION, answer
-from ends import SECONDS, Server, read_all, reset
+from ends import SECONDS, Server, read_all, reset, wait_until
 from wire import BAD, frame, full, granted, limit, number, page, page_reply, release, released, reserve, row, settle, settled, usage
 
 NOTHING_USED = bytes.fromhex("0013" "8b" "0175" "00000001" "00000000" "00000000" "00000003")
@@ -135,6 +135,7 @@ def slow_and_broken(world, checks):
         resets(server, checks)
         waits_for_nobody(server, checks)
     a_peer_that_reads_nothing(world, checks)
+    many_long_requests(world, checks)
     peers_that_drip(world, checks)
     silent_peers(world, checks)
     two_on_one_connection_each(world, checks)
@@ -168,7 +169,7 @@ def waits_for_nobody(server, checks):
 
 def a_peer_that_reads_nothing(world, checks):
     """A page of ten logins of 255 bytes is 2,686 bytes; 10,000 of them don't fit into what the kernel keeps."""
-    with Server(world, timeout=1_000) as server:
+    with Server(world, timeout=2_000) as server:
         logins = [b"%03d" % n + b"x" * 252 for n in range(10)]
         sent = b"".join(reserve(n + 1, txn=n + 1, login=login) for n, login in enumerate(logins))
         checks.equal("ten logins", server.ask(sent), b"".join(granted(n + 1, 1) for n in range(10)))
@@ -176,8 +177,30 @@ def a_peer_that_reads_nothing(world, checks):
         before = len(server.log_lines())
         peer = server.connect(room=4_096)
         peer.sendall(page() * 10_000)
+        came, slowest = [], 0
+        for _ in range(100):
+            start = time.monotonic()
+            came.append(server.ask(usage()))
+            slowest = max(slowest, time.monotonic() - start)
+        checks.equal("beside a peer that reads nothing: a hundred connections", came, [NOTHING_USED] * 100)
+        checks.holds("beside a peer that reads nothing: how long the slowest took", slowest < 1, "below 1 s, half the timeout", f"{slowest:.2f} s")
+        wait_until(lambda: len(server.log_lines()) > before)
         goes_on(server, checks, "a peer that reads nothing", before, word=(name_of(peer), "write failed"))
         peer.close()
+
+
+def many_long_requests(world, checks):
+    """More than the kernel keeps: 9,999 requests of 262 bytes at once, on one connection whose peer reads all the while."""
+    with Server(world, timeout=20_000) as server:
+        asked, wanted = page(after=b"x" * 255), page_reply([])
+        with server.connect() as peer:
+            asking = threading.Thread(target=peer.sendall, args=(asked * 9_999,), daemon=True)
+            asking.start()
+            came, peer_waits = b"", select.poll()
+            peer_waits.register(peer, select.POLLIN)
+            while len(came) < len(wanted) * 9_999 and peer_waits.poll(5_000):
+                came += peer.recv(65_536)
+            checks.equal("9,999 long requests at once: their replies", (len(came) // len(wanted), came == wanted * 9_999), (9_999, True))
 
 
 def drip(peer, sent, pause):

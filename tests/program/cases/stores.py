@@ -1,20 +1,15 @@
-"""The server over a database file: made, opened again, refused, and killed while it is asked."""
+"""The server over a database file: made, opened again, refused."""
 import os
-import random
 import signal
 import stat
-import threading
 
 from ends import Server, apart, toml
-from wire import full, granted, page, page_reply, reserve, row, settle, settled, usage
-
-KILLS = 100
+from wire import full, granted, page, page_reply, reserve, row, settle, settled
 
 
 def run(world, checks):
     made_and_opened(world, checks)
     refused(world, checks)
-    killed(world, checks)
 
 
 def used(in_settled, in_reserved, cap=3):
@@ -75,60 +70,3 @@ def refused(world, checks):
         else:
             checks.holds(f"{what}: the log", len(log) == 1 and f"{place}: {cause}" in log[0], f"one line with {place} and '{cause}'", log)
     checks.holds("no file is made without --create", not os.path.exists(f"{world.folder}/none"), "none is there", os.listdir(world.folder))
-
-
-class Sender:
-    """A client of its own host, which reserves one by one and remembers each reply that it read."""
-
-    def __init__(self, host):
-        self.host = host
-        self.replies = {}
-
-    def send(self, server, over):
-        while not over.is_set():
-            sequence = len(self.replies) + 1
-            try:
-                came = server.ask(self.request(sequence))
-            except OSError:
-                return
-            if len(came) != len(granted(1, 1, host=self.host)):
-                return
-            self.replies[sequence] = came
-
-    def request(self, sequence):
-        return reserve(sequence, txn=sequence, login=self.host, host=self.host)
-
-
-def killed(world, checks):
-    """Killed under load, the server has still answered what it answered."""
-    source = random.Random(17)
-    path = f"{world.folder}/killed"
-    senders = [Sender(b"h%d" % n) for n in range(4)]
-    wrong, words = [], ["--create"]
-    for _ in range(KILLS):
-        over = threading.Event()
-        with Server(world, words=words, store=path, default=1_000_000) as server:
-            words = []
-            threads = [threading.Thread(target=sender.send, args=(server, over)) for sender in senders]
-            for thread in threads:
-                thread.start()
-            over.wait(source.uniform(0.01, 0.1))
-            server.process.send_signal(signal.SIGKILL)
-            server.status()
-            over.set()
-            for thread in threads:
-                thread.join()
-    with Server(world, store=path, default=1_000_000) as server:
-        count = 0
-        for sender in senders:
-            for sequence, reply in sender.replies.items():
-                count += 1
-                if server.ask(sender.request(sequence)) != reply:
-                    wrong.append((sender.host, sequence))
-            # the last one may have been counted without its reply being read
-            shown = server.ask(usage(login=sender.host))
-            reserved = int.from_bytes(shown[-8:-4], "big")
-            if reserved - len(sender.replies) not in (0, 1):
-                wrong.append((sender.host, reserved, len(sender.replies)))
-        checks.equal(f"{KILLS} kills under load: replies that changed, and totals that differ", wrong, [])
-        checks.holds(f"{KILLS} kills under load: replies that were read", count > KILLS, f"more than {KILLS}", count)

@@ -1,7 +1,4 @@
-#!/usr/bin/env python3
-"""Kills the server over a file under load, and looks at what it answers after each start.
-
-usage: kills.py PROGRAM [KILLS]
+"""The server over a file, killed under load, and what it answers after each start.
 
 Four hosts send numbered requests, each again until its reply was read, and the server is killed by SIGKILL again and again. After each
 start every reply that was read has to be the answer to its number still, and what each login has used on each day what was granted.
@@ -12,14 +9,11 @@ import random
 import signal
 import socket
 import subprocess
-import sys
-import tempfile
 import threading
 import time
 
 import wire
-from checks import Checks
-from ends import SECONDS, World, free_port, toml, wait_for_listener
+from ends import SECONDS, free_port, toml, wait_for_listener
 
 KILLS = 100
 HOSTS = [b"mx1", b"mx2", b"mx3", b"mx4"]
@@ -59,7 +53,8 @@ class FileServer:
         self.port = port
 
     def kill(self):
-        os.kill(self.process.pid, signal.SIGKILL)
+        if self.process.poll() is None:
+            os.kill(self.process.pid, signal.SIGKILL)
         self.process.wait(timeout=SECONDS)
 
     def replies(self, frames):
@@ -239,15 +234,3 @@ def run(world, checks, kills=KILLS):
     checks.equal(f"replies of {watch.asked} that were asked for again which changed", watch.changed, [])
     checks.equal("days of logins whose totals aren't what was granted", watch.miscounted, [])
     print(f"    {kills} kills, {read} replies read, {cut} times cut off, {watch.asked} asked for again", flush=True)
-
-
-def main():
-    checks = Checks()
-    with tempfile.TemporaryDirectory() as folder:
-        run(World(os.path.abspath(sys.argv[1]), folder), checks, int(sys.argv[2]) if sys.argv[2:] else KILLS)
-    print(f"{checks.passed} passed, {checks.failed} failed")
-    sys.exit(1 if checks.failed or not checks.passed else 0)
-
-
-if __name__ == "__main__":
-    main()
