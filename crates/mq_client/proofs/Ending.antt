@@ -4,7 +4,7 @@ use Rattle.std.specs.List.{concat}
 use Rattle.mq_line.specs.Grammar.{Meaning}
 use Rattle.mq_line.specs.Results.{registration}
 use Rattle.mq_line.specs.Text.{IsLine, IsTooLong, Holds, text_of, lines as all_lines, left as left_over}
-use Rattle.mq_client.specs.Past.{Source, Drain, Step, drained, State, StandsAt as PastStandsAt, view, ArePlayed}
+use Rattle.mq_client.specs.Past.{Source, Drain, Step, drained, State, StandsAt, view, ArePlayed}
 use Rattle.mq_client.specs.Turns.{all_outcomes}
 use Rattle.mq_client.specs.Filter.{Filters, push, actions, answer_count}
 use Rattle.mq_client.specs.Run.{Stage, BeforeReady, AfterReady, Reaches, HasText, Outside, StandsFirst, EndsWith, IsFound, IsInHand, StopsAt}
@@ -115,15 +115,15 @@ same_done (AfterReady L) steps others text more (results, filters, whole) (resul
 played_from : (c d : State) (P steps : List Step) → d ≡ c → ArePlayed d.source d.tries P steps → ArePlayed c.source c.tries P steps
 played_from c d P steps e h = let F : State → Type 0 = λ x. ArePlayed x.source x.tries P steps in subst F e h
 
-stands_from : (c d : State) (P : List Step) → d ≡ c → PastStandsAt c P → PastStandsAt d P
-stands_from c d P e h = let F : State → Type 0 = λ x. PastStandsAt x P in subst F (sym e) h
+stands_from : (c d : State) (P : List Step) → d ≡ c → StandsAt c P → StandsAt d P
+stands_from c d P e h = let F : State → Type 0 = λ x. StandsAt x P in subst F (sym e) h
 
 -- two runs that stop at faults of the same input stop at the same one, and do the same where what was played
 -- follows from the actions
 stops_from : (G : Grammar) (C : Cutting) (o p : Outside) (pieces others : List (List ℕ)) (rest more : List ℕ) (now last : Outside) (read_failed write_failed read_failed' write_failed' : Bool) (f g : FilterFault)
     (h : StopsAt o pieces (Some rest) now read_failed write_failed f) (i : StopsAt p others (Some more) last read_failed' write_failed' g)
     → concat pieces ++ rest ≡ concat others ++ more → is_of_input f ≡ true → is_of_input g ≡ true
-    → (f ≡ g) × (h.lines ≡ i.lines) × ((P : List Step) → PastStandsAt o.client P → p.client ≡ o.client
+    → (f ≡ g) × (h.lines ≡ i.lines) × ((P : List Step) → StandsAt o.client P → p.client ≡ o.client
     → (ArePlayed o.client.source o.client.tries P (push h.step h.steps) → ArePlayed o.client.source o.client.tries P (push i.step i.steps)
     → actions (push h.step h.steps) ≡ actions (push i.step i.steps) → push h.step h.steps ≡ push i.step i.steps)
     → (push h.step h.steps ≡ push i.step i.steps) × (h.text ++ h.front ≡ i.text ++ i.front))
@@ -151,7 +151,7 @@ stops_from G C o p pieces others rest more now last read_failed write_failed rea
 pub same_stops : OneReply → (G : Grammar) (C : Cutting) (o p : Outside) (pieces others : List (List ℕ)) (rest more : List ℕ) (now last : Outside) (read_failed write_failed read_failed' write_failed' : Bool) (f g : FilterFault)
     (h : StopsAt o pieces (Some rest) now read_failed write_failed f) (i : StopsAt p others (Some more) last read_failed' write_failed' g)
     → concat pieces ++ rest ≡ concat others ++ more → is_of_input f ≡ true → is_of_input g ≡ true
-    → (f ≡ g) × (h.lines ≡ i.lines) × ((P : List Step) → PastStandsAt o.client P → p.client ≡ o.client → all_outcomes (push h.step h.steps) ≡ all_outcomes (push i.step i.steps)
+    → (f ≡ g) × (h.lines ≡ i.lines) × ((P : List Step) → StandsAt o.client P → p.client ≡ o.client → all_outcomes (push h.step h.steps) ≡ all_outcomes (push i.step i.steps)
     → (push h.step h.steps ≡ push i.step i.steps) × (h.text ++ h.front ≡ i.text ++ i.front))
 same_stops U G C o p pieces others rest more now last read_failed write_failed read_failed' write_failed' f g h i e of_f of_g =
     let (fault, lines, done) = stops_from G C o p pieces others rest more now last read_failed write_failed read_failed' write_failed' f g h i e of_f of_g in
@@ -185,7 +185,7 @@ same_ended e f a l =
 -- two runs to the end of the same input do the same, where what was played follows from the actions
 ends_from : (G : Grammar) (C : Cutting) (o p : Outside) (bytes : List ℕ) (now last : Outside) (e f : Ended) (P : List Step)
     (h : EndsWith o bytes now e) (i : EndsWith p bytes last f)
-    → PastStandsAt o.client P → p.client ≡ o.client
+    → StandsAt o.client P → p.client ≡ o.client
     → (ArePlayed o.client.source o.client.tries P (drained h.group h.steps) → ArePlayed o.client.source o.client.tries P (drained i.group i.steps)
     → actions (drained h.group h.steps) ≡ actions (drained i.group i.steps) → drained h.group h.steps ≡ drained i.group i.steps)
     → (h.steps ≡ i.steps) × (h.group ≡ i.group) × (h.results ≡ i.results) × (e ≡ f)
@@ -211,7 +211,7 @@ ends_from G C o p bytes now last e f P h i st start alike =
 
 pub same_ends : OneReply → (G : Grammar) (C : Cutting) (o p : Outside) (bytes : List ℕ) (now last : Outside) (e f : Ended) (P : List Step)
     (h : EndsWith o bytes now e) (i : EndsWith p bytes last f)
-    → PastStandsAt o.client P → p.client ≡ o.client → all_outcomes (drained h.group h.steps) ≡ all_outcomes (drained i.group i.steps)
+    → StandsAt o.client P → p.client ≡ o.client → all_outcomes (drained h.group h.steps) ≡ all_outcomes (drained i.group i.steps)
     → (h.steps ≡ i.steps) × (h.group ≡ i.group) × (h.results ≡ i.results) × (e ≡ f)
 same_ends U G C o p bytes now last e f P h i st start ended =
     ends_from G C o p bytes now last e f P h i st start

@@ -16,7 +16,7 @@ use Rattle.mq_track.specs.State.{TracksAt, State as State'}
 use Rattle.mq_track.specs.declared.fault.TrackFault.{TrackFault}
 use Rattle.mq_client.specs.Link.{Tells}
 use Rattle.mq_client.specs.Exchanges.{Exchange, told_all}
-use Rattle.mq_client.specs.Past.{Source, Drain, Step, State, StandsAt as PastStandsAt, view, Plays, Makes, MakesAll, told_steps}
+use Rattle.mq_client.specs.Past.{Source, Drain, Step, State, StandsAt, view, Plays, Makes, MakesAll, told_steps}
 use Rattle.mq_client.specs.Filter.{Takes, Closes, push, is_filter, answer_count}
 use Rattle.mq_client.specs.Run.{IsEarly, is_early, IsReady, Stage, BeforeReady, AfterReady, Outside, around, StandsFirst, EndsWith, IsAtWork, IsFound, MayGo, IsInHand, StopsAt}
 use Rattle.mq_client.specs.Loop.{Does, MakesOne, told_one, IsAt, SoFar, Carries, IsCut, IsRefused, Replies, StopsWithin}
@@ -321,7 +321,7 @@ refused_stops at.Write f stage pieces line rest m source read_failed write_faile
 pub ends : (o : Outside) (bytes held : List ℕ) (f : Filter) (sink : Option (List ℕ)) (told told' : Option (List Told)) (client client' : State) (group : List Exchange) (e : Ended)
     → SoFar o bytes held f (around sink told client) → f.is_ready ≡ true → held ≡ []
     → Tells told told' (told_all group) → Makes client client' (record { action = Drain; group = group })
-    → e.answers ≡ f.answers → ((P : List Step) → PastStandsAt client' P → e.left ≡ length (view client'.source P).waiting)
+    → e.answers ≡ f.answers → ((P : List Step) → StandsAt client' P → e.left ≡ length (view client'.source P).waiting)
     → EndsWith o bytes (around sink told' client') e
 ends o bytes held f sink told told' client client' group e s h none tells makes answers left =
     let (L, is, tracks, counted) = at_after f s.stage h s.is_at in

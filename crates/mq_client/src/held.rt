@@ -63,7 +63,8 @@ pub fn refusal(
     login: &[u8],
 ) -> Option<Cause>
     requires { waiting < 2 ^ 32 }
-    ensures { is_some result ≡ refuses_lem (find held.now.entries txn) (length held.now.entries) numbers waiting at login.now }
+    ensures { is_some result ≡ refuses_lem (find held.now.entries txn)
+        (length held.now.entries) numbers waiting at login.now }
 {
     let live = held.len();
     let unused = (u32::MAX - numbers) as usize;
