@@ -2,7 +2,7 @@
 use Rattle.std.proofs.Common.{◌≡◌, ℕ, ◌+◌, ◌==◌, Bool, false, true, List, [], ◌∷◌, length, refl, sym, ap, ◌∙◌, arith, Option, None, Some, is_some, if◌then◌else◌}
 use Rattle.std.proofs.lemmas.Bool.{eqb-true, eq-eqb, ne_eqb, both_ways}
 use Rattle.mq_client.specs.Exchanges.{Exchange}
-use Rattle.mq_client.specs.Past.{Source, Action, Ask, Close, Drain, Step, Live, Ended, View, view, after, after_close, held_by, with_asked, without}
+use Rattle.mq_client.specs.Past.{Source, Action, Ask, Close, Drain, Step, Live, Closed, View, view, after, after_close, held_by, with_asked, without}
 use Rattle.mq_track.specs.declared.closing.CloseEnd.{CloseEnd}
 use Rattle.mq_client.specs.declared.held.Held.{Held}
 
@@ -59,7 +59,7 @@ ask_counted t txn now v (Some h) true e f all = ap (λ k. count_in k v.live) (sy
 ask_counted t txn now v (Some h) false e f all = all t
 
 close_counted : (t : ℕ) (v : View) (end : CloseEnd) (seq : ℕ) (h : Held) (b : Bool) → count_in t v.live ≡ one_if (is_some (held_by (v.standing t)))
-    → (if b then 0 else count_in t v.live) ≡ one_if (is_some (held_by (if b then Ended end seq h else v.standing t)))
+    → (if b then 0 else count_in t v.live) ≡ one_if (is_some (held_by (if b then Closed end seq h else v.standing t)))
 close_counted t v end seq h true e = refl
 close_counted t v end seq h false e = e
 

@@ -1,9 +1,10 @@
 -- Two runs over the same input, whose exchanges ended alike, do and write the same.
 use Rattle.std.proofs.Common.{◌≡◌, ℕ, Bool, true, false, List, [], ◌∷◌, ◌++◌, length, refl, sym, ap, ◌∙◌, subst, append_assoc, append-nil, inl, inr, ◌⊎◌, Option, None, Some}
+use Rattle.std.specs.List.{concat}
 use Rattle.mq_line.specs.Grammar.{Meaning}
 use Rattle.mq_line.specs.Results.{registration}
 use Rattle.mq_line.specs.Text.{IsLine, IsTooLong, Holds, text_of, lines as all_lines, left as left_over}
-use Rattle.mq_client.specs.Past.{Source, Drain, Step, drained, State, StandsAt as PastStandsAt, view, ArePlayed}
+use Rattle.mq_client.specs.Past.{Source, Drain, Step, drained, State, StandsAt, view, ArePlayed}
 use Rattle.mq_client.specs.Turns.{all_outcomes}
 use Rattle.mq_client.specs.Filter.{Filters, push, actions, answer_count}
 use Rattle.mq_client.specs.Run.{Stage, BeforeReady, AfterReady, Reaches, HasText, Outside, StandsFirst, EndsWith, IsFound, IsInHand, StopsAt}
@@ -47,28 +48,28 @@ both_nil left rest e f = ap (λ (l : List ℕ). l ++ rest) e ∙ f
 no_rest : (left rest : List ℕ) → rest ≡ [] → left ++ rest ≡ left
 no_rest left rest e = ap (λ (l : List ℕ). left ++ l) e ∙ append-nil left
 
-found_fate : (C : Cutting) (f : FilterFault) (stage : Stage) (bytes left rest : List ℕ) (read_failed write_failed : Bool) → is_of_input f ≡ true → IsFound f stage bytes left (Some rest) read_failed write_failed
+found_fate : (C : Cutting) (f : FilterFault) (stage : Stage) (pieces : List (List ℕ)) (left rest : List ℕ) (read_failed write_failed : Bool) → is_of_input f ≡ true → IsFound f stage pieces left (Some rest) read_failed write_failed
     → Fate stage (all_lines (left ++ rest)) (left_over (left ++ rest)) (Some f)
-found_fate C (at.Line f) stage bytes left rest read_failed write_failed i (line, first, e) = at_line C stage line left rest (Some (at.Line f)) first (Unread f e refl)
-found_fate C (at.Track f) stage bytes left rest read_failed write_failed i (L, m, line, s, first, reads, e) = at_line C stage line left rest (Some (at.Track f)) first (Untracked m L f s reads e refl)
-found_fate C at.NotReady stage bytes left rest read_failed write_failed i (m, line, s, first, reads, e) = at_line C stage line left rest (Some at.NotReady) first (TooEarly m s reads e refl)
-found_fate C at.EndedEarly stage bytes left rest read_failed write_failed i (s, none, end) =
+found_fate C (at.Line f) stage pieces left rest read_failed write_failed i (line, first, e) = at_line C stage line left rest (Some (at.Line f)) first (Unread f e refl)
+found_fate C (at.Track f) stage pieces left rest read_failed write_failed i (L, m, line, s, first, reads, e) = at_line C stage line left rest (Some (at.Track f)) first (Untracked m L f s reads e refl)
+found_fate C at.NotReady stage pieces left rest read_failed write_failed i (m, line, s, first, reads, e) = at_line C stage line left rest (Some at.NotReady) first (TooEarly m s reads e refl)
+found_fate C at.EndedEarly stage pieces left rest read_failed write_failed i (s, none, end) =
     let (f, g) = nothing_left C (left ++ rest) (both_nil left rest none end) in
     AtEnd f (NeverReady s g refl)
-found_fate C at.CutLine stage bytes left rest read_failed write_failed i (some, one, end) =
+found_fate C at.CutLine stage pieces left rest read_failed write_failed i (some, one, end) =
     let same = no_rest left rest end in
     let F : List ℕ → Type 0 = IsLine in
     let all : IsLine (left ++ rest) = subst F (sym same) one in
     let (f, g) = no_lines C (left ++ rest) (inl all) in
     AtEnd f (InLine (λ none. some (sym (g ∙ same) ∙ none)) (subst F (sym g) all) refl)
-found_fate C at.TooLong stage bytes left rest read_failed write_failed i long =
+found_fate C at.TooLong stage pieces left rest read_failed write_failed i long =
     let all = C.too_long left rest long in
     let (f, g) = no_lines C (left ++ rest) (inr all) in
     let F : List ℕ → Type 0 = IsTooLong in
     AtEnd f (Long (subst F (sym g) all) refl)
-found_fate C at.Read stage bytes left rest read_failed write_failed i found = absurd (true_false (sym i))
-found_fate C at.Write stage bytes left rest read_failed write_failed i found = absurd (true_false (sym i))
-found_fate C at.Memory stage bytes left rest read_failed write_failed i found = absurd (true_false (sym i))
+found_fate C at.Read stage pieces left rest read_failed write_failed i found = absurd (true_false (sym i))
+found_fate C at.Write stage pieces left rest read_failed write_failed i found = absurd (true_false (sym i))
+found_fate C at.Memory stage pieces left rest read_failed write_failed i found = absurd (true_false (sym i))
 
 -- at a fault of the input no line is in hand
 quiet : (f : FilterFault) (stage : Stage) (left : List ℕ) (step : Option Step) (next : List ℕ) → is_of_input f ≡ true → IsInHand f stage left step next → (step ≡ None) × (next ≡ [])
@@ -114,22 +115,22 @@ same_done (AfterReady L) steps others text more (results, filters, whole) (resul
 played_from : (c d : State) (P steps : List Step) → d ≡ c → ArePlayed d.source d.tries P steps → ArePlayed c.source c.tries P steps
 played_from c d P steps e h = let F : State → Type 0 = λ x. ArePlayed x.source x.tries P steps in subst F e h
 
-stands_from : (c d : State) (P : List Step) → d ≡ c → PastStandsAt c P → PastStandsAt d P
-stands_from c d P e h = let F : State → Type 0 = λ x. PastStandsAt x P in subst F (sym e) h
+stands_from : (c d : State) (P : List Step) → d ≡ c → StandsAt c P → StandsAt d P
+stands_from c d P e h = let F : State → Type 0 = λ x. StandsAt x P in subst F (sym e) h
 
 -- two runs that stop at faults of the same input stop at the same one, and do the same where what was played
 -- follows from the actions
-stops_from : (G : Grammar) (C : Cutting) (o p : Outside) (bytes others rest more : List ℕ) (now last : Outside) (read_failed write_failed read_failed' write_failed' : Bool) (f g : FilterFault)
-    (h : StopsAt o bytes (Some rest) now read_failed write_failed f) (i : StopsAt p others (Some more) last read_failed' write_failed' g)
-    → bytes ++ rest ≡ others ++ more → is_of_input f ≡ true → is_of_input g ≡ true
-    → (f ≡ g) × (h.lines ≡ i.lines) × ((P : List Step) → PastStandsAt o.client P → p.client ≡ o.client
+stops_from : (G : Grammar) (C : Cutting) (o p : Outside) (pieces others : List (List ℕ)) (rest more : List ℕ) (now last : Outside) (read_failed write_failed read_failed' write_failed' : Bool) (f g : FilterFault)
+    (h : StopsAt o pieces (Some rest) now read_failed write_failed f) (i : StopsAt p others (Some more) last read_failed' write_failed' g)
+    → concat pieces ++ rest ≡ concat others ++ more → is_of_input f ≡ true → is_of_input g ≡ true
+    → (f ≡ g) × (h.lines ≡ i.lines) × ((P : List Step) → StandsAt o.client P → p.client ≡ o.client
     → (ArePlayed o.client.source o.client.tries P (push h.step h.steps) → ArePlayed o.client.source o.client.tries P (push i.step i.steps)
     → actions (push h.step h.steps) ≡ actions (push i.step i.steps) → push h.step h.steps ≡ push i.step i.steps)
     → (push h.step h.steps ≡ push i.step i.steps) × (h.text ++ h.front ≡ i.text ++ i.front))
-stops_from G C o p bytes others rest more now last read_failed write_failed read_failed' write_failed' f g h i e of_f of_g =
-    let (same, stages, faults) = meets G C (bytes ++ rest) (others ++ more) h.lines i.lines (h.left ++ rest) (i.left ++ more) h.stage i.stage h.steps i.steps h.text i.text (Some f) (Some g) e
-    (holds_all bytes rest h.lines h.left h.whole) (holds_all others more i.lines i.left i.whole) h.reaches h.has_text i.reaches i.has_text
-    (found_fate C f h.stage bytes h.left rest read_failed write_failed of_f h.found) (found_fate C g i.stage others i.left more read_failed' write_failed' of_g i.found) in
+stops_from G C o p pieces others rest more now last read_failed write_failed read_failed' write_failed' f g h i e of_f of_g =
+    let (same, stages, faults) = meets G C (concat pieces ++ rest) (concat others ++ more) h.lines i.lines (h.left ++ rest) (i.left ++ more) h.stage i.stage h.steps i.steps h.text i.text (Some f) (Some g) e
+    (holds_all (concat pieces) rest h.lines h.left h.whole) (holds_all (concat others) more i.lines i.left i.whole) h.reaches h.has_text i.reaches i.has_text
+    (found_fate C f h.stage pieces h.left rest read_failed write_failed of_f h.found) (found_fate C g i.stage others i.left more read_failed' write_failed' of_g i.found) in
     let (no_step, no_next) = quiet f h.stage h.left h.step (h.front ++ h.rest) of_f h.in_hand in
     let (no_step', no_next') = quiet g i.stage i.left i.step (i.front ++ i.rest) of_g i.in_hand in
     let steps : push h.step h.steps ≡ h.steps = ap (λ s. push s h.steps) no_step in
@@ -147,27 +148,27 @@ stops_from G C o p bytes others rest more now last read_failed write_failed read
           (steps ∙ done ∙ sym steps', text ∙ wrote ∙ sym text'),
     )
 
-pub same_stops : OneReply → (G : Grammar) (C : Cutting) (o p : Outside) (bytes others rest more : List ℕ) (now last : Outside) (read_failed write_failed read_failed' write_failed' : Bool) (f g : FilterFault)
-    (h : StopsAt o bytes (Some rest) now read_failed write_failed f) (i : StopsAt p others (Some more) last read_failed' write_failed' g)
-    → bytes ++ rest ≡ others ++ more → is_of_input f ≡ true → is_of_input g ≡ true
-    → (f ≡ g) × (h.lines ≡ i.lines) × ((P : List Step) → PastStandsAt o.client P → p.client ≡ o.client → all_outcomes (push h.step h.steps) ≡ all_outcomes (push i.step i.steps)
+pub same_stops : OneReply → (G : Grammar) (C : Cutting) (o p : Outside) (pieces others : List (List ℕ)) (rest more : List ℕ) (now last : Outside) (read_failed write_failed read_failed' write_failed' : Bool) (f g : FilterFault)
+    (h : StopsAt o pieces (Some rest) now read_failed write_failed f) (i : StopsAt p others (Some more) last read_failed' write_failed' g)
+    → concat pieces ++ rest ≡ concat others ++ more → is_of_input f ≡ true → is_of_input g ≡ true
+    → (f ≡ g) × (h.lines ≡ i.lines) × ((P : List Step) → StandsAt o.client P → p.client ≡ o.client → all_outcomes (push h.step h.steps) ≡ all_outcomes (push i.step i.steps)
     → (push h.step h.steps ≡ push i.step i.steps) × (h.text ++ h.front ≡ i.text ++ i.front))
-same_stops U G C o p bytes others rest more now last read_failed write_failed read_failed' write_failed' f g h i e of_f of_g =
-    let (fault, lines, done) = stops_from G C o p bytes others rest more now last read_failed write_failed read_failed' write_failed' f g h i e of_f of_g in
+same_stops U G C o p pieces others rest more now last read_failed write_failed read_failed' write_failed' f g h i e of_f of_g =
+    let (fault, lines, done) = stops_from G C o p pieces others rest more now last read_failed write_failed read_failed' write_failed' f g h i e of_f of_g in
     (fault, lines, λ P st start ended. done P st start (λ m t acts. same_played U o.client.source o.client.tries P (push h.step h.steps) (push i.step i.steps) m t acts ended))
 
 -- a run to the end of the input
 end_fate : (C : Cutting) (L : List Meaning) → Fate (AfterReady L) (all_lines []) (left_over []) None
 end_fate C L = let (f, g) = nothing_left C [] refl in AtEnd f (Over L refl g refl)
 
-pub no_stop_and_end : (G : Grammar) (C : Cutting) (o p : Outside) (bytes others more : List ℕ) (now last : Outside) (read_failed write_failed : Bool) (e : Ended) (g : FilterFault)
-    → EndsWith o bytes now e → StopsAt p others (Some more) last read_failed write_failed g → bytes ≡ others ++ more → is_of_input g ≡ false
-no_stop_and_end G C o p bytes others more now last read_failed write_failed e g h i same = by_kind (is_of_input g) refl
+pub no_stop_and_end : (G : Grammar) (C : Cutting) (o p : Outside) (bytes more : List ℕ) (others : List (List ℕ)) (now last : Outside) (read_failed write_failed : Bool) (e : Ended) (g : FilterFault)
+    → EndsWith o bytes now e → StopsAt p others (Some more) last read_failed write_failed g → bytes ≡ concat others ++ more → is_of_input g ≡ false
+no_stop_and_end G C o p bytes more others now last read_failed write_failed e g h i same = by_kind (is_of_input g) refl
   where
     clash : is_of_input g ≡ true → ⊥
     clash of_g =
-        let (ls, stages, faults) = meets G C bytes (others ++ more) h.lines i.lines [] (i.left ++ more) (AfterReady h.after_ready) i.stage h.steps i.steps (registration ++ h.results) i.text None (Some g) same
-        h.whole (holds_all others more i.lines i.left i.whole) h.ready (h.results, h.filters, refl) i.reaches i.has_text
+        let (ls, stages, faults) = meets G C bytes (concat others ++ more) h.lines i.lines [] (i.left ++ more) (AfterReady h.after_ready) i.stage h.steps i.steps (registration ++ h.results) i.text None (Some g) same
+        h.whole (holds_all (concat others) more i.lines i.left i.whole) h.ready (h.results, h.filters, refl) i.reaches i.has_text
         (end_fate C h.after_ready) (found_fate C g i.stage others i.left more read_failed write_failed of_g i.found) in
         none_some g faults
 
@@ -184,7 +185,7 @@ same_ended e f a l =
 -- two runs to the end of the same input do the same, where what was played follows from the actions
 ends_from : (G : Grammar) (C : Cutting) (o p : Outside) (bytes : List ℕ) (now last : Outside) (e f : Ended) (P : List Step)
     (h : EndsWith o bytes now e) (i : EndsWith p bytes last f)
-    → PastStandsAt o.client P → p.client ≡ o.client
+    → StandsAt o.client P → p.client ≡ o.client
     → (ArePlayed o.client.source o.client.tries P (drained h.group h.steps) → ArePlayed o.client.source o.client.tries P (drained i.group i.steps)
     → actions (drained h.group h.steps) ≡ actions (drained i.group i.steps) → drained h.group h.steps ≡ drained i.group i.steps)
     → (h.steps ≡ i.steps) × (h.group ≡ i.group) × (h.results ≡ i.results) × (e ≡ f)
@@ -210,7 +211,7 @@ ends_from G C o p bytes now last e f P h i st start alike =
 
 pub same_ends : OneReply → (G : Grammar) (C : Cutting) (o p : Outside) (bytes : List ℕ) (now last : Outside) (e f : Ended) (P : List Step)
     (h : EndsWith o bytes now e) (i : EndsWith p bytes last f)
-    → PastStandsAt o.client P → p.client ≡ o.client → all_outcomes (drained h.group h.steps) ≡ all_outcomes (drained i.group i.steps)
+    → StandsAt o.client P → p.client ≡ o.client → all_outcomes (drained h.group h.steps) ≡ all_outcomes (drained i.group i.steps)
     → (h.steps ≡ i.steps) × (h.group ≡ i.group) × (h.results ≡ i.results) × (e ≡ f)
 same_ends U G C o p bytes now last e f P h i st start ended =
     ends_from G C o p bytes now last e f P h i st start

@@ -4,6 +4,7 @@ pub mod Sending
 pub mod Counting
 pub mod Making
 pub mod Keeping
+pub mod Supplying
 pub mod Looping
 pub mod Refusing
 pub mod Bounding

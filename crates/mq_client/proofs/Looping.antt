@@ -2,8 +2,8 @@
 use Rattle.std.proofs.Common.{◌≡◌, ℕ, ◌+◌, Bool, true, false, List, [], ◌∷◌, ◌++◌, length, refl, sym, ap, ◌∙◌, subst, append_assoc, append-nil, arith, rules, cond, inl, inr, ◌⊎◌, Option, None, Some}
 use Rattle.std.specs.Prelude.{Result, Ok, Err, IfSome, IsOk}
 use Rattle.std.specs.Borrow.{Bor}
-use Rattle.std.specs.List.{AllByRecursion}
-use Rattle.std.specs.Io.KnownBytes.{Appends, Consumes}
+use Rattle.std.specs.List.{AllByRecursion, concat}
+use Rattle.std.specs.Io.KnownBytes.{Appends}
 use Rattle.std.proofs.KnownBytes.{Appends-trans}
 use Rattle.std.proofs.lemmas.List.Sums.{sum_by-cons}
 use Rattle.mq_line.specs.Grammar.{Meaning, ReadyLine, FilterLine, Reads, meaning}
@@ -16,7 +16,7 @@ use Rattle.mq_track.specs.State.{TracksAt, State as State'}
 use Rattle.mq_track.specs.declared.fault.TrackFault.{TrackFault}
 use Rattle.mq_client.specs.Link.{Tells}
 use Rattle.mq_client.specs.Exchanges.{Exchange, told_all}
-use Rattle.mq_client.specs.Past.{Source, Drain, Step, State, StandsAt as PastStandsAt, view, Plays, Makes, MakesAll, told_steps}
+use Rattle.mq_client.specs.Past.{Source, Drain, Step, State, StandsAt, view, Plays, Makes, MakesAll, told_steps}
 use Rattle.mq_client.specs.Filter.{Takes, Closes, push, is_filter, answer_count}
 use Rattle.mq_client.specs.Run.{IsEarly, is_early, IsReady, Stage, BeforeReady, AfterReady, Outside, around, StandsFirst, EndsWith, IsAtWork, IsFound, MayGo, IsInHand, StopsAt}
 use Rattle.mq_client.specs.Loop.{Does, MakesOne, told_one, IsAt, SoFar, Carries, IsCut, IsRefused, Replies, StopsWithin}
@@ -26,6 +26,7 @@ use Rattle.mq_client.specs.declared.filter.Ended.{Ended}
 use Rattle.mq_client.specs.declared.filter.Filter.{Filter}
 use Rattle.mq_client.specs.declared.link.Told.{Told}
 use Rattle.mq_client.proofs.Telling.{Tells-none, Tells-trans}
+use Rattle.mq_client.proofs.Supplying.{concat_push}
 use Rattle.mq_client.proofs.Basics.{all_push}
 
 pub Appends-none : (o : Option (List ℕ)) → Appends o o []
@@ -188,12 +189,12 @@ carries_take m f f' old new step text h does takes now count = λ o bytes line r
 pub Does-still : (now : Outside) → Does now now None []
 Does-still now = record { written = Appends-none now.sink; exchanged = Tells-none now.told; made = refl }
 
-pub stops : (o : Outside) (bytes left : List ℕ) (f : Filter) (source : Option (List ℕ)) (old new : Outside) (read_failed write_failed : Bool) (fault : FilterFault) (step : Option Step) (front rest : List ℕ)
-    → SoFar o bytes left f old → Does old new step front
-    → ((stage : Stage) → IsAt f stage → IsFound fault stage bytes left source read_failed write_failed)
+pub stops : (o : Outside) (pieces : List (List ℕ)) (left : List ℕ) (f : Filter) (source : Option (List ℕ)) (old new : Outside) (read_failed write_failed : Bool) (fault : FilterFault) (step : Option Step) (front rest : List ℕ)
+    → SoFar o (concat pieces) left f old → Does old new step front
+    → ((stage : Stage) → IsAt f stage → IsFound fault stage pieces left source read_failed write_failed)
     → ((stage : Stage) → IsAt f stage → IsInHand fault stage left step (front ++ rest))
-    → StopsAt o bytes source new read_failed write_failed fault
-stops o bytes left f source old new read_failed write_failed fault step front rest s does found in_hand = record {
+    → StopsAt o pieces source new read_failed write_failed fault
+stops o pieces left f source old new read_failed write_failed fault step front rest s does found in_hand = record {
   lines = s.lines;
   left = left;
   stage = s.stage;
@@ -213,27 +214,27 @@ stops o bytes left f source old new read_failed write_failed fault step front re
 }
 
 -- a run that stops while lines are handled
-pub stops_within : (o : Outside) (bytes left : List ℕ) (f : Filter) (source : Option (List ℕ)) (old new : Outside) (read_failed write_failed : Bool) (fault : FilterFault) (step : Option Step) (front rest : List ℕ)
-    → SoFar o bytes left f old → Does old new step front
-    → ((stage : Stage) → IsAt f stage → IsFound fault stage bytes left source read_failed write_failed)
+pub stops_within : (o : Outside) (pieces : List (List ℕ)) (left : List ℕ) (f : Filter) (source : Option (List ℕ)) (old new : Outside) (read_failed write_failed : Bool) (fault : FilterFault) (step : Option Step) (front rest : List ℕ)
+    → SoFar o (concat pieces) left f old → Does old new step front
+    → ((stage : Stage) → IsAt f stage → IsFound fault stage pieces left source read_failed write_failed)
     → ((stage : Stage) → IsAt f stage → IsInHand fault stage left step (front ++ rest))
     → ((stage : Stage) → IsAt f stage → fault ≡ at.Memory → IsAtWork stage left)
-    → StopsWithin o bytes source new read_failed write_failed fault
+    → StopsWithin o pieces source new read_failed write_failed fault
 unfolding stops
-stops_within o bytes left f source old new read_failed write_failed fault step front rest s does found in_hand work =
-    (stops o bytes left f source old new read_failed write_failed fault step front rest s does found in_hand, λ e. work s.stage s.is_at e)
+stops_within o pieces left f source old new read_failed write_failed fault step front rest s does found in_hand work =
+    (stops o pieces left f source old new read_failed write_failed fault step front rest s does found in_hand, λ e. work s.stage s.is_at e)
 
 -- a fault that cuts a line's work short
-pub cut_found : (fault : FilterFault) (stage : Stage) (bytes left : List ℕ) (source : Option (List ℕ)) (read_failed write_failed : Bool) → IsCut fault write_failed → IsAtWork stage left → IsFound fault stage bytes left source read_failed write_failed
-cut_found at.Write stage bytes left source read_failed write_failed c w = c
-cut_found at.Memory stage bytes left source read_failed write_failed c w = inr w
-cut_found (at.Line f) stage bytes left source read_failed write_failed c w = absurd c
-cut_found (at.Track f) stage bytes left source read_failed write_failed c w = absurd c
-cut_found at.NotReady stage bytes left source read_failed write_failed c w = absurd c
-cut_found at.EndedEarly stage bytes left source read_failed write_failed c w = absurd c
-cut_found at.CutLine stage bytes left source read_failed write_failed c w = absurd c
-cut_found at.TooLong stage bytes left source read_failed write_failed c w = absurd c
-cut_found at.Read stage bytes left source read_failed write_failed c w = absurd c
+pub cut_found : (fault : FilterFault) (stage : Stage) (pieces : List (List ℕ)) (left : List ℕ) (source : Option (List ℕ)) (read_failed write_failed : Bool) → IsCut fault write_failed → IsAtWork stage left → IsFound fault stage pieces left source read_failed write_failed
+cut_found at.Write stage pieces left source read_failed write_failed c w = c
+cut_found at.Memory stage pieces left source read_failed write_failed c w = inr w
+cut_found (at.Line f) stage pieces left source read_failed write_failed c w = absurd c
+cut_found (at.Track f) stage pieces left source read_failed write_failed c w = absurd c
+cut_found at.NotReady stage pieces left source read_failed write_failed c w = absurd c
+cut_found at.EndedEarly stage pieces left source read_failed write_failed c w = absurd c
+cut_found at.CutLine stage pieces left source read_failed write_failed c w = absurd c
+cut_found at.TooLong stage pieces left source read_failed write_failed c w = absurd c
+cut_found at.Read stage pieces left source read_failed write_failed c w = absurd c
 
 pub cut_in_hand : (fault : FilterFault) (stage : Stage) (left : List ℕ) (write_failed : Bool) (step : Option Step) (next : List ℕ) → IsCut fault write_failed → MayGo stage left step next → IsInHand fault stage left step next
 cut_in_hand at.Write stage left write_failed step next c h = h
@@ -295,24 +296,24 @@ track_apart : {e : TrackFault} → at.Track e ≡ at.Memory → ⊥
 track_apart h = cc (h)
 
 -- a line that wasn't noted
-pub refused_stops : (fault : FilterFault) (f : Filter) (stage : Stage) (bytes line rest : List ℕ) (m : Meaning) (source : Option (List ℕ)) (read_failed write_failed : Bool) → f.is_ready ≡ true → IsAt f stage → IsLine line → Reads line m
+pub refused_stops : (fault : FilterFault) (f : Filter) (stage : Stage) (pieces : List (List ℕ)) (line rest : List ℕ) (m : Meaning) (source : Option (List ℕ)) (read_failed write_failed : Bool) → f.is_ready ≡ true → IsAt f stage → IsLine line → Reads line m
     → ((L : List Meaning) → TracksAt f.tracker L → IsRefused fault L m)
-    → IsFound fault stage bytes (line ++ 10 ∷ rest) source read_failed write_failed × IsInHand fault stage (line ++ 10 ∷ rest) None [] × (fault ≡ at.Memory → IsAtWork stage (line ++ 10 ∷ rest))
-refused_stops (at.Track e) f stage bytes line rest m source read_failed write_failed h a one reads refused =
+    → IsFound fault stage pieces (line ++ 10 ∷ rest) source read_failed write_failed × IsInHand fault stage (line ++ 10 ∷ rest) None [] × (fault ≡ at.Memory → IsAtWork stage (line ++ 10 ∷ rest))
+refused_stops (at.Track e) f stage pieces line rest m source read_failed write_failed h a one reads refused =
     let (L, is, tracks, counted) = at_after f stage h a in
     ((L, m, line, is, first_of line rest one, reads, refused L tracks), (refl, refl), λ e. absurd (track_apart e))
-refused_stops at.Memory f stage bytes line rest m source read_failed write_failed h a one reads refused =
+refused_stops at.Memory f stage pieces line rest m source read_failed write_failed h a one reads refused =
     let (L, is, tracks, counted) = at_after f stage h a in
     let (none, may) = refused L tracks in
     let work : IsAtWork stage (line ++ 10 ∷ rest) = rw is (m, line, first_of line rest one, reads, none, may) in
     (inr work, inl (refl, refl), λ e. work)
-refused_stops (at.Line e) f stage bytes line rest m source read_failed write_failed h a one reads refused = let (L, is, tracks, counted) = at_after f stage h a in absurd (refused L tracks)
-refused_stops at.NotReady f stage bytes line rest m source read_failed write_failed h a one reads refused = let (L, is, tracks, counted) = at_after f stage h a in absurd (refused L tracks)
-refused_stops at.EndedEarly f stage bytes line rest m source read_failed write_failed h a one reads refused = let (L, is, tracks, counted) = at_after f stage h a in absurd (refused L tracks)
-refused_stops at.CutLine f stage bytes line rest m source read_failed write_failed h a one reads refused = let (L, is, tracks, counted) = at_after f stage h a in absurd (refused L tracks)
-refused_stops at.TooLong f stage bytes line rest m source read_failed write_failed h a one reads refused = let (L, is, tracks, counted) = at_after f stage h a in absurd (refused L tracks)
-refused_stops at.Read f stage bytes line rest m source read_failed write_failed h a one reads refused = let (L, is, tracks, counted) = at_after f stage h a in absurd (refused L tracks)
-refused_stops at.Write f stage bytes line rest m source read_failed write_failed h a one reads refused = let (L, is, tracks, counted) = at_after f stage h a in absurd (refused L tracks)
+refused_stops (at.Line e) f stage pieces line rest m source read_failed write_failed h a one reads refused = let (L, is, tracks, counted) = at_after f stage h a in absurd (refused L tracks)
+refused_stops at.NotReady f stage pieces line rest m source read_failed write_failed h a one reads refused = let (L, is, tracks, counted) = at_after f stage h a in absurd (refused L tracks)
+refused_stops at.EndedEarly f stage pieces line rest m source read_failed write_failed h a one reads refused = let (L, is, tracks, counted) = at_after f stage h a in absurd (refused L tracks)
+refused_stops at.CutLine f stage pieces line rest m source read_failed write_failed h a one reads refused = let (L, is, tracks, counted) = at_after f stage h a in absurd (refused L tracks)
+refused_stops at.TooLong f stage pieces line rest m source read_failed write_failed h a one reads refused = let (L, is, tracks, counted) = at_after f stage h a in absurd (refused L tracks)
+refused_stops at.Read f stage pieces line rest m source read_failed write_failed h a one reads refused = let (L, is, tracks, counted) = at_after f stage h a in absurd (refused L tracks)
+refused_stops at.Write f stage pieces line rest m source read_failed write_failed h a one reads refused = let (L, is, tracks, counted) = at_after f stage h a in absurd (refused L tracks)
 
 -- ---- the end
 
@@ -320,7 +321,7 @@ refused_stops at.Write f stage bytes line rest m source read_failed write_failed
 pub ends : (o : Outside) (bytes held : List ℕ) (f : Filter) (sink : Option (List ℕ)) (told told' : Option (List Told)) (client client' : State) (group : List Exchange) (e : Ended)
     → SoFar o bytes held f (around sink told client) → f.is_ready ≡ true → held ≡ []
     → Tells told told' (told_all group) → Makes client client' (record { action = Drain; group = group })
-    → e.answers ≡ f.answers → ((P : List Step) → PastStandsAt client' P → e.left ≡ length (view client'.source P).waiting)
+    → e.answers ≡ f.answers → ((P : List Step) → StandsAt client' P → e.left ≡ length (view client'.source P).waiting)
     → EndsWith o bytes (around sink told' client') e
 ends o bytes held f sink told told' client client' group e s h none tells makes answers left =
     let (L, is, tracks, counted) = at_after f s.stage h s.is_at in
@@ -365,15 +366,15 @@ so_far_start sink told client f held none h tracks zero = record {
   made = makes_none client;
 }
 
--- a piece came
-pub so_far_fed : (o : Outside) (bytes held held' piece : List ℕ) (f : Filter) (now : Outside) → held' ≡ held ++ piece
-    → SoFar o bytes held f now → SoFar o (bytes ++ piece) held' f now
-so_far_fed o bytes held held' piece f now e s = record {
+-- a read gave a piece
+pub so_far_fed : (o : Outside) (pieces : List (List ℕ)) (held held' piece : List ℕ) (f : Filter) (now : Outside) → held' ≡ held ++ piece
+    → SoFar o (concat pieces) held f now → SoFar o (concat (pieces ++ piece ∷ [])) held' f now
+so_far_fed o pieces held held' piece f now e s = record {
   lines = s.lines;
   stage = s.stage;
   steps = s.steps;
   text = s.text;
-  whole = rw e (record { whole = ap (λ (l : List ℕ). l ++ piece) s.whole.whole ∙ append_assoc (text_of s.lines) held piece; each = s.whole.each });
+  whole = rw e (record { whole = concat_push pieces piece ∙ ap (λ (l : List ℕ). l ++ piece) s.whole.whole ∙ append_assoc (text_of s.lines) held piece; each = s.whole.each });
   reaches = s.reaches;
   is_at = s.is_at;
   has_text = s.has_text;
@@ -382,9 +383,11 @@ so_far_fed o bytes held held' piece f now e s = record {
   made = s.made;
 }
 
+-- a read gave nothing
+pub so_far_none : (o : Outside) (pieces : List (List ℕ)) (piece held : List ℕ) (f : Filter) (now : Outside) → piece ≡ []
+    → SoFar o (concat pieces) held f now → SoFar o (concat (pieces ++ piece ∷ [])) held f now
+so_far_none o pieces piece held f now e s =
+    so_far_fed o pieces held held piece f now (sym (ap (λ (l : List ℕ). held ++ l) e ∙ append-nil held)) s
+
 pub is_line_none : (held : List ℕ) → held ≡ [] → IsLine held
 is_line_none held e = rw e no_line
-
-pub Consumes-none : (o : Option (List ℕ)) → Consumes o o []
-Consumes-none None = tt
-Consumes-none (Some xs) = refl

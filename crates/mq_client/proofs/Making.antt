@@ -4,8 +4,8 @@ use Rattle.std.proofs.lemmas.Bool.{eq-eqb}
 use Rattle.std.proofs.lemmas.List.{drop-drop}
 use Rattle.mq_frame.specs.declared.message.Request.{Request}
 use Rattle.mq_frame.specs.declared.message.Reply.{Reply}
-use Rattle.mq_client.specs.Exchanges.{Exchange, AreFailed, AreTries, IsUndecided, SendsSome, NoneYet, OneMore, Sends, SendsAll, StopsAt, decisions}
-use Rattle.mq_client.specs.Past.{Source, Action, Ask, Close, Drain, Standing, Live, Ended, View, view, held_by, opened, let_through, answer_of, answer_by, reserve_of, closing_of, with_asked, refuses, PlaysFrom, State, find, Makes}
+use Rattle.mq_client.specs.Exchanges.{Exchange, AreFailed, AreTries, IsUndecided, SendsSome, NoneYet, OneMore, Sends, SendsAll, SendsUpTo, decisions}
+use Rattle.mq_client.specs.Past.{Source, Action, Ask, Close, Drain, Standing, Live, Closed, View, view, held_by, opened, let_through, answer_of, answer_by, reserve_of, closing_of, with_asked, refuses, PlaysFrom, State, find, Makes}
 use Rattle.mq_track.specs.declared.closing.CloseEnd.{CloseEnd}
 use Rattle.mq_client.specs.declared.held.Asked.{Asked}
 use Rattle.mq_client.specs.declared.held.Held.{Held}
@@ -127,7 +127,7 @@ some_left n queue group left (OneMore q more done tries r s t) =
 
 pub sends_left : (n : ℕ) (queue : List Request) (group : List Exchange) (left : List Request) → Sends n queue group left → left ≡ drop (decisions group) queue
 sends_left n queue group left (SendsAll done s) = some_left n queue group left s
-sends_left n queue group left (StopsAt q more done tries s t) =
+sends_left n queue group left (SendsUpTo q more done tries s t) =
     let count : decisions (tries ++ done) ≡ decisions done = omega (arith, decisions-append tries done, decisions_undecided n q tries t) in
     rw count (some_left n queue done (q ∷ more) s)
 
@@ -164,7 +164,7 @@ closed c d txn end h group source same e sends held len numbers =
           let queue : c.waiting ++ closing_of c.source (c.numbers + 1) txn end h ∷ [] ≡ v.waiting ++ closing_of c.source (v.numbers + 1) txn end h ∷ [] =
           ap (λ w. w ++ closing_of c.source (c.numbers + 1) txn end h ∷ []) st.waiting ∙ ap (λ k. v.waiting ++ closing_of c.source (k + 1) txn end h ∷ []) st.numbers in
           record {
-            held = rw was (λ t. gone_at v txn (Ended end (v.numbers + 1) h) c.held d.held t (txn == t) refl (held t) st.held);
+            held = rw was (λ t. gone_at v txn (Closed end (v.numbers + 1) h) c.held d.held t (txn == t) refl (held t) st.held);
             live = rw was (omega (arith, len, st.live, length_closed v txn (counted c.source P) (ap is_some was)));
             numbers = rw was (numbers ∙ ap (λ i. i + 1) st.numbers);
             waiting = rw was (sends_left c.tries _ group d.waiting sends ∙ ap (drop (decisions group)) queue);

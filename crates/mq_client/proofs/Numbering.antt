@@ -10,10 +10,10 @@ use Rattle.mq_frame.specs.declared.message.Id.{Id}
 use Rattle.mq_frame.specs.declared.message.Request.{Request}
 use Rattle.mq_frame.specs.declared.message.Request.TheVariants.{Reserve, Settle, Release, Limit, Usage, List as ListRequest}
 use Rattle.mq_client.specs.Exchanges.{Exchange, decisions}
-use Rattle.mq_client.specs.Past.{Source, Action, Ask, Close, Drain, Step, Standing, Never, Live, Ended, View, view, after, after_close, held_by, held_for, opened, let_through, answer_of, id_of, reserve_of, is_commit, closing_of, is_other, refuses}
+use Rattle.mq_client.specs.Past.{Source, Action, Ask, Close, Drain, Step, Standing, Never, Live, Closed, View, view, after, after_close, held_by, held_for, opened, let_through, answer_of, id_of, reserve_of, is_commit, closing_of, is_other, refuses}
 use Rattle.mq_client.specs.Reading.{live_in, numbers_in, takes_number}
 use Rattle.mq_client.specs.Turns.{queue_of, ComeInTurn, AreUnderway}
-use Rattle.mq_client.specs.Numbered.{id_in, txn_in, exchanges_in, request_by, request_under, IsNumbered, WasCommitted, SettlesWhatWasLet, is_ended, AsksForNoEnded, NoneReturns, Suits}
+use Rattle.mq_client.specs.Numbered.{id_in, txn_in, exchanges_in, request_by, request_under, IsNumbered, WasCommitted, SettlesWhatWasLet, is_closed, AsksForNoClosed, NoneReturns, Suits}
 use Rattle.mq_track.specs.declared.closing.CloseEnd.{CloseEnd}
 use Rattle.mq_track.specs.declared.closing.CloseEnd.TheVariants as ending
 use Rattle.mq_client.specs.declared.held.Asked.{Asked}
@@ -230,8 +230,8 @@ let_at asked.Granted h = refl
 let_at asked.Full h = refl
 let_at asked.Unavailable h = refl
 
-ended_not : (end : CloseEnd) (seq : ℕ) (h : Held) → is_ended (Ended end seq h) ≡ false → ⊥
-ended_not end seq h e = cc (e)
+closed_not : (end : CloseEnd) (seq : ℕ) (h : Held) → is_closed (Closed end seq h) ≡ false → ⊥
+closed_not end seq h e = cc (e)
 
 first_is : (a b : Bool) → (a || b) ≡ false → a ≡ false
 first_is true b e = e
@@ -252,10 +252,10 @@ same_asked h at login more e =
     ((bytes_decides h.login login).0 (not_false _ (first_is (not (same_text h.login login)) _ same)), eqb-true h.at at (not_false _ (second_is (not (same_text h.login login)) _ same)))
 
 -- a reserve of a transaction that an ask finds live
-reserve_stays : (s : Source) (n t at : ℕ) (login : List ℕ) (answer : Asked) (st : Standing) (q : Request) → is_ended st ≡ false → Suits s n t st q → Suits s n t (Live (let_through answer (opened at login (held_by st)))) q
+reserve_stays : (s : Source) (n t at : ℕ) (login : List ℕ) (answer : Asked) (st : Standing) (q : Request) → is_closed st ≡ false → Suits s n t st q → Suits s n t (Live (let_through answer (opened at login (held_by st)))) q
 reserve_stays s n t at login answer Never q e suits = absurd suits
 reserve_stays s n t at login answer (Live h) q e suits = suits ∙ ap (λ (m : ℕ). reserve_of s n t m h.login) (sym (let_at answer h)) ∙ ap (λ (l : List ℕ). reserve_of s n t (let_through answer h).at l) (sym (let_login answer h))
-reserve_stays s n t at login answer (Ended end seq h) q e suits = absurd (ended_not end seq h e)
+reserve_stays s n t at login answer (Closed end seq h) q e suits = absurd (closed_not end seq h e)
 
 reserve_new : (s : Source) (n t at : ℕ) (login : List ℕ) (answer : Asked) (o : Option Held) (live numbers waiting : ℕ) → refuses o live numbers waiting at login ≡ false
     → reserve_of s n t at login ≡ reserve_of s n t (let_through answer (opened at login o)).at (let_through answer (opened at login o)).login
@@ -266,13 +266,13 @@ reserve_new s n t at login answer (Some h) live numbers waiting free =
     let (same_login, same_at) = same_asked h at login _ free in
     ap (λ (m : ℕ). reserve_of s n t m login) (sym (let_at answer h ∙ same_at)) ∙ ap (λ (l : List ℕ). reserve_of s n t (let_through answer h).at l) (sym (let_login answer h ∙ same_login))
 
-closed_stays : (s : Source) (n t seq : ℕ) (end : CloseEnd) (h : Held) (st : Standing) (q : Request) → held_by st ≡ Some h → Suits s n t st q → Suits s n t (Ended end seq h) q
+closed_stays : (s : Source) (n t seq : ℕ) (end : CloseEnd) (h : Held) (st : Standing) (q : Request) → held_by st ≡ Some h → Suits s n t st q → Suits s n t (Closed end seq h) q
 closed_stays s n t seq end h Never q e suits = absurd suits
 closed_stays s n t seq end h (Live k) q e suits = let F : Held → Type 0 = λ x. q ≡ reserve_of s n t x.at x.login in inl (subst F (some_is k h e) suits)
-closed_stays s n t seq end h (Ended end' seq' k) q e suits = absurd (none_some h e)
+closed_stays s n t seq end h (Closed end' seq' k) q e suits = absurd (none_some h e)
 
 -- an older request
-suits_old : (s : Source) (n t : ℕ) (q : Request) (v : View) (a : Action) (group : List Exchange) → AsksForNoEnded v a → Suits s n t (v.standing t) q → Suits s n t ((after s v a group).standing t) q
+suits_old : (s : Source) (n t : ℕ) (q : Request) (v : View) (a : Action) (group : List Exchange) → AsksForNoClosed v a → Suits s n t (v.standing t) q → Suits s n t ((after s v a group).standing t) q
 suits_old s n t q v (Ask txn at login) [] fresh suits = suits
 suits_old s n t q v (Ask txn at login) (x ∷ group) fresh suits = by_txn (txn == t) refl
   where
@@ -284,7 +284,7 @@ suits_old s n t q v (Ask txn at login) (x ∷ group) fresh suits = by_txn (txn =
     by_txn false e = suits
 suits_old s n t q v (Close txn end) group fresh suits = by_held (held_by (v.standing txn)) refl
   where
-    by_txn : (h : Held) (b : Bool) → (txn == t) ≡ b → held_by (v.standing txn) ≡ Some h → Suits s n t (if b then Ended end (v.numbers + 1) h else v.standing t) q
+    by_txn : (h : Held) (b : Bool) → (txn == t) ≡ b → held_by (v.standing txn) ≡ Some h → Suits s n t (if b then Closed end (v.numbers + 1) h else v.standing t) q
     by_txn h true e f =
         let is : txn ≡ t = eqb-true txn t e in
         let F : ℕ → Type 0 = λ u. Suits s n t (v.standing u) q in

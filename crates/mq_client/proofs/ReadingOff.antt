@@ -4,8 +4,8 @@ use Rattle.std.specs.List.{filter_map, cons_option}
 use Rattle.std.proofs.lemmas.Bool.{eqb-true}
 use Rattle.std.proofs.lemmas.List.Sums.{sum_by-cons}
 use Rattle.mq_client.specs.Exchanges.{Exchange}
-use Rattle.mq_client.specs.Past.{Source, Action, Ask, Close, Drain, Step, Standing, Live, Ended, View, view, after, after_close, held_by, opened, let_through, answer_of}
-use Rattle.mq_client.specs.Reading.{Asking, since_close, asking, asks_of, first_of, is_granted, live_by, live_in, numbers_in, ended_by, standing_or, ended_in, live_or, standing_in}
+use Rattle.mq_client.specs.Past.{Source, Action, Ask, Close, Drain, Step, Standing, Live, Closed, View, view, after, after_close, held_by, opened, let_through, answer_of}
+use Rattle.mq_client.specs.Reading.{Asking, since_close, asking, asks_of, first_of, is_granted, live_by, live_in, numbers_in, closed_by, standing_or, closed_in, live_or, standing_in}
 use Rattle.mq_track.specs.declared.closing.CloseEnd.{CloseEnd}
 use Rattle.mq_client.specs.declared.held.Asked.{Asked}
 use Rattle.mq_client.specs.declared.held.Asked.TheVariants as asked
@@ -92,27 +92,27 @@ IsRead v P = (t : ℕ) → v.standing t ≡ standing_in P t
 
 ask_read : (t txn at : ℕ) (login : List ℕ) (answer : Asked) (v : View) (P : List Step) (b : Bool) → (txn == t) ≡ b → IsLiveRead v P → IsRead v P
     → (if b then Live (let_through answer (opened at login (held_by (v.standing txn)))) else v.standing t)
-    ≡ live_or (live_by (cons_option (if b then Some (one_ask login at answer) else None) (asks_of t P))) (ended_in P t)
-ask_read t txn at login answer v P true e all read = ap (λ o. live_or o (ended_in P t)) (ask_live t txn at login answer v P true e all)
+    ≡ live_or (live_by (cons_option (if b then Some (one_ask login at answer) else None) (asks_of t P))) (closed_in P t)
+ask_read t txn at login answer v P true e all read = ap (λ o. live_or o (closed_in P t)) (ask_live t txn at login answer v P true e all)
 ask_read t txn at login answer v P false e all read = read t
 
 close_read : (s : Source) (t txn : ℕ) (end : CloseEnd) (group : List Exchange) (v : View) (P : List Step) (o : Option Held) (b : Bool) → held_by (v.standing txn) ≡ o → (txn == t) ≡ b → v.numbers ≡ numbers_in P → IsLiveRead v P → IsRead v P
-    → (after_close s txn end group v o).standing t ≡ live_or (live_by (asks_after t b (record { action = Close txn end; group = group }) P)) (standing_or (ended_by t (numbers_in P + 1) (Close txn end) (live_in P t)) (ended_in P t))
+    → (after_close s txn end group v o).standing t ≡ live_or (live_by (asks_after t b (record { action = Close txn end; group = group }) P)) (standing_or (closed_by t (numbers_in P + 1) (Close txn end) (live_in P t)) (closed_in P t))
 close_read s t txn end group v P None true e f n all read =
     let absent : live_in P t ≡ None = sym (all t) ∙ ap (λ k. held_by (v.standing k)) (sym (eqb-true txn t f)) ∙ e in
     read t ∙ rw absent refl
-close_read s t txn end group v P None false e f n all read = read t ∙ ap (live_or (live_in P t)) (sym (other_ended t (numbers_in P + 1) txn end (live_in P t) (ended_in P t) f))
+close_read s t txn end group v P None false e f n all read = read t ∙ ap (live_or (live_in P t)) (sym (other_ended t (numbers_in P + 1) txn end (live_in P t) (closed_in P t) f))
   where
-    other_ended : (t seq txn : ℕ) (end : CloseEnd) (o : Option Held) (before : Standing) → (txn == t) ≡ false → standing_or (ended_by t seq (Close txn end) o) before ≡ before
+    other_ended : (t seq txn : ℕ) (end : CloseEnd) (o : Option Held) (before : Standing) → (txn == t) ≡ false → standing_or (closed_by t seq (Close txn end) o) before ≡ before
     other_ended t seq txn end None before f = refl
     other_ended t seq txn end (Some h) before f = rw f refl
 close_read s t txn end group v P (Some h) true e f n all read =
     let there : live_in P t ≡ Some h = sym (all t) ∙ ap (λ k. held_by (v.standing k)) (sym (eqb-true txn t f)) ∙ e in
-    rw (f, there, f) (ap (λ k. Ended end (k + 1) h) n)
+    rw (f, there, f) (ap (λ k. Closed end (k + 1) h) n)
 close_read s t txn end group v P (Some h) false e f n all read =
-    rw f (read t ∙ ap (live_or (live_in P t)) (sym (other_too t (numbers_in P + 1) txn end (live_in P t) (ended_in P t) f)))
+    rw f (read t ∙ ap (live_or (live_in P t)) (sym (other_too t (numbers_in P + 1) txn end (live_in P t) (closed_in P t) f)))
   where
-    other_too : (t seq txn : ℕ) (end : CloseEnd) (o : Option Held) (before : Standing) → (txn == t) ≡ false → standing_or (ended_by t seq (Close txn end) o) before ≡ before
+    other_too : (t seq txn : ℕ) (end : CloseEnd) (o : Option Held) (before : Standing) → (txn == t) ≡ false → standing_or (closed_by t seq (Close txn end) o) before ≡ before
     other_too t seq txn end None before f = refl
     other_too t seq txn end (Some h) before f = rw f refl
 

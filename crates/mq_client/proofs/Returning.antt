@@ -11,9 +11,9 @@ use Rattle.mq_track.specs.Sessions.{Transaction, login, open_transaction, closin
 use Rattle.mq_track.specs.declared.closing.Closing.{Closing}
 use Rattle.mq_track.specs.declared.closing.CloseEnd.{CloseEnd}
 use Rattle.mq_client.specs.Exchanges.{Exchange}
-use Rattle.mq_client.specs.Past.{Source, Action, Ask, Close, Drain, Step, Never, Live, Ended, View, view, after, after_close, held_by}
-use Rattle.mq_client.specs.Filter.{Query, Passes, Refuses, Asks, is_login, is_moment, query_at, query, Answers, Closes, Takes, push, Filters, actions, asking_of, closing_of, action_of, actions_of}
-use Rattle.mq_client.specs.Numbered.{is_ended, AsksForNoEnded, NoneReturns}
+use Rattle.mq_client.specs.Past.{Source, Action, Ask, Close, Drain, Step, Never, Live, Closed, View, view, after, after_close, held_by}
+use Rattle.mq_client.specs.Filter.{Query, Passes, Refuses, Asks, is_login, is_moment, query_at, query, Answers, Closes, Takes, push, Filters, actions, asking_of, close_of, action_of, actions_of}
+use Rattle.mq_client.specs.Numbered.{is_closed, AsksForNoClosed, NoneReturns}
 use Rattle.mq_client.specs.declared.held.Held.{Held}
 use Rattle.mq_client.proofs.Sameness.{kind_of, actions_push}
 use Rattle.mq_client.proofs.Basics.{none_some, nil_cons, cons_head, cons_tail}
@@ -25,7 +25,7 @@ asked_kind Passes step d h = ap kind_of h.0
 asked_kind Refuses step d h = ap kind_of h.0
 asked_kind (Asks txn at name) step d (group, is, answer) = ap kind_of is
 
-closed_kind : (c : Option Closing) (step : Option Step) → Closes c step → kind_of step ≡ option_map closing_of c
+closed_kind : (c : Option Closing) (step : Option Step) → Closes c step → kind_of step ≡ option_map close_of c
 closed_kind None step h = ap kind_of h
 closed_kind (Some c) step (group, is) = ap kind_of is
 
@@ -65,7 +65,7 @@ asks_no_close Passes txn end e = none_some (Close txn end) e
 asks_no_close Refuses txn end e = none_some (Close txn end) e
 asks_no_close (Asks u at name) txn end e = cc (e)
 
-closes_by : (o : Option Closing) (txn : ℕ) (end : CloseEnd) → option_map closing_of o ≡ Some (Close txn end) → (c : Closing) × (o ≡ Some c) × (c.txn ≡ txn)
+closes_by : (o : Option Closing) (txn : ℕ) (end : CloseEnd) → option_map close_of o ≡ Some (Close txn end) → (c : Closing) × (o ≡ Some c) × (c.txn ≡ txn)
 closes_by None txn end e = absurd (none_some (Close txn end) e)
 closes_by (Some c) txn end e = (c, refl, cc (e))
 
@@ -119,7 +119,7 @@ asking_asks Passes txn at name e = absurd (none_some (Ask txn at name) e)
 asking_asks Refuses txn at name e = absurd (none_some (Ask txn at name) e)
 asking_asks (Asks u v n) txn at name e = cc (e)
 
-close_no_ask : (o : Option Closing) (txn at : ℕ) (name : List ℕ) → option_map closing_of o ≡ Some (Ask txn at name) → ⊥
+close_no_ask : (o : Option Closing) (txn at : ℕ) (name : List ℕ) → option_map close_of o ≡ Some (Ask txn at name) → ⊥
 close_no_ask None txn at name e = none_some (Ask txn at name) e
 close_no_ask (Some c) txn at name e = cc (e)
 
@@ -135,12 +135,12 @@ asked_open L OtherLine txn at name e = absurd (close_no_ask (closing L OtherLine
 -- ---- what ended was closed
 
 abbrev EndedAreClosed : View → List Action → Type 0
-EndedAreClosed v acts = (t : ℕ) → is_ended (v.standing t) ≡ true → IsClosedIn t acts
+EndedAreClosed v acts = (t : ℕ) → is_closed (v.standing t) ≡ true → IsClosedIn t acts
 
-live_not_ended : (h : Held) → is_ended (Live h) ≡ true → ⊥
+live_not_ended : (h : Held) → is_closed (Live h) ≡ true → ⊥
 live_not_ended h e = cc (e)
 
-ended_asked : (now : Held) (v : View) (txn t : ℕ) (b : Bool) (acts : List Action) → EndedAreClosed v acts → is_ended (if b then Live now else v.standing t) ≡ true → IsClosedIn t acts
+ended_asked : (now : Held) (v : View) (txn t : ℕ) (b : Bool) (acts : List Action) → EndedAreClosed v acts → is_closed (if b then Live now else v.standing t) ≡ true → IsClosedIn t acts
 ended_asked now v txn t true acts all e = absurd (live_not_ended now e)
 ended_asked now v txn t false acts all e = all t e
 
@@ -148,7 +148,7 @@ ended_closed : (s : Source) (txn : ℕ) (end : CloseEnd) (group : List Exchange)
 ended_closed s txn end group v None acts all = λ t e. inr (all t e)
 ended_closed s txn end group v (Some h) acts all = λ t e. by_txn t (txn == t) refl e
   where
-    by_txn : (t : ℕ) (b : Bool) → (txn == t) ≡ b → is_ended (if b then Ended end (v.numbers + 1) h else v.standing t) ≡ true → (txn ≡ t) ⊎ IsClosedIn t acts
+    by_txn : (t : ℕ) (b : Bool) → (txn == t) ≡ b → is_closed (if b then Closed end (v.numbers + 1) h else v.standing t) ≡ true → (txn ≡ t) ⊎ IsClosedIn t acts
     by_txn t true f e = inl (eqb-true txn t f)
     by_txn t false f e = inr (all t e)
 
@@ -158,12 +158,12 @@ ended_step s v (Ask txn at name) (x ∷ group) acts all = λ t e. ended_asked _ 
 ended_step s v (Close txn end) group acts all = ended_closed s txn end group v (held_by (v.standing txn)) acts all
 ended_step s v Drain group acts all = all
 
-never_not_ended : is_ended Never ≡ true → ⊥
+never_not_ended : is_closed Never ≡ true → ⊥
 never_not_ended e = cc (e)
 
-ended_in : (s : Source) (P : List Step) → EndedAreClosed (view s P) (actions P)
-ended_in s [] = λ t e. absurd (never_not_ended e)
-ended_in s (x ∷ P) = ended_step s (view s P) x.action x.group (actions P) (ended_in s P)
+closed_in : (s : Source) (P : List Step) → EndedAreClosed (view s P) (actions P)
+closed_in s [] = λ t e. absurd (never_not_ended e)
+closed_in s (x ∷ P) = ended_step s (view s P) x.action x.group (actions P) (closed_in s P)
 
 -- ---- the law
 
@@ -172,17 +172,17 @@ none_ended S L session t is_open i =
     let w = closed_line L t.txn i in
     S w.before w.line w.closed w.is w.later session t (ap (λ l. open_transaction l session) (sym w.whole) ∙ is_open) (sym w.txn_is)
 
-fresh_ask : (S : StayClosed) (s : Source) (L : List Meaning) (P : List Step) (session : List ℕ) (t : Transaction) → actions P ≡ actions_of L → open_transaction L session ≡ Some t → is_ended ((view s P).standing t.txn) ≡ false
-fresh_ask S s L P session t same is_open = by_standing (is_ended ((view s P).standing t.txn)) refl
+fresh_ask : (S : StayClosed) (s : Source) (L : List Meaning) (P : List Step) (session : List ℕ) (t : Transaction) → actions P ≡ actions_of L → open_transaction L session ≡ Some t → is_closed ((view s P).standing t.txn) ≡ false
+fresh_ask S s L P session t same is_open = by_standing (is_closed ((view s P).standing t.txn)) refl
   where
-    by_standing : (b : Bool) → is_ended ((view s P).standing t.txn) ≡ b → b ≡ false
+    by_standing : (b : Bool) → is_closed ((view s P).standing t.txn) ≡ b → b ≡ false
     by_standing false e = refl
-    by_standing true e = absurd (none_ended S L session t is_open (subst (IsClosedIn t.txn) same (ended_in s P t.txn e)))
+    by_standing true e = absurd (none_ended S L session t is_open (subst (IsClosedIn t.txn) same (closed_in s P t.txn e)))
 
-asks_fresh : (S : StayClosed) (s : Source) (L : List Meaning) (m : Meaning) (P : List Step) (a : Action) → actions P ≡ actions_of L → action_of L m ≡ Some a → AsksForNoEnded (view s P) a
+asks_fresh : (S : StayClosed) (s : Source) (L : List Meaning) (m : Meaning) (P : List Step) (a : Action) → actions P ≡ actions_of L → action_of L m ≡ Some a → AsksForNoClosed (view s P) a
 asks_fresh S s L m P (Ask txn at name) same e =
     let (session, t, is_open, is) = asked_open L m txn at name e in
-    let F : ℕ → Type 0 = λ u. is_ended ((view s P).standing u) ≡ false in
+    let F : ℕ → Type 0 = λ u. is_closed ((view s P).standing u) ≡ false in
     subst F is (fresh_ask S s L P session t same is_open)
 asks_fresh S s L m P (Close txn end) same e = tt
 asks_fresh S s L m P Drain same e = tt
@@ -198,4 +198,4 @@ none_returns S s (m ∷ L) P e = by_action (none_returns S s L) P (action_of L m
     by_action earlier (x ∷ P) (Some a) f e =
         let same = cons_tail x.action a (actions P) (actions_of L) e in
         let is : x.action ≡ a = cons_head x.action a (actions P) (actions_of L) e in
-        (subst (AsksForNoEnded (view s P)) (sym is) (asks_fresh S s L m P a same f), earlier P same)
+        (subst (AsksForNoClosed (view s P)) (sym is) (asks_fresh S s L m P a same f), earlier P same)

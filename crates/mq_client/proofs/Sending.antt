@@ -3,7 +3,7 @@ use Rattle.std.proofs.Common.{◌≡◌, ℕ, ◌<◌, true, false, List, [], �
 use Rattle.std.specs.Prelude.{slice_index_or}
 use Rattle.mq_frame.specs.declared.message.Request.{Request}
 use Rattle.mq_client.specs.declared.tries.Framed.{Framed}
-use Rattle.mq_client.specs.Exchanges.{Exchange, IsSent, SendsSome, OneMore, Sends, SendsAll, StopsAt}
+use Rattle.mq_client.specs.Exchanges.{Exchange, IsSent, SendsSome, OneMore, Sends, SendsAll, SendsUpTo}
 
 -- the request in front
 pub starts_with : (now : List Framed) (q : Framed) → q ≡ slice_index_or now 0 q → 0 < length now → (rest : List Framed) × (now ≡ q ∷ rest)
@@ -23,7 +23,7 @@ sends_more n queue now rest q done tries e s (r, t) = OneMore q rest done tries 
 pub sends_stop : (n : ℕ) (queue now rest : List Request) (q : Request) (done tries : List Exchange) → now ≡ q ∷ rest → SendsSome n queue done now → IsSent n q tries false → Sends n queue (tries ++ done) now
 sends_stop n queue now rest q done tries e s t =
     let P : List Request → Type 0 = λ l. Sends n queue (tries ++ done) l in
-    subst P (sym e) (StopsAt q rest done tries (subst (λ (l : List Request). SendsSome n queue done l) e s) t)
+    subst P (sym e) (SendsUpTo q rest done tries (subst (λ (l : List Request). SendsSome n queue done l) e s) t)
 
 pub sends_all : (n : ℕ) (queue now : List Request) (done : List Exchange) → now ≡ [] → SendsSome n queue done now → Sends n queue done now
 sends_all n queue now done e s =

@@ -5,7 +5,7 @@ use Rattle.std.proofs.lemmas.Bool.{lt-leb, le-leb, leb-false}
 use Rattle.mq_frame.specs.declared.message.Request.{Request}
 use Rattle.mq_frame.specs.declared.message.Reply.{Reply}
 use Rattle.mq_frame.specs.Spelling.{SpellsReply}
-use Rattle.mq_client.specs.Exchanges.{Exchange, Brings, IsTry, IsDecision, AreFailed, AreTries, SendsSome, NoneYet, OneMore, Sends, SendsAll, StopsAt, decisions}
+use Rattle.mq_client.specs.Exchanges.{Exchange, Brings, IsTry, IsDecision, AreFailed, AreTries, SendsSome, NoneYet, OneMore, Sends, SendsAll, SendsUpTo, decisions}
 use Rattle.mq_client.specs.Past.{Source, Action, Ask, Close, Drain, Step, View, view, held_for, reserve_of, refuses, PlaysFrom, Plays, IsPlayed}
 use Rattle.mq_client.specs.Turns.{failures, queue_of, next_of, next, ComeInTurn, IsUnderway, AreUnderway, outcomes}
 use Rattle.mq_client.specs.declared.held.Held.{Held}
@@ -70,8 +70,8 @@ some_come n queue group left (OneMore q more done tries r s t) =
 
 sends_come : (n : ℕ) (queue : List Request) (group : List Exchange) (left : List Request) → Sends n queue group left → ComeInTurn n queue group
 sends_come n queue group left (SendsAll done s) = (some_come n queue group [] s).in_turn
-sends_come n queue group left (StopsAt q more done [] s t) = (some_come n queue done (q ∷ more) s).in_turn
-sends_come n queue group left (StopsAt q more done (x ∷ tries) s t) =
+sends_come n queue group left (SendsUpTo q more done [] s t) = (some_come n queue done (q ∷ more) s).in_turn
+sends_come n queue group left (SendsUpTo q more done (x ∷ tries) s t) =
     (all_failed n queue done (x ∷ tries) q (decisions done) (some_come n queue done (q ∷ more) s) (front_of_drop (decisions done) queue more q (some_left n queue done (q ∷ more) s)) t.0 (omega (arith, t.1))).in_turn
 
 nothing_yet : (n : ℕ) (queue : List Request) → Comes n queue [] 0 0
@@ -132,7 +132,7 @@ none_of_drop (suc k) (x ∷ queue) e = none_of_drop k queue e
 
 sends_end : (n : ℕ) (queue : List Request) (group : List Exchange) (left : List Request) → Sends n queue group left → next_of n queue group ≡ None
 sends_end n queue group left (SendsAll done s) = none_by_queue n queue group (none_of_drop (decisions group) queue (some_left n queue group [] s))
-sends_end n queue group left (StopsAt q more done tries s t) =
+sends_end n queue group left (SendsUpTo q more done tries s t) =
     let c = all_failed n queue done tries q (decisions done) (some_come n queue done (q ∷ more) s) (front_of_drop (decisions done) queue more q (some_left n queue done (q ∷ more) s)) t.0 (omega (arith, t.1)) in
     none_by_tries n queue (tries ++ done) (omega (arith, c.failed_is, t.1))
 

@@ -94,7 +94,7 @@ IsUndecided n request tries = AreTries n request tries None
 -- sent from the front of the queue until it is empty, or until no reply decides a request, which stays first
 pub data Sends (n : ℕ) (queue : List Request) : List Exchange → List Request → Type 0 where
   SendsAll : (group : List Exchange) → SendsSome n queue group [] → Sends n queue group []
-  StopsAt : (request : Request) (left : List Request) (group tries : List Exchange)
+  SendsUpTo : (request : Request) (left : List Request) (group tries : List Exchange)
       → SendsSome n queue group (request ∷ left) → IsUndecided n request tries
       → Sends n queue (tries ++ group) (request ∷ left)
 

@@ -90,13 +90,13 @@ abbrev pub asking_of : Query → Option Action
 asking_of (Asks txn at login) = Some (Ask txn at login)
 asking_of _ = None
 
-abbrev pub closing_of : Closing → Action
-closing_of c = Close c.txn c.end
+abbrev pub close_of : Closing → Action
+close_of c = Close c.txn c.end
 
 -- what a line has the client do, by the lines before it
 abbrev pub action_of : List Meaning → Meaning → Option Action
 action_of L (FilterLine seconds subsystem phase session token rest) = asking_of (query L subsystem phase session)
-action_of L line = option_map closing_of (closing L line)
+action_of L line = option_map close_of (closing L line)
 
 -- what the lines have the client do, the newest first
 abbrev pub actions_of : List Meaning → List Action

@@ -11,7 +11,7 @@ abbrev pub state_of : Inside → State
 state_of c = record {
   source = record { host = c.host; run = c.run };
   tries = c.tries;
-  held = c.held.entries;
+  held = c.held;
   numbers = c.numbers;
   waiting = requests_of c.outbox.items;
 }
@@ -20,7 +20,7 @@ pub record IsInside (c : Inside) : Type 0 where
   pub host : IsHost c.host
   pub run : IsRun c.run
   pub tries : IsWithin 1 10 c.tries
-  pub places : length c.held.entries + length c.outbox.items ≤ 4096
-  pub numbers : c.numbers + length c.held.entries ≤ 4294967295
-  pub held : AllHeld c.held.entries
+  pub places : length c.held + length c.outbox.items ≤ 4096
+  pub numbers : c.numbers + length c.held ≤ 4294967295
+  pub held : AllHeld c.held
   pub outbox : AllByRecursion IsFramed c.outbox.items

@@ -1,18 +1,35 @@
--- what contracts and laws of the public calls say: exchanges, a client's past, lines, and whole runs
+-- ---- what the public calls and the laws say, each file on those before it
+
+-- what a link tells of its exchanges
 pub mod Link
+-- the exchanges of one request, and of a queue: which reply decides
 pub mod Exchanges
+-- a client's past: its steps, what stands after them, and which step may come next
 pub mod Past
+-- the next exchange of a step that is under way
 pub mod Turns
+-- what a past leaves, read off the whole list of its steps
 pub mod Reading
+-- which request a number was used for
 pub mod Numbered
+-- what each line has the client do, and what is written for it
 pub mod Filter
+-- a whole run of the filter: what it read, wrote and did, and how it ended
 pub mod Run
+-- the ends of a run that its input decides
 pub mod Place
--- what the crate's own functions say
+-- ---- what the crate's own functions say
+
+-- the live transactions that a client holds
 pub mod Held
+-- the closings that wait, with their frames
 pub mod Framed
+-- a client's fields, and what its callers see of them
 pub mod Inside
+-- what a client keeps of a reply that decides
 pub mod Verdict
+-- the loop over lines: how far it has come, and what each of its parts adds
 pub mod Loop
--- the link of tests
+-- ---- a link for tests
+
 pub mod Script

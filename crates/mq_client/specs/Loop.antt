@@ -1,5 +1,6 @@
 -- The loop over lines: where it stands, and what each of its parts does.
 use Rattle.std.specs.Prelude.{◌≡◌, ℕ, List, [], ◌∷◌, ◌++◌, Bool, true, false, Option, None, Some}
+use Rattle.std.specs.List.{concat}
 use Rattle.std.specs.Io.KnownBytes.{Appends}
 use Rattle.mq_line.specs.Grammar.{Meaning, ReadyLine, Reads}
 use Rattle.mq_line.specs.Results.{result_text}
@@ -91,10 +92,10 @@ IsRefused fault.Memory L m = (track_fault L m ≡ None) × (may_ask_for_memory L
 IsRefused f L m = ⊥
 
 -- a run that stopped while lines were handled: for want of memory only at the work of a line
-abbrev pub StopsWithin : Outside → (bytes : List ℕ) → (source : Option (List ℕ)) → Outside
+abbrev pub StopsWithin : Outside → (pieces : List (List ℕ)) → (source : Option (List ℕ)) → Outside
     → (read_failed write_failed : Bool) → FilterFault → Type 0
-StopsWithin o bytes source now read_failed write_failed f =
-    (h : StopsAt o bytes source now read_failed write_failed f) × (f ≡ fault.Memory → IsAtWork h.stage h.left)
+StopsWithin o pieces source now read_failed write_failed f =
+    (h : StopsAt o pieces source now read_failed write_failed f) × (f ≡ fault.Memory → IsAtWork h.stage h.left)
 
 -- a line that says m was handled: the filter has come further
 abbrev pub Carries : Meaning → (f f' : Filter) (old new : Outside) → Type 0
@@ -103,10 +104,10 @@ Carries m f f' old new = (o : Outside) (bytes line rest : List ℕ) → IsLine l
 
 -- the filter stopped at a line that says m
 abbrev pub Halts : Meaning → FilterFault → Filter → (old new : Outside) (write_failed : Bool) → Type 0
-Halts m fault f old new write_failed = (o : Outside) (bytes line rest : List ℕ) (source : Option (List ℕ))
-    (read_failed : Bool)
-    → IsLine line → Reads line m → SoFar o bytes (line ++ 10 ∷ rest) f old
-    → StopsWithin o bytes source new read_failed write_failed fault
+Halts m fault f old new write_failed = (o : Outside) (pieces : List (List ℕ)) (line rest : List ℕ)
+    (source : Option (List ℕ)) (read_failed : Bool)
+    → IsLine line → Reads line m → SoFar o (concat pieces) (line ++ 10 ∷ rest) f old
+    → StopsWithin o pieces source new read_failed write_failed fault
 
 -- some of the bytes that are held were handled
 abbrev pub CarriesHeld : (held held' : List ℕ) (f f' : Filter) (old new : Outside) → Type 0
@@ -116,5 +117,5 @@ CarriesHeld held held' f f' old new = (o : Outside) (bytes : List ℕ) → SoFar
 -- the filter stopped among the bytes that are held
 abbrev pub HaltsHeld : (held : List ℕ) → FilterFault → Filter → (old new : Outside) (write_failed : Bool) → Type 0
 HaltsHeld held fault f old new write_failed =
-    (o : Outside) (bytes : List ℕ) (source : Option (List ℕ)) (read_failed : Bool)
-    → SoFar o bytes held f old → StopsWithin o bytes source new read_failed write_failed fault
+    (o : Outside) (pieces : List (List ℕ)) (source : Option (List ℕ)) (read_failed : Bool)
+    → SoFar o (concat pieces) held f old → StopsWithin o pieces source new read_failed write_failed fault

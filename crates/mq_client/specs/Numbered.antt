@@ -8,7 +8,7 @@ use Rattle.mq_frame.specs.declared.message.Request.{Request}
 use Rattle.mq_frame.specs.declared.message.Request.TheVariants.{Reserve, Settle, Release, Limit, Usage}
 use Rattle.mq_frame.specs.declared.message.Request.TheVariants.{List as ListRequest}
 use Rattle.mq_client.specs.Exchanges.{Exchange}
-use Rattle.mq_client.specs.Past.{Source, Action, Ask, Close, Drain, Step, Standing, Never, Live, Ended, View, view}
+use Rattle.mq_client.specs.Past.{Source, Action, Ask, Close, Drain, Step, Standing, Never, Live, Closed, View, view}
 use Rattle.mq_client.specs.Past.{id_of, reserve_of, closing_of}
 use Rattle.mq_client.specs.Reading.{live_in, numbers_in}
 use Rattle.mq_track.specs.declared.closing.CloseEnd.TheVariants.{Commit}
@@ -72,23 +72,23 @@ abbrev pub SettlesWhatWasLet : List Step → Request → Type 0
 SettlesWhatWasLet P (Settle id txn at login count) = WasCommitted P txn at login count
 SettlesWhatWasLet P _ = Unit {0}
 
-abbrev pub is_ended : Standing → Bool
-is_ended Never = false
-is_ended (Live h) = false
-is_ended (Ended end seq h) = true
+abbrev pub is_closed : Standing → Bool
+is_closed Never = false
+is_closed (Live h) = false
+is_closed (Closed end seq h) = true
 
 -- an action asks for no transaction that was closed
-abbrev pub AsksForNoEnded : View → Action → Type 0
-AsksForNoEnded v (Ask txn at login) = is_ended (v.standing txn) ≡ false
-AsksForNoEnded v _ = Unit {0}
+abbrev pub AsksForNoClosed : View → Action → Type 0
+AsksForNoClosed v (Ask txn at login) = is_closed (v.standing txn) ≡ false
+AsksForNoClosed v _ = Unit {0}
 
 -- no step of a past did
 abbrev pub NoneReturns : Source → List Step → Type 0
 NoneReturns s [] = Unit {0}
-NoneReturns s (x ∷ P) = AsksForNoEnded (view s P) x.action × NoneReturns s P
+NoneReturns s (x ∷ P) = AsksForNoClosed (view s P) x.action × NoneReturns s P
 
 -- a request under a number suits its transaction: a reserve with its login and moment, or the one request of its close
 abbrev pub Suits : Source → (n txn : ℕ) → Standing → Request → Type 0
 Suits s n txn Never q = ⊥
 Suits s n txn (Live h) q = q ≡ reserve_of s n txn h.at h.login
-Suits s n txn (Ended end seq h) q = (q ≡ reserve_of s n txn h.at h.login) ⊎ ((n ≡ seq) × (q ≡ closing_of s n txn end h))
+Suits s n txn (Closed end seq h) q = (q ≡ reserve_of s n txn h.at h.login) ⊎ ((n ≡ seq) × (q ≡ closing_of s n txn end h))

@@ -55,12 +55,12 @@ let_through asked.Granted h = record { login = h.login; at = h.at; granted = h.g
 let_through asked.Full h = h
 let_through asked.Unavailable h = h
 
--- a transaction: never asked for, live, or ended, by which end and under which number. With it stand its
+-- a transaction: never asked for, live, or closed, by which end and under which number. With it stand its
 -- login and moment, and how many of its recipients were let through
 pub data Standing : Type 0 where
   Never : Standing
   Live : Held → Standing
-  Ended : (end : CloseEnd) (seq : ℕ) → Held → Standing
+  Closed : (end : CloseEnd) (seq : ℕ) → Held → Standing
 
 -- what a past leaves: each transaction, how many numbers are used, the requests that wait, in order, and the
 -- live transactions
@@ -74,7 +74,7 @@ pub record View : Type 0 where
 abbrev pub held_by : Standing → Option Held
 held_by Never = None
 held_by (Live h) = Some h
-held_by (Ended end seq h) = None
+held_by (Closed end seq h) = None
 
 -- a transaction from its first exchange on: the first ask gives login and moment
 abbrev pub opened : ℕ → List ℕ → Option Held → Held
@@ -126,7 +126,7 @@ after_ask txn at login (x ∷ group) v = record {
 abbrev pub after_close : Source → ℕ → CloseEnd → List Exchange → View → Option Held → View
 after_close s txn end group v None = v
 after_close s txn end group v (Some h) = record {
-  standing = set txn (Ended end (v.numbers + 1) h) v.standing;
+  standing = set txn (Closed end (v.numbers + 1) h) v.standing;
   numbers = v.numbers + 1;
   waiting = drop (decisions group) (v.waiting ++ closing_of s (v.numbers + 1) txn end h ∷ []);
   live = without txn v.live;

@@ -5,7 +5,7 @@ use Rattle.std.specs.List.{filter_map, list_any}
 use Rattle.mq_frame.specs.Same.{same_request}
 use Rattle.mq_frame.specs.declared.message.Request.{Request}
 use Rattle.mq_client.specs.Exchanges.{Exchange}
-use Rattle.mq_client.specs.Past.{Source, Action, Ask, Close, Drain, Step, Standing, Never, Live, Ended, answer_of}
+use Rattle.mq_client.specs.Past.{Source, Action, Ask, Close, Drain, Step, Standing, Never, Live, Closed, answer_of}
 use Rattle.mq_client.specs.Past.{closing_of}
 use Rattle.mq_track.specs.declared.closing.CloseEnd.{CloseEnd}
 use Rattle.mq_client.specs.declared.held.Asked.{Asked}
@@ -79,27 +79,27 @@ numbers_in [] = 0
 numbers_in (x ∷ P) = if takes_number P x.action x.group then numbers_in P + 1 else numbers_in P
 
 -- a transaction that a close found live, under the number of the close
-abbrev pub ended_by : ℕ → (seq : ℕ) → Action → Option Held → Option Standing
-ended_by t seq (Ask txn at login) held = None
-ended_by t seq (Close txn end) None = None
-ended_by t seq (Close txn end) (Some h) = if txn == t then Some (Ended end seq h) else None
-ended_by t seq Drain held = None
+abbrev pub closed_by : ℕ → (seq : ℕ) → Action → Option Held → Option Standing
+closed_by t seq (Ask txn at login) held = None
+closed_by t seq (Close txn end) None = None
+closed_by t seq (Close txn end) (Some h) = if txn == t then Some (Closed end seq h) else None
+closed_by t seq Drain held = None
 
 abbrev pub standing_or : Option Standing → Standing → Standing
 standing_or None before = before
 standing_or (Some now) before = now
 
 -- a transaction that isn't live, as the last close that found it live left it
-abbrev pub ended_in : List Step → ℕ → Standing
-ended_in [] t = Never
-ended_in (x ∷ P) t = standing_or (ended_by t (numbers_in P + 1) x.action (live_in P t)) (ended_in P t)
+abbrev pub closed_in : List Step → ℕ → Standing
+closed_in [] t = Never
+closed_in (x ∷ P) t = standing_or (closed_by t (numbers_in P + 1) x.action (live_in P t)) (closed_in P t)
 
 abbrev pub live_or : Option Held → Standing → Standing
 live_or None before = before
 live_or (Some h) before = Live h
 
 abbrev pub standing_in : List Step → ℕ → Standing
-standing_in P t = live_or (live_in P t) (ended_in P t)
+standing_in P t = live_or (live_in P t) (closed_in P t)
 
 -- the request of the close of a transaction, under its number, where it was live
 abbrev pub closing_under : Source → (seq txn : ℕ) → CloseEnd → Option Held → List Request

@@ -1,8 +1,9 @@
 -- A run of the filter: the bytes that it read, what it wrote, the steps that its client made, and how it ended.
 use Rattle.std.specs.Prelude.{◌≡◌, ◌≢◌, ◌⊎◌, ℕ, ◌≤◌, List, [], ◌∷◌, ◌++◌, length, Bool, true, false, ◌||◌, Option, None}
 use Rattle.std.specs.Prelude.{Some, is_some}
-use Rattle.std.specs.List.{AllByRecursion}
-use Rattle.std.specs.Io.KnownBytes.{Appends, IsAtEnd}
+use Rattle.std.specs.List.{AllByRecursion, concat}
+use Rattle.std.specs.Io.KnownBytes.{Appends, Consumes, IsAtEnd}
+use Rattle.mq_frame.specs.Flow.{TellsReads}
 use Rattle.mq_line.specs.Grammar.{Meaning, ConfigLine, ReadyLine, ReportLine, FilterLine, OtherLine, Reads, fault}
 use Rattle.mq_line.specs.Results.{registration}
 use Rattle.mq_line.specs.Text.{IsLine, IsTooLong, Holds}
@@ -19,6 +20,25 @@ use Rattle.mq_client.specs.declared.filter.Ended.{Ended}
 use Rattle.mq_client.specs.declared.link.Told.{Told}
 
 -- ---- the input
+
+-- a source, as far as it tells: the bytes that are still to come, and what each read gave so far
+pub record Supply : Type 0 where
+  pub remaining : Option (List ℕ)
+  pub reads : Option (List (List ℕ))
+
+abbrev pub supply : Option (List ℕ) → Option (List (List ℕ)) → Supply
+supply remaining reads = record { remaining = remaining; reads = reads }
+
+-- a read takes at most 4,096 bytes
+abbrev pub IsPiece : List ℕ → Type 0
+IsPiece piece = length piece ≤ 4096
+
+-- these reads were made, at most 1,099,511,627,776 of them
+pub record Supplies (old new : Supply) (pieces : List (List ℕ)) : Type 0 where
+  pub consumed : Consumes old.remaining new.remaining (concat pieces)
+  pub told : TellsReads old.reads new.reads pieces
+  pub each : AllByRecursion IsPiece pieces
+  pub few : length pieces ≤ 1099511627776
 
 -- reports and requests, which may not come before `config|ready`
 abbrev pub is_stamped : Meaning → Bool
@@ -100,14 +120,15 @@ pub record StandsFirst (line left : List ℕ) : Type 0 where
   pub rest : List ℕ
   pub whole : left ≡ line ++ 10 ∷ rest
 
--- bytes are left, and all but the beginning of a line came with one read of at most 4,096 bytes
-pub record IsFed (left : List ℕ) : Type 0 where
-  pub held : List ℕ
+-- all that the last read gave is left, behind the beginning of a line
+pub record IsFed (pieces : List (List ℕ)) (left : List ℕ) : Type 0 where
+  pub before : List (List ℕ)
   pub piece : List ℕ
+  pub held : List ℕ
+  pub last : pieces ≡ before ++ piece ∷ []
   pub whole : left ≡ held ++ piece
   pub is_line : IsLine held
   pub some : 1 ≤ length piece
-  pub few : length piece ≤ 4096
 
 -- the lines that may ask for memory, by those before them: requests, those that close a transaction, and those of
 -- which the tracker keeps something
@@ -121,22 +142,22 @@ IsAtWork (AfterReady L) left = (m : Meaning) × (line : List ℕ) × StandsFirst
     × (track_fault L m ≡ None) × (may_ask_for_memory L m ≡ true)
 
 -- what is found where a run stops, after the lines that were handled
-abbrev pub IsFound : FilterFault → Stage → (bytes left : List ℕ) → (source : Option (List ℕ))
+abbrev pub IsFound : FilterFault → Stage → (pieces : List (List ℕ)) → (left : List ℕ) → (source : Option (List ℕ))
     → (read_failed write_failed : Bool) → Type 0
-IsFound (at.Line f) stage bytes left source read_failed write_failed = (line : List ℕ) × StandsFirst line left
+IsFound (at.Line f) stage pieces left source read_failed write_failed = (line : List ℕ) × StandsFirst line left
     × (fault line ≡ Some f)
-IsFound (at.Track f) stage bytes left source read_failed write_failed = (L : List Meaning) × (m : Meaning)
+IsFound (at.Track f) stage pieces left source read_failed write_failed = (L : List Meaning) × (m : Meaning)
     × (line : List ℕ) × (stage ≡ AfterReady L) × StandsFirst line left × Reads line m × (track_fault L m ≡ Some f)
-IsFound at.NotReady stage bytes left source read_failed write_failed = (m : Meaning) × (line : List ℕ)
+IsFound at.NotReady stage pieces left source read_failed write_failed = (m : Meaning) × (line : List ℕ)
     × (stage ≡ BeforeReady) × StandsFirst line left × Reads line m × (is_stamped m ≡ true)
-IsFound at.EndedEarly stage bytes left source read_failed write_failed = (stage ≡ BeforeReady) × (left ≡ [])
+IsFound at.EndedEarly stage pieces left source read_failed write_failed = (stage ≡ BeforeReady) × (left ≡ [])
     × IsAtEnd source
-IsFound at.CutLine stage bytes left source read_failed write_failed = (left ≢ []) × IsLine left × IsAtEnd source
-IsFound at.TooLong stage bytes left source read_failed write_failed = IsTooLong left
-IsFound at.Read stage bytes left source read_failed write_failed = IsLine left
-    × ((read_failed ≡ true) ⊎ (1099511627776 ≤ length bytes))
-IsFound at.Write stage bytes left source read_failed write_failed = write_failed ≡ true
-IsFound at.Memory stage bytes left source read_failed write_failed = IsFed left ⊎ IsAtWork stage left
+IsFound at.CutLine stage pieces left source read_failed write_failed = (left ≢ []) × IsLine left × IsAtEnd source
+IsFound at.TooLong stage pieces left source read_failed write_failed = IsTooLong left
+IsFound at.Read stage pieces left source read_failed write_failed = IsLine left
+    × ((read_failed ≡ true) ⊎ (length pieces ≡ 1099511627776))
+IsFound at.Write stage pieces left source read_failed write_failed = write_failed ≡ true
+IsFound at.Memory stage pieces left source read_failed write_failed = IsFed pieces left ⊎ IsAtWork stage left
 
 -- the step that the line in front makes, and what is written for it
 abbrev pub Goes : Stage → (line : List ℕ) → Option Step → List ℕ → Type 0
@@ -156,17 +177,17 @@ IsInHand f stage left step next = (step ≡ None) × (next ≡ [])
 -- The lines before the place where a run stopped were handled, and the rest is left: steps and exchanges were made
 -- as the lines ask, and their text was written. The line in hand may have made its step, and a front of its text
 -- may have been written.
-pub record StopsAt (o : Outside) (bytes : List ℕ) (source : Option (List ℕ)) (now : Outside)
+pub record StopsAt (o : Outside) (pieces : List (List ℕ)) (source : Option (List ℕ)) (now : Outside)
     (read_failed write_failed : Bool) (f : FilterFault) : Type 0 where
   pub lines : List (List ℕ)
   pub left : List ℕ
   pub stage : Stage
   pub steps : List Step
   pub text : List ℕ
-  pub whole : Holds bytes lines left
+  pub whole : Holds (concat pieces) lines left
   pub reaches : Reaches lines stage
   pub has_text : HasText stage steps text
-  pub found : IsFound f stage bytes left source read_failed write_failed
+  pub found : IsFound f stage pieces left source read_failed write_failed
   pub step : Option Step
   pub front : List ℕ
   pub rest : List ℕ

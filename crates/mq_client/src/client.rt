@@ -7,17 +7,16 @@ ghost use Rattle.mq_client.specs.Past.{Step, Ask, Close, Drain, StandsAt, Makes,
 ghost use Rattle.mq_client.specs.Past.{refuses as refuses_lem};
 
 use crate::faults::Memory;
-use crate::held::{
-    Asked, Held, answer_to, closing_request, count, hold, refusal, release, reserve_request,
-};
+use crate::held::{Asked, answer_to, closing_request, reserve_request};
 use crate::link::Link;
 use crate::refusal::{Cause, RefusedRecipient, Warned};
+use crate::transactions::Transactions;
 use crate::tries::{Framed, send_all, try_all};
 use log::{Log, warn};
 use mq_frame::Host;
 use mq_track::Closing;
 use std::alloc::Global;
-use std::collections::{BTreeMap, VecDeque};
+use std::collections::VecDeque;
 use std::marker::Model;
 
 /// The client of one run of a host's filter.
@@ -30,7 +29,7 @@ pub struct Client {
     host: Host,
     run: u64,
     tries: u32,
-    held: BTreeMap<u32, Held>,
+    held: Transactions,
     numbers: u32,
     outbox: VecDeque<Framed>,
     warned: Warned,
@@ -64,7 +63,7 @@ impl Client {
             host: host.clone()?,
             run,
             tries,
-            held: BTreeMap::new(alloc),
+            held: Transactions::new(alloc),
             numbers: 0,
             outbox: VecDeque::new(alloc),
             warned: Warned::new(alloc),
@@ -115,17 +114,22 @@ impl Client {
         ensures client { OnErr result (self.new ≡ self.old) }
         ensures link { OnErr result (link.new ≡ link.old) }
     {
-        if refusal(&self.held, self.numbers, self.outbox.len(), txn, at, login).is_some() {
+        let closings = self.outbox.len();
+        if self
+            .held
+            .refusal(self.numbers, closings, txn, at, login)
+            .is_some()
+        {
             return Ok(Asked::Unavailable);
         }
         let seq = self.numbers + 1;
         let request = reserve_request(self.alloc, &self.host, self.run, seq, txn, at, login)?;
         let reserve = Framed::new(self.alloc, request)?;
-        hold(self.alloc, &mut self.held, txn, at, login)?;
+        self.held.hold(txn, at, login)?;
         self.numbers = seq;
         let verdict = try_all(rt, self.alloc, link, &reserve, self.tries);
         let answer = answer_to(verdict);
-        count(&mut self.held, txn, answer);
+        self.held.count(txn, answer);
         Ok(answer)
     }
 
@@ -134,7 +138,7 @@ impl Client {
         ensures { self.new ≡ self.old }
     {
         let waiting = self.outbox.len();
-        if let Some(cause) = refusal(&self.held, self.numbers, waiting, txn, at, login) {
+        if let Some(cause) = self.held.refusal(self.numbers, waiting, txn, at, login) {
             self.warn_refused(rt, session, login, cause);
         }
     }
@@ -168,14 +172,14 @@ impl Client {
         ensures client { OnErr result (self.new ≡ self.old) }
         ensures link { OnErr result (link.new ≡ link.old) }
     {
-        let Some(known) = self.held.get(&closing.txn) else {
+        let Some(known) = self.held.get(closing.txn) else {
             return Ok(());
         };
         let seq = self.numbers + 1;
         let request = closing_request(&self.host, self.run, seq, closing.txn, closing.end, known)?;
         let framed = Framed::new(self.alloc, request)?;
         self.outbox.push_back(framed)?;
-        release(&mut self.held, closing.txn);
+        self.held.release(closing.txn);
         self.numbers = seq;
         send_all(rt, self.alloc, link, &mut self.outbox, self.tries);
         Ok(())

@@ -2,7 +2,8 @@
 ghost use Rattle.std.specs.Prelude.{◌≡◌, ◌≢◌, ◌≤◌, ◌<◌, ◌+◌, ◌*◌, ◌^◌, ◌++◌, ◌∷◌, [], ℕ, List, Option, Bool, None};
 ghost use Rattle.std.specs.Prelude.{Some, true, false, length, is_some, IfOk, OnOk, OnErr, IfErr, MatchBool};
 ghost use Rattle.std.specs.Prelude.{MatchResult};
-ghost use Rattle.std.specs.Io.KnownBytes.{Appends, Consumes, IsAtEnd};
+ghost use Rattle.std.specs.List.{concat};
+ghost use Rattle.std.specs.Io.KnownBytes.{Appends, IsAtEnd};
 ghost use Rattle.mq_frame.specs.Flow.{IsFlushed};
 ghost use Rattle.mq_line.specs.Grammar.{Meaning, ReadyLine, meaning};
 ghost use Rattle.mq_line.specs.Results.{registration};
@@ -13,7 +14,7 @@ ghost use Rattle.mq_client.specs.Link.{Tells};
 ghost use Rattle.mq_client.specs.Past.{Step, State};
 ghost use Rattle.mq_client.specs.Filter.{Closes};
 ghost use Rattle.mq_client.specs.declared.link.Told.{Told};
-ghost use Rattle.mq_client.specs.Run.{Outside, around, EndsWith, StopsAt};
+ghost use Rattle.mq_client.specs.Run.{Outside, around, supply, Supplies, EndsWith, StopsAt};
 ghost use Rattle.mq_client.specs.Loop.{MakesOne, told_one, IsCut, IsSorted, IsRefused, filter_fault, Carries, Halts};
 ghost use Rattle.mq_client.specs.Loop.{CarriesHeld, HaltsHeld, SinkWorks, SoFar};
 
@@ -322,10 +323,10 @@ fn finish<R: Log, K: Link>(
         SoFar o bytes feed.now.rest filter.now (around sink (K.told link.old) client.old) →
         EndsWith o bytes (around sink (K.told link.new) client.new) e) }
     ensures ready { OnOk result (filter.now.is_ready ≡ true) }
-    ensures fault { IfErr result (λ f. (o : Outside) (bytes : List ℕ) (source sink : Option (List ℕ))
+    ensures fault { IfErr result (λ f. (o : Outside) (pieces : List (List ℕ)) (source sink : Option (List ℕ))
         (read_failed write_failed : Bool) →
-        IsAtEnd source → SoFar o bytes feed.now.rest filter.now (around sink (K.told link.old) client.old) →
-        StopsAt o bytes source (around sink (K.told link.new) client.new) read_failed write_failed f) }
+        IsAtEnd source → SoFar o (concat pieces) feed.now.rest filter.now (around sink (K.told link.old) client.old) →
+        StopsAt o pieces source (around sink (K.told link.new) client.new) read_failed write_failed f) }
 {
     match feed.finish() {
         Ok(()) => {}
@@ -347,7 +348,9 @@ fn finish<R: Log, K: Link>(
 /// Lines are those of smtpd-filters(7), protocol 0.7. At `config|ready` the registration is written.
 /// Reads take at most 4,096 bytes, and every whole line is handled, its answer written and flushed,
 /// before the next read. At the end of the input what waits is sent once more. After
-/// 1,099,511,627,776 reads it answers `Read`.
+/// 1,099,511,627,776 reads it answers `Read`. `Memory` comes where a read's bytes found no room, or at
+/// a line that asks for memory: `config|ready`, a request, a closing, or a report of a login or of a
+/// transaction that begins.
 pub fn run_filter<R: Log, S: Source, W: Sink, K: Link>(
     rt: &R,
     alloc: Global,
@@ -356,11 +359,16 @@ pub fn run_filter<R: Log, S: Source, W: Sink, K: Link>(
     link: &mut K,
     client: &mut Client,
 ) -> Result<Ended, FilterFault>
-    ensures ok { IfOk result (λ e. (bytes : List ℕ) × Consumes (S.remaining input.old) (S.remaining input.new) bytes
-        × IsAtEnd (S.remaining input.new) × EndsWith (around (W.contents output.old) (K.told link.old) client.old) bytes
+    ensures ok { IfOk result (λ e. (pieces : List (List ℕ))
+        × Supplies (supply (S.remaining input.old) (S.reads input.old))
+        (supply (S.remaining input.new) (S.reads input.new)) pieces
+        × IsAtEnd (S.remaining input.new)
+        × EndsWith (around (W.contents output.old) (K.told link.old) client.old) (concat pieces)
         (around (W.contents output.new) (K.told link.new) client.new) e) }
-    ensures fault { IfErr result (λ f. (bytes : List ℕ) × Consumes (S.remaining input.old) (S.remaining input.new) bytes
-        × StopsAt (around (W.contents output.old) (K.told link.old) client.old) bytes (S.remaining input.new)
+    ensures fault { IfErr result (λ f. (pieces : List (List ℕ))
+        × Supplies (supply (S.remaining input.old) (S.reads input.old))
+        (supply (S.remaining input.new) (S.reads input.new)) pieces
+        × StopsAt (around (W.contents output.old) (K.told link.old) client.old) pieces (S.remaining input.new)
         (around (W.contents output.new) (K.told link.new) client.new) (S.has_failed input.new)
         (W.has_failed output.new) f) }
     // A device that failed is always told.
@@ -372,9 +380,6 @@ pub fn run_filter<R: Log, S: Source, W: Sink, K: Link>(
         IsFlushed (W.has_flushed output.new) }
     ensures source_works { S.has_failed input.old ≡ false → result ≢ Err FilterFault.Read →
         S.has_failed input.new ≡ false }
-    // Each of the reads takes at most 4,096 bytes.
-    ensures reads { (bytes : List ℕ) × Consumes (S.remaining input.old) (S.remaining input.new) bytes
-        × (length bytes ≤ 4096 * 1099511627776) }
 {
     let mut feed = LineFeed::new(alloc);
     let mut filter = Filter {

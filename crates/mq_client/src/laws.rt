@@ -11,7 +11,7 @@ ghost use Rattle.mq_client.specs.Numbered.{id_in, txn_in, exchanges_in, request_
 ghost use Rattle.mq_client.specs.Numbered.{NoneReturns, Suits};
 ghost use Rattle.mq_client.specs.Filter.{push, Filters, actions, actions_of};
 ghost use Rattle.mq_line.specs.Grammar.{Meaning};
-ghost use Rattle.std.specs.List.{AllByRecursion};
+ghost use Rattle.std.specs.List.{AllByRecursion, concat};
 ghost use Rattle.mq_client.specs.Run.{Outside, EndsWith, StopsAt};
 ghost use Rattle.mq_client.specs.Place.{is_of_input};
 ghost use Rattle.mq_client.specs.declared.faults.FilterFault.{FilterFault};
@@ -104,18 +104,19 @@ pub fn one_run()
         (h.steps ≡ i.steps) × (h.group ≡ i.group) × (h.results ≡ i.results) × (e ≡ f) }
     // Two runs that stop at a fault of their input stop at the same line with the same fault. Where
     // their exchanges ended alike, they do and write the same.
-    ensures stops { (o p : Outside) (bytes others rest more : List ℕ) (now last : Outside)
+    ensures stops { (o p : Outside) (pieces others : List (List ℕ)) (rest more : List ℕ) (now last : Outside)
         (read_failed write_failed read_failed' write_failed' : Bool) (f g : FilterFault)
-        (h : StopsAt o bytes (Some rest) now read_failed write_failed f)
+        (h : StopsAt o pieces (Some rest) now read_failed write_failed f)
         (i : StopsAt p others (Some more) last read_failed' write_failed' g) →
-        bytes ++ rest ≡ others ++ more → is_of_input f ≡ true → is_of_input g ≡ true →
+        concat pieces ++ rest ≡ concat others ++ more → is_of_input f ≡ true → is_of_input g ≡ true →
         (f ≡ g) × (h.lines ≡ i.lines) × ((P : List Step) → StandsAt o.client P → p.client ≡ o.client →
         all_outcomes (push h.step h.steps) ≡ all_outcomes (push i.step i.steps) →
         (push h.step h.steps ≡ push i.step i.steps) × (h.text ++ h.front ≡ i.text ++ i.front)) }
     // Where one run comes to the end of its input, no other one stops at a fault of it.
-    ensures apart { (o p : Outside) (bytes others more : List ℕ) (now last : Outside) (read_failed write_failed : Bool)
-        (e : Ended) (g : FilterFault) → EndsWith o bytes now e →
-        StopsAt p others (Some more) last read_failed write_failed g → bytes ≡ others ++ more → is_of_input g ≡ false }
+    ensures apart { (o p : Outside) (bytes more : List ℕ) (others : List (List ℕ)) (now last : Outside)
+        (read_failed write_failed : Bool) (e : Ended) (g : FilterFault) → EndsWith o bytes now e →
+        StopsAt p others (Some more) last read_failed write_failed g → bytes ≡ concat others ++ more →
+        is_of_input g ≡ false }
 {
     one_spelling();
     one_meaning();

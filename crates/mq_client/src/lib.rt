@@ -14,6 +14,7 @@ mod link;
 mod named;
 mod refusal;
 mod script;
+mod transactions;
 mod tries;
 mod verdict;
 mod warnings;

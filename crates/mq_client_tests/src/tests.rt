@@ -1,6 +1,7 @@
 ghost use Rattle.std.specs.Prelude.{◌≤◌};
 
 mod asking;
+mod causes;
 mod faults;
 mod flushing;
 mod rows;
@@ -75,24 +76,16 @@ const SETTLE: &str =
 
 /// The bytes of hexadecimal digits. Spaces are passed over.
 fn bytes_of(alloc: Global, text: &str) -> Result<Vec<u8>, Fail> {
-    let mut bytes = Vec::new(alloc);
-    let mut high = None;
+    let mut digits = Vec::new(alloc);
     for byte in text.as_bytes() {
-        let digit = match *byte {
-            b' ' => continue,
-            b'0'..=b'9' => *byte - b'0',
-            b'a'..=b'f' => *byte - b'a' + 10,
-            _ => return Err("no digit".into()),
-        };
-        match high {
-            None => high = Some(digit % 16),
-            Some(first) => {
-                bytes.push((first % 16) * 16 + digit % 16)?;
-                high = None;
-            }
+        if *byte != b' ' {
+            digits.push(*byte)?;
         }
     }
-    Ok(bytes)
+    match hex::decode(alloc, digits.as_slice()) {
+        Ok(bytes) => Ok(bytes),
+        Err(_) => Err("no hexadecimal".into()),
+    }
 }
 
 fn joined(alloc: Global, parts: &[&[u8]]) -> Result<Vec<u8>, Fail> {

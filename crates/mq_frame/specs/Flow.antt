@@ -1,5 +1,5 @@
--- Readers and writers: whether one of their calls has failed, and whether what they took was handed on.
-use Rattle.std.specs.Prelude.{◌≡◌, ℕ, List, ◌++◌, Bool, true, ⊤, Option, None, Some}
+-- Readers and writers: what their calls gave, whether one has failed, and whether what they took was handed on.
+use Rattle.std.specs.Prelude.{◌≡◌, ℕ, List, [], ◌++◌, take, Bool, true, ⊤, Option, None, Some, Result, Ok, Err}
 use Rattle.std.specs.Io.KnownBytes.{Appends}
 
 pub record Device (D : Type 0) : Type 0 where
@@ -14,3 +14,14 @@ IsFlushed (Some flushed) = flushed ≡ true
 -- known bytes grow by a front of these
 abbrev pub AppendsFront : Option (List ℕ) → Option (List ℕ) → List ℕ → Type 0
 AppendsFront old new bytes = (front : List ℕ) × (rest : List ℕ) × (bytes ≡ front ++ rest) × Appends old new front
+
+-- what a read gave: a front of the piece, and nothing where it failed
+abbrev pub read_bytes : {E : Type 0} → Result ℕ E → List ℕ → List ℕ
+read_bytes (Ok count) piece = take count piece
+read_bytes (Err fault) piece = []
+
+-- the reads that a source tells have grown by these, where it still tells them afterwards
+abbrev pub TellsReads : Option (List (List ℕ)) → Option (List (List ℕ)) → List (List ℕ) → Type 0
+TellsReads (Some before) (Some after) more = after ≡ before ++ more
+TellsReads None (Some after) more = ⊥
+TellsReads before None more = ⊤

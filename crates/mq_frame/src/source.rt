@@ -1,7 +1,8 @@
 //! Where bytes come from: a source, which fails for good once it has failed.
-ghost use Rattle.std.specs.Prelude.{◌≡◌, ℕ, List, Bool, false, true, Option, None, IsErr, is_err};
+ghost use Rattle.std.specs.Prelude.{◌≡◌, ◌∷◌, [], ℕ, List, Bool, false, true, Option, None, IsErr, is_err};
 ghost use Rattle.std.specs.Io.{ReadsAtMost};
 ghost use Rattle.std.specs.Io.KnownBytes.{ReadConsumes};
+ghost use Rattle.mq_frame.specs.Flow.{read_bytes, TellsReads};
 
 use crate::error::Failed;
 use std::io::{ErrorKind, Read};
@@ -15,6 +16,9 @@ pub trait Source {
     // The bytes that are still to come, where they are known.
     ghost remaining: { Self → Option (List ℕ) } = { λ _. None };
 
+    // What each read gave so far, the oldest first, where the source tells it.
+    ghost reads: { Self → Option (List (List ℕ)) } = { λ _. None };
+
     // Whether a call has failed.
     ghost has_failed: { Self → Bool };
 
@@ -23,6 +27,7 @@ pub trait Source {
     fn read(&mut self, piece: &mut [u8]) -> Result<usize, Failed>
         ensures bound { ReadsAtMost result piece.new }
         ensures bytes { ReadConsumes (remaining self.old) (remaining self.new) result piece.new }
+        ensures told { TellsReads (reads self.old) (reads self.new) (read_bytes result piece.new ∷ []) }
         ensures failed { has_failed self.new ≡ is_err result }
         ensures for_good { has_failed self.old ≡ true → IsErr result };
 }

@@ -9,7 +9,7 @@ use Rattle.mq_frame.specs.declared.message.Reply.TheVariants as reply
 use Rattle.mq_ledger.specs.declared.entry.Entry.{Entry}
 use Rattle.mq_ledger.specs.History.{Transaction, same_transaction, is_of, granted, granted_in}
 use Rattle.mq_client.specs.Exchanges.{Exchange}
-use Rattle.mq_client.specs.Past.{Source, Action, Ask, Close, Drain, Step, Standing, Never, Live, Ended, View, view, after, after_ask, after_close, held_by, opened, let_through, answer_of, reserve_of}
+use Rattle.mq_client.specs.Past.{Source, Action, Ask, Close, Drain, Step, Standing, Never, Live, Closed, View, view, after, after_ask, after_close, held_by, opened, let_through, answer_of, reserve_of}
 use Rattle.mq_track.specs.declared.closing.CloseEnd.{CloseEnd}
 use Rattle.mq_client.specs.declared.held.Asked.{Asked}
 use Rattle.mq_client.specs.declared.held.Asked.TheVariants as asked
@@ -42,7 +42,7 @@ IsGrounded s H (x ∷ P) = IsGround s H (view s P) x.action x.group × IsGrounde
 abbrev pub let_at : Standing → ℕ
 let_at Never = 0
 let_at (Live h) = h.granted
-let_at (Ended end seq h) = h.granted
+let_at (Closed end seq h) = h.granted
 
 abbrev pub seq_of : Request → ℕ
 seq_of (Reserve id txn at login count) = id.seq
@@ -96,7 +96,7 @@ upto_grows I s H n txn at login g = sum_grows (one_upto (of_source s txn) n) (on
 opened_let : (at : ℕ) (login : List ℕ) (st : Standing) → (opened at login (held_by st)).granted ≤ let_at st
 opened_let at login Never = omega arith
 opened_let at login (Live h) = omega arith
-opened_let at login (Ended end seq h) = omega arith
+opened_let at login (Closed end seq h) = omega arith
 
 abbrev pub AllLet : Source → List Entry → View → Type 0
 AllLet s H v = (t : ℕ) → let_at (v.standing t) ≤ upto H (of_source s t) v.numbers
@@ -120,7 +120,7 @@ let_ask I s H v txn at login x g ground all = λ t. elim (either (txn == t)) [
 held_let : (st : Standing) (h : Held) → held_by st ≡ Some h → let_at st ≡ h.granted
 held_let Never h e = absurd (none_some h e)
 held_let (Live k) h e = ap (λ (x : Held). x.granted) (some_is k h e)
-held_let (Ended end seq k) h e = absurd (none_some h e)
+held_let (Closed end seq k) h e = absurd (none_some h e)
 
 let_close : (s : Source) (H : List Entry) (v : View) (txn : ℕ) (end : CloseEnd) (g : List Exchange) (o : Option Held) → held_by (v.standing txn) ≡ o → AllLet s H v → AllLet s H (after_close s txn end g v o)
 let_close s H v txn end g None e all = all

@@ -10,7 +10,7 @@ use Rattle.mq_track.specs.declared.closing.Closing.{Closing}
 use Rattle.mq_track.specs.declared.fault.TrackFault.TheVariants.{Exhausted}
 use Rattle.mq_frame.specs.Range.{IsOrdinal, IsMoment, IsLogin}
 use Rattle.mq_client.specs.Past.{Action, Ask, Step}
-use Rattle.mq_client.specs.Filter.{Passes, Refuses, Asks, is_login, is_moment, query_at, asking_of, closing_of, action_of, actions, push}
+use Rattle.mq_client.specs.Filter.{Passes, Refuses, Asks, is_login, is_moment, query_at, asking_of, close_of, action_of, actions, push}
 use Rattle.std.specs.Prelude.{length}
 use Rattle.mq_world.specs.World.{begun}
 use Rattle.mq_world.proofs.Basics.{none_some, some_is, first_so, second_so}
@@ -54,9 +54,9 @@ asked_if : (b : Bool) (p : Position) (a : Action) → (asking_of (query_at p) �
 asked_if true p a f e = f e
 asked_if false p a f e = absurd (none_some a e)
 
-closed_by : (o : Option Closing) (a : Action) → option_map closing_of o ≡ Some a → IsAsked a
+closed_by : (o : Option Closing) (a : Action) → option_map close_of o ≡ Some a → IsAsked a
 closed_by None a e = absurd (none_some a e)
-closed_by (Some c) a e = subst IsAsked (some_is (closing_of c) a e) tt
+closed_by (Some c) a e = subst IsAsked (some_is (close_of c) a e) tt
 
 -- an open transaction has a number in range
 numbered : AreNumbered → (L : List Meaning) (session : List ℕ) → begin_count L ≤ 4294967295 → (u : Transaction) → open_transaction L session ≡ Some u → IsOrdinal u.txn

@@ -7,7 +7,7 @@ use Rattle.mq_frame.specs.Range.{IsHost, IsRun, IsOrdinal, IsMoment, IsLogin, Is
 use Rattle.mq_frame.specs.declared.message.Request.{Request}
 use Rattle.mq_frame.specs.declared.message.Request.TheVariants.{Settle, Release}
 use Rattle.mq_client.specs.Exchanges.{Exchange, decisions}
-use Rattle.mq_client.specs.Past.{Source, Action, Ask, Close, Drain, Step, Standing, Never, Live, Ended, View, view, after, after_ask, after_close, held_by, held_for, opened, let_through, answer_of, id_of, reserve_of, closing_of, is_commit, is_other, lacks_numbers, refuses, IsBounded}
+use Rattle.mq_client.specs.Past.{Source, Action, Ask, Close, Drain, Step, Standing, Never, Live, Closed, View, view, after, after_ask, after_close, held_by, held_for, opened, let_through, answer_of, id_of, reserve_of, closing_of, is_commit, is_other, lacks_numbers, refuses, IsBounded}
 use Rattle.mq_client.specs.Held.{IsHeld}
 use Rattle.mq_client.specs.Turns.{failures, queue_of, next_of, next, ComeInTurn, AreUnderway}
 use Rattle.mq_track.specs.declared.closing.CloseEnd.{CloseEnd}
@@ -85,7 +85,7 @@ live_is h k e = cc
 held_by_live : (st : Standing) (h : Held) → held_by st ≡ Some h → st ≡ Live h
 held_by_live Never h e = absurd (none_some h e)
 held_by_live (Live k) h e = ap Live (some_is k h e)
-held_by_live (Ended end seq k) h e = absurd (none_some h e)
+held_by_live (Closed end seq k) h e = absurd (none_some h e)
 
 asked_held : (txn at : ℕ) (login : List ℕ) (answer : Asked) (o : Option Held) (live numbers waiting : ℕ) → IsOrdinal txn × IsMoment at × IsLogin login → ((h : Held) → o ≡ Some h → IsHeld txn h) → refuses o live numbers waiting at login ≡ false → IsHeld txn (let_through answer (opened at login o))
 asked_held txn at login answer None live numbers waiting i held free = let_held txn answer (opened at login None) i.0 i.1 i.2 (omega arith)
@@ -110,7 +110,7 @@ ranged_ask s tries txn at login x g v i turns r =
       waiting = r.waiting;
     }
 
-ended_live : (end : CloseEnd) (seq : ℕ) (h k : Held) → Ended end seq h ≡ Live k → ⊥
+ended_live : (end : CloseEnd) (seq : ℕ) (h k : Held) → Closed end seq h ≡ Live k → ⊥
 ended_live end seq h k e = cc
 
 ranged_close : (s : Source) (txn : ℕ) (end : CloseEnd) (g : List Exchange) (v : View) (o : Option Held) → held_by (v.standing txn) ≡ o → IsHost s.host → IsRun s.run → ((h : Held) → o ≡ Some h → v.numbers < 4294967295) → IsRanged v → IsRanged (after_close s txn end g v o)

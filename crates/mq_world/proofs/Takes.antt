@@ -15,7 +15,7 @@ use Rattle.mq_ledger.specs.Arrivals.{has_id, is_id, id_of as ledger_id}
 use Rattle.mq_ledger.specs.History.{Transaction, transaction, same_transaction, is_of, is_at, closes, closed, named, agrees, granted_in, counted}
 use Rattle.mq_ledger.specs.Answer.{answer, appended, stored}
 use Rattle.mq_ledger.specs.Suits.{Suits as RepliesSuit}
-use Rattle.mq_client.specs.Past.{Source, Step, Standing, Never, Live, Ended, view, id_of, reserve_of, closing_of, is_commit}
+use Rattle.mq_client.specs.Past.{Source, Step, Standing, Never, Live, Closed, view, id_of, reserve_of, closing_of, is_commit}
 use Rattle.mq_client.specs.Numbered.{id_in, txn_in, IsNumbered, Suits}
 use Rattle.mq_track.specs.declared.closing.CloseEnd.{CloseEnd}
 use Rattle.mq_client.specs.declared.held.Held.{Held}
@@ -117,7 +117,7 @@ closing_at s n t end h = by_kind (is_commit end && nat_le 1 h.granted)
     by_kind false = at_itself h
 
 -- each is of its moment and login
-pub ended_at : (s : Source) (n t : ℕ) (end : CloseEnd) (seq : ℕ) (h : Held) (q : Request) → Suits s n t (Ended end seq h) q → is_at h.at h.login q ≡ true
+pub ended_at : (s : Source) (n t : ℕ) (end : CloseEnd) (seq : ℕ) (h : Held) (q : Request) → Suits s n t (Closed end seq h) q → is_at h.at h.login q ≡ true
 ended_at s n t end seq h q (inl e) = ap (is_at h.at h.login) e ∙ at_itself h
 ended_at s n t end seq h q (inr p) = ap (is_at h.at h.login) p.1 ∙ closing_at s n t end h
 
@@ -144,21 +144,21 @@ has_its_id : OfFrames → (id : Id) (q : Request) → ledger_id q ≡ Some id �
 has_its_id F id q e = ap (is_id id) e ∙ (F.same_ids id id).1 refl
 
 -- where the closing hasn't come, the entries are reserves
-still_reserves : OfFrames → (s : Source) (t : ℕ) (end : CloseEnd) (seq : ℕ) (h : Held) (H : List Entry) → stored H (id_of s seq) ≡ None → (e : Entry) → In e H → SuitsUnder s t (Ended end seq h) e.request → is_closing e.request ≡ false
+still_reserves : OfFrames → (s : Source) (t : ℕ) (end : CloseEnd) (seq : ℕ) (h : Held) (H : List Entry) → stored H (id_of s seq) ≡ None → (e : Entry) → In e H → SuitsUnder s t (Closed end seq h) e.request → is_closing e.request ≡ false
 still_reserves F s t end seq h H new e i u = by_suits u.suits
   where
-    by_suits : Suits s u.number t (Ended end seq h) e.request → is_closing e.request ≡ false
+    by_suits : Suits s u.number t (Closed end seq h) e.request → is_closing e.request ≡ false
     by_suits (inl r) = reserve_closes s u.number t h e.request r
     by_suits (inr p) =
         let is : ledger_id e.request ≡ Some (id_of s seq) = ap ledger_id p.1 ∙ closing_id s u.number t end h ∙ ap (λ n. Some (id_of s n)) p.0 in
         absurd (clash (has_id (id_of s seq) e.request) (has_its_id F (id_of s seq) e.request is) (not_found (λ x. has_id (id_of s seq) x.request) H new e i))
 
 settled_now : (day : ℕ → ℕ) (default : ℕ) → OfFrames → OfClients → OfLedgers → (s : Source) (tries : ℕ) (P : List Step) (H : List Entry) (sent written : List (List ℕ)) → AllSuit H → Holds s tries P H sent written → (t : ℕ) (end : CloseEnd) (seq : ℕ) (h : Held)
-    → (view s P).standing t ≡ Ended end seq h → stored H (id_of s seq) ≡ None
+    → (view s P).standing t ≡ Closed end seq h → stored H (id_of s seq) ≡ None
     → counted (Settle (id_of s seq) t h.at h.login h.granted) (answer day default H (Settle (id_of s seq) t h.at h.login h.granted)) ≡ h.granted
 settled_now day default F C L s tries P H sent written suits holds t end seq h ended new =
     let S : Standing → Type 0 = λ st. (e : Entry) → In e H → is_of (of_source s t) e.request ≡ true → SuitsUnder s t st e.request in
-    let each : (e : Entry) → In e H → is_of (of_source s t) e.request ≡ true → SuitsUnder s t (Ended end seq h) e.request = subst S ended (entry_suits C L s tries P H sent written holds t) in
+    let each : (e : Entry) → In e H → is_of (of_source s t) e.request ≡ true → SuitsUnder s t (Closed end seq h) e.request = subst S ended (entry_suits C L s tries P H sent written holds t) in
     let G : Standing → Type 0 = λ st. let_at st ≤ granted_in H (of_source s t) in
     let enough : h.granted ≤ granted_in H (of_source s t) = subst G ended (was_granted L.itself s H P holds.ground t) in
     settle_answer day default H (id_of s seq) t h.at h.login h.granted
@@ -184,8 +184,8 @@ settled_by : (day : ℕ → ℕ) (default : ℕ) → OfFrames → OfClients → 
     → (view s P).standing t ≡ st → Suits s n t st q → is_settle q ≡ true → stored H (id_of s n) ≡ None → counted q (answer day default H q) ≡ count_of q
 settled_by day default F C L s tries P H sent written suits holds t n Never q is h y new = absurd h
 settled_by day default F C L s tries P H sent written suits holds t n (Live k) q is h y new = absurd (clash (is_settle q) y (reserve_settle s n t k q h))
-settled_by day default F C L s tries P H sent written suits holds t n (Ended end seq k) q is (inl r) y new = absurd (clash (is_settle q) y (reserve_settle s n t k q r))
-settled_by day default F C L s tries P H sent written suits holds t n (Ended end seq k) q is (inr p) y new =
+settled_by day default F C L s tries P H sent written suits holds t n (Closed end seq k) q is (inl r) y new = absurd (clash (is_settle q) y (reserve_settle s n t k q r))
+settled_by day default F C L s tries P H sent written suits holds t n (Closed end seq k) q is (inr p) y new =
     let N : ℕ → Type 0 = λ m. stored H (id_of s m) ≡ None in
     let same : q ≡ closing_of s seq t end k = p.1 ∙ ap (λ m. closing_of s m t end k) p.0 in
     let now = settled_now day default F C L s tries P H sent written suits holds t end seq k is (subst N p.0 new) in

@@ -10,9 +10,9 @@ use Rattle.mq_ledger.specs.declared.entry.Entry.{Entry}
 use Rattle.mq_ledger.specs.History.{Transaction, is_of, counted, closed, granted_in, held, settled_in, named}
 use Rattle.mq_ledger.specs.Sums.{is_for, names_for, held_on, settled_on}
 use Rattle.mq_client.specs.Exchanges.{Exchange, decisions}
-use Rattle.mq_client.specs.Past.{Source, Action, Ask, Close, Drain, Step, Standing, Never, Live, Ended, View, view, after, after_ask, after_close, answer_of, answer_by, let_through, opened, held_by, id_of, reserve_of, closing_of, refuses}
+use Rattle.mq_client.specs.Past.{Source, Action, Ask, Close, Drain, Step, Standing, Never, Live, Closed, View, view, after, after_ask, after_close, answer_of, answer_by, let_through, opened, held_by, id_of, reserve_of, closing_of, refuses}
 use Rattle.mq_client.specs.Turns.{failures, next_of, AreUnderway}
-use Rattle.mq_client.specs.Numbered.{is_ended, NoneReturns, Suits}
+use Rattle.mq_client.specs.Numbered.{is_closed, NoneReturns, Suits}
 use Rattle.mq_track.specs.declared.closing.CloseEnd.{CloseEnd}
 use Rattle.mq_track.specs.declared.closing.CloseEnd.TheVariants as ending
 use Rattle.mq_client.specs.declared.held.Asked.TheVariants as asked
@@ -47,15 +47,15 @@ still_unavailable tries r q b [] e = refl
 still_unavailable tries r q b (x ∷ g) e =
     decided_one x.decided (decisions g) (undecided_at r b (decisions (x ∷ g)) q (unless (nat_le tries (failures (x ∷ g))) (slice_get (if b then [] else r ∷ []) (decisions (x ∷ g))) q e))
 
-ended_not : (end : CloseEnd) (seq : ℕ) (h : Held) → is_ended (Ended end seq h) ≡ false → ⊥
+ended_not : (end : CloseEnd) (seq : ℕ) (h : Held) → is_closed (Closed end seq h) ≡ false → ⊥
 ended_not end seq h e = cc (e)
 
-first_exchange : (at : ℕ) (login : List ℕ) (st : Standing) → is_ended st ≡ false → Counts st (Live (let_through asked.Unavailable (opened at login (held_by st))))
+first_exchange : (at : ℕ) (login : List ℕ) (st : Standing) → is_closed st ≡ false → Counts st (Live (let_through asked.Unavailable (opened at login (held_by st))))
 first_exchange at login Never e = inl refl
 first_exchange at login (Live h) e = inr refl
-first_exchange at login (Ended end seq h) e = absurd (ended_not end seq h e)
+first_exchange at login (Closed end seq h) e = absurd (ended_not end seq h e)
 
-counts_ask : (tries txn at : ℕ) (login : List ℕ) (r q : Request) (b : Bool) (g : List Exchange) (v : View) → is_ended (v.standing txn) ≡ false → next_of tries (if b then [] else r ∷ []) g ≡ Some q → (t : ℕ)
+counts_ask : (tries txn at : ℕ) (login : List ℕ) (r q : Request) (b : Bool) (g : List Exchange) (v : View) → is_closed (v.standing txn) ≡ false → next_of tries (if b then [] else r ∷ []) g ≡ Some q → (t : ℕ)
     → Counts ((after_ask txn at login g v).standing t) ((after_ask txn at login (failing q ∷ g) v).standing t)
 counts_ask tries txn at login r q b [] v fresh_one e t = elim (either (txn == t)) [
   | inr n ↦ rw n (inr refl)
@@ -109,10 +109,10 @@ closing_settle : (s : Source) (n t : ℕ) (k : Held) → 0 < k.granted → is_se
 closing_settle s n t k some = let one : nat_le 1 k.granted ≡ true = grind (arith, nat_tests, some) in rw one refl
 
 settled_each : (s : Source) (tries : ℕ) (P : List Step) (H : List Entry) (sent written : List (List ℕ)) → OfLedgers → Holds s tries P H sent written → (t seq : ℕ) (k : Held) (e : Entry) → In e H → is_of (of_source s t) e.request ≡ true → is_settle e.request ≡ true
-    → SuitsUnder s t (Ended ending.Commit seq k) e.request → k.granted ≤ settled_in H (of_source s t)
+    → SuitsUnder s t (Closed ending.Commit seq k) e.request → k.granted ≤ settled_in H (of_source s t)
 settled_each s tries P H sent written L h t seq k e i mine y u = by_suits u.suits
   where
-    by_suits : Suits s u.number t (Ended ending.Commit seq k) e.request → k.granted ≤ settled_in H (of_source s t)
+    by_suits : Suits s u.number t (Closed ending.Commit seq k) e.request → k.granted ≤ settled_in H (of_source s t)
     by_suits (inl r) = absurd (clash (is_settle e.request) y (reserve_settle s u.number t k e.request r))
     by_suits (inr p) =
         let count : count_of e.request ≡ k.granted = ap count_of p.1 ∙ closing_count s u.number t k (sym (ap is_settle p.1) ∙ y) in
@@ -122,10 +122,10 @@ settled_each s tries P H sent written L h t seq k e i mine y u = by_suits u.suit
         omega (arith, count, all, own)
 
 -- no settle of it has come: its entries are reserves
-unsettled : (s : Source) (t seq : ℕ) (k : Held) (e : Entry) → 0 < k.granted → is_of (of_source s t) e.request ≡ true → settles_it (of_source s t) e ≡ false → SuitsUnder s t (Ended ending.Commit seq k) e.request → is_closing e.request ≡ false
+unsettled : (s : Source) (t seq : ℕ) (k : Held) (e : Entry) → 0 < k.granted → is_of (of_source s t) e.request ≡ true → settles_it (of_source s t) e ≡ false → SuitsUnder s t (Closed ending.Commit seq k) e.request → is_closing e.request ≡ false
 unsettled s t seq k e some mine none u = by_suits u.suits
   where
-    by_suits : Suits s u.number t (Ended ending.Commit seq k) e.request → is_closing e.request ≡ false
+    by_suits : Suits s u.number t (Closed ending.Commit seq k) e.request → is_closing e.request ≡ false
     by_suits (inl r) = reserve_closes s u.number t k e.request r
     by_suits (inr p) =
         let y : is_settle e.request ≡ true = ap is_settle p.1 ∙ closing_settle s u.number t k some in
@@ -137,8 +137,8 @@ pub standing_each : (s : Source) (tries : ℕ) (P : List Step) (H : List Entry) 
 standing_each s tries P H sent written L suits h t Never enough each = omega arith
 standing_each s tries P H sent written L suits h t (Live k) enough each =
     held_each H (of_source s t) k.granted suits enough (λ e i mine. (let u = each e i mine in reserve_closes s u.number t k e.request u.suits))
-standing_each s tries P H sent written L suits h t (Ended ending.Drop seq k) enough each = omega arith
-standing_each s tries P H sent written L suits h t (Ended ending.Commit seq k) enough each = elim (zero_or_more k.granted) [
+standing_each s tries P H sent written L suits h t (Closed ending.Drop seq k) enough each = omega arith
+standing_each s tries P H sent written L suits h t (Closed ending.Commit seq k) enough each = elim (zero_or_more k.granted) [
   | inl z ↦ omega (arith, z)
   | inr some ↦ elim (either (list_any (settles_it (of_source s t)) H)) [
     | inl y ↦ (let f = any_found (settles_it (of_source s t)) H y in
@@ -154,9 +154,9 @@ standing_each s tries P H sent written L suits h t (Ended ending.Commit seq k) e
 suits_for : (day : ℕ → ℕ) (l : List ℕ) (d : ℕ) (s : Source) (n t : ℕ) (st : Standing) (q : Request) → Suits s n t st q → is_on day l d (counting st) ≡ true → is_for day l d q ≡ true
 suits_for day l d s n t Never q u on = absurd u
 suits_for day l d s n t (Live k) q u on = ap (is_for day l d) u ∙ on
-suits_for day l d s n t (Ended ending.Drop seq k) q u on = absurd (clash false on refl)
-suits_for day l d s n t (Ended ending.Commit seq k) q (inl r) on = ap (is_for day l d) r ∙ on
-suits_for day l d s n t (Ended ending.Commit seq k) q (inr p) on = ap (is_for day l d) p.1 ∙ by_kind (nat_le 1 k.granted)
+suits_for day l d s n t (Closed ending.Drop seq k) q u on = absurd (clash false on refl)
+suits_for day l d s n t (Closed ending.Commit seq k) q (inl r) on = ap (is_for day l d) r ∙ on
+suits_for day l d s n t (Closed ending.Commit seq k) q (inr p) on = ap (is_for day l d) p.1 ∙ by_kind (nat_le 1 k.granted)
   where
     by_kind : (b : Bool) → is_for day l d (if b then Settle (id_of s n) t k.at k.login k.granted else Release (id_of s n) t k.at k.login) ≡ true
     by_kind true = on

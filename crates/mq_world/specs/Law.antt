@@ -3,7 +3,7 @@ use Rattle.std.specs.Prelude.{◌≡◌, ℕ, List, [], ◌∷◌, Bool, false, 
 use Rattle.mq_frame.specs.Same.{same_text}
 use Rattle.mq_ledger.specs.Day.{day_of}
 use Rattle.mq_ledger.specs.History.{Transaction}
-use Rattle.mq_client.specs.Past.{Source, Action, Drain, Step, Standing, Never, Live, Ended, is_commit, IsPlayed}
+use Rattle.mq_client.specs.Past.{Source, Action, Drain, Step, Standing, Never, Live, Closed, is_commit, IsPlayed}
 use Rattle.mq_client.specs.Filter.{actions, actions_of}
 use Rattle.mq_client.specs.Turns.{AreUnderway}
 use Rattle.mq_client.specs.Reading.{standing_in}
@@ -21,7 +21,7 @@ standing_of w t = standing_in (w.runs (run_of t)).past t.txn
 abbrev pub counting : Standing → Option Held
 counting Never = None
 counting (Live h) = Some h
-counting (Ended end seq h) = if is_commit end then Some h else None
+counting (Closed end seq h) = if is_commit end then Some h else None
 
 abbrev pub granted_of : Option Held → ℕ
 granted_of None = 0

@@ -64,6 +64,12 @@ impl Rig {
         self.client.drain(&self.log, &mut self.link)
     }
 
+    /// Asks for a warning where a recipient of the login u would be refused.
+    fn warn(&mut self, session: &[u8], txn: u32) {
+        self.client
+            .warn_before(&self.log, session, txn, 86_400, b"u");
+    }
+
     /// Puts another link in the place of its own.
     fn connect(&mut self, alloc: Global, script: VecDeque<Outcome>) {
         self.link = ScriptLink::new(alloc, script);
@@ -434,4 +440,42 @@ fn a_full_outbox(rt: HostRuntime) -> Result<(), Fail> {
     let steps = [Step::Drain(0), Step::Waiting(0), Step::Exchanges(4096)];
     rig.play(&rt, &steps)?;
     assert_closings(&rt, alloc, rig.link.kept(), &closings)
+}
+
+#[test]
+fn a_full_client_is_told_once_in_a_session(rt: HostRuntime) -> Result<(), Fail> {
+    let alloc = rt.alloc();
+    let mut rig = begun(&rt, alloc, after_grants(alloc, &[])?, 1, ROOM)?;
+    // a transaction that is held has its place
+    rig.warn(b"s", 1);
+    for session in [b"s", b"s", b"t", b"s"] {
+        rig.warn(session, 4097);
+    }
+    rig.assert_lines(
+        &rt,
+        &[
+            "session s (login u): recipients are refused, 4,096 transactions are open or wait for the server",
+            "session t (login u): recipients are refused, 4,096 transactions are open or wait for the server",
+        ],
+    );
+    Ok(())
+}
+
+#[test]
+fn a_thousand_recipients_are_told(rt: HostRuntime) -> Result<(), Fail> {
+    let alloc = rt.alloc();
+    let mut rig = Rig::new(alloc, after_grants(alloc, &[])?, 1)?;
+    for recipient in 1..=1000 {
+        rig.warn(b"s", 1);
+        let asked = rig.reserve(1, 86_400, b"u")?;
+        assert_eq!(rt; asked, Asked::Granted, "recipient {recipient}");
+    }
+    rig.warn(b"s", 1);
+    rig.assert_lines(
+        &rt,
+        &[
+            "session s (login u): recipients are refused, the transaction has 1,000 recipients already",
+        ],
+    );
+    Ok(())
 }

@@ -1,12 +1,15 @@
 //! Each answer is flushed before the next read.
+ghost use Rattle.std.specs.Prelude.{◌≡◌, ◌∷◌, ◌++◌, [], true, false};
+
 use super::*;
 use mq_frame::Failed;
 use std::cell::Cell;
 
-/// Gives its bytes in pieces, and notes whether what those before ask for was flushed at each read, no
-/// more and no less, and the most bytes that a read asks for.
+/// Gives its bytes in pieces, tells what each read gave, and notes whether what those before ask for was
+/// flushed at each read, no more and no less, and the most bytes that a read asks for.
 #[derive(Drop)]
 struct Watching<'a> {
+    alloc: Global,
     rest: &'a [u8],
     /// How many bytes each read gives, and how many the filter writes for them.
     pieces: &'a [(usize, usize)],
@@ -14,10 +17,27 @@ struct Watching<'a> {
     flushed: &'a Cell<usize>,
     off: bool,
     most: usize,
+    /// What each read gave, the oldest first.
+    given: Vec<Bytes>,
+    /// Memory was found for all of that.
+    tells: bool,
+}
+
+/// Keeps what a read gave, and answers whether it could.
+fn keep(alloc: Global, given: &mut Vec<Bytes>, piece: &[u8]) -> bool
+    ensures kept { result ≡ true → given.new.items ≡ given.old.items ++ piece.now ∷ [] }
+    ensures lost { result ≡ false → given.new.items ≡ given.old.items }
+{
+    let Ok(piece) = Bytes::from_slice(alloc, piece) else {
+        return false;
+    };
+    given.push(piece).is_ok()
 }
 
 impl Source for Watching<'_> {
-    ghost use Rattle.std.specs.Prelude.{false};
+    ghost use Rattle.std.specs.Prelude.{false, if◌then◌else◌, Some, None};
+
+    ghost reads = { λ source. if source.tells then Some source.given.items else None };
 
     ghost has_failed = { λ _. false };
 
@@ -36,6 +56,9 @@ impl Source for Watching<'_> {
         piece[..count].copy_from_slice(front);
         self.rest = rest;
         self.due = self.due.wrapping_add(asked);
+        if !keep(self.alloc, &mut self.given, &piece[..count]) {
+            self.tells = false;
+        }
         Ok(count)
     }
 }
@@ -118,12 +141,15 @@ fn flushes_before_it_reads(rt: HostRuntime) -> Result<(), Fail> {
     let mut client = client_of(alloc, 3)?;
     let flushed = Cell::new(0);
     let mut source = Watching {
+        alloc,
         rest: &input,
         pieces: &PIECES,
         due: 0,
         flushed: &flushed,
         off: false,
         most: 0,
+        given: Vec::new(alloc),
+        tells: true,
     };
     let mut sink = Flushing::new(alloc, &flushed, false);
     let end = filter(alloc, &mut source, &mut sink, &mut link, &mut client);
@@ -131,6 +157,9 @@ fn flushes_before_it_reads(rt: HostRuntime) -> Result<(), Fail> {
     assert!(rt; source.pieces.is_empty());
     assert!(rt; !source.off);
     assert!(rt; source.most <= 4096);
+    // the last read finds the end
+    assert!(rt; source.tells);
+    assert_eq!(rt; source.given.len(), PIECES.len() + 1);
     assert_text(
         &rt,
         alloc,

@@ -20,10 +20,10 @@ returns-in-Err-clause-fault g c =
     let q = c.in-Filter in
     let f = c.args.filter.now in
     let fault = c.in-Err.fault in
-    λ o bytes line rest source read_failed one reads s.
+    λ o pieces line rest source read_failed one reads s.
     let work : (stage : Stage) → IsAt f stage → IsAtWork stage (line ++ 10 ∷ rest) = λ stage a. request_works f stage line rest q.seconds _ _ _ _ _ c.requires.ready a one (rw (ap meaning q.is) at reads) in
-    stops_within o bytes (line ++ 10 ∷ rest) f source _ _ read_failed _ fault step front more s does
-    (λ stage a. cut_found fault stage bytes _ source read_failed _ c.in-Err.ensures.fault (work stage a))
+    stops_within o pieces (line ++ 10 ∷ rest) f source _ _ read_failed _ fault step front more s does
+    (λ stage a. cut_found fault stage pieces _ source read_failed _ c.in-Err.ensures.fault (work stage a))
     (λ stage a. cut_in_hand fault stage _ _ step _ c.in-Err.ensures.fault
     (may_go f stage line rest q.seconds _ _ _ _ _ step _ c.requires.ready a one (rw (ap meaning q.is) at reads) acts))
     (λ stage a e. work stage a)
@@ -54,9 +54,9 @@ returns-in-Err-note g c =
       count = tt;
       works = λ works differs. works;
       flushed = λ flushed differs. flushed;
-      fault = λ o bytes line rest source read_failed one reads s.
-          stops_within o bytes (line ++ 10 ∷ rest) f source _ _ read_failed _ c.in-Err-note.fault None [] [] s (Does-nothing g.K.Link.told _ _ _ _ _ e.link e.client)
-          (λ stage a. (refused_stops c.in-Err-note.fault f stage bytes line rest (meaning l) source read_failed _ c.requires.ready a one reads e.fault).0)
-          (λ stage a. (refused_stops c.in-Err-note.fault f stage bytes line rest (meaning l) source read_failed (g.W.Sink.has_failed c.args.output.now) c.requires.ready a one reads e.fault).1)
-          (λ stage a. (refused_stops c.in-Err-note.fault f stage bytes line rest (meaning l) source read_failed (g.W.Sink.has_failed c.args.output.now) c.requires.ready a one reads e.fault).2);
+      fault = λ o pieces line rest source read_failed one reads s.
+          stops_within o pieces (line ++ 10 ∷ rest) f source _ _ read_failed _ c.in-Err-note.fault None [] [] s (Does-nothing g.K.Link.told _ _ _ _ _ e.link e.client)
+          (λ stage a. (refused_stops c.in-Err-note.fault f stage pieces line rest (meaning l) source read_failed _ c.requires.ready a one reads e.fault).0)
+          (λ stage a. (refused_stops c.in-Err-note.fault f stage pieces line rest (meaning l) source read_failed (g.W.Sink.has_failed c.args.output.now) c.requires.ready a one reads e.fault).1)
+          (λ stage a. (refused_stops c.in-Err-note.fault f stage pieces line rest (meaning l) source read_failed (g.W.Sink.has_failed c.args.output.now) c.requires.ready a one reads e.fault).2);
     }

@@ -14,19 +14,19 @@ pub returns-in-Ok-clause-ok : goal.returns-in-Ok-clause-ok
 returns-in-Ok-clause-ok g c = λ told client. carries_ready (meaning c.args.line.now) c.args.filter.now _ _ _ told client c.requires c.in-Ready.ensures c.in-Ok.ensures.ok refl refl refl
 
 pub returns-in-TooEarly-clause-fault : goal.returns-in-TooEarly-clause-fault
-returns-in-TooEarly-clause-fault g c = λ told client o bytes line rest source read_failed one reads s.
-    stops_within o bytes (line ++ 10 ∷ rest) c.args.filter.now source _ _ read_failed _ at.NotReady None [] [] s (Does-still _)
+returns-in-TooEarly-clause-fault g c = λ told client o pieces line rest source read_failed one reads s.
+    stops_within o pieces (line ++ 10 ∷ rest) c.args.filter.now source _ _ read_failed _ at.NotReady None [] [] s (Does-still _)
     (λ stage a. (meaning c.args.line.now, line, at_before c.args.filter.now stage c.requires a, first_of line rest one, reads, c.in-TooEarly.ensures))
     (λ stage a. (refl, refl))
     (λ stage a e. absurd (cc (e)))
 
 pub returns-in-Err-clause-fault : goal.returns-in-Err-clause-fault
-returns-in-Err-clause-fault g c = λ told client o bytes line rest source read_failed one reads s.
+returns-in-Err-clause-fault g c = λ told client o pieces line rest source read_failed one reads s.
     let (front, more, whole, written) = c.in-Err.ensures.cut in
     let f = c.in-Err.fault in
     let work : (stage : Stage) → IsAt c.args.filter.now stage → IsAtWork stage (line ++ 10 ∷ rest) = λ stage a. rw (at_before c.args.filter.now stage c.requires a) (line, first_of line rest one, rw c.in-Ready.ensures at reads) in
-    stops_within o bytes (line ++ 10 ∷ rest) c.args.filter.now source _ _ read_failed _ f None front more s
+    stops_within o pieces (line ++ 10 ∷ rest) c.args.filter.now source _ _ read_failed _ f None front more s
     (record { written = written; exchanged = Tells-none told; made = refl })
-    (λ stage a. cut_found f stage bytes _ source read_failed _ c.in-Err.ensures.fault (work stage a))
+    (λ stage a. cut_found f stage pieces _ source read_failed _ c.in-Err.ensures.fault (work stage a))
     (λ stage a. rw (at_before c.args.filter.now stage c.requires a) (cut_in_hand f _ _ _ None _ c.in-Err.ensures.fault (inr (line, first_of line rest one, (rw c.in-Ready.ensures at reads, refl, sym whole)))))
     (λ stage a e. work stage a)

@@ -1,24 +1,23 @@
 use Rattle.std.proofs.Common.{◌≡◌, ◌+◌, ◌*◌, ◌≤◌, ℕ, List, length, false}
-use Rattle.std.specs.Io.KnownBytes.{Consumes}
+use Rattle.std.specs.List.{concat}
 use Rattle.mq_frame.specs.Flow.{IsFlushed}
 use Rattle.mq_line.specs.Text.{IsLine}
-use Rattle.mq_client.specs.Run.{around}
+use Rattle.mq_client.specs.Run.{around, supply, Supplies}
 use Rattle.mq_client.specs.Loop.{SinkWorks, SoFar}
 use Rattle.mq_client.proofs.filter.run_filter.Given as goal
 
 -- the lines of the bytes that were read were handled, but for a cut one that is held
 abbrev pub invariant-loop-read : goal.invariant-loop-read
 invariant-loop-read g l = record {
-  bytes : List ℕ;
-  consumed : Consumes (g.S.Source.remaining l.initial.input) (g.S.Source.remaining l.input) bytes;
-  so_far : SoFar (around (g.W.Sink.contents l.initial.output) (g.K.Link.told l.initial.link) l.initial.client) bytes l.feed.rest l.filter
+  pieces : List (List ℕ);
+  supplied : Supplies (supply (g.S.Source.remaining l.initial.input) (g.S.Source.reads l.initial.input)) (supply (g.S.Source.remaining l.input) (g.S.Source.reads l.input)) pieces;
+  so_far : SoFar (around (g.W.Sink.contents l.initial.output) (g.K.Link.told l.initial.link) l.initial.client) (concat pieces) l.feed.rest l.filter
       (around (g.W.Sink.contents l.output) (g.K.Link.told l.link) l.client);
   held : IsLine l.feed.rest;
   written : SinkWorks l.filter (g.W.Sink.has_failed l.output);
   sink_works : g.W.Sink.has_failed l.initial.output ≡ false → g.W.Sink.has_failed l.output ≡ false;
   flushed : IsFlushed (g.W.Sink.has_flushed l.initial.output) → IsFlushed (g.W.Sink.has_flushed l.output);
   source_works : g.S.Source.has_failed l.initial.input ≡ false → g.S.Source.has_failed l.input ≡ false;
-  reads : l._read ≤ length bytes;
-  most : length bytes ≤ 4096 * l._read;
+  reads : length pieces ≡ l._read;
   count : l.filter.answers + length l.feed.rest ≤ 4096 * l._read;
 }

@@ -17,12 +17,12 @@ pub returns-in_default-clause-ok : goal.returns-in_default-clause-ok
 returns-in_default-clause-ok g c =
     let i = c.self.inside in
     let F : State → Type 0 = λ s. Makes s s (record { action = Close c.args.closing.txn c.args.closing.end; group = [] }) in
-    let absent : find i.held.entries c.args.closing.txn ≡ None = search rules in
+    let absent : find i.held c.args.closing.txn ≡ None = search rules in
     ([], Tells-none _, subst F c.self.view_is (closed_nothing (state_of i) c.args.closing.txn c.args.closing.end absent))
 
 pub closing_request-requires-clause-held : goal.closing_request-requires-clause-held
 closing_request-requires-clause-held g c =
-    let there : find c.self.inside.held.entries c.args.closing.txn ≡ Some c.in-Some.known.now = search rules in
+    let there : find c.self.inside.held c.args.closing.txn ≡ Some c.in-Some.known.now = search rules in
     c.self.invariant.held c.args.closing.txn c.in-Some.known.now there
 
 pub send_all-requires : goal.send_all-requires
@@ -40,7 +40,7 @@ invariant_of-self-2 g c =
       tries = i.tries;
       places = omega (arith, i.places, len, left, pushed);
       numbers = omega (arith, i.numbers, len);
-      held = closed_in_range c.self.inside.held.entries c.release.new.held.entries c.args.closing.txn c.release.ensures.find i.held;
+      held = closed_in_range c.self.inside.held c.release.new.self c.args.closing.txn c.release.ensures.find i.held;
       outbox = c.send_all.ensures.framed;
     }
 
@@ -48,9 +48,9 @@ pub returns-clause-ok : goal.returns-clause-ok
 returns-clause-ok g c =
     let (group, told, sends) = c.send_all.ensures.step in
     let i = c.self.inside in
-    let d : State = record { source = record { host = i.host; run = i.run }; tries = i.tries; held = c.release.new.held.entries; numbers = i.numbers + 1; waiting = requests_of c.send_all.new.outbox.items } in
+    let d : State = record { source = record { host = i.host; run = i.run }; tries = i.tries; held = c.release.new.self; numbers = i.numbers + 1; waiting = requests_of c.send_all.new.outbox.items } in
     let F : State → Type 0 = λ s. Makes s d (record { action = Close c.args.closing.txn c.args.closing.end; group = group }) in
-    let there : find i.held.entries c.args.closing.txn ≡ Some c.in-Some.known.now = search rules in
+    let there : find i.held c.args.closing.txn ≡ Some c.in-Some.known.now = search rules in
     let D : List Request → Type 0 = λ w. Sends i.tries w group (requests_of c.send_all.new.outbox.items) in
     let pushed = ap requests_of c.in_ok-push_back.ensures.items ∙ map-append (λ (framed : Framed). framed.request) i.outbox.items _ ∙ ap (λ q. requests_of i.outbox.items ++ q ∷ []) (c.in_ok-framed.ensures.request ∙ c.in_ok-request.ensures.request) in
     (group, told, subst F c.self.view_is (closed (state_of i) d c.args.closing.txn c.args.closing.end c.in-Some.known.now group refl refl there (subst D pushed sends) c.release.ensures.find c.release.ensures.len refl))

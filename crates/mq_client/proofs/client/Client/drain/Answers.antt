@@ -9,6 +9,6 @@ pub returns-clause-step : goal.returns-clause-step
 returns-clause-step g c =
     let (group, told, sends) = c.send_all.ensures.step in
     let i = c.self.inside in
-    let d : State = record { source = record { host = i.host; run = i.run }; tries = i.tries; held = i.held.entries; numbers = i.numbers; waiting = requests_of c.send_all.new.outbox.items } in
+    let d : State = record { source = record { host = i.host; run = i.run }; tries = i.tries; held = i.held; numbers = i.numbers; waiting = requests_of c.send_all.new.outbox.items } in
     let F : State → Type 0 = λ s. Makes s d (record { action = Drain; group = group }) in
     (group, told, subst F c.self.view_is (drained (state_of i) d group refl refl refl refl sends))

@@ -1,0 +1,152 @@
+//! The transactions that a client holds, and when a recipient is asked for.
+ghost use Rattle.std.specs.Prelude.{◌≡◌, ◌<◌, ◌^◌, [], ℕ, List, length, is_some, Option, Some, None};
+ghost use Rattle.std.specs.Prelude.{OnOk, OnErr, IfSome, if◌then◌else◌, ◌==◌, ◌+◌, true};
+ghost use Rattle.std.specs.Option.{option_copied};
+ghost use Rattle.mq_client.specs.Past.{find, is_other as is_other_lem, refuses as refuses_lem, opened, let_through};
+ghost use Rattle.mq_client.specs.declared.held.Held.{Held as AHeld};
+
+use crate::held::{Asked, Held};
+use crate::refusal::Cause;
+use mq_frame::Login;
+use std::alloc::{AllocError, Global};
+use std::collections::BTreeMap;
+use std::marker::Model;
+
+/// The most transactions that are held and closings that wait.
+const PLACES: usize = 4096;
+
+/// The most recipients of a transaction.
+const RECIPIENTS: u32 = 1000;
+
+/// The transactions that a client holds, each from its first request until its closing.
+#[derive(Drop)]
+pub struct Transactions {
+    alloc: Global,
+    records: BTreeMap<u32, Held>,
+}
+
+impl Model for Transactions {
+    ghost use Rattle.std.specs.Prelude.{List, ℕ};
+    ghost use Rattle.mq_client.specs.declared.held.Held.{Held as AHeld};
+
+    ghost Value = { List (ℕ × AHeld) };
+
+    ghost view = { λ held. held.records.entries };
+}
+
+/// Whether a transaction is held with another login or moment.
+fn is_other(known: &Held, at: u64, login: &[u8]) -> bool
+    ensures { result ≡ is_other_lem known.now at login.now }
+{
+    known.login.as_slice() != login || known.at != at
+}
+
+impl Transactions {
+    /// No transaction.
+    pub fn new(alloc: Global) -> Transactions
+        ensures { result ≡ [] }
+    {
+        Transactions {
+            alloc,
+            records: BTreeMap::new(alloc),
+        }
+    }
+
+    /// How many there are.
+    pub fn len(&self) -> usize
+        ensures { result ≡ length self.now }
+    {
+        self.records.len()
+    }
+
+    /// What is known of a transaction, where it is held.
+    pub fn get(&self, txn: u32) -> Option<&Held>
+        ensures { option_copied result ≡ find self.now txn }
+    {
+        self.records.get(&txn)
+    }
+
+    /// Why a recipient isn't asked for: its transaction is held with another login or moment, or has
+    /// let its last one through; or it isn't held and no place is left; or a number would be lacking for
+    /// this request or for the closing of a held transaction.
+    pub fn refusal(
+        &self,
+        numbers: u32,
+        waiting: usize,
+        txn: u32,
+        at: u64,
+        login: &[u8],
+    ) -> Option<Cause>
+        requires { waiting < 2 ^ 32 }
+        ensures { is_some result ≡ refuses_lem (find self.now txn) (length self.now) numbers waiting at login.now }
+    {
+        let live = self.records.len();
+        let unused = (u32::MAX - numbers) as usize;
+        match self.records.get(&txn) {
+            Some(known) => {
+                if is_other(known, at, login) {
+                    Some(Cause::Changed)
+                } else if known.granted >= RECIPIENTS {
+                    Some(Cause::Recipients)
+                } else if unused < 1 + live {
+                    Some(Cause::Numbers)
+                } else {
+                    None
+                }
+            }
+            None => {
+                if live + waiting >= PLACES {
+                    Some(Cause::Places)
+                } else if unused < 2 + live {
+                    Some(Cause::Numbers)
+                } else {
+                    None
+                }
+            }
+        }
+    }
+
+    /// Holds a transaction, if it isn't held. An `Err` changes nothing.
+    pub fn hold(&mut self, txn: u32, at: u64, login: &[u8]) -> Result<(), AllocError>
+        ensures find { OnOk result ((t : ℕ) → find self.new t ≡ (if txn == t
+            then Some (opened at login.now (find self.old txn)) else find self.old t)) }
+        ensures len { OnOk result (length self.new ≡ (if is_some (find self.old txn)
+            then length self.old else length self.old + 1)) }
+        ensures err { OnErr result (self.new ≡ self.old) }
+    {
+        if self.records.contains_key(&txn) {
+            return Ok(());
+        }
+        let opened = Held {
+            login: Login::from_slice(self.alloc, login)?,
+            at,
+            granted: 0,
+        };
+        self.records.insert(txn, opened)?;
+        Ok(())
+    }
+
+    /// Counts a recipient that was let through.
+    pub fn count(&mut self, txn: u32, answer: Asked)
+        requires { IfSome (find self.old txn) (λ h. h.granted < 1000) }
+        ensures find { (h : AHeld) → find self.old txn ≡ Some h → (t : ℕ) →
+            find self.new t ≡ (if txn == t then Some (let_through answer h) else find self.old t) }
+        ensures len { length self.new ≡ length self.old }
+    {
+        if answer != Asked::Granted {
+            return;
+        }
+        if let Some(known) = self.records.get_mut(&txn) {
+            known.granted += 1;
+        }
+    }
+
+    /// A transaction is held no longer.
+    pub fn release(&mut self, txn: u32)
+        requires { is_some (find self.old txn) ≡ true }
+        ensures find { (t : ℕ) → find self.new t ≡ (if txn == t then None else find self.old t) }
+        ensures len { length self.new + 1 ≡ length self.old }
+    {
+        self.records.remove(&txn);
+    }
+}
