@@ -1,6 +1,5 @@
 //! A connection that is open, and its turns: none waits for the peer, so none holds back another connection.
-ghost use Rattle.std.specs.Prelude.{◌≡◌, ◌≤◌};
-ghost use Rattle.std.specs.Io.{ReadsAtMost};
+ghost use Rattle.std.specs.Prelude.{◌≡◌, ◌≤◌, length};
 
 use crate::portion::portion_of;
 use mq_frame::{FromRead, ToWrite};
@@ -35,6 +34,8 @@ pub struct Guest {
     pub until: Instant,
     /// How many of its frames were answered.
     answered: u32,
+    /// What came and wasn't answered yet: at most 4,096 bytes.
+    held: Vec<u8>,
     /// What the peer hasn't taken of the replies.
     replies: Vec<u8>,
     /// How the connection ends, once the replies are taken.
@@ -71,18 +72,18 @@ impl Guest {
             deadline,
             until,
             answered: 0,
+            held: Vec::new(alloc),
             replies: Vec::new(alloc),
             end: None,
         })
     }
 
-    /// Writes replies that wait and, where none is left, answers the next whole frames that are there. `is_last` where
-    /// the peer sends no more: then a part of a frame is the connection's end.
+    /// Writes replies that wait and, where none is left, answers the next whole frames. Where the peer sends no more,
+    /// a part of a frame is the connection's end.
     pub fn take_turn<C: Clock, L: Ledger>(
         &mut self,
         clock: &C,
         alloc: Global,
-        is_last: bool,
         timeout: Duration,
         ledger: &mut L,
     ) -> Turn
@@ -99,43 +100,42 @@ impl Guest {
         if let Some(end) = self.end {
             return Turn::Ended(end);
         }
-        let mut piece = [0u8; PIECE];
-        let count = match self.look(clock, timeout, &mut piece) {
-            Ok(0) => return Turn::Ended(Ok(Served::InputEnd)),
-            Ok(count) => count,
-            Err(error) if error.kind() == ErrorKind::WouldBlock => return Turn::Waits,
-            Err(_) => return Turn::Ended(Err(ServeFault::Read)),
+        let came = match self.read_more(clock, timeout) {
+            Ok(count) => Some(count),
+            Err(error) if error.kind() == ErrorKind::WouldBlock => None,
+            Err(error) => return Turn::Ended(Err(read_fault(&error))),
         };
-        let portion = portion_of(&piece[..count], FRAMES.min(ENOUGH - self.answered));
-        let bytes = match portion.bytes {
-            0 if is_last => count,
-            0 => return Turn::Waits,
-            bytes => bytes,
+        let portion = portion_of(&self.held, FRAMES.min(ENOUGH - self.answered));
+        let bytes = match (portion.bytes, came) {
+            (0, Some(0)) if self.held.is_empty() => return Turn::Ended(Ok(Served::InputEnd)),
+            (0, Some(0)) => self.held.len(),
+            (0, Some(_)) => return Turn::Answered,
+            (0, None) => return Turn::Waits,
+            (bytes, _) => bytes,
         };
-        match self.stream.read(&mut piece[..bytes]) {
-            Ok(taken) if taken == bytes => {}
-            _ => return Turn::Ended(Err(ServeFault::Read)),
-        }
         self.answered += portion.frames;
-        self.answer(clock, alloc, &piece[..bytes], timeout, ledger)
+        self.answer(clock, alloc, bytes, timeout, ledger)
     }
 
-    /// Answers frames. Where the store failed, nothing more is waited for.
+    /// Answers so many bytes of what is held. Where the store failed, nothing more is waited for.
     fn answer<C: Clock, L: Ledger>(
         &mut self,
         clock: &C,
         alloc: Global,
-        frames: &[u8],
+        bytes: usize,
         timeout: Duration,
         ledger: &mut L,
     ) -> Turn
+        requires { bytes ≤ length self.old.held }
         ensures same_zone { (L.book ledger.new).zone ≡ (L.book ledger.old).zone }
         ensures same_default { (L.book ledger.new).default ≡ (L.book ledger.old).default }
         ensures kept { L.has_kept ledger.new → L.has_kept ledger.old }
         ensures sound { L.has_kept ledger.new → L.is_sound ledger.old → L.is_sound ledger.new }
     {
+        let mut input = FromRead::new(&self.held[..bytes]);
         let mut output = ToWrite::new(Vec::new(alloc));
-        let ended = serve(alloc, &mut FromRead::new(frames), &mut output, ledger);
+        let ended = serve(alloc, &mut input, &mut output, ledger);
+        drop(self.held.drain(..bytes));
         self.replies = output.into_inner();
         self.end = match ended {
             Ok(Served::InputEnd) if self.answered < ENOUGH => None,
@@ -182,11 +182,13 @@ impl Guest {
         Ok(self.replies.is_empty())
     }
 
-    /// Looks at what came and leaves it there.
-    fn look(&mut self, clock: &impl Clock, timeout: Duration, piece: &mut [u8]) -> io::Result<usize>
-        ensures { ReadsAtMost result piece.new }
-    {
-        let count = self.stream.peek(piece)?;
+    /// Reads what came, as far as there is room for it: 0 bytes at the peer's end, or without room. A frame has at
+    /// most 514 bytes, so without room a whole one is held.
+    fn read_more(&mut self, clock: &impl Clock, timeout: Duration) -> io::Result<usize> {
+        let mut piece = [0u8; PIECE];
+        let room = PIECE.saturating_sub(self.held.len());
+        let count = self.stream.read(&mut piece[..room])?;
+        self.held.extend_from_slice(&piece[..count])?;
         self.stay(clock, timeout)?;
         Ok(count)
     }
@@ -203,12 +205,19 @@ impl Guest {
     }
 }
 
+/// What a failed read ends a connection by.
+fn read_fault(error: &io::Error) -> ServeFault {
+    match error.kind() {
+        ErrorKind::OutOfMemory => ServeFault::Memory,
+        _ => ServeFault::Read,
+    }
+}
+
 /// Gives a connection turns, as long as it answers and no other has waited for long.
 pub fn take_turns<C: Clock, L: Ledger>(
     clock: &C,
     alloc: Global,
     guest: &mut Guest,
-    is_last: bool,
     timeout: Duration,
     ledger: &mut L,
 ) -> Turn
@@ -218,7 +227,7 @@ pub fn take_turns<C: Clock, L: Ledger>(
     ensures sound { L.has_kept ledger.new → L.is_sound ledger.old → L.is_sound ledger.new }
 {
     for _turn in 0..TURNS {
-        match guest.take_turn(clock, alloc, is_last, timeout, ledger) {
+        match guest.take_turn(clock, alloc, timeout, ledger) {
             Turn::Answered => {}
             turn => return turn,
         }

@@ -122,20 +122,18 @@ impl<'a> Room<'a> {
                 self.acceptor.arrived();
                 continue;
             }
-            let is_last = event.is_read_closed();
-            self.attend_one(clock, log, alloc, token, is_last, timeout, ledger)?;
+            self.attend_one(clock, log, alloc, token, timeout, ledger)?;
         }
         Ok(())
     }
 
-    /// Gives a connection its turns, and lets it go where it ended. `is_last` where its peer sends no more.
+    /// Gives a connection its turns, and lets it go where it ended.
     fn attend_one<C: Clock, G: Log, L: Ledger>(
         &mut self,
         clock: &C,
         log: &G,
         alloc: Global,
         token: Token,
-        is_last: bool,
         timeout: Duration,
         ledger: &mut L,
     ) -> Result<(), ProgramFault>
@@ -148,7 +146,7 @@ impl<'a> Room<'a> {
             return Ok(());
         };
         let peer = guest.peer;
-        match take_turns(clock, alloc, guest, is_last, timeout, ledger) {
+        match take_turns(clock, alloc, guest, timeout, ledger) {
             Turn::Waits => Ok(()),
             Turn::Answered => {
                 self.tell_again(log, token);
