@@ -1,14 +1,18 @@
-ghost use Rattle.std.specs.Prelude.{◌≡◌, ◌≢◌, ◌⊎◌, false, None, Some, IsTrue, IfOk, IfErr};
+ghost use Rattle.std.specs.Prelude.{◌≡◌, ◌≢◌, ◌⊎◌, [], ◌∷◌, ◌++◌, false, None, Some, IsTrue, IfOk, IfErr, OnOk, OnErr};
 ghost use Rattle.sqlite.specs.Held.{state};
 ghost use Rattle.sqlite.specs.State.{HasCleanDisk};
 ghost use Rattle.sqlite.specs.Tree.{Trees};
-ghost use Rattle.mq_frame.specs.Range.{IsAmount};
-ghost use Rattle.mq_ledger.specs.Day.{IsOffset};
+ghost use Rattle.mq_frame.specs.Range.{IsAmount, IsRequest, IsReply};
+ghost use Rattle.mq_ledger.specs.Answer.{build, reply};
+ghost use Rattle.mq_ledger.specs.Arrivals.{first};
+ghost use Rattle.mq_ledger.specs.Day.{IsOffset, day_of};
+ghost use Rattle.mq_ledger.specs.History.{requests};
 ghost use Rattle.mq_tables.specs.Making.{has_ledger_table, AreUnnamed, HasCounters, IsMadeOver, AreMadeOver};
 ghost use Rattle.mq_tables.specs.Reading.{Spares};
 ghost use Rattle.mq_tables.specs.Settings.{SettingRow, HasSetting};
+ghost use Rattle.mq_store.specs.Crash.{LeavesNew, LeavesOld, AreApplied};
 ghost use Rattle.mq_store.specs.Opening.{made_with, IsJudged, IsOf};
-ghost use Rattle.mq_store.specs.Soundness.{HasKept, IsNew, IsOpened};
+ghost use Rattle.mq_store.specs.Soundness.{book_in, HasKept, IsSound, IsNew, IsOpened};
 ghost use Rattle.mq_store.specs.declared.fault.OpenFault.TheVariants.{NotOurs};
 
 use crate::apply::apply;
@@ -249,8 +253,40 @@ impl<S: Alter> Ledger for SqlLedger<S> {
     ///
     /// The fault is `Memory`, or `Store` where a statement was refused for another cause, where the
     /// tables are the rows of no legal history, or where 4,611,686,018,427,387,904 answers are
-    /// stored. The tables are then as they were.
-    fn apply(&mut self, request: &Request) -> Result<Reply, LedgerFault> {
+    /// stored. The tables are then as they were; a crash behind `Store` leaves them so, or with this
+    /// request applied.
+    fn apply(&mut self, request: &Request) -> Result<Reply, LedgerFault>
+        requires { IsRequest request.now }
+        ensures in_range { IfOk result IsReply }
+        ensures same_zone { self.new.zone ≡ self.old.zone }
+        ensures same_default { self.new.default ≡ self.old.default }
+        ensures kept { HasKept (state S.Store self.new.connection) → HasKept (state S.Store self.old.connection) }
+        ensures reply { HasKept (state S.Store self.new.connection)
+            → IsSound self.old.zone self.old.default (state S.Store self.old.connection)
+            → (let b = book_in self.old.zone self.old.default (state S.Store self.old.connection).now in
+            IfOk result (λ r. r ≡ reply (day_of b.zone) b.default b.history request.now)) }
+        ensures history { HasKept (state S.Store self.new.connection)
+            → IsSound self.old.zone self.old.default (state S.Store self.old.connection)
+            → (let b = book_in self.old.zone self.old.default (state S.Store self.old.connection).now in
+            OnOk result ((book_in self.new.zone self.new.default (state S.Store self.new.connection).now).history
+            ≡ build (day_of b.zone) b.default (first (requests b.history ++ request.now ∷ [])))) }
+        ensures fault { HasKept (state S.Store self.new.connection)
+            → OnErr result ((state S.Store self.new.connection).now ≡ (state S.Store self.old.connection).now) }
+        ensures sound { HasKept (state S.Store self.new.connection)
+            → IsSound self.old.zone self.old.default (state S.Store self.old.connection)
+            → IsSound self.new.zone self.new.default (state S.Store self.new.connection) }
+
+        // What an open after a crash may find.
+        ensures crash_new { HasCleanDisk (state S.Store self.new.connection) → OnOk result
+            (LeavesNew self.old.zone self.old.default request.now
+            (state S.Store self.old.connection) (state S.Store self.new.connection)) }
+        ensures crash_old { HasCleanDisk (state S.Store self.new.connection) → OnOk result
+            (LeavesOld self.old.zone self.old.default request.now
+            (state S.Store self.old.connection) (state S.Store self.new.connection)) }
+        ensures crash_err { HasCleanDisk (state S.Store self.new.connection) → OnErr result ((db : Trees)
+            → (state S.Store self.new.connection).may_leave db → (state S.Store self.old.connection).may_leave db
+            ⊎ AreApplied self.old.zone self.old.default request.now (state S.Store self.old.connection).now db) }
+    {
         tables_mean_their_book();
         let reply = apply(
             self.alloc,
