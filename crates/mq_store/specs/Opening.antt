@@ -31,6 +31,12 @@ fault_of_code Closed = Store
 fault_of_code TooBig = Store
 fault_of_code _ = NotOurs
 
+-- want of memory, and any other cause, of making the tables
+abbrev pub create_fault : Error → OpenFault
+create_fault (SqliteFailure OutOfMemory) = Memory
+create_fault _ = Store
+
+-- of reading them
 abbrev pub fault_of : Error → OpenFault
 fault_of (SqliteFailure c) = fault_of_code c
 fault_of _ = NotOurs

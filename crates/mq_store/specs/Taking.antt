@@ -1,5 +1,5 @@
 -- What a request does to the tables of a ledger.
-use Rattle.std.specs.Prelude.{◌≡◌, ℕ, List, [], ◌∷◌, ◌++◌, true, Option, Some, None, is_some}
+use Rattle.std.specs.Prelude.{◌≡◌, ℕ, List, [], ◌∷◌, ◌++◌, Bool, true, false, Option, Some, None, is_some}
 use Rattle.sqlite.specs.Effect.{Database}
 use Rattle.sqlite.specs.State.{State}
 use Rattle.mq_frame.specs.declared.message.Id.{Id}
@@ -7,8 +7,8 @@ use Rattle.mq_frame.specs.declared.message.Request.{Request}
 use Rattle.mq_frame.specs.declared.message.Reply.{Reply}
 use Rattle.mq_ledger.specs.declared.entry.Entry.{Entry}
 use Rattle.mq_ledger.specs.declared.zone.Zone.{Zone}
-use Rattle.mq_ledger.specs.Answer.{appended, build, reply, stored}
-use Rattle.mq_ledger.specs.Arrivals.{first}
+use Rattle.mq_ledger.specs.Answer.{appended, history_of, reply, stored}
+use Rattle.mq_ledger.specs.Arrivals.{is_first}
 use Rattle.mq_ledger.specs.Day.{day_of}
 use Rattle.mq_ledger.specs.History.{requests}
 use Rattle.mq_ledger.specs.Legal.{Book, IsLegalBook}
@@ -78,14 +78,14 @@ IsPlanned zone default r id db p =
     (H : List Entry) (b : HasBook (book_of zone default H) db) → stored H id ≡ None
     → IsPlannedOver zone default H r b.has.tables p
 
--- the history with one more arrival
-abbrev pub with_arrival : Zone → ℕ → List Entry → Request → List Entry
-with_arrival zone default H r = build (day_of zone) default (first (requests H ++ r ∷ []))
+-- the book whose history is that of one more arrival
+abbrev pub book_after : Zone → ℕ → List Entry → Request → Book
+book_after zone default H r = book_of zone default (history_of (day_of zone) default (requests H ++ r ∷ []))
 
 -- the reply is the ledger's, and the tables are the rows of the history with the arrival
 abbrev pub AppliesOver : Zone → ℕ → List Entry → Request → Reply → Database → Type 0
 AppliesOver zone default H r a new =
-    (a ≡ reply (day_of zone) default H r) × HasBook (book_of zone default (with_arrival zone default H r)) new
+    (a ≡ reply (day_of zone) default H r) × HasBook (book_after zone default H r) new
 
 -- so it is where the number is new
 abbrev pub AppliesNew : Zone → ℕ → Request → Id → Reply → Database → Database → Type 0
@@ -98,10 +98,16 @@ abbrev pub Applies : Zone → ℕ → Request → Reply → Database → Databas
 Applies zone default r a old new =
     (H : List Entry) → HasBook (book_of zone default H) old → AppliesOver zone default H r a new
 
--- so it is, and where nothing was written the store is as it was
+-- whether it is the first request of its number
+abbrev pub ArrivesAs : Bool → Zone → ℕ → Request → Database → Type 0
+ArrivesAs is zone default r old =
+    (H : List Entry) → HasBook (book_of zone default H) old → is_first (requests H) r ≡ is
+
+-- so it is; the first request of its number is written, and at any other the store is as it was
 abbrev pub IsTaken : Zone → ℕ → Request → Database → Database → Taken → Type 0
-IsTaken zone default r old new (Read a) = Applies zone default r a old new × (new ≡ old)
-IsTaken zone default r old new (Written a) = Applies zone default r a old new
+IsTaken zone default r old new (Read a) =
+    Applies zone default r a old new × (new ≡ old) × ArrivesAs false zone default r old
+IsTaken zone default r old new (Written a) = Applies zone default r a old new × ArrivesAs true zone default r old
 
 -- What is read, whatever the zone is.
 

@@ -29,7 +29,7 @@ ghost use Rattle.mq_tables.specs.Finding.{AreKeyed};
 ghost use Rattle.mq_tables.specs.Records.{IsOneOf};
 ghost use Rattle.mq_store.specs.Paging.{IsNextRow, IsPageOf, IsBegunIn};
 ghost use Rattle.mq_store.specs.Soundness.{book_in};
-ghost use Rattle.mq_store.specs.Taking.{HasRows, HasBook, book_of, IsKnown, with_arrival, AppliesOver, IsPlannedOver};
+ghost use Rattle.mq_store.specs.Taking.{HasRows, HasBook, book_of, book_after, IsKnown, AppliesOver, IsPlannedOver};
 
 use mq_ledger::laws::replies_in_range;
 use mq_rows::laws::{
@@ -70,14 +70,14 @@ pub(crate) fn arrivals_are_applied()
     ensures new { (zone : AnyZone) (default : ℕ) (H : List AnyEntry) (r : AnyRequest) (id : Id)
         (db : Database) → IsLegalBook (book_of zone default H) → IsRequest r → id_of r ≡ Some id →
         stored H id ≡ None → HasRows (book_of zone default (appended (day_of zone) default H r)) db →
-        HasBook (book_of zone default (with_arrival zone default H r)) db }
+        HasBook (book_after zone default H r) db }
     ensures known { (zone : AnyZone) (default : ℕ) (H : List AnyEntry) (r : AnyRequest) (id : Id)
         (db : Database) → id_of r ≡ Some id → is_some (stored H id) ≡ true →
         HasBook (book_of zone default H) db →
-        HasBook (book_of zone default (with_arrival zone default H r)) db }
+        HasBook (book_after zone default H r) db }
     ensures unnumbered { (zone : AnyZone) (default : ℕ) (H : List AnyEntry) (r : AnyRequest)
         (db : Database) → id_of r ≡ None → HasBook (book_of zone default H) db →
-        HasBook (book_of zone default (with_arrival zone default H r)) db }
+        HasBook (book_after zone default H r) db }
 {
     one_more_answer();
     nothing_is_added();

@@ -1,15 +1,19 @@
-ghost use Rattle.std.specs.Prelude.{◌≡◌, ◌≢◌, ◌⊎◌, false, None, Some, IsTrue, IfOk, IfErr};
+ghost use Rattle.std.specs.Prelude.{◌≡◌, ◌⊎◌, [], ◌∷◌, ◌++◌, false, None, Some, IsTrue, IfOk, IfErr, OnOk, OnErr};
 ghost use Rattle.sqlite.specs.Held.{state};
 ghost use Rattle.sqlite.specs.State.{HasCleanDisk};
 ghost use Rattle.sqlite.specs.Tree.{Trees};
-ghost use Rattle.mq_frame.specs.Range.{IsAmount};
-ghost use Rattle.mq_ledger.specs.Day.{IsOffset};
+ghost use Rattle.mq_frame.specs.Range.{IsAmount, IsRequest, IsReply};
+ghost use Rattle.mq_ledger.specs.Answer.{build, reply};
+ghost use Rattle.mq_ledger.specs.Arrivals.{first};
+ghost use Rattle.mq_ledger.specs.Day.{IsOffset, day_of};
+ghost use Rattle.mq_ledger.specs.History.{requests};
 ghost use Rattle.mq_tables.specs.Making.{has_ledger_table, AreUnnamed, HasCounters, IsMadeOver, AreMadeOver};
 ghost use Rattle.mq_tables.specs.Reading.{Spares};
 ghost use Rattle.mq_tables.specs.Settings.{SettingRow, HasSetting};
-ghost use Rattle.mq_store.specs.Opening.{made_with, IsJudged, IsOf};
-ghost use Rattle.mq_store.specs.Soundness.{HasKept, IsNew, IsOpened};
-ghost use Rattle.mq_store.specs.declared.fault.OpenFault.TheVariants.{NotOurs};
+ghost use Rattle.mq_store.specs.Crash.{LeavesNew, LeavesOld, AreApplied};
+ghost use Rattle.mq_store.specs.Opening.{made_with, create_fault, IsJudged, IsOf};
+ghost use Rattle.mq_store.specs.Soundness.{book_in, HasKept, IsSound, IsNew, IsOpened};
+ghost use Rattle.mq_store.specs.declared.fault.OpenFault.TheVariants.{NotOurs, Memory, Store};
 
 use crate::apply::apply;
 use crate::fault::{OpenFault, OpenRefused, judged};
@@ -77,7 +81,7 @@ fn new_setting(zone: Zone, default: u32) -> NewSetting
 
 /// What a refusal to make the tables is answered by.
 fn create_fault(error: &Error) -> OpenFault
-    ensures { result ≢ NotOurs }
+    ensures { result ≡ create_fault error.now }
 {
     match error {
         Error::SqliteFailure(ErrorCode::OutOfMemory) => OpenFault::Memory,
@@ -90,7 +94,8 @@ impl<S: Alter> SqlLedger<S> {
     /// store holds. The default is the limit of a login that has none for a day: 0 to 1,000,000.
     ///
     /// Refused, the store has the tables that it had. `NotOurs` comes exactly where a table of one
-    /// of the five names is there. A connection within a transaction is `Store`.
+    /// of the five names is there; its other faults are `Memory` and `Store`. A connection within a
+    /// transaction is `Store`.
     pub fn create(
         alloc: Global,
         connection: Connection<S>,
@@ -117,6 +122,13 @@ impl<S: Alter> SqlLedger<S> {
         ensures err { IfErr result (λ e. HasCleanDisk (state S.Store e.connection)
             → IsTrue (state S.Store e.connection).is_open
             → (state S.Store e.connection).now ≡ (state S.Store connection).now) }
+
+        ensures fault { IfErr result (λ e. (e.fault ≡ NotOurs) ⊎ ((e.fault ≡ Memory) ⊎ (e.fault ≡ Store))) }
+
+        // The connection is outside a transaction where it was lent so, and a ledger's always is.
+        ensures autocommit_ok { IfOk result (λ l. (connection.in_transaction ≡ false)
+            × (l.connection.in_transaction ≡ false)) }
+        ensures autocommit_err { IfErr result (λ e. e.connection.in_transaction ≡ connection.in_transaction) }
 
         // What an open after a crash may find: all five tables, or none of them.
         ensures crash_ok { IfOk result (λ l. HasCleanDisk (state S.Store l.connection) → (db : Trees)
@@ -181,6 +193,11 @@ impl<S: Alter> SqlLedger<S> {
         ensures sound { IfOk result (λ l. HasKept (state S.Store l.connection)
             → IsOpened zone default (state S.Store connection) (state S.Store l.connection)) }
 
+        // The connection is outside a transaction where it was lent so, and a ledger's always is.
+        ensures autocommit_ok { IfOk result (λ l. (connection.in_transaction ≡ false)
+            × (l.connection.in_transaction ≡ false)) }
+        ensures autocommit_err { IfErr result (λ e. e.connection.in_transaction ≡ connection.in_transaction) }
+
         // Nothing is written.
         ensures spares_ok { IfOk result (λ l. HasCleanDisk (state S.Store l.connection)
             → Spares (state S.Store connection) (state S.Store l.connection)) }
@@ -203,9 +220,10 @@ impl<S: Alter> SqlLedger<S> {
         }
     }
 
-    /// The connection, with the tables as they are.
+    /// The connection, with the tables as they are. It is outside a transaction.
     pub fn into_connection(self) -> Connection<S>
-        ensures { result ≡ self.connection }
+        ensures same { result ≡ self.connection }
+        ensures autocommit { result.in_transaction ≡ false }
     {
         let SqlLedger {
             alloc: _,
@@ -249,8 +267,41 @@ impl<S: Alter> Ledger for SqlLedger<S> {
     ///
     /// The fault is `Memory`, or `Store` where a statement was refused for another cause, where the
     /// tables are the rows of no legal history, or where 4,611,686,018,427,387,904 answers are
-    /// stored. The tables are then as they were.
-    fn apply(&mut self, request: &Request) -> Result<Reply, LedgerFault> {
+    /// stored. The tables are then as they were; a crash behind a fault leaves them so, or with this
+    /// request applied. Over rows of no legal history it may also reply: what it says is then in
+    /// range, and no more is known of it.
+    fn apply(&mut self, request: &Request) -> Result<Reply, LedgerFault>
+        requires { IsRequest request.now }
+        ensures in_range { IfOk result IsReply }
+        ensures same_zone { self.new.zone ≡ self.old.zone }
+        ensures same_default { self.new.default ≡ self.old.default }
+        ensures kept { HasKept (state S.Store self.new.connection) → HasKept (state S.Store self.old.connection) }
+        ensures reply { HasKept (state S.Store self.new.connection)
+            → IsSound self.old.zone self.old.default (state S.Store self.old.connection)
+            → (let b = book_in self.old.zone self.old.default (state S.Store self.old.connection).now in
+            IfOk result (λ r. r ≡ reply (day_of b.zone) b.default b.history request.now)) }
+        ensures history { HasKept (state S.Store self.new.connection)
+            → IsSound self.old.zone self.old.default (state S.Store self.old.connection)
+            → (let b = book_in self.old.zone self.old.default (state S.Store self.old.connection).now in
+            OnOk result ((book_in self.new.zone self.new.default (state S.Store self.new.connection).now).history
+            ≡ build (day_of b.zone) b.default (first (requests b.history ++ request.now ∷ [])))) }
+        ensures fault { HasKept (state S.Store self.new.connection)
+            → OnErr result ((state S.Store self.new.connection).now ≡ (state S.Store self.old.connection).now) }
+        ensures sound { HasKept (state S.Store self.new.connection)
+            → IsSound self.old.zone self.old.default (state S.Store self.old.connection)
+            → IsSound self.new.zone self.new.default (state S.Store self.new.connection) }
+
+        // What an open after a crash may find.
+        ensures crash_new { HasCleanDisk (state S.Store self.new.connection) → OnOk result
+            (LeavesNew self.old.zone self.old.default request.now
+            (state S.Store self.old.connection) (state S.Store self.new.connection)) }
+        ensures crash_old { HasCleanDisk (state S.Store self.new.connection) → OnOk result
+            (LeavesOld self.old.zone self.old.default request.now
+            (state S.Store self.old.connection) (state S.Store self.new.connection)) }
+        ensures crash_err { HasCleanDisk (state S.Store self.new.connection) → OnErr result ((db : Trees)
+            → (state S.Store self.new.connection).may_leave db → (state S.Store self.old.connection).may_leave db
+            ⊎ AreApplied self.old.zone self.old.default request.now (state S.Store self.old.connection).now db) }
+    {
         tables_mean_their_book();
         let reply = apply(
             self.alloc,

@@ -10,6 +10,7 @@ ghost use Rattle.mq_store.specs.Paging.{IsNextRow, IsPageOf};
 
 use crate::fault::Refused;
 use crate::laws::reads_are_answered;
+use mq_frame::format::ROW_LIMIT;
 use mq_frame::{Login, Reply, UsageRow, UsageRows};
 use mq_rows::{page_row, usage_reply};
 use mq_tables::ceiling::find_governing;
@@ -17,9 +18,6 @@ use mq_tables::page::next_usage;
 use mq_tables::usage::find_usage;
 use sqlite::{Alter, Transaction};
 use std::alloc::Global;
-
-/// The rows of a page at most.
-const PAGE: u32 = 100;
 
 /// What the login has used on that day, and its limit.
 #[tactic(auto, using(crate::proofs::Chain::calls))]
@@ -96,7 +94,7 @@ fn page<S: Alter>(
     reads_are_answered();
     let mut rows = Vec::new(alloc);
     let mut last = after.clone()?;
-    for _ in 0..PAGE {
+    for _ in 0..ROW_LIMIT {
         let Some(row) = next_row(tx, default, day, &last)? else {
             return Ok(rows);
         };

@@ -1,6 +1,6 @@
 //! A ledger in tables of a store in memory.
 
-ghost use Rattle.std.specs.Prelude.{◌≡◌, IfOk};
+ghost use Rattle.std.specs.Prelude.{◌≡◌, ◌⊎◌, false, IfOk, IfErr};
 ghost use Rattle.sqlite.specs.Held.{state};
 ghost use Rattle.sqlite.specs.Steps.{over_memory};
 ghost use Rattle.mq_frame.specs.Range.{IsAmount};
@@ -22,6 +22,8 @@ impl SqlLedger<MemStore> {
     ) -> Result<SqlLedger<MemStore>, OpenFault>
         requires in_range { IsAmount default }
         ensures lent { IfOk result (λ l. (l.zone ≡ zone) × (l.default ≡ default)) }
+        ensures fault { IfErr result (λ fault. (fault ≡ OpenFault.Memory) ⊎ (fault ≡ OpenFault.Store)) }
+        ensures autocommit { IfOk result (λ l. l.connection.in_transaction ≡ false) }
         ensures new { IfOk result (λ l. IsNew zone default (state over_memory l.connection)) }
     {
         let Ok(connection) = Connection::open_in_memory(alloc) else {

@@ -1,5 +1,5 @@
 -- What a statement leaves, over any schema that has its table at some place.
-use Rattle.std.specs.Prelude.{◌≡◌, ◌≢◌, ◌<◌, ◌^◌, ℕ, ◌+◌, ℤ, Bool, true, false, List, [], ◌∷◌, ◌++◌, length, Option, Some, None}
+use Rattle.std.specs.Prelude.{◌≡◌, ◌≢◌, ℕ, ◌+◌, ℤ, Bool, true, false, List, [], ◌∷◌, ◌++◌, length}
 use Rattle.std.specs.List.{AllByRecursion}
 use Rattle.std.specs.List.Sorted.{IsPermutation}
 use Rattle.sqlite.specs.Order.{Row}
@@ -69,20 +69,6 @@ abbrev pub WritesUsage : Write UsageRecord → State → State → Type 0
 WritesUsage write old new =
     (t : Tables) → HasLedger old.now t
     → Leaves same_day set_usage write t.usage (λ after. HasLedger new.now (record t { usage = after }))
-
--- a whole number of 64 bits with its sign has a place for its run and its moment
-abbrev pub IsStorable : TransactionRecord → Type 0
-IsStorable t = (t.run < 2 ^ 63) × (t.moment < 2 ^ 63)
-
--- the row that was found, where there is one
-abbrev pub IsRowStorable : Option TransactionRecord → Type 0
-IsRowStorable None = Unit {0}
-IsRowStorable (Some t) = IsStorable t
-
-abbrev pub AreStorable : Write TransactionRecord → Type 0
-AreStorable Keep = Unit {0}
-AreStorable (Insert t) = IsStorable t
-AreStorable (Update t) = IsStorable t
 
 abbrev pub WritesTransaction : Write TransactionRecord → State → State → Type 0
 WritesTransaction write old new =

@@ -7,10 +7,10 @@ ghost use Rattle.mq_frame.specs.Range.{IsRequest};
 ghost use Rattle.mq_ledger.specs.Arrivals.{id_of};
 ghost use Rattle.mq_ledger.specs.Day.{day_of};
 ghost use Rattle.mq_rows.specs.Found.{IsFound};
+ghost use Rattle.mq_rows.specs.Storable.{AreStorableIf};
 ghost use Rattle.mq_rows.specs.Tables.{Tables};
 ghost use Rattle.mq_tables.specs.Finding.{AreKeyed, IsTransactionFound, IsReserveFound, IsLimitFound};
 ghost use Rattle.mq_tables.specs.Ledger.{HasLedger};
-ghost use Rattle.mq_tables.specs.Updates.{IsRowStorable};
 
 use crate::ceiling::{find_ceiling, find_governing};
 use crate::over::find_over;
@@ -46,7 +46,7 @@ fn find_named<S: Alter>(
     ensures found { HasCleanDisk (state S.Store tx.new.conn.now)
         → IfOk result (λ found. (t : Tables) → HasLedger (state S.Store tx.old.conn.now).now t → AreKeyed t
         → IsTransactionFound id.now txn login.now day t found) }
-    ensures storable { IfOk result (λ found. IsRowStorable found.transaction) }
+    ensures storable { IfOk result (λ found. AreStorableIf found.transaction) }
     ensures kept { HasCleanDisk (state S.Store tx.new.conn.now)
         → KeepsCommit (state S.Store tx.old.conn.now) (state S.Store tx.new.conn.now) }
     ensures survives { Survives (state S.Store tx.old.conn.now) (state S.Store tx.new.conn.now) (λ _. ⊥) }
@@ -76,7 +76,7 @@ fn find_for_reserve<S: Alter>(
     ensures found { HasCleanDisk (state S.Store tx.new.conn.now)
         → IfOk result (λ found. (t : Tables) → HasLedger (state S.Store tx.old.conn.now).now t → AreKeyed t
         → IsReserveFound id.now txn login.now day t found) }
-    ensures storable { IfOk result (λ found. IsRowStorable found.transaction) }
+    ensures storable { IfOk result (λ found. AreStorableIf found.transaction) }
     ensures kept { HasCleanDisk (state S.Store tx.new.conn.now)
         → KeepsCommit (state S.Store tx.old.conn.now) (state S.Store tx.new.conn.now) }
     ensures survives { Survives (state S.Store tx.old.conn.now) (state S.Store tx.new.conn.now) (λ _. ⊥) }
@@ -100,7 +100,7 @@ fn find_for_limit<S: Alter>(
     ensures found { HasCleanDisk (state S.Store tx.new.conn.now)
         → IfOk result (λ found. (t : Tables) → HasLedger (state S.Store tx.old.conn.now).now t → AreKeyed t
         → IsLimitFound login.now from_day cap t found) }
-    ensures storable { IfOk result (λ found. IsRowStorable found.transaction) }
+    ensures storable { IfOk result (λ found. AreStorableIf found.transaction) }
     ensures kept { HasCleanDisk (state S.Store tx.new.conn.now)
         → KeepsCommit (state S.Store tx.old.conn.now) (state S.Store tx.new.conn.now) }
     ensures survives { Survives (state S.Store tx.old.conn.now) (state S.Store tx.new.conn.now) (λ _. ⊥) }
@@ -130,7 +130,7 @@ pub fn find<S: Alter>(
     ensures found { HasCleanDisk (state S.Store tx.new.conn.now)
         → IfOk result (λ found. (t : Tables) → HasLedger (state S.Store tx.old.conn.now).now t → AreKeyed t
         → IsFound (day_of zone) t request.now found) }
-    ensures storable { IfOk result (λ found. IsRowStorable found.transaction) }
+    ensures storable { IfOk result (λ found. AreStorableIf found.transaction) }
     ensures kept { HasCleanDisk (state S.Store tx.new.conn.now)
         → KeepsCommit (state S.Store tx.old.conn.now) (state S.Store tx.new.conn.now) }
     ensures survives { Survives (state S.Store tx.old.conn.now) (state S.Store tx.new.conn.now) (λ _. ⊥) }

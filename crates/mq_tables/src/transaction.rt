@@ -6,12 +6,13 @@ ghost use Rattle.sqlite.specs.Held.{state};
 ghost use Rattle.sqlite.specs.State.{HasCleanDisk, IsUnchanged, KeepsCommit, Survives};
 ghost use Rattle.sqlite.specs.Values.{bound};
 ghost use Rattle.mq_rows.specs.Rows.{is_transaction};
+ghost use Rattle.mq_rows.specs.Storable.{IsStorable, AreStorableIf, AreStorable};
 ghost use Rattle.mq_rows.specs.Tables.{Tables};
 ghost use Rattle.mq_rows.specs.declared.plan.Write.TheVariants.{Insert, Update};
 ghost use Rattle.mq_tables.specs.Ledger.{HasLedger};
 ghost use Rattle.mq_tables.specs.Lent.{standing_params, standing_row, transaction_key, IsFirstTransaction};
 ghost use Rattle.mq_tables.specs.Records.{IsOneOf, transaction_fields};
-ghost use Rattle.mq_tables.specs.Updates.{WritesTransaction, IsStorable, IsRowStorable, AreStorable};
+ghost use Rattle.mq_tables.specs.Updates.{WritesTransaction};
 
 use crate::setting::natural_at;
 use mq_frame::{Host, Login};
@@ -63,7 +64,7 @@ fn first_transaction(
 ) -> Result<Option<TransactionRecord>, Error>
     requires { run < 2 ^ 63 }
     ensures shown { IfOk result (IsFirstTransaction host.now run txn rows.now) }
-    ensures storable { IfOk result IsRowStorable }
+    ensures storable { IfOk result AreStorableIf }
 {
     let Some(row) = rows.first() else {
         return Ok(None);
@@ -96,7 +97,7 @@ pub fn find_transaction<S: Alter>(
     ensures found { HasCleanDisk (state S.Store tx.new.conn.now)
         → IfOk result (λ found. (t : Tables) → HasLedger (state S.Store tx.old.conn.now).now t
         → IsOneOf (is_transaction (record { host = host.now; run = run; txn = txn })) t.transactions found) }
-    ensures storable { IfOk result IsRowStorable }
+    ensures storable { IfOk result AreStorableIf }
     ensures kept { HasCleanDisk (state S.Store tx.new.conn.now)
         → KeepsCommit (state S.Store tx.old.conn.now) (state S.Store tx.new.conn.now) }
     ensures survives { Survives (state S.Store tx.old.conn.now) (state S.Store tx.new.conn.now) (λ _. ⊥) }

@@ -5,7 +5,7 @@ ghost use Rattle.mq_frame.specs.Range.{IsAmount};
 use mq_frame::{Reply, Request, decode_reply, decode_request, is_request};
 use mq_ledger::{Ledger, LedgerFault, Zone};
 use mq_store::SqlLedger;
-use sqlite::{Connection, MemStore};
+use sqlite::MemStore;
 use std::alloc::Global;
 use std::process::Abort;
 use std::test::*;
@@ -55,8 +55,7 @@ pub fn zone(minutes: i32) -> Result<Zone, Fail> {
 pub fn new_ledger(alloc: Global, default: u32) -> Result<SqlLedger<MemStore>, Fail>
     requires { IsAmount default }
 {
-    let connection = Connection::open_in_memory(alloc)?;
-    match SqlLedger::create(alloc, connection, zone(0)?, default) {
+    match SqlLedger::in_memory(alloc, zone(0)?, default) {
         Ok(ledger) => Ok(ledger),
         Err(_) => Err("no tables".into()),
     }

@@ -2,6 +2,7 @@ use Rattle.std.proofs.Common.{◌≡◌, sym, subst, ap}
 use Rattle.std.specs.Prelude.{None}
 use Rattle.mq_ledger.specs.Arrivals.{id_of}
 use Rattle.mq_store.specs.Taking.{HasBook, book_of}
+use Rattle.mq_store.proofs.Firsts.{unnumbered_is_not_first}
 use Rattle.mq_store.proofs.take.take.Goals as goal
 
 pub returns-in_ok-reply-in-Usage-clause-taken : goal.returns-in_ok-reply-in-Usage-clause-taken
@@ -14,6 +15,7 @@ returns-in_ok-reply-in-Usage-clause-taken g c clean =
             (subst (HasBook (book_of c.args.zone c.args.default H)) (sym stays.now) b),
       )),
       stays.now,
+      (λ H b. unnumbered_is_not_first H c.args.request.now unnumbered),
     )
 
 pub returns-in_ok-reply-in-List-clause-taken : goal.returns-in_ok-reply-in-List-clause-taken
@@ -26,4 +28,5 @@ returns-in_ok-reply-in-List-clause-taken g c clean =
             (subst (HasBook (book_of c.args.zone c.args.default H)) (sym stays.now) b),
       )),
       stays.now,
+      (λ H b. unnumbered_is_not_first H c.args.request.now unnumbered),
     )

@@ -1,7 +1,9 @@
-use Rattle.std.proofs.Common.{arith, sym, subst}
+use Rattle.std.proofs.Common.{arith, sym, subst, ap, ◌∙◌}
+use Rattle.std.specs.Prelude.{not, is_some}
 use Rattle.sqlite.specs.Held.{state}
 use Rattle.sqlite.specs.State.{HasCleanDisk}
 use Rattle.mq_store.specs.Taking.{HasBook, book_of}
+use Rattle.mq_store.proofs.Firsts.{first_if_unstored}
 use Rattle.mq_store.proofs.take.take_numbered.Goals as goal
 
 pub returns-in-Some-clause-taken : goal.returns-in-Some-clause-taken
@@ -13,11 +15,16 @@ returns-in-Some-clause-taken g c clean =
             (subst (HasBook (book_of c.args.zone c.args.default H)) (sym stays.now) b),
       )),
       stays.now,
+      (λ H b. let known = rw c.in-Some.is at (c.in_ok-known.ensures.known clean c.args.zone c.args.default H b) in
+          first_if_unstored H c.args.request.now c.args.id.now c.requires.number ∙ ap not known.0),
     )
 
 pub returns-in_ok-new-in-None-clause-taken : goal.returns-in_ok-new-in-None-clause-taken
-returns-in_ok-new-in-None-clause-taken g c clean = λ H b.
+returns-in_ok-new-in-None-clause-taken g c clean =
     let mid : HasCleanDisk (state g.S.Store c.known_reply.new.tx.conn.now) = omega (arith, c.take_new.ensures.survives.clean) in
-    let stays = c.in_ok-known.ensures.stays mid in
-    let new = rw c.in-None.is at (c.in_ok-known.ensures.known mid c.args.zone c.args.default H b) in
-    c.in_ok-new-in-None.ensures.applied clean H (subst (HasBook (book_of c.args.zone c.args.default H)) (sym stays.now) b) new
+    let stays = c.in_ok-known.ensures.stays mid in (
+      (λ H b. let new = rw c.in-None.is at (c.in_ok-known.ensures.known mid c.args.zone c.args.default H b) in
+          c.in_ok-new-in-None.ensures.applied clean H (subst (HasBook (book_of c.args.zone c.args.default H)) (sym stays.now) b) new),
+      (λ H b. let new = rw c.in-None.is at (c.in_ok-known.ensures.known mid c.args.zone c.args.default H b) in
+          first_if_unstored H c.args.request.now c.args.id.now c.requires.number ∙ ap (λ e. not (is_some e)) new),
+    )

@@ -2,7 +2,7 @@ use Rattle.std.proofs.Common.{ap}
 use Rattle.sqlite.specs.Held.{state}
 use Rattle.mq_ledger.specs.Legal.{Book}
 use Rattle.mq_store.specs.Soundness.{book_in}
-use Rattle.mq_store.specs.Taking.{book_of, with_arrival}
+use Rattle.mq_store.specs.Taking.{book_after}
 use Rattle.mq_store.proofs.Sound.{book_had, sound_with}
 use Rattle.mq_store.proofs.ledger.SqlLedgerLedger.apply.Goals as goal
 
@@ -12,13 +12,13 @@ returns-clause-history g c = rw (← c.self.view_is) (λ kept sound.
     let old = state g.S.Store l.connection in
     let H = (book_in l.zone l.default old.now).history in
     let over = (c.in_ok-reply.ensures.applied kept H (book_had l.zone l.default old sound)).1 in
-    ap (λ (b : Book). b.history) (c.tables_mean_their_book.ensures (book_of l.zone l.default (with_arrival l.zone l.default H c.args.request.now)) _ over))
+    ap (λ (b : Book). b.history) (c.tables_mean_their_book.ensures (book_after l.zone l.default H c.args.request.now) _ over))
 
 pub returns-clause-sound : goal.returns-clause-sound
 returns-clause-sound g c = rw (← c.self.view_is) (λ kept sound.
     let l = c.self.inside in
     let old = state g.S.Store l.connection in
     let H = (book_in l.zone l.default old.now).history in
-    let b : Book = book_of l.zone l.default (with_arrival l.zone l.default H c.args.request.now) in
+    let b : Book = book_after l.zone l.default H c.args.request.now in
     let over = (c.in_ok-reply.ensures.applied kept H (book_had l.zone l.default old sound)).1 in
     sound_with b (state g.S.Store c.apply.new.connection) kept over (c.tables_mean_their_book.ensures b _ over))
