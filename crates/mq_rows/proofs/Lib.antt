@@ -6,4 +6,5 @@ pub mod Lookups
 pub mod Numbered
 pub mod Pages
 pub mod Replies
+pub mod Rightness
 pub mod Trans

@@ -1,6 +1,9 @@
+pub mod Audit
+pub mod Figured
 pub mod Found
 pub mod Listing
 pub mod Meaning
+pub mod Pair
 pub mod Plan
 pub mod Storable
 pub mod Repeat

@@ -2,6 +2,7 @@
 //! a request does to them, and that it leads from the rows of a history to those of the next.
 #![tactic(auto)]
 
+mod audited;
 mod body;
 pub mod laws;
 mod plan;
@@ -12,6 +13,7 @@ mod setting;
 mod usage;
 mod write;
 
+pub use audited::{Audit, LimitFigures, Pair, TransactionFigures, UsageFigures};
 pub use body::Body;
 pub use plan::{Found, Plan, Write};
 pub use record::{
