@@ -1,3 +1,4 @@
+pub mod Booking
 pub mod Ceilings
 pub mod Days
 pub mod Distinct

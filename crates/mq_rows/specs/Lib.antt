@@ -1,4 +1,5 @@
 pub mod Audit
+pub mod Books
 pub mod Figured
 pub mod Found
 pub mod Listing

@@ -4,6 +4,7 @@
 
 mod audited;
 mod body;
+mod books;
 pub mod laws;
 mod plan;
 mod record;
