@@ -34,7 +34,7 @@ pub pair_itself : (p : Pair) → same_pair p p ≡ true
 pair_itself p = rw (text_itself p.login, (signed_Decides p.day p.day).1 refl) refl
 
 -- texts compare equal where they are the same
-texts_tied : (a b : List ℕ) → is_eq (slice_cmp nat_cmp a b) ≡ same_text b a
+pub texts_tied : (a b : List ℕ) → is_eq (slice_cmp nat_cmp a b) ≡ same_text b a
 texts_tied a b = sym (texts_ties a b) ∙ nat_list_eq_equiv.symm a b
 
 pub pair_tied : (p q : Pair) → is_eq (pair_cmp q p) ≡ same_pair p q

@@ -65,6 +65,11 @@ all_at P [] x all i = absurd i
 all_at P (y ∷ xs) x all (inl e) = subst P e all.0
 all_at P (y ∷ xs) x all (inr i) = all_at P xs x all.1 i
 
+pub in_contains : {X : Type 0} (xs : List X) (x : X) → In x xs → Contains xs x
+in_contains [] x i = absurd i
+in_contains (y ∷ xs) x (inl e) = (0, omega arith, e)
+in_contains (y ∷ xs) x (inr i) = (let r = in_contains xs x i in (suc r.0, omega (arith, r.1), r.2))
+
 -- what is found is there and passes
 pub record Found {X : Type 0} (p : X → Bool) (xs : List X) (x : X) : Type 0 where
   pub among : In x xs
@@ -304,11 +309,6 @@ module _ (l : List ℕ) (d : ℕ) where
     | inr f ↦ (let e : pick l d (Some b) c ≡ Some b = rw f refl in
         subst (λ o. IsBest l d (Some b) (c ∷ cs) (fold (pick l d) o cs)) (sym e) (passed_over (Some b) c cs _ f (best_of (Some b) cs)))
   ]
-
-  in_contains : {X : Type 0} (xs : List X) (x : X) → In x xs → Contains xs x
-  in_contains [] x i = absurd i
-  in_contains (y ∷ xs) x (inl e) = (0, omega arith, e)
-  in_contains (y ∷ xs) x (inr i) = (let r = in_contains xs x i in (suc r.0, omega (arith, r.1), r.2))
 
   governing_of : (cs : List CeilingRecord) (g : Option CeilingRecord) → IsBest l d None cs g → IsGoverning l d cs g
   governing_of cs None h = h.1

@@ -2,6 +2,7 @@ pub mod Audit
 pub mod Books
 pub mod Figured
 pub mod Found
+pub mod Inside
 pub mod Listing
 pub mod Meaning
 pub mod Pair

@@ -1,7 +1,8 @@
 //! What an audit keeps by pair of a login and day.
-ghost use Rattle.std.specs.Prelude.{◌≡◌, ℕ, ◌+◌, IfOk};
+ghost use Rattle.std.specs.Prelude.{◌≡◌, ℕ, ◌+◌, List, IfOk};
 ghost use Rattle.mq_ledger.specs.Day.{day_of};
-ghost use Rattle.mq_rows.specs.Audit.{is_moment_of};
+ghost use Rattle.mq_rows.specs.Audit.{is_moment_of, cap_or, governing};
+ghost use Rattle.mq_rows.specs.declared.audited.LimitFigures.{LimitFigures as AnyLimit};
 ghost use Rattle.mq_rows.specs.Books.{with_row, sums_or, AreSumsOf, HasSums, HasUsage, HasCaps, amounts_of};
 
 use crate::audited::{LimitFigures, Pair, TransactionFigures, UsageFigures};
@@ -26,6 +27,13 @@ pub(crate) struct Amounts {
     pub(crate) reserved: i64,
 }
 
+impl Amounts {
+    pub(crate) const NOTHING: Amounts = Amounts {
+        settled: 0,
+        reserved: 0,
+    };
+}
+
 /// Whether it is a moment in range, of that day.
 fn is_moment_of(zone: Zone, day: i64, moment: i64) -> bool
     ensures { result ≡ is_moment_of (day_of zone) day moment }
@@ -37,7 +45,7 @@ fn is_moment_of(zone: Zone, day: i64, moment: i64) -> bool
 }
 
 impl Sums {
-    const NOTHING: Sums = Sums {
+    pub(crate) const NOTHING: Sums = Sums {
         settled: 0,
         held: 0,
         are_dated: true,
@@ -106,4 +114,19 @@ pub(crate) fn caps_by_pair(
         caps.insert(row.pair.clone()?, first)?;
     }
     Ok(caps)
+}
+
+/// The limit of a pair: that of the login's latest day up to the pair's, or the default.
+pub(crate) fn cap_of(caps: &BTreeMap<Pair, i64>, default: u32, pair: &Pair) -> i64
+    ensures { (limits : List AnyLimit) → HasCaps limits caps.now
+        → result ≡ cap_or default (governing pair.now limits) }
+{
+    let Some((from, cap)) = caps.range(..=pair).next_back() else {
+        return i64::from(default);
+    };
+    if from.login == pair.login {
+        *cap
+    } else {
+        i64::from(default)
+    }
 }

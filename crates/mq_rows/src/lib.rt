@@ -3,6 +3,7 @@
 #![tactic(auto)]
 
 mod audited;
+mod auditing;
 mod body;
 mod books;
 pub mod laws;
@@ -15,6 +16,7 @@ mod usage;
 mod write;
 
 pub use audited::{Audit, LimitFigures, Pair, TransactionFigures, UsageFigures};
+pub use auditing::audit;
 pub use body::Body;
 pub use plan::{Found, Plan, Write};
 pub use record::{
