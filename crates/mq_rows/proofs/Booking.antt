@@ -1,7 +1,6 @@
 -- One row more, kept by its pair.
-use Rattle.std.proofs.Common.{◌≡◌, ℕ, suc, pos, ◌+◌, ◌*◌, ◌<◌, ◌≤◌, List, [], ◌∷◌, ◌++◌, Bool, true, false, refl, ◌∙◌, ap, sym, subst, inl, inr, arith}
-use Rattle.std.specs.Prelude.{ℤ, ◌+ℤ◌, ◌≤ℤ◌, filter, find, ◌&&◌, cond, if◌then◌else◌, Option, Some, None, option_map, unwrap_or, FitsSigned}
-use Rattle.std.specs.BTreeMap.{BTreeMap, get}
+use Rattle.std.proofs.Common.{◌≡◌, ℕ, ◌+◌, ◌≤◌, List, [], ◌∷◌, ◌++◌, Bool, true, false, refl, ◌∙◌, ap, sym, subst, inl, inr, arith}
+use Rattle.std.specs.Prelude.{ℤ, ◌+ℤ◌, filter, find, ◌&&◌, cond, if◌then◌else◌, Option, Some, None, option_map, unwrap_or}
 use Rattle.std.specs.Cmp.{signed_Decides, tied_then}
 use Rattle.std.specs.Cmp.Lexicographic.{texts_ties, nat_list_eq_equiv, slice_cmp}
 use Rattle.std.specs.List.{list_all}
@@ -13,8 +12,8 @@ use Rattle.mq_frame.specs.Same.{same_text}
 use Rattle.mq_rows.specs.declared.audited.Pair.{Pair}
 use Rattle.mq_rows.specs.declared.audited.TransactionFigures.{TransactionFigures}
 use Rattle.mq_rows.specs.declared.books.Sums.{Sums}
-use Rattle.mq_rows.specs.Audit.{total, transactions_of, is_moment_of, are_dated}
-use Rattle.mq_rows.specs.Books.{sums_or, sums_of, with_row, IsSumOf, AreSumsOf, HasSums}
+use Rattle.mq_rows.specs.Audit.{total, transactions_of, is_moment_of}
+use Rattle.mq_rows.specs.Books.{sums_or, sums_of, with_row, IsSumOf, AreSumsOf}
 use Rattle.mq_rows.specs.Pair.{pair_cmp, same_pair}
 use Rattle.mq_rows.proofs.Lists.{either, text_is, text_itself}
 

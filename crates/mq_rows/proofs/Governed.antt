@@ -1,15 +1,14 @@
 -- The limit that governs a pair, and how it is found by its key.
-use Rattle.std.proofs.Common.{◌≡◌, ℕ, suc, pos, ◌+◌, ◌<◌, ◌≤◌, List, [], ◌∷◌, ◌++◌, length, Bool, true, false, refl, ◌∙◌, ap, sym, subst, inl, inr, arith}
-use Rattle.std.specs.Prelude.{ℤ, ◌+ℤ◌, ◌≤ℤ◌, ◌<ℤ◌, find, fold, ◌&&◌, ◌⊎◌, int_le, int_lt, if◌then◌else◌, Option, Some, None, option_map, IsSome}
+use Rattle.std.proofs.Common.{◌≡◌, ℕ, pos, List, [], ◌∷◌, ◌++◌, Bool, true, false, refl, ◌∙◌, ap, sym, subst, inl, inr, arith}
+use Rattle.std.specs.Prelude.{ℤ, ◌≤ℤ◌, ◌<ℤ◌, find, fold, ◌&&◌, ◌⊎◌, int_le, int_lt, if◌then◌else◌, Option, Some, None, option_map, IsSome}
 use Rattle.std.specs.BTreeMap.{BTreeMap, get}
-use Rattle.std.specs.BTreeMap.Range.{IsRangeOf, IsInRange}
+use Rattle.std.specs.BTreeMap.Range.{IsRangeOf}
 use Rattle.std.specs.declared.ops.Bound.TheVariants.{Included, Unbounded}
 use Rattle.std.specs.declared.cmp.Ordering.{Ordering}
 use Rattle.std.specs.declared.cmp.Ordering.TheVariants.{Less, Equal, Greater}
-use Rattle.std.specs.Cmp.{signed_Decides}
 use Rattle.std.specs.Cmp.Lexicographic.{slice_cmp}
 use Rattle.std.specs.List.{AllByRecursion}
-use Rattle.std.specs.Ordering.{is_eq, is_lt, is_gt, int_eq, nat_cmp, int_cmp, ordering_then}
+use Rattle.std.specs.Ordering.{is_eq, is_lt, is_gt, nat_cmp, int_cmp, ordering_then}
 use Rattle.std.proofs.lemmas.Int.{ints}
 use Rattle.mq_frame.specs.Same.{same_text}
 use Rattle.mq_rows.specs.declared.audited.LimitFigures.{LimitFigures}
@@ -18,22 +17,25 @@ use Rattle.mq_rows.specs.Audit.{is_due, is_later, governing, cap_or}
 use Rattle.mq_rows.specs.Books.{HasCaps}
 use Rattle.mq_rows.specs.Pair.{pair_cmp, same_pair}
 use Rattle.mq_rows.proofs.Booking.{pair_is, pair_itself, texts_tied}
-use Rattle.mq_rows.proofs.Lists.{either, option_cases, text_is, text_itself}
-use Rattle.mq_rows.proofs.Rightness.{Found, found, In, all_at}
+use Rattle.mq_rows.proofs.Lists.{either, text_is, text_itself}
+use Rattle.mq_rows.proofs.Rightness.{found, all_at}
 
 -- Tests of whole numbers.
 
-lt_so : (a b : ℤ) → int_lt a b ≡ true → a <ℤ b
+pub lt_so : (a b : ℤ) → int_lt a b ≡ true → a <ℤ b
 lt_so a b h = grind (arith, ints)
 
-lt_not : (a b : ℤ) → int_lt a b ≡ false → b ≤ℤ a
+pub lt_not : (a b : ℤ) → int_lt a b ≡ false → b ≤ℤ a
 lt_not a b h = grind (arith, ints)
 
 le_so : (a b : ℤ) → int_le a b ≡ true → a ≤ℤ b
 le_so a b h = grind (arith, ints)
 
-so_le : (a b : ℤ) → a ≤ℤ b → int_le a b ≡ true
+pub so_le : (a b : ℤ) → a ≤ℤ b → int_le a b ≡ true
 so_le a b h = grind (arith, ints)
+
+pub not_le : (a b : ℤ) → b <ℤ a → int_le a b ≡ false
+not_le a b h = grind (arith, ints)
 
 both_parts : (a b : Bool) → (a && b) ≡ true → (a ≡ true) × (b ≡ true)
 both_parts true b h = (refl, h)

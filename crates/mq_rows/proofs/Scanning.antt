@@ -1,13 +1,12 @@
 -- The least of the pairs that aren't right.
-use Rattle.std.proofs.Common.{◌≡◌, ℕ, suc, pos, List, [], ◌∷◌, ◌++◌, map, Bool, true, false, refl, ◌∙◌, ap, sym, subst, inl, inr, arith}
-use Rattle.std.specs.Prelude.{ℤ, ◌+ℤ◌, fold, find, ◌&&◌, ◌⊎◌, if◌then◌else◌, Option, Some, None, option_map, unwrap_or, Contains}
+use Rattle.std.proofs.Common.{◌≡◌, List, [], ◌∷◌, ◌++◌, Bool, true, false, refl, ◌∙◌, ap, sym, subst, inl, inr}
+use Rattle.std.specs.Prelude.{◌⊎◌, Option, Some, None, Contains}
 use Rattle.std.specs.Cmp.{tied_itself, upto}
 use Rattle.std.specs.declared.cmp.Ordering.{Ordering}
 use Rattle.std.specs.declared.cmp.Ordering.TheVariants.{Less, Equal, Greater}
 use Rattle.std.specs.List.{AllByRecursion}
 use Rattle.std.specs.Ordering.{is_lt, is_gt, ordering_reverse}
 use Rattle.mq_rows.specs.declared.audited.Pair.{Pair}
-use Rattle.mq_rows.specs.Audit.{Figures, is_right, is_right_by, IsLeastWrong, pairs, settled_by, reserved_by, cap_or, governing, transactions_of}
 use Rattle.mq_rows.specs.Books.{less_wrong, least_wrong}
 use Rattle.mq_rows.specs.Pair.{pair_cmp, pair_cmp_total, is_before}
 use Rattle.mq_rows.proofs.Lists.{either}

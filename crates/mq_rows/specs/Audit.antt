@@ -1,6 +1,7 @@
 -- When what the tables say of a login and day is right, whatever their rows hold.
 use Rattle.std.specs.Prelude.{◌≡◌, ℕ, ℤ, pos, negsuc, ◌+ℤ◌, List, [], ◌∷◌, ◌++◌, map, length, filter, find, fold}
-use Rattle.std.specs.Prelude.{Bool, true, false, ◌&&◌, if◌then◌else◌, nat_le, int_le, int_lt, Option, Some, None, Contains}
+use Rattle.std.specs.Prelude.{Bool, true, false, ◌&&◌, if◌then◌else◌, nat_le}
+use Rattle.std.specs.Prelude.{int_le, int_lt, Option, Some, None, Contains}
 use Rattle.std.specs.List.{AllByRecursion, list_all}
 use Rattle.std.specs.Ordering.{int_eq}
 use Rattle.mq_frame.specs.declared.format.TheConstants.{FIRST_MOMENT, LAST_MOMENT}

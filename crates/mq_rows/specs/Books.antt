@@ -1,5 +1,5 @@
 -- What an audit keeps by pair, and what it tells of the rows.
-use Rattle.std.specs.Prelude.{◌≡◌, ℕ, ◌+◌, ◌*◌, ◌≤◌, ℤ, pos, ◌+ℤ◌, ◌≤ℤ◌, List, Bool, true, ◌&&◌, Option, Some, None}
+use Rattle.std.specs.Prelude.{◌≡◌, ℕ, ◌*◌, ℤ, pos, ◌+ℤ◌, ◌≤ℤ◌, List, Bool, true, ◌&&◌, Option, Some, None}
 use Rattle.std.specs.Prelude.{option_map, find, fold, if◌then◌else◌}
 use Rattle.std.specs.BTreeMap.{BTreeMap, get}
 use Rattle.mq_rows.specs.Audit.{Figures, total, transactions_of, is_moment_of, are_dated}

@@ -1,4 +1,4 @@
-use Rattle.std.proofs.Common.{◌≡◌, ◌∙◌, ap, subst, sym, arith, ℕ, pos, true, refl}
+use Rattle.std.proofs.Common.{◌≡◌, ◌∙◌, ap, subst, sym, ℕ, pos, true, refl}
 use Rattle.std.specs.Prelude.{cond, Some, None, Option, unwrap_or}
 use Rattle.std.specs.BTreeMap.{get}
 use Rattle.std.specs.Ordering.{is_eq}
@@ -7,7 +7,7 @@ use Rattle.mq_ledger.specs.Day.{day_of}
 use Rattle.mq_rows.specs.declared.books.Sums.{Sums}
 use Rattle.mq_rows.specs.Books.{sums_or, with_row, AreSumsOf}
 use Rattle.mq_rows.specs.Pair.{pair_cmp}
-use Rattle.mq_rows.proofs.Booking.{one_more_sum, room_kept, all_wider}
+use Rattle.mq_rows.proofs.Booking.{one_more_sum, room_kept}
 use Rattle.mq_rows.proofs.books.sums_by_pair.Goals as goal
 
 abbrev nothing : Sums

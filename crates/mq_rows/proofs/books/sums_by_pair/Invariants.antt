@@ -1,4 +1,4 @@
-use Rattle.std.proofs.Common.{take, ◌≡◌}
+use Rattle.std.proofs.Common.{take}
 use Rattle.std.specs.BTreeMap.{get}
 use Rattle.mq_ledger.specs.Day.{day_of}
 use Rattle.mq_rows.specs.Books.{HasSums, AreSumsOf, sums_or}

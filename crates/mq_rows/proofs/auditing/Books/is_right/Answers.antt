@@ -1,13 +1,13 @@
-use Rattle.std.proofs.Common.{◌≡◌, ◌∙◌, ap, pos, true, refl}
+use Rattle.std.proofs.Common.{◌≡◌, ◌∙◌, ap, pos, true, refl, to_z, of_z, w64, arith}
 use Rattle.std.specs.Prelude.{find, Option, Some, None, option_map, unwrap_or}
-use Rattle.std.specs.BTreeMap.{get}
+use Rattle.std.proofs.lemmas.Int.{ints}
 use Rattle.mq_rows.specs.declared.audited.UsageFigures.{UsageFigures}
 use Rattle.mq_rows.specs.declared.books.Amounts.{Amounts}
 use Rattle.mq_rows.specs.declared.books.Sums.{Sums}
 use Rattle.mq_rows.specs.Audit.{settled_by, reserved_by, cap_or, governing, transactions_of}
 use Rattle.mq_rows.specs.Books.{amounts_of, sums_or, sums_of}
 use Rattle.mq_rows.specs.Inside.{are_right}
-use Rattle.mq_rows.specs.Pair.{pair_cmp, same_pair}
+use Rattle.mq_rows.specs.Pair.{same_pair}
 use Rattle.mq_rows.proofs.auditing.Books.is_right.Goals as goal
 
 abbrev no_amounts : Amounts
@@ -34,5 +34,6 @@ returns c = λ day f books.
     c.unwrap_or-usage.ensures ∙ ap (λ o. unwrap_or o no_amounts) (c.copied.ensures ∙ c.get.ensures.value ∙ books.usage p) ∙ amounts_or (find (λ u. same_pair p u.pair) f.usage) in
     let s : c.unwrap_or-sums.result ≡ sums_of day (transactions_of p f.transactions) =
     c.unwrap_or-sums.ensures ∙ or_no_sums c.copied-2.result ∙ ap sums_or (c.copied-2.ensures ∙ c.get-2.ensures.value) ∙ books.sums p in
-    let k : c.cap_of.result ≡ cap_or c.args.self.now.default (governing p f.limits) = c.cap_of.ensures f.limits books.caps in
+    let exact : to_z w64 (of_z w64 c.cap_of.result) ≡ c.cap_of.result = omega (arith, ints) in
+    let k : to_z w64 (of_z w64 c.cap_of.result) ≡ cap_or c.args.self.now.default (governing p f.limits) = exact ∙ c.cap_of.ensures f.limits books.caps in
     c.are_right.ensures ∙ (λ i. are_right (u i) (s i) (k i))

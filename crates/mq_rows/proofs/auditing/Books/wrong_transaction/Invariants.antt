@@ -1,5 +1,4 @@
 use Rattle.std.proofs.Common.{◌≡◌, ℕ, map, take}
-use Rattle.std.specs.Prelude.{None}
 use Rattle.mq_rows.specs.declared.audited.TransactionFigures.{TransactionFigures}
 use Rattle.mq_rows.specs.Audit.{Figures, is_right}
 use Rattle.mq_rows.specs.Books.{AreBooksOf, least_wrong}
