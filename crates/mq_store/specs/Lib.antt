@@ -3,3 +3,4 @@ pub mod Opening
 pub mod Soundness
 pub mod Taking
 pub mod Paging
+pub mod Auditing

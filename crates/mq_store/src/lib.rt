@@ -2,6 +2,7 @@
 #![tactic(auto)]
 
 mod apply;
+mod auditing;
 mod fault;
 mod laws;
 mod ledger;
