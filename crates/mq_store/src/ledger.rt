@@ -7,15 +7,18 @@ ghost use Rattle.mq_ledger.specs.Day.{IsOffset};
 ghost use Rattle.mq_tables.specs.Making.{has_ledger_table, AreUnnamed, HasCounters, IsMadeOver, AreMadeOver};
 ghost use Rattle.mq_tables.specs.Reading.{Spares};
 ghost use Rattle.mq_tables.specs.Settings.{SettingRow, HasSetting};
+ghost use Rattle.mq_store.specs.Auditing.{IsAuditIn};
 ghost use Rattle.mq_store.specs.Opening.{made_with, IsJudged, IsOf};
 ghost use Rattle.mq_store.specs.Soundness.{HasKept, IsNew, IsOpened};
 ghost use Rattle.mq_store.specs.declared.fault.OpenFault.TheVariants.{NotOurs};
 
 use crate::apply::apply;
+use crate::auditing::audit_store;
 use crate::fault::{OpenFault, OpenRefused, judged};
 use crate::laws::tables_mean_their_book;
 use mq_frame::{Reply, Request};
 use mq_ledger::{Ledger, LedgerFault, Zone};
+use mq_rows::Audit;
 use mq_tables::create::make_ledger;
 use mq_tables::names::has_ledger_table;
 use mq_tables::setting::{NewSetting, read_setting};
@@ -201,6 +204,26 @@ impl<S: Alter> SqlLedger<S> {
             }),
             Some(fault) => Err(OpenRefused { fault, connection }),
         }
+    }
+
+    /// Whether each pair of a login and day is right by all rows of `usage`, `trans` and `ceiling`,
+    /// whatever they hold; else the least pair that isn't. Nothing is written.
+    ///
+    /// A pair is right where what its row of `usage` has settled and reserved is what its
+    /// transactions settled and hold, exactly, where both together are within its limit, and where
+    /// each of its transactions has a moment of its day. It reads all these rows into memory. The
+    /// fault is `Memory`, or `Store` where a statement was refused for another cause.
+    pub fn audit(&mut self) -> Result<Audit, LedgerFault>
+        ensures lent { (self.new.zone ≡ self.old.zone) × (self.new.default ≡ self.old.default) }
+        ensures audited { HasKept (state S.Store self.new.connection)
+            → IfOk result (IsAuditIn self.old.zone self.old.default (state S.Store self.old.connection).now) }
+        ensures same { HasKept (state S.Store self.new.connection)
+            → (state S.Store self.new.connection).now ≡ (state S.Store self.old.connection).now }
+        ensures kept { HasKept (state S.Store self.new.connection)
+            → HasKept (state S.Store self.old.connection) }
+    {
+        let found = audit_store(self.alloc, &mut self.connection, self.zone, self.default)?;
+        Ok(found)
     }
 
     /// The connection, with the tables as they are.

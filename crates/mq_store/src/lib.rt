@@ -13,3 +13,4 @@ mod write;
 
 pub use fault::{OpenFault, OpenRefused};
 pub use ledger::SqlLedger;
+pub use mq_rows::Audit;
