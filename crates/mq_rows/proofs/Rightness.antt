@@ -1,11 +1,17 @@
 -- The pairs of the rows of a legal history are right.
-use Rattle.std.proofs.Common.{◌≡◌, ℕ, suc, pos, ◌+◌, ◌≤◌, List, [], ◌∷◌, ◌++◌, map, length, Bool, true, false, refl, ◌∙◌, ap, sym, subst, inl, inr, arith}
+use Rattle.std.proofs.Common.{◌<◌, ◌≡◌, ℕ, suc, pos, ◌+◌, ◌≤◌, List, [], ◌∷◌, ◌++◌, map, length, Bool, true, false, refl, ◌∙◌, ap, sym, subst, inl, inr, arith}
 use Rattle.std.specs.Prelude.{ℤ, ◌+ℤ◌, filter, find, fold, sum_by, ◌&&◌, ◌==◌, ◌⊎◌, nat_le, nat_lt, int_le, if◌then◌else◌, Option, Some, None, option_map, is_some, All, Contains}
 use Rattle.std.specs.List.{AllByRecursion, list_any}
 use Rattle.std.specs.Ordering.{int_eq}
 use Rattle.std.specs.Cmp.{signed_Decides}
 use Rattle.std.proofs.lemmas.Bool.Decides.{nat_tests}
 use Rattle.std.proofs.lemmas.List.Sums.{sum_by-cons}
+use Rattle.std.specs.List.{swap}
+use Rattle.std.specs.List.Sorted.{IsPermutation}
+use Rattle.std.proofs.Common.{get_or}
+use Rattle.std.proofs.Math.ListN.{set}
+use Rattle.std.proofs.lemmas.List.{map-set, get_or-map, length-map}
+use Rattle.std.proofs.lemmas.List.Sorted.{IsPermutation-refl, IsPermutation-trans, IsPermutation-swap, IsPermutation-keeps}
 use Rattle.std.proofs.lemmas.List.Elements.{All-head}
 use Rattle.mq_frame.specs.declared.message.Request.{Request}
 use Rattle.mq_frame.specs.declared.message.Request.TheVariants.{Reserve, Settle, Release, Limit, Usage, List as ListRequest}
@@ -23,15 +29,15 @@ use Rattle.mq_rows.specs.declared.audited.Pair.{Pair}
 use Rattle.mq_rows.specs.declared.audited.TransactionFigures.{TransactionFigures}
 use Rattle.mq_rows.specs.declared.audited.LimitFigures.{LimitFigures}
 use Rattle.mq_rows.specs.Audit as audit
-use Rattle.mq_rows.specs.Audit.{total, transactions_of, is_moment_of, are_dated, is_right, is_right_by, pairs}
+use Rattle.mq_rows.specs.Audit.{Figures, total, transactions_of, is_moment_of, are_dated, is_right, is_right_by, pairs}
 use Rattle.mq_rows.specs.Figured.{usage_figures, transaction_figures, limit_figures, figures}
 use Rattle.mq_rows.specs.Found.{is_due, IsGoverning}
 use Rattle.mq_rows.specs.Pair.{same_pair}
 use Rattle.mq_rows.specs.Plan.{key_of, cap_by}
-use Rattle.mq_rows.specs.Rows.{login_of, moment_of, transaction_of, transaction_row, usage_row, is_transaction, is_usage}
+use Rattle.mq_rows.specs.Rows.{login_of, moment_of, transaction_of, transaction_row, usage_row, ceiling_row, is_transaction, is_usage, is_ceiling}
 use Rattle.mq_rows.specs.Tables.{Tables, those, AreTransactions, AreUsage, AreCeilings}
 use Rattle.mq_rows.proofs.Replies.{Governs, governs}
-use Rattle.mq_rows.proofs.Lists.{either, option_cases, number_is, number_itself, none_pass, those_are_found, find_of_those}
+use Rattle.mq_rows.proofs.Lists.{either, option_cases, number_is, number_itself, none_pass, those_are_found, find_of_those, in_any_order}
 
 -- Numbers.
 
@@ -403,3 +409,46 @@ module _ (day : ℕ → ℕ) (default : ℕ) (H : List Entry) (laws : Laws day d
 
   pub all_right : AllByRecursion (λ p. is_right day default (figures t) p ≡ true) (pairs (figures t))
   all_right = paired (λ p. is_right day default (figures t) p ≡ true) right_here t.usage t.transactions
+
+-- The rows in another order.
+
+pub record Unmapped {X Y : Type 0} (f : X → Y) (xs : List X) (ys : List Y) : Type 0 where
+  pub source : List X
+  pub mapped : map f source ≡ ys
+  pub same : IsPermutation xs source
+
+mapped_swap : {X Y : Type 0} (f : X → Y) (xs : List X) (i j : ℕ) → i < length xs → j < length xs → map f (swap xs i j) ≡ swap (map f xs) i j
+mapped_swap f [] i j h k = refl
+mapped_swap f (x ∷ xs) i j h k =
+    let one = get_or-map f (x ∷ xs) i x (f x) h in
+    let two = get_or-map f (x ∷ xs) j x (f x) k in
+    map-set f (set (x ∷ xs) i (get_or (x ∷ xs) j x)) j (get_or (x ∷ xs) i x)
+    ∙ ap (λ l. set l j (f (get_or (x ∷ xs) i x))) (map-set f (x ∷ xs) i (get_or (x ∷ xs) j x))
+    ∙ (λ n. set (set (map f (x ∷ xs)) i (sym two n)) j (sym one n))
+
+pub unmapped : {X Y : Type 0} (f : X → Y) (xs : List X) (ys : List Y) → IsPermutation (map f xs) ys → Unmapped f xs ys
+unmapped f xs ys = IsPermutation-keeps (map f xs) (Unmapped f xs) (record { source = xs; mapped = refl; same = IsPermutation-refl xs })
+    (λ l i j h k u. let n : length u.source ≡ length l = sym (length-map u.source f) ∙ ap length u.mapped in
+    let i_in : i < length u.source = omega (arith, n) in
+    let j_in : j < length u.source = omega (arith, n) in
+    record {
+      source = swap u.source i j;
+      mapped = mapped_swap f u.source i j i_in j_in ∙ ap (λ xs. swap xs i j) u.mapped;
+      same = IsPermutation-trans _ _ _ u.same (IsPermutation-swap u.source (swap u.source i j) i j i_in j_in refl);
+    }) ys
+
+module _ (day : ℕ → ℕ) (default : ℕ) (H : List Entry) (laws : Laws day default H) (t : Tables)
+    (are_transactions : AreTransactions day H t.transactions) (are_usage : AreUsage day H t.usage) (are_ceilings : AreCeilings H t.ceilings) where
+  pub reordered_right : (g : Figures) → IsPermutation (figures t).usage g.usage → IsPermutation (figures t).transactions g.transactions → IsPermutation (figures t).limits g.limits
+      → AllByRecursion (λ p. is_right day default g p ≡ true) (pairs g)
+  reordered_right g same_usage same_transactions same_limits =
+      let us = unmapped usage_figures t.usage g.usage same_usage in
+      let ts = unmapped transaction_figures t.transactions g.transactions same_transactions in
+      let cs = unmapped limit_figures t.ceilings g.limits same_limits in
+      let other : Tables = record t { transactions = ts.source; usage = us.source; ceilings = cs.source } in
+      let is : figures other ≡ g = λ i. record { usage = us.mapped i; transactions = ts.mapped i; limits = cs.mapped i } in
+      subst (λ f. AllByRecursion (λ p. is_right day default f p ≡ true) (pairs f)) is
+      (all_right day default H laws other
+      (λ k. in_any_order (is_transaction k) t.transactions ts.source ts.same (transaction_row day H k) (are_transactions k))
+      (λ l d. in_any_order (is_usage l d) t.usage us.source us.same (usage_row day H l d) (are_usage l d))
+      (λ l d. in_any_order (is_ceiling l d) t.ceilings cs.source cs.same (ceiling_row H l d) (are_ceilings l d)))

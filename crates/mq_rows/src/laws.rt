@@ -33,7 +33,7 @@ ghost use Rattle.mq_rows.specs.Plan.{held_by, decided, transaction_write, usage_
 ghost use Rattle.mq_rows.specs.Plan.{may_be_found, Leads, same_key, set_transaction, same_day, set_usage, same_from};
 ghost use Rattle.mq_rows.specs.Plan.{set_ceiling};
 ghost use Rattle.mq_rows.specs.Written.{LeadTo};
-ghost use Rattle.mq_rows.specs.Audit.{is_right, pairs};
+ghost use Rattle.mq_rows.specs.Audit.{Figures, is_right, pairs};
 ghost use Rattle.mq_rows.specs.Figured.{figures};
 
 use mq_frame::laws::{bodies_are_read_back, one_spelling};
@@ -260,10 +260,12 @@ pub fn pages_go_by_login()
     page_is_first();
 }
 
-/// In the rows of a legal history each pair of a login and day is right.
+/// In the rows of a legal history, in any order, each pair of a login and day is right.
 pub fn histories_are_right()
-    ensures { (b : Book) (t : Tables) → IsLegalBook b → AreRows b t →
-        AllByRecursion (λ p. is_right (day_of b.zone) b.default (figures t) p ≡ true) (pairs (figures t)) }
+    ensures { (b : Book) (t : Tables) (f : Figures) → IsLegalBook b → AreRows b t →
+        IsPermutation (figures t).usage f.usage → IsPermutation (figures t).transactions f.transactions →
+        IsPermutation (figures t).limits f.limits →
+        AllByRecursion (λ p. is_right (day_of b.zone) b.default f p ≡ true) (pairs f) }
 {
     sums_over_transactions();
     used_where_reserved();

@@ -1,10 +1,10 @@
 use Rattle.mq_ledger.specs.Day.{day_of}
 use Rattle.mq_rows.proofs.Replies.{Governs}
-use Rattle.mq_rows.proofs.Rightness.{Laws, all_right}
+use Rattle.mq_rows.proofs.Rightness.{Laws, reordered_right}
 use Rattle.mq_rows.proofs.laws.histories_are_right.Goals as goal
 
 pub returns : goal.returns
-returns c = λ b t legal are.
+returns c = λ b t f legal are usage transactions limits.
     let gs : Governs b.default b.history = record {
       none = λ l d none. c.latest_limit_governs.ensures.none b.default b.history l d none;
       latest = λ l d from n before set_is none. c.latest_limit_governs.ensures.latest b.default b.history l d from n before set_is none;
@@ -18,4 +18,4 @@ returns c = λ b t legal are.
       range = legal.legal.range;
       governs = gs;
     } in
-    all_right (day_of b.zone) b.default b.history laws t are.transactions are.usage are.ceilings
+    reordered_right (day_of b.zone) b.default b.history laws t are.transactions are.usage are.ceilings f usage transactions limits
