@@ -3,3 +3,4 @@ pub mod Faults
 pub mod Keyed
 pub mod Sound
 pub mod Writing
+pub mod Audits

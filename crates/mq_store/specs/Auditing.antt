@@ -5,6 +5,7 @@ use Rattle.sqlite.specs.Effect.{Database}
 use Rattle.mq_ledger.specs.declared.zone.Zone.{Zone}
 use Rattle.mq_ledger.specs.Day.{day_of}
 use Rattle.mq_rows.specs.declared.audited.Audit.{Audit}
+use Rattle.mq_rows.specs.declared.audited.Audit.TheVariants.{Sound, Wrong}
 use Rattle.mq_rows.specs.Audit.{Figures, IsAudited}
 use Rattle.mq_tables.specs.Figures.{HasFigures}
 
@@ -23,3 +24,8 @@ pub record IsAuditOf (zone : Zone) (default : ℕ) (f : Figures) (a : Audit) : T
 -- so it is of the figures of all rows that the store has
 abbrev pub IsAuditIn : Zone → ℕ → Database → Audit → Type 0
 IsAuditIn zone default db a = (f : Figures) → HasFigures db f → IsAuditOf zone default f a
+
+-- it says that each pair is right
+abbrev pub IsRightAnswer : Audit → Type 0
+IsRightAnswer (Sound days transactions) = Unit {0}
+IsRightAnswer (Wrong login day) = ⊥

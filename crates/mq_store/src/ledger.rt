@@ -7,15 +7,15 @@ ghost use Rattle.mq_ledger.specs.Day.{IsOffset};
 ghost use Rattle.mq_tables.specs.Making.{has_ledger_table, AreUnnamed, HasCounters, IsMadeOver, AreMadeOver};
 ghost use Rattle.mq_tables.specs.Reading.{Spares};
 ghost use Rattle.mq_tables.specs.Settings.{SettingRow, HasSetting};
-ghost use Rattle.mq_store.specs.Auditing.{IsAuditIn};
+ghost use Rattle.mq_store.specs.Auditing.{IsAuditIn, IsRightAnswer};
 ghost use Rattle.mq_store.specs.Opening.{made_with, IsJudged, IsOf};
-ghost use Rattle.mq_store.specs.Soundness.{HasKept, IsNew, IsOpened};
+ghost use Rattle.mq_store.specs.Soundness.{HasKept, IsSound, IsNew, IsOpened};
 ghost use Rattle.mq_store.specs.declared.fault.OpenFault.TheVariants.{NotOurs};
 
 use crate::apply::apply;
 use crate::auditing::audit_store;
 use crate::fault::{OpenFault, OpenRefused, judged};
-use crate::laws::tables_mean_their_book;
+use crate::laws::{books_are_right, tables_mean_their_book};
 use mq_frame::{Reply, Request};
 use mq_ledger::{Ledger, LedgerFault, Zone};
 use mq_rows::Audit;
@@ -217,11 +217,17 @@ impl<S: Alter> SqlLedger<S> {
         ensures lent { (self.new.zone ≡ self.old.zone) × (self.new.default ≡ self.old.default) }
         ensures audited { HasKept (state S.Store self.new.connection)
             → IfOk result (IsAuditIn self.old.zone self.old.default (state S.Store self.old.connection).now) }
+
+        // Over a sound store it is never wrong.
+        ensures sound { HasKept (state S.Store self.new.connection)
+            → IsSound self.old.zone self.old.default (state S.Store self.old.connection)
+            → IfOk result IsRightAnswer }
         ensures same { HasKept (state S.Store self.new.connection)
             → (state S.Store self.new.connection).now ≡ (state S.Store self.old.connection).now }
         ensures kept { HasKept (state S.Store self.new.connection)
             → HasKept (state S.Store self.old.connection) }
     {
+        books_are_right();
         let found = audit_store(self.alloc, &mut self.connection, self.zone, self.default)?;
         Ok(found)
     }
