@@ -1,9 +1,13 @@
+pub mod Booking
 pub mod Ceilings
 pub mod Days
 pub mod Distinct
+pub mod Governed
 pub mod Lists
 pub mod Lookups
 pub mod Numbered
 pub mod Pages
 pub mod Replies
+pub mod Rightness
+pub mod Scanning
 pub mod Trans

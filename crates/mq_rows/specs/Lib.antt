@@ -1,6 +1,11 @@
+pub mod Audit
+pub mod Books
+pub mod Figured
 pub mod Found
+pub mod Inside
 pub mod Listing
 pub mod Meaning
+pub mod Pair
 pub mod Plan
 pub mod Storable
 pub mod Repeat

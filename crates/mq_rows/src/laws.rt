@@ -33,12 +33,14 @@ ghost use Rattle.mq_rows.specs.Plan.{held_by, decided, transaction_write, usage_
 ghost use Rattle.mq_rows.specs.Plan.{may_be_found, Leads, same_key, set_transaction, same_day, set_usage, same_from};
 ghost use Rattle.mq_rows.specs.Plan.{set_ceiling};
 ghost use Rattle.mq_rows.specs.Written.{LeadTo};
+ghost use Rattle.mq_rows.specs.Audit.{Figures, is_right, pairs};
+ghost use Rattle.mq_rows.specs.Figured.{figures};
 
 use mq_frame::laws::{bodies_are_read_back, one_spelling};
 use mq_ledger::laws::{
     amounts_in_range, built_is_legal, latest_limit_governs, one_more_arrival, one_more_limit,
     one_more_of_a_transaction, one_more_on_a_day, open_transactions, over_is_least, page_is_first,
-    replies_in_range, replies_suit, used_where_reserved,
+    replies_in_range, replies_suit, sums_over_transactions, used_where_reserved, within_limits,
 };
 
 /// The rows of a history are its rows in any order.
@@ -256,4 +258,18 @@ pub fn pages_go_by_login()
         map (λ u. u.login) us ≡ page day H d after }
 {
     page_is_first();
+}
+
+/// In the rows of a legal history, in any order, each pair of a login and day is right.
+pub fn histories_are_right()
+    ensures { (b : Book) (t : Tables) (f : Figures) → IsLegalBook b → AreRows b t →
+        IsPermutation (figures t).usage f.usage → IsPermutation (figures t).transactions f.transactions →
+        IsPermutation (figures t).limits f.limits →
+        AllByRecursion (λ p. is_right (day_of b.zone) b.default f p ≡ true) (pairs f) }
+{
+    sums_over_transactions();
+    used_where_reserved();
+    within_limits();
+    latest_limit_governs();
+    open_transactions();
 }

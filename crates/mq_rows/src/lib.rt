@@ -2,7 +2,10 @@
 //! a request does to them, and that it leads from the rows of a history to those of the next.
 #![tactic(auto)]
 
+mod audited;
+mod auditing;
 mod body;
+mod books;
 pub mod laws;
 mod plan;
 mod record;
@@ -12,6 +15,8 @@ mod setting;
 mod usage;
 mod write;
 
+pub use audited::{Audit, LimitFigures, Pair, TransactionFigures, UsageFigures};
+pub use auditing::audit;
 pub use body::Body;
 pub use plan::{Found, Plan, Write};
 pub use record::{

@@ -5,3 +5,4 @@ pub mod Firsts
 pub mod Keyed
 pub mod Sound
 pub mod Writing
+pub mod Audits

@@ -4,3 +4,4 @@ pub mod Soundness
 pub mod Taking
 pub mod Paging
 pub mod Crash
+pub mod Auditing

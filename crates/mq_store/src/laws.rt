@@ -15,6 +15,7 @@ ghost use Rattle.mq_ledger.specs.Arrivals.{id_of};
 ghost use Rattle.mq_ledger.specs.Day.{day_of};
 ghost use Rattle.mq_ledger.specs.Page.{row};
 ghost use Rattle.mq_ledger.specs.Legal.{Book, IsLegalBook};
+ghost use Rattle.mq_rows.specs.declared.audited.Audit.{Audit as AnyAudit};
 ghost use Rattle.mq_rows.specs.declared.record.AnswerRecord.{AnswerRecord};
 ghost use Rattle.mq_rows.specs.declared.record.UsageRecord.{UsageRecord};
 ghost use Rattle.mq_rows.specs.declared.record.CeilingRecord.{CeilingRecord};
@@ -28,13 +29,14 @@ ghost use Rattle.mq_rows.specs.Tables.{Tables, AreRows};
 ghost use Rattle.mq_tables.specs.Finding.{AreKeyed};
 ghost use Rattle.mq_tables.specs.Records.{IsOneOf};
 ghost use Rattle.mq_store.specs.Paging.{IsNextRow, IsPageOf, IsBegunIn};
+ghost use Rattle.mq_store.specs.Auditing.{IsAuditIn, IsRightAnswer};
 ghost use Rattle.mq_store.specs.Soundness.{book_in};
 ghost use Rattle.mq_store.specs.Taking.{HasRows, HasBook, book_of, book_after, IsKnown, AppliesOver, IsPlannedOver};
 
 use mq_ledger::laws::replies_in_range;
 use mq_rows::laws::{
-    nothing_is_added, one_more_answer, pages_go_by_login, repeats_are_answered, rows_by_key,
-    rows_mean_their_history, usage_is_answered,
+    histories_are_right, nothing_is_added, one_more_answer, pages_go_by_login,
+    repeats_are_answered, rows_by_key, rows_mean_their_history, usage_is_answered,
 };
 
 /// A number without a row is new, and by a row the reply is the ledger's.
@@ -117,4 +119,12 @@ pub(crate) fn tables_mean_their_book()
     ensures { (b : Book) (db : Database) → HasBook b db → book_in b.zone b.default db ≡ b }
 {
     rows_mean_their_history();
+}
+
+/// An audit of the rows of a legal history finds each pair right.
+pub(crate) fn books_are_right()
+    ensures { (b : Book) (db : Database) (a : AnyAudit) →
+        HasBook b db → IsAuditIn b.zone b.default db a → IsRightAnswer a }
+{
+    histories_are_right();
 }

@@ -10,16 +10,19 @@ ghost use Rattle.mq_ledger.specs.History.{requests};
 ghost use Rattle.mq_tables.specs.Making.{has_ledger_table, AreUnnamed, HasCounters, IsMadeOver, AreMadeOver};
 ghost use Rattle.mq_tables.specs.Reading.{Spares};
 ghost use Rattle.mq_tables.specs.Settings.{SettingRow, HasSetting};
+ghost use Rattle.mq_store.specs.Auditing.{IsAuditIn, IsRightAnswer};
 ghost use Rattle.mq_store.specs.Crash.{LeavesNew, LeavesOld, AreApplied};
 ghost use Rattle.mq_store.specs.Opening.{made_with, create_fault, IsJudged, IsOf};
 ghost use Rattle.mq_store.specs.Soundness.{book_in, HasKept, IsSound, IsNew, IsOpened};
 ghost use Rattle.mq_store.specs.declared.fault.OpenFault.TheVariants.{NotOurs, Memory, Store};
 
 use crate::apply::apply;
+use crate::auditing::audit_store;
 use crate::fault::{OpenFault, OpenRefused, judged};
-use crate::laws::tables_mean_their_book;
+use crate::laws::{books_are_right, tables_mean_their_book};
 use mq_frame::{Reply, Request};
 use mq_ledger::{Ledger, LedgerFault, Zone};
+use mq_rows::Audit;
 use mq_tables::create::make_ledger;
 use mq_tables::names::has_ledger_table;
 use mq_tables::setting::{NewSetting, read_setting};
@@ -218,6 +221,32 @@ impl<S: Alter> SqlLedger<S> {
             }),
             Some(fault) => Err(OpenRefused { fault, connection }),
         }
+    }
+
+    /// Whether each pair of a login and day is right by all rows of `usage`, `trans` and `ceiling`,
+    /// whatever they hold; else the least pair that isn't. Nothing is written.
+    ///
+    /// A pair is right where what its row of `usage` has settled and reserved is what its
+    /// transactions settled and hold, exactly, where both together are within its limit, and where
+    /// each of its transactions has a moment of its day. It reads all these rows into memory. The
+    /// fault is `Memory`, or `Store` where a statement was refused for another cause.
+    pub fn audit(&mut self) -> Result<Audit, LedgerFault>
+        ensures lent { (self.new.zone ≡ self.old.zone) × (self.new.default ≡ self.old.default) }
+        ensures audited { HasKept (state S.Store self.new.connection)
+            → IfOk result (IsAuditIn self.old.zone self.old.default (state S.Store self.old.connection).now) }
+
+        // Over a sound store it is never wrong.
+        ensures sound { HasKept (state S.Store self.new.connection)
+            → IsSound self.old.zone self.old.default (state S.Store self.old.connection)
+            → IfOk result IsRightAnswer }
+        ensures same { HasKept (state S.Store self.new.connection)
+            → (state S.Store self.new.connection).now ≡ (state S.Store self.old.connection).now }
+        ensures kept { HasKept (state S.Store self.new.connection)
+            → HasKept (state S.Store self.old.connection) }
+    {
+        books_are_right();
+        let found = audit_store(self.alloc, &mut self.connection, self.zone, self.default)?;
+        Ok(found)
     }
 
     /// The connection, with the tables as they are. It is outside a transaction.

@@ -2,6 +2,7 @@
 #![tactic(auto)]
 
 mod apply;
+mod auditing;
 mod fault;
 mod laws;
 mod ledger;
@@ -12,3 +13,4 @@ mod write;
 
 pub use fault::{OpenFault, OpenRefused};
 pub use ledger::SqlLedger;
+pub use mq_rows::Audit;

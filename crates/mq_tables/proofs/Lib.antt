@@ -46,3 +46,7 @@ pub mod NextReads
 pub mod ArrivalText
 pub mod ArrivalReads
 pub mod Keyed
+pub mod AllUsageText
+pub mod AllTransText
+pub mod AllCeilingText
+pub mod FigureReads

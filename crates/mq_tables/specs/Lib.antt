@@ -14,3 +14,4 @@ pub mod Governing
 pub mod Over
 pub mod Paging
 pub mod Finding
+pub mod Figures

@@ -1,0 +1,169 @@
+-- What the queries for an audit answer of the figures.
+use Rattle.std.proofs.Common.{◌≡◌, ℕ, ℤ, pos, nat_le, List, [], ◌∷◌, ◌++◌, drop, map, filter, true, false, Ok, Err, Result, refl, sym, ap, subst, subst₂, ◌∙◌}
+use Rattle.std.specs.Prelude.{Vec, IfOk}
+use Rattle.std.specs.declared.alloc.Global.{Global}
+use Rattle.std.specs.List.{list_all}
+use Rattle.std.specs.List.Sorted.{IsPermutation}
+use Rattle.std.proofs.lemmas.List.Sorted.{IsPermutation-map}
+use Rattle.sqlite_trees.proofs.ListLemmas.{map-map}
+use Rattle.sqlite.specs.Order.{Row, column}
+use Rattle.sqlite.specs.Term.{eval_all, holds}
+use Rattle.sqlite.specs.declared.types.Value.TheVariants.{Null, Int, Blob}
+use Rattle.sqlite.specs.declared.error.Error.{Error}
+use Rattle.sqlite.specs.State.{State, Shown}
+use Rattle.sqlite.proofs.Callers.{IsPlain, command_of}
+use Rattle.mq_rows.specs.declared.audited.LimitFigures.{LimitFigures}
+use Rattle.mq_rows.specs.declared.audited.TransactionFigures.{TransactionFigures}
+use Rattle.mq_rows.specs.declared.audited.UsageFigures.{UsageFigures}
+use Rattle.mq_rows.specs.declared.audited.Pair.{Pair}
+use Rattle.mq_rows.specs.Audit.{Figures}
+use Rattle.mq_tables.specs.Figures.{HasFigures, WholeTransaction, whole_cells, usage_cells, transaction_cells, limit_cells, IsUsageRead, IsTransactionRead, IsLimitRead, usage_columns, transaction_columns, limit_columns}
+use Rattle.mq_tables.specs.Records.{Holds}
+use Rattle.mq_tables.proofs.Firsts as firsts
+use Rattle.mq_tables.proofs.Plain.{any_apart}
+use Rattle.mq_tables.proofs.AllUsageText as usage_query
+use Rattle.mq_tables.proofs.AllTransText as trans_query
+use Rattle.mq_tables.proofs.AllCeilingText as ceiling_query
+
+all_pass : {R : Type 0} (rows : List R) → filter (λ _. true) rows ≡ rows
+all_pass [] = refl
+all_pass (r ∷ rows) = ap (λ xs. r ∷ xs) (all_pass rows)
+
+-- usage
+
+tied_usage : (r : Row) → list_all (holds ([] ∷ r ∷ [])) [] ≡ list_all (holds ([] ∷ (Null ∷ drop 1 r) ∷ [])) []
+tied_usage r = refl
+
+shows_usage : (r : Row) → eval_all usage_query.shown_terms ([] ∷ r ∷ []) ≡ eval_all usage_query.shown_terms ([] ∷ (Null ∷ drop 1 r) ∷ [])
+shows_usage [] = refl
+shows_usage (x ∷ r) = refl
+
+usage_shown : (old new : State) (rows : List Row) → Shown usage_query.select_text [] old new rows → (f : Figures) → HasFigures old.now f → IsPermutation (map usage_cells f.usage) rows
+usage_shown old new rows h f l =
+    let is = usage_query.understood_so old.now.schema l.usage_tree l.usage in
+    let all = firsts.shows_all usage_cells [] usage_query.shown_terms [] tied_usage shows_usage usage_query.select_text usage_query.names old new l.usage_tree rows f.usage (ap command_of is) (subst IsPlain (sym is) (refl, refl))
+    (any_apart usage_query.select_text usage_query.select_parsed usage_query.select_query usage_query.select_unlisted old.now.schema (usage_query.select_compiled l.usage_tree) is) l.usage.stored l.holds_usage h in
+    subst (λ xs. IsPermutation (map usage_cells xs) rows) (all_pass f.usage) all
+
+pub usage_found : (old new : State) (outcome : Result (Vec Row Global) Error) → IfOk outcome (λ rows. Shown usage_query.select_text [] old new rows.items)
+    → IfOk outcome (λ rows. (f : Figures) → HasFigures old.now f → IsPermutation (map usage_cells f.usage) rows.items)
+usage_found old new (Ok rows) h = usage_shown old new rows.items h
+usage_found old new (Err e) h = tt
+
+abbrev usage_back : Row → UsageFigures
+usage_back (Blob l ∷ Int d ∷ Int s ∷ Int r ∷ []) = record { pair = record { login = l; day = d }; settled = s; reserved = r }
+usage_back _ = record { pair = record { login = []; day = pos 0 }; settled = pos 0; reserved = pos 0 }
+
+usage_back_is : (xs : List UsageFigures) → map usage_back (map usage_cells xs) ≡ xs
+usage_back_is [] = refl
+usage_back_is (x ∷ xs) = ap (λ ys. x ∷ ys) (usage_back_is xs)
+
+usage_again : (xs : List UsageFigures) → map usage_columns (map usage_cells xs) ≡ map usage_cells xs
+usage_again [] = refl
+usage_again (x ∷ xs) = ap (λ ys. usage_cells x ∷ ys) (usage_again xs)
+
+pub usage_read : (Held : Figures → Type 0) (rows : List Row) (outcome : Result (Vec UsageFigures Global) Error) → ((f : Figures) → Held f → IsPermutation (map usage_cells f.usage) rows)
+    → IfOk outcome (λ read. map usage_columns rows ≡ map usage_cells read.items) → IfOk outcome (λ read. (f : Figures) → Held f → IsPermutation f.usage read.items)
+usage_read Held rows (Ok read) same is = λ f l.
+    let columns = IsPermutation-map usage_columns _ _ (same f l) in
+    let cells : IsPermutation (map usage_cells f.usage) (map usage_cells read.items) = subst₂ IsPermutation (usage_again f.usage) is columns in
+    subst₂ IsPermutation (usage_back_is f.usage) (usage_back_is read.items) (IsPermutation-map usage_back _ _ cells)
+usage_read Held rows (Err e) same is = tt
+
+pub usage_more : (row : Row) (x : UsageFigures) → IsUsageRead row x → usage_columns row ≡ usage_cells x
+usage_more row x is = λ i. is.login i ∷ is.day i ∷ is.settled i ∷ is.reserved i ∷ []
+
+-- trans
+
+tied_transactions : (r : Row) → list_all (holds ([] ∷ r ∷ [])) [] ≡ list_all (holds ([] ∷ (Null ∷ drop 1 r) ∷ [])) []
+tied_transactions r = refl
+
+shows_transactions : (r : Row) → eval_all trans_query.shown_terms ([] ∷ r ∷ []) ≡ eval_all trans_query.shown_terms ([] ∷ (Null ∷ drop 1 r) ∷ [])
+shows_transactions [] = refl
+shows_transactions (x ∷ r) = refl
+
+transactions_shown : (old new : State) (rows : List Row) → Shown trans_query.select_text [] old new rows → (f : Figures) → HasFigures old.now f → IsPermutation (map transaction_cells f.transactions) rows
+transactions_shown old new rows h f l =
+    let is = trans_query.understood_so old.now.schema l.trans_tree l.trans in
+    let all = firsts.shows_all whole_cells [] trans_query.shown_terms [] tied_transactions shows_transactions trans_query.select_text trans_query.names old new l.trans_tree rows l.whole (ap command_of is) (subst IsPlain (sym is) (refl, refl))
+    (any_apart trans_query.select_text trans_query.select_parsed trans_query.select_query trans_query.select_unlisted old.now.schema (trans_query.select_compiled l.trans_tree) is) l.trans.stored l.holds_trans h in
+    let kept : IsPermutation (map (λ (w : WholeTransaction). transaction_cells w.figures) l.whole) rows = subst (λ ws. IsPermutation (map (λ (w : WholeTransaction). transaction_cells w.figures) ws) rows) (all_pass l.whole) all in
+    let same : map (λ (w : WholeTransaction). transaction_cells w.figures) l.whole ≡ map transaction_cells f.transactions = sym (map-map transaction_cells (λ (w : WholeTransaction). w.figures) l.whole) ∙ ap (map transaction_cells) (sym l.transactions) in
+    subst (λ xs. IsPermutation xs rows) same kept
+
+pub transactions_found : (old new : State) (outcome : Result (Vec Row Global) Error) → IfOk outcome (λ rows. Shown trans_query.select_text [] old new rows.items)
+    → IfOk outcome (λ rows. (f : Figures) → HasFigures old.now f → IsPermutation (map transaction_cells f.transactions) rows.items)
+transactions_found old new (Ok rows) h = transactions_shown old new rows.items h
+transactions_found old new (Err e) h = tt
+
+abbrev transactions_back : Row → TransactionFigures
+transactions_back (Blob l ∷ Int d ∷ Int m ∷ Int h ∷ Int s ∷ []) = record { pair = record { login = l; day = d }; moment = m; held = h; settled = s }
+transactions_back _ = record { pair = record { login = []; day = pos 0 }; moment = pos 0; held = pos 0; settled = pos 0 }
+
+transactions_back_is : (xs : List TransactionFigures) → map transactions_back (map transaction_cells xs) ≡ xs
+transactions_back_is [] = refl
+transactions_back_is (x ∷ xs) = ap (λ ys. x ∷ ys) (transactions_back_is xs)
+
+transactions_again : (xs : List TransactionFigures) → map transaction_columns (map transaction_cells xs) ≡ map transaction_cells xs
+transactions_again [] = refl
+transactions_again (x ∷ xs) = ap (λ ys. transaction_cells x ∷ ys) (transactions_again xs)
+
+pub transactions_read : (Held : Figures → Type 0) (rows : List Row) (outcome : Result (Vec TransactionFigures Global) Error) → ((f : Figures) → Held f → IsPermutation (map transaction_cells f.transactions) rows)
+    → IfOk outcome (λ read. map transaction_columns rows ≡ map transaction_cells read.items) → IfOk outcome (λ read. (f : Figures) → Held f → IsPermutation f.transactions read.items)
+transactions_read Held rows (Ok read) same is = λ f l.
+    let columns = IsPermutation-map transaction_columns _ _ (same f l) in
+    let cells : IsPermutation (map transaction_cells f.transactions) (map transaction_cells read.items) = subst₂ IsPermutation (transactions_again f.transactions) is columns in
+    subst₂ IsPermutation (transactions_back_is f.transactions) (transactions_back_is read.items) (IsPermutation-map transactions_back _ _ cells)
+transactions_read Held rows (Err e) same is = tt
+
+pub transactions_more : (row : Row) (x : TransactionFigures) → IsTransactionRead row x → transaction_columns row ≡ transaction_cells x
+transactions_more row x is = λ i. is.login i ∷ is.day i ∷ is.moment i ∷ is.held i ∷ is.settled i ∷ []
+
+-- ceiling
+
+tied_limits : (r : Row) → list_all (holds ([] ∷ r ∷ [])) [] ≡ list_all (holds ([] ∷ (Null ∷ drop 1 r) ∷ [])) []
+tied_limits r = refl
+
+shows_limits : (r : Row) → eval_all ceiling_query.shown_terms ([] ∷ r ∷ []) ≡ eval_all ceiling_query.shown_terms ([] ∷ (Null ∷ drop 1 r) ∷ [])
+shows_limits [] = refl
+shows_limits (x ∷ r) = refl
+
+limits_shown : (old new : State) (rows : List Row) → Shown ceiling_query.select_text [] old new rows → (f : Figures) → HasFigures old.now f → IsPermutation (map limit_cells f.limits) rows
+limits_shown old new rows h f l =
+    let is = ceiling_query.understood_so old.now.schema l.ceiling_tree l.ceiling in
+    let all = firsts.shows_all limit_cells [] ceiling_query.shown_terms [] tied_limits shows_limits ceiling_query.select_text ceiling_query.names old new l.ceiling_tree rows f.limits (ap command_of is) (subst IsPlain (sym is) (refl, refl))
+    (any_apart ceiling_query.select_text ceiling_query.select_parsed ceiling_query.select_query ceiling_query.select_unlisted old.now.schema (ceiling_query.select_compiled l.ceiling_tree) is) l.ceiling.stored l.holds_ceiling h in
+    subst (λ xs. IsPermutation (map limit_cells xs) rows) (all_pass f.limits) all
+
+pub limits_found : (old new : State) (outcome : Result (Vec Row Global) Error) → IfOk outcome (λ rows. Shown ceiling_query.select_text [] old new rows.items)
+    → IfOk outcome (λ rows. (f : Figures) → HasFigures old.now f → IsPermutation (map limit_cells f.limits) rows.items)
+limits_found old new (Ok rows) h = limits_shown old new rows.items h
+limits_found old new (Err e) h = tt
+
+abbrev limits_back : Row → LimitFigures
+limits_back (Blob l ∷ Int d ∷ Int c ∷ []) = record { pair = record { login = l; day = d }; cap = c }
+limits_back _ = record { pair = record { login = []; day = pos 0 }; cap = pos 0 }
+
+limits_back_is : (xs : List LimitFigures) → map limits_back (map limit_cells xs) ≡ xs
+limits_back_is [] = refl
+limits_back_is (x ∷ xs) = ap (λ ys. x ∷ ys) (limits_back_is xs)
+
+limits_again : (xs : List LimitFigures) → map limit_columns (map limit_cells xs) ≡ map limit_cells xs
+limits_again [] = refl
+limits_again (x ∷ xs) = ap (λ ys. limit_cells x ∷ ys) (limits_again xs)
+
+pub limits_read : (Held : Figures → Type 0) (rows : List Row) (outcome : Result (Vec LimitFigures Global) Error) → ((f : Figures) → Held f → IsPermutation (map limit_cells f.limits) rows)
+    → IfOk outcome (λ read. map limit_columns rows ≡ map limit_cells read.items) → IfOk outcome (λ read. (f : Figures) → Held f → IsPermutation f.limits read.items)
+limits_read Held rows (Ok read) same is = λ f l.
+    let columns = IsPermutation-map limit_columns _ _ (same f l) in
+    let cells : IsPermutation (map limit_cells f.limits) (map limit_cells read.items) = subst₂ IsPermutation (limits_again f.limits) is columns in
+    subst₂ IsPermutation (limits_back_is f.limits) (limits_back_is read.items) (IsPermutation-map limits_back _ _ cells)
+limits_read Held rows (Err e) same is = tt
+
+pub limits_more : (row : Row) (x : LimitFigures) → IsLimitRead row x → limit_columns row ≡ limit_cells x
+limits_more row x is = λ i. is.login i ∷ is.day i ∷ is.cap i ∷ []
+
+-- one more of a mapped list
+pub mapped_more : {X Y : Type 0} (f : X → Y) (xs : List X) (x : X) → map f (xs ++ x ∷ []) ≡ map f xs ++ f x ∷ []
+mapped_more f [] x = refl
+mapped_more f (y ∷ xs) x = ap (λ ys. f y ∷ ys) (mapped_more f xs x)
