@@ -91,4 +91,5 @@ NoneReturns s (x ∷ P) = AsksForNoClosed (view s P) x.action × NoneReturns s P
 abbrev pub Suits : Source → (n txn : ℕ) → Standing → Request → Type 0
 Suits s n txn Never q = ⊥
 Suits s n txn (Live h) q = q ≡ reserve_of s n txn h.at h.login
-Suits s n txn (Closed end seq h) q = (q ≡ reserve_of s n txn h.at h.login) ⊎ ((n ≡ seq) × (q ≡ closing_of s n txn end h))
+Suits s n txn (Closed end seq h) q = (q ≡ reserve_of s n txn h.at h.login)
+    ⊎ ((n ≡ seq) × (q ≡ closing_of s n txn end h))

@@ -239,3 +239,35 @@ fn a_thousand_recipients(rt: HostRuntime) -> Result<(), Fail> {
     assert_eq!(rt; ran.link.kept().len(), 1000);
     assert_text(&rt, alloc, &ran.text, &[wanted.as_slice()])
 }
+
+/// The parts, with so many bytes of a name between each two.
+fn parted(alloc: Global, parts: &[&[u8]], byte: u8, count: u32) -> Result<Vec<u8>, Fail> {
+    let mut text = Vec::new(alloc);
+    for (place, part) in parts.iter().enumerate() {
+        if place > 0 {
+            for _byte in 0..count {
+                text.push(byte)?;
+            }
+        }
+        text.extend_from_slice(part)?;
+    }
+    Ok(text)
+}
+
+#[test]
+fn the_longest_request(rt: HostRuntime) -> Result<(), Fail> {
+    let alloc = rt.alloc();
+    // a line of 65,536 bytes, whose session and token have 32,746 each
+    let front = b"filter|0.7|1576146010.1|smtp-in|rcpt-to|".as_slice();
+    let input = parted(alloc, &[front, b"|", b"|xy\n"], b's', 32_746)?;
+    let wanted = parted(
+        alloc,
+        &[b"filter-result|", b"|", b"|proceed\n"],
+        b's',
+        32_746,
+    )?;
+    assert_eq!(rt; input.len(), 65_536 + 1);
+    let ran = run(alloc, VecDeque::new(alloc), &[CONFIG, input.as_slice()])?;
+    assert_eq!(rt; ran.ended, ended(1, 0));
+    assert_text(&rt, alloc, &ran.text, &[REGISTRATION, wanted.as_slice()])
+}
