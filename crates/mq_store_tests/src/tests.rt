@@ -2,13 +2,15 @@
 
 mod asks;
 mod lists;
+mod stops;
 mod worked;
 
-use asks::zone;
-use mq_ledger::Ledger;
+use asks::{ask, check, new_ledger, request_of, zone};
+use mq_ledger::{Ledger, LedgerFault};
 use mq_store::{OpenFault, OpenRefused, SqlLedger};
 use sqlite::{Connection, MemStore};
 use std::test::*;
+use worked::{GRANTED_ONE, RESERVE_ONE, USAGE};
 
 type Outcome = Result<SqlLedger<MemStore>, OpenRefused<MemStore>>;
 
@@ -110,6 +112,28 @@ fn taken_apart_and_opened(rt: HostRuntime) -> Result<(), Fail> {
         .query_row("SELECT count(*) FROM note", &[])?
         .get(0)?;
     assert_eq!(rt; notes, 1);
+    Ok(())
+}
+
+/// Rows that no history has: a request that reads such a row is answered by the store's fault.
+#[test]
+fn rows_of_no_history(rt: HostRuntime) -> Result<(), Fail> {
+    let settle = "02 0161 0000000000000001 00000002 00000001 0000000000015180 0175 00000001";
+    for (text, request) in [
+        ("UPDATE usage SET settled = -1", USAGE),
+        ("UPDATE answer SET reply = x'00'", RESERVE_ONE),
+        ("UPDATE trans SET held = 4294967296", settle),
+    ] {
+        let mut ledger = new_ledger(rt.alloc(), 3)?;
+        check(&rt, rt.alloc(), &mut ledger, &[(RESERVE_ONE, GRANTED_ONE)])?;
+        let mut connection = ledger.into_connection();
+        connection.execute_batch(text)?;
+        let Ok(mut ledger) = SqlLedger::open(rt.alloc(), connection, zone(0)?, 3) else {
+            return Err(Fail::from("not opened"));
+        };
+        let request = request_of(rt.alloc(), request)?;
+        assert_eq!(rt; ask(&rt, &mut ledger, &request), Err(LedgerFault::Store));
+    }
     Ok(())
 }
 

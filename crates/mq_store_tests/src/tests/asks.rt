@@ -29,7 +29,7 @@ pub fn request_of(alloc: Global, body: &str) -> Result<Request, Fail> {
     }
 }
 
-fn reply_of(alloc: Global, body: &str) -> Result<Reply, Fail> {
+pub fn reply_of(alloc: Global, body: &str) -> Result<Reply, Fail> {
     match decode_reply(alloc, bytes_of(alloc, body)?.as_slice()) {
         Ok(reply) => Ok(reply),
         Err(_) => Err("no reply".into()),

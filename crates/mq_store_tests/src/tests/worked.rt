@@ -4,12 +4,12 @@ use super::asks::{check, new_ledger, zone};
 use mq_store::SqlLedger;
 use std::test::*;
 
-const RESERVE_ONE: &str =
+pub const RESERVE_ONE: &str =
     "01 0161 0000000000000001 00000001 00000001 0000000000015180 0175 00000001";
 
-const GRANTED_ONE: &str = "81 0161 0000000000000001 00000001 00000001";
+pub const GRANTED_ONE: &str = "81 0161 0000000000000001 00000001 00000001";
 
-const USAGE: &str = "05 0175 00000001";
+pub const USAGE: &str = "05 0175 00000001";
 
 #[test]
 fn a_repeat_counts_once(rt: HostRuntime) -> Result<(), Fail> {
@@ -127,7 +127,7 @@ fn release_of_an_unheard_transaction(rt: HostRuntime) -> Result<(), Fail> {
     )
 }
 
-const RESERVED_TWICE: [(&str, &str); 2] = [
+pub const RESERVED_TWICE: [(&str, &str); 2] = [
     (RESERVE_ONE, GRANTED_ONE),
     (
         "01 0161 0000000000000001 00000002 00000001 0000000000015180 0175 00000001",
@@ -135,7 +135,7 @@ const RESERVED_TWICE: [(&str, &str); 2] = [
     ),
 ];
 
-const SETTLED_ONCE: [(&str, &str); 3] = [
+pub const SETTLED_ONCE: [(&str, &str); 3] = [
     (
         "02 0161 0000000000000001 00000003 00000001 0000000000015180 0175 00000001",
         "83 0161 0000000000000001 00000003 00000001",
