@@ -1,5 +1,5 @@
 //! A connection that is open, and its turns: none waits for the peer, so none holds back another connection.
-ghost use Rattle.std.specs.Prelude.{◌≡◌, ◌≤◌, length};
+ghost use Rattle.std.specs.Prelude.{◌≡◌, ◌≤◌};
 
 use crate::portion::portion_of;
 use mq_frame::{FromRead, ToWrite};
@@ -117,7 +117,7 @@ impl Guest {
         self.answer(clock, alloc, bytes, timeout, ledger)
     }
 
-    /// Answers so many bytes of what is held. Where the store failed, nothing more is waited for.
+    /// Answers at most so many bytes of what is held. Where the store failed, nothing more is waited for.
     fn answer<C: Clock, L: Ledger>(
         &mut self,
         clock: &C,
@@ -126,12 +126,12 @@ impl Guest {
         timeout: Duration,
         ledger: &mut L,
     ) -> Turn
-        requires { bytes ≤ length self.old.held }
         ensures same_zone { (L.book ledger.new).zone ≡ (L.book ledger.old).zone }
         ensures same_default { (L.book ledger.new).default ≡ (L.book ledger.old).default }
         ensures kept { L.has_kept ledger.new → L.has_kept ledger.old }
         ensures sound { L.has_kept ledger.new → L.is_sound ledger.old → L.is_sound ledger.new }
     {
+        let bytes = bytes.min(self.held.len());
         let mut input = FromRead::new(&self.held[..bytes]);
         let mut output = ToWrite::new(Vec::new(alloc));
         let ended = serve(alloc, &mut input, &mut output, ledger);
