@@ -1,6 +1,7 @@
 //! Stores of others, and a ledger's own taken apart and opened; what a ledger replies.
 
 mod asks;
+mod audits;
 mod lists;
 mod stops;
 mod worked;
