@@ -177,6 +177,19 @@ fn ends_by_the_input(rt: HostRuntime) -> Result<(), Fail> {
     Ok(())
 }
 
+/// A page of a list, and the empty one behind it.
+#[test]
+fn answers_a_list(rt: HostRuntime) -> Result<(), Fail> {
+    let alloc = rt.alloc();
+    let frames = [RESERVE, "0006 06 00000001 00", "0007 06 00000001 0175"];
+    let page = "0014 8c 00000001 01 0175 00000000 00000001 00000003";
+    let input = bytes_of_all(alloc, &frames)?;
+    let output = bytes_of_all(alloc, &[GRANTED, page, "0006 8c 00000001 00"])?;
+    let mut ledger = ledger(alloc)?;
+    check_served(&rt, alloc, &mut ledger, &input, Served::InputEnd, &output);
+    Ok(())
+}
+
 /// Serves frames that come and are answered in short pieces: so much is written.
 fn check_pieces(
     rt: &impl Abort,
