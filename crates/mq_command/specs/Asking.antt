@@ -1,5 +1,6 @@
 -- What an administrator's question to the quota server brings.
-use Rattle.std.specs.Prelude.{◌≡◌, ◌<◌, ◌==◌, ℕ, List, [], ◌∷◌, ◌++◌, Bool, true, false, length, ◌&&◌, ◌⊎◌, Option, Result, Ok, Err, codes}
+use Rattle.std.specs.Prelude.{◌≡◌, ◌<◌, ◌==◌, ℕ, List, [], ◌∷◌, ◌++◌, Bool, true, false, length, ◌&&◌, ◌⊎◌, Option}
+use Rattle.std.specs.Prelude.{Result, Ok, Err, codes}
 use Rattle.std.specs.List.{All}
 use Rattle.std.specs.Io.KnownBytes.{Appends, Keeps}
 use Rattle.mq_frame.specs.Range.{IsRequest}
@@ -94,11 +95,16 @@ abbrev pub set_line : List ℕ
 set_line = codes "set\n"
 
 -- What sending a limit leads to: `set` is printed only where the server has set it.
-abbrev pub Limits : Request → Option (List Told) → Option (List Told) → Option (List ℕ) → Option (List ℕ) → Result (Unit {0}) SetFault → Type 0
-Limits request told told' old new (Ok _) = (id : Id) × IsAnswered request (says.LimitSet id) told told' × Appends old new set_line
-Limits request told told' old new (Err Write) = (id : Id) × IsAnswered request (says.LimitSet id) told told' × AppendsFront old new set_line
-Limits request told told' old new (Err (Over day used)) = (id : Id) × IsAnswered request (says.Over id day used) told told' × Keeps old new
-Limits request told told' old new (Err Conflict) = (id : Id) × IsAnswered request (says.Conflict id) told told' × Keeps old new
+abbrev pub Limits : Request → Option (List Told) → Option (List Told) → Option (List ℕ) → Option (List ℕ)
+    → Result (Unit {0}) SetFault → Type 0
+Limits request told told' old new (Ok _) =
+    (id : Id) × IsAnswered request (says.LimitSet id) told told' × Appends old new set_line
+Limits request told told' old new (Err Write) =
+    (id : Id) × IsAnswered request (says.LimitSet id) told told' × AppendsFront old new set_line
+Limits request told told' old new (Err (Over day used)) =
+    (id : Id) × IsAnswered request (says.Over id day used) told told' × Keeps old new
+Limits request told told' old new (Err Conflict) =
+    (id : Id) × IsAnswered request (says.Conflict id) told told' × Keeps old new
 Limits request told told' old new (Err (Unanswered fault)) = Asks request told told' (Err fault) × Keeps old new
 
 -- 0 where all is done and printed, else 1

@@ -1,5 +1,6 @@
 -- The connections that a text of hexadecimal lines spells.
-use Rattle.std.specs.Prelude.{ℕ, ◌+◌, ◌==◌, nat_lt, Bool, not, List, [], filter, map, position, length, Option, option_map, is_err}
+use Rattle.std.specs.Prelude.{ℕ, ◌+◌, ◌==◌, nat_lt, Bool, not, List, [], filter, map, position, length, Option}
+use Rattle.std.specs.Prelude.{option_map, is_err}
 use Rattle.std.specs.List.{slice_split, flat_map}
 use Rattle.std.specs.Result.{result_unwrap_or}
 use Rattle.hex.specs.Hex.{decode_of}
@@ -30,4 +31,5 @@ first_not_hex text = option_map (λ k. k + 1) (position is_not_hex (lines_of tex
 
 -- the bytes of each connection: those of the lines between two empty lines, where there are any
 abbrev pub connections_of : List ℕ → List (List ℕ)
-connections_of text = filter (λ bytes. nat_lt 0 (length bytes)) (map (flat_map bytes_of) (slice_split is_empty_line (lines_of text)))
+connections_of text =
+    filter (λ bytes. nat_lt 0 (length bytes)) (map (flat_map bytes_of) (slice_split is_empty_line (lines_of text)))

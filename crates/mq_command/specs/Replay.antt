@@ -29,7 +29,8 @@ ending_of ends.Memory = Some Memory
 
 -- the connections with such an end, by their numbers, of which the first is this
 abbrev pub faults_from : ℕ → List ConnectionEnd → List (ℕ × Ending)
-faults_from number all = filter_map (λ e. option_map (λ ending. (e.0, ending)) (ending_of e.1)) (enumerate_from number all)
+faults_from number all =
+    filter_map (λ e. option_map (λ ending. (e.0, ending)) (ending_of e.1)) (enumerate_from number all)
 
 -- the connections with such an end, by their numbers from 1
 abbrev pub faults_of : List ConnectionEnd → List (ℕ × Ending)
@@ -40,11 +41,13 @@ abbrev pub empty_book : ℤ → ℕ → Book
 empty_book zone default = record { zone = zone; default = default; history = [] }
 
 -- Connections were served in turn over a new ledger: this was written on each, and each ended so.
-pub record IsReplay (zone : ℤ) (default : ℕ) (connections written : List (List ℕ)) (all : List ConnectionEnd) : Type 0 where
+pub record IsReplay (zone : ℤ) (default : ℕ) (connections written : List (List ℕ))
+    (all : List ConnectionEnd) : Type 0 where
   pub seen : List Delivery
   pub left : List (Option (List ℕ))
   pub each : length written ≡ length connections
-  pub served : AreServed (empty_book zone default) [] (wires (map Some connections) (map (λ _. Some []) connections)) (wires left (map Some written)) (map result_of all) seen
+  pub served : AreServed (empty_book zone default) [] (wires (map Some connections) (map (λ _. Some []) connections))
+      (wires left (map Some written)) (map result_of all) seen
 
 -- why a text is refused; want of memory may come before another cause but its size
 abbrev pub IsTextRefusal : List ℕ → TextFault → Type 0
@@ -53,7 +56,8 @@ IsTextRefusal text (refused.NotHex number) = first_not_hex text ≡ Some number
 IsTextRefusal text refused.Memory = Unit {0}
 
 -- the connections of a text were served, with these written and these ends
-pub record IsReplayOf (zone : ℤ) (default : ℕ) (text : List ℕ) (written : List (List ℕ)) (all : List ConnectionEnd) : Type 0 where
+pub record IsReplayOf (zone : ℤ) (default : ℕ) (text : List ℕ) (written : List (List ℕ))
+    (all : List ConnectionEnd) : Type 0 where
   pub hex : first_not_hex text ≡ None
   pub replay : IsReplay zone default (connections_of text) written all
 
@@ -61,11 +65,14 @@ pub record IsReplayOf (zone : ℤ) (default : ℕ) (text : List ℕ) (written : 
 -- of the serving as a whole leaves the output as it was.
 abbrev pub Replays : ℤ → ℕ → List ℕ → Option (List ℕ) → Option (List ℕ) → Result (Unit {0}) ReplayFault → Type 0
 Replays zone default text old new (Ok _) =
-    (written : List (List ℕ)) × (all : List ConnectionEnd) × IsReplayOf zone default text written all × (faults_of all ≡ []) × Appends old new (hex_lines written)
+    (written : List (List ℕ)) × (all : List ConnectionEnd) × IsReplayOf zone default text written all
+    × (faults_of all ≡ []) × Appends old new (hex_lines written)
 Replays zone default text old new (Err (Connection number ending)) =
-    (written : List (List ℕ)) × (all : List ConnectionEnd) × IsReplayOf zone default text written all × (slice_get (faults_of all) 0 ≡ Some (number, ending)) × Appends old new (hex_lines written)
+    (written : List (List ℕ)) × (all : List ConnectionEnd) × IsReplayOf zone default text written all
+    × (slice_get (faults_of all) 0 ≡ Some (number, ending)) × Appends old new (hex_lines written)
 Replays zone default text old new (Err (Output fault)) =
-    (written : List (List ℕ)) × (all : List ConnectionEnd) × IsReplayOf zone default text written all × AppendsFront old new (hex_lines written)
+    (written : List (List ℕ)) × (all : List ConnectionEnd) × IsReplayOf zone default text written all
+    × AppendsFront old new (hex_lines written)
 Replays zone default text old new (Err (Text fault)) = IsTextRefusal text fault × Keeps old new
 Replays zone default text old new (Err (Serve fault)) = Keeps old new
 

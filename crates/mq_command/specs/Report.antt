@@ -1,6 +1,7 @@
 -- What `report` prints of the usage of a day.
 use Rattle.std.specs.Ordering.{nat_cmp}
-use Rattle.std.specs.Prelude.{◌≡◌, ◌<◌, ◌+◌, ◌-◌, ℕ, List, [], ◌∷◌, ◌++◌, ◌⊎◌, length, replicate, Option, None, Some, Result, Ok, Err, ⊤}
+use Rattle.std.specs.Prelude.{◌≡◌, ◌<◌, ◌+◌, ◌-◌, ℕ, List, [], ◌∷◌, ◌++◌, ◌⊎◌, length, replicate, Option, None, Some}
+use Rattle.std.specs.Prelude.{Result, Ok, Err, ⊤}
 use Rattle.std.specs.declared.cmp.Ordering.TheVariants.{Less}
 use Rattle.std.specs.Cmp.Lexicographic.{slice_cmp}
 use Rattle.std.specs.Fmt.{decimal}
@@ -65,27 +66,44 @@ output_fault outputs.Write = Write
 output_fault outputs.Memory = Memory
 
 -- so many full pages that were accepted, each behind the one before; the last ends at this login
-pub data AreFullPages (day : ℕ) (start : Option (List Told)) : ℕ → List ℕ → Option (List Told) → List UsageRow → Type 0 where
+pub data AreFullPages (day : ℕ) (start : Option (List Told)) : ℕ → List ℕ → Option (List Told) → List UsageRow
+    → Type 0 where
   no_page : AreFullPages day start 0 [] start []
-  page : (count : ℕ) (after : List ℕ) (mid new : Option (List Told)) (rows more : List UsageRow) → AreFullPages day start count after mid rows → IsPage day after mid new more → length more ≡ 100 → AreFullPages day start (count + 1) (last_login after more) new (rows ++ more)
+  page : (count : ℕ) (after : List ℕ) (mid new : Option (List Told)) (rows more : List UsageRow)
+      → AreFullPages day start count after mid rows → IsPage day after mid new more → length more ≡ 100
+      → AreFullPages day start (count + 1) (last_login after more) new (rows ++ more)
 
 -- full pages were accepted, fewer than 100,000 of them, and this is known of what follows them
 abbrev pub AfterPages : ℕ → Option (List Told) → (List ℕ → Option (List Told) → List UsageRow → Type 0) → Type 0
-AfterPages day start Next = (count : ℕ) × (after : List ℕ) × (mid : Option (List Told)) × (rows : List UsageRow) × (count < 100000) × AreFullPages day start count after mid rows × Next after mid rows
+AfterPages day start Next =
+    (count : ℕ) × (after : List ℕ) × (mid : Option (List Told)) × (rows : List UsageRow) × (count < 100000)
+    × AreFullPages day start count after mid rows × Next after mid rows
 
 -- one page more was accepted, and a front of the lines of all pages is printed
-abbrev pub PrintsFront : ℕ → Option (List Told) → Option (List ℕ) → Option (List ℕ) → List ℕ → Option (List Told) → List UsageRow → Type 0
-PrintsFront day told old new after mid rows = (more : List UsageRow) × IsPage day after mid told more × AppendsFront old new (report_lines (rows ++ more))
+abbrev pub PrintsFront : ℕ → Option (List Told) → Option (List ℕ) → Option (List ℕ) → List ℕ → Option (List Told)
+    → List UsageRow → Type 0
+PrintsFront day told old new after mid rows =
+    (more : List UsageRow) × IsPage day after mid told more × AppendsFront old new (report_lines (rows ++ more))
 
 -- The report of all logins: a line for each row of the pages, of which the last alone has fewer than 100 rows. Where it
 -- isn't done, the lines of the pages that were accepted; a front of them where the output or memory fails.
-abbrev pub ReportsAll : ℕ → Option (List Told) → Option (List Told) → Option (List ℕ) → Option (List ℕ) → Result (Unit {0}) ReportFault → Type 0
-ReportsAll day told told' old new (Ok _) = AfterPages day told (λ after mid rows. (more : List UsageRow) × IsPage day after mid told' more × (length more < 100) × Appends old new (report_lines (rows ++ more)))
-ReportsAll day told told' old new (Err (Unanswered fault)) = AfterPages day told (λ after mid rows. Asks (asks.List day after) mid told' (Err fault) × Appends old new (report_lines rows))
-ReportsAll day told told' old new (Err BadPage) = AfterPages day told (λ after mid rows. IsBadPage day after mid told' × Appends old new (report_lines rows))
-ReportsAll day told told' old new (Err TooManyPages) = (after : List ℕ) × (rows : List UsageRow) × AreFullPages day told 100000 after told' rows × Appends old new (report_lines rows)
+abbrev pub ReportsAll : ℕ → Option (List Told) → Option (List Told) → Option (List ℕ) → Option (List ℕ)
+    → Result (Unit {0}) ReportFault → Type 0
+ReportsAll day told told' old new (Ok _) =
+    AfterPages day told (λ after mid rows. (more : List UsageRow) × IsPage day after mid told' more
+    × (length more < 100) × Appends old new (report_lines (rows ++ more)))
+ReportsAll day told told' old new (Err (Unanswered fault)) =
+    AfterPages day told (λ after mid rows. Asks (asks.List day after) mid told' (Err fault)
+    × Appends old new (report_lines rows))
+ReportsAll day told told' old new (Err BadPage) =
+    AfterPages day told (λ after mid rows. IsBadPage day after mid told' × Appends old new (report_lines rows))
+ReportsAll day told told' old new (Err TooManyPages) =
+    (after : List ℕ) × (rows : List UsageRow) × AreFullPages day told 100000 after told' rows
+    × Appends old new (report_lines rows)
 ReportsAll day told told' old new (Err Write) = AfterPages day told (PrintsFront day told' old new)
-ReportsAll day told told' old new (Err Memory) = AfterPages day told (λ after mid rows. ((told' ≡ mid) × Appends old new (report_lines rows)) ⊎ PrintsFront day told' old new after mid rows)
+ReportsAll day told told' old new (Err Memory) =
+    AfterPages day told (λ after mid rows. ((told' ≡ mid) × Appends old new (report_lines rows))
+    ⊎ PrintsFront day told' old new after mid rows)
 
 -- the server answered what a login used on that day
 pub record IsUsage (day : ℕ) (login : List ℕ) (old new : Option (List Told)) (row : UsageRow) : Type 0 where
@@ -99,15 +117,23 @@ AsksUsage day login old new (Err (Unanswered fault)) = Asks (asks.Usage login da
 AsksUsage day login old new (Err Memory) = new ≡ old
 AsksUsage day login old new (Err _) = ⊥
 
--- The report of one login: its line. Where it isn't done, nothing; a front of the line where the output or memory fails.
-abbrev pub ReportsOne : ℕ → List ℕ → Option (List Told) → Option (List Told) → Option (List ℕ) → Option (List ℕ) → Result (Unit {0}) ReportFault → Type 0
-ReportsOne day login told told' old new (Ok _) = (row : UsageRow) × IsUsage day login told told' row × Appends old new (row_line row)
-ReportsOne day login told told' old new (Err (Unanswered fault)) = Asks (asks.Usage login day) told told' (Err fault) × Keeps old new
-ReportsOne day login told told' old new (Err Write) = (row : UsageRow) × IsUsage day login told told' row × AppendsFront old new (row_line row)
-ReportsOne day login told told' old new (Err Memory) = ((told' ≡ told) × Keeps old new) ⊎ ((row : UsageRow) × IsUsage day login told told' row × AppendsFront old new (row_line row))
+-- The report of one login: its line. Where it isn't done, nothing; a front of the line where the output or memory
+-- fails.
+abbrev pub ReportsOne : ℕ → List ℕ → Option (List Told) → Option (List Told) → Option (List ℕ) → Option (List ℕ)
+    → Result (Unit {0}) ReportFault → Type 0
+ReportsOne day login told told' old new (Ok _) =
+    (row : UsageRow) × IsUsage day login told told' row × Appends old new (row_line row)
+ReportsOne day login told told' old new (Err (Unanswered fault)) =
+    Asks (asks.Usage login day) told told' (Err fault) × Keeps old new
+ReportsOne day login told told' old new (Err Write) =
+    (row : UsageRow) × IsUsage day login told told' row × AppendsFront old new (row_line row)
+ReportsOne day login told told' old new (Err Memory) =
+    ((told' ≡ told) × Keeps old new) ⊎ ((row : UsageRow) × IsUsage day login told told' row
+    × AppendsFront old new (row_line row))
 ReportsOne day login told told' old new (Err _) = ⊥
 
 -- the report of a login, or without one that of all
-abbrev pub Reports : ℕ → Option (List ℕ) → Option (List Told) → Option (List Told) → Option (List ℕ) → Option (List ℕ) → Result (Unit {0}) ReportFault → Type 0
+abbrev pub Reports : ℕ → Option (List ℕ) → Option (List Told) → Option (List Told) → Option (List ℕ) → Option (List ℕ)
+    → Result (Unit {0}) ReportFault → Type 0
 Reports day (Some login) = ReportsOne day login
 Reports day None = ReportsAll day

@@ -3,7 +3,8 @@
 //! In each line spaces are passed over, and what else stands there is whole bytes in hexadecimal,
 //! in either case. Lines are joined to one connection until an empty line or the end of the text;
 //! further empty lines change nothing. The last line needs no line feed.
-ghost use Rattle.std.specs.Prelude.{◌≡◌, ◌≤◌, ◌<◌, ◌↔◌, [], ◌∷◌, ◌++◌, List, ℕ, true, None, Some, map, filter, length, nat_lt, not, is_err, OnOk, IfOk, IfErr};
+ghost use Rattle.std.specs.Prelude.{◌≡◌, ◌≤◌, ◌<◌, ◌↔◌, [], ◌∷◌, ◌++◌, List, ℕ, true, None, Some, map, filter, length};
+ghost use Rattle.std.specs.Prelude.{nat_lt, not, is_err, OnOk, IfOk, IfErr};
 ghost use Rattle.std.specs.Result.{result_unwrap_or};
 ghost use Rattle.hex.specs.Hex.{decode_of};
 ghost use Rattle.mq_command.specs.Connections.{digits_of, first_not_hex, connections_of};
@@ -59,7 +60,8 @@ fn keep_digits(line: &[u8], digits: &mut Vec<u8>) -> Result<(), AllocError>
 /// Appends the bytes that the digits spell; `false` where they spell none.
 fn append_bytes(digits: &[u8], bytes: &mut Vec<u8>) -> Result<bool, AllocError>
     ensures hex { IfOk result (λ is_hex. is_err (decode_of digits.now) ≡ not is_hex) }
-    ensures appended { IfOk result (λ is_hex. is_hex ≡ true → bytes.new.items ≡ bytes.old.items ++ result_unwrap_or (decode_of digits.now) []) }
+    ensures appended { IfOk result (λ is_hex. is_hex ≡ true
+        → bytes.new.items ≡ bytes.old.items ++ result_unwrap_or (decode_of digits.now) []) }
 {
     let start = bytes.len();
     bytes.resize(start + digits.len() / 2, 0)?;
@@ -72,7 +74,8 @@ fn end_connection(
     current: &mut Vec<u8>,
     found: &mut Vec<Vec<u8>>,
 ) -> Result<(), AllocError>
-    ensures found { OnOk result (map (λ c. c.items) found.new.items ≡ map (λ c. c.items) found.old.items ++ filter (λ bytes. nat_lt 0 (length bytes)) (current.old.items ∷ [])) }
+    ensures found { OnOk result (map (λ c. c.items) found.new.items ≡ map (λ c. c.items) found.old.items
+        ++ filter (λ bytes. nat_lt 0 (length bytes)) (current.old.items ∷ [])) }
     ensures current { OnOk result (current.new.items ≡ []) }
 {
     if current.is_empty() {

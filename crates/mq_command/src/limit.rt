@@ -35,7 +35,8 @@ fn set_limit<L: Link, W: Write>(
     output: &mut W,
 ) -> Result<(), SetFault>
     requires { IsLimit request.now }
-    ensures { Limits request.now (L.told link.old) (L.told link.new) (W.contents output.old) (W.contents output.new) result }
+    ensures { Limits request.now (L.told link.old) (L.told link.new) (W.contents output.old)
+        (W.contents output.new) result }
 {
     match ask(alloc, link, request) {
         Ok(Reply::LimitSet { .. }) => {
@@ -64,7 +65,8 @@ pub fn run_limit<L: Link, W: Write, E: Write>(
 ) -> u8
     requires { IsLimit request.now }
     ensures limits { (outcome : AResult (Unit {0}) ASetFault) × (result ≡ status_of outcome)
-        × Limits request.now (L.told link.old) (L.told link.new) (W.contents output.old) (W.contents output.new) outcome }
+        × Limits request.now (L.told link.old) (L.told link.new) (W.contents output.old)
+        (W.contents output.new) outcome }
     ensures quiet { result ≡ 0 → errors.new ≡ errors.old }
 {
     match set_limit(alloc, link, request, output) {

@@ -191,8 +191,8 @@ fn replay<W: Write>(
 /// Answers the connections of a text over a new ledger, a line of hexadecimal for each, and says
 /// on `errors` why it isn't done.
 ///
-/// `default` is the limit of a login that has none of its own, 0 to 1,000,000 recipients a day. The ledger is a list, or
-/// with `sql` tables in a store in memory.
+/// `default` is the limit of a login that has none of its own, 0 to 1,000,000 recipients a day. The
+/// ledger is a list, or with `sql` tables in a store in memory.
 /// The result is the exit status: 0, or 1 where the text is refused, a connection doesn't end as
 /// it should, or the output fails.
 pub fn run_replay<W: Write, E: Write>(

@@ -139,7 +139,8 @@ fn report_one<L: Link, W: Write>(
 ) -> Result<(), ReportFault>
     requires day { IsDay day }
     requires login { IsLogin login.now }
-    ensures { ReportsOne day login.now (L.told link.old) (L.told link.new) (W.contents output.old) (W.contents output.new) result }
+    ensures { ReportsOne day login.now (L.told link.old) (L.told link.new) (W.contents output.old)
+        (W.contents output.new) result }
 {
     let row = ask_usage(alloc, link, day, login)?;
     write_row(alloc, output, &row)?;
@@ -157,7 +158,8 @@ fn report_all<L: Link, W: Write>(
     output: &mut W,
 ) -> Result<(), ReportFault>
     requires { IsDay day }
-    ensures { ReportsAll day (L.told link.old) (L.told link.new) (W.contents output.old) (W.contents output.new) result }
+    ensures { ReportsAll day (L.told link.old) (L.told link.new) (W.contents output.old)
+        (W.contents output.new) result }
 {
     let mut after = Login::new(Vec::new(alloc));
     for _page in 0..MOST_PAGES {
@@ -185,7 +187,8 @@ fn report<L: Link, W: Write>(
 ) -> Result<(), ReportFault>
     requires day { IsDay day }
     requires login { IfSome login (λ l. IsLogin l.now) }
-    ensures { Reports day (option_map (λ l. l.now) login.entry) (L.told link.old) (L.told link.new) (W.contents output.old) (W.contents output.new) result }
+    ensures { Reports day (option_map (λ l. l.now) login.entry) (L.told link.old) (L.told link.new)
+        (W.contents output.old) (W.contents output.new) result }
 {
     match login {
         Some(login) => report_one(alloc, link, day, login, output),
@@ -210,7 +213,8 @@ pub fn run_report<L: Link, W: Write, E: Write>(
     requires day { IsDay day }
     requires login { IfSome login (λ l. IsLogin l.now) }
     ensures reports { (outcome : AResult (Unit {0}) AReportFault) × (result ≡ status_of outcome)
-        × Reports day (option_map (λ l. l.now) login.entry) (L.told link.old) (L.told link.new) (W.contents output.old) (W.contents output.new) outcome }
+        × Reports day (option_map (λ l. l.now) login.entry) (L.told link.old) (L.told link.new) (W.contents output.old)
+        (W.contents output.new) outcome }
     ensures quiet { result ≡ 0 → errors.new ≡ errors.old }
 {
     match report(alloc, link, day, login, output) {

@@ -25,7 +25,8 @@ const TIMEOUT: u64 = 2_000;
 
 /// The numeric address and port that a text spells.
 fn address_of(text: &str) -> Result<SocketAddr, ProgramFault>
-    ensures { MatchResult result (IsSocketText text.now) (λ fault. (fault ≡ ProgramFault.Address) × IsNoAddress text.now) }
+    ensures { MatchResult result (IsSocketText text.now) (λ fault. (fault ≡ ProgramFault.Address)
+        × IsNoAddress text.now) }
 {
     match text.parse::<SocketAddr>() {
         Ok(address) => Ok(address),
@@ -36,7 +37,8 @@ fn address_of(text: &str) -> Result<SocketAddr, ProgramFault>
 /// The request that sets a limit, the first of its run.
 fn limit_request(alloc: Global, given: LimitArguments<'_>, run: u64) -> Result<Request, AllocError>
     ensures { IfOk result (λ request. request
-        ≡ Limit (record { host = given.entry.host.now; run = run; seq = 1 }) given.entry.from given.entry.cap given.entry.login.now) }
+        ≡ Limit (record { host = given.entry.host.now; run = run; seq = 1 }) given.entry.from given.entry.cap
+        given.entry.login.now) }
 {
     Ok(Request::Limit {
         id: Id {

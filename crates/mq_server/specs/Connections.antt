@@ -70,7 +70,8 @@ calls_until {b = b} s = calls (answer_to b) s.before ++ calls_of s.last
 -- was handed on. A source has failed where its connection ended by a failed read, and where all worked at the start
 -- nowhere else; so the sinks by a failed write, and what was written is handed on at each other end.
 pub record DevicesAgree {I O : Type 0} (source_failed : I → Bool) (sink_failed : O → Bool)
-    (has_flushed : O → Option Bool) (inputs inputs' : List I) (outputs outputs' : List O) (ends : List (Result Served ServeFault)) : Type 0 where
+    (has_flushed : O → Option Bool) (inputs inputs' : List I) (outputs outputs' : List O)
+    (ends : List (Result Served ServeFault)) : Type 0 where
   pub read : AllZip (λ end input. end ≡ Err Read → source_failed input ≡ true) ends (take (length ends) inputs')
   pub write : AllZip (λ end output. end ≡ Err Write → sink_failed output ≡ true) ends (take (length ends) outputs')
   pub source_works : All (λ input. source_failed input ≡ false) inputs →

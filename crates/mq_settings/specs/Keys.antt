@@ -5,7 +5,8 @@ use Rattle.std.specs.Ordering.{nat_cmp, is_le}
 use Rattle.std.specs.Cmp.Lexicographic.{slice_cmp}
 use Rattle.toml.specs.Data.{Members, get_member}
 use Rattle.mq_settings.specs.declared.settings.key.Key.{Key}
-use Rattle.mq_settings.specs.declared.settings.key.Key.TheVariants.{Host, Server, Tries, Listen, Store, Default, Offset, Timeout, Log}
+use Rattle.mq_settings.specs.declared.settings.key.Key.TheVariants.{Host, Server, Tries, Listen, Store, Default, Offset}
+use Rattle.mq_settings.specs.declared.settings.key.Key.TheVariants.{Timeout, Log}
 
 -- a key as it is written
 abbrev pub key_name : Key → List ℕ

@@ -1,5 +1,7 @@
 -- What settings mean, read off the table that the text spells.
-use Rattle.std.specs.Prelude.{◌≡◌, ◌≢◌, [], ℕ, ℤ, pos, negsuc, nat_le, int_le, ◌&&◌, ◌⊎◌, List, codes, bytes_eq, Option, None, Some, Result, Ok, Err, MatchOption, MatchResult, IsOkAnd, String, string_bytes, if◌then◌else◌}
+use Rattle.std.specs.Prelude.{◌≡◌, ◌≢◌, [], ℕ, ℤ, pos, negsuc, nat_le, int_le, ◌&&◌, ◌⊎◌, List, codes, bytes_eq, Option}
+use Rattle.std.specs.Prelude.{None, Some, Result, Ok, Err, MatchOption, MatchResult, IsOkAnd, String, string_bytes}
+use Rattle.std.specs.Prelude.{if◌then◌else◌}
 use Rattle.std.specs.Borrow.{Bor}
 use Rattle.std.specs.Str.{IsUtf8}
 use Rattle.std.specs.declared.alloc.Global.{Global}
@@ -12,7 +14,8 @@ use Rattle.log.specs.declared.level.LevelFilter.TheVariants as level
 use Rattle.mq_frame.specs.Range.{IsHost}
 use Rattle.mq_settings.specs.Keys.{key_name, filter_keys, server_keys, IsLeastUnknown, HasOnly}
 use Rattle.mq_settings.specs.declared.settings.key.Key.{Key}
-use Rattle.mq_settings.specs.declared.settings.key.Key.TheVariants.{Host, Server, Tries, Listen, Store, Default, Offset, Timeout, Log}
+use Rattle.mq_settings.specs.declared.settings.key.Key.TheVariants.{Host, Server, Tries, Listen, Store, Default, Offset}
+use Rattle.mq_settings.specs.declared.settings.key.Key.TheVariants.{Timeout, Log}
 use Rattle.mq_settings.specs.declared.settings.value.Place.{Place}
 use Rattle.mq_settings.specs.declared.settings.value.Place.TheVariants as place
 use Rattle.mq_settings.specs.declared.settings.FilterSettings.{FilterSettings}
@@ -30,14 +33,16 @@ pub record Spells (text : List ℕ) (table : Members) : Type 0 where
 pub data IsTableRefusal (keys : List Key) (text : List ℕ) : SettingsFault → Type 0 where
   memory : IsTableRefusal keys text Memory
   no_table : (why : Flaw) → ((table : Members) → ¬ Spells text table) → IsTableRefusal keys text (Text why)
-  unknown_name : (table : Members) (name : String Global) → Spells text table → IsLeastUnknown keys table (string_bytes name) → IsTableRefusal keys text (Unknown name)
+  unknown_name : (table : Members) (name : String Global) → Spells text table
+      → IsLeastUnknown keys table (string_bytes name) → IsTableRefusal keys text (Unknown name)
 
 -- ---- what the entry of one key gives: a value, or why there is none
 
 -- a text that has to be there
 abbrev pub IsText : Key → Option Data → Result (Bor (List ℕ)) SettingsFault → Type 0
 IsText key None r = r ≡ Err (Missing key)
-IsText key (Some entry) r = MatchOption (as_str entry) (r ≡ Err (Bad key)) (λ text. IsOkAnd r (λ found. found.now ≡ text))
+IsText key (Some entry) r =
+    MatchOption (as_str entry) (r ≡ Err (Bad key)) (λ text. IsOkAnd r (λ found. found.now ≡ text))
 
 abbrev pub IsTextAt : Key → Members → Result (Bor (List ℕ)) SettingsFault → Type 0
 IsTextAt key table r = IsText key (get_member (key_name key) table) r
@@ -45,7 +50,9 @@ IsTextAt key table r = IsText key (get_member (key_name key) table) r
 -- a text that has to be there and spells a value
 abbrev pub TextAs : {V : Type 0} → Key → (List ℕ → V → Type 0) → Option Data → Result V SettingsFault → Type 0
 TextAs key Means None r = r ≡ Err (Missing key)
-TextAs {V} key Means (Some entry) r = MatchOption (as_str entry) (r ≡ Err (Bad key)) (λ text. MatchResult r (Means text) (λ e. (e ≡ Bad key) × ((v : V) → ¬ Means text v)))
+TextAs {V} key Means (Some entry) r =
+    MatchOption (as_str entry) (r ≡ Err (Bad key)) (λ text. MatchResult r (Means text)
+    (λ e. (e ≡ Bad key) × ((v : V) → ¬ Means text v)))
 
 -- the name of a host
 abbrev pub IsHostAt : Members → Result (List ℕ) SettingsFault → Type 0
@@ -71,7 +78,8 @@ count_at key least most absent table = count_of key least most absent (get_membe
 -- minutes east of UTC, within a day
 abbrev pub offset_in : Option ℤ → Result ℤ SettingsFault
 offset_in None = Err (Bad Offset)
-offset_in (Some minutes) = if int_le (negsuc 1438) minutes && int_le minutes (pos 1439) then Ok minutes else Err (Bad Offset)
+offset_in (Some minutes) =
+    if int_le (negsuc 1438) minutes && int_le minutes (pos 1439) then Ok minutes else Err (Bad Offset)
 
 abbrev pub offset_of : Option Data → Result ℤ SettingsFault
 offset_of None = Err (Missing Offset)
@@ -128,7 +136,8 @@ IsPlaceAt table r = TextAs Store NamesPlace (get_member (key_name Store) table) 
 -- ---- the settings of a file
 
 -- one check fails, or passes and a later one fails
-abbrev pub FailsOr : {V : Type 0} → (Result V SettingsFault → Type 0) → (SettingsFault → Type 0) → SettingsFault → Type 0
+abbrev pub FailsOr : {V : Type 0} → (Result V SettingsFault → Type 0) → (SettingsFault → Type 0) → SettingsFault
+    → Type 0
 FailsOr {V} Reads Later e = Reads (Err e) ⊎ ((v : V) × Reads (Ok v) × Later e)
 
 -- the filter's settings are those of the table
@@ -143,11 +152,14 @@ pub record IsFilterSettings (table : Members) (settings : FilterSettings) : Type
 -- the first of the filter's keys that gives no value
 abbrev pub IsFilterFault : Members → SettingsFault → Type 0
 IsFilterFault table e =
-    FailsOr (IsHostAt table) (FailsOr (IsAddressAt Server table) (FailsOr (λ r. tries_at table ≡ r) (FailsOr (λ r. timeout_at table ≡ r) (λ f. level_at table ≡ Err f)))) e
+    FailsOr (IsHostAt table) (FailsOr (IsAddressAt Server table)
+    (FailsOr (λ r. tries_at table ≡ r) (FailsOr (λ r. timeout_at table ≡ r) (λ f. level_at table ≡ Err f)))) e
 
 -- why the filter's settings are refused
 abbrev pub IsFilterRefusal : List ℕ → SettingsFault → Type 0
-IsFilterRefusal text e = IsTableRefusal filter_keys text e ⊎ ((table : Members) × Spells text table × HasOnly filter_keys table × IsFilterFault table e)
+IsFilterRefusal text e =
+    IsTableRefusal filter_keys text e ⊎ ((table : Members) × Spells text table × HasOnly filter_keys table
+    × IsFilterFault table e)
 
 -- the server's settings are those of the table
 pub record IsServerSettings (table : Members) (settings : ServerSettings) : Type 0 where
@@ -162,8 +174,12 @@ pub record IsServerSettings (table : Members) (settings : ServerSettings) : Type
 -- the first of the server's keys that gives no value
 abbrev pub IsServerFault : Members → SettingsFault → Type 0
 IsServerFault table e =
-    FailsOr (IsAddressAt Listen table) (FailsOr (IsPlaceAt table) (FailsOr (λ r. default_at table ≡ r) (FailsOr (λ r. offset_at table ≡ r) (FailsOr (λ r. timeout_at table ≡ r) (λ f. level_at table ≡ Err f))))) e
+    FailsOr (IsAddressAt Listen table) (FailsOr (IsPlaceAt table)
+    (FailsOr (λ r. default_at table ≡ r) (FailsOr (λ r. offset_at table ≡ r)
+    (FailsOr (λ r. timeout_at table ≡ r) (λ f. level_at table ≡ Err f))))) e
 
 -- why the server's settings are refused
 abbrev pub IsServerRefusal : List ℕ → SettingsFault → Type 0
-IsServerRefusal text e = IsTableRefusal server_keys text e ⊎ ((table : Members) × Spells text table × HasOnly server_keys table × IsServerFault table e)
+IsServerRefusal text e =
+    IsTableRefusal server_keys text e ⊎ ((table : Members) × Spells text table × HasOnly server_keys table
+    × IsServerFault table e)

@@ -1,7 +1,8 @@
 //! The settings of the filter and of the server, read from TOML.
 ghost use Rattle.std.specs.Prelude.{IfOk, IfErr};
 ghost use Rattle.toml.specs.Data.{Members};
-ghost use Rattle.mq_settings.specs.Settings.{Spells, IsFilterSettings, IsFilterRefusal, IsServerSettings, IsServerRefusal};
+ghost use Rattle.mq_settings.specs.Settings.{Spells, IsFilterSettings, IsFilterRefusal, IsServerSettings};
+ghost use Rattle.mq_settings.specs.Settings.{IsServerRefusal};
 
 mod fault;
 mod flaw;
@@ -60,7 +61,8 @@ const SERVER_KEYS: [Key; 6] = [
 ///
 /// Want of memory may be met before any other cause of refusal.
 pub fn read_filter_settings(alloc: Global, text: &[u8]) -> Result<FilterSettings, SettingsFault>
-    ensures settings { IfOk result (λ settings. (table : Members) × Spells text.now table × IsFilterSettings table settings) }
+    ensures settings { IfOk result (λ settings. (table : Members) × Spells text.now table
+        × IsFilterSettings table settings) }
     ensures refusal { IfErr result (IsFilterRefusal text.now) }
 {
     let table = table::read_table(alloc, text, &FILTER_KEYS)?;
@@ -82,7 +84,8 @@ pub fn read_filter_settings(alloc: Global, text: &[u8]) -> Result<FilterSettings
 ///
 /// Want of memory may be met before any other cause of refusal.
 pub fn read_server_settings(alloc: Global, text: &[u8]) -> Result<ServerSettings, SettingsFault>
-    ensures settings { IfOk result (λ settings. (table : Members) × Spells text.now table × IsServerSettings table settings) }
+    ensures settings { IfOk result (λ settings. (table : Members) × Spells text.now table
+        × IsServerSettings table settings) }
     ensures refusal { IfErr result (IsServerRefusal text.now) }
 {
     let table = table::read_table(alloc, text, &SERVER_KEYS)?;

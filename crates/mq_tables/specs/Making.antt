@@ -1,5 +1,6 @@
 -- The tables as they are made, over whatever the store holds already.
-use Rattle.std.specs.Prelude.{◌≡◌, ◌≢◌, slice_get, ℕ, pos, List, [], ◌∷◌, IsTrue, Bool, false, ◌&&◌, ◌||◌, Option, Some, None, ⊤}
+use Rattle.std.specs.Prelude.{◌≡◌, ◌≢◌, slice_get, ℕ, pos, List, [], ◌∷◌, IsTrue, Bool, false, ◌&&◌, ◌||◌, Option, Some}
+use Rattle.std.specs.Prelude.{None, ⊤}
 use Rattle.std.specs.List.{AllByRecursion, list_any}
 use Rattle.sqlite.specs.declared.types.Value.TheVariants.{Int}
 use Rattle.sqlite.specs.Order.{Row}

@@ -1,5 +1,6 @@
 -- What is read of the days of a login.
-use Rattle.std.specs.Prelude.{◌≡◌, ◌≤◌, ℕ, pos, ◌+◌, Bool, true, false, ◌&&◌, nat_le, nat_lt, if◌then◌else◌, List, [], ◌∷◌, Option, Some, None}
+use Rattle.std.specs.Prelude.{◌≡◌, ◌≤◌, ℕ, pos, ◌+◌, Bool, true, false, ◌&&◌, nat_le, nat_lt, if◌then◌else◌, List, []}
+use Rattle.std.specs.Prelude.{◌∷◌, Option, Some, None}
 use Rattle.std.specs.List.{AllByRecursion}
 use Rattle.sqlite.specs.Order.{Row, column}
 use Rattle.sqlite.specs.declared.types.Value.TheVariants.{Int}
@@ -23,7 +24,8 @@ is_past cap d = nat_lt cap (d.reserved + d.settled)
 -- of those past the cap the one of the earlier day
 abbrev pub earlier : ℕ → DayTotals → Option DayTotals → Option DayTotals
 earlier cap d None = if is_past cap d then Some d else None
-earlier cap d (Some first) = if is_past cap d then (if nat_le first.day d.day then Some first else Some d) else Some first
+earlier cap d (Some first) =
+    if is_past cap d then (if nat_le first.day d.day then Some first else Some d) else Some first
 
 -- what a row shows
 pub record IsTotalsShown (row : Row) (d : DayTotals) : Type 0 where

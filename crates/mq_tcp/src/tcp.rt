@@ -1,5 +1,6 @@
 //! The link to the quota server over TCP: a connection for each exchange.
-ghost use Rattle.std.specs.Prelude.{◌≡◌, ◌≢◌, ◌≤◌, ℕ, List, [], ◌∷◌, Option, None, IsSome, IfSome, IfOk, Err, OnOk, OnErr, IfErr, MatchOption, vec_len};
+ghost use Rattle.std.specs.Prelude.{◌≡◌, ◌≢◌, ◌≤◌, ℕ, List, [], ◌∷◌, Option, None, IsSome, IfSome, IfOk, Err, OnOk};
+ghost use Rattle.std.specs.Prelude.{OnErr, IfErr, MatchOption, vec_len};
 ghost use Rattle.std.specs.Io.KnownBytes.{Appends};
 ghost use Rattle.mq_client.specs.Link.{Tells, outcome_of};
 ghost use Rattle.mq_frame.specs.Spelling.{in_2_bytes};
@@ -174,7 +175,8 @@ impl<'a, R: Net + Clock> TcpLink<'a, R> {
     pub fn receive(&mut self, reply: &mut Vec<u8>) -> Result<(), LinkFault>
         ensures closed { self.new ≡ None }
         ensures body { MatchOption self.old (result ≡ Err LinkFault.Down)
-            (λ stream. OnOk result ((left : Option (List ℕ)) × IsReceived (R.Stream.remaining stream) left reply.new.items)) }
+            (λ stream. OnOk result ((left : Option (List ℕ))
+            × IsReceived (R.Stream.remaining stream) left reply.new.items)) }
         ensures empty { OnErr result (reply.new.items ≡ []) }
         ensures memory { IfSome self.old (λ stream. result ≡ Err LinkFault.Memory →
             (left : Option (List ℕ)) × IsHeadOnly (R.Stream.remaining stream) left) }
@@ -194,7 +196,8 @@ impl<R: Net + Clock> Link for TcpLink<'_, R> {
     /// Sends the frame over a new connection and reads one body of 1 to 65,535 bytes; no connection
     /// is left.
     fn exchange(&mut self, frame: &[u8], reply: &mut Vec<u8>) -> Result<(), LinkFault>
-        ensures told { Tells None None (record { frame = frame.now; outcome = outcome_of result reply.new.items } ∷ []) }
+        ensures told { Tells None None (record { frame = frame.now; outcome = outcome_of result reply.new.items }
+            ∷ []) }
         ensures empty { OnErr result (reply.new.items ≡ []) }
         ensures body { OnOk result (1 ≤ vec_len reply.new × vec_len reply.new ≤ 65535) }
         ensures closed { self.new ≡ None }

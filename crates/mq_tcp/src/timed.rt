@@ -14,7 +14,8 @@ use std::time::{Duration, Instant};
 /// the deadline on there is nothing to wait for.
 fn wait_at(now: Instant, deadline: Instant, timeout: Duration) -> Option<Duration>
     ensures over { IsNone result ↔ (instant_nanos deadline ≤ instant_nanos now) }
-    ensures left { IfSome result (λ wait. as_nanos wait ≡ min (as_nanos timeout) (instant_nanos deadline - instant_nanos now)) }
+    ensures left { IfSome result (λ wait. as_nanos wait ≡ min (as_nanos timeout)
+        (instant_nanos deadline - instant_nanos now)) }
 {
     let left = deadline.duration_since(now);
     if left.is_zero() {

@@ -1,7 +1,8 @@
 //! The value of one key of a table of settings.
 ghost use Rattle.std.specs.Prelude.{◌≡◌, ◌≤ℤ◌, pos, negsuc, Ok, Err, None, Some, ◌≢◌, IfOk, IfErr, ok_or};
 ghost use Rattle.toml.specs.View.{table_view};
-ghost use Rattle.mq_settings.specs.Settings.{IsTextAt, IsHostAt, IsAddressAt, count_at, count_in, offset_in, offset_at, level_named, level_at, IsPlaceAt};
+ghost use Rattle.mq_settings.specs.Settings.{IsTextAt, IsHostAt, IsAddressAt, count_at, count_in, offset_in, offset_at};
+ghost use Rattle.mq_settings.specs.Settings.{level_named, level_at, IsPlaceAt};
 
 use crate::settings::fault::SettingsFault;
 use crate::settings::key::Key;
