@@ -172,7 +172,7 @@ const WEST: CommandOption = CommandOption {
 pub const SUBCOMMANDS: [Subcommand; 5] = [
     Subcommand {
         name: "server",
-        about: "Serve the ledger to filters, one connection after another",
+        about: "Serve the ledger to filters",
         options: &[CONFIG, CREATE, CONNECTIONS],
     },
     Subcommand {

@@ -45,7 +45,7 @@ fn help(rt: HostRuntime) -> Result<(), Fail> {
 Usage: mailquota <COMMAND>
 
 Commands:
-  server  Serve the ledger to filters, one connection after another
+  server  Serve the ledger to filters
   filter  Answer smtpd on standard input and output
   limit   Set the limit of a login from a day on
   report  Print what logins used on a day
@@ -66,6 +66,7 @@ Options:
       --default <N>  Limit of a login that has none of its own [default: 100]
       --east <M>     Minutes that a day begins before UTC's [default: 0]
       --west <M>     Minutes that a day begins after UTC's [default: 0]
+      --sql          Keep the ledger in tables in memory
   -h, --help         Print help
 ",
         ),
@@ -83,7 +84,7 @@ Options:
         ),
         (
             &["mailquota", "server", "--help"],
-            "Serve the ledger to filters, one connection after another
+            "Serve the ledger to filters
 
 Usage: mailquota server [OPTIONS] --config <FILE>
 
@@ -143,8 +144,8 @@ For more information, try '--help'.
 ",
         ),
         (
-            &["mailquota", "replay", "--sql"],
-            "error: unexpected argument '--sql' found
+            &["mailquota", "replay", "--list"],
+            "error: unexpected argument '--list' found
 
 Usage: mailquota replay [OPTIONS]
 
@@ -310,7 +311,7 @@ fn words_of_subcommands(rt: HostRuntime) -> Result<(), Fail> {
         ),
         (
             &["mailquota", "server", "--config=s", "--create"],
-            "Server(ServerArguments { config: \"s\", connections: 1000000 })",
+            "Server(ServerArguments { config: \"s\", create: true, connections: 1000000 })",
         ),
         (
             &[
@@ -341,12 +342,21 @@ fn words_of_subcommands(rt: HostRuntime) -> Result<(), Fail> {
 
 #[test]
 fn replay_words(rt: HostRuntime) -> Result<(), Fail> {
-    let rows: [(&[&str], u32, i32); 3] = [
-        (&["mailquota", "replay"], 100, 0),
+    let rows: [(&[&str], u32, i32, bool); 3] = [
+        (&["mailquota", "replay"], 100, 0, false),
         (
-            &["mailquota", "replay", "--default", "0", "--west", "1439"],
+            &[
+                "mailquota",
+                "replay",
+                "--default",
+                "0",
+                "--west",
+                "1439",
+                "--sql",
+            ],
             0,
             -1439,
+            true,
         ),
         (
             &[
@@ -358,16 +368,22 @@ fn replay_words(rt: HostRuntime) -> Result<(), Fail> {
             ],
             1_000_000,
             60,
+            false,
         ),
     ];
-    for (words, default, offset) in rows {
+    for (words, default, offset, sql) in rows {
         let mut given = Vec::new(rt.alloc());
         for word in words {
             given.push(String::from_str(rt.alloc(), word)?)?;
         }
+        let wanted = ReplayArguments {
+            default,
+            offset,
+            sql,
+        };
         match read_arguments(rt.alloc(), given.as_slice()) {
             Ok(found) => {
-                assert!(rt; found == Arguments::Replay(ReplayArguments { default, offset }));
+                assert!(rt; found == Arguments::Replay(wanted));
             }
             Err(_) => assert!(rt; false),
         }
