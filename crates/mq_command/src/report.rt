@@ -14,13 +14,14 @@ use crate::output::OutputFault;
 use crate::report::page::is_ascending;
 use crate::report::row::{write_row, write_rows};
 use mq_client::Link;
+use mq_frame::format::ROW_LIMIT;
 use mq_frame::{Login, Reply, Request, UsageRow, UsageRows};
 use std::alloc::{AllocError, Global};
 use std::io::Write;
 use thiserror::Error;
 
 /// The rows of a full page.
-const PAGE: usize = 100;
+const PAGE: usize = ROW_LIMIT as usize;
 
 /// The most pages of a report, the last of which may not be full.
 const MOST_PAGES: u32 = 100_000;

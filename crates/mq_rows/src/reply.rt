@@ -8,15 +8,10 @@ ghost use Rattle.mq_rows.specs.Plan.{agrees_with, is_closed, held_by, reserved_b
 ghost use Rattle.mq_rows.specs.Plan.{set_or_over_by, decided, moves, fits, fits_if_open, is_day_over, may_be_found};
 
 use crate::plan::Found;
+use mq_frame::format::{AMOUNT_LIMIT, LAST_DAY};
 use mq_frame::{Id, Login, Reply, Request};
 use mq_ledger::LedgerFault;
 use std::alloc::AllocError;
-
-/// The most that a login may use on a day, and the greatest limit: recipients.
-const MOST: u32 = 1_000_000;
-
-/// The ledger day of the last moment.
-const LAST_DAY: u32 = 376_200;
 
 /// What is reserved and settled together, where that is in range.
 fn amount(reserved: u32, settled: u32) -> Option<u32>
@@ -24,7 +19,7 @@ fn amount(reserved: u32, settled: u32) -> Option<u32>
         × (n ≤ 1000000)) }
 {
     match reserved.checked_add(settled) {
-        Some(sum) if sum <= MOST => Some(sum),
+        Some(sum) if sum <= AMOUNT_LIMIT => Some(sum),
         _ => None,
     }
 }
@@ -147,7 +142,7 @@ impl Found {
         }
         let used = self.fitting()?;
         let cap = self.cap(default);
-        if MOST < cap {
+        if AMOUNT_LIMIT < cap {
             return Err(LedgerFault::Store);
         }
         if cap < used + count {

@@ -5,16 +5,14 @@ ghost use Rattle.mq_rows.specs.Plan.{reserved_by, cap_by};
 ghost use Rattle.mq_rows.specs.Listing.{settled_by, usage_reply_by, page_row_by, are_amounts};
 
 use crate::record::{CeilingRecord, UsageRecord};
+use mq_frame::format::AMOUNT_LIMIT;
 use mq_frame::{Login, Reply, UsageRow, is_login};
 use mq_ledger::LedgerFault;
-
-/// The most that a login may use on a day, and the greatest limit: recipients.
-const MOST: u32 = 1_000_000;
 
 fn are_amounts(settled: u32, reserved: u32, cap: u32) -> bool
     ensures { result ≡ are_amounts settled reserved cap }
 {
-    settled <= MOST && reserved <= MOST && cap <= MOST
+    settled <= AMOUNT_LIMIT && reserved <= AMOUNT_LIMIT && cap <= AMOUNT_LIMIT
 }
 
 /// The limit that governs, or the default.

@@ -10,12 +10,10 @@ use crate::entry::Entry;
 use crate::plain::cap::cap;
 use crate::plain::totals::{reserved, settled};
 use crate::zone::Zone;
+use mq_frame::format::ROW_LIMIT;
 use mq_frame::{Login, Reply, Request, UsageRow};
 use std::alloc::{AllocError, Global};
 use std::cmp::Ordering;
-
-/// The rows of a page.
-const PAGE: usize = 100;
 
 /// Whether the one stands before the other in byte order.
 fn below(login: &[u8], other: &[u8]) -> bool
@@ -105,7 +103,7 @@ pub fn page(
 {
     let mut rows = Vec::new(alloc);
     let mut last = after;
-    'rows: for _ in 0..PAGE {
+    'rows: for _ in 0..ROW_LIMIT {
         let Some(login) = next_login(entries, zone, day, last) else {
             return Ok(rows);
         };
