@@ -1,6 +1,6 @@
 -- In a legal history no number comes twice, so it has one row at most.
 use Rattle.std.proofs.Common.{◌≡◌, ℕ, ◌+◌, ◌≤◌, List, [], ◌∷◌, ◌++◌, Bool, true, false, refl, ◌∙◌, ap, sym, subst, inl, inr, arith, length, length-append, append_assoc}
-use Rattle.std.specs.Prelude.{fold, find, ◌||◌, ◌&&◌, ◌==◌, Option, Some, None}
+use Rattle.std.specs.Prelude.{fold, find, ◌&&◌, ◌==◌, Option, Some, None}
 use Rattle.std.specs.List.{AllByRecursion, list_any}
 use Rattle.mq_frame.specs.declared.message.Id.{Id}
 use Rattle.mq_frame.specs.declared.message.Request.{Request}

@@ -1,6 +1,6 @@
 -- The pages of a day, login by login.
 use Rattle.std.proofs.Common.{◌≡◌, ℕ, zero, suc, ◌<◌, ◌≤◌, List, [], ◌∷◌, ◌++◌, true, false, refl, ◌∙◌, ap, inl, inr, arith, length}
-use Rattle.std.specs.Prelude.{map, All, Contains, ◌⊎◌, ◌==◌, Some, None, slice_index_or}
+use Rattle.std.specs.Prelude.{map, All, Contains, Option, ◌⊎◌, ◌==◌, Some, None, slice_index_or}
 use Rattle.std.specs.List.{AllByRecursion}
 use Rattle.std.specs.Ordering.{nat_cmp, is_lt, eq_by_cmp, ordering_reverse}
 use Rattle.std.specs.Cmp.{IsTotalOrder}
@@ -9,14 +9,15 @@ use Rattle.std.specs.declared.cmp.Ordering.{Ordering}
 use Rattle.std.specs.declared.cmp.Ordering.TheVariants.{Less, Equal, Greater}
 use Rattle.std.proofs.lemmas.Cmp.{nat_list_cmp_total}
 use Rattle.std.proofs.lemmas.List.{length-map}
+use Rattle.mq_frame.specs.Same.{same_text}
 use Rattle.mq_ledger.specs.declared.entry.Entry.{Entry}
 use Rattle.mq_ledger.specs.History.{settled, reserved}
 use Rattle.mq_ledger.specs.Page.{below, has_reserve, IsAscending, IsLoginPage}
 use Rattle.mq_rows.specs.declared.record.UsageRecord.{UsageRecord}
 use Rattle.mq_rows.specs.Rows.{usage_row, is_usage}
 use Rattle.mq_rows.specs.Tables.{those, AreUsage}
-use Rattle.mq_rows.specs.Listing.{is_above, IsNext, AreNext, behind}
-use Rattle.mq_rows.proofs.Lists.{either, number_is, number_itself, text_itself}
+use Rattle.mq_rows.specs.Listing.{is_above, IsNext, IsNextLogin, AreNext, behind}
+use Rattle.mq_rows.proofs.Lists.{either, number_is, number_itself, text_is, text_itself}
 use Rattle.mq_rows.proofs.Days.{both_split}
 use Rattle.mq_rows.proofs.Replies.{member_is, one_has}
 
@@ -142,3 +143,67 @@ module _ (day : ℕ → ℕ) (H : List Entry) (rows : List UsageRecord) (are : A
 pub next_more : (d : ℕ) (rows : List UsageRecord) (after : List ℕ) (us : List UsageRecord) (u : UsageRecord) → AreNext d after rows us → IsNext d (behind after us) rows (Some u) → AreNext d after rows (us ++ u ∷ [])
 next_more d rows after [] u next more = (more, tt)
 next_more d rows after (v ∷ us) u next more = (next.0, next_more d rows v.login us u next.1 more)
+
+-- From login to login.
+
+implies_both : {X : Type 0} (P Q R : X → Type 0) → ((x : X) → P x → Q x → R x) → (xs : List X) → AllByRecursion P xs → AllByRecursion Q xs → AllByRecursion R xs
+implies_both P Q R f [] p q = tt
+implies_both P Q R f (x ∷ xs) p q = (f x p.0 q.0, implies_both P Q R f xs p.1 q.1)
+
+module _ (d : ℕ) (after login : List ℕ) where
+  -- the login is the least above, and has no row of the day
+  abbrev Least : UsageRecord → Type 0
+  Least u = below after u.login ≡ true → below u.login login ≡ false
+
+  abbrev IsBare : UsageRecord → Type 0
+  IsBare u = is_usage login d u ≡ false
+
+  its_own : (u : UsageRecord) → login ≡ u.login → (d == u.day) ≡ true → is_usage login d u ≡ true
+  its_own u same day = (let e : d ≡ u.day = number_is d u.day day in rw (same, e, text_itself u.login, number_itself u.day) refl)
+
+  -- so a row of the day that is above the one before is above this one
+  still_above : (u : UsageRecord) → Least u → IsBare u → is_above d after u ≡ true → is_above d login u ≡ true
+  still_above u least bare hit =
+      let b = both_split (d == u.day) (below after u.login) hit in
+      elim (ordered login u.login) [
+        | Before h ↦ rw (b.0, h) refl
+        | Same e ↦ absurd (cc (bare, its_own u e b.0))
+        | After h ↦ absurd (cc (h, least b.1))
+      ]
+
+  not_above : (u : UsageRecord) → Least u → IsBare u → is_above d login u ≡ false → is_above d after u ≡ false
+  not_above u least bare none = elim (either (is_above d after u)) [
+    | inl hit ↦ absurd (cc (none, still_above u least bare hit))
+    | inr free ↦ free
+  ]
+
+  is_above_before : (u : UsageRecord) → below after login ≡ true → is_above d login u ≡ true → is_above d after u ≡ true
+  is_above_before u up hit = (let b = both_split (d == u.day) (below login u.login) hit in rw (b.0, below_trans after login u.login up b.1) refl)
+
+  pub passed_over : (rows : List UsageRecord) (next : Option UsageRecord) → IsNextLogin after rows (Some login) → AllByRecursion IsBare rows → IsNext d login rows next → IsNext d after rows next
+  passed_over rows None it bare none =
+      implies_both Least (λ u. IsBare u × (is_above d login u ≡ false)) (λ u. is_above d after u ≡ false) (λ u least h. not_above u least h.0 h.1) rows it.2
+      (implies_both IsBare (λ u. is_above d login u ≡ false) (λ u. IsBare u × (is_above d login u ≡ false)) (λ u b n. (b, n)) rows bare none)
+  passed_over rows (Some v) it bare next = (
+    next.0,
+    is_above_before v it.1 next.1,
+    implies_both Least (λ u. IsBare u × (is_above d login u ≡ true → below u.login v.login ≡ false)) (λ u. is_above d after u ≡ true → below u.login v.login ≡ false)
+        (λ u least h hit. h.1 (still_above u least h.0 hit)) rows it.2
+        (implies_both IsBare (λ u. is_above d login u ≡ true → below u.login v.login ≡ false) (λ u. IsBare u × (is_above d login u ≡ true → below u.login v.login ≡ false)) (λ u b n. (b, n)) rows bare next.2),
+  )
+
+  pub found_there : (rows : List UsageRecord) (u : UsageRecord) → IsNextLogin after rows (Some login) → Contains rows u → is_usage login d u ≡ true → IsNext d after rows (Some u)
+  found_there rows u it there own =
+      let b = both_split (same_text login u.login) (u.day == d) own in
+      let name : login ≡ u.login = text_is login u.login b.0 in
+      let day : u.day ≡ d = number_is u.day d b.1 in (
+        there,
+        rw (← name, day, number_itself d) it.1,
+        implies Least (λ other. is_above d after other ≡ true → below other.login u.login ≡ false) (λ other least hit. rw (← name) (least (both_split (d == other.day) (below after other.login) hit).1)) rows it.2,
+      )
+
+pub none_above : (d : ℕ) (rows : List UsageRecord) (after : List ℕ) → IsNextLogin after rows None → IsNext d after rows None
+none_above d rows after none = implies (λ u. below after u.login ≡ false) (λ u. is_above d after u ≡ false) (λ u free. elim (either (is_above d after u)) [
+  | inl hit ↦ absurd (cc (free, (both_split (d == u.day) (below after u.login) hit).1))
+  | inr not ↦ not
+]) rows none

@@ -1,6 +1,6 @@
 -- What is read and replied of what logins have used.
 use Rattle.std.specs.Prelude.{◌≡◌, ℕ, List, [], ◌∷◌, Bool, true, false, ◌==◌, ◌&&◌, nat_le, Option, Some, None}
-use Rattle.std.specs.Prelude.{Contains}
+use Rattle.std.specs.Prelude.{Contains, map}
 use Rattle.std.specs.List.{AllByRecursion}
 use Rattle.mq_frame.specs.declared.message.Reply.{Reply}
 use Rattle.mq_frame.specs.declared.message.Reply.TheVariants.{Usage as UsageReply}
@@ -36,6 +36,13 @@ IsNext day after rows None = AllByRecursion (λ u. is_above day after u ≡ fals
 IsNext day after rows (Some u) =
     Contains rows u × (is_above day after u ≡ true)
     × AllByRecursion (λ other. is_above day after other ≡ true → below other.login u.login ≡ false) rows
+
+-- of the logins of any day that are above it is the least one; none where none is above
+abbrev pub IsNextLogin : List ℕ → List UsageRecord → Option (List ℕ) → Type 0
+IsNextLogin after rows None = AllByRecursion (λ u. below after u.login ≡ false) rows
+IsNextLogin after rows (Some login) =
+    Contains (map (λ u. u.login) rows) login × (below after login ≡ true)
+    × AllByRecursion (λ other. below after other.login ≡ true → below other.login login ≡ false) rows
 
 -- the last login of a page, and what it begins behind where it has none
 abbrev pub behind : List ℕ → List UsageRecord → List ℕ

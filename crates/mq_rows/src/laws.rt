@@ -1,7 +1,7 @@
 //! Laws of the rows of a history, for a ledger that keeps them in a store. Each function does
 //! nothing: its contract is the law.
 ghost use Rattle.std.specs.Prelude.{◌≡◌, ◌≤◌, ◌⊎◌, ℕ, ◌+◌, ℤ, List, [], ◌∷◌, ◌++◌, length, map, find, true, Option};
-ghost use Rattle.std.specs.Prelude.{Some, None, is_some};
+ghost use Rattle.std.specs.Prelude.{false, Some, None, is_some, Contains};
 ghost use Rattle.std.specs.List.{AllByRecursion};
 ghost use Rattle.std.specs.List.Sorted.{IsPermutation};
 ghost use Rattle.mq_frame.specs.declared.message.Id.{Id};
@@ -28,7 +28,7 @@ ghost use Rattle.mq_rows.specs.Tables.{Tables, AreTransactions, AreUsage, AreCei
 ghost use Rattle.mq_rows.specs.Meaning.{meaning, AreSound};
 ghost use Rattle.mq_rows.specs.Found.{IsFound, IsGoverning};
 ghost use Rattle.mq_rows.specs.Repeat.{IsRepeatOf};
-ghost use Rattle.mq_rows.specs.Listing.{usage_reply_by, page_row_by, IsNext, AreNext, behind};
+ghost use Rattle.mq_rows.specs.Listing.{usage_reply_by, page_row_by, IsNext, IsNextLogin, AreNext, behind};
 ghost use Rattle.mq_rows.specs.Plan.{held_by, decided, transaction_write, usage_write, ceiling_write, planned};
 ghost use Rattle.mq_rows.specs.Plan.{may_be_found, Leads, same_key, set_transaction, same_day, set_usage, same_from};
 ghost use Rattle.mq_rows.specs.Plan.{set_ceiling};
@@ -259,6 +259,20 @@ pub fn pages_go_by_login()
 {
     page_is_first();
 }
+
+/// A day's next row is found from login to login: of a login that has a row of that day it is that row, and a
+/// login that has none is passed over.
+pub fn logins_are_passed()
+    ensures found { (d : ℕ) (rows : List UsageRecord) (after : List ℕ) (login : List ℕ) (u : UsageRecord) →
+        IsNextLogin after rows (Some login) → Contains rows u → is_usage login d u ≡ true →
+        IsNext d after rows (Some u) }
+    ensures passed { (d : ℕ) (rows : List UsageRecord) (after : List ℕ) (login : List ℕ)
+        (next : Option UsageRecord) → IsNextLogin after rows (Some login) →
+        AllByRecursion (λ u. is_usage login d u ≡ false) rows → IsNext d login rows next →
+        IsNext d after rows next }
+    ensures ended { (d : ℕ) (rows : List UsageRecord) (after : List ℕ) →
+        IsNextLogin after rows None → IsNext d after rows None }
+{}
 
 /// In the rows of a legal history, in any order, each pair of a login and day is right.
 pub fn histories_are_right()

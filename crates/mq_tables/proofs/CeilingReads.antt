@@ -1,5 +1,5 @@
 -- What the query for a limit by its key answers of the records.
-use Rattle.std.proofs.Common.{◌≡◌, inl, inr, ℕ, ◌+◌, pos, ◌<◌, ◌≤◌, ◌&&◌, ◌==◌, nat_le, nat_lt, suc, List, [], ◌∷◌, map, filter, length, cond, Bool, true, false, true≢false, Option, Some, None, Ok, Err, Result, Contains, arith, refl, sym, ap, ap₂, subst, ◌∙◌}
+use Rattle.std.proofs.Common.{◌≡◌, ℕ, ◌&&◌, ◌==◌, List, [], ◌∷◌, map, filter, length, Bool, true, Option, Some, None, Ok, Err, Result, refl, sym, ap, subst, ◌∙◌}
 use Rattle.std.specs.Prelude.{Vec, IfOk, drop}
 use Rattle.std.specs.declared.alloc.Global.{Global}
 use Rattle.std.specs.List.{AllByRecursion, list_all}
@@ -7,17 +7,16 @@ use Rattle.std.specs.List.Sorted.{IsPermutation}
 use Rattle.std.specs.Cmp.{unsigned_Decides}
 use Rattle.std.proofs.Math.Bool.{and-true}
 use Rattle.std.proofs.lemmas.Bool.{and_parts}
-use Rattle.std.proofs.lemmas.List.Sorted.{IsPermutation-sym, length_permutation}
+use Rattle.std.proofs.lemmas.List.Sorted.{length_permutation}
 use Rattle.std.proofs.lemmas.Slice.Eq.{slice_eq-Decides}
-use Rattle.sqlite.specs.Order.{Row, column}
+use Rattle.sqlite.specs.Order.{Row}
 use Rattle.sqlite.specs.Term.{eval_all, holds}
-use Rattle.sqlite.specs.declared.types.Value.TheVariants.{Null, Int, Blob}
+use Rattle.sqlite.specs.declared.types.Value.TheVariants.{Null}
 use Rattle.sqlite.specs.declared.error.Error.{Error}
 use Rattle.sqlite.specs.State.{State, Shown}
 use Rattle.sqlite.proofs.Callers.{IsPlain, command_of}
 use Rattle.sqlite_rules.specs.Lists.{Has}
-use Rattle.sqlite_rules.proofs.ListLemmas.{all_has}
-use Rattle.sqlite_trees.proofs.ListLemmas.{all-permutation, all_weaker}
+use Rattle.sqlite_trees.proofs.ListLemmas.{all-permutation}
 use Rattle.mq_frame.specs.Same.{same_text}
 use Rattle.mq_rows.specs.Tables.{Tables}
 use Rattle.mq_tables.specs.Ledger.{HasLedger}
@@ -27,7 +26,7 @@ use Rattle.mq_tables.proofs.Firsts as firsts
 use Rattle.mq_tables.proofs.Plain.{any_apart}
 use Rattle.mq_rows.specs.declared.record.CeilingRecord.{CeilingRecord}
 use Rattle.mq_rows.specs.Rows.{is_ceiling}
-use Rattle.mq_tables.specs.Governing.{limit_row, IsCeilingShown, IsFirstCeiling}
+use Rattle.mq_tables.specs.Governing.{limit_row, IsFirstCeiling}
 use Rattle.mq_tables.specs.Records.{ceiling_fields, IsOneOf}
 use Rattle.mq_tables.proofs.Tests.{text_test, day_test}
 use Rattle.mq_tables.proofs.Governing.{limit_is}

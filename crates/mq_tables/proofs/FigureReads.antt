@@ -1,12 +1,12 @@
 -- What the queries for an audit answer of the figures.
-use Rattle.std.proofs.Common.{◌≡◌, ℕ, ℤ, pos, nat_le, List, [], ◌∷◌, ◌++◌, drop, map, filter, true, false, Ok, Err, Result, refl, sym, ap, subst, subst₂, ◌∙◌}
+use Rattle.std.proofs.Common.{◌≡◌, pos, List, [], ◌∷◌, ◌++◌, drop, map, filter, true, Ok, Err, Result, refl, sym, ap, subst, subst₂, ◌∙◌}
 use Rattle.std.specs.Prelude.{Vec, IfOk}
 use Rattle.std.specs.declared.alloc.Global.{Global}
 use Rattle.std.specs.List.{list_all}
 use Rattle.std.specs.List.Sorted.{IsPermutation}
 use Rattle.std.proofs.lemmas.List.Sorted.{IsPermutation-map}
 use Rattle.sqlite_trees.proofs.ListLemmas.{map-map}
-use Rattle.sqlite.specs.Order.{Row, column}
+use Rattle.sqlite.specs.Order.{Row}
 use Rattle.sqlite.specs.Term.{eval_all, holds}
 use Rattle.sqlite.specs.declared.types.Value.TheVariants.{Null, Int, Blob}
 use Rattle.sqlite.specs.declared.error.Error.{Error}
@@ -15,10 +15,8 @@ use Rattle.sqlite.proofs.Callers.{IsPlain, command_of}
 use Rattle.mq_rows.specs.declared.audited.LimitFigures.{LimitFigures}
 use Rattle.mq_rows.specs.declared.audited.TransactionFigures.{TransactionFigures}
 use Rattle.mq_rows.specs.declared.audited.UsageFigures.{UsageFigures}
-use Rattle.mq_rows.specs.declared.audited.Pair.{Pair}
 use Rattle.mq_rows.specs.Audit.{Figures}
 use Rattle.mq_tables.specs.Figures.{HasFigures, WholeTransaction, whole_cells, usage_cells, transaction_cells, limit_cells, IsUsageRead, IsTransactionRead, IsLimitRead, usage_columns, transaction_columns, limit_columns}
-use Rattle.mq_tables.specs.Records.{Holds}
 use Rattle.mq_tables.proofs.Firsts as firsts
 use Rattle.mq_tables.proofs.Plain.{any_apart}
 use Rattle.mq_tables.proofs.AllUsageText as usage_query

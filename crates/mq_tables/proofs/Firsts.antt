@@ -1,5 +1,5 @@
 -- What a query on one table of ours answers of its records: all that pass, or the first of them in an order.
-use Rattle.std.proofs.Common.{◌≡◌, inl, inr, ℕ, ◌+◌, suc, ◌^◌, nat_le, List, [], ◌∷◌, drop, map, filter, length, cond, Bool, true, false, true≢false, arith, refl, sym, ap, subst, ◌∙◌}
+use Rattle.std.proofs.Common.{◌≡◌, ℕ, ◌+◌, suc, ◌^◌, nat_le, List, [], ◌∷◌, drop, map, filter, cond, Bool, true, false, true≢false, arith, refl, sym, ap, subst, ◌∙◌}
 use Rattle.std.specs.List.{AllByRecursion, list_all}
 use Rattle.std.specs.List.Sorted.{IsPermutation, IsSortedBy}
 use Rattle.std.specs.Prelude.{slice_index_or}
@@ -21,7 +21,7 @@ use Rattle.sqlite.specs.Command.TheVariants.{Select}
 use Rattle.sqlite.specs.Listing.{understood, reads_listing}
 use Rattle.sqlite.specs.State.{State, Shown}
 use Rattle.sqlite.proofs.Callers.{IsPlain, command_of, reads_as}
-use Rattle.mq_tables.specs.Written.{plain_query, latest_query, chosen}
+use Rattle.mq_tables.specs.Written.{plain_query, latest_query}
 use Rattle.mq_tables.specs.Records.{Holds}
 use Rattle.mq_tables.proofs.Finds.{none_of, empty_mapped, shown_of}
 use Rattle.mq_tables.proofs.Queries.{one_each, made_records, of_records, selects}

@@ -1,5 +1,5 @@
 -- The query of the latest limit of a login, over any schema that has the table at some place.
-use Rattle.std.proofs.Common.{pos, negsuc, ◌≡◌, ◌&&◌, ℕ, ◌^◌, nat_le, List, [], ◌∷◌, ◌==◌, find, drop, map, filter, length, Bool, true, false, Option, Some, None, Ok, Err, Result, codes, slice_get, refl, sym, ap, subst, ◌∙◌}
+use Rattle.std.proofs.Common.{pos, ◌≡◌, ℕ, ◌^◌, nat_le, List, [], ◌∷◌, ◌==◌, find, Bool, true, false, Some, None, Ok, Err, codes, slice_get, refl, ap, ◌∙◌}
 use Rattle.sqlite_ast.specs.declared.Expr.{Expr, out-Expr}
 use Rattle.sqlite_ast.specs.declared.Expr.TheOpen.{Expr-F, Shown-F}
 use Rattle.sqlite_ast.specs.declared.Shown.{Shown as ShownExpr, out-Shown}
@@ -18,7 +18,7 @@ use Rattle.sqlite.specs.Term.{Term, lit, col, op2}
 use Rattle.sqlite_value.specs.declared.keys.Collation.TheVariants.{Binary}
 use Rattle.sqlite_value.specs.declared.keys.Key.{Key}
 use Rattle.sqlite_sql.specs.declared.ops.BinaryOp.TheVariants.{Compare, And}
-use Rattle.sqlite_sql.specs.declared.ops.CompareOp.TheVariants.{Eq, Le, Ge, Gt}
+use Rattle.sqlite_sql.specs.declared.ops.CompareOp.TheVariants.{Eq, Le}
 use Rattle.sqlite_draft.specs.declared.join.Step.TheVariants.{Inner}
 use Rattle.sqlite_resolve.specs.declared.scope.Bound.{Bound}
 use Rattle.sqlite_resolve.specs.declared.scope.Output.{Output}
@@ -39,10 +39,10 @@ use Rattle.sqlite.specs.Command.TheVariants.{Select as Select'}
 use Rattle.sqlite.specs.Listing.{understood, if_select, listing_schema}
 use Rattle.sqlite_tied.specs.Compute.{everything}
 use Rattle.mq_tables.specs.Places.{IsCeilingIn}
-use Rattle.mq_tables.specs.Tables.{ceiling_table, required, keyed}
-use Rattle.mq_tables.specs.Written.{plain_query, latest_query}
+use Rattle.mq_tables.specs.Tables.{ceiling_table, required}
+use Rattle.mq_tables.specs.Written.{latest_query}
 use Rattle.mq_tables.proofs.Plain.{parsed_in, IsQuery}
-use Rattle.mq_tables.proofs.Selecting.{bound_one, column_shown, column_lowered, integer_lowered, parameter_lowered, and_lowered, equal_lowered, most_lowered, least_lowered, above_lowered, tested, join_one, outputs_end, outputs_next, body_is, parts_are, named_is, query_is, sorts_one, parts_ordered, named_ordered, constant_number, query_ordered, plan_selects}
+use Rattle.mq_tables.proofs.Selecting.{bound_one, column_shown, column_lowered, parameter_lowered, and_lowered, equal_lowered, most_lowered, tested, join_one, outputs_end, outputs_next, body_is, sorts_one, parts_ordered, named_ordered, constant_number, query_ordered, plan_selects}
 
 abbrev pub select_text : List ℕ
 select_text = codes "SELECT day, cap FROM ceiling WHERE login = ?1 AND day <= ?2 ORDER BY day DESC LIMIT 1"

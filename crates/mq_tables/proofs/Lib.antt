@@ -41,8 +41,8 @@ pub mod CeilingReads
 pub mod OverText
 pub mod OverReads
 pub mod Earliest
-pub mod NextText
-pub mod NextReads
+pub mod LoginText
+pub mod LoginReads
 pub mod ArrivalText
 pub mod ArrivalReads
 pub mod Keyed

@@ -1,5 +1,5 @@
 -- What the query for a login's days answers of the records.
-use Rattle.std.proofs.Common.{◌≡◌, inl, inr, ℕ, ◌+◌, pos, ◌<◌, ◌≤◌, ◌&&◌, ◌==◌, nat_le, nat_lt, suc, List, [], ◌∷◌, map, filter, length, cond, Bool, true, false, true≢false, Option, Some, None, Ok, Err, Result, Contains, arith, refl, sym, ap, ap₂, subst, ◌∙◌}
+use Rattle.std.proofs.Common.{◌≡◌, ℕ, pos, ◌≤◌, ◌&&◌, nat_le, List, [], ◌∷◌, map, filter, Bool, true, false, true≢false, Option, Some, None, Ok, Err, Result, refl, sym, ap, ap₂, subst, ◌∙◌}
 use Rattle.std.specs.Prelude.{Vec, IfOk, drop}
 use Rattle.std.specs.declared.alloc.Global.{Global}
 use Rattle.std.specs.List.{AllByRecursion, list_all}
@@ -7,11 +7,11 @@ use Rattle.std.specs.List.Sorted.{IsPermutation}
 use Rattle.std.specs.Cmp.{unsigned_Decides}
 use Rattle.std.proofs.Math.Bool.{and-true}
 use Rattle.std.proofs.lemmas.Bool.{and_parts}
-use Rattle.std.proofs.lemmas.List.Sorted.{IsPermutation-sym, length_permutation}
+use Rattle.std.proofs.lemmas.List.Sorted.{IsPermutation-sym}
 use Rattle.std.proofs.lemmas.Slice.Eq.{slice_eq-Decides}
 use Rattle.sqlite.specs.Order.{Row, column}
 use Rattle.sqlite.specs.Term.{eval_all, holds}
-use Rattle.sqlite.specs.declared.types.Value.TheVariants.{Null, Int, Blob}
+use Rattle.sqlite.specs.declared.types.Value.TheVariants.{Null, Int}
 use Rattle.sqlite.specs.declared.error.Error.{Error}
 use Rattle.sqlite.specs.State.{State, Shown}
 use Rattle.sqlite.proofs.Callers.{IsPlain, command_of}
@@ -22,13 +22,13 @@ use Rattle.mq_frame.specs.Same.{same_text}
 use Rattle.mq_rows.specs.Tables.{Tables}
 use Rattle.mq_tables.specs.Ledger.{HasLedger}
 use Rattle.mq_tables.specs.Lent.{key_params}
-use Rattle.mq_tables.proofs.Finds.{none_of, empty_mapped, shown_of}
+use Rattle.mq_tables.proofs.Finds.{shown_of}
 use Rattle.mq_tables.proofs.Firsts as firsts
 use Rattle.mq_tables.proofs.Plain.{any_apart}
 use Rattle.mq_rows.specs.declared.record.UsageRecord.{UsageRecord}
 use Rattle.mq_rows.specs.Found.{is_over, IsFirstOver}
 use Rattle.mq_tables.specs.declared.over.DayTotals.{DayTotals}
-use Rattle.mq_tables.specs.Over.{day_row, is_from, is_past, totals_of, IsTotalsShown, IsEarliest, IsFirstShown}
+use Rattle.mq_tables.specs.Over.{day_row, is_from, is_past, totals_of, IsTotalsShown, IsFirstShown}
 use Rattle.mq_tables.specs.Records.{usage_fields}
 use Rattle.mq_tables.proofs.Tests.{text_test, from_test}
 use Rattle.mq_tables.proofs.Governing.{has_contains}

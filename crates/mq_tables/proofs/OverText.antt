@@ -1,12 +1,11 @@
 -- The query of a login's days from one on, over any schema that has the table at some place.
-use Rattle.std.proofs.Common.{pos, negsuc, ◌≡◌, ◌&&◌, ℕ, ◌^◌, nat_le, List, [], ◌∷◌, ◌==◌, find, drop, map, filter, length, Bool, true, false, Option, Some, None, Ok, Err, Result, codes, slice_get, refl, sym, ap, subst, ◌∙◌}
+use Rattle.std.proofs.Common.{pos, negsuc, ◌≡◌, ℕ, ◌^◌, nat_le, List, [], ◌∷◌, ◌==◌, find, Bool, true, false, Some, None, Ok, Err, codes, slice_get, refl, ap, ◌∙◌}
 use Rattle.sqlite_ast.specs.declared.Expr.{Expr, out-Expr}
 use Rattle.sqlite_ast.specs.declared.Expr.TheOpen.{Expr-F, Shown-F}
 use Rattle.sqlite_ast.specs.declared.Shown.{Shown as ShownExpr, out-Shown}
 use Rattle.sqlite_ast.specs.declared.Source.{Source, out-Source}
 use Rattle.sqlite_ast.specs.declared.Core.{Core, out-Core}
 use Rattle.sqlite_ast.specs.declared.Select.{out-Select}
-use Rattle.sqlite_ast.specs.declared.Sort.{Sort, out-Sort}
 use Rattle.sqlite_ast.specs.declared.Origin.TheVariants as origin
 use Rattle.sqlite_ast.specs.declared.Binary.TheVariants as binary
 use Rattle.sqlite.specs.Schema.{Schema}
@@ -16,18 +15,15 @@ use Rattle.sqlite.specs.Kind.TheVariants.{Integer, Blob as Bytes}
 use Rattle.sqlite_schema.specs.Names.{same_name, table_named, column_named}
 use Rattle.sqlite.specs.Term.{Term, lit, col, op2}
 use Rattle.sqlite_value.specs.declared.keys.Collation.TheVariants.{Binary}
-use Rattle.sqlite_value.specs.declared.keys.Key.{Key}
 use Rattle.sqlite_sql.specs.declared.ops.BinaryOp.TheVariants.{Compare, And}
-use Rattle.sqlite_sql.specs.declared.ops.CompareOp.TheVariants.{Eq, Le, Ge, Gt}
+use Rattle.sqlite_sql.specs.declared.ops.CompareOp.TheVariants.{Eq, Ge}
 use Rattle.sqlite_draft.specs.declared.join.Step.TheVariants.{Inner}
 use Rattle.sqlite_resolve.specs.declared.scope.Bound.{Bound}
 use Rattle.sqlite_resolve.specs.declared.scope.Output.{Output}
 use Rattle.sqlite_resolve.specs.declared.state.State.{State}
-use Rattle.sqlite_resolve.specs.Literal.{integer}
 use Rattle.sqlite_resolve.specs.Lowering.{and_then, fresh, max_budget, nothing, chosen, alone, first_found}
-use Rattle.sqlite_resolve.specs.Scope.{Context, alias_of}
-use Rattle.sqlite_resolve.specs.Select.{outermost, inside}
-use Rattle.sqlite_resolve.specs.Order.{sorts}
+use Rattle.sqlite_resolve.specs.Scope.{Context}
+use Rattle.sqlite_resolve.specs.Select.{outermost}
 use Rattle.sqlite_resolve.specs.Body.{within, bounds, joins, tests, outputs_from}
 use Rattle.sqlite_resolve.specs.Expr.{lower}
 use Rattle.sqlite_resolve.specs.Compare.{compared, affinity_of, of_column, converted, may_be_text}
@@ -39,10 +35,10 @@ use Rattle.sqlite.specs.Command.TheVariants.{Select as Select'}
 use Rattle.sqlite.specs.Listing.{understood, if_select, listing_schema}
 use Rattle.sqlite_tied.specs.Compute.{everything}
 use Rattle.mq_tables.specs.Places.{IsUsageIn}
-use Rattle.mq_tables.specs.Tables.{usage_table, required, keyed}
-use Rattle.mq_tables.specs.Written.{plain_query, latest_query}
+use Rattle.mq_tables.specs.Tables.{usage_table, required}
+use Rattle.mq_tables.specs.Written.{plain_query}
 use Rattle.mq_tables.proofs.Plain.{parsed_in, IsQuery}
-use Rattle.mq_tables.proofs.Selecting.{bound_one, column_shown, column_lowered, integer_lowered, parameter_lowered, and_lowered, equal_lowered, most_lowered, least_lowered, above_lowered, tested, join_one, outputs_end, outputs_next, body_is, parts_are, named_is, query_is, sorts_one, parts_ordered, named_ordered, constant_number, query_ordered, plan_selects}
+use Rattle.mq_tables.proofs.Selecting.{bound_one, column_shown, column_lowered, parameter_lowered, and_lowered, equal_lowered, least_lowered, tested, join_one, outputs_end, outputs_next, body_is, parts_are, named_is, query_is, plan_selects}
 
 abbrev pub select_text : List ℕ
 select_text = codes "SELECT day, settled, reserved FROM usage WHERE login = ?1 AND day >= ?2"

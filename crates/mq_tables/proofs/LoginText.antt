@@ -1,5 +1,5 @@
--- The query of the next login of a day, over any schema that has the table at some place.
-use Rattle.std.proofs.Common.{pos, negsuc, ◌≡◌, ◌&&◌, ℕ, ◌^◌, nat_le, List, [], ◌∷◌, ◌==◌, find, drop, map, filter, length, Bool, true, false, Option, Some, None, Ok, Err, Result, codes, slice_get, refl, sym, ap, subst, ◌∙◌}
+-- The query of the next login, over any schema that has the table at some place.
+use Rattle.std.proofs.Common.{pos, ◌≡◌, ℕ, ◌^◌, nat_le, List, [], ◌∷◌, ◌==◌, find, Bool, true, false, Some, None, Ok, Err, codes, slice_get, refl, ap, ◌∙◌}
 use Rattle.sqlite_ast.specs.declared.Expr.{Expr, out-Expr}
 use Rattle.sqlite_ast.specs.declared.Expr.TheOpen.{Expr-F, Shown-F}
 use Rattle.sqlite_ast.specs.declared.Shown.{Shown as ShownExpr, out-Shown}
@@ -12,13 +12,13 @@ use Rattle.sqlite_ast.specs.declared.Binary.TheVariants as binary
 use Rattle.sqlite.specs.Schema.{Schema}
 use Rattle.sqlite.specs.Table.{Table}
 use Rattle.sqlite.specs.declared.types.Value.TheVariants.{Int}
-use Rattle.sqlite.specs.Kind.TheVariants.{Integer, Blob as Bytes}
+use Rattle.sqlite.specs.Kind.TheVariants.{Blob as Bytes}
 use Rattle.sqlite_schema.specs.Names.{same_name, table_named, column_named}
 use Rattle.sqlite.specs.Term.{Term, lit, col, op2}
 use Rattle.sqlite_value.specs.declared.keys.Collation.TheVariants.{Binary}
 use Rattle.sqlite_value.specs.declared.keys.Key.{Key}
-use Rattle.sqlite_sql.specs.declared.ops.BinaryOp.TheVariants.{Compare, And}
-use Rattle.sqlite_sql.specs.declared.ops.CompareOp.TheVariants.{Eq, Le, Ge, Gt}
+use Rattle.sqlite_sql.specs.declared.ops.BinaryOp.TheVariants.{Compare}
+use Rattle.sqlite_sql.specs.declared.ops.CompareOp.TheVariants.{Ge}
 use Rattle.sqlite_draft.specs.declared.join.Step.TheVariants.{Inner}
 use Rattle.sqlite_resolve.specs.declared.scope.Bound.{Bound}
 use Rattle.sqlite_resolve.specs.declared.scope.Output.{Output}
@@ -39,13 +39,13 @@ use Rattle.sqlite.specs.Command.TheVariants.{Select as Select'}
 use Rattle.sqlite.specs.Listing.{understood, if_select, listing_schema}
 use Rattle.sqlite_tied.specs.Compute.{everything}
 use Rattle.mq_tables.specs.Places.{IsUsageIn}
-use Rattle.mq_tables.specs.Tables.{usage_table, required, keyed}
-use Rattle.mq_tables.specs.Written.{plain_query, latest_query}
+use Rattle.mq_tables.specs.Tables.{usage_table, required}
+use Rattle.mq_tables.specs.Written.{latest_query}
 use Rattle.mq_tables.proofs.Plain.{parsed_in, IsQuery}
-use Rattle.mq_tables.proofs.Selecting.{bound_one, column_shown, column_lowered, integer_lowered, parameter_lowered, and_lowered, equal_lowered, most_lowered, least_lowered, above_lowered, tested, join_one, outputs_end, outputs_next, body_is, parts_are, named_is, query_is, sorts_one, parts_ordered, named_ordered, constant_number, query_ordered, plan_selects}
+use Rattle.mq_tables.proofs.Selecting.{bound_one, column_shown, column_lowered, parameter_lowered, least_lowered, tested, join_one, outputs_end, outputs_next, body_is, sorts_one, parts_ordered, named_ordered, constant_number, query_ordered, plan_selects}
 
 abbrev pub select_text : List ℕ
-select_text = codes "SELECT login, settled, reserved FROM usage WHERE login > ?1 AND day = ?2 ORDER BY login LIMIT 1"
+select_text = codes "SELECT login FROM usage WHERE login >= ?1 ORDER BY login LIMIT 1"
 
 pub select_parsed : first select_text ≡ Ok (parsed_in (first select_text))
 unfolding everything
@@ -67,23 +67,15 @@ record IsWritten : Type 0 where
   src : Source
   shown0 : ShownExpr
   column0 : Expr
-  shown1 : ShownExpr
-  column1 : Expr
-  shown2 : ShownExpr
-  column2 : Expr
   test0 : Expr
   left0 : Expr
   right0 : Expr
-  test1 : Expr
-  left1 : Expr
-  right1 : Expr
-  both0 : Expr
   by : Sort
   key : Expr
   most : Expr
   from : (out-Core core).from ≡ src ∷ []
-  shown : (out-Core core).shown ≡ shown0 ∷ shown1 ∷ shown2 ∷ []
-  filter : (out-Core core).filter ≡ Some both0
+  shown : (out-Core core).shown ≡ shown0 ∷ []
+  filter : (out-Core core).filter ≡ Some test0
   group : (out-Core core).group ≡ []
   having : (out-Core core).having ≡ None
   all : (out-Core core).distinct ≡ false
@@ -94,17 +86,9 @@ record IsWritten : Type 0 where
   inner' : (out-Source src).is_left ≡ false
   shown0_is : out-Shown shown0 ≡ Shown-F.One column0 None (codes "login")
   column0_is : out-Expr column0 ≡ Expr-F.Column None (codes "login")
-  shown1_is : out-Shown shown1 ≡ Shown-F.One column1 None (codes "settled")
-  column1_is : out-Expr column1 ≡ Expr-F.Column None (codes "settled")
-  shown2_is : out-Shown shown2 ≡ Shown-F.One column2 None (codes "reserved")
-  column2_is : out-Expr column2 ≡ Expr-F.Column None (codes "reserved")
-  both0_is : out-Expr both0 ≡ Expr-F.Binary binary.And test0 test1
-  test0_is : out-Expr test0 ≡ Expr-F.Binary binary.Gt left0 right0
+  test0_is : out-Expr test0 ≡ Expr-F.Binary binary.Ge left0 right0
   left0_is : out-Expr left0 ≡ Expr-F.Column None (codes "login")
   right0_is : out-Expr right0 ≡ Expr-F.Parameter 1
-  test1_is : out-Expr test1 ≡ Expr-F.Binary binary.Eq left1 right1
-  left1_is : out-Expr left1 ≡ Expr-F.Column None (codes "day")
-  right1_is : out-Expr right1 ≡ Expr-F.Parameter 2
   key_is : out-Expr key ≡ Expr-F.Column None (codes "login")
   by_key : (out-Sort by).key ≡ key
   by_down : (out-Sort by).descending ≡ false
@@ -123,17 +107,9 @@ written_so = record {
   src = _;
   shown0 = _;
   column0 = _;
-  shown1 = _;
-  column1 = _;
-  shown2 = _;
-  column2 = _;
   test0 = _;
   left0 = _;
   right0 = _;
-  test1 = _;
-  left1 = _;
-  right1 = _;
-  both0 = _;
   by = _;
   key = _;
   most = _;
@@ -150,17 +126,9 @@ written_so = record {
   inner' = refl;
   shown0_is = refl;
   column0_is = refl;
-  shown1_is = refl;
-  column1_is = refl;
-  shown2_is = refl;
-  column2_is = refl;
-  both0_is = refl;
   test0_is = refl;
   left0_is = refl;
   right0_is = refl;
-  test1_is = refl;
-  left1_is = refl;
-  right1_is = refl;
   key_is = refl;
   by_key = refl;
   by_down = refl;
@@ -174,15 +142,15 @@ written_so = record {
   offset = refl;
 }
 
-columns_found : (t : ℕ) → (column_named (record usage_table { tree = t }) (codes "login") ≡ Some 0) × (column_named (record usage_table { tree = t }) (codes "day") ≡ Some 1) × (column_named (record usage_table { tree = t }) (codes "settled") ≡ Some 2) × (column_named (record usage_table { tree = t }) (codes "reserved") ≡ Some 3)
+columns_found : (t : ℕ) → column_named (record usage_table { tree = t }) (codes "login") ≡ Some 0
 unfolding same_name
-columns_found t = (refl, refl, refl, refl)
+columns_found t = refl
 
 abbrev pub key_tests : List Term
-key_tests = op2 (Compare Gt Binary) (col 1 1) (col 0 0) ∷ op2 (Compare Eq Binary) (col 1 2) (col 0 1) ∷ []
+key_tests = op2 (Compare Ge Binary) (col 1 1) (col 0 0) ∷ []
 
 abbrev pub shown_terms : List Term
-shown_terms = col 1 1 ∷ col 1 3 ∷ col 1 4 ∷ []
+shown_terms = col 1 1 ∷ []
 
 abbrev pub order_terms : List (Term × Key)
 order_terms = (col 1 1, record { collation = Binary; descending = false }) ∷ []
@@ -191,7 +159,7 @@ abbrev output_at : List ℕ → ℕ → Output
 output_at name place = record { name = name; is_alias = false; is_column = true; term = col 1 place; carried = record { collation = Some Binary; is_written = false } }
 
 abbrev outputs : List Output
-outputs = output_at (codes "login") 1 ∷ output_at (codes "settled") 3 ∷ output_at (codes "reserved") 4 ∷ []
+outputs = output_at (codes "login") 1 ∷ []
 
 abbrev start : State
 start = fresh 1 max_budget
@@ -206,7 +174,7 @@ abbrev settled_at : ℕ → State
 settled_at budget = record bounded { budget = budget; written = None; last = nothing }
 
 abbrev pub names : List (List ℕ)
-names = codes "login" ∷ codes "settled" ∷ codes "reserved" ∷ []
+names = codes "login" ∷ []
 
 abbrev pub select_compiled : ℕ → Compiled
 select_compiled t = with_command (parsed_in (first select_text)) ([], (Select' (record { lets = []; body = latest_query t key_tests shown_terms order_terms }) names, None))
@@ -231,56 +199,43 @@ module _ (s : Schema) (at t : ℕ) (named : table_named s (codes "usage") ≡ So
   bounds_are : bounds s (out-Core core).from start ≡ Ok (b ∷ [], bounded)
   bounds_are = rw written_so.from (bound_one s written_so.src at (codes "usage") start named written_so.origin_is written_so.alias written_so.using refl)
 
-  shown_are : outputs_from lower (read_as [] true) (b ∷ []) [] (out-Core core).shown bounded ≡ Ok (outputs, after 99997)
+  shown_are : outputs_from lower (read_as [] true) (b ∷ []) [] (out-Core core).shown bounded ≡ Ok (outputs, after 99999)
   shown_are =
       let cx = read_as [] true in
       rw written_so.shown (
-      outputs_next cx (b ∷ []) written_so.shown0 (written_so.shown1 ∷ written_so.shown2 ∷ []) [] (output_at (codes "login") 1 ∷ []) outputs bounded (after 99999) (after 99997)
-      (column_shown cx b [] table refl refl there (codes "login") 0 (required (codes "login") Bytes) (columns_found t).0 refl written_so.column0 written_so.column0_is written_so.shown0 (codes "login") written_so.shown0_is (b ∷ []) [] bounded refl refl)
-      (outputs_next cx (b ∷ []) written_so.shown1 (written_so.shown2 ∷ []) (output_at (codes "login") 1 ∷ []) (output_at (codes "login") 1 ∷ output_at (codes "settled") 3 ∷ []) outputs (after 99999) (after 99998) (after 99997)
-      (column_shown cx b [] table refl refl there (codes "settled") 2 (required (codes "settled") Integer) (columns_found t).2 refl written_so.column1 written_so.column1_is written_so.shown1 (codes "settled") written_so.shown1_is (b ∷ []) (output_at (codes "login") 1 ∷ []) (after 99999) refl refl)
-      (outputs_next cx (b ∷ []) written_so.shown2 [] (output_at (codes "login") 1 ∷ output_at (codes "settled") 3 ∷ []) outputs outputs (after 99998) (after 99997) (after 99997)
-      (column_shown cx b [] table refl refl there (codes "reserved") 3 (required (codes "reserved") Integer) (columns_found t).3 refl written_so.column2 written_so.column2_is written_so.shown2 (codes "reserved") written_so.shown2_is (b ∷ []) (output_at (codes "login") 1 ∷ output_at (codes "settled") 3 ∷ []) (after 99998) refl refl)
-      (outputs_end cx (b ∷ []) outputs (after 99997))))
+      outputs_next cx (b ∷ []) written_so.shown0 [] [] outputs outputs bounded (after 99999) (after 99999)
+      (column_shown cx b [] table refl refl there (codes "login") 0 (required (codes "login") Bytes) (columns_found t) refl written_so.column0 written_so.column0_is written_so.shown0 (codes "login") written_so.shown0_is (b ∷ []) [] bounded refl refl)
+      (outputs_end cx (b ∷ []) outputs (after 99999))
       )
 
-  compared0 : compared (read_as outputs false) (Compare Gt (chosen (record { collation = Some Binary; is_written = false }) nothing)) (col 1 1) (col 0 0) ≡ op2 (Compare Gt Binary) (col 1 1) (col 0 0)
+  compared0 : compared (read_as outputs false) (Compare Ge (chosen (record { collation = Some Binary; is_written = false }) nothing)) (col 1 1) (col 0 0) ≡ op2 (Compare Ge Binary) (col 1 1) (col 0 0)
   unfolding compared affinity_of of_column converted may_be_text chosen alone first_found
   compared0 = rw there
 
-  compared1 : compared (read_as outputs false) (Compare Eq (chosen (record { collation = Some Binary; is_written = false }) nothing)) (col 1 2) (col 0 1) ≡ op2 (Compare Eq Binary) (col 1 2) (col 0 1)
-  unfolding compared affinity_of of_column converted may_be_text chosen alone first_found
-  compared1 = rw there
-
-  test_is : tests lower (read_as outputs false) [] (out-Core core).filter (after 99997) ≡ Ok (key_tests, settled_at 99990)
+  test_is : tests lower (read_as outputs false) [] (out-Core core).filter (after 99999) ≡ Ok (key_tests, settled_at 99996)
   test_is =
       let cx = read_as outputs false in
-      let l0 = column_lowered cx b outputs table refl refl there (codes "login") 0 (required (codes "login") Bytes) (columns_found t).0 refl written_so.left0 written_so.left0_is 697 (settled_at 99995) refl refl in
-      let r0 = parameter_lowered cx 697 written_so.right0 1 written_so.right0_is (after 99994) refl refl in
-      let q0 = above_lowered cx 698 written_so.test0 written_so.left0 written_so.right0 (col 1 1) (col 0 0) (settled_at 99996) (after 99994) (settled_at 99993) written_so.test0_is refl refl l0 r0 refl in
-      let p_test0 = q0 ∙ ap (λ x. Ok (x, settled_at 99993)) compared0 in
-      let l1 = column_lowered cx b outputs table refl refl there (codes "day") 1 (required (codes "day") Integer) (columns_found t).1 refl written_so.left1 written_so.left1_is 697 (settled_at 99992) refl refl in
-      let r1 = parameter_lowered cx 697 written_so.right1 2 written_so.right1_is (after 99991) refl refl in
-      let q1 = equal_lowered cx 698 written_so.test1 written_so.left1 written_so.right1 (col 1 2) (col 0 1) (settled_at 99993) (after 99991) (settled_at 99990) written_so.test1_is refl refl l1 r1 refl in
-      let p_test1 = q1 ∙ ap (λ x. Ok (x, settled_at 99990)) compared1 in
-      let p_both0 = and_lowered cx 699 written_so.both0 written_so.test0 written_so.test1 (op2 (Compare Gt Binary) (col 1 1) (col 0 0)) (op2 (Compare Eq Binary) (col 1 2) (col 0 1)) (after 99997) (settled_at 99993) (settled_at 99990) written_so.both0_is refl refl p_test0 p_test1 refl in
-      rw written_so.filter (tested cx written_so.both0 (op2 And (op2 (Compare Gt Binary) (col 1 1) (col 0 0)) (op2 (Compare Eq Binary) (col 1 2) (col 0 1))) [] (after 99997) (settled_at 99990) p_both0)
+      let l0 = column_lowered cx b outputs table refl refl there (codes "login") 0 (required (codes "login") Bytes) (columns_found t) refl written_so.left0 written_so.left0_is 698 (settled_at 99998) refl refl in
+      let r0 = parameter_lowered cx 698 written_so.right0 1 written_so.right0_is (after 99997) refl refl in
+      let q0 = least_lowered cx 699 written_so.test0 written_so.left0 written_so.right0 (col 1 1) (col 0 0) (after 99999) (after 99997) (settled_at 99996) written_so.test0_is refl refl l0 r0 refl in
+      let p_test0 = q0 ∙ ap (λ x. Ok (x, settled_at 99996)) compared0 in
+      rw written_so.filter (tested cx written_so.test0 (op2 (Compare Ge Binary) (col 1 1) (col 0 0)) [] (after 99999) (settled_at 99996) p_test0)
 
-  joins_are : joins lower (read_as outputs false) (b ∷ []) (out-Core core).from (after 99997) ≡ Ok (record { steps = Inner t ∷ []; filter = [] }, after 99997)
-  joins_are = rw written_so.from (join_one (read_as outputs false) b written_so.src table (after 99997) there refl written_so.inner' written_so.on written_so.using)
+  joins_are : joins lower (read_as outputs false) (b ∷ []) (out-Core core).from (after 99999) ≡ Ok (record { steps = Inner t ∷ []; filter = [] }, after 99999)
+  joins_are = rw written_so.from (join_one (read_as outputs false) b written_so.src table (after 99999) there refl written_so.inner' written_so.on written_so.using)
 
-  sorts_are : sorts lower (inside s (record { tables = b ∷ []; shown = outputs }) false) outputs (written_so.by ∷ []) (settled_at 99990) ≡ Ok (order_terms, after 99989)
+  sorts_are : sorts lower (inside s (record { tables = b ∷ []; shown = outputs }) false) outputs (written_so.by ∷ []) (settled_at 99996) ≡ Ok (order_terms, after 99995)
   unfolding alone
   sorts_are =
       let cx = inside s (record { tables = b ∷ []; shown = outputs }) false in
-      sorts_one cx outputs written_so.by written_so.key (codes "login") (col 1 1) false (settled_at 99990) (after 99989) written_so.key_is written_so.by_key written_so.by_down written_so.by_nulls unaliased
-      (column_lowered cx b outputs table refl refl there (codes "login") 0 (required (codes "login") Bytes) (columns_found t).0 refl written_so.key written_so.key_is 699 (settled_at 99990) refl refl) refl
+      sorts_one cx outputs written_so.by written_so.key (codes "login") (col 1 1) false (settled_at 99996) (after 99995) written_so.key_is written_so.by_key written_so.by_down written_so.by_nulls unaliased
+      (column_lowered cx b outputs table refl refl there (codes "login") 0 (required (codes "login") Bytes) (columns_found t) refl written_so.key written_so.key_is 699 (settled_at 99996) refl refl) refl
 
   asks : accepts_program s [] (latest_query t key_tests shown_terms order_terms) [] ≡ true → understood s select_text ≡ Ok (select_compiled t)
   asks accepted =
-      let whole = body_is s core b outputs (Inner t ∷ []) key_tests start bounded (after 99997) (settled_at 99990) bounds_are shown_are joins_are test_is in
-      let parts = parts_ordered s core b outputs (Inner t ∷ []) key_tests start (settled_at 99990) (after 99989) (written_so.by ∷ []) order_terms whole written_so.group written_so.having sorts_are in
-      let one = named_ordered s core b outputs (Inner t ∷ []) key_tests start (settled_at 99990) (after 99989) (written_so.by ∷ []) order_terms parts refl written_so.all refl (lit (Int (pos 1)), lit (Int (pos 0))) in
+      let whole = body_is s core b outputs (Inner t ∷ []) key_tests start bounded (after 99999) (settled_at 99996) bounds_are shown_are joins_are test_is in
+      let parts = parts_ordered s core b outputs (Inner t ∷ []) key_tests start (settled_at 99996) (after 99995) (written_so.by ∷ []) order_terms whole written_so.group written_so.having sorts_are in
+      let one = named_ordered s core b outputs (Inner t ∷ []) key_tests start (settled_at 99996) (after 99995) (written_so.by ∷ []) order_terms parts refl written_so.all refl (lit (Int (pos 1)), lit (Int (pos 0))) in
       let most = constant_number s written_so.most (codes "1") (Int (pos 1)) written_so.most_is written_so.reads in
       let asked = query_ordered s select_query.0 written_so.src (codes "usage") (written_so.by ∷ []) written_so.most (lit (Int (pos 1))) _ written_so.with written_so.others written_so.order written_so.limit most written_so.offset written_so.from written_so.origin_is one in
       let plan = plan_selects s (parsed_in (first select_text)) select_query.0 _ _ _ select_query.1 select_query.2 asked accepted in
