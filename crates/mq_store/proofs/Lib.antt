@@ -6,3 +6,4 @@ pub mod Keyed
 pub mod Sound
 pub mod Writing
 pub mod Audits
+pub mod Openings

@@ -1,6 +1,6 @@
 -- A ledger that was just made is sound, and one that is opened over sound tables.
-use Rattle.std.proofs.Common.{arith, length, ◌≡◌, inl, inr, ℕ, ℤ, pos, List, [], ◌∷◌, map, Bool, true, false, Some, None, codes, refl, sym, ap, ap₂, subst, ◌∙◌}
-use Rattle.std.specs.Prelude.{if◌then◌else◌, slice_get, option_and_then, option_map, unwrap_or}
+use Rattle.std.proofs.Common.{arith, length, ◌≡◌, ◌⊎◌, inl, inr, ℕ, ℤ, pos, Ok, Err, Result, List, [], ◌∷◌, map, Bool, true, false, Some, None, codes, refl, sym, ap, ap₂, subst, ◌∙◌}
+use Rattle.std.specs.Prelude.{if◌then◌else◌, IfOk, slice_get, option_and_then, option_map, unwrap_or}
 use Rattle.std.specs.List.{filter_map, cons_option}
 use Rattle.std.specs.Ordering.{int_eq}
 use Rattle.std.specs.Cmp.{signed_Decides}
@@ -10,10 +10,14 @@ use Rattle.sqlite.specs.Effect.{Database}
 use Rattle.sqlite.specs.State.{State}
 use Rattle.mq_frame.specs.Range.{IsAmount}
 use Rattle.mq_frame.specs.Reading.{request_at}
+use Rattle.mq_ledger.specs.declared.ledger.LedgerFault.{LedgerFault}
+use Rattle.mq_ledger.specs.declared.ledger.LedgerFault.TheVariants as ledger
 use Rattle.mq_ledger.specs.declared.zone.Zone.{Zone}
 use Rattle.mq_ledger.specs.Answer.{build}
 use Rattle.mq_ledger.specs.Day.{IsOffset, day_of}
 use Rattle.mq_ledger.specs.Legal.{Book, IsLegal, IsLegalBook}
+use Rattle.mq_rows.specs.declared.audited.Audit.{Audit}
+use Rattle.mq_rows.specs.declared.audited.Audit.TheVariants.{Sound, Wrong}
 use Rattle.mq_rows.specs.declared.record.AnswerRecord.{AnswerRecord}
 use Rattle.mq_rows.specs.Tables.{Tables, AreRows}
 use Rattle.mq_tables.specs.Answers.{blob_in, bodies_in, rows_named}
@@ -23,8 +27,10 @@ use Rattle.mq_tables.specs.Reading.{Spares}
 use Rattle.mq_tables.specs.Records.{answer_fields}
 use Rattle.mq_tables.specs.Settings.{SettingRow, HasSetting}
 use Rattle.sqlite.specs.Does.{lacks_sequence}
-use Rattle.mq_store.specs.declared.fault.OpenFault.TheVariants.{ZoneDiffers, DefaultDiffers}
-use Rattle.mq_store.specs.Opening.{made_with, IsOf}
+use Rattle.mq_store.specs.declared.fault.OpenFault.{OpenFault}
+use Rattle.mq_store.specs.declared.fault.OpenFault.TheVariants.{ZoneDiffers, DefaultDiffers, Memory, Store}
+use Rattle.mq_store.specs.Auditing.{IsAuditIn, IsRightAnswer}
+use Rattle.mq_store.specs.Opening.{made_with, fault_in, audit_fault, IsOf, IsOpeningOf}
 use Rattle.mq_store.specs.Taking.{HasBook, book_of}
 use Rattle.mq_store.specs.Soundness.{requests_in, book_in, HasKept, IsSound, IsNew, IsOpened}
 
@@ -120,3 +126,27 @@ opens zone default old new exact spares kept = record {
         ap (book_in zone default) now ∙ sym (ap₂ (λ k n. book_in k n old.now) same.0 same.1),
       );
 }
+
+-- ---- what refuses sound tables
+
+same_setting : (zone : Zone) (default : ℕ) → fault_in zone default (record { version = pos 1; minutes = zone; cap = pos default }) ≡ None
+same_setting zone default = rw ((signed_Decides zone zone).1 refl, (signed_Decides (pos default) (pos default)).1 refl) refl
+
+abbrev pub AreRight : Type 0
+AreRight = (b : Book) (db : Database) (a : Audit) → HasBook b db → IsAuditIn b.zone b.default db a → IsRightAnswer a
+
+stopped_audit : (b : Book) (db : Database) (f : OpenFault) (found : Result Audit LedgerFault) → AreRight → HasBook b db → IfOk found (IsAuditIn b.zone b.default db) → Some f ≡ audit_fault found → (f ≡ Memory) ⊎ (f ≡ Store)
+stopped_audit b db f (Ok (Sound days transactions)) right has is_audit is = absurd cc
+stopped_audit b db f (Ok (Wrong login day)) right has is_audit is = absurd (right b db (Wrong login day) has is_audit)
+stopped_audit b db f (Err ledger.Memory) right has is_audit is = inl cc
+stopped_audit b db f (Err ledger.Store) right has is_audit is = inr cc
+
+pub refuses : (zone : Zone) (default : ℕ) (old : State) (f : OpenFault) → AreRight → ((s : SettingRow) → HasSetting old.now s → IsOpeningOf zone default old.now s (Some f)) → IsSound zone default old → (f ≡ Memory) ⊎ (f ≡ Store)
+refuses zone default old f right exact sound =
+    let b : Book = book_of zone default (book_in zone default old.now).history in
+    elim (subst (λ s. IsOpeningOf zone default old.now (setting_in s) (Some f)) sound.rows.setting (exact (setting_in sound.tables.setting) (setting_of old.now sound.tables sound.holds))) [
+      | inl (inl refused) ↦ absurd (let none = same_setting zone default in cc)
+      | inl (inr (inl memory)) ↦ inl cc
+      | inl (inr (inr store)) ↦ inr cc
+      | inr both ↦ stopped_audit b old.now f both.1.found right (book_had zone default old sound) both.1.is_audit both.1.fault_is
+    ]

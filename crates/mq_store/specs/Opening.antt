@@ -1,6 +1,9 @@
 -- What `open` answers to what the store answers.
-use Rattle.std.specs.Prelude.{◌≡◌, ◌⊎◌, ℕ, pos, if◌then◌else◌, Option, Some, None, Result, Ok, Err}
+use Rattle.std.specs.Prelude.{◌≡◌, ◌⊎◌, ℕ, pos, if◌then◌else◌, Option, Some, None, Result, Ok, Err, IfOk}
 use Rattle.std.specs.Ordering.{int_eq}
+use Rattle.sqlite_trees.specs.declared.store.Store.{Ghosts}
+use Rattle.sqlite.specs.Effect.{Database}
+use Rattle.sqlite.specs.Held.{Held, state}
 use Rattle.sqlite.specs.State.{State}
 use Rattle.sqlite.specs.declared.error.ErrorCode.{ErrorCode}
 use Rattle.sqlite.specs.declared.error.ErrorCode.TheVariants.{OutOfMemory, SystemIoFailure, DatabaseCorrupt, DiskFull}
@@ -10,12 +13,16 @@ use Rattle.sqlite.specs.declared.error.Error.TheVariants.{SqliteFailure}
 use Rattle.mq_ledger.specs.declared.zone.Zone.{Zone}
 use Rattle.mq_ledger.specs.declared.ledger.LedgerFault.{LedgerFault}
 use Rattle.mq_ledger.specs.declared.ledger.LedgerFault.TheVariants as ledger
+use Rattle.mq_rows.specs.declared.audited.Audit.{Audit}
+use Rattle.mq_rows.specs.declared.audited.Audit.TheVariants.{Sound, Wrong}
 use Rattle.mq_tables.specs.declared.setting.Setting.{Setting}
 use Rattle.mq_tables.specs.declared.setting.NewSetting.{NewSetting}
 use Rattle.mq_tables.specs.Reading.{IsRead}
 use Rattle.mq_tables.specs.Settings.{SettingRow, shown_of}
 use Rattle.mq_store.specs.declared.fault.OpenFault.{OpenFault}
-use Rattle.mq_store.specs.declared.fault.OpenFault.TheVariants.{NotOurs, ZoneDiffers, DefaultDiffers, Memory, Store}
+use Rattle.mq_store.specs.declared.fault.OpenFault.TheVariants.{NotOurs, ZoneDiffers, DefaultDiffers, Damaged}
+use Rattle.mq_store.specs.declared.fault.OpenFault.TheVariants.{Memory, Store}
+use Rattle.mq_store.specs.Auditing.{IsAuditIn}
 
 -- what the tables are made with
 abbrev pub made_with : Zone → ℕ → NewSetting
@@ -65,6 +72,47 @@ pub record IsJudged (zone : Zone) (default : ℕ) (old new : State) (fault : Opt
 abbrev pub IsOf : Zone → ℕ → SettingRow → Option OpenFault → Type 0
 IsOf zone default s fault =
     (fault ≡ fault_in zone default (shown_of s)) ⊎ ((fault ≡ Some Memory) ⊎ (fault ≡ Some Store))
+
+-- What an audit finds behind the settings.
+
+-- memory or the store stopped it
+abbrev pub open_fault : LedgerFault → OpenFault
+open_fault ledger.Memory = Memory
+open_fault ledger.Store = Store
+
+-- nothing where each pair is right, else the pair that isn't
+abbrev pub audit_fault : Result Audit LedgerFault → Option OpenFault
+audit_fault (Ok (Sound days transactions)) = None
+audit_fault (Ok (Wrong login day)) = Some (Damaged login day)
+audit_fault (Err fault) = Some (open_fault fault)
+
+-- the fault is that of an audit of these rows
+pub record IsChecked (zone : Zone) (default : ℕ) (db : Database) (fault : Option OpenFault) : Type 0 where
+  pub found : Result Audit LedgerFault
+  pub is_audit : IfOk found (IsAuditIn zone default db)
+  pub fault_is : fault ≡ audit_fault found
+
+-- What `open` answers is what the first of two checks finds; where it finds nothing, what the second does.
+abbrev pub IsInTurn : (Option OpenFault → Type 0) → (Option OpenFault → Type 0) → Option OpenFault → Type 0
+IsInTurn First Second None = First None × Second None
+IsInTurn First Second (Some f) = First (Some f) ⊎ (First None × Second (Some f))
+
+-- the settings are judged so: by an answer that was the last, or by one behind which the connection went on
+abbrev pub IsSettled : {S : Type 0} (g : Ghosts S) → Zone → ℕ → Held S → Held S → Option OpenFault → Type 0
+IsSettled {S} g zone default old new None =
+    (read : Held S) × IsJudged zone default (state g old) (state g read) None
+IsSettled g zone default old new (Some f) = IsJudged zone default (state g old) (state g new) (Some f)
+
+-- first what the store answers to the one query, then an audit of its rows
+abbrev pub IsOpening : {S : Type 0} (g : Ghosts S) → Zone → ℕ → Held S → Held S → Option OpenFault → Type 0
+IsOpening g zone default old new =
+    IsInTurn (IsSettled g zone default old new) (IsChecked zone default (state g old).now)
+
+-- first the row of settings, then an audit of the rows
+abbrev pub IsOpeningOf : Zone → ℕ → Database → SettingRow → Option OpenFault → Type 0
+IsOpeningOf zone default db s = IsInTurn (IsOf zone default s) (IsChecked zone default db)
+
+-- Of a request or an audit.
 
 -- want of memory, and any other cause
 abbrev pub ledger_fault : Error → LedgerFault

@@ -1,10 +1,10 @@
 //! The audit of a store: it reads all rows of three tables, and writes nothing.
 
-ghost use Rattle.std.specs.Prelude.{◌≡◌, false, IfOk, OnOk};
+ghost use Rattle.std.specs.Prelude.{◌≡◌, false, IsTrue, IfOk, OnOk};
 ghost use Rattle.sqlite.specs.Held.{state};
 ghost use Rattle.sqlite.specs.State.{HasCleanDisk, KeepsCommit, Survives};
+ghost use Rattle.mq_tables.specs.Reading.{Spares};
 ghost use Rattle.mq_store.specs.Auditing.{IsAuditIn};
-ghost use Rattle.mq_store.specs.Soundness.{HasKept};
 ghost use Rattle.mq_store.specs.Taking.{Stays};
 
 use crate::fault::Refused;
@@ -25,6 +25,8 @@ fn audit_inside<S: Alter>(
     ensures same_reference { tx.new.conn.ghost_name ≡ tx.old.conn.ghost_name }
     ensures stays { HasCleanDisk (state S.Store tx.new.conn.now)
         → OnOk result (Stays (state S.Store tx.old.conn.now) (state S.Store tx.new.conn.now)) }
+    ensures open { HasCleanDisk (state S.Store tx.new.conn.now)
+        → OnOk result (IsTrue (state S.Store tx.old.conn.now).is_open) }
     ensures audited { HasCleanDisk (state S.Store tx.new.conn.now)
         → IfOk result (IsAuditIn zone default (state S.Store tx.old.conn.now).now) }
     ensures kept { HasCleanDisk (state S.Store tx.new.conn.now)
@@ -54,11 +56,13 @@ pub(crate) fn audit_store<S: Alter>(
     requires autocommit { connection.old.in_transaction ≡ false }
     ensures autocommit { connection.new.in_transaction ≡ false }
     ensures limit { connection.new.step_limit ≡ connection.old.step_limit }
-    ensures kept { HasKept (state S.Store connection.new) → HasKept (state S.Store connection.old) }
-    ensures audited { HasKept (state S.Store connection.new)
+    ensures clean { HasCleanDisk (state S.Store connection.new) → HasCleanDisk (state S.Store connection.old) }
+    ensures open { HasCleanDisk (state S.Store connection.new)
+        → OnOk result (IsTrue (state S.Store connection.old).is_open) }
+    ensures audited { HasCleanDisk (state S.Store connection.new)
         → IfOk result (IsAuditIn zone default (state S.Store connection.old).now) }
-    ensures same { HasKept (state S.Store connection.new)
-        → (state S.Store connection.new).now ≡ (state S.Store connection.old).now }
+    ensures spares { HasCleanDisk (state S.Store connection.new)
+        → Spares (state S.Store connection.old) (state S.Store connection.new) }
 {
     let _settled = connection.is_autocommit();
     let mut tx = connection.transaction();

@@ -1,14 +1,16 @@
 ghost use Rattle.std.specs.Prelude.{◌≡◌};
-ghost use Rattle.mq_store.specs.Opening.{fault_of, fault_of_code, fault_in, judged, ledger_fault};
+ghost use Rattle.mq_store.specs.Opening.{fault_of, fault_of_code, fault_in, judged, ledger_fault, open_fault};
 
+use mq_frame::{Escaped, Login};
 use mq_ledger::{LedgerFault, Zone};
 use mq_tables::setting::Setting;
 use sqlite::{Alter, Connection, Error, ErrorCode};
 use std::alloc::{AllocError, AllocFailed};
 use thiserror::Error as Described;
 
-/// Why a store isn't opened, or isn't made a ledger's.
-#[derive(Debug, Drop, PartialEq, Eq, Described)]
+/// Why a store isn't opened, or isn't made a ledger's. Of the first four, which speak of what it holds,
+/// the first that applies is told.
+#[derive(Debug, Drop, PartialEq, Described)]
 pub enum OpenFault {
     /// To make: a table of one of the five names is there. To open: the row of settings can't be
     /// read, or isn't there, or is one of another version.
@@ -20,10 +22,14 @@ pub enum OpenFault {
     /// It was made with another default.
     #[error("store has another default")]
     DefaultDiffers,
-    /// A growth was refused.
+    /// To open: what the tables say of this login and ledger day doesn't agree; of all such pairs it is the
+    /// least, by the bytes of the login, then by the day. The text has the login as [`Escaped`] does.
+    #[error("store is damaged: login {name} day {day}", name = Escaped(.login.as_slice()))]
+    Damaged { login: Login, day: i64 },
+    /// A growth was refused. What the store holds isn't known.
     #[error("out of memory")]
     Memory,
-    /// The store failed.
+    /// The store failed. What it holds isn't known.
     #[error("store failed")]
     Store,
 }
@@ -85,6 +91,16 @@ pub(crate) fn judged(
         Ok(Some(setting)) => fault_in(zone, default, setting),
         Ok(None) => Some(OpenFault::NotOurs),
         Err(error) => Some(fault_of(error)),
+    }
+}
+
+/// Why a ledger isn't opened where its audit is stopped so.
+pub(crate) fn open_fault(fault: LedgerFault) -> OpenFault
+    ensures { result ≡ open_fault fault }
+{
+    match fault {
+        LedgerFault::Memory => OpenFault::Memory,
+        LedgerFault::Store => OpenFault::Store,
     }
 }
 

@@ -12,13 +12,13 @@ ghost use Rattle.mq_tables.specs.Reading.{Spares};
 ghost use Rattle.mq_tables.specs.Settings.{SettingRow, HasSetting};
 ghost use Rattle.mq_store.specs.Auditing.{IsAuditIn, IsRightAnswer};
 ghost use Rattle.mq_store.specs.Crash.{LeavesNew, LeavesOld, AreApplied};
-ghost use Rattle.mq_store.specs.Opening.{made_with, create_fault, IsJudged, IsOf};
+ghost use Rattle.mq_store.specs.Opening.{made_with, create_fault, IsJudged, IsOf, IsChecked, IsOpening, IsOpeningOf};
 ghost use Rattle.mq_store.specs.Soundness.{book_in, HasKept, IsSound, IsNew, IsOpened};
 ghost use Rattle.mq_store.specs.declared.fault.OpenFault.TheVariants.{NotOurs, Memory, Store};
 
 use crate::apply::apply;
 use crate::auditing::audit_store;
-use crate::fault::{OpenFault, OpenRefused, judged};
+use crate::fault::{OpenFault, OpenRefused, judged, open_fault};
 use crate::laws::{books_are_right, tables_mean_their_book};
 use mq_frame::{Reply, Request};
 use mq_ledger::{Ledger, LedgerFault, Zone};
@@ -51,7 +51,7 @@ impl<S: Alter> Model for SqlLedger<S> {
     ghost invariant = { λ l. IsReady (record { connection = l.connection; zone = l.zone; default = l.default }) };
 }
 
-/// Why the store isn't opened, if it isn't.
+/// Why the store isn't opened by its settings, if it isn't.
 fn fault_in_store<S: Alter>(
     connection: &mut Connection<S>,
     zone: Zone,
@@ -69,6 +69,34 @@ fn fault_in_store<S: Alter>(
 {
     let read = read_setting(connection);
     judged(zone, default, &read)
+}
+
+/// Why the store isn't opened, if it isn't: by its settings, and behind them by an audit of its rows.
+fn fault_in_ledger<S: Alter>(
+    alloc: Global,
+    connection: &mut Connection<S>,
+    zone: Zone,
+    default: u32,
+) -> Option<OpenFault>
+    requires autocommit { connection.old.in_transaction ≡ false }
+    ensures autocommit { connection.new.in_transaction ≡ false }
+    ensures unlimited { connection.new.step_limit ≡ None }
+    ensures found { HasCleanDisk (state S.Store connection.new)
+        → IsOpening S.Store zone default connection.old connection.new result }
+    ensures exact { HasCleanDisk (state S.Store connection.new) → (s : SettingRow)
+        → HasSetting (state S.Store connection.old).now s
+        → IsOpeningOf zone default (state S.Store connection.old).now s result }
+    ensures spares { HasCleanDisk (state S.Store connection.new)
+        → Spares (state S.Store connection.old) (state S.Store connection.new) }
+{
+    if let Some(fault) = fault_in_store(connection, zone, default) {
+        return Some(fault);
+    }
+    match audit_store(alloc, connection, zone, default) {
+        Ok(Audit::Sound { .. }) => None,
+        Ok(Audit::Wrong { login, day }) => Some(OpenFault::Damaged { login, day }),
+        Err(refused) => Some(open_fault(refused.fault)),
+    }
 }
 
 /// What the tables are made with.
@@ -167,8 +195,13 @@ impl<S: Alter> SqlLedger<S> {
 
     /// Opens the ledger that a store holds. It writes nothing. The default is 0 to 1,000,000.
     ///
-    /// The faults for content come in this order: `NotOurs`, `ZoneDiffers`, `DefaultDiffers`;
-    /// `Memory` and `Store` stop the reading. A connection within a transaction is `Store`.
+    /// The faults for content come in this order: `NotOurs`, `ZoneDiffers`, `DefaultDiffers`, and
+    /// behind these the tables are audited as by [`SqlLedger::audit`], which reads all rows of three of
+    /// them into memory: `Damaged` with the least pair that isn't right. `Memory` and `Store` come
+    /// wherever they stop the reading. A connection within a transaction is `Store`.
+    ///
+    /// So where zone and default agree, a store that a ledger left is refused by `Memory` and `Store`
+    /// alone.
     pub fn open(
         alloc: Global,
         connection: Connection<S>,
@@ -178,23 +211,29 @@ impl<S: Alter> SqlLedger<S> {
         requires in_range { IsAmount default }
         ensures lent { IfOk result (λ l. (l.zone ≡ zone) × (l.default ≡ default)) }
 
-        // Over any store: what the store answers to the one query decides.
+        // Over any store: what the store answers to the one query decides, and behind it the audit.
         ensures ok { IfOk result (λ l. HasCleanDisk (state S.Store l.connection)
-            → IsJudged zone default (state S.Store connection) (state S.Store l.connection) None) }
+            → IsOpening S.Store zone default connection l.connection None) }
         ensures err { IfErr result (λ e. HasCleanDisk (state S.Store e.connection)
             → connection.in_transaction ≡ false
-            → IsJudged zone default (state S.Store connection) (state S.Store e.connection) (Some e.fault)) }
+            → IsOpening S.Store zone default connection e.connection (Some e.fault)) }
 
-        // Over a store with our table of settings, wherever it stands: its row decides.
+        // Over a store with our table of settings, wherever it stands: its row decides, and behind it
+        // the audit.
         ensures exact_ok { IfOk result (λ l. HasCleanDisk (state S.Store l.connection) → (s : SettingRow)
-            → HasSetting (state S.Store connection).now s → IsOf zone default s None) }
+            → HasSetting (state S.Store connection).now s
+            → IsOpeningOf zone default (state S.Store connection).now s None) }
         ensures exact_err { IfErr result (λ e. HasCleanDisk (state S.Store e.connection)
             → connection.in_transaction ≡ false → (s : SettingRow)
-            → HasSetting (state S.Store connection).now s → IsOf zone default s (Some e.fault)) }
+            → HasSetting (state S.Store connection).now s
+            → IsOpeningOf zone default (state S.Store connection).now s (Some e.fault)) }
 
-        // Over sound tables: they are this ledger's, and mean what they meant.
+        // Over sound tables: they are this ledger's, and mean what they meant; and where they are of
+        // this zone and default, only memory and the store stand in the way.
         ensures sound { IfOk result (λ l. HasKept (state S.Store l.connection)
             → IsOpened zone default (state S.Store connection) (state S.Store l.connection)) }
+        ensures sound_err { IfErr result (λ e. HasCleanDisk (state S.Store e.connection)
+            → IsSound zone default (state S.Store connection) → (e.fault ≡ Memory) ⊎ (e.fault ≡ Store)) }
 
         // The connection is outside a transaction where it was lent so, and a ledger's always is.
         ensures autocommit_ok { IfOk result (λ l. (connection.in_transaction ≡ false)
@@ -212,7 +251,8 @@ impl<S: Alter> SqlLedger<S> {
             let fault = OpenFault::Store;
             return Err(OpenRefused { fault, connection });
         }
-        match fault_in_store(&mut connection, zone, default) {
+        books_are_right();
+        match fault_in_ledger(alloc, &mut connection, zone, default) {
             None => Ok(SqlLedger {
                 alloc,
                 connection,
@@ -229,10 +269,13 @@ impl<S: Alter> SqlLedger<S> {
     /// A pair is right where what its row of `usage` has settled and reserved is what its
     /// transactions settled and hold, exactly, where both together are within its limit, and where
     /// each of its transactions has a moment of its day. It reads all these rows into memory. The
-    /// fault is `Memory`, or `Store` where a statement was refused for another cause.
+    /// fault is `Memory`, or `Store` where a statement was refused for another cause, and says nothing
+    /// of the pairs.
+    ///
+    /// A crash behind it, whatever it answered, leaves what a crash before it could leave.
     pub fn audit(&mut self) -> Result<Audit, LedgerFault>
         ensures lent { (self.new.zone ≡ self.old.zone) × (self.new.default ≡ self.old.default) }
-        ensures audited { HasKept (state S.Store self.new.connection)
+        ensures audited { HasCleanDisk (state S.Store self.new.connection)
             → IfOk result (IsAuditIn self.old.zone self.old.default (state S.Store self.old.connection).now) }
 
         // Over a sound store it is never wrong.
@@ -243,6 +286,11 @@ impl<S: Alter> SqlLedger<S> {
             → (state S.Store self.new.connection).now ≡ (state S.Store self.old.connection).now }
         ensures kept { HasKept (state S.Store self.new.connection)
             → HasKept (state S.Store self.old.connection) }
+        ensures autocommit { self.new.connection.in_transaction ≡ false }
+
+        // What an open after a crash may find.
+        ensures crash { HasCleanDisk (state S.Store self.new.connection) → (db : Trees)
+            → (state S.Store self.new.connection).may_leave db → (state S.Store self.old.connection).may_leave db }
     {
         books_are_right();
         let found = audit_store(self.alloc, &mut self.connection, self.zone, self.default)?;

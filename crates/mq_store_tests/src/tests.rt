@@ -7,6 +7,7 @@ mod stops;
 mod worked;
 
 use asks::{ask, check, new_ledger, request_of, zone};
+use audits::damaged;
 use mq_ledger::{Ledger, LedgerFault};
 use mq_store::{OpenFault, OpenRefused, SqlLedger};
 use sqlite::{Connection, MemStore};
@@ -77,6 +78,11 @@ fn stores_of_others(rt: HostRuntime) -> Result<(), Fail> {
             CREATE VIEW setting AS SELECT 1 AS id, 1 AS version, 60 AS minutes, 4 AS cap",
             OpenFault::DefaultDiffers,
         ),
+        (
+            "CREATE TABLE other (b TEXT); \
+            CREATE VIEW setting AS SELECT 1 AS id, 1 AS version, 60 AS minutes, 3 AS cap",
+            OpenFault::Store,
+        ),
     ] {
         refused(open(rt, store(rt, text)?, 60)?, fault)?;
     }
@@ -116,14 +122,22 @@ fn taken_apart_and_opened(rt: HostRuntime) -> Result<(), Fail> {
     Ok(())
 }
 
-/// Rows that no history has: a request that reads such a row is answered by the store's fault.
+/// Rows that no history has, but of which each pair is right: a request that reads such a row is
+/// answered by the store's fault.
 #[test]
 fn rows_of_no_history(rt: HostRuntime) -> Result<(), Fail> {
     let settle = "02 0161 0000000000000001 00000002 00000001 0000000000015180 0175 00000001";
     for (text, request) in [
-        ("UPDATE usage SET settled = -1", USAGE),
+        (
+            "UPDATE usage SET settled = -1; UPDATE trans SET settled = -1",
+            USAGE,
+        ),
         ("UPDATE answer SET reply = x'00'", RESERVE_ONE),
-        ("UPDATE trans SET held = 4294967296", settle),
+        (
+            "UPDATE trans SET held = 4294967296; \
+            INSERT INTO trans VALUES (x'62', 1, 1, x'75', 86400, 1, -4294967295, 0, 0)",
+            settle,
+        ),
     ] {
         let mut ledger = new_ledger(rt.alloc(), 3)?;
         check(&rt, rt.alloc(), &mut ledger, &[(RESERVE_ONE, GRANTED_ONE)])?;
@@ -156,6 +170,14 @@ fn texts(rt: HostRuntime) -> Result<(), Fail> {
         (OpenFault::NotOurs, "store is not this ledger"),
         (OpenFault::ZoneDiffers, "store has another offset"),
         (OpenFault::DefaultDiffers, "store has another default"),
+        (
+            damaged(rt.alloc(), b"u", 1)?,
+            "store is damaged: login u day 1",
+        ),
+        (
+            damaged(rt.alloc(), b"a b\\", -9_223_372_036_854_775_808)?,
+            "store is damaged: login a\\x20b\\x5c day -9223372036854775808",
+        ),
         (OpenFault::Memory, "out of memory"),
         (OpenFault::Store, "store failed"),
     ] {

@@ -8,6 +8,7 @@ import collections
 import itertools
 import os
 import random
+import re
 import resource
 import shutil
 import signal
@@ -25,13 +26,15 @@ DEFAULT = 1_000_000
 FRAMES = 200
 # how many bytes are changed, each in a file of its own
 PLACES = 100
-REFUSALS = {
-    f"mailquota: {text}\n"
-    for text in [
-        "store can't be opened", "store is not this ledger", "store has another offset", "store has another default",
-        "store failed", "out of memory",
-    ]
-}
+REFUSAL = re.compile(
+    r"mailquota: (store can't be opened|store is not this ledger|store has another (offset|default)|store failed|out of memory"
+    r"|store is damaged: login ([!-\[\]-~]|\\x[0-9a-f]{2})* day -?[0-9]+)\n"
+)
+
+
+def is_refusal(text):
+    """Whether a server that doesn't open its store, or ends by it, says this."""
+    return REFUSAL.fullmatch(text) is not None
 
 
 def run(world, checks):
@@ -169,7 +172,7 @@ def a_full_disk(world, checks, disk, larger):
         checks.holds(f"{what}, and a new start: old answers", good, "none that differs", again)
         if ends_by_itself(server, seconds=2):
             status, text = how_it_ended(server)
-            checks.holds(f"{what}, and a new start: its end", status == 1 and text in REFUSALS, "status 1 and a text", (status, text))
+            checks.holds(f"{what}, and a new start: its end", status == 1 and is_refusal(text), "status 1 and a text", (status, text))
     disk.remount(f"size={larger}")
     with Server(world, store=path, default=DEFAULT) as server:
         same_answers(checks, f"{what}, and room again", server, asked)
@@ -335,8 +338,8 @@ def asked_over(world, path, frames):
 
 
 def wrong_end(outcome):
-    known = {"it serves", *(f"status 1, {text.strip()}" for text in REFUSALS)}
-    return None if outcome in known else outcome
+    status, _, text = outcome.partition(", ")
+    return None if outcome == "it serves" or status == "status 1" and is_refusal(f"{text}\n") else outcome
 
 
 def other_databases(world, checks):
@@ -355,7 +358,7 @@ def other_databases(world, checks):
                 database.execute(statement)
         database.close()
         status, output, errors = world.run("server", "--config", world.new_file(settings_of(path)))
-        checks.holds(f"{what}", (status, output) == (1, b"") and apart(errors)[1] in REFUSALS, "status 1 and a text", (status, output, errors))
+        checks.holds(f"{what}", (status, output) == (1, b"") and is_refusal(apart(errors)[1]), "status 1 and a text", (status, output, errors))
     path = f"{world.folder}/noise"
     with open(path, "wb") as file:
         file.write(b"SQLite format 3\0" + random.Random(3).randbytes(20_000))

@@ -4,7 +4,7 @@
 use super::asks::{ask, new_ledger, reply_of, request_of, zone};
 use super::worked::{RESERVED_TWICE, SETTLED_ONCE};
 use mq_frame::{Reply, Request};
-use mq_store::{OpenFault, SqlLedger};
+use mq_store::{Audit, OpenFault, SqlLedger};
 use sqlite::{Alter, Connection, Error, FileStore, Files, Options, Row};
 use sqlite_disk::{Crash, Disk, Fuse, Memory};
 use std::alloc::Global;
@@ -205,8 +205,8 @@ fn check_left(
     let Ok(connection) = connect(alloc, files) else {
         return Err("the files don't open".into());
     };
-    let mut connection = match SqlLedger::open(alloc, connection, zone(0)?, 3) {
-        Ok(ledger) => ledger.into_connection(),
+    let mut ledger = match SqlLedger::open(alloc, connection, zone(0)?, 3) {
+        Ok(ledger) => ledger,
         Err(refused) => {
             assert_eq!(rt; stop, Stop::Making);
             assert_eq!(rt; refused.fault, OpenFault::NotOurs);
@@ -214,6 +214,10 @@ fn check_left(
             return Ok(None);
         }
     };
+    let Ok(Audit::Sound { .. }) = ledger.audit() else {
+        return Err("not sound".into());
+    };
+    let mut connection = ledger.into_connection();
     let rows = rows_of(alloc, &mut connection)?;
     assert!(rt; may_be_found(script, stop, rows.as_str()));
     Ok(Some(connection))

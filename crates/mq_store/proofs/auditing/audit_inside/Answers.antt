@@ -17,3 +17,9 @@ returns-clause-audited g c clean = λ f has.
       same = record { usage = c.in_ok-usage.ensures.found first f has; transactions = c.in_ok-transactions.ensures.found second f has_one; limits = c.in_ok-limits.ensures.found clean f has_two };
       audited = rw (c.as_slice.ensures.value, c.as_slice-2.ensures.value, c.as_slice-3.ensures.value) at c.in_ok-audit.ensures;
     }
+
+pub returns-clause-open : goal.returns-clause-open
+returns-clause-open g c clean =
+    let second : HasCleanDisk (state g.S.Store c.read_transactions.new.tx.conn.now) = omega (arith, c.read_limits.ensures.survives.clean) in
+    let first : HasCleanDisk (state g.S.Store c.read_usage.new.tx.conn.now) = omega (arith, second, c.read_transactions.ensures.survives.clean) in
+    (c.in_ok-usage.ensures.same first).0.was_open

@@ -7,4 +7,4 @@ pub returns-clause-sound : goal.returns-clause-sound
 returns-clause-sound g c = rw (← c.self.view_is) (λ kept sound.
     let l = c.self.inside in
     let old = state g.S.Store l.connection in
-    c.books_are_right.ensures (book_in l.zone l.default old.now) old.now c.in_ok-found.found (book_had l.zone l.default old sound) (c.in_ok-found.ensures.audited kept))
+    c.books_are_right.ensures (book_in l.zone l.default old.now) old.now c.in_ok-found.found (book_had l.zone l.default old sound) (c.in_ok-found.ensures.audited kept.clean))

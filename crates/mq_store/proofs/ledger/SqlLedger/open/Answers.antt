@@ -1,7 +1,11 @@
 use Rattle.sqlite.specs.Held.{state}
-use Rattle.mq_store.proofs.Sound.{opens}
+use Rattle.mq_store.proofs.Sound.{opens, refuses}
 use Rattle.mq_store.proofs.ledger.SqlLedger.open.Goals as goal
 
 pub returns-in-None-clause-sound : goal.returns-in-None-clause-sound
 returns-in-None-clause-sound g c kept =
-    opens c.args.zone c.args.default (state g.S.Store c.args.connection) (state g.S.Store c.fault_in_store.new.connection) (c.in-None.ensures.exact kept.clean) (c.in-None.ensures.spares kept.clean) kept
+    opens c.args.zone c.args.default (state g.S.Store c.args.connection) (state g.S.Store c.fault_in_ledger.new.connection) (λ s has. (c.in-None.ensures.exact kept.clean s has).0) (c.in-None.ensures.spares kept.clean) kept
+
+pub returns-in-Some-clause-sound_err : goal.returns-in-Some-clause-sound_err
+returns-in-Some-clause-sound_err g c clean sound =
+    refuses c.args.zone c.args.default (state g.S.Store c.args.connection) c.in-Some.fault c.books_are_right.ensures (c.in-Some.ensures.exact clean) sound
