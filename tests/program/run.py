@@ -12,8 +12,8 @@ from checks import Checks
 from ends import World
 
 GROUPS = [
-    "words", "filter_settings", "server_settings", "peers", "filters", "recordings", "asking", "two_hosts", "signals", "stores", "kills",
-    "failures",
+    "words", "filter_settings", "server_settings", "peers", "filters", "recordings", "asking", "two_hosts", "signals",
+    "stores", "audits", "kills", "failures",
 ]
 # these run only where they are named
 LONG_GROUPS = ["many_pages"]

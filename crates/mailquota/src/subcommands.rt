@@ -169,7 +169,7 @@ const WEST: CommandOption = CommandOption {
 };
 
 /// The subcommands, in the order in which people need them.
-pub const SUBCOMMANDS: [Subcommand; 5] = [
+pub const SUBCOMMANDS: [Subcommand; 6] = [
     Subcommand {
         name: "server",
         about: "Serve the ledger to filters",
@@ -189,6 +189,11 @@ pub const SUBCOMMANDS: [Subcommand; 5] = [
         name: "report",
         about: "Print what logins used on a day",
         options: &[SERVER, DAY, ONE_LOGIN],
+    },
+    Subcommand {
+        name: "audit",
+        about: "Check the books of the ledger in a file",
+        options: &[CONFIG],
     },
     Subcommand {
         name: "replay",

@@ -7,7 +7,8 @@ use crate::subcommands::{CommandOption, SUBCOMMANDS, Subcommand, Takes, VERSION}
 use clap::error::ErrorKind;
 use clap::{Arg, ArgAction, ArgMatches, Command, Error, value_parser};
 use mq_program::{
-    Arguments, FilterArguments, LimitArguments, ReplayArguments, ReportArguments, ServerArguments,
+    Arguments, AuditArguments, FilterArguments, LimitArguments, ReplayArguments, ReportArguments,
+    ServerArguments,
 };
 use std::alloc::{AllocError, Global};
 
@@ -66,6 +67,9 @@ pub fn read_arguments<'a>(alloc: Global, words: &'a [String]) -> Result<Argument
             server: text_of(found, "server"),
             day: number_of(found, "day", 0, 376_200),
             login: found.get_str("login"),
+        })),
+        Some(("audit", found)) => Ok(Arguments::Audit(AuditArguments {
+            config: text_of(found, "config"),
         })),
         Some((_, found)) => Ok(Arguments::Replay(replay_of(found))),
         None => Err(WordsFault::Words(program.error(

@@ -12,7 +12,7 @@ mod report;
 pub use ask::{AskFault, TRIES};
 pub use connections::{TEXT_LIMIT, TextFault, read_connections};
 pub use limit::{SetFault, run_limit};
-pub use output::OutputFault;
+pub use output::{OutputFault, write_whole};
 pub use printed::login_text;
 pub use replay::{Ending, ReplayFault, run_replay};
 pub use report::{ReportFault, run_report};

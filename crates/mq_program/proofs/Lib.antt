@@ -1,1 +1,2 @@
+pub mod AuditSteps
 pub mod RefusalSteps

@@ -6,7 +6,7 @@ use Rattle.mq_frame.specs.Range.{IsLogin}
 use Rattle.mq_program.specs.Arguments.{Refuses}
 use Rattle.mq_program.specs.Faults.{fault_status}
 use Rattle.mq_program.specs.declared.arguments.Arguments.{Arguments}
-use Rattle.mq_program.specs.declared.arguments.Arguments.TheVariants.{Replay, Filter, Server, Limit, Report}
+use Rattle.mq_program.specs.declared.arguments.Arguments.TheVariants.{Replay, Filter, Server, Limit, Report, Audit}
 use Rattle.mq_program.specs.declared.fault.ProgramFault.{ProgramFault}
 use Rattle.mq_program.specs.declared.fault.ProgramFault.TheVariants.{Host, Login, Address}
 
@@ -26,6 +26,7 @@ for_refusals : (given : Arguments) (A B : ProgramFault → Type 0) → ((fault :
 for_refusals (Replay given) A B step refuses = refuses
 for_refusals (Filter given) A B step refuses = refuses
 for_refusals (Server given) A B step refuses = refuses
+for_refusals (Audit given) A B step refuses = refuses
 for_refusals (Limit given) A B step refuses = record {
   host = λ no. step Host (refuses.host no);
   login = λ host no. step Login (refuses.login host no);

@@ -9,7 +9,8 @@ use Rattle.mq_program.specs.declared.arguments.ReportArguments.{ReportArguments}
 use Rattle.mq_program.specs.declared.arguments.Arguments.{Arguments}
 use Rattle.mq_program.specs.declared.fault.ProgramFault.{ProgramFault}
 use Rattle.mq_program.specs.declared.fault.ProgramFault.TheVariants.{Host, Login, Address}
-use Rattle.mq_program.specs.declared.arguments.Arguments.TheVariants.{Replay, Filter, Server, Limit, Report}
+use Rattle.mq_program.specs.declared.arguments.Arguments.TheVariants.{Replay, Filter, Server, Limit, Report, Audit}
+use Rattle.mq_settings.specs.declared.settings.ServerSettings.{ServerSettings}
 
 -- a limit of 0 to 1,000,000 and an offset of -1,439 to 1,439 minutes
 pub record IsReplayArguments (given : ReplayArguments) : Type 0 where
@@ -22,6 +23,12 @@ pub record IsLimitArguments (given : LimitArguments) : Type 0 where
   pub cap : IsAmount given.cap
   pub run : IfSome given.run IsRun
 
+-- a limit of 0 to 1,000,000 and an offset of -1,439 to 1,439 minutes, from a file of settings
+pub record AreInRange (settings : ServerSettings) : Type 0 where
+  pub default : IsAmount settings.default
+  pub west : negsuc 1438 ≤ℤ settings.offset
+  pub east : settings.offset ≤ℤ pos 1439
+
 -- the numbers are within their ranges
 abbrev pub IsArguments : Arguments → Type 0
 IsArguments (Replay given) = IsReplayArguments given
@@ -29,6 +36,7 @@ IsArguments (Filter given) = IfSome given.run IsRun
 IsArguments (Server given) = IsWithin 1 1000000 given.connections
 IsArguments (Limit given) = IsLimitArguments given
 IsArguments (Report given) = IsDay given.day
+IsArguments (Audit given) = ⊤
 
 -- the text spells no numeric address and port
 abbrev pub IsNoAddress : List ℕ → Type 0

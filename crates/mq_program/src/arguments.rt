@@ -31,6 +31,13 @@ pub struct ServerArguments<'a> {
     pub connections: u32,
 }
 
+/// What `audit` is given.
+#[derive(Clone, Copy, Debug, PartialEq)]
+pub struct AuditArguments<'a> {
+    /// The file of the server's settings.
+    pub config: &'a str,
+}
+
 /// What `limit` is given.
 #[derive(Clone, Copy, Debug, PartialEq)]
 pub struct LimitArguments<'a> {
@@ -63,4 +70,5 @@ pub enum Arguments<'a> {
     Server(ServerArguments<'a>),
     Limit(LimitArguments<'a>),
     Report(ReportArguments<'a>),
+    Audit(AuditArguments<'a>),
 }

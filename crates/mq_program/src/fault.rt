@@ -6,6 +6,7 @@ ghost use Rattle.mq_program.specs.Faults.{or_memory_of};
 use log::sink::Console;
 use log::{LevelFilter, Logged, error};
 use mq_client::FilterFault;
+use mq_ledger::LedgerFault;
 use mq_server::ServeFault;
 use mq_settings::{FileFault, SettingsFault};
 use mq_store::{OpenFault, OpenRefused};
@@ -47,6 +48,12 @@ pub enum ProgramFault {
     Store,
     #[error("{0}")]
     Open(OpenFault),
+    /// There is no file to audit.
+    #[error("store is memory")]
+    MemoryStore,
+    /// The rows of an open ledger weren't read to their end.
+    #[error("{0}")]
+    Audit(LedgerFault),
     #[error("listen failed")]
     Listen,
     #[error("accept failed")]
@@ -109,6 +116,16 @@ impl<S: Alter + Drop> From<OpenRefused<S>> for ProgramFault {
 
     fn from(refused: OpenRefused<S>) -> ProgramFault {
         ProgramFault::Open(refused.fault)
+    }
+}
+
+impl From<LedgerFault> for ProgramFault {
+    ghost use Rattle.mq_program.specs.declared.fault.ProgramFault.TheVariants.{Audit};
+
+    ghost from_gives = { λ cause fault. fault ≡ Audit cause };
+
+    fn from(cause: LedgerFault) -> ProgramFault {
+        ProgramFault::Audit(cause)
     }
 }
 

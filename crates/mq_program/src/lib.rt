@@ -4,6 +4,7 @@
 mod accept;
 mod admin;
 mod arguments;
+mod audit;
 mod clock;
 mod fault;
 mod filter;
@@ -17,8 +18,10 @@ mod subcommand;
 
 pub use admin::{limit, report};
 pub use arguments::{
-    Arguments, FilterArguments, LimitArguments, ReplayArguments, ReportArguments, ServerArguments,
+    Arguments, AuditArguments, FilterArguments, LimitArguments, ReplayArguments, ReportArguments,
+    ServerArguments,
 };
+pub use audit::audit_ledger;
 pub use clock::run_number;
 pub use fault::{ProgramFault, or_memory};
 pub use server::{listen, serve_connections};

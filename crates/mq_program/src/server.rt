@@ -1,5 +1,6 @@
 //! `server`: serves a ledger to filters.
-ghost use Rattle.std.specs.Prelude.{◌≡◌};
+ghost use Rattle.std.specs.Prelude.{◌≡◌, IfOk};
+ghost use Rattle.mq_program.specs.Arguments.{AreInRange};
 
 use crate::arguments::ServerArguments;
 use crate::fault::{ProgramFault, logged_of};
@@ -16,15 +17,21 @@ use std::net::{Net, TcpListener, TcpStream};
 use std::rt::Clock;
 use std::time::Duration;
 
-/// Serves so many connections: the settings first, then the ledger, then the port.
-pub fn server(rt: &HostRuntime, given: ServerArguments<'_>) -> Result<u8, ProgramFault> {
-    let file = given.config;
+/// The server's settings in a file. Why they can't be used is logged.
+pub fn server_settings(rt: &HostRuntime, file: &str) -> Result<ServerSettings, ProgramFault>
+    ensures { IfOk result AreInRange }
+{
     let text = read_file(rt, file).map_err(|fault| logged_of(rt, file, ProgramFault::File(fault)))?;
-    let settings = read_server_settings(rt.alloc(), text.as_slice()).map_err(|fault| logged_of(
+    read_server_settings(rt.alloc(), text.as_slice()).map_err(|fault| logged_of(
         rt,
         file,
         ProgramFault::Settings(fault),
-    ))?;
+    ))
+}
+
+/// Serves so many connections: the settings first, then the ledger, then the port.
+pub fn server(rt: &HostRuntime, given: ServerArguments<'_>) -> Result<u8, ProgramFault> {
+    let settings = server_settings(rt, given.config)?;
     let logged = Logged::new(rt, settings.log, Console(rt));
     let zone = Zone::of_offset(settings.offset).unwrap();
     let count = given.connections;

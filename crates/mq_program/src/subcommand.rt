@@ -5,6 +5,7 @@ ghost use Rattle.mq_program.specs.Faults.{fault_status};
 
 use crate::admin::{limit, report};
 use crate::arguments::Arguments;
+use crate::audit::audit;
 use crate::fault::ProgramFault;
 use crate::filter::filter;
 use crate::replay::replay;
@@ -45,5 +46,6 @@ fn status_of<E: Write>(
         Arguments::Server(given) => server(rt, given),
         Arguments::Limit(given) => limit(rt, given, errors),
         Arguments::Report(given) => report(rt, given, errors),
+        Arguments::Audit(given) => audit(rt, given),
     }
 }

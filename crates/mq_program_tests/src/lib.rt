@@ -1,4 +1,4 @@
-//! Tests of `mq_program`: the clock, the texts of faults, and both ends over TCP.
+//! Tests of `mq_program`: the clock, the texts of faults, audits, and both ends over TCP.
 #![tactic(auto)]
 
 #[cfg(test)]

@@ -1,5 +1,6 @@
 //! The subcommands without a command line.
 
+mod audits;
 mod clock;
 mod link;
 mod refusals;

@@ -2,10 +2,12 @@
 
 Four hosts send numbered requests, each again until its reply was read, and the server is killed by SIGKILL again and again. After each
 start every reply that was read has to be the answer to its number still, and what each login has used on each day what was granted.
+Now and then `audit` is asked of the file in between.
 """
 import itertools
 import os
 import random
+import re
 import signal
 import socket
 import subprocess
@@ -23,6 +25,7 @@ DEFAULT = 200
 # Frames on one connection; the server takes 10,000.
 MOST_FRAMES = 5_000
 GRANTED, SETTLED, RELEASED = 0x81, 0x83, 0x84
+SOUND = re.compile(rb"sound days=([0-9]+) transactions=([0-9]+)\n")
 
 
 class FileServer:
@@ -35,10 +38,14 @@ class FileServer:
         self.process = None
         self.port = None
 
+    def settings(self, port):
+        """A file of settings."""
+        whole = {"listen": f"127.0.0.1:{port}", "store": self.store, "default": DEFAULT, "offset": 0, "timeout": 20_000}
+        return self.world.new_file(toml(whole))
+
     def start(self, *options):
         port = free_port()
-        settings = {"listen": f"127.0.0.1:{port}", "store": self.store, "default": DEFAULT, "offset": 0, "timeout": 20_000}
-        words = [self.world.program, "server", "--config", self.world.new_file(toml(settings)), *options]
+        words = [self.world.program, "server", "--config", self.settings(port), *options]
         with open(self.log, "ab") as log:
             self.process = subprocess.Popen(words, stdin=subprocess.DEVNULL, stdout=log, stderr=log)
         return port
@@ -56,6 +63,10 @@ class FileServer:
         if self.process.poll() is None:
             os.kill(self.process.pid, signal.SIGKILL)
         self.process.wait(timeout=SECONDS)
+
+    def audit(self):
+        """What `audit` says while no server has the file."""
+        return self.world.run("audit", "--config", self.settings(free_port()))
 
     def replies(self, frames):
         """What comes back for these frames, whole frame by whole frame, until the connection breaks."""
@@ -115,6 +126,7 @@ class Host(threading.Thread):
         self.chance = random.Random(name)
         self.sequence = itertools.count(1)
         self.answered = {}
+        self.mails = 0
         self.totals = {}
         self.cut = 0
         self.over = False
@@ -132,6 +144,7 @@ class Host(threading.Thread):
         sender = {"txn": txn, "login": login, "at": 86_400 * day, "host": self.host}
         counts = [self.chance.randint(1, 3) for _ in range(self.chance.randint(1, 4))]
         replies = self.deliver([wire.reserve(next(self.sequence), count=count, **sender) for count in counts])
+        self.mails += 1
         granted = sum(count for count, reply in zip(counts, replies) if reply[2] == GRANTED)
         settled, reserved = 0, granted
         closing = self.chance.choice(["settle", "release", "neither"])
@@ -167,7 +180,7 @@ class Watch:
 
     def __init__(self, server, hosts):
         self.server, self.hosts = server, hosts
-        self.changed, self.miscounted = [], []
+        self.changed, self.miscounted, self.unsound = [], [], []
         self.asked = 0
 
     def look(self, kill):
@@ -184,6 +197,15 @@ class Watch:
             if reply != wire.frame(wanted) or settled + reserved > DEFAULT:
                 self.miscounted.append((kill, login, day, settled, reserved, reply.hex()))
 
+    def audit(self, kill):
+        """It finds the transactions whose reserves were answered, and at most the one more that each host had begun."""
+        status, output, errors = self.server.audit()
+        found, answered = SOUND.fullmatch(output), sum(host.mails for host in self.hosts)
+        days, transactions = map(int, found.groups()) if found else (0, 0)
+        good = 0 < days <= len(LOGINS) * len(DAYS) and answered <= transactions <= answered + len(self.hosts)
+        if not good or status != 0 or errors:
+            self.unsound.append((kill, answered, status, output, errors))
+
     def ask(self, frames):
         replies = []
         for start in range(0, len(frames), MOST_FRAMES):
@@ -194,7 +216,8 @@ class Watch:
 
 
 def kill_again_and_again(server, hosts, gate, watch, kills):
-    """Each time a while of load, a kill, a start, and a look while nobody sends; now and then a kill while it starts."""
+    """Each time a while of load, a kill, a start, and a look while nobody sends; now and then a kill while it starts,
+    and an audit."""
     chance = random.Random(kills)
     for kill in range(1, kills + 1):
         gate.set(True)
@@ -204,6 +227,8 @@ def kill_again_and_again(server, hosts, gate, watch, kills):
             server.start()
             time.sleep(chance.uniform(0, 0.02))
             server.kill()
+        if kill % 4 == 0:
+            watch.audit(kill)
         server.serve()
         gate.set(False)
         if not gate.wait_for_all(len(hosts)):
@@ -232,5 +257,6 @@ def run(world, checks, kills=KILLS):
     checks.holds("the load", read > 10 * kills and cut >= kills and {GRANTED, SETTLED, RELEASED} <= grants,
                  "many replies, and requests that a kill cut off", f"{read} replies read, {cut} times cut off")
     checks.equal(f"replies of {watch.asked} that were asked for again which changed", watch.changed, [])
+    checks.equal(f"audits behind each fourth of {kills} kills that don't find what was answered", watch.unsound, [])
     checks.equal("days of logins whose totals aren't what was granted", watch.miscounted, [])
     print(f"    {kills} kills, {read} replies read, {cut} times cut off, {watch.asked} asked for again", flush=True)

@@ -9,7 +9,7 @@ def run(world, checks):
 
 
 def helps(world, checks):
-    for words in ([], ["replay"], ["filter"], ["server"], ["limit"], ["report"]):
+    for words in ([], ["replay"], ["filter"], ["server"], ["limit"], ["report"], ["audit"]):
         status, output, errors = world.run(*words, "--help")
         name = " ".join([*words, "--help"])
         checks.equal(f"{name}: status and errors", (status, errors), (0, ""))
@@ -40,6 +40,8 @@ def usage_faults(world, checks):
         (["server"], "--config"),
         (["server", "--config", "f", "--connections", "0"], "0 is not in 1..=1000000"),
         (["server", "--config", "f", "--connections", "1000001"], "1000001 is not in 1..=1000000"),
+        (["audit"], "--config"),
+        (["audit", "--config", "f", "--create"], "unexpected argument '--create' found"),
         (limit + ["--cap", "1"], "--from"),
         (limit + ["--from", "1"], "--cap"),
         (limit + ["--from", "376201", "--cap", "1"], "376201 is not in 0..=376200"),

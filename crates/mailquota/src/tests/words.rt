@@ -37,7 +37,7 @@ fn assert_shown<R: AllocGlobal + Abort>(
 
 #[test]
 fn help(rt: HostRuntime) -> Result<(), Fail> {
-    let rows: [(&[&str], &str); 6] = [
+    let rows: [(&[&str], &str); 7] = [
         (
             &["mailquota", "--help"],
             "Daily recipient limits for smtpd, shared by all outgoing hosts
@@ -49,6 +49,7 @@ Commands:
   filter  Answer smtpd on standard input and output
   limit   Set the limit of a login from a day on
   report  Print what logins used on a day
+  audit   Check the books of the ledger in a file
   replay  Answer frames in hexadecimal from standard input over a new ledger
 
 Options:
@@ -124,6 +125,17 @@ Options:
   -h, --help              Print help
 ",
         ),
+        (
+            &["mailquota", "audit", "--help"],
+            "Check the books of the ledger in a file
+
+Usage: mailquota audit --config <FILE>
+
+Options:
+      --config <FILE>  Settings
+  -h, --help           Print help
+",
+        ),
     ];
     for (words, text) in rows {
         assert_shown(&rt, words, 0, text)?;
@@ -133,12 +145,31 @@ Options:
 
 #[test]
 fn usage_faults(rt: HostRuntime) -> Result<(), Fail> {
-    let rows: [(&[&str], &str); 7] = [
+    let rows: [(&[&str], &str); 9] = [
         (
             &["mailquota", "audit"],
-            "error: unrecognized subcommand 'audit'
+            "error: the following required arguments were not provided:
+  --config <FILE>
+
+Usage: mailquota audit --config <FILE>
+
+For more information, try '--help'.
+",
+        ),
+        (
+            &["mailquota", "check"],
+            "error: unrecognized subcommand 'check'
 
 Usage: mailquota <COMMAND>
+
+For more information, try '--help'.
+",
+        ),
+        (
+            &["mailquota", "audit", "--config=s", "--create"],
+            "error: unexpected argument '--create' found
+
+Usage: mailquota audit --config <FILE>
 
 For more information, try '--help'.
 ",
@@ -300,7 +331,7 @@ For more information, try '--help'.
 
 #[test]
 fn words_of_subcommands(rt: HostRuntime) -> Result<(), Fail> {
-    let rows: [(&[&str], &str); 6] = [
+    let rows: [(&[&str], &str); 7] = [
         (
             &["mailquota", "filter", "--config", "f.toml"],
             "Filter(FilterArguments { config: \"f.toml\", run: None })",
@@ -332,6 +363,10 @@ fn words_of_subcommands(rt: HostRuntime) -> Result<(), Fail> {
         (
             &["mailquota", "report", "--day=2", "--server=a", "--login="],
             "Report(ReportArguments { server: \"a\", day: 2, login: Some(\"\") })",
+        ),
+        (
+            &["mailquota", "audit", "--config", "s.toml"],
+            "Audit(AuditArguments { config: \"s.toml\" })",
         ),
     ];
     for (words, text) in rows {

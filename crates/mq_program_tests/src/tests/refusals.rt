@@ -3,10 +3,13 @@ ghost use Rattle.mq_program.specs.Arguments.{IsArguments};
 
 use mq_client::FilterFault;
 use mq_command::{Ending, ReplayFault, ReportFault, TextFault};
+use mq_frame::Login;
+use mq_ledger::LedgerFault;
 use mq_program::{
-    Arguments, FilterArguments, LimitArguments, ProgramFault, ReportArguments, ServerArguments,
-    run_subcommand,
+    Arguments, AuditArguments, FilterArguments, LimitArguments, ProgramFault, ReportArguments,
+    ServerArguments, run_subcommand,
 };
+use mq_store::OpenFault;
 use mq_track::TrackFault;
 use std::fmt::Display;
 use std::process::Abort;
@@ -98,7 +101,12 @@ fn no_settings(rt: HostRuntime) -> Result<(), Fail> {
             create: false,
             connections: 1,
         };
-        for given in [Arguments::Filter(filter), Arguments::Server(server)] {
+        let audit = AuditArguments { config };
+        for given in [
+            Arguments::Filter(filter),
+            Arguments::Server(server),
+            Arguments::Audit(audit),
+        ] {
             let seen = refused(&rt, given)?;
             assert_printed(&rt, seen, 1, "mailquota: settings can't be read\n")?;
         }
@@ -133,4 +141,18 @@ fn texts_of_program_faults(rt: HostRuntime) -> Result<(), Fail> {
     assert_text(&rt, auth, "report refused: auth")?;
     let message = ProgramFault::Filter(FilterFault::Track(TrackFault::Message));
     assert_text(&rt, message, "report refused: message")
+}
+
+#[test]
+fn texts_of_audits_faults(rt: HostRuntime) -> Result<(), Fail> {
+    assert_text(&rt, ProgramFault::MemoryStore, "store is memory")?;
+    assert_text(&rt, ProgramFault::Audit(LedgerFault::Store), "store failed")?;
+    assert_text(
+        &rt,
+        ProgramFault::Audit(LedgerFault::Memory),
+        "out of memory",
+    )?;
+    let login = Login::from_slice(rt.alloc(), b"a b\\")?;
+    let damaged = ProgramFault::Open(OpenFault::Damaged { login, day: -3 });
+    assert_text(&rt, damaged, "store is damaged: login a\\x20b\\x5c day -3")
 }

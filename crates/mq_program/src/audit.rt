@@ -1,0 +1,91 @@
+//! `audit`: checks the books of the ledger in the server's file.
+ghost use Rattle.std.specs.Prelude.{◌≡◌, IfOk, IfErr, OnOk, string_bytes};
+ghost use Rattle.std.specs.Io.KnownBytes.{Appends};
+ghost use Rattle.sqlite.specs.Held.{state};
+ghost use Rattle.mq_command.specs.Output.{AppendsFront};
+ghost use Rattle.mq_store.specs.Auditing.{IsAuditIn};
+ghost use Rattle.mq_store.specs.Soundness.{HasKept};
+ghost use Rattle.mq_program.specs.Auditing.{Audits, sound_line};
+
+use crate::arguments::AuditArguments;
+use crate::fault::ProgramFault;
+use crate::server::server_settings;
+use crate::store::file_ledger;
+use log::Logged;
+use log::sink::Console;
+use mq_command::write_whole;
+use mq_ledger::Zone;
+use mq_settings::Place;
+use mq_store::{Audit, OpenFault, SqlLedger};
+use sqlite::Alter;
+use std::alloc::{AllocError, Global};
+use std::io;
+use std::io::Write;
+
+/// Opens the ledger in the file of the settings, checks its books, and prints how much they hold.
+///
+/// An open ledger has been checked already, and doesn't tell what it holds: so the rows are read once more.
+pub fn audit(rt: &HostRuntime, given: AuditArguments<'_>) -> Result<u8, ProgramFault>
+    ensures { IfOk result (λ status. status ≡ 0) }
+{
+    let settings = server_settings(rt, given.config)?;
+    let path = match &settings.store {
+        Place::Memory => return Err(ProgramFault::MemoryStore),
+        Place::File(path) => path.as_str(),
+    };
+    let logged = Logged::new(rt, settings.log, Console(rt));
+    let zone = Zone::of_offset(settings.offset).unwrap();
+    let mut ledger = file_ledger(rt, &logged, path, false, zone, settings.default)?;
+    audit_ledger(rt.alloc(), &mut ledger, &mut io::writer(rt))?;
+    Ok(0)
+}
+
+/// Checks the books of a ledger and prints, where they are right, how many days of logins and how many transactions
+/// they have; else the fault names the least login and day that aren't right.
+pub fn audit_ledger<S: Alter, W: Write>(
+    alloc: Global,
+    ledger: &mut SqlLedger<S>,
+    output: &mut W,
+) -> Result<(), ProgramFault>
+    ensures audits { Audits (λ a. HasKept (state S.Store ledger.new.connection)
+        → IsAuditIn ledger.old.zone ledger.old.default (state S.Store ledger.old.connection).now a)
+        (W.contents output.old) (W.contents output.new) result }
+    ensures same { HasKept (state S.Store ledger.new.connection)
+        → (state S.Store ledger.new.connection).now ≡ (state S.Store ledger.old.connection).now }
+{
+    let found = ledger.audit()?;
+    tell(alloc, found, output)
+}
+
+/// Prints that the books are right, or gives the login and day that aren't.
+fn tell<W: Write>(alloc: Global, found: Audit, output: &mut W) -> Result<(), ProgramFault>
+    ensures { Audits (λ a. a ≡ found) (W.contents output.old) (W.contents output.new) result }
+{
+    let (days, transactions) = match found {
+        Audit::Sound { days, transactions } => (days, transactions),
+        Audit::Wrong { login, day } => {
+            return Err(ProgramFault::Open(OpenFault::Damaged { login, day }));
+        }
+    };
+    let line = sound_line(alloc, days, transactions)?;
+    print(output, line.as_bytes())
+}
+
+/// Writes all bytes, or a front of them before a write fails.
+fn print<W: Write>(output: &mut W, bytes: &[u8]) -> Result<(), ProgramFault>
+    ensures whole { OnOk result (Appends (W.contents output.old) (W.contents output.new) bytes.now) }
+    ensures front { AppendsFront (W.contents output.old) (W.contents output.new) bytes.now }
+    ensures fault { IfErr result (λ fault. fault ≡ ProgramFault.Write) }
+{
+    if write_whole(output, bytes).is_err() || output.flush().is_err() {
+        return Err(ProgramFault::Write);
+    }
+    Ok(())
+}
+
+/// The line of books that are right.
+fn sound_line(alloc: Global, days: u64, transactions: u64) -> Result<String, AllocError>
+    ensures { IfOk result (λ line. string_bytes line ≡ sound_line days transactions) }
+{
+    format!(in alloc; "sound days={days} transactions={transactions}\n")
+}
