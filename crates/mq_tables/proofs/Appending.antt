@@ -59,7 +59,7 @@ module _ (old new : State) (a : AnswerRecord) (tree : ℕ) (place : IsAnswerIn o
       let is = understood_insert append_text parses append_insert s place.at table (Values append_terms 7) place.named place.there refl (append_rows s tree) in
       let done = inserts append_text (answer_params a) old new s refl place.at table (record { place = place.there; uncounted = refl; timeless = λ params. append-nil params; unreferred = unreferred s tree })
       append_terms 7 (ap command_of is) (subst IsPlain (sym is) (refl, refl)) refl count h in
-      record { schema = done.schema_is; rows = done.rows ∙ ap (λ r. put_row r (old.now.trees tree)) (row_is a tree (old.now.trees tree)); others = done.tables }
+      record { sound = done.sound; schema = done.schema_is; rows = done.rows ∙ ap (λ r. put_row r (old.now.trees tree)) (row_is a tree (old.now.trees tree)); others = done.tables }
 
 pub appends : (old new : State) (a : AnswerRecord) (r : Result ℕ Error) → ExecutesInside 0 append_text (answer_params a) old new r → OnOk r (IsTrue new.in_transaction) × OnOk r (Appends a old new)
 appends old new a (Err e) h = (tt, tt)
@@ -67,7 +67,7 @@ appends old new a (Ok count) h = (
   h.1.mode,
   λ t l next.
       let it = put old new a l.at.answer l.tables.answer count h.0 in
-      answers_changed old.now new.now t l it.schema it.others (t.answers ++ a ∷ []) (record {
+      answers_changed old.now new.now t l it.schema it.sound it.others (t.answers ++ a ∷ []) (record {
         rows = it.rows ∙ ap (put_row (answer_fields a)) l.holds.answers.rows ∙ appended 1 t.answers a l.holds.answers.numbered next;
         numbered = numbered_on 1 t.answers a l.holds.answers.numbered next;
       }),

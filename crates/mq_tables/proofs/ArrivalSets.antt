@@ -176,6 +176,7 @@ module _ (old new : state.State) (n : ℤ) (t : ℕ) (place' : IsSettingIn old.n
 
   left_so : Updated old.now.schema in_tree arrivals_tests arrivals_shown (Int n ∷ []) old new → HasSetArrivals n t old.now new.now
   left_so made = record {
+    sound = made.sound;
     schema = made.schema_is;
     row = λ s only.
         let seen = ap (chosen_rows arrivals_tests arrivals_shown (Int n ∷ [])) only ∙ chosen_is s in
@@ -197,5 +198,5 @@ counts_arrivals old new n (Ok count) h = (
   h.1.mode,
   λ t l.
       let it = set_so old new (pos n) l.at.setting l.tables.setting l.tables.setting_alone count h.0 in
-      setting_changed old.now new.now t l it.schema it.others (record t.setting { arrivals = n }) (it.row (setting_in t.setting) l.holds.setting),
+      setting_changed old.now new.now t l it.schema it.sound it.others (record t.setting { arrivals = n }) (it.row (setting_in t.setting) l.holds.setting),
 )

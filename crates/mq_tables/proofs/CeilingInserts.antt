@@ -70,6 +70,6 @@ inserts_ceiling old new u (Ok count) h = (
   λ t l.
       let tree = l.at.ceiling in
       let it = inserted old new u tree l.tables.ceiling count h.0 in
-      ceilings_changed old.now new.now t l it.schema_is it.tables (u ∷ t.ceilings)
+      ceilings_changed old.now new.now t l it.schema_is it.sound it.tables (u ∷ t.ceilings)
       (subst (λ rs. HoldsCeilings rs (u ∷ t.ceilings)) (sym it.rows) (holds_put 1 ceiling_fields (new_row old new u tree l.tables.ceiling) u (old.now.trees tree) t.ceilings (row_is u tree (old.now.trees tree)) it.fresh it.keyed l.holds.ceilings)),
 )

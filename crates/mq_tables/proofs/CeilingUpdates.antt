@@ -240,7 +240,7 @@ module _ (old new : state.State) (r : CeilingRecord) (t : ℕ) (place' : IsCeili
       let made = updates update_text (cap_params r) old new old.now.schema refl place'.at in_tree
       (record { place = place'.there; uncounted = refl; timeless = λ params. append-nil params; unreferred = nothing_acts old.now.schema t apart [] })
       (nothing_acts old.now.schema t apart) (record { lets = []; body = plain_query t key_tests set_shown }) key_tests set_shown means.0 (refl, refl) means.1 (rw place'.stored) count h in
-      record { schema = made.schema_is; rows = sets_row made; others = made.tables }
+      record { sound = made.sound; schema = made.schema_is; rows = sets_row made; others = made.tables }
 
 pub updates_ceiling : (old new : state.State) (r : CeilingRecord) (outcome : Result ℕ Error) → ExecutesInside 0 update_text (cap_params r) old new outcome → OnOk outcome (IsTrue new.in_transaction) × OnOk outcome (WritesCeiling (write.Update r) old new)
 updates_ceiling old new r (Err e) h = (tt, tt)
@@ -248,5 +248,5 @@ updates_ceiling old new r (Ok count) h = (
   h.1.mode,
   λ t l was rest same hit apart.
       let it = set_so old new r l.at.ceiling l.tables.ceiling l.tables.ceiling_alone count h.0 in
-      ceilings_changed old.now new.now t l it.schema it.others (set_ceiling r was ∷ rest) (it.rows was rest (held_so ceiling_fields _ t.ceilings (was ∷ rest) l.holds.ceilings same) hit apart),
+      ceilings_changed old.now new.now t l it.schema it.sound it.others (set_ceiling r was ∷ rest) (it.rows was rest (held_so ceiling_fields _ t.ceilings (was ∷ rest) l.holds.ceilings same) hit apart),
 )

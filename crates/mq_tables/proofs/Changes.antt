@@ -4,7 +4,7 @@ use Rattle.sqlite_trees.proofs.ListLemmas.{all-slice_get}
 use Rattle.sqlite.specs.Schema.{Schema}
 use Rattle.sqlite.specs.Table.{Table}
 use Rattle.sqlite.specs.Tree.{Trees}
-use Rattle.sqlite.specs.Effect.{Database}
+use Rattle.sqlite.specs.Effect.{Database, IsDatabase}
 use Rattle.mq_rows.specs.declared.record.SettingRecord.{SettingRecord}
 use Rattle.mq_rows.specs.declared.record.AnswerRecord.{AnswerRecord}
 use Rattle.mq_rows.specs.declared.record.TransactionRecord.{TransactionRecord}
@@ -90,12 +90,13 @@ ceiling_trans e = trans_ceiling (sym e)
 ceiling_usage : ceiling_table.name ≢ usage_table.name
 ceiling_usage e = usage_ceiling (sym e)
 
-module _ (old new : Database) (t : Tables) (l : HasLedger old t) (schema : new.schema ≡ old.schema) where
+module _ (old new : Database) (t : Tables) (l : HasLedger old t) (schema : new.schema ≡ old.schema) (sound : IsDatabase new) where
   tables : IsLedgerIn new.schema l.at
   tables = subst (λ s. IsLedgerIn s l.at) (sym schema) l.tables
 
   pub setting_changed : KeepsOthers old.schema l.at.setting old.trees new.trees → (after : SettingRecord) → new.trees l.at.setting ≡ setting_fields (setting_in after) ∷ [] → HasLedger new (record t { setting = after })
   setting_changed others after holds = record {
+    sound = sound;
     at = l.at;
     tables = tables;
     holds = record {
@@ -109,6 +110,7 @@ module _ (old new : Database) (t : Tables) (l : HasLedger old t) (schema : new.s
 
   pub answers_changed : KeepsOthers old.schema l.at.answer old.trees new.trees → (after : List AnswerRecord) → HoldsAnswers (new.trees l.at.answer) after → HasLedger new (record t { answers = after })
   answers_changed others after holds = record {
+    sound = sound;
     at = l.at;
     tables = tables;
     holds = record {
@@ -122,6 +124,7 @@ module _ (old new : Database) (t : Tables) (l : HasLedger old t) (schema : new.s
 
   pub transactions_changed : KeepsOthers old.schema l.at.trans old.trees new.trees → (after : List TransactionRecord) → HoldsTransactions (new.trees l.at.trans) after → HasLedger new (record t { transactions = after })
   transactions_changed others after holds = record {
+    sound = sound;
     at = l.at;
     tables = tables;
     holds = record {
@@ -135,6 +138,7 @@ module _ (old new : Database) (t : Tables) (l : HasLedger old t) (schema : new.s
 
   pub usage_changed : KeepsOthers old.schema l.at.usage old.trees new.trees → (after : List UsageRecord) → HoldsUsage (new.trees l.at.usage) after → HasLedger new (record t { usage = after })
   usage_changed others after holds = record {
+    sound = sound;
     at = l.at;
     tables = tables;
     holds = record {
@@ -148,6 +152,7 @@ module _ (old new : Database) (t : Tables) (l : HasLedger old t) (schema : new.s
 
   pub ceilings_changed : KeepsOthers old.schema l.at.ceiling old.trees new.trees → (after : List CeilingRecord) → HoldsCeilings (new.trees l.at.ceiling) after → HasLedger new (record t { ceilings = after })
   ceilings_changed others after holds = record {
+    sound = sound;
     at = l.at;
     tables = tables;
     holds = record {

@@ -118,6 +118,7 @@ module _ (made_with : NewSetting) (old new : Database) (sound : IsDatabase new) 
 
   ledger_held : new.trees (next_tree s) ≡ setting_row made_with ∷ [] → AllByRecursion (λ n. new.trees n ≡ []) (trees_for s1 other_tables) → AreUnnamed s → HasLedger new (new_rows made_with)
   ledger_held row empty unnamed = record {
+    sound = sound;
     at = _;
     tables = ledger_in unnamed;
     holds = record { setting = row; answers = record { rows = empty.0; numbered = tt }; transactions = holds_none _ _ empty.1.0; usage = holds_none _ _ empty.1.1.0; ceilings = holds_none _ _ empty.1.1.1.0 };

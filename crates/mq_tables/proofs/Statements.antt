@@ -110,6 +110,7 @@ module _ (sql : List ℕ) (params : Row) (old new : State) (schema : Schema) (ha
       let done = concluded task (mode_of old) command old.now.trees (w.tally, new.now) (rw it.place at (subst (λ s. Does old.step_limit (mode_of old) params (record old.now { schema = s }) text None command (Ok (w.tally, new.now))) has w.changed)) in
       let made = put_in task at it refl terms width old.now.trees done.0 one done.1 in
       record {
+        sound = w.sound;
         schema_is = ap (λ (d : Database). d.schema) done.2;
         keyed = (and_parts _ _ made.keyed).0;
         fresh = not-true _ (and_parts _ _ made.fresh).0;
@@ -135,6 +136,7 @@ module _ (sql : List ℕ) (params : Row) (old new : State) (schema : Schema) (ha
       let bodied : IsAnswer (plain_query table.tree tests project) (overlay old.now.trees []) params read.0 =
       subst (λ b. IsAnswer b (overlay old.now.trees []) params read.0) body.1 ((subst (λ ls. IsProgramAnswer ls q.body old.now.trees params read.0) body.0 answer) Null) in
       record {
+        sound = w.sound;
         schema_is = ap (λ (d : Database). d.schema) done.2;
         hits = read.0;
         found = subst (λ all. IsPermutation (chosen tests project params all) read.0) bare (answer_rows table.tree tests project (overlay old.now.trees []) params read.0 bodied);

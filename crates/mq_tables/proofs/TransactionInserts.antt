@@ -70,6 +70,6 @@ inserts_trans old new u (Ok count) h = (
   λ t l.
       let tree = l.at.trans in
       let it = inserted old new u tree l.tables.trans count h.0 in
-      transactions_changed old.now new.now t l it.schema_is it.tables (u ∷ t.transactions)
+      transactions_changed old.now new.now t l it.schema_is it.sound it.tables (u ∷ t.transactions)
       (subst (λ rs. HoldsTransactions rs (u ∷ t.transactions)) (sym it.rows) (holds_put 1 transaction_fields (new_row old new u tree l.tables.trans) u (old.now.trees tree) t.transactions (row_is u tree (old.now.trees tree)) it.fresh it.keyed l.holds.transactions)),
 )

@@ -285,7 +285,7 @@ module _ (old new : state.State) (r : TransactionRecord) (t : ℕ) (place' : IsT
       let made = updates update_text (standing_params r) old new old.now.schema refl place'.at in_tree
       (record { place = place'.there; uncounted = refl; timeless = λ params. append-nil params; unreferred = nothing_acts old.now.schema t apart [] })
       (nothing_acts old.now.schema t apart) (record { lets = []; body = plain_query t key_tests set_shown }) key_tests set_shown means.0 (refl, refl) means.1 (rw place'.stored) count h in
-      record { schema = made.schema_is; rows = sets_row made; others = made.tables }
+      record { sound = made.sound; schema = made.schema_is; rows = sets_row made; others = made.tables }
 
 pub updates_trans : (old new : state.State) (r : TransactionRecord) (outcome : Result ℕ Error) → ExecutesInside 0 update_text (standing_params r) old new outcome → OnOk outcome (IsTrue new.in_transaction) × OnOk outcome (WritesTransaction (write.Update r) old new)
 updates_trans old new r (Err e) h = (tt, tt)
@@ -293,5 +293,5 @@ updates_trans old new r (Ok count) h = (
   h.1.mode,
   λ t l was rest same hit apart.
       let it = set_so old new r l.at.trans l.tables.trans l.tables.trans_alone count h.0 in
-      transactions_changed old.now new.now t l it.schema it.others (set_transaction r was ∷ rest) (it.rows was rest (held_so transaction_fields _ t.transactions (was ∷ rest) l.holds.transactions same) hit apart),
+      transactions_changed old.now new.now t l it.schema it.sound it.others (set_transaction r was ∷ rest) (it.rows was rest (held_so transaction_fields _ t.transactions (was ∷ rest) l.holds.transactions same) hit apart),
 )

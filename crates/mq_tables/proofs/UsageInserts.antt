@@ -70,6 +70,6 @@ inserts_usage old new u (Ok count) h = (
   λ t l.
       let tree = l.at.usage in
       let it = inserted old new u tree l.tables.usage count h.0 in
-      usage_changed old.now new.now t l it.schema_is it.tables (u ∷ t.usage)
+      usage_changed old.now new.now t l it.schema_is it.sound it.tables (u ∷ t.usage)
       (subst (λ rs. HoldsUsage rs (u ∷ t.usage)) (sym it.rows) (holds_put 1 usage_fields (new_row old new u tree l.tables.usage) u (old.now.trees tree) t.usage (row_is u tree (old.now.trees tree)) it.fresh it.keyed l.holds.usage)),
 )

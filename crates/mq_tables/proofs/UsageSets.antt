@@ -248,7 +248,7 @@ module _ (old new : state.State) (u : UsageRecord) (t : ℕ) (place' : IsUsageIn
       let made = updates totals_text (totals_params u) old new old.now.schema refl place'.at in_tree
       (record { place = place'.there; uncounted = refl; timeless = λ params. append-nil params; unreferred = nothing_acts old.now.schema t apart [] })
       (nothing_acts old.now.schema t apart) (record { lets = []; body = plain_query t totals_tests totals_shown }) totals_tests totals_shown means.0 (refl, refl) means.1 (rw place'.stored) count h in
-      record { schema = made.schema_is; rows = sets_row made; others = made.tables }
+      record { sound = made.sound; schema = made.schema_is; rows = sets_row made; others = made.tables }
 
 pub sets_usage : (old new : state.State) (u : UsageRecord) (r : Result ℕ Error) → ExecutesInside 0 totals_text (totals_params u) old new r → OnOk r (IsTrue new.in_transaction) × OnOk r (WritesUsage (write.Update u) old new)
 sets_usage old new u (Err e) h = (tt, tt)
@@ -256,5 +256,5 @@ sets_usage old new u (Ok count) h = (
   h.1.mode,
   λ t l was rest same hit apart.
       let it = set_so old new u l.at.usage l.tables.usage l.tables.usage_alone count h.0 in
-      usage_changed old.now new.now t l it.schema it.others (set_usage u was ∷ rest) (it.rows was rest (held_so usage_fields _ t.usage (was ∷ rest) l.holds.usage same) hit apart),
+      usage_changed old.now new.now t l it.schema it.sound it.others (set_usage u was ∷ rest) (it.rows was rest (held_so usage_fields _ t.usage (was ∷ rest) l.holds.usage same) hit apart),
 )

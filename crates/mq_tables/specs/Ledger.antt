@@ -1,6 +1,6 @@
 -- A store that has the five tables, and what they hold.
 use Rattle.std.specs.Prelude.{◌≡◌, ℕ, pos, [], ◌∷◌}
-use Rattle.sqlite.specs.Effect.{Database}
+use Rattle.sqlite.specs.Effect.{Database, IsDatabase}
 use Rattle.sqlite.specs.Schema.{Schema}
 use Rattle.sqlite.specs.Tree.{Trees}
 use Rattle.mq_rows.specs.declared.record.SettingRecord.{SettingRecord}
@@ -40,8 +40,10 @@ pub record HoldsRows (trees : Trees) (at : Places) (t : Tables) : Type 0 where
   pub usage : HoldsUsage (trees at.usage) t.usage
   pub ceilings : HoldsCeilings (trees at.ceiling) t.ceilings
 
--- the store has the five tables at some places, and they hold these rows
+-- The store has the five tables at some places, and they hold these rows. Its trees list its schema, as
+-- those of an open store do.
 pub record HasLedger (db : Database) (t : Tables) : Type 0 where
+  pub sound : IsDatabase db
   pub at : Places
   pub tables : IsLedgerIn db.schema at
   pub holds : HoldsRows db.trees at t

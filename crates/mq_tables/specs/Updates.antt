@@ -5,7 +5,7 @@ use Rattle.std.specs.List.Sorted.{IsPermutation}
 use Rattle.sqlite.specs.Order.{Row}
 use Rattle.sqlite.specs.Schema.{Schema}
 use Rattle.sqlite.specs.Tree.{Trees, put_row}
-use Rattle.sqlite.specs.Effect.{Database}
+use Rattle.sqlite.specs.Effect.{Database, IsDatabase}
 use Rattle.sqlite.specs.State.{State}
 use Rattle.mq_rows.specs.declared.plan.Write.{Write}
 use Rattle.mq_rows.specs.declared.plan.Write.TheVariants.{Keep, Insert, Update}
@@ -24,6 +24,7 @@ KeepsOthers schema tree old new = AllByRecursion (λ t. t.tree ≢ tree → new 
 
 -- one more row, and each other table as it was
 pub record HasPut (row : Row) (tree : ℕ) (old new : Database) : Type 0 where
+  pub sound : IsDatabase new
   pub schema : new.schema ≡ old.schema
   pub rows : new.trees tree ≡ put_row row (old.trees tree)
   pub others : KeepsOthers old.schema tree old.trees new.trees
@@ -31,6 +32,7 @@ pub record HasPut (row : Row) (tree : ℕ) (old new : Database) : Type 0 where
 -- The one record of this key that the table held is changed so, and each other table is as it was.
 pub record HasSet {R : Type 0} (Held : List Row → List R → Type 0) (same : R → R → Bool) (set : R → R → R) (r : R)
     (tree : ℕ) (old new : Database) : Type 0 where
+  pub sound : IsDatabase new
   pub schema : new.schema ≡ old.schema
   pub rows : (was : R) (rest : List R) → Held (old.trees tree) (was ∷ rest) → same r was ≡ true
       → AllByRecursion (λ other. same r other ≡ false) rest → Held (new.trees tree) (set r was ∷ rest)
@@ -38,6 +40,7 @@ pub record HasSet {R : Type 0} (Held : List Row → List R → Type 0) (same : R
 
 -- The row of settings counts so many arrivals, and each other table is as it was.
 pub record HasSetArrivals (arrivals : ℤ) (tree : ℕ) (old new : Database) : Type 0 where
+  pub sound : IsDatabase new
   pub schema : new.schema ≡ old.schema
   pub row : (s : SettingRow) → old.trees tree ≡ setting_fields s ∷ []
       → new.trees tree ≡ setting_fields (record s { arrivals = arrivals }) ∷ []
