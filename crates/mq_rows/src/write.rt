@@ -7,7 +7,7 @@ ghost use Rattle.mq_ledger.specs.Day.{day_of};
 ghost use Rattle.mq_rows.specs.Rows.{number_of, answer_row};
 ghost use Rattle.mq_rows.specs.Plan.{moves, moved, fresh, moved_or_made, transaction_write};
 ghost use Rattle.mq_rows.specs.Plan.{reserved_more, freed, usage_write, set_ceiling_to, ceiling_write};
-ghost use Rattle.mq_rows.specs.Plan.{held_by, reserved_by, used_by, planned, may_be_found};
+ghost use Rattle.mq_rows.specs.Plan.{held_by, reserved_by, used_by, fits, planned, may_be_found};
 ghost use Rattle.mq_rows.specs.Storable.{AreStorableIf, IsStorablePlan};
 
 use crate::body::Body;
@@ -253,6 +253,44 @@ fn answer_row(
     })
 }
 
+/// What becomes of the rows that were found: of the transaction's, of the login's of the day, and of
+/// its limit.
+fn writes(
+    zone: Zone,
+    request: &Request,
+    reply: &Reply,
+    found: Found,
+) -> Result<
+    (
+        Write<TransactionRecord>,
+        Write<UsageRecord>,
+        Write<CeilingRecord>,
+    ),
+    AllocError,
+>
+    requires in_range { IsRequest request.now }
+    requires fits { moves reply.now ≡ true → fits found.transaction found.usage ≡ true }
+    ensures transaction { IfOk result (λ writes. writes.0
+        ≡ transaction_write (day_of zone) request.now reply.now found.transaction) }
+    ensures usage { IfOk result (λ writes. writes.1
+        ≡ usage_write (day_of zone) request.now reply.now (held_by found.transaction) found.usage) }
+    ensures ceiling { IfOk result (λ writes. writes.2 ≡ ceiling_write request.now reply.now found.ceiling) }
+{
+    let held = found.held();
+    let Found {
+        transaction,
+        usage,
+        governing: _,
+        over: _,
+        ceiling,
+    } = found;
+    Ok((
+        transaction_write(zone, request, reply, transaction)?,
+        usage_write(zone, request, reply, held, usage)?,
+        ceiling_write(request, reply, ceiling)?,
+    ))
+}
+
 /// The reply to a numbered request, and what is written with it, where no row has its number.
 ///
 /// `arrivals` is how many were answered, and `found` what the tables have about the request. The
@@ -271,6 +309,7 @@ pub fn decide(
     requires number { id_of request.now ≡ Some id.now }
     ensures plan { IfOk result (λ plan. plan ≡ planned (day_of zone) default arrivals request.now found) }
     ensures in_range { IfOk result (λ plan. IsReply plan.reply) }
+    ensures room { IfOk result (λ _. arrivals < 4611686018427387904) }
     ensures storable { IfOk result (λ plan. AreStorableIf found.transaction → IsStorablePlan plan) }
     ensures store { IfErr result (λ fault. fault ≡ LedgerFault.Store
         → arrivals < 4611686018427387904 → may_be_found default request.now found ≡ false) }
@@ -279,23 +318,16 @@ pub fn decide(
         return Err(LedgerFault::Store);
     }
     let reply = found.reply(default, request)?;
-    let held = found.held();
     let Ok(answer) = answer_row(alloc, arrivals + 1, id, request, &reply) else {
         return Err(LedgerFault::Memory);
     };
-    let Found {
-        transaction,
-        usage,
-        governing: _,
-        over: _,
-        ceiling,
-    } = found;
+    let (transaction, usage, ceiling) = writes(zone, request, &reply, found)?;
     Ok(Plan {
         answer,
         arrivals: arrivals + 1,
-        transaction: transaction_write(zone, request, &reply, transaction)?,
-        usage: usage_write(zone, request, &reply, held, usage)?,
-        ceiling: ceiling_write(request, &reply, ceiling)?,
+        transaction,
+        usage,
+        ceiling,
         reply,
     })
 }

@@ -51,5 +51,5 @@ returns-clause-storable c = λ has.
       place = rw c.in-Ok.ensures (omega arith);
       run = rw (c.in-Ok.ensures, c.requires.number) (omega (arith, limit));
       arrivals = omega arith;
-      transaction = rw c.in_ok-transaction_write.ensures (write_has (day_of c.args.zone) c.args.request.now c.in_ok-reply.reply c.args.found.transaction c.requires.in_range has);
+      transaction = rw c.in_ok-transaction.ensures.transaction (write_has (day_of c.args.zone) c.args.request.now c.in_ok-reply.reply c.args.found.transaction c.requires.in_range has);
     }
