@@ -10,6 +10,7 @@ use Rattle.sqlite.specs.Effect.{Database}
 use Rattle.sqlite.specs.State.{State}
 use Rattle.mq_frame.specs.Range.{IsAmount}
 use Rattle.mq_frame.specs.Reading.{request_at}
+use Rattle.mq_ledger.specs.declared.entry.Entry.{Entry}
 use Rattle.mq_ledger.specs.declared.ledger.LedgerFault.{LedgerFault}
 use Rattle.mq_ledger.specs.declared.ledger.LedgerFault.TheVariants as ledger
 use Rattle.mq_ledger.specs.declared.zone.Zone.{Zone}
@@ -32,7 +33,7 @@ use Rattle.mq_store.specs.declared.fault.OpenFault.TheVariants.{ZoneDiffers, Def
 use Rattle.mq_store.specs.Auditing.{IsAuditIn, IsRightAnswer}
 use Rattle.mq_store.specs.Opening.{made_with, fault_in, audit_fault, IsOf, IsOpeningOf}
 use Rattle.mq_store.specs.Taking.{HasBook, book_of}
-use Rattle.mq_store.specs.Soundness.{requests_in, book_in, HasKept, IsSound, IsNew, IsOpened}
+use Rattle.mq_store.specs.Soundness.{requests_in, book_in, HasKept, IsSound, IsNew, MeansBook, IsOpened}
 
 bodies_of : (answers : List AnswerRecord) → filter_map (λ row. blob_in (column row 5)) (map answer_fields answers) ≡ map (λ a. a.request) answers
 bodies_of [] = refl
@@ -112,19 +113,22 @@ agrees zone default z d n (inl e) = go (int_eq z zone) (int_eq (pos d) (pos defa
 setting_of : (db : Database) (t : Tables) → HasLedger db t → HasSetting db (setting_in t.setting)
 setting_of db t l = record { tree = l.at.setting; table = l.tables.setting; row = l.holds.setting }
 
-pub opens : (zone : Zone) (default : ℕ) (old new : State) → ((s : SettingRow) → HasSetting old.now s → IsOf zone default s None) → Spares old new → HasKept new → IsOpened zone default old new
-opens zone default old new exact spares kept = record {
+pub opens_book : (zone : Zone) (default : ℕ) (old new : State) → ((b : Book) (db : Database) → HasBook b db → book_in b.zone b.default db ≡ b) → ((s : SettingRow) → HasSetting old.now s → IsOf zone default s None) → Spares old new → HasKept new
+    → MeansBook zone default old.now new
+opens_book zone default old new meaning exact spares kept b has =
+    let t : Tables = has.has.tables in
+    let of = exact (setting_in t.setting) (setting_of old.now t has.has.holds) in
+    let same = agrees zone default b.zone b.default (length b.history) (subst (λ s. IsOf zone default (setting_in s) None) has.has.rows.setting of) in
+    let there : HasBook b new.now = subst (HasBook b) (sym (spares.now kept.is_open)) has in
+    let means : book_in b.zone b.default new.now ≡ b = meaning b new.now there in
+    let zoned : IsSound zone b.default new = subst (λ k. IsSound k b.default new) same.0 (sound_with b new kept there means) in
+    (same.0, same.1, subst (λ k. IsSound zone k new) same.1 zoned, ap₂ (λ k n. book_in k n new.now) (sym same.0) (sym same.1) ∙ means)
+
+pub opens : (zone : Zone) (default : ℕ) (old new : State) → MeansBook zone default old.now new → IsOpened zone default old new
+opens zone default old new means = record {
   opened = λ z d sound.
-      let of = exact (setting_in sound.tables.setting) (setting_of old.now sound.tables sound.holds) in
-      let same = agrees zone default z d (length (book_in z d old.now).history) (subst (λ s. IsOf zone default (setting_in s) None) sound.rows.setting of) in
-      let now : new.now ≡ old.now = spares.now kept.is_open in
-      let zoned : IsSound zone d old = subst (λ k. IsSound k d old) same.0 sound in
-      let meant : IsSound zone default old = subst (λ k. IsSound zone k old) same.1 zoned in (
-        same.0,
-        same.1,
-        sound_still zone default old new meant kept now,
-        ap (book_in zone default) now ∙ sym (ap₂ (λ k n. book_in k n old.now) same.0 same.1),
-      );
+      let it = means (book_in z d old.now) (book_had z d old sound) in
+      (it.0, it.1, it.2, it.3);
 }
 
 -- ---- what refuses sound tables
@@ -141,12 +145,13 @@ stopped_audit b db f (Ok (Wrong login day)) right has is_audit is = absurd (righ
 stopped_audit b db f (Err ledger.Memory) right has is_audit is = inl cc
 stopped_audit b db f (Err ledger.Store) right has is_audit is = inr cc
 
-pub refuses : (zone : Zone) (default : ℕ) (old : State) (f : OpenFault) → AreRight → ((s : SettingRow) → HasSetting old.now s → IsOpeningOf zone default old.now s (Some f)) → IsSound zone default old → (f ≡ Memory) ⊎ (f ≡ Store)
-refuses zone default old f right exact sound =
-    let b : Book = book_of zone default (book_in zone default old.now).history in
-    elim (subst (λ s. IsOpeningOf zone default old.now (setting_in s) (Some f)) sound.rows.setting (exact (setting_in sound.tables.setting) (setting_of old.now sound.tables sound.holds))) [
+pub refuses : (zone : Zone) (default : ℕ) (db : Database) (f : OpenFault) → AreRight → ((s : SettingRow) → HasSetting db s → IsOpeningOf zone default db s (Some f)) → (H : List Entry) → HasBook (book_of zone default H) db
+    → (f ≡ Memory) ⊎ (f ≡ Store)
+refuses zone default db f right exact H has =
+    let t : Tables = has.has.tables in
+    elim (subst (λ s. IsOpeningOf zone default db (setting_in s) (Some f)) has.has.rows.setting (exact (setting_in t.setting) (setting_of db t has.has.holds))) [
       | inl (inl refused) ↦ absurd (let none = same_setting zone default in cc)
       | inl (inr (inl memory)) ↦ inl cc
       | inl (inr (inr store)) ↦ inr cc
-      | inr both ↦ stopped_audit b old.now f both.1.found right (book_had zone default old sound) both.1.is_audit both.1.fault_is
+      | inr both ↦ stopped_audit (book_of zone default H) db f both.1.found right has both.1.is_audit both.1.fault_is
     ]

@@ -11,21 +11,26 @@ use Rattle.mq_ledger.specs.Arrivals.{is_first}
 use Rattle.mq_ledger.specs.History.{requests}
 use Rattle.mq_store.specs.Taking.{HasBook, book_of, Applies}
 
--- behind the reply to the first request of its number: the rows after the call
-abbrev pub LeavesNew : Zone → ℕ → Request → State → State → Type 0
-LeavesNew zone default r old new =
+-- These trees are what the whole call leaves that gives this reply: where the rows were those of a legal
+-- history, the reply is the ledger's, and they are those of the history with this arrival.
+pub record AreAppliedBy (zone : Zone) (default : ℕ) (r : Request) (a : Reply) (old : Database) (trees : Trees)
+    : Type 0 where
+  pub new : Database
+  pub applied : Applies zone default r a old new
+  pub trees_are : new.trees ≡ trees
+
+-- so they are, with some reply
+abbrev pub AreApplied : Zone → ℕ → Request → Database → Trees → Type 0
+AreApplied zone default r old trees = (a : Reply) × AreAppliedBy zone default r a old trees
+
+-- behind this reply to the first request of its number: the rows after the call
+abbrev pub LeavesNew : Zone → ℕ → Request → Reply → State → State → Type 0
+LeavesNew zone default r a old new =
     (H : List Entry) → HasBook (book_of zone default H) old.now → is_first (requests H) r ≡ true
-    → (db : Trees) → new.may_leave db → db ≡ new.now.trees
+    → (db : Trees) → new.may_leave db → (db ≡ new.now.trees) × AreAppliedBy zone default r a old.now db
 
 -- behind any other reply: what a crash could leave before
 abbrev pub LeavesOld : Zone → ℕ → Request → State → State → Type 0
 LeavesOld zone default r old new =
     (H : List Entry) → HasBook (book_of zone default H) old.now → is_first (requests H) r ≡ false
     → (db : Trees) → new.may_leave db → old.may_leave db
-
--- These trees are what the whole call leaves, with a reply that is the ledger's.
-pub record AreApplied (zone : Zone) (default : ℕ) (r : Request) (old : Database) (trees : Trees) : Type 0 where
-  pub reply : Reply
-  pub new : Database
-  pub applied : Applies zone default r reply old new
-  pub trees_are : new.trees ≡ trees

@@ -12,6 +12,7 @@ use Rattle.mq_ledger.specs.Legal.{Book, IsLegalBook}
 use Rattle.mq_rows.specs.Tables.{Tables, AreRows}
 use Rattle.mq_tables.specs.Answers.{bodies_in}
 use Rattle.mq_tables.specs.Ledger.{HasLedger}
+use Rattle.mq_store.specs.Taking.{HasBook}
 
 -- the requests that the rows of `answer` spell, in the order of n
 abbrev pub requests_in : Database → List Request
@@ -44,6 +45,12 @@ pub record IsSound (zone : Zone) (default : ℕ) (s : State) : Type 0 where
 pub record IsNew (zone : Zone) (default : ℕ) (s : State) : Type 0 where
   pub sound : IsSound zone default s
   pub blank : requests_in s.now ≡ []
+
+-- A legal history whose rows the store had is of this zone and default, and what the sound store means.
+abbrev pub MeansBook : Zone → ℕ → Database → State → Type 0
+MeansBook zone default old new =
+    (b : Book) → HasBook b old
+    → (b.zone ≡ zone) × (b.default ≡ default) × IsSound zone default new × (book_in zone default new.now ≡ b)
 
 -- Where the tables were sound with a zone and a default, these are the ledger's, it is sound, and it
 -- means what they meant.

@@ -35,8 +35,8 @@ pub(crate) fn apply<S: Alter>(
         (state S.Store connection.old).now (state S.Store connection.new).now) }
     ensures fault { HasKept (state S.Store connection.new)
         → OnErr result ((state S.Store connection.new).now ≡ (state S.Store connection.old).now) }
-    ensures crash_new { HasCleanDisk (state S.Store connection.new) → OnOk result
-        (LeavesNew zone default request.now (state S.Store connection.old) (state S.Store connection.new)) }
+    ensures crash_new { HasCleanDisk (state S.Store connection.new) → IfOk result
+        (λ a. LeavesNew zone default request.now a (state S.Store connection.old) (state S.Store connection.new)) }
     ensures crash_old { HasCleanDisk (state S.Store connection.new) → OnOk result
         (LeavesOld zone default request.now (state S.Store connection.old) (state S.Store connection.new)) }
     ensures crash_err { HasCleanDisk (state S.Store connection.new) → OnErr result ((db : Trees)

@@ -1,4 +1,4 @@
-ghost use Rattle.std.specs.Prelude.{◌≡◌, ◌⊎◌, [], ◌∷◌, ◌++◌, false, None, Some, IsTrue, IfOk, IfErr, OnOk, OnErr};
+ghost use Rattle.std.specs.Prelude.{◌≡◌, ◌⊎◌, List, [], ◌∷◌, ◌++◌, false, None, Some, IsTrue, IfOk, IfErr, OnOk, OnErr};
 ghost use Rattle.sqlite.specs.Held.{state};
 ghost use Rattle.sqlite.specs.State.{HasCleanDisk};
 ghost use Rattle.sqlite.specs.Tree.{Trees};
@@ -13,7 +13,9 @@ ghost use Rattle.mq_tables.specs.Settings.{SettingRow, HasSetting};
 ghost use Rattle.mq_store.specs.Auditing.{IsAuditIn, IsRightAnswer};
 ghost use Rattle.mq_store.specs.Crash.{LeavesNew, LeavesOld, AreApplied};
 ghost use Rattle.mq_store.specs.Opening.{made_with, create_fault, IsJudged, IsOf, IsChecked, IsOpening, IsOpeningOf};
-ghost use Rattle.mq_store.specs.Soundness.{book_in, HasKept, IsSound, IsNew, IsOpened};
+ghost use Rattle.mq_ledger.specs.declared.entry.Entry.{Entry as AnyEntry};
+ghost use Rattle.mq_store.specs.Soundness.{book_in, HasKept, IsSound, IsNew, MeansBook, IsOpened};
+ghost use Rattle.mq_store.specs.Taking.{HasBook, book_of};
 ghost use Rattle.mq_store.specs.declared.fault.OpenFault.TheVariants.{NotOurs, Memory, Store};
 
 use crate::apply::apply;
@@ -147,6 +149,7 @@ impl<S: Alter> SqlLedger<S> {
             → IsNew zone default (state S.Store l.connection)) }
         ensures not_ours { IfErr result (λ e. e.fault ≡ NotOurs
             → IsTrue (has_ledger_table (state S.Store connection).now.schema)) }
+        ensures not_ours_same { IfErr result (λ e. e.fault ≡ NotOurs → e.connection ≡ connection) }
         ensures ours_ok { IfOk result (λ _. has_ledger_table (state S.Store connection).now.schema ≡ false) }
         ensures ours_err { IfErr result (λ e. connection.in_transaction ≡ false
             → IsTrue (has_ledger_table (state S.Store connection).now.schema) → e.fault ≡ NotOurs) }
@@ -160,6 +163,8 @@ impl<S: Alter> SqlLedger<S> {
         ensures autocommit_ok { IfOk result (λ l. (connection.in_transaction ≡ false)
             × (l.connection.in_transaction ≡ false)) }
         ensures autocommit_err { IfErr result (λ e. e.connection.in_transaction ≡ connection.in_transaction) }
+        ensures within { IfErr result (λ e. IsTrue connection.in_transaction
+            → (e.fault ≡ Store) × (e.connection ≡ connection)) }
 
         // What an open after a crash may find: all five tables, or none of them.
         ensures crash_ok { IfOk result (λ l. HasCleanDisk (state S.Store l.connection) → (db : Trees)
@@ -228,17 +233,22 @@ impl<S: Alter> SqlLedger<S> {
             → HasSetting (state S.Store connection).now s
             → IsOpeningOf zone default (state S.Store connection).now s (Some e.fault)) }
 
-        // Over sound tables: they are this ledger's, and mean what they meant; and where they are of
-        // this zone and default, only memory and the store stand in the way.
+        // Over the rows of a legal history, whatever the store did before: it is of this zone and default,
+        // and the ledger is sound and means it. Where a legal history of this zone and default has these
+        // rows, only memory and the store stand in the way.
+        ensures rows { IfOk result (λ l. HasKept (state S.Store l.connection)
+            → MeansBook zone default (state S.Store connection).now (state S.Store l.connection)) }
+        ensures rows_err { IfErr result (λ e. HasCleanDisk (state S.Store e.connection) → (H : List AnyEntry)
+            → HasBook (book_of zone default H) (state S.Store connection).now → (e.fault ≡ Memory) ⊎ (e.fault ≡ Store)) }
         ensures sound { IfOk result (λ l. HasKept (state S.Store l.connection)
             → IsOpened zone default (state S.Store connection) (state S.Store l.connection)) }
-        ensures sound_err { IfErr result (λ e. HasCleanDisk (state S.Store e.connection)
-            → IsSound zone default (state S.Store connection) → (e.fault ≡ Memory) ⊎ (e.fault ≡ Store)) }
 
         // The connection is outside a transaction where it was lent so, and a ledger's always is.
         ensures autocommit_ok { IfOk result (λ l. (connection.in_transaction ≡ false)
             × (l.connection.in_transaction ≡ false)) }
         ensures autocommit_err { IfErr result (λ e. e.connection.in_transaction ≡ connection.in_transaction) }
+        ensures within { IfErr result (λ e. IsTrue connection.in_transaction
+            → (e.fault ≡ Store) × (e.connection ≡ connection)) }
 
         // Nothing is written.
         ensures spares_ok { IfOk result (λ l. HasCleanDisk (state S.Store l.connection)
@@ -252,6 +262,7 @@ impl<S: Alter> SqlLedger<S> {
             return Err(OpenRefused { fault, connection });
         }
         books_are_right();
+        tables_mean_their_book();
         match fault_in_ledger(alloc, &mut connection, zone, default) {
             None => Ok(SqlLedger {
                 alloc,
@@ -369,8 +380,8 @@ impl<S: Alter> Ledger for SqlLedger<S> {
             → IsSound self.new.zone self.new.default (state S.Store self.new.connection) }
 
         // What an open after a crash may find.
-        ensures crash_new { HasCleanDisk (state S.Store self.new.connection) → OnOk result
-            (LeavesNew self.old.zone self.old.default request.now
+        ensures crash_new { HasCleanDisk (state S.Store self.new.connection) → IfOk result
+            (λ a. LeavesNew self.old.zone self.old.default request.now a
             (state S.Store self.old.connection) (state S.Store self.new.connection)) }
         ensures crash_old { HasCleanDisk (state S.Store self.new.connection) → OnOk result
             (LeavesOld self.old.zone self.old.default request.now

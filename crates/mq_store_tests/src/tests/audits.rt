@@ -88,37 +88,33 @@ fn settings_come_before_the_audit(rt: HostRuntime) -> Result<(), Fail> {
     Ok(())
 }
 
+/// Texts that make a pair wrong, each with the login and the day of the least one.
+const DAMAGES: [(&str, &str, i64); 12] = [
+    // What is settled or reserved isn't what the transactions settled or hold.
+    ("UPDATE usage SET settled = -1", "u", 1),
+    ("UPDATE usage SET settled = 2", "u", 1),
+    ("UPDATE trans SET held = 1", "u", 1),
+    ("DELETE FROM usage", "u", 1),
+    ("DELETE FROM trans", "u", 1),
+    // Both together are above the limit.
+    ("INSERT INTO ceiling VALUES (x'75', 0, 0)", "u", 1),
+    // The moment is out of range, or of another day.
+    ("UPDATE trans SET moment = 86399", "u", 1),
+    ("UPDATE trans SET moment = 172800", "u", 1),
+    // Of the pair that the tables have and the one that they had, the earlier, and the lesser login.
+    ("UPDATE usage SET day = -1", "u", -1),
+    ("UPDATE trans SET day = 2", "u", 1),
+    ("UPDATE usage SET login = x'6120625c'", "a b\\", 1),
+    ("UPDATE usage SET login = x'76'", "u", 1),
+];
+
 /// The pair that is told is the least that isn't right, by the bytes of the login, then by the day.
 #[test]
 fn the_least_pair_is_told(rt: HostRuntime) -> Result<(), Fail> {
-    for (text, login, day) in [
-        // What is settled or reserved isn't what the transactions settled or hold.
-        ("UPDATE usage SET settled = -1", b"u".as_slice(), 1),
-        ("UPDATE usage SET settled = 2", b"u".as_slice(), 1),
-        ("UPDATE trans SET held = 1", b"u".as_slice(), 1),
-        ("DELETE FROM usage", b"u".as_slice(), 1),
-        ("DELETE FROM trans", b"u".as_slice(), 1),
-        // Both together are above the limit.
-        (
-            "INSERT INTO ceiling VALUES (x'75', 0, 0)",
-            b"u".as_slice(),
-            1,
-        ),
-        // The moment is out of range, or of another day.
-        ("UPDATE trans SET moment = 86399", b"u".as_slice(), 1),
-        ("UPDATE trans SET moment = 172800", b"u".as_slice(), 1),
-        // Of the pair that the tables have and the one that they had, the earlier, and the lesser login.
-        ("UPDATE usage SET day = -1", b"u".as_slice(), -1),
-        ("UPDATE trans SET day = 2", b"u".as_slice(), 1),
-        (
-            "UPDATE usage SET login = x'6120625c'",
-            b"a b\\".as_slice(),
-            1,
-        ),
-        ("UPDATE usage SET login = x'76'", b"u".as_slice(), 1),
-    ] {
+    for (text, login, day) in DAMAGES {
         let connection = settled_and(&rt, rt.alloc(), text)?;
-        refused(open(rt, connection, 0)?, damaged(rt.alloc(), login, day)?)?;
+        let pair = damaged(rt.alloc(), login.as_bytes(), day)?;
+        refused(open(rt, connection, 0)?, pair)?;
     }
     Ok(())
 }

@@ -4,6 +4,7 @@
 use super::asks::{ask, new_ledger, reply_of, request_of, zone};
 use super::worked::{RESERVED_TWICE, SETTLED_ONCE};
 use mq_frame::{Reply, Request};
+use mq_ledger::Zone;
 use mq_store::{Audit, OpenFault, SqlLedger};
 use sqlite::{Alter, Connection, Error, FileStore, Files, Options, Row};
 use sqlite_disk::{Crash, Disk, Fuse, Memory};
@@ -129,32 +130,45 @@ fn files_of<D: Disk + Drop>(connection: Connection<FileStore<D>>) -> Files<D> {
     connection.into_store().close()
 }
 
-/// Makes a ledger over the files and asks it, up to the first request that isn't replied to as it is
-/// to be. A reply that differs is a failure.
+/// A ledger made over the files, or what is left of them.
+fn make_over(
+    alloc: Global,
+    files: Files<Fused>,
+    zone: Zone,
+) -> Result<SqlLedger<FileStore<Fused>>, Files<Fused>> {
+    match SqlLedger::create(alloc, connect(alloc, files)?, zone, 3) {
+        Ok(ledger) => Ok(ledger),
+        Err(refused) => Err(files_of(refused.connection)),
+    }
+}
+
+/// Asks the ledger up to the first request that it doesn't reply to. A reply that differs is a failure.
+fn ask_all<S: Alter>(
+    rt: &impl Abort,
+    ledger: &mut SqlLedger<S>,
+    asked: &[(Request, Reply)],
+) -> Stop {
+    for (place, (request, wanted)) in asked.iter().enumerate() {
+        match ask(rt, ledger, request) {
+            Ok(reply) => assert_eq!(rt; &reply, wanted),
+            Err(_) => return Stop::At(place),
+        }
+    }
+    Stop::Nowhere
+}
+
+/// Makes a ledger over the files and asks it, up to where they stop.
 fn run(
     rt: &impl Abort,
     alloc: Global,
     files: Files<Fused>,
     asked: &[(Request, Reply)],
 ) -> Result<(Files<Fused>, Stop), Fail> {
-    let connection = match connect(alloc, files) {
-        Ok(connection) => connection,
+    let mut ledger = match make_over(alloc, files, zone(0)?) {
+        Ok(ledger) => ledger,
         Err(files) => return Ok((files, Stop::Making)),
     };
-    let mut ledger = match SqlLedger::create(alloc, connection, zone(0)?, 3) {
-        Ok(ledger) => ledger,
-        Err(refused) => return Ok((files_of(refused.connection), Stop::Making)),
-    };
-    let mut stop = Stop::Nowhere;
-    for (place, (request, wanted)) in asked.iter().enumerate() {
-        match ask(rt, &mut ledger, request) {
-            Ok(reply) => assert_eq!(rt; &reply, wanted),
-            Err(_) => {
-                stop = Stop::At(place);
-                break;
-            }
-        }
-    }
+    let stop = ask_all(rt, &mut ledger, asked);
     Ok((files_of(ledger.into_connection()), stop))
 }
 
@@ -193,34 +207,43 @@ fn check_again<S: Alter + Drop>(
     Ok(())
 }
 
-/// Asserts what is found in the files behind a stop: no table, or a ledger as it may be, whose
-/// connection is the answer.
-fn check_left(
+/// The ledger in the files behind a stop, or none where they have no table.
+fn found(
     rt: &impl Abort,
     alloc: Global,
-    script: &Script,
     stop: Stop,
     files: Files<Fused>,
-) -> Result<Option<Connection<FileStore<Fused>>>, Fail> {
+) -> Result<Option<SqlLedger<FileStore<Fused>>>, Fail> {
     let Ok(connection) = connect(alloc, files) else {
         return Err("the files don't open".into());
     };
-    let mut ledger = match SqlLedger::open(alloc, connection, zone(0)?, 3) {
-        Ok(ledger) => ledger,
+    match SqlLedger::open(alloc, connection, zone(0)?, 3) {
+        Ok(ledger) => Ok(Some(ledger)),
         Err(refused) => {
             assert_eq!(rt; stop, Stop::Making);
             assert_eq!(rt; refused.fault, OpenFault::NotOurs);
             assert!(rt; refused.connection.schema().tables.is_empty());
-            return Ok(None);
+            Ok(None)
         }
-    };
+    }
+}
+
+/// Asserts that a ledger is sound and has rows as they may be behind the stop, and answers its connection.
+fn check_rows<S: Alter + Drop>(
+    rt: &impl Abort,
+    alloc: Global,
+    script: &Script,
+    stop: Stop,
+    ledger: SqlLedger<S>,
+) -> Result<Connection<S>, Fail> {
+    let mut ledger = ledger;
     let Ok(Audit::Sound { .. }) = ledger.audit() else {
         return Err("not sound".into());
     };
     let mut connection = ledger.into_connection();
     let rows = rows_of(alloc, &mut connection)?;
     assert!(rt; may_be_found(script, stop, rows.as_str()));
-    Ok(Some(connection))
+    Ok(connection)
 }
 
 /// A file with all that was written to this one.
@@ -229,6 +252,43 @@ fn copied(alloc: Global, file: &Fused) -> Result<Fused, Fail> {
     copy.write_at(0, file.inner().bytes())?;
     copy.sync()?;
     Ok(Fuse::new(copy, u64::MAX))
+}
+
+/// Asserts what is found behind a stop in files with all that was written.
+fn check_written(
+    rt: &impl Abort,
+    alloc: Global,
+    script: &Script,
+    stop: Stop,
+    files: &Files<Fused>,
+) -> Result<(), Fail> {
+    let written = Files {
+        log: copied(alloc, &files.log)?,
+        db: copied(alloc, &files.db)?,
+    };
+    if let Some(ledger) = found(rt, alloc, stop, written)? {
+        check_rows(rt, alloc, script, stop, ledger)?;
+    }
+    Ok(())
+}
+
+/// Asserts what is found behind a stop in files with no more than what was synced, and that a ledger in
+/// them goes on.
+fn check_synced(
+    rt: &impl Abort,
+    alloc: Global,
+    script: &Script,
+    stop: Stop,
+    files: Files<Fused>,
+) -> Result<(), Fail> {
+    let mut files = files;
+    files.log.crash();
+    files.db.crash();
+    if let Some(ledger) = found(rt, alloc, stop, files)? {
+        let connection = check_rows(rt, alloc, script, stop, ledger)?;
+        check_again(rt, alloc, script, connection)?;
+    }
+    Ok(())
 }
 
 /// Lets a file stop at each of these calls in turn, until a run comes to its end, and answers how many
@@ -244,17 +304,9 @@ fn sweep(
     let script = written_script(rt, alloc)?;
     for calls in first..last {
         let files = fused_files(alloc, stopping, calls);
-        let (mut files, stop) = run(rt, alloc, files, script.asked.as_slice())?;
-        let written = Files {
-            log: copied(alloc, &files.log)?,
-            db: copied(alloc, &files.db)?,
-        };
-        check_left(rt, alloc, &script, stop, written)?;
-        files.log.crash();
-        files.db.crash();
-        if let Some(connection) = check_left(rt, alloc, &script, stop, files)? {
-            check_again(rt, alloc, &script, connection)?;
-        }
+        let (files, stop) = run(rt, alloc, files, script.asked.as_slice())?;
+        check_written(rt, alloc, &script, stop, &files)?;
+        check_synced(rt, alloc, &script, stop, files)?;
         if stop == Stop::Nowhere {
             return Ok(Some(calls));
         }

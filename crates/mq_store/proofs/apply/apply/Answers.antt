@@ -1,7 +1,8 @@
-use Rattle.std.proofs.Common.{◌≡◌, rules}
+use Rattle.std.proofs.Common.{◌≡◌, rules, arith}
 use Rattle.sqlite.specs.Held.{state}
+use Rattle.sqlite.specs.State.{HasCleanDisk}
 use Rattle.sqlite.proofs.Callers.{survives_begin}
-use Rattle.mq_store.proofs.Crashes.{leaves_either}
+use Rattle.mq_store.proofs.Crashes.{leaves_all, leaves_either}
 use Rattle.mq_store.proofs.apply.apply.Goals as goal
 
 pub returns-in_err-commit-clause-crash_err : goal.returns-in_err-commit-clause-crash_err
@@ -11,3 +12,13 @@ returns-in_err-commit-clause-crash_err g c =
     let taken = rw c.transaction-tx.ensures.begun at c.in_ok-reply.ensures.taken in
     rw (← same) (leaves_either c.args.zone c.args.default c.args.request.now (state g.S.Store c.args.connection.now) (state g.S.Store c.take.new.tx.conn.now) (state g.S.Store c.commit.new.self.0)
     c.in_ok-reply.field-0 _ taken before c.commit.ensures.survives)
+
+pub returns-clause-crash_new : goal.returns-clause-crash_new
+returns-clause-crash_new g c = λ clean H has is_first db left.
+    let same : c.commit.new.self.0 ≡ c.connection-2-1.given.0 = search rules in
+    let all : db ≡ (state g.S.Store c.connection-2-1.given.0).now.trees = search rules in
+    let after : HasCleanDisk (state g.S.Store c.commit.new.self.0) = rw same clean in
+    let mid : HasCleanDisk (state g.S.Store c.take.new.tx.conn.now) = omega (arith, c.commit.ensures.survives.clean, after) in
+    let taken = rw (c.transaction-tx.ensures.begun, c.in-Written.is) at (c.in_ok-reply.ensures.taken mid) in
+    let shown = rw same at ((c.in_ok-commit.ensures.ok after).1.now_is) in
+    leaves_all c.args.zone c.args.default c.args.request.now (state g.S.Store c.args.connection.now) (state g.S.Store c.take.new.tx.conn.now) (state g.S.Store c.connection-2-1.given.0) c.in-Written.reply db taken shown all

@@ -22,3 +22,6 @@ returns-clause-sound g c = rw (← c.self.view_is) (λ kept sound.
     let b : Book = book_after l.zone l.default H c.args.request.now in
     let over = (c.in_ok-reply.ensures.applied kept H (book_had l.zone l.default old sound)).1 in
     sound_with b (state g.S.Store c.apply.new.connection) kept over (c.tables_mean_their_book.ensures b _ over))
+
+pub returns-clause-crash_new : goal.returns-clause-crash_new
+returns-clause-crash_new g c = rw (← c.self.view_is) c.in_ok-reply.ensures.crash_new
