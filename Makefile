@@ -12,7 +12,7 @@ MANDIR = $(PREFIX)/share/man
 EXAMPLEDIR = $(PREFIX)/share/examples/mailquota
 DOCDIR = $(PREFIX)/share/doc/mailquota
 
-.PHONY: all build demo check edits program-tests smtpd install clean
+.PHONY: all build demo check edits program-tests refusals smtpd install clean
 
 all: build
 
@@ -36,6 +36,11 @@ edits:
 program-tests:
 	@test -x $(PROGRAM) || { echo "run 'make build' first" >&2; exit 1; }
 	@python3 tests/program/run.py $(PROGRAM)
+
+# The program with one allocation refused, a run for each: Python 3 and cc on Linux with glibc; JOBS=N runs at once.
+refusals:
+	@test -x $(PROGRAM) || { echo "run 'make build' first" >&2; exit 1; }
+	@python3 tests/refusals/run.py $(PROGRAM)
 
 # A real OpenSMTPD from Debian, in namespaces of its own: wants root, debootstrap, iproute2, openssl and python3.
 smtpd:

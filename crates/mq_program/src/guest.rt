@@ -140,6 +140,8 @@ impl Guest {
         self.end = match ended {
             Ok(Served::InputEnd) if self.answered < ENOUGH => None,
             Ok(Served::InputEnd) => Some(Ok(Served::Enough)),
+            // What is written to grows in memory, and fails for want of it alone.
+            Err(ServeFault::Write) => Some(Err(ServeFault::Memory)),
             ended => Some(ended),
         };
         if ended == Err(ServeFault::Store) {

@@ -107,10 +107,11 @@ pub fn serve_connections<R: Clock + Net, G: Log, L: Ledger>(
     let mut events = Events::with_capacity(alloc, EVENTS)?;
     let mut room = Room::new(rt, alloc, listener, connections).map_err(|e| no_poll(log, &e))?;
     for _round in 0..u64::MAX {
+        room.admit(rt, log, timeout)?;
+        // The last connection may just have been given up for want of memory: then nothing more comes.
         if room.is_over() {
             break;
         }
-        room.admit(rt, log, timeout)?;
         let now = room.wait(rt, &mut events).map_err(|e| no_poll(log, &e))?;
         room.attend(rt, log, alloc, &events, timeout, ledger)?;
         room.dismiss_late(log, now);

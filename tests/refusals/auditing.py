@@ -1,0 +1,133 @@
+"""A file that a server left, opened and audited: the file's answer or want of memory, and nothing in it is changed."""
+import contextlib
+import os
+import shutil
+import sqlite3
+
+from ends import apart
+from replaying import TWO_AND_A_SETTLE
+from serving import served, settings
+from storing import SOUND
+from sweeping import CUT, OUT_OF_MEMORY, RETRY, RIGHT, Run, sweep
+from wire import RETRY as RETRY_FRAME
+from wire import frame, number, text, usage
+
+FILES = ("ledger", "ledger-wal")
+# login u on day 1 behind the two reserves and the settle
+SETTLED_ONE = frame(b"\x8b" + text(b"u") + b"".join(map(number, (1, 1, 0, 3))))
+
+
+def run(refusals, checks):
+    made, wrong, empty = (f"{refusals.folder}/{name}" for name in ("made", "wrong", "empty"))
+    for folder in (made, wrong, empty):
+        os.mkdir(folder)
+    served(refusals, made, TWO_AND_A_SETTLE, ["--create"])
+    make_wrong(made, wrong)
+    open(f"{empty}/ledger", "wb").close()
+    name = "a store taken apart and opened"
+    sweep(refusals, checks, f"{name}, audit", audited(refusals, made, SOUND))
+    sweep(refusals, checks, f"{name}, server", opened(refusals, made))
+    # up to its end an audit with another answer allocates as the first one does
+    for what, source, more, why in [
+        ("another offset", made, {"offset": 60}, "store has another offset"),
+        ("another default", made, {"default": 4}, "store has another default"),
+        ("wrong books", wrong, {}, "store is damaged: login u day 1"),
+        ("an empty file", empty, {}, "store is not this ledger"),
+    ]:
+        sweep(refusals, checks, f"{name}, audit, {what}", audited(refusals, source, refused(why), **more), every=9)
+    sweep(refusals, checks, f"{name}, server --create", made_again(refusals, made), every=9)
+
+
+def refused(why):
+    return 1, b"", f"mailquota: {why}\n"
+
+
+def make_wrong(source, folder):
+    copied(source, folder)
+    with contextlib.closing(sqlite3.connect(f"{folder}/ledger")) as database:
+        database.execute("UPDATE usage SET reserved = 9")
+        database.commit()
+
+
+def copied(source, folder):
+    for name in FILES:
+        if os.path.exists(f"{source}/{name}"):
+            shutil.copy(f"{source}/{name}", f"{folder}/{name}")
+
+
+def content_of(folder):
+    """The bytes of the ledger's file and of its log, none where there is no log."""
+    found = []
+    for name in FILES:
+        try:
+            with open(f"{folder}/{name}", "rb") as file:
+                found.append(file.read())
+        except FileNotFoundError:
+            found.append(b"")
+    return found
+
+
+def change(folder, source):
+    """What is wrong with the copied file now, if anything: its bytes are as they were, or at least its rows.
+
+    A file without a log gets one, and an empty one becomes a database without tables.
+    """
+    before, after = content_of(source), content_of(folder)
+    if after == before or rows_of(folder, after) == rows_of(folder, before):
+        return None
+    return f"the rows changed, sizes {[len(part) for part in before + after]}"
+
+
+def rows_of(folder, content):
+    """All that a database of these bytes of file and log holds."""
+    for name, part in zip(FILES, content):
+        with open(f"{folder}/read-{name}", "wb") as file:
+            file.write(part)
+    with contextlib.closing(sqlite3.connect(f"{folder}/read-ledger")) as database:
+        tables = [name for (name,) in database.execute("SELECT name FROM sqlite_master WHERE type = 'table' ORDER BY name")]
+        return [(table, database.execute(f"SELECT * FROM {table}").fetchall()) for table in tables]
+
+
+def audited(refusals, source, wanted, **more):
+    """Runs of `audit` over copies of this file, which answers this with all memory."""
+    def one(number, folder):
+        copied(source, folder)
+        status, output, errors, told = refusals.run(folder, number, "audit", "--config", settings(refusals, folder, **more))
+        came = status, output, apart(errors)[1]
+        ending = RIGHT if came == wanted else OUT_OF_MEMORY if came == refused("out of memory") else "fault"
+        return Run(ending, told, f"{came}, {errors!r}" if ending == "fault" else change(folder, source))
+    return one
+
+
+def opened(refusals, source):
+    """Servers over copies of the file, asked for what is used, which writes no row."""
+    def one(number, folder):
+        copied(source, folder)
+        came = served(refusals, folder, [usage()], number=number)
+        ending = ending_of(came)
+        return Run(ending or "fault", came.told, change(folder, source) if ending else str(came))
+    return one
+
+
+def ending_of(came):
+    """How a server over the file ended, or None where it may not end so."""
+    if came.could_not_start():
+        return OUT_OF_MEMORY
+    if not came.went_on():
+        return None
+    if came.replies == [SETTLED_ONE] and not came.log:
+        return RIGHT
+    if came.replies == [RETRY_FRAME] and not came.log:
+        return RETRY
+    return CUT if not came.replies and len(came.log) == 1 and came.log[0].startswith("[WARN ") else None
+
+
+def made_again(refusals, source):
+    """`--create` over copies of a file that has a ledger."""
+    def one(number, folder):
+        copied(source, folder)
+        came = served(refusals, folder, [usage()], ["--create"], number)
+        good = came.replies is None and (came.status, came.text) == (1, "mailquota: store is not this ledger\n")
+        ending = OUT_OF_MEMORY if came.could_not_start() else RIGHT if good else "fault"
+        return Run(ending, came.told, str(came) if ending == "fault" else change(folder, source))
+    return one
