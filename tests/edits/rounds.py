@@ -4,8 +4,9 @@ A round is one check of the crate over texts in which each function is edited on
 contract where it is called, and of each function the prover says whether a goal of its own was refused, or whether it only
 calls or stands on what isn't proved. So an edit is refused where that is said of the very function that it changes.
 
-All this rests on the prover's words, so nothing else is believed of a round: an edit whose function isn't told of is tried
-alone, an unedited function that is refused is a failure, and the unedited functions must be proved over the same kept work.
+All this rests on the prover's words, so nothing else is believed of a round: edits whose functions aren't told of are tried
+without the others and at last alone, an unedited function that is refused is a failure, and the unedited functions must be
+proved over the same kept work.
 """
 import tempfile
 from collections import namedtuple
@@ -110,11 +111,12 @@ class Rounds:
         else:
             self.say_unjudged(edits[0], ran, told)
             again = []
-        for it in again:
-            self.try_round([it], kept)
+        # what the others may have hidden is tried without them, and at last alone
+        for group in [again] if again and len(again) < len(edits) else [[it] for it in again]:
+            self.try_round(group, kept)
 
     def judge(self, edits, told):
-        """Says which edits were refused, and returns those to be tried alone."""
+        """Says which edits were refused, and returns those to be tried without the others."""
         touched = set().union(*(it.touched for it in edits))
         for name, line in told.refused.items():
             if not any(is_part(name, it) or it.startswith(name + "::") for it in touched):
