@@ -1,6 +1,6 @@
 -- What an open may find where a crash comes behind a request.
-use Rattle.std.specs.Prelude.{◌≡◌, ℕ, List, true, false}
-use Rattle.sqlite.specs.Effect.{Database}
+use Rattle.std.specs.Prelude.{◌≡◌, ◌⊎◌, ℕ, List, true, false}
+use Rattle.sqlite.specs.Effect.{Database, IsDatabase}
 use Rattle.sqlite.specs.State.{State}
 use Rattle.sqlite.specs.Tree.{Trees}
 use Rattle.mq_frame.specs.declared.message.Request.{Request}
@@ -9,15 +9,17 @@ use Rattle.mq_ledger.specs.declared.entry.Entry.{Entry}
 use Rattle.mq_ledger.specs.declared.zone.Zone.{Zone}
 use Rattle.mq_ledger.specs.Arrivals.{is_first}
 use Rattle.mq_ledger.specs.History.{requests}
-use Rattle.mq_store.specs.Taking.{HasBook, book_of, Applies}
+use Rattle.mq_store.specs.Taking.{HasBook, book_of, book_after, Applies}
 
 -- These trees are what the whole call leaves that gives this reply: where the rows were those of a legal
--- history, the reply is the ledger's, and they are those of the history with this arrival.
+-- history, the reply is the ledger's, and they are those of the history with this arrival. So it is of
+-- each sound database that has these trees.
 pub record AreAppliedBy (zone : Zone) (default : ℕ) (r : Request) (a : Reply) (old : Database) (trees : Trees)
     : Type 0 where
   pub new : Database
   pub applied : Applies zone default r a old new
   pub trees_are : new.trees ≡ trees
+  pub opened : (db : Database) → IsDatabase db → db.trees ≡ trees → Applies zone default r a old db
 
 -- so they are, with some reply
 abbrev pub AreApplied : Zone → ℕ → Request → Database → Trees → Type 0
@@ -34,3 +36,22 @@ abbrev pub LeavesOld : Zone → ℕ → Request → State → State → Type 0
 LeavesOld zone default r old new =
     (H : List Entry) → HasBook (book_of zone default H) old.now → is_first (requests H) r ≡ false
     → (db : Trees) → new.may_leave db → old.may_leave db
+
+-- What is found by whoever opens what a crash left.
+
+-- each sound database whose trees a crash may leave is such a one
+abbrev pub FindsOnly : State → (Database → Type 0) → Type 0
+FindsOnly s P = (db : Database) → IsDatabase db → s.may_leave db.trees → P db
+
+-- where a crash before left the rows of the history and no others, one behind the call leaves those of the
+-- history with this arrival
+abbrev pub FindsNew : Zone → ℕ → Request → State → State → Type 0
+FindsNew zone default r old new =
+    (H : List Entry) → HasBook (book_of zone default H) old.now → FindsOnly old (HasBook (book_of zone default H))
+    → FindsOnly new (HasBook (book_after zone default H r))
+
+-- it leaves those, or the ones that were there
+abbrev pub FindsEither : Zone → ℕ → Request → State → State → Type 0
+FindsEither zone default r old new =
+    (H : List Entry) → HasBook (book_of zone default H) old.now → FindsOnly old (HasBook (book_of zone default H))
+    → FindsOnly new (λ db. HasBook (book_of zone default H) db ⊎ HasBook (book_after zone default H r) db)

@@ -13,6 +13,7 @@ use crate::fault::Refused;
 use crate::take::{Taken, take};
 use mq_frame::{Reply, Request};
 use mq_ledger::Zone;
+use mq_tables::laws::trees_have_one_schema;
 use sqlite::{Alter, Connection};
 use std::alloc::Global;
 
@@ -43,6 +44,7 @@ pub(crate) fn apply<S: Alter>(
         → (state S.Store connection.new).may_leave db → (state S.Store connection.old).may_leave db
         ⊎ AreApplied zone default request.now (state S.Store connection.old).now db) }
 {
+    trees_have_one_schema();
     let _settled = connection.is_autocommit();
     let mut tx = connection.transaction();
     let reply = match take(alloc, &mut tx, zone, default, request)? {

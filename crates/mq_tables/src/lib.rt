@@ -6,6 +6,7 @@ pub mod ceiling;
 pub mod create;
 pub mod figures;
 pub mod find;
+pub mod laws;
 pub mod names;
 pub mod over;
 pub mod page;

@@ -10,7 +10,7 @@ returns-in_err-commit-clause-crash_err g c =
     let same : c.commit.new.self.0 ≡ c.connection-2-1.given.0 = search rules in
     let before = survives_begin g.S.Store c.args.connection.now (state g.S.Store c.take.new.tx.conn.now) (λ _. ⊥) (rw c.transaction-tx.ensures.begun at c.take.ensures.survives) in
     let taken = rw c.transaction-tx.ensures.begun at c.in_ok-reply.ensures.taken in
-    rw (← same) (leaves_either c.args.zone c.args.default c.args.request.now (state g.S.Store c.args.connection.now) (state g.S.Store c.take.new.tx.conn.now) (state g.S.Store c.commit.new.self.0)
+    rw (← same) (leaves_either c.trees_have_one_schema.ensures c.args.zone c.args.default c.args.request.now (state g.S.Store c.args.connection.now) (state g.S.Store c.take.new.tx.conn.now) (state g.S.Store c.commit.new.self.0)
     c.in_ok-reply.field-0 _ taken before c.commit.ensures.survives)
 
 pub returns-clause-crash_new : goal.returns-clause-crash_new
@@ -21,4 +21,4 @@ returns-clause-crash_new g c = λ clean H has is_first db left.
     let mid : HasCleanDisk (state g.S.Store c.take.new.tx.conn.now) = omega (arith, c.commit.ensures.survives.clean, after) in
     let taken = rw (c.transaction-tx.ensures.begun, c.in-Written.is) at (c.in_ok-reply.ensures.taken mid) in
     let shown = rw same at ((c.in_ok-commit.ensures.ok after).1.now_is) in
-    leaves_all c.args.zone c.args.default c.args.request.now (state g.S.Store c.args.connection.now) (state g.S.Store c.take.new.tx.conn.now) (state g.S.Store c.connection-2-1.given.0) c.in-Written.reply db taken shown all
+    leaves_all c.trees_have_one_schema.ensures c.args.zone c.args.default c.args.request.now (state g.S.Store c.args.connection.now) (state g.S.Store c.take.new.tx.conn.now) (state g.S.Store c.connection-2-1.given.0) c.in-Written.reply db taken shown all
