@@ -7,3 +7,4 @@ pub mod Sound
 pub mod Writing
 pub mod Audits
 pub mod Openings
+pub mod Recovery

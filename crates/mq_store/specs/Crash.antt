@@ -43,15 +43,16 @@ LeavesOld zone default r old new =
 abbrev pub FindsOnly : State → (Database → Type 0) → Type 0
 FindsOnly s P = (db : Database) → IsDatabase db → s.may_leave db.trees → P db
 
--- where a crash before left the rows of the history and no others, one behind the call leaves those of the
--- history with this arrival
+-- behind a reply: the rows of the history with this arrival, where it was the first of its number or a crash
+-- before left those of the history
 abbrev pub FindsNew : Zone → ℕ → Request → State → State → Type 0
 FindsNew zone default r old new =
-    (H : List Entry) → HasBook (book_of zone default H) old.now → FindsOnly old (HasBook (book_of zone default H))
+    (H : List Entry) → HasBook (book_of zone default H) old.now
+    → (is_first (requests H) r ≡ false → FindsOnly old (HasBook (book_of zone default H)))
     → FindsOnly new (HasBook (book_after zone default H r))
 
--- it leaves those, or the ones that were there
+-- behind a fault: those, or what a crash before could leave
 abbrev pub FindsEither : Zone → ℕ → Request → State → State → Type 0
 FindsEither zone default r old new =
-    (H : List Entry) → HasBook (book_of zone default H) old.now → FindsOnly old (HasBook (book_of zone default H))
-    → FindsOnly new (λ db. HasBook (book_of zone default H) db ⊎ HasBook (book_after zone default H r) db)
+    (H : List Entry) → HasBook (book_of zone default H) old.now
+    → FindsOnly new (λ db. old.may_leave db.trees ⊎ HasBook (book_after zone default H r) db)

@@ -1,6 +1,6 @@
 //! Laws that lead from what was read and written to the ledger's history. Each function does
 //! nothing: its contract is the law.
-ghost use Rattle.std.specs.Prelude.{◌≡◌, ◌≤◌, ◌⊎◌, ◌+◌, ℕ, List, [], ◌∷◌, ◌++◌, true, Option, Some, None, is_some};
+ghost use Rattle.std.specs.Prelude.{◌≡◌, ◌≤◌, ◌⊎◌, ◌+◌, ℕ, List, [], ◌∷◌, ◌++◌, true, false, Option, Some, None, is_some};
 ghost use Rattle.sqlite.specs.Effect.{Database};
 ghost use Rattle.mq_frame.specs.declared.message.Id.{Id};
 ghost use Rattle.mq_frame.specs.declared.message.Request.{Request as AnyRequest};
@@ -11,8 +11,9 @@ ghost use Rattle.mq_frame.specs.Same.{same_id};
 ghost use Rattle.mq_ledger.specs.declared.entry.Entry.{Entry as AnyEntry};
 ghost use Rattle.mq_ledger.specs.declared.zone.Zone.{Zone as AnyZone};
 ghost use Rattle.mq_ledger.specs.Answer.{appended, reply, stored};
-ghost use Rattle.mq_ledger.specs.Arrivals.{id_of};
+ghost use Rattle.mq_ledger.specs.Arrivals.{id_of, is_first};
 ghost use Rattle.mq_ledger.specs.Day.{day_of};
+ghost use Rattle.mq_ledger.specs.History.{requests};
 ghost use Rattle.mq_ledger.specs.Page.{row};
 ghost use Rattle.mq_ledger.specs.Legal.{Book, IsLegalBook};
 ghost use Rattle.mq_rows.specs.declared.audited.Audit.{Audit as AnyAudit};
@@ -83,6 +84,15 @@ pub(crate) fn arrivals_are_applied()
 {
     one_more_answer();
     nothing_is_added();
+}
+
+/// A request that isn't the first of its number leaves the history as it is.
+pub(crate) fn later_arrivals_add_nothing()
+    ensures { (zone : AnyZone) (default : ℕ) (H : List AnyEntry) (r : AnyRequest) (db : Database) →
+        is_first (requests H) r ≡ false → HasBook (book_of zone default H) db →
+        HasBook (book_after zone default H r) db }
+{
+    arrivals_are_applied();
 }
 
 /// What is read of a login's rows is the ledger's, and the rows of a day, gone through from login to

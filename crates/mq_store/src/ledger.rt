@@ -11,7 +11,7 @@ ghost use Rattle.mq_tables.specs.Making.{has_ledger_table, AreUnnamed, HasCounte
 ghost use Rattle.mq_tables.specs.Reading.{Spares};
 ghost use Rattle.mq_tables.specs.Settings.{SettingRow, HasSetting};
 ghost use Rattle.mq_store.specs.Auditing.{IsAuditIn, IsRightAnswer};
-ghost use Rattle.mq_store.specs.Crash.{LeavesNew, LeavesOld, AreApplied};
+ghost use Rattle.mq_store.specs.Crash.{LeavesNew, LeavesOld, AreApplied, FindsOnly, FindsNew, FindsEither};
 ghost use Rattle.mq_store.specs.Opening.{made_with, create_fault, IsJudged, IsOf, IsChecked, IsOpening, IsOpeningOf};
 ghost use Rattle.mq_ledger.specs.declared.entry.Entry.{Entry as AnyEntry};
 ghost use Rattle.mq_store.specs.Soundness.{book_in, HasKept, IsSound, IsNew, MeansBook, IsOpened};
@@ -21,11 +21,12 @@ ghost use Rattle.mq_store.specs.declared.fault.OpenFault.TheVariants.{NotOurs, M
 use crate::apply::apply;
 use crate::auditing::audit_store;
 use crate::fault::{OpenFault, OpenRefused, judged, open_fault};
-use crate::laws::{books_are_right, tables_mean_their_book};
+use crate::laws::{books_are_right, later_arrivals_add_nothing, tables_mean_their_book};
 use mq_frame::{Reply, Request};
 use mq_ledger::{Ledger, LedgerFault, Zone};
 use mq_rows::Audit;
 use mq_tables::create::make_ledger;
+use mq_tables::laws::trees_have_one_schema;
 use mq_tables::names::has_ledger_table;
 use mq_tables::setting::{NewSetting, read_setting};
 use sqlite::{Alter, Connection, Error, ErrorCode};
@@ -172,7 +173,17 @@ impl<S: Alter> SqlLedger<S> {
         ensures crash_err { IfErr result (λ e. HasCleanDisk (state S.Store e.connection) → (db : Trees)
             → (state S.Store e.connection).may_leave db → (state S.Store connection).may_leave db
             ⊎ AreMadeOver (made_with zone default) (state S.Store connection).now db) }
+
+        // What it does find, as a sound database: the rows of the empty history; behind a fault all
+        // five tables, or trees that could be found before.
+        ensures found_ok { IfOk result (λ l. HasCleanDisk (state S.Store l.connection)
+            → HasCounters (state S.Store connection) → AreUnnamed (state S.Store connection).now.schema
+            → FindsOnly (state S.Store l.connection) (HasBook (book_of zone default []))) }
+        ensures found_err { IfErr result (λ e. HasCleanDisk (state S.Store e.connection)
+            → FindsOnly (state S.Store e.connection) (λ db. (state S.Store connection).may_leave db.trees
+            ⊎ IsMadeOver (made_with zone default) (state S.Store connection).now db)) }
     {
+        trees_have_one_schema();
         let mut connection = connection;
         if !connection.is_autocommit() {
             let fault = OpenFault::Store;
@@ -389,8 +400,17 @@ impl<S: Alter> Ledger for SqlLedger<S> {
         ensures crash_err { HasCleanDisk (state S.Store self.new.connection) → OnErr result ((db : Trees)
             → (state S.Store self.new.connection).may_leave db → (state S.Store self.old.connection).may_leave db
             ⊎ AreApplied self.old.zone self.old.default request.now (state S.Store self.old.connection).now db) }
+
+        // What it does find, as a sound database.
+        ensures found_ok { HasCleanDisk (state S.Store self.new.connection) → OnOk result
+            (FindsNew self.old.zone self.old.default request.now
+            (state S.Store self.old.connection) (state S.Store self.new.connection)) }
+        ensures found_err { HasCleanDisk (state S.Store self.new.connection) → OnErr result
+            (FindsEither self.old.zone self.old.default request.now
+            (state S.Store self.old.connection) (state S.Store self.new.connection)) }
     {
         tables_mean_their_book();
+        later_arrivals_add_nothing();
         let reply = apply(
             self.alloc,
             &mut self.connection,

@@ -3,6 +3,7 @@ use Rattle.sqlite.specs.Held.{state}
 use Rattle.mq_ledger.specs.Legal.{Book}
 use Rattle.mq_store.specs.Soundness.{book_in}
 use Rattle.mq_store.specs.Taking.{book_after}
+use Rattle.mq_store.proofs.Recovery.{found_new}
 use Rattle.mq_store.proofs.Sound.{book_had, sound_with}
 use Rattle.mq_store.proofs.ledger.SqlLedgerLedger.apply.Goals as goal
 
@@ -25,3 +26,8 @@ returns-clause-sound g c = rw (← c.self.view_is) (λ kept sound.
 
 pub returns-clause-crash_new : goal.returns-clause-crash_new
 returns-clause-crash_new g c = rw (← c.self.view_is) c.in_ok-reply.ensures.crash_new
+
+pub returns-clause-found_ok : goal.returns-clause-found_ok
+returns-clause-found_ok g c = rw (← c.self.view_is) (λ clean.
+    found_new c.self.inside.zone c.self.inside.default c.args.request.now (state g.S.Store c.self.inside.connection) (state g.S.Store c.apply.new.connection) c.in_ok-reply.reply
+    (λ H db. c.later_arrivals_add_nothing.ensures c.self.inside.zone c.self.inside.default H c.args.request.now db) (c.in_ok-reply.ensures.crash_new clean) (c.in_ok-reply.ensures.crash_old clean))
