@@ -6,4 +6,5 @@ pub mod Keyed
 pub mod Sound
 pub mod Writing
 pub mod Audits
+pub mod Figured
 pub mod Openings
