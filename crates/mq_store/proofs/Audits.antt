@@ -26,16 +26,11 @@ whole_of t = record { host = t.host; run = pos t.run; txn = pos t.txn; figures =
 -- the typed rows of the tables, as figures
 has_figures : (db : Database) (t : Tables) → HasLedger db t → HasFigures db (figures t)
 has_figures db t l = record {
-  trans_tree = l.at.trans;
-  usage_tree = l.at.usage;
-  ceiling_tree = l.at.ceiling;
-  trans = l.tables.trans;
-  usage = l.tables.usage;
-  ceiling = l.tables.ceiling;
+  tables = record { trans_tree = l.at.trans; usage_tree = l.at.usage; ceiling_tree = l.at.ceiling; trans = l.tables.trans; usage = l.tables.usage; ceiling = l.tables.ceiling };
   whole = map whole_of t.transactions;
-  holds_trans = record { numbered = l.holds.transactions.numbered; same = subst (IsPermutation (map (drop 1) (db.trees l.at.trans))) (sym (map-map whole_cells whole_of t.transactions)) l.holds.transactions.same };
-  holds_usage = record { numbered = l.holds.usage.numbered; same = subst (IsPermutation (map (drop 1) (db.trees l.at.usage))) (sym (map-map usage_cells usage_figures t.usage)) l.holds.usage.same };
-  holds_ceiling = record { numbered = l.holds.ceilings.numbered; same = subst (IsPermutation (map (drop 1) (db.trees l.at.ceiling))) (sym (map-map limit_cells limit_figures t.ceilings)) l.holds.ceilings.same };
+  holds_trans = subst (IsPermutation (map (drop 1) (db.trees l.at.trans))) (sym (map-map whole_cells whole_of t.transactions)) l.holds.transactions.same;
+  holds_usage = subst (IsPermutation (map (drop 1) (db.trees l.at.usage))) (sym (map-map usage_cells usage_figures t.usage)) l.holds.usage.same;
+  holds_ceiling = subst (IsPermutation (map (drop 1) (db.trees l.at.ceiling))) (sym (map-map limit_cells limit_figures t.ceilings)) l.holds.ceilings.same;
   transactions = sym (map-map (λ (w : WholeTransaction). w.figures) whole_of t.transactions);
 }
 
@@ -57,5 +52,5 @@ pub book_is_right : (b : Book) (db : Database) (a : Audit)
     → HasBook b db → IsAuditIn b.zone b.default db a → IsRightAnswer a
 book_is_right b db a law has audited =
     let t : Tables = has.has.tables in
-    let it : IsAuditOf b.zone b.default (figures t) a = audited (figures t) (has_figures db t has.has.holds) in
+    let it : IsAuditOf b.zone b.default (figures t) a = audited.of_all (figures t) (has_figures db t has.has.holds) in
     right_by b.zone b.default it.read a (law b t it.read has.legal has.has.rows it.same.usage it.same.transactions it.same.limits) it.audited

@@ -6,5 +6,6 @@ pub mod Keyed
 pub mod Sound
 pub mod Writing
 pub mod Audits
+pub mod Figured
 pub mod Openings
 pub mod Recovery

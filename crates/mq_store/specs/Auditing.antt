@@ -7,7 +7,7 @@ use Rattle.mq_ledger.specs.Day.{day_of}
 use Rattle.mq_rows.specs.declared.audited.Audit.{Audit}
 use Rattle.mq_rows.specs.declared.audited.Audit.TheVariants.{Sound, Wrong}
 use Rattle.mq_rows.specs.Audit.{Figures, IsAudited}
-use Rattle.mq_tables.specs.Figures.{HasFigures}
+use Rattle.mq_tables.specs.Figures.{HasAuditTables, HasFigures}
 
 -- the same rows, each table's in any order
 pub record AreReordered (f g : Figures) : Type 0 where
@@ -22,8 +22,13 @@ pub record IsAuditOf (zone : Zone) (default : ℕ) (f : Figures) (a : Audit) : T
   pub audited : IsAudited (day_of zone) default read a
 
 -- so it is of the figures of all rows that the store has
-abbrev pub IsAuditIn : Zone → ℕ → Database → Audit → Type 0
-IsAuditIn zone default db a = (f : Figures) → HasFigures db f → IsAuditOf zone default f a
+abbrev pub IsAuditOfAll : Zone → ℕ → Database → Audit → Type 0
+IsAuditOfAll zone default db a = (f : Figures) → HasFigures db f → IsAuditOf zone default f a
+
+-- It is, and where the store has the three tables, its rows have figures, whatever wrote them.
+pub record IsAuditIn (zone : Zone) (default : ℕ) (db : Database) (a : Audit) : Type 0 where
+  pub of_all : IsAuditOfAll zone default db a
+  pub there : HasAuditTables db.schema → (f : Figures) × HasFigures db f
 
 -- it says that each pair is right
 abbrev pub IsRightAnswer : Audit → Type 0

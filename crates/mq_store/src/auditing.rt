@@ -4,13 +4,13 @@ ghost use Rattle.std.specs.Prelude.{◌≡◌, false, IsTrue, IfOk, OnOk};
 ghost use Rattle.sqlite.specs.Held.{state};
 ghost use Rattle.sqlite.specs.State.{HasCleanDisk, KeepsCommit, Survives};
 ghost use Rattle.mq_tables.specs.Reading.{Spares};
-ghost use Rattle.mq_store.specs.Auditing.{IsAuditIn};
+ghost use Rattle.mq_store.specs.Auditing.{IsAuditOfAll, IsAuditIn};
 ghost use Rattle.mq_store.specs.Taking.{Stays};
 
 use crate::fault::Refused;
 use mq_ledger::Zone;
 use mq_rows::Audit;
-use mq_tables::figures::{read_limits, read_transactions, read_usage};
+use mq_tables::figures::{read_limits, read_transactions, read_usage, rows_have_figures};
 use sqlite::{Alter, Connection, Transaction};
 use std::alloc::Global;
 
@@ -28,7 +28,7 @@ fn audit_inside<S: Alter>(
     ensures open { HasCleanDisk (state S.Store tx.new.conn.now)
         → OnOk result (IsTrue (state S.Store tx.old.conn.now).is_open) }
     ensures audited { HasCleanDisk (state S.Store tx.new.conn.now)
-        → IfOk result (IsAuditIn zone default (state S.Store tx.old.conn.now).now) }
+        → IfOk result (IsAuditOfAll zone default (state S.Store tx.old.conn.now).now) }
     ensures kept { HasCleanDisk (state S.Store tx.new.conn.now)
         → KeepsCommit (state S.Store tx.old.conn.now) (state S.Store tx.new.conn.now) }
     ensures survives { Survives (state S.Store tx.old.conn.now) (state S.Store tx.new.conn.now) (λ _. ⊥) }
@@ -65,6 +65,8 @@ pub(crate) fn audit_store<S: Alter>(
         → Spares (state S.Store connection.old) (state S.Store connection.new) }
 {
     let _settled = connection.is_autocommit();
+    let _sound = connection.schema();
+    rows_have_figures();
     let mut tx = connection.transaction();
     audit_inside(alloc, &mut tx, zone, default)
 }

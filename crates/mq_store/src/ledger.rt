@@ -297,6 +297,8 @@ impl<S: Alter> SqlLedger<S> {
     /// A crash behind it, whatever it answered, leaves what a crash before it could leave.
     pub fn audit(&mut self) -> Result<Audit, LedgerFault>
         ensures lent { (self.new.zone ≡ self.old.zone) × (self.new.default ≡ self.old.default) }
+
+        // It is that of all rows of the three tables, which have figures wherever the store has these tables.
         ensures audited { HasCleanDisk (state S.Store self.new.connection)
             → IfOk result (IsAuditIn self.old.zone self.old.default (state S.Store self.old.connection).now) }
 

@@ -51,7 +51,7 @@ module _ (login : List ℕ) (day : ℕ) where
       let tree = l.at.ceiling in
       let is = understood_so old.now.schema tree place in
       let all = firsts.shows_all ceiling_fields key_tests shown_terms params (tied params) (shows params) select_text names old new tree rows t.ceilings (ap command_of is) (subst IsPlain (sym is) (refl, refl))
-      (any_apart select_text select_parsed select_query select_unlisted old.now.schema (select_compiled tree) is) place.stored l.holds.ceilings h in
+      (any_apart select_text select_parsed select_query select_unlisted old.now.schema (select_compiled tree) is) place.stored l.holds.ceilings.same h in
       subst (λ (p : CeilingRecord → Bool). IsPermutation (map limit_row (filter p t.ceilings)) rows) (λ i c. decides c i) all
 
   pub found_all : (old new : State) (outcome : Result (Vec Row Global) Error) → IfOk outcome (λ rows. Shown select_text (key_params login day) old new rows.items)

@@ -38,9 +38,9 @@ shows_usage (x ∷ r) = refl
 
 usage_shown : (old new : State) (rows : List Row) → Shown usage_query.select_text [] old new rows → (f : Figures) → HasFigures old.now f → IsPermutation (map usage_cells f.usage) rows
 usage_shown old new rows h f l =
-    let is = usage_query.understood_so old.now.schema l.usage_tree l.usage in
-    let all = firsts.shows_all usage_cells [] usage_query.shown_terms [] tied_usage shows_usage usage_query.select_text usage_query.names old new l.usage_tree rows f.usage (ap command_of is) (subst IsPlain (sym is) (refl, refl))
-    (any_apart usage_query.select_text usage_query.select_parsed usage_query.select_query usage_query.select_unlisted old.now.schema (usage_query.select_compiled l.usage_tree) is) l.usage.stored l.holds_usage h in
+    let is = usage_query.understood_so old.now.schema l.tables.usage_tree l.tables.usage in
+    let all = firsts.shows_all usage_cells [] usage_query.shown_terms [] tied_usage shows_usage usage_query.select_text usage_query.names old new l.tables.usage_tree rows f.usage (ap command_of is) (subst IsPlain (sym is) (refl, refl))
+    (any_apart usage_query.select_text usage_query.select_parsed usage_query.select_query usage_query.select_unlisted old.now.schema (usage_query.select_compiled l.tables.usage_tree) is) l.tables.usage.stored l.holds_usage h in
     subst (λ xs. IsPermutation (map usage_cells xs) rows) (all_pass f.usage) all
 
 pub usage_found : (old new : State) (outcome : Result (Vec Row Global) Error) → IfOk outcome (λ rows. Shown usage_query.select_text [] old new rows.items)
@@ -82,9 +82,9 @@ shows_transactions (x ∷ r) = refl
 
 transactions_shown : (old new : State) (rows : List Row) → Shown trans_query.select_text [] old new rows → (f : Figures) → HasFigures old.now f → IsPermutation (map transaction_cells f.transactions) rows
 transactions_shown old new rows h f l =
-    let is = trans_query.understood_so old.now.schema l.trans_tree l.trans in
-    let all = firsts.shows_all whole_cells [] trans_query.shown_terms [] tied_transactions shows_transactions trans_query.select_text trans_query.names old new l.trans_tree rows l.whole (ap command_of is) (subst IsPlain (sym is) (refl, refl))
-    (any_apart trans_query.select_text trans_query.select_parsed trans_query.select_query trans_query.select_unlisted old.now.schema (trans_query.select_compiled l.trans_tree) is) l.trans.stored l.holds_trans h in
+    let is = trans_query.understood_so old.now.schema l.tables.trans_tree l.tables.trans in
+    let all = firsts.shows_all whole_cells [] trans_query.shown_terms [] tied_transactions shows_transactions trans_query.select_text trans_query.names old new l.tables.trans_tree rows l.whole (ap command_of is) (subst IsPlain (sym is) (refl, refl))
+    (any_apart trans_query.select_text trans_query.select_parsed trans_query.select_query trans_query.select_unlisted old.now.schema (trans_query.select_compiled l.tables.trans_tree) is) l.tables.trans.stored l.holds_trans h in
     let kept : IsPermutation (map (λ (w : WholeTransaction). transaction_cells w.figures) l.whole) rows = subst (λ ws. IsPermutation (map (λ (w : WholeTransaction). transaction_cells w.figures) ws) rows) (all_pass l.whole) all in
     let same : map (λ (w : WholeTransaction). transaction_cells w.figures) l.whole ≡ map transaction_cells f.transactions = sym (map-map transaction_cells (λ (w : WholeTransaction). w.figures) l.whole) ∙ ap (map transaction_cells) (sym l.transactions) in
     subst (λ xs. IsPermutation xs rows) same kept
@@ -128,9 +128,9 @@ shows_limits (x ∷ r) = refl
 
 limits_shown : (old new : State) (rows : List Row) → Shown ceiling_query.select_text [] old new rows → (f : Figures) → HasFigures old.now f → IsPermutation (map limit_cells f.limits) rows
 limits_shown old new rows h f l =
-    let is = ceiling_query.understood_so old.now.schema l.ceiling_tree l.ceiling in
-    let all = firsts.shows_all limit_cells [] ceiling_query.shown_terms [] tied_limits shows_limits ceiling_query.select_text ceiling_query.names old new l.ceiling_tree rows f.limits (ap command_of is) (subst IsPlain (sym is) (refl, refl))
-    (any_apart ceiling_query.select_text ceiling_query.select_parsed ceiling_query.select_query ceiling_query.select_unlisted old.now.schema (ceiling_query.select_compiled l.ceiling_tree) is) l.ceiling.stored l.holds_ceiling h in
+    let is = ceiling_query.understood_so old.now.schema l.tables.ceiling_tree l.tables.ceiling in
+    let all = firsts.shows_all limit_cells [] ceiling_query.shown_terms [] tied_limits shows_limits ceiling_query.select_text ceiling_query.names old new l.tables.ceiling_tree rows f.limits (ap command_of is) (subst IsPlain (sym is) (refl, refl))
+    (any_apart ceiling_query.select_text ceiling_query.select_parsed ceiling_query.select_query ceiling_query.select_unlisted old.now.schema (ceiling_query.select_compiled l.tables.ceiling_tree) is) l.tables.ceiling.stored l.holds_ceiling h in
     subst (λ xs. IsPermutation (map limit_cells xs) rows) (all_pass f.limits) all
 
 pub limits_found : (old new : State) (outcome : Result (Vec Row Global) Error) → IfOk outcome (λ rows. Shown ceiling_query.select_text [] old new rows.items)

@@ -83,10 +83,10 @@ module _ {R : Type 0} (fields : R → Row) (tests project : List Term) (params :
         → (text : List ℕ) (names : List (List ℕ)) (old new : State) (t : ℕ) (rows : List Row) (all : List R)
         → command_of (understood old.now.schema text) ≡ Select (record { lets = []; body = plain_query t tests project }) names
         → IsPlain (understood old.now.schema text) → reads_listing old.now.schema text ≡ false → nat_le (2 ^ 31) t ≡ false
-        → Holds 1 fields (old.now.trees t) all → Shown text params old new rows → IsPermutation (map show (filter pass all)) rows
+        → IsPermutation (map (drop 1) (old.now.trees t)) (map fields all) → Shown text params old new rows → IsPermutation (map show (filter pass all)) rows
     shows_all shows text names old new t rows all is plain unlisted low held h =
         let got = selects text params old new old.now.schema refl t tests project names is plain unlisted (stored t old.now.trees low) rows h in
-        let of = of_records fields tests project params tied shows (old.now.trees t) all held.same in
+        let of = of_records fields tests project params tied shows (old.now.trees t) all held in
         IsPermutation-trans _ _ _ (IsPermutation-sym _ _ of) got
 
     module _ (order : List (Term × Key)) where

@@ -50,3 +50,4 @@ pub mod AllUsageText
 pub mod AllTransText
 pub mod AllCeilingText
 pub mod FigureReads
+pub mod Strict

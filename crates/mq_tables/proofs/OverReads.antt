@@ -64,7 +64,7 @@ module _ (login : List ℕ) (from : ℕ) where
       let tree = l.at.usage in
       let is = understood_so old.now.schema tree place in
       let all = firsts.shows_all usage_fields key_tests shown_terms params (tied params) (shows params) select_text names old new tree rows t.usage (ap command_of is) (subst IsPlain (sym is) (refl, refl))
-      (any_apart select_text select_parsed select_query select_unlisted old.now.schema (select_compiled tree) is) place.stored l.holds.usage h in
+      (any_apart select_text select_parsed select_query select_unlisted old.now.schema (select_compiled tree) is) place.stored l.holds.usage.same h in
       subst (λ (p : UsageRecord → Bool). IsPermutation (map day_row (filter p t.usage)) rows) (λ i u. decides u i) all
 
   pub found_all : (old new : State) (outcome : Result (Vec Row Global) Error) → IfOk outcome (λ rows. Shown select_text (key_params login from) old new rows.items)

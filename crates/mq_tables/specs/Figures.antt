@@ -1,14 +1,15 @@
 -- The rows of the tables that an audit reads, whatever their columns hold.
-use Rattle.std.specs.Prelude.{◌≡◌, ℕ, ℤ, List, [], ◌∷◌, map}
+use Rattle.std.specs.Prelude.{◌≡◌, ℕ, ℤ, List, [], ◌∷◌, map, drop}
+use Rattle.std.specs.List.Sorted.{IsPermutation}
 use Rattle.sqlite.specs.Effect.{Database}
 use Rattle.sqlite.specs.Order.{Row, column}
+use Rattle.sqlite.specs.Schema.{Schema}
 use Rattle.sqlite.specs.declared.types.Value.TheVariants.{Int, Blob}
 use Rattle.mq_rows.specs.declared.audited.LimitFigures.{LimitFigures}
 use Rattle.mq_rows.specs.declared.audited.TransactionFigures.{TransactionFigures}
 use Rattle.mq_rows.specs.declared.audited.UsageFigures.{UsageFigures}
 use Rattle.mq_rows.specs.Audit.{Figures}
 use Rattle.mq_tables.specs.Places.{IsTransIn, IsUsageIn, IsCeilingIn}
-use Rattle.mq_tables.specs.Records.{Holds}
 
 abbrev pub usage_cells : UsageFigures → Row
 usage_cells u = Blob u.pair.login ∷ Int u.pair.day ∷ Int u.settled ∷ Int u.reserved ∷ []
@@ -34,18 +35,26 @@ whole_cells w =
     Blob w.host ∷ Int w.run ∷ Int w.txn ∷ Blob w.figures.pair.login ∷ Int w.figures.moment ∷
     Int w.figures.pair.day ∷ Int w.figures.held ∷ Int w.figures.settled ∷ Int w.closed ∷ []
 
--- The store has the three tables, and these are the figures of all their rows.
-pub record HasFigures (db : Database) (f : Figures) : Type 0 where
+-- The schema has the three tables that an audit reads.
+pub record HasAuditTables (schema : Schema) : Type 0 where
   pub trans_tree : ℕ
   pub usage_tree : ℕ
   pub ceiling_tree : ℕ
-  pub trans : IsTransIn db.schema trans_tree
-  pub usage : IsUsageIn db.schema usage_tree
-  pub ceiling : IsCeilingIn db.schema ceiling_tree
+  pub trans : IsTransIn schema trans_tree
+  pub usage : IsUsageIn schema usage_tree
+  pub ceiling : IsCeilingIn schema ceiling_tree
+
+-- the rows, without their rowids, have the cells of these, each once, in any order
+abbrev pub HaveCells : {R : Type 0} → (R → Row) → List Row → List R → Type 0
+HaveCells cells rows all = IsPermutation (map (drop 1) rows) (map cells all)
+
+-- The store has the three tables, and these are the figures of all their rows.
+pub record HasFigures (db : Database) (f : Figures) : Type 0 where
+  pub tables : HasAuditTables db.schema
   pub whole : List WholeTransaction
-  pub holds_trans : Holds 1 whole_cells (db.trees trans_tree) whole
-  pub holds_usage : Holds 1 usage_cells (db.trees usage_tree) f.usage
-  pub holds_ceiling : Holds 1 limit_cells (db.trees ceiling_tree) f.limits
+  pub holds_trans : HaveCells whole_cells (db.trees tables.trans_tree) whole
+  pub holds_usage : HaveCells usage_cells (db.trees tables.usage_tree) f.usage
+  pub holds_ceiling : HaveCells limit_cells (db.trees tables.ceiling_tree) f.limits
   pub transactions : f.transactions ≡ map (λ w. w.figures) whole
 
 -- what is read of a row

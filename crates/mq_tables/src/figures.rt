@@ -2,10 +2,12 @@
 
 ghost use Rattle.std.specs.List.Sorted.{IsPermutation};
 ghost use Rattle.std.specs.Prelude.{◌≡◌, map, OnOk, IfOk};
+ghost use Rattle.sqlite.specs.Effect.{Database, IsDatabase};
 ghost use Rattle.sqlite.specs.Held.{state};
 ghost use Rattle.sqlite.specs.State.{HasCleanDisk, IsUnchanged, KeepsCommit, Survives};
 ghost use Rattle.mq_rows.specs.Audit.{Figures};
-ghost use Rattle.mq_tables.specs.Figures.{HasFigures, usage_cells, transaction_cells, limit_cells};
+ghost use Rattle.mq_tables.specs.Figures.{HasAuditTables, HasFigures};
+ghost use Rattle.mq_tables.specs.Figures.{usage_cells, transaction_cells, limit_cells};
 ghost use Rattle.mq_tables.specs.Figures.{IsUsageRead, IsTransactionRead, IsLimitRead};
 ghost use Rattle.mq_tables.specs.Figures.{usage_columns, transaction_columns, limit_columns};
 
@@ -181,3 +183,9 @@ pub fn read_limits<S: Alter>(
     let rows = limits_rows(tx)?;
     limits_in(alloc, rows.as_slice())
 }
+
+/// Each sound store that has the three tables has figures, whatever wrote its rows: their columns are
+/// strict, and none may be NULL. It does nothing: its contract is the law.
+pub fn rows_have_figures()
+    ensures { (db : Database) → IsDatabase db → HasAuditTables db.schema → (f : Figures) × HasFigures db f }
+{}
