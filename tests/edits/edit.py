@@ -37,17 +37,20 @@ class Edit:
                     said.append(line[9:].strip())
         if not self.pairs:
             raise BadEdit("it has no 'old:' and 'new:' pair")
-        changed = set()
-        self.apply(folder, {}, changed)
+        places = []
+        self.apply(folder, {}, places)
+        changed = set().union(*places)
         # the functions of which the prover must refuse one, and those that nothing else in its round may change
         self.wanted = set(said) or changed
         self.touched = self.wanted | changed
+        # it changes what lies in no function, as a constant, and so may spoil any
+        self.is_outside = not all(places)
         if not self.wanted:
             raise BadEdit("what it changes lies in no function: name one by a line 'function: module::Type::name'")
 
-    def apply(self, folder, texts, changed=None):
-        """Returns these texts by path with the edit's changes, over the files of the crate in the folder, and adds to `changed`
-        the functions that they lie in."""
+    def apply(self, folder, texts, places=None):
+        """Returns these texts by path with the edit's changes, over the files of the crate in the folder, and adds to `places`
+        the functions that each lies in."""
         texts = dict(texts)
         for path, old, new in self.pairs:
             if path not in texts:
@@ -59,9 +62,9 @@ class Edit:
             found = texts[path].count(old)
             if found != 1:
                 raise BadEdit(f"an 'old:' text is in {path} {found} times, and not once")
-            if changed is not None:
+            if places is not None:
                 at = texts[path].index(old)
-                changed |= functions_between(path, texts[path], at, at + len(old))
+                places.append(functions_between(path, texts[path], at, at + len(old)))
             texts[path] = texts[path].replace(old, new)
         return texts
 

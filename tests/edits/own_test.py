@@ -58,7 +58,10 @@ GROUPS = [
         ("spoils_an_unedited_function", "function: next\nold: MOST: u32 = 100\nnew: MOST: u32 = 101", False, "NOT REFUSED"),
         ("most", None, False, "refused, though no edit of its round changes it"),
     ],
+    [("is_of_what_was_not_proved", "function: never\nold: u16::from(number) + u16\nnew: 1 + u16", False, "BAD EDIT: never is none of")],
 ]
+# The functions of the crate that are told proved as they stand.
+PROVED = ["most", "next", "twice"]
 
 
 class OwnTest:
@@ -91,7 +94,7 @@ class OwnTest:
             for name, text, _, _ in group:
                 if text:
                     write(f"{crate}/must-fail/{name}.edit", f"file: src/lib.rt\n{text}\n")
-            rounds = Rounds(Crate(root, "counting"), f"{crate}/must-fail")
+            rounds = Rounds(Crate(root, "counting"), f"{crate}/must-fail", PROVED)
             rounds.run()
         self.seconds += rounds.seconds
         self.count += rounds.count

@@ -18,6 +18,14 @@ PARTS = ("src", "specs", "proofs")
 # A check takes a minute or two; one that takes so many seconds hangs.
 LONGEST = 45 * 60
 
+# A proof with a hole, as `rattle check --start` writes it.
+HOLE = """\
+use {module}.{{statement}}
+
+pub {name}_spec : {{M : Type 1}} → statement M
+{name}_spec = ?
+"""
+
 # How a command ended (below 0: by that signal; None: it took too long), what it printed, and its processor seconds.
 Ran = namedtuple("Ran", "status said seconds")
 
@@ -128,9 +136,9 @@ class Crate:
         return int(1e9 + 1e6 * lines_in(self.folder, ".rt") + 2e5 * lines_in(self.folder, ".antt") + 8e4 * lines_below
                    + min(5 * sum(os.path.getsize(it) for it in loaded if os.path.isfile(it)), 2.5e9))
 
-    def check(self, texts, only, kept=None, holes=True):
-        """Checks these functions of a copy of the crate with these texts by path, over what `kept` holds where it is given. Under
-        `holes` a function that is refused is taken by its contract where it is called."""
+    def check(self, texts, only, stated=()):
+        """Checks these functions of a copy of the crate with these texts by path. The functions of `stated` are taken by their
+        contracts, and so is one that is refused where it is called."""
         with tempfile.TemporaryDirectory(prefix="edits-") as room:
             for part in PARTS:
                 if os.path.isdir(f"{self.folder}/{part}"):
@@ -138,9 +146,21 @@ class Crate:
             for path, text in texts.items():
                 with open(f"{room}/{path}", "w", encoding="utf-8") as file:
                     file.write(text)
-            words = [f"{KIT}/bin/rattle", "check", *self.words(), "--jobs", "1", *(["--allow-holes"] * holes)]
-            words += [word for it in only for word in ("--only", it)] + (["--incremental", kept] if kept else [])
-            return run(words, room, LONGEST)
+            for it in stated:
+                self.leave_open(it, room)
+            words = [f"{KIT}/bin/rattle", "check", *self.words(), "--jobs", "1", "--allow-holes", "--short-goals"]
+            return run(words + [word for it in only for word in ("--only", it)], room, LONGEST)
+
+    def leave_open(self, function, room):
+        """Puts a hole in the place of the function's proof."""
+        place = f"{room}/proofs/{function.replace('::', '/')}"
+        for it in ("Invariants.antt", "Answers.antt"):
+            if os.path.isfile(f"{place}/{it}"):
+                os.remove(f"{place}/{it}")
+        os.makedirs(place, exist_ok=True)
+        with open(f"{place}/Proof.antt", "w", encoding="utf-8") as file:
+            file.write(HOLE.format(module=f"Rattle.{self.name}.proofs.{function.replace('::', '.')}.Statement",
+                                   name=function.rpartition("::")[2]))
 
 
 ERROR = re.compile(r"(?:\./)?(\S+?):\d+:\d+: error: (?:(`[^`]*`): )?(.*)")
@@ -171,7 +191,7 @@ class Told:
             elif verdict:
                 name = verdict[2][len(crate) + 2:] if verdict[2].startswith(crate + "::") else verdict[2]
                 self.functions.add(name)
-                if self.is_for_itself(verdict[1], crate, name, verdict[3]):
+                if self.is_for_itself(verdict[1], crate, name, verdict[3], goals):
                     self.refused[name] = line
                     errors = wrong.get(name.replace("::", "/"), [])
                     if errors and all(errors) and not goals and "`search` did not prove" not in line:
@@ -184,12 +204,13 @@ class Told:
         return bool(error and error[1].startswith(("src/", "specs/")) and (not error[2] or UNREAD.search(error[3])))
 
     @staticmethod
-    def is_for_itself(kind, crate, name, why):
-        """Returns whether a goal or an answer of its own was refused, and not only what it calls or stands on."""
+    def is_for_itself(kind, crate, name, why, goals):
+        """Returns whether one of so many goals that were told or an answer of its own was refused, and not only what it calls or
+        stands on."""
         if not why.startswith(("not proved", "no proof")):
             return False
         own = f"Rattle.{crate}.proofs.{name.replace('::', '.')}."
-        if "`search` did not prove" in why or "expected answers in" in why or own in why:
+        if goals or "`search` did not prove" in why or "expected answers in" in why or own in why:
             return True
         return kind == "fn" and not re.search(r"it calls|it stands on", why)
 

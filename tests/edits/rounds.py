@@ -2,13 +2,14 @@
 
 A round is one check of the crate over texts in which each function is edited once at most. A refused function is taken by its
 contract where it is called, and of each function the prover says whether a goal of its own was refused, or whether it only
-calls or stands on what isn't proved. So an edit is refused where that is said of the very function that it changes.
+calls or stands on what isn't proved. So an edit is refused where that is said of the very function that it changes. The functions
+that a round doesn't edit have holes for proofs there: they are taken by their contracts, and were proved before.
 
-All this rests on the prover's words, so nothing else is believed of a round: edits whose functions aren't told of are tried
-without the others and at last alone, an unedited function that is refused is a failure, and the unedited functions must be
-proved over the same kept work.
+All this rests on the prover's words, so nothing else is believed of a round: an edit counts only where its functions were proved
+as they stand, in the same run; edits whose functions aren't told of are tried without the others and at last alone; an unedited
+function that is refused is a failure; and one unedited function must be proved in the round. Nothing is kept from a check for
+another.
 """
-import tempfile
 from collections import namedtuple
 
 from edit import BadEdit, Edit, edits_in
@@ -28,14 +29,14 @@ def overlap(some, others):
 
 
 class Rounds:
-    def __init__(self, crate, place):
-        """The edits of the crate that lie in the folder."""
+    def __init__(self, crate, place, proved):
+        """The edits of the crate that lie in the folder. `proved` are the functions that were proved as they stand."""
         self.crate, self.name, self.results, self.seconds, self.count = crate, crate.name, [], 0.0, 0
-        self.edits = []
+        self.edits, self.proved = [], sorted(proved)
         good, bad = edits_in(place)
         for name in good:
             try:
-                self.edits.append(Edit(f"{place}/{name}", crate.folder))
+                self.edits.append(self.read(f"{place}/{name}"))
             except (BadEdit, OSError, UnicodeDecodeError) as why:
                 self.say(False, name, f"BAD EDIT: {why}")
         for name in bad:
@@ -43,12 +44,27 @@ class Rounds:
                      ".md, if it is only to be read)")
         self.unread = list(self.results)
 
+    def read(self, file):
+        edit = Edit(file, self.crate.folder)
+        for it in sorted(edit.wanted):
+            if not overlap({it}, self.proved):
+                raise BadEdit(f"{it} is none of the functions that were proved as they stand")
+        return edit
+
     def say(self, is_well, name, said):
         self.results.append(Result(is_well, f"{self.crate.name}/{name}", said))
 
-    def check(self, texts, only, kept, holes=True):
+    def unedited(self, edits):
+        """Returns the functions with a text of their own that none of the edits changes."""
+        touched = set().union(*(it.touched for it in edits))
+        return [it for it in self.proved if "+" not in it and "::fn::" not in it and not overlap({it}, touched)]
+
+    def check(self, edits, only):
+        """Checks functions over texts with these edits, with the others by their contracts."""
         self.count += 1
-        ran = self.crate.check(texts, only, kept, holes)
+        # (what an edit outside functions spoils isn't known)
+        by_contract = [] if any(it.is_outside for it in edits) else [it for it in self.unedited(edits) if it not in only]
+        ran = self.crate.check(self.composed(edits), only, by_contract)
         self.seconds += ran.seconds
         if ran.status == -9:
             raise Killed
@@ -61,11 +77,12 @@ class Rounds:
         return texts
 
     def planned(self):
-        """Returns the edits in rounds, in each of which they change different functions and can stand beside one another."""
+        """Returns the edits in rounds, in each of which they change different functions and can stand beside one another. An edit
+        outside functions may spoil any, and is alone."""
         rounds = []
         for edit in self.edits:
-            for it in rounds:
-                if any(overlap(edit.touched, other.touched) for other in it):
+            for it in [] if edit.is_outside else rounds:
+                if it[0].is_outside or any(overlap(edit.touched, other.touched) for other in it):
                     continue
                 try:
                     self.composed([*it, edit])
@@ -80,40 +97,29 @@ class Rounds:
     def run(self):
         """Tries all edits, and leaves what is to be said of them in results."""
         self.results, self.bad = list(self.unread), []
-        with tempfile.TemporaryDirectory(prefix="edits-kept-") as kept:
-            for it in self.planned():
-                self.try_round(it, kept)
-            if self.is_proved(kept):
-                return
-        # what was refused over such work shows nothing
-        self.results = list(self.unread)
-        if not self.is_proved(None):
-            self.say(False, "", "the crate is not proved as it stands, so its edits show nothing")
-            return
-        for it in self.edits:
-            self.try_round([it], None)
+        for it in self.planned():
+            self.try_round(it)
 
-    def is_proved(self, kept):
-        """Returns whether the prover takes the functions as they stand, which were edited."""
-        only = set().union(*(it.wanted for it in self.edits if it not in self.bad))
-        return not only or self.check({}, sorted(only), kept, holes=False).status == 0
-
-    def try_round(self, edits, kept):
-        ran = self.check(self.composed(edits), sorted(set().union(*(it.wanted for it in edits))), kept)
+    def try_round(self, edits):
+        witness = self.unedited(edits)[:1]
+        ran = self.check(edits, sorted(set(witness).union(*(it.wanted for it in edits))))
         told = Told(ran, self.crate.name)
         if told.ended and ran.status == 1 and not told.unread:
             again = self.judge(edits, told)
+            for it in witness:
+                if it not in told.functions:
+                    self.say(False, it, "not told of, though it was asked for as it stands")
         elif len(edits) > 1:
             left = self.sifted(edits, ran)
             if left and left != edits:
-                self.try_round(left, kept)
+                self.try_round(left)
             again = left if left == edits else []
         else:
             self.say_unjudged(edits[0], ran, told)
             again = []
         # what the others may have hidden is tried without them, and at last alone
         for group in [again] if again and len(again) < len(edits) else [[it] for it in again]:
-            self.try_round(group, kept)
+            self.try_round(group)
 
     def judge(self, edits, told):
         """Says which edits were refused, and returns those to be tried without the others."""
@@ -145,7 +151,7 @@ class Rounds:
             if not unknown and complaints:
                 continue
             # (a check of no function ends at once where the text compiles)
-            alone = None if unknown else self.check(self.composed([edit]), [""], None)
+            alone = None if unknown else self.check([edit], [""])
             if unknown or not Told(alone, self.crate.name).ended:
                 self.spoil(edit, unknown[0] if unknown else alone.said)
         return [it for it in edits if it not in self.bad]

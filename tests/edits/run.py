@@ -35,6 +35,7 @@ LONGEST_CI = 170 * 60
 SIGNALS = (signal.SIGTERM, signal.SIGINT, signal.SIGHUP)
 COUNTS = re.compile(r"(\d+) passed, (\d+) failed\Z")
 REFUSED = re.compile(r"rt: (\w+)(: its tests are)? NOT PROVED")
+PROVED = re.compile(r"fn (\w+)::(\S+): proved\Z")
 # So many lines of what rt ci says of a crate that it refuses are told again.
 SAID = 12
 
@@ -107,8 +108,17 @@ def refusals(lines):
         section.append(line)
 
 
+def proved_in(lines):
+    """Returns the functions of which the lines say that they are proved, by crate."""
+    found = collections.defaultdict(set)
+    for it in filter(None, map(PROVED.match, lines)):
+        found[it[1]].add(it[2])
+    return found
+
+
 def run_ci(tree, sum_):
-    """Runs rt ci over the tree, adds what it counts and the time of each crate, and returns the crates that it refused."""
+    """Runs rt ci over the tree, adds what it counts and the time of each crate, and returns the crates that it refused, and the
+    functions that it told proved, by crate."""
     lines = []
 
     def tell(line):
@@ -127,15 +137,15 @@ def run_ci(tree, sum_):
     # (they stand far above, and a log is often read from its end)
     for line, above in refusals(lines):
         print(f"FAILED {line}, behind these lines:", *(it[:400] for it in above), sep="\n    ", flush=True)
-    return {it[1] for it in map(REFUSED.match, lines) if it and not it[2]}
+    return {it[1] for it in map(REFUSED.match, lines) if it and not it[2]}, proved_in(lines)
 
 
-def try_edits(crates, place_of, sum_, others=()):
+def try_edits(crates, place_of, proved, sum_, others=()):
     """Tries the edits of each crate in rounds, some crates side by side, and other tasks beside them. What was killed is tried
     once more, alone."""
     tasks = [*others]
     for crate in crates:
-        rounds = Rounds(crate, place_of(crate.name))
+        rounds = Rounds(crate, place_of(crate.name), proved[crate.name])
         missing = [it for it in crate.below if not os.path.isdir(crate.rlib(it))]
         if missing and (rounds.edits or rounds.results):
             sum_.fail(crate.name, f"its edits were not tried, since its library {missing[0]} is not proved")
@@ -173,12 +183,12 @@ def gate(names, sum_):
         copy_tree(wanted, tree, edits)
         for it in {*os.listdir(edits)} - {*rows}:
             sum_.fail(it, "it has must-fail edits, and is no crate of crates.txt")
-        refused = run_ci(tree, sum_)
+        refused, proved = run_ci(tree, sum_)
         for it in sorted(refused & {*os.listdir(edits)}):
             sum_.fail(it, "its edits were not tried, since it is not proved")
         own = OwnTest()
         crates = [Crate(tree, it) for it in rows_of(tree) if it not in refused]
-        try_edits(crates, lambda it: f"{edits}/{it}", sum_, [Task(own, 0, 1e9, own.run)])
+        try_edits(crates, lambda it: f"{edits}/{it}", proved, sum_, [Task(own, 0, 1e9, own.run)])
     whole = resource.getrusage(resource.RUSAGE_CHILDREN)
     print("\n".join(minutes.table(sum_.seconds, whole.ru_utime + whole.ru_stime)), flush=True)
 
@@ -193,7 +203,10 @@ def alone(names, place_of, sum_):
         ran = run([RT, "lib"], f"{TOP}/crates/{library}", LONGEST_CI)
         if ran.status:
             print(ran.said)
-    try_edits([Crate(TOP, it) for it in names], place_of, sum_)
+    proved = collections.defaultdict(set)
+    for name in names:
+        proved.update(proved_in(run([RT, "check"], f"{TOP}/crates/{name}", LONGEST_CI).said.split("\n")))
+    try_edits([Crate(TOP, it) for it in names], place_of, proved, sum_)
 
 
 def further():

@@ -69,6 +69,7 @@ pub fn page_row(
 ) -> Result<UsageRow, LedgerFault>
     ensures row { IfOk result (λ row. row ≡ page_row_by default usage governing.now) }
     ensures in_range { IfOk result IsRow }
+    ensures fault { IfErr result (λ fault. fault ≡ LedgerFault.Store) }
     ensures store { IfErr result (λ _. IsLogin usage.login
         → are_amounts usage.settled usage.reserved (cap_by default governing.now) ≡ false) }
 {

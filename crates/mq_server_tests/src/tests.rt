@@ -422,6 +422,7 @@ fn writer_fails_anywhere(rt: HostRuntime) -> Result<(), Fail> {
         check_writer_failing(&rt, alloc, &mut ledger, &input, &output[..count]);
         check_served(&rt, alloc, &mut ledger, &input, Served::InputEnd, &output);
     }
+    println!(rt; "a server's output: {} places", output.len())?;
     Ok(())
 }
 
@@ -455,6 +456,7 @@ fn reader_fails_anywhere(rt: HostRuntime) -> Result<(), Fail> {
         check_reader_failing(&rt, alloc, &mut ledger, &input, count, &told);
         check_served(&rt, alloc, &mut ledger, &input, Served::InputEnd, &output);
     }
+    println!(rt; "a server's input: {} reads", input.len())?;
     Ok(())
 }
 
@@ -473,6 +475,7 @@ fn input_ends_anywhere(rt: HostRuntime) -> Result<(), Fail> {
         };
         check_served(&rt, alloc, &mut ledger(alloc)?, &input[..count], end, &told);
     }
+    println!(rt; "a server's input: {} fronts", input.len())?;
     Ok(())
 }
 

@@ -236,6 +236,7 @@ fn each_read_fails(rt: HostRuntime) -> Result<(), Fail> {
         // each answer was flushed before the next read
         assert_eq!(rt; cut.sink.flushed, text.len(), "{reads}");
     }
+    println!(rt; "a filter's input: {} reads", bytes + 1)?;
     Ok(())
 }
 
@@ -258,5 +259,6 @@ fn each_write_fails(rt: HostRuntime) -> Result<(), Fail> {
     };
     let room = whole.len();
     assert_cut(&rt, &run_failing(alloc, 10_000, room)?, &wanted, room);
+    println!(rt; "a filter's output: {room} places")?;
     Ok(())
 }
