@@ -5,6 +5,7 @@ usage: run.py PROGRAM [WORD..]     with words: the groups of cases whose names h
 """
 import importlib
 import os
+import signal
 import sys
 import tempfile
 
@@ -21,6 +22,9 @@ LONG_GROUPS = ["many_pages"]
 
 def main():
     program, wanted = os.path.abspath(sys.argv[1]), sys.argv[2:]
+    # (what runs in the background may ignore these, and the program would inherit it; one that is caught it doesn't)
+    for it in (signal.SIGINT, signal.SIGHUP):
+        signal.signal(it, lambda number, _: sys.exit(128 + number))
     checks = Checks()
     with tempfile.TemporaryDirectory() as folder:
         for group in GROUPS + LONG_GROUPS:
