@@ -7,8 +7,7 @@ that a round doesn't edit have holes for proofs there: they are taken by their c
 
 All this rests on the prover's words, so nothing else is believed of a round: an edit counts only where its functions were proved
 as they stand, in the same run; edits whose functions aren't told of are tried without the others and at last alone; an unedited
-function that is refused is a failure; and one unedited function must be proved in the round. Nothing is kept from a check for
-another.
+function that is refused is a failure, and one of them is asked for in each round. Nothing is kept from a check for another.
 """
 from collections import namedtuple
 
