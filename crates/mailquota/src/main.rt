@@ -2,10 +2,6 @@
 #![tactic(auto)]
 
 mod program;
-mod subcommands;
-#[cfg(test)]
-mod tests;
-mod words;
 
 use std::process::ExitCode;
 

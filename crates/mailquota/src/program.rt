@@ -1,7 +1,7 @@
 //! The program by the words of its command line.
 
-use crate::words::{WordsFault, read_arguments};
 use mq_program::{ProgramFault, or_memory, refuse, run_subcommand};
+use mq_words::{WordsFault, read_arguments};
 use std::env;
 use std::io::Write;
 use std::rt::Env;

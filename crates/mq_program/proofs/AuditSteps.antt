@@ -1,11 +1,11 @@
 -- What an audit leads to.
 use Rattle.std.proofs.Common.{◌≡◌, ℕ, List, Option, Result, Ok, Err, sym, subst}
-use Rattle.std.specs.Prelude.{IfErr, OnOk, IsErrAnd}
+use Rattle.std.specs.Prelude.{IfOk, IfErr, OnOk, IsErrAnd}
 use Rattle.std.specs.Io.KnownBytes.{Appends}
 use Rattle.mq_rows.specs.declared.audited.Audit.{Audit}
 use Rattle.mq_rows.specs.declared.audited.Audit.TheVariants.{Sound, Wrong}
 use Rattle.mq_command.specs.Output.{AppendsFront}
-use Rattle.mq_program.specs.Auditing.{Audits, right, unprinted, wrong, no_memory, unread, sound_line}
+use Rattle.mq_program.specs.Auditing.{Audits, PrintsSound, right, unprinted, wrong, no_memory, unread, sound_line}
 use Rattle.mq_program.specs.declared.fault.ProgramFault.{ProgramFault}
 use Rattle.mq_program.specs.declared.fault.ProgramFault.TheVariants as fault
 
@@ -32,3 +32,12 @@ for_finding F G old new _ step (unprinted days transactions found front) = unpri
 for_finding F G old new _ step (wrong login day found kept) = wrong login day (step (Wrong login day) found) kept
 for_finding F G old new _ step (no_memory kept) = no_memory kept
 for_finding F G old new _ step (unread cause kept) = unread cause kept
+
+-- an audit that is done has printed the line of right books
+pub done : (Finds : Audit → Type 0) (old new : Option (List ℕ)) (ended : Result (Unit {0}) ProgramFault) → Audits Finds old new ended
+    → IfOk ended (λ _. PrintsSound old new)
+done Finds old new _ (right days transactions found printed) = (days, transactions, printed)
+done Finds old new _ (unprinted days transactions found front) = tt
+done Finds old new _ (wrong login day found kept) = tt
+done Finds old new _ (no_memory kept) = tt
+done Finds old new _ (unread cause kept) = tt

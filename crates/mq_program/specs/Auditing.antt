@@ -15,6 +15,10 @@ abbrev pub sound_line : ℕ → ℕ → List ℕ
 sound_line days transactions =
     codes "sound days=" ++ decimal days ++ codes " transactions=" ++ decimal transactions ++ 10 ∷ []
 
+-- some line of books that are right was printed
+abbrev pub PrintsSound : Option (List ℕ) → Option (List ℕ) → Type 0
+PrintsSound old new = (days transactions : ℕ) × Appends old new (sound_line days transactions)
+
 -- What an audit that may find this leads to. That the books are right is printed, or a front of it where the output
 -- fails; the least login and day that are wrong are the fault, and then nothing is printed, as where memory or rows
 -- are wanting.

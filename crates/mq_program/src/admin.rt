@@ -1,8 +1,9 @@
 //! What an administrator asks of the server: `limit` and `report`.
-ghost use Rattle.std.specs.Prelude.{◌≡◌, Err, IfOk, MatchResult, option_map};
+ghost use Rattle.std.specs.Prelude.{◌≡◌, Err, IfOk, IfSome, MatchResult, option_map};
 ghost use Rattle.std.specs.Net.Grammar.{IsSocketText};
-ghost use Rattle.mq_frame.specs.Range.{IsDay};
+ghost use Rattle.mq_frame.specs.Range.{IsDay, IsLogin};
 ghost use Rattle.mq_frame.specs.declared.message.Request.TheVariants.{Limit};
+ghost use Rattle.mq_command.specs.Asking.{IsLimit};
 ghost use Rattle.mq_program.specs.Arguments.{IsLimitArguments, IsNoAddress, LimitRefuses, ReportRefuses};
 
 use crate::arguments::{LimitArguments, ReportArguments};
@@ -70,10 +71,22 @@ pub fn limit<R: Clock + Net + Print + Eprint + AllocGlobal, E: Write>(
     let address = address_of(given.server)?;
     let run = run_number(rt, given.run)?;
     let request = limit_request(rt.alloc(), given, run)?;
+    Ok(ask_limit(rt, address, &request, errors))
+}
+
+/// Asks the server at this address to set a limit, and prints what comes of it.
+fn ask_limit<R: Clock + Net + Print + Eprint + AllocGlobal, E: Write>(
+    rt: &R,
+    address: SocketAddr,
+    request: &Request,
+    errors: &mut E,
+) -> u8
+    requires { IsLimit request.now }
+{
     let logged = Logged::new(rt, LevelFilter::Error, Console(rt));
     let link = TcpLink::new(rt, address, Duration::from_millis(TIMEOUT));
     let mut link = LoggedLink::new(link, &logged, TRIES);
-    Ok(run_limit(rt.alloc(), &mut link, &request, &mut io::writer(rt), errors))
+    run_limit(rt.alloc(), &mut link, request, &mut io::writer(rt), errors)
 }
 
 /// The login that is reported alone, where one is given.
@@ -100,16 +113,23 @@ pub fn report<R: Clock + Net + Print + Eprint + AllocGlobal, E: Write>(
     }
     let address = address_of(given.server)?;
     let login = login_of(rt.alloc(), given.login)?;
+    ask_report(rt, address, given.day, login.as_ref(), errors)
+}
+
+/// Asks the server at this address what one login, or all, used on a day, and prints it.
+fn ask_report<R: Clock + Net + Print + Eprint + AllocGlobal, E: Write>(
+    rt: &R,
+    address: SocketAddr,
+    day: u32,
+    login: Option<&Login>,
+    errors: &mut E,
+) -> Result<u8, ProgramFault>
+    requires day { IsDay day }
+    requires login { IfSome login (λ login. IsLogin login.now) }
+{
     let logged = Logged::new(rt, LevelFilter::Error, Console(rt));
     let link = TcpLink::new(rt, address, Duration::from_millis(TIMEOUT));
     let mut link = LoggedLink::new(link, &logged, TRIES);
     let mut output = BufWriter::new(rt.alloc(), io::writer(rt)).map_err(|_| ProgramFault::Memory)?;
-    Ok(run_report(
-        rt.alloc(),
-        &mut link,
-        given.day,
-        login.as_ref(),
-        &mut output,
-        errors,
-    ))
+    Ok(run_report(rt.alloc(), &mut link, day, login, &mut output, errors))
 }

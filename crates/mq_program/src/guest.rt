@@ -1,9 +1,11 @@
 //! A connection that is open, and its turns: none waits for the peer, so none holds back another connection.
 ghost use Rattle.std.specs.Prelude.{◌≡◌, ◌≤◌};
+ghost use Rattle.mq_server.specs.Delivery.{HasGrown};
 
 use crate::portion::portion_of;
 use mq_frame::{FromRead, ToWrite};
 use mq_ledger::Ledger;
+use mq_server::laws::more_deliveries;
 use mq_server::{ENOUGH, PIECE, ServeFault, Served, serve};
 use mq_tcp::deadline_after;
 use std::alloc::Global;
@@ -17,7 +19,7 @@ use std::time::{Duration, Instant};
 const TIMEOUTS: u32 = 2;
 
 /// The most frames that are answered in one turn: their replies are held until the peer takes them, and a page of a
-/// list has up to 28 kilobytes.
+/// list has up to 27 kilobytes.
 const FRAMES: u32 = 8;
 
 /// The most turns of a connection before the others have theirs.
@@ -91,7 +93,10 @@ impl Guest {
         ensures same_default { (L.book ledger.new).default ≡ (L.book ledger.old).default }
         ensures kept { L.has_kept ledger.new → L.has_kept ledger.old }
         ensures sound { L.has_kept ledger.new → L.is_sound ledger.old → L.is_sound ledger.new }
+        ensures history { L.has_kept ledger.new → L.is_sound ledger.old →
+            HasGrown (L.book ledger.old) (L.book ledger.new) }
     {
+        more_deliveries();
         match self.write_replies(clock, timeout) {
             Ok(true) => {}
             Ok(false) => return Turn::Waits,
@@ -130,6 +135,8 @@ impl Guest {
         ensures same_default { (L.book ledger.new).default ≡ (L.book ledger.old).default }
         ensures kept { L.has_kept ledger.new → L.has_kept ledger.old }
         ensures sound { L.has_kept ledger.new → L.is_sound ledger.old → L.is_sound ledger.new }
+        ensures history { L.has_kept ledger.new → L.is_sound ledger.old →
+            HasGrown (L.book ledger.old) (L.book ledger.new) }
     {
         let bytes = bytes.min(self.held.len());
         let mut input = FromRead::new(&self.held[..bytes]);
@@ -227,7 +234,10 @@ pub fn take_turns<C: Clock, L: Ledger>(
     ensures same_default { (L.book ledger.new).default ≡ (L.book ledger.old).default }
     ensures kept { L.has_kept ledger.new → L.has_kept ledger.old }
     ensures sound { L.has_kept ledger.new → L.is_sound ledger.old → L.is_sound ledger.new }
+    ensures history { L.has_kept ledger.new → L.is_sound ledger.old →
+        HasGrown (L.book ledger.old) (L.book ledger.new) }
 {
+    more_deliveries();
     for _turn in 0..TURNS {
         match guest.take_turn(clock, alloc, timeout, ledger) {
             Turn::Answered => {}

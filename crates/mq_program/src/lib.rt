@@ -4,7 +4,7 @@
 mod accept;
 mod admin;
 mod arguments;
-mod audit;
+mod auditing;
 mod clock;
 mod fault;
 mod filter;
@@ -21,7 +21,7 @@ pub use arguments::{
     Arguments, AuditArguments, FilterArguments, LimitArguments, ReplayArguments, ReportArguments,
     ServerArguments,
 };
-pub use audit::audit_ledger;
+pub use auditing::{audit, audit_ledger};
 pub use clock::run_number;
 pub use fault::{ProgramFault, or_memory};
 pub use server::{listen, serve_connections};

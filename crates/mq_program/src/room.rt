@@ -1,5 +1,6 @@
 //! The connections that are open, and the system's word on which of them something came.
 ghost use Rattle.std.specs.Prelude.{◌≡◌};
+ghost use Rattle.mq_server.specs.Delivery.{HasGrown};
 
 use crate::accept::Acceptor;
 use crate::fault::ProgramFault;
@@ -8,6 +9,7 @@ use log::{Log, error, warn};
 use mio::unix::SourceFd;
 use mio::{Events, Interest, Poll, Token};
 use mq_ledger::Ledger;
+use mq_server::laws::more_deliveries;
 use mq_server::{ServeFault, Served};
 use std::alloc::Global;
 use std::collections::BTreeMap;
@@ -115,7 +117,10 @@ impl<'a> Room<'a> {
         ensures same_default { (L.book ledger.new).default ≡ (L.book ledger.old).default }
         ensures kept { L.has_kept ledger.new → L.has_kept ledger.old }
         ensures sound { L.has_kept ledger.new → L.is_sound ledger.old → L.is_sound ledger.new }
+        ensures history { L.has_kept ledger.new → L.is_sound ledger.old →
+            HasGrown (L.book ledger.old) (L.book ledger.new) }
     {
+        more_deliveries();
         for event in events.iter() {
             let token = event.token();
             if token == LISTENER {
@@ -141,7 +146,10 @@ impl<'a> Room<'a> {
         ensures same_default { (L.book ledger.new).default ≡ (L.book ledger.old).default }
         ensures kept { L.has_kept ledger.new → L.has_kept ledger.old }
         ensures sound { L.has_kept ledger.new → L.is_sound ledger.old → L.is_sound ledger.new }
+        ensures history { L.has_kept ledger.new → L.is_sound ledger.old →
+            HasGrown (L.book ledger.old) (L.book ledger.new) }
     {
+        more_deliveries();
         let Some(guest) = self.guests.get_mut(&token.0) else {
             return Ok(());
         };

@@ -1,5 +1,6 @@
 //! `server`: serves a ledger to filters.
 ghost use Rattle.std.specs.Prelude.{◌≡◌, IfOk};
+ghost use Rattle.mq_server.specs.Delivery.{HasGrown};
 ghost use Rattle.mq_program.specs.Arguments.{AreInRange};
 
 use crate::arguments::ServerArguments;
@@ -10,6 +11,7 @@ use log::sink::Console;
 use log::{Log, Logged, error, info};
 use mio::Events;
 use mq_ledger::{Ledger, Zone};
+use mq_server::laws::more_deliveries;
 use mq_settings::{Place, ServerSettings, read_file, read_server_settings};
 use std::alloc::Global;
 use std::io;
@@ -70,7 +72,10 @@ where
     ensures same_default { (L.book ledger.new).default ≡ (L.book ledger.old).default }
     ensures kept { L.has_kept ledger.new → L.has_kept ledger.old }
     ensures sound { L.has_kept ledger.new → L.is_sound ledger.old → L.is_sound ledger.new }
+    ensures history { L.has_kept ledger.new → L.is_sound ledger.old →
+        HasGrown (L.book ledger.old) (L.book ledger.new) }
 {
+    more_deliveries();
     let address = settings.listen;
     let listener = match TcpListener::bind(rt, address) {
         Ok(listener) => listener,
@@ -103,7 +108,10 @@ pub fn serve_connections<R: Clock + Net, G: Log, L: Ledger>(
     ensures same_default { (L.book ledger.new).default ≡ (L.book ledger.old).default }
     ensures kept { L.has_kept ledger.new → L.has_kept ledger.old }
     ensures sound { L.has_kept ledger.new → L.is_sound ledger.old → L.is_sound ledger.new }
+    ensures history { L.has_kept ledger.new → L.is_sound ledger.old →
+        HasGrown (L.book ledger.old) (L.book ledger.new) }
 {
+    more_deliveries();
     let mut events = Events::with_capacity(alloc, EVENTS)?;
     let mut room = Room::new(rt, alloc, listener, connections).map_err(|e| no_poll(log, &e))?;
     for _round in 0..u64::MAX {

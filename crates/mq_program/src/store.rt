@@ -1,15 +1,18 @@
 //! The store of the server's ledger: opened, or made.
-ghost use Rattle.std.specs.Prelude.{◌≡◌, IfOk};
+ghost use Rattle.std.specs.Prelude.{◌≡◌, false, IsTrue, None, IfOk};
 ghost use Rattle.sqlite.specs.Held.{state};
+ghost use Rattle.sqlite.specs.State.{HasCleanDisk};
 ghost use Rattle.sqlite.specs.Steps.{over_memory};
 ghost use Rattle.mq_frame.specs.Range.{IsAmount};
+ghost use Rattle.mq_tables.specs.Making.{IsMadeOver};
+ghost use Rattle.mq_store.specs.Opening.{IsOpening, made_with};
 ghost use Rattle.mq_store.specs.Soundness.{IsNew};
 
 use crate::fault::ProgramFault;
 use log::{Log, error};
 use mq_ledger::Zone;
 use mq_store::SqlLedger;
-use sqlite::{Connection, Error, ErrorCode, File, FileStore, MemStore};
+use sqlite::{Alter, Connection, Error, ErrorCode, File, FileStore, MemStore};
 use std::alloc::Global;
 use std::fs::OpenOptions;
 use std::io::ErrorKind;
@@ -59,12 +62,15 @@ fn connect<G: Log>(
     path: &str,
     create: bool,
 ) -> Result<Connection<FileStore<File>>, ProgramFault> {
-    if create {
-        if let Err(cause) = make_file(rt, path) {
-            return Err(unopened(log, path, cause));
-        }
-    } else if let Err(cause) = fs::metadata(rt, path) {
-        return Err(unopened(log, path, cause));
+    let is_there = if create {
+        make_file(rt, path)
+    } else {
+        fs::metadata(rt, path).map(|_| ())
+    };
+    match is_there {
+        Ok(()) => {}
+        Err(cause) if cause.kind() == ErrorKind::OutOfMemory => return Err(ProgramFault::Memory),
+        Err(cause) => return Err(unopened(log, path, cause)),
     }
     match Connection::open(rt, path) {
         Ok(connection) => Ok(connection),
@@ -87,8 +93,26 @@ pub fn file_ledger<G: Log>(
     ensures { IfOk result (λ ledger. (ledger.zone ≡ zone) × (ledger.default ≡ default)) }
 {
     let connection = connect(rt, log, path, create)?;
+    ledger_over(rt.alloc(), connection, create, zone, default)
+}
+
+/// The ledger in a database; with `create` a new one. `default` is 0 to 1,000,000.
+fn ledger_over<S: Alter + Drop>(
+    alloc: Global,
+    connection: Connection<S>,
+    create: bool,
+    zone: Zone,
+    default: u32,
+) -> Result<SqlLedger<S>, ProgramFault>
+    requires { IsAmount default }
+    ensures lent { IfOk result (λ ledger. (ledger.zone ≡ zone) × (ledger.default ≡ default)) }
+    ensures made { IsTrue create → IfOk result (λ ledger. HasCleanDisk (state S.Store ledger.connection)
+        → IsMadeOver (made_with zone default) (state S.Store connection).now (state S.Store ledger.connection).now) }
+    ensures opened { create ≡ false → IfOk result (λ ledger. HasCleanDisk (state S.Store ledger.connection)
+        → IsOpening S.Store zone default connection ledger.connection None) }
+{
     if create {
-        return Ok(SqlLedger::create(rt.alloc(), connection, zone, default)?);
+        return Ok(SqlLedger::create(alloc, connection, zone, default)?);
     }
-    Ok(SqlLedger::open(rt.alloc(), connection, zone, default)?)
+    Ok(SqlLedger::open(alloc, connection, zone, default)?)
 }

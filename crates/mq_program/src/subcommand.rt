@@ -5,11 +5,12 @@ ghost use Rattle.mq_program.specs.Faults.{fault_status};
 
 use crate::admin::{limit, report};
 use crate::arguments::Arguments;
-use crate::audit::audit;
+use crate::auditing::audit;
 use crate::fault::ProgramFault;
 use crate::filter::filter;
 use crate::replay::replay;
 use crate::server::server;
+use std::io;
 use std::io::Write;
 
 /// Runs a subcommand, prints on `errors` why it isn't done, and gives the exit status: 0 done,
@@ -46,6 +47,6 @@ fn status_of<E: Write>(
         Arguments::Server(given) => server(rt, given),
         Arguments::Limit(given) => limit(rt, given, errors),
         Arguments::Report(given) => report(rt, given, errors),
-        Arguments::Audit(given) => audit(rt, given),
+        Arguments::Audit(given) => audit(rt, given, &mut io::writer(rt)),
     }
 }

@@ -2,5 +2,6 @@
 
 mod audits;
 mod clock;
+mod files;
 mod link;
 mod refusals;

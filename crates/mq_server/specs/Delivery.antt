@@ -1,5 +1,5 @@
 -- Requests as they come to a ledger, and what each is answered.
-use Rattle.std.specs.Prelude.{List, [], ◌∷◌, ◌++◌, Bool, map, filter, if◌then◌else◌, Ok, Err}
+use Rattle.std.specs.Prelude.{◌≡◌, List, [], ◌∷◌, ◌++◌, Bool, map, filter, if◌then◌else◌, Ok, Err}
 use Rattle.mq_frame.specs.declared.message.Request.{Request}
 use Rattle.mq_frame.specs.declared.message.Reply.{Reply}
 use Rattle.mq_frame.specs.declared.message.Reply.TheVariants.{Retry}
@@ -27,6 +27,10 @@ arrivals ds = asked (filter (λ d. d.taken) ds)
 -- the history of a ledger that meant this book before these deliveries
 abbrev pub history_after : Book → List Delivery → List Entry
 history_after b ds = history_of (day_of b.zone) b.default (requests b.history ++ arrivals ds)
+
+-- between these books some deliveries came, and nothing else: the later history is the one behind them
+abbrev pub HasGrown : Book → Book → Type 0
+HasGrown old new = (came : List Delivery) × (new.history ≡ history_after old came)
 
 -- the answer to a delivery that comes after earlier ones: the ledger's reply over the history after those, or
 -- Retry where it is lost

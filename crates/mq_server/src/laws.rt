@@ -5,14 +5,14 @@ ghost use Rattle.mq_frame.specs.declared.message.Reply.{Reply};
 ghost use Rattle.mq_ledger.specs.Answer.{replies_after};
 ghost use Rattle.mq_ledger.specs.Day.{day_of};
 ghost use Rattle.mq_ledger.specs.History.{requests};
-ghost use Rattle.mq_ledger.specs.Legal.{Book};
+ghost use Rattle.mq_ledger.specs.Legal.{Book, IsLegalBook};
 ghost use Rattle.mq_server.specs.declared.connection.TheConstants.{ENOUGH};
 ghost use Rattle.mq_server.specs.declared.input.TheConstants.{PIECE};
 ghost use Rattle.mq_server.specs.declared.connection.Served.{Served};
 ghost use Rattle.mq_server.specs.declared.connection.Served.TheVariants.{BadFrame, Enough};
 ghost use Rattle.mq_server.specs.Connection.{Wire, Serves};
 ghost use Rattle.mq_server.specs.Connections.{wires, AreServed, AreServedWhole, AppendEach};
-ghost use Rattle.mq_server.specs.Delivery.{Delivery, arrivals, answer_to, taken_answers};
+ghost use Rattle.mq_server.specs.Delivery.{Delivery, HasGrown, arrivals, answer_to, taken_answers};
 ghost use Rattle.mq_server.specs.Text.{IsServed, LosesAlike, served};
 
 use mq_frame::laws::{frames_stay, one_spelling};
@@ -70,4 +70,11 @@ pub fn arrivals_get_their_replies()
     ensures { (b : Book) (came : List Delivery) →
         taken_answers (answer_to b) came
         ≡ replies_after (day_of b.zone) b.default (requests b.history) (arrivals came) }
+{}
+
+/// Deliveries to a ledger that others came to before are deliveries behind those.
+pub fn more_deliveries()
+    ensures none { (b : Book) → IsLegalBook b → HasGrown b b }
+    ensures more { (b k c : Book) → IsLegalBook k → k.zone ≡ b.zone → k.default ≡ b.default →
+        HasGrown b k → HasGrown k c → HasGrown b c }
 {}

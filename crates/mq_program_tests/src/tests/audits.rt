@@ -41,7 +41,7 @@ impl Write for Narrow {
 }
 
 /// A transaction of login `u` on day 1 reserves twice and is settled once.
-fn settle_once(rt: &impl Abort, alloc: Global, ledger: &mut impl Ledger) -> Result<(), Fail> {
+pub fn settle_once(rt: &impl Abort, alloc: Global, ledger: &mut impl Ledger) -> Result<(), Fail> {
     for seq in 1..4 {
         let id = Id {
             host: Host::from_slice(alloc, b"a")?,

@@ -20,7 +20,7 @@ const LONG: &str =
     "aaaaaaaaaaaaaaaaaaaaaaaaaaaaaaaaaaaaaaaaaaaaaaaaaaaaaaaaaaaaaaaaaaaaaaaaaaaaaaaaaaaaaaaaaaaaaaaaaaaaaaaaaaaaaaaaaaaaaaaaaaaaaaaaaaaaaaaaaaaaaaaaaaaaaaaaaaaaaaaaaaaaaaaaaaaaaaaaaaaaaaaaaaaaaaaaaaaaaaaaaaaaaaaaaaaaaaaaaaaaaaaaaaaaaaaaaaaaaaaaaaaaaaaaaaaaaaaa";
 
 /// The status of a subcommand, and what it prints on standard error.
-fn refused(rt: &HostRuntime, given: Arguments<'_>) -> Result<(u8, String), Fail>
+pub fn refused(rt: &HostRuntime, given: Arguments<'_>) -> Result<(u8, String), Fail>
     requires { IsArguments given }
 {
     let mut errors = Vec::new(rt.alloc());
@@ -29,7 +29,7 @@ fn refused(rt: &HostRuntime, given: Arguments<'_>) -> Result<(u8, String), Fail>
 }
 
 /// Asserts a status and what was printed with it.
-fn assert_printed(
+pub fn assert_printed(
     rt: &(impl Abort + AllocGlobal),
     seen: (u8, String),
     status: u8,

@@ -1,4 +1,5 @@
 use Rattle.std.proofs.Common.{◌≡◌}
+use Rattle.mq_server.specs.Delivery.{HasGrown}
 use Rattle.mq_program.proofs.server.serve_connections.Given as goal
 
 -- what each round leaves of the ledger's promises
@@ -8,4 +9,5 @@ invariant-loop-round g l = record {
   same_default : (g.L.Ledger.book l.ledger).default ≡ (g.L.Ledger.book l.initial.ledger).default;
   kept : g.L.Ledger.has_kept l.ledger → g.L.Ledger.has_kept l.initial.ledger;
   sound : g.L.Ledger.has_kept l.ledger → g.L.Ledger.is_sound l.initial.ledger → g.L.Ledger.is_sound l.ledger;
+  history : g.L.Ledger.has_kept l.ledger → g.L.Ledger.is_sound l.initial.ledger → HasGrown (g.L.Ledger.book l.initial.ledger) (g.L.Ledger.book l.ledger);
 }

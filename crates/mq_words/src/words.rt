@@ -21,7 +21,7 @@ pub enum WordsFault {
 }
 
 impl From<AllocError> for WordsFault {
-    ghost use Rattle.mailquota.specs.declared.words.WordsFault.TheVariants.{Memory};
+    ghost use Rattle.mq_words.specs.declared.words.WordsFault.TheVariants.{Memory};
 
     ghost from_gives = { λ _ fault. fault ≡ Memory };
 

@@ -5,7 +5,7 @@ use Rattle.mq_store.specs.declared.fault.OpenFault.TheVariants.{Damaged}
 use Rattle.mq_program.specs.Auditing.{Audits, wrong, no_memory}
 use Rattle.mq_program.specs.declared.fault.ProgramFault.TheVariants as fault
 use Rattle.mq_program.proofs.AuditSteps.{stopped, told}
-use Rattle.mq_program.proofs.audit.tell.Goals as goal
+use Rattle.mq_program.proofs.auditing.tell.Goals as goal
 
 pub returns-in-Wrong : goal.returns-in-Wrong
 returns-in-Wrong g c =

@@ -1,7 +1,7 @@
 //! The command line.
 
-use crate::words::{WordsFault, read_arguments};
 use mq_program::{Arguments, ReplayArguments};
+use mq_words::{WordsFault, read_arguments};
 use std::alloc::Global;
 use std::process::Abort;
 use std::test::Fail;

@@ -3,9 +3,9 @@ ghost use Rattle.std.specs.Prelude.{◌≡◌, IfOk, IfErr, OnOk, string_bytes};
 ghost use Rattle.std.specs.Io.KnownBytes.{Appends};
 ghost use Rattle.sqlite.specs.Held.{state};
 ghost use Rattle.mq_command.specs.Output.{AppendsFront};
-ghost use Rattle.mq_store.specs.Auditing.{IsAuditIn};
-ghost use Rattle.mq_store.specs.Soundness.{HasKept};
-ghost use Rattle.mq_program.specs.Auditing.{Audits, sound_line};
+ghost use Rattle.mq_store.specs.Auditing.{IsAuditIn, IsRightAnswer};
+ghost use Rattle.mq_store.specs.Soundness.{HasKept, IsSound};
+ghost use Rattle.mq_program.specs.Auditing.{Audits, PrintsSound, sound_line};
 
 use crate::arguments::AuditArguments;
 use crate::fault::ProgramFault;
@@ -19,14 +19,18 @@ use mq_settings::Place;
 use mq_store::{Audit, OpenFault, SqlLedger};
 use sqlite::Alter;
 use std::alloc::{AllocError, Global};
-use std::io;
 use std::io::Write;
 
 /// Opens the ledger in the file of the settings, checks its books, and prints how much they hold.
 ///
 /// An open ledger has been checked already, and doesn't tell what it holds: so the rows are read once more.
-pub fn audit(rt: &HostRuntime, given: AuditArguments<'_>) -> Result<u8, ProgramFault>
-    ensures { IfOk result (λ status. status ≡ 0) }
+pub fn audit<W: Write>(
+    rt: &HostRuntime,
+    given: AuditArguments<'_>,
+    output: &mut W,
+) -> Result<u8, ProgramFault>
+    ensures status { IfOk result (λ status. status ≡ 0) }
+    ensures printed { IfOk result (λ _. PrintsSound (W.contents output.old) (W.contents output.new)) }
 {
     let settings = server_settings(rt, given.config)?;
     let path = match &settings.store {
@@ -36,7 +40,7 @@ pub fn audit(rt: &HostRuntime, given: AuditArguments<'_>) -> Result<u8, ProgramF
     let logged = Logged::new(rt, settings.log, Console(rt));
     let zone = Zone::of_offset(settings.offset).unwrap();
     let mut ledger = file_ledger(rt, &logged, path, false, zone, settings.default)?;
-    audit_ledger(rt.alloc(), &mut ledger, &mut io::writer(rt))?;
+    audit_ledger(rt.alloc(), &mut ledger, output)?;
     Ok(0)
 }
 
@@ -50,6 +54,11 @@ pub fn audit_ledger<S: Alter, W: Write>(
     ensures audits { Audits (λ a. HasKept (state S.Store ledger.new.connection)
         → IsAuditIn ledger.old.zone ledger.old.default (state S.Store ledger.old.connection).now a)
         (W.contents output.old) (W.contents output.new) result }
+
+    // Books that are sound are never found wrong.
+    ensures sound { HasKept (state S.Store ledger.new.connection)
+        → IsSound ledger.old.zone ledger.old.default (state S.Store ledger.old.connection)
+        → Audits IsRightAnswer (W.contents output.old) (W.contents output.new) result }
     ensures same { HasKept (state S.Store ledger.new.connection)
         → (state S.Store ledger.new.connection).now ≡ (state S.Store ledger.old.connection).now }
 {
