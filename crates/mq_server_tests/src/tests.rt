@@ -449,14 +449,14 @@ fn reader_fails_anywhere(rt: HostRuntime) -> Result<(), Fail> {
     let alloc = rt.alloc();
     let input = bytes_of_all(alloc, &SETTLING)?;
     let output = bytes_of_all(alloc, &SETTLED)?;
-    for count in 0..input.len() {
+    for count in 0..=input.len() {
         let whole = whole_frames(alloc, &SETTLING, count)?;
         let told = bytes_of_first(alloc, &SETTLED, whole)?;
         let mut ledger = ledger(alloc)?;
         check_reader_failing(&rt, alloc, &mut ledger, &input, count, &told);
         check_served(&rt, alloc, &mut ledger, &input, Served::InputEnd, &output);
     }
-    println!(rt; "a server's input: {} reads", input.len())?;
+    println!(rt; "a server's input: {} reads", input.len() + 1)?;
     Ok(())
 }
 

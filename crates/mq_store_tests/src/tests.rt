@@ -6,11 +6,13 @@ mod lists;
 mod stops;
 mod worked;
 
-use asks::{ask, check, new_ledger, request_of, zone};
+use asks::{ask, check, new_ledger, open, opened, request_of, zone};
 use audits::damaged;
 use mq_ledger::{Ledger, LedgerFault};
 use mq_store::{OpenFault, OpenRefused, SqlLedger};
 use sqlite::{Connection, MemStore};
+use std::alloc::Global;
+use std::process::Abort;
 use std::test::*;
 use worked::{GRANTED_ONE, RESERVE_ONE, USAGE};
 
@@ -21,11 +23,6 @@ fn store(rt: HostRuntime, text: &str) -> Result<Connection<MemStore>, Fail> {
     let mut connection = Connection::open_in_memory(rt.alloc())?;
     connection.execute_batch(text)?;
     Ok(connection)
-}
-
-/// A ledger of that zone and default 3, opened.
-fn open(rt: HostRuntime, connection: Connection<MemStore>, minutes: i32) -> Result<Outcome, Fail> {
-    Ok(SqlLedger::open(rt.alloc(), connection, zone(minutes)?, 3))
 }
 
 /// One of zone 60 and default 3, made.
@@ -84,7 +81,7 @@ fn stores_of_others(rt: HostRuntime) -> Result<(), Fail> {
             OpenFault::Store,
         ),
     ] {
-        refused(open(rt, store(rt, text)?, 60)?, fault)?;
+        refused(open(rt.alloc(), store(rt, text)?, 60, 3)?, fault)?;
     }
     Ok(())
 }
@@ -110,16 +107,27 @@ fn taken_apart_and_opened(rt: HostRuntime) -> Result<(), Fail> {
     let text = "CREATE TABLE note (a INTEGER PRIMARY KEY AUTOINCREMENT, b TEXT); \
         INSERT INTO note (b) VALUES ('x')";
     let connection = done(make(rt, store(rt, text)?)?)?;
-    let connection = refused(open(rt, connection, 0)?, OpenFault::ZoneDiffers)?;
-    let other_default = SqlLedger::open(rt.alloc(), connection, zone(60)?, 4);
-    let connection = refused(other_default, OpenFault::DefaultDiffers)?;
-    let connection = done(open(rt, connection, 60)?)?;
+    let connection = refused(open(rt.alloc(), connection, 0, 3)?, OpenFault::ZoneDiffers)?;
+    let connection = refused(
+        open(rt.alloc(), connection, 60, 4)?,
+        OpenFault::DefaultDiffers,
+    )?;
+    let connection = done(open(rt.alloc(), connection, 60, 3)?)?;
     let mut connection = refused(make(rt, connection)?, OpenFault::NotOurs)?;
     let notes: i64 = connection
         .query_row("SELECT count(*) FROM note", &[])?
         .get(0)?;
     assert_eq!(rt; notes, 1);
     Ok(())
+}
+
+/// A ledger that was asked to reserve one, taken apart, and opened behind this text.
+fn behind(rt: &impl Abort, alloc: Global, text: &str) -> Result<SqlLedger<MemStore>, Fail> {
+    let mut ledger = new_ledger(alloc, 3)?;
+    check(rt, alloc, &mut ledger, &[(RESERVE_ONE, GRANTED_ONE)])?;
+    let mut connection = ledger.into_connection();
+    connection.execute_batch(text)?;
+    opened(alloc, connection)
 }
 
 /// Rows that no history has, but of which each pair is right: a request that reads such a row is
@@ -139,14 +147,8 @@ fn rows_of_no_history(rt: HostRuntime) -> Result<(), Fail> {
             settle,
         ),
     ] {
-        let mut ledger = new_ledger(rt.alloc(), 3)?;
-        check(&rt, rt.alloc(), &mut ledger, &[(RESERVE_ONE, GRANTED_ONE)])?;
-        let mut connection = ledger.into_connection();
-        connection.execute_batch(text)?;
-        let Ok(mut ledger) = SqlLedger::open(rt.alloc(), connection, zone(0)?, 3) else {
-            return Err(Fail::from("not opened"));
-        };
         let request = request_of(rt.alloc(), request)?;
+        let mut ledger = behind(&rt, rt.alloc(), text)?;
         assert_eq!(rt; ask(&rt, &mut ledger, &request), Err(LedgerFault::Store));
     }
     Ok(())

@@ -4,8 +4,8 @@ ghost use Rattle.mq_frame.specs.Range.{IsAmount};
 
 use mq_frame::{Reply, Request, decode_reply, decode_request, is_request};
 use mq_ledger::{Ledger, LedgerFault, Zone};
-use mq_store::SqlLedger;
-use sqlite::MemStore;
+use mq_store::{OpenRefused, SqlLedger};
+use sqlite::{Alter, Connection, MemStore};
 use std::alloc::Global;
 use std::process::Abort;
 use std::test::*;
@@ -49,6 +49,29 @@ pub fn ask(
 /// The zone that is so many minutes ahead of UTC.
 pub fn zone(minutes: i32) -> Result<Zone, Fail> {
     Zone::of_offset(minutes).map_err(|_| Fail::from("no such zone"))
+}
+
+/// What comes of opening a ledger of that offset in minutes and that default. Without clauses, as `ask`.
+pub fn open<S: Alter + Drop>(
+    alloc: Global,
+    connection: Connection<S>,
+    minutes: i32,
+    default: u32,
+) -> Result<Result<SqlLedger<S>, OpenRefused<S>>, Fail>
+    requires { IsAmount default }
+{
+    Ok(SqlLedger::open(alloc, connection, zone(minutes)?, default))
+}
+
+/// A ledger of offset 0 and default 3, opened.
+pub fn opened<S: Alter + Drop>(
+    alloc: Global,
+    connection: Connection<S>,
+) -> Result<SqlLedger<S>, Fail> {
+    match open(alloc, connection, 0, 3)? {
+        Ok(ledger) => Ok(ledger),
+        Err(_) => Err("not opened".into()),
+    }
 }
 
 /// A new ledger in memory, of offset 0.

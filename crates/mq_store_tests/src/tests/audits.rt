@@ -1,8 +1,8 @@
 //! What an audit finds in a ledger's tables, and what `open` makes of it.
 
-use super::asks::{check, new_ledger, zone};
-use super::worked::{RESERVED_TWICE, SETTLED_ONCE};
-use super::{done, make, open, refused, store};
+use super::asks::{check, new_ledger, open, opened};
+use super::worked::RESERVED_TWICE_SETTLED_ONCE;
+use super::{done, make, refused, store};
 use mq_frame::Login;
 use mq_store::{Audit, OpenFault, SqlLedger};
 use sqlite::{Alter, Connection, MemStore};
@@ -13,8 +13,7 @@ use std::test::*;
 /// A ledger in which a transaction of login u on day 1 reserved twice and was settled with one.
 fn settled_once(rt: &impl Abort, alloc: Global) -> Result<SqlLedger<MemStore>, Fail> {
     let mut ledger = new_ledger(alloc, 3)?;
-    check(rt, alloc, &mut ledger, &RESERVED_TWICE)?;
-    check(rt, alloc, &mut ledger, &SETTLED_ONCE)?;
+    check(rt, alloc, &mut ledger, RESERVED_TWICE_SETTLED_ONCE)?;
     Ok(ledger)
 }
 
@@ -56,20 +55,23 @@ fn a_store_taken_apart_and_opened(rt: HostRuntime) -> Result<(), Fail> {
     let mut ledger = settled_once(&rt, rt.alloc())?;
     check_sound(&rt, &mut ledger, (1, 1))?;
     let connection = refused(
-        open(rt, ledger.into_connection(), 60)?,
+        open(rt.alloc(), ledger.into_connection(), 60, 3)?,
         OpenFault::ZoneDiffers,
     )?;
-    let other_default = SqlLedger::open(rt.alloc(), connection, zone(0)?, 4);
-    let connection = refused(other_default, OpenFault::DefaultDiffers)?;
-    let Ok(mut ledger) = open(rt, connection, 0)? else {
-        return Err("not opened".into());
-    };
+    let connection = refused(
+        open(rt.alloc(), connection, 0, 4)?,
+        OpenFault::DefaultDiffers,
+    )?;
+    let mut ledger = opened(rt.alloc(), connection)?;
     check_sound(&rt, &mut ledger, (1, 1))?;
     let mut connection = ledger.into_connection();
     connection.execute("UPDATE usage SET reserved = 9", &[])?;
-    let connection = refused(open(rt, connection, 0)?, damaged(rt.alloc(), b"u", 1)?)?;
+    let connection = refused(
+        open(rt.alloc(), connection, 0, 3)?,
+        damaged(rt.alloc(), b"u", 1)?,
+    )?;
     refused(make(rt, connection)?, OpenFault::NotOurs)?;
-    refused(open(rt, store(rt, "")?, 0)?, OpenFault::NotOurs)?;
+    refused(open(rt.alloc(), store(rt, "")?, 0, 3)?, OpenFault::NotOurs)?;
     Ok(())
 }
 
@@ -77,14 +79,19 @@ fn a_store_taken_apart_and_opened(rt: HostRuntime) -> Result<(), Fail> {
 #[test]
 fn settings_come_before_the_audit(rt: HostRuntime) -> Result<(), Fail> {
     let connection = settled_and(&rt, rt.alloc(), "UPDATE usage SET reserved = 9")?;
-    let connection = refused(open(rt, connection, 60)?, OpenFault::ZoneDiffers)?;
-    let other_default = SqlLedger::open(rt.alloc(), connection, zone(0)?, 4);
-    let connection = refused(other_default, OpenFault::DefaultDiffers)?;
-    let mut connection = refused(open(rt, connection, 0)?, damaged(rt.alloc(), b"u", 1)?)?;
+    let connection = refused(open(rt.alloc(), connection, 60, 3)?, OpenFault::ZoneDiffers)?;
+    let connection = refused(
+        open(rt.alloc(), connection, 0, 4)?,
+        OpenFault::DefaultDiffers,
+    )?;
+    let mut connection = refused(
+        open(rt.alloc(), connection, 0, 3)?,
+        damaged(rt.alloc(), b"u", 1)?,
+    )?;
     connection.execute("UPDATE usage SET reserved = 0", &[])?;
-    let mut connection = done(open(rt, connection, 0)?)?;
+    let mut connection = done(open(rt.alloc(), connection, 0, 3)?)?;
     connection.execute_batch("UPDATE usage SET reserved = 9; UPDATE setting SET version = 2")?;
-    refused(open(rt, connection, 0)?, OpenFault::NotOurs)?;
+    refused(open(rt.alloc(), connection, 0, 3)?, OpenFault::NotOurs)?;
     Ok(())
 }
 
@@ -114,7 +121,7 @@ fn the_least_pair_is_told(rt: HostRuntime) -> Result<(), Fail> {
     for (text, login, day) in DAMAGES {
         let connection = settled_and(&rt, rt.alloc(), text)?;
         let pair = damaged(rt.alloc(), login.as_bytes(), day)?;
-        refused(open(rt, connection, 0)?, pair)?;
+        refused(open(rt.alloc(), connection, 0, 3)?, pair)?;
     }
     Ok(())
 }
@@ -129,9 +136,7 @@ fn what_no_pair_goes_by(rt: HostRuntime) -> Result<(), Fail> {
         "INSERT INTO ceiling VALUES (x'75', 2, 0)",
         "INSERT INTO ceiling VALUES (x'76', 0, 0)",
     ] {
-        let Ok(mut ledger) = open(rt, settled_and(&rt, rt.alloc(), text)?, 0)? else {
-            return Err("not opened".into());
-        };
+        let mut ledger = opened(rt.alloc(), settled_and(&rt, rt.alloc(), text)?)?;
         check_sound(&rt, &mut ledger, (1, 1))?;
     }
     Ok(())
@@ -142,9 +147,7 @@ fn what_no_pair_goes_by(rt: HostRuntime) -> Result<(), Fail> {
 #[test]
 fn a_ledger_that_is_open_goes_wrong(rt: HostRuntime) -> Result<(), Fail> {
     let connection = settled_and(&rt, rt.alloc(), "UPDATE trans SET closed = 0")?;
-    let Ok(mut ledger) = open(rt, connection, 0)? else {
-        return Err("not opened".into());
-    };
+    let mut ledger = opened(rt.alloc(), connection)?;
     check(
         &rt,
         rt.alloc(),
@@ -166,6 +169,9 @@ fn a_ledger_that_is_open_goes_wrong(rt: HostRuntime) -> Result<(), Fail> {
     assert_eq!(rt; login.as_slice(), b"u".as_slice());
     assert_eq!(rt; day, 1);
     let connection = ledger.into_connection();
-    refused(open(rt, connection, 0)?, damaged(rt.alloc(), b"u", 1)?)?;
+    refused(
+        open(rt.alloc(), connection, 0, 3)?,
+        damaged(rt.alloc(), b"u", 1)?,
+    )?;
     Ok(())
 }

@@ -1,8 +1,8 @@
 //! A ledger of which a file stops at some call, at each in turn, and that is opened anew over what
 //! is left of the files.
 
-use super::asks::{ask, new_ledger, reply_of, request_of, zone};
-use super::worked::{RESERVED_TWICE, SETTLED_ONCE};
+use super::asks::{ask, new_ledger, open, opened, reply_of, request_of, zone};
+use super::worked::RESERVED_TWICE_SETTLED_ONCE;
 use mq_frame::{Reply, Request};
 use mq_ledger::Zone;
 use mq_store::{Audit, OpenFault, SqlLedger};
@@ -62,11 +62,16 @@ fn rows_of<S: Alter>(alloc: Global, connection: &mut Connection<S>) -> Result<St
     let mut text = String::new(alloc);
     for sql in ROWS {
         let rows = all_of(connection, sql)?;
-        for row in rows.iter() {
-            text.push_str(format!(in alloc; "{row:?}\n")?.as_str())?;
-        }
+        push_rows(alloc, &mut text, rows.as_slice())?;
     }
     Ok(text)
+}
+
+fn push_rows(alloc: Global, text: &mut String, rows: &[Row]) -> Result<(), Fail> {
+    for row in rows {
+        text.push_str(format!(in alloc; "{row:?}\n")?.as_str())?;
+    }
+    Ok(())
 }
 
 /// The rows of a ledger in memory after so many of the requests.
@@ -86,10 +91,7 @@ fn rows_after(
 
 fn written_script(rt: &impl Abort, alloc: Global) -> Result<Script, Fail> {
     let mut asked = Vec::new(alloc);
-    for (request, reply) in RESERVED_TWICE {
-        asked.push((request_of(alloc, request)?, reply_of(alloc, reply)?))?;
-    }
-    for (request, reply) in SETTLED_ONCE {
+    for (request, reply) in RESERVED_TWICE_SETTLED_ONCE {
         asked.push((request_of(alloc, request)?, reply_of(alloc, reply)?))?;
     }
     let mut rows = Vec::new(alloc);
@@ -195,9 +197,7 @@ fn check_again<S: Alter + Drop>(
     script: &Script,
     connection: Connection<S>,
 ) -> Result<(), Fail> {
-    let Ok(mut ledger) = SqlLedger::open(alloc, connection, zone(0)?, 3) else {
-        return Err("not opened again".into());
-    };
+    let mut ledger = opened(alloc, connection)?;
     for (request, wanted) in script.asked.iter() {
         assert_eq!(rt; &ask(rt, &mut ledger, request)?, wanted);
     }
@@ -214,10 +214,20 @@ fn found(
     stop: Stop,
     files: Files<Fused>,
 ) -> Result<Option<SqlLedger<FileStore<Fused>>>, Fail> {
-    let Ok(connection) = connect(alloc, files) else {
-        return Err("the files don't open".into());
-    };
-    match SqlLedger::open(alloc, connection, zone(0)?, 3) {
+    match connect(alloc, files) {
+        Ok(connection) => ledger_in(rt, alloc, stop, connection),
+        Err(_) => Err("the files don't open".into()),
+    }
+}
+
+/// The ledger that a connection shows behind a stop, or none where it shows no table.
+fn ledger_in<S: Alter + Drop>(
+    rt: &impl Abort,
+    alloc: Global,
+    stop: Stop,
+    connection: Connection<S>,
+) -> Result<Option<SqlLedger<S>>, Fail> {
+    match open(alloc, connection, 0, 3)? {
         Ok(ledger) => Ok(Some(ledger)),
         Err(refused) => {
             assert_eq!(rt; stop, Stop::Making);

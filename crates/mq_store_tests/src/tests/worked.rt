@@ -1,7 +1,6 @@
 //! The worked examples of `docs/LEDGER.md` over tables.
 
-use super::asks::{check, new_ledger, zone};
-use mq_store::SqlLedger;
+use super::asks::{check, new_ledger, opened};
 use std::test::*;
 
 pub const RESERVE_ONE: &str =
@@ -11,30 +10,23 @@ pub const GRANTED_ONE: &str = "81 0161 0000000000000001 00000001 00000001";
 
 pub const USAGE: &str = "05 0175 00000001";
 
-#[test]
-fn a_repeat_counts_once(rt: HostRuntime) -> Result<(), Fail> {
-    let mut ledger = new_ledger(rt.alloc(), 3)?;
-    let used = "8b 0175 00000001 00000000 00000001 00000003";
-    check(
-        &rt,
-        rt.alloc(),
-        &mut ledger,
-        &[
-            (RESERVE_ONE, GRANTED_ONE),
-            (RESERVE_ONE, GRANTED_ONE),
-            (RESERVE_ONE, GRANTED_ONE),
-            (RESERVE_ONE, GRANTED_ONE),
-            (USAGE, used),
-            (
-                "01 0161 0000000000000001 00000001 00000001 0000000000015180 0175 00000002",
-                "8a 0161 0000000000000001 00000001",
-            ),
-            (USAGE, used),
-        ],
-    )
-}
+/// Requests with their replies, in turn.
+type Example = &'static [(&'static str, &'static str)];
 
-const AT_THE_CAP: [(&str, &str); 3] = [
+const A_REPEAT_COUNTS_ONCE: Example = &[
+    (RESERVE_ONE, GRANTED_ONE),
+    (RESERVE_ONE, GRANTED_ONE),
+    (RESERVE_ONE, GRANTED_ONE),
+    (RESERVE_ONE, GRANTED_ONE),
+    (USAGE, "8b 0175 00000001 00000000 00000001 00000003"),
+    (
+        "01 0161 0000000000000001 00000001 00000001 0000000000015180 0175 00000002",
+        "8a 0161 0000000000000001 00000001",
+    ),
+    (USAGE, "8b 0175 00000001 00000000 00000001 00000003"),
+];
+
+const AT_THE_CAP_AND_THEN_LIMITS: Example = &[
     (RESERVE_ONE, GRANTED_ONE),
     (
         "01 0161 0000000000000001 00000002 00000001 0000000000015180 0175 00000002",
@@ -44,98 +36,67 @@ const AT_THE_CAP: [(&str, &str); 3] = [
         "01 0161 0000000000000001 00000003 00000001 0000000000015180 0175 00000001",
         "82 0161 0000000000000001 00000003 00000003 00000003",
     ),
+    (
+        "04 0161 0000000000000001 00000004 00000001 00000002 0175",
+        "86 0161 0000000000000001 00000004 00000001 00000003",
+    ),
+    (
+        "04 0161 0000000000000001 00000005 00000001 00000003 0175",
+        "85 0161 0000000000000001 00000005",
+    ),
+    (
+        "04 0161 0000000000000001 00000006 00000000 00000002 0175",
+        "86 0161 0000000000000001 00000006 00000001 00000003",
+    ),
 ];
 
-#[test]
-fn three_reserves_at_the_cap_and_then_limits(rt: HostRuntime) -> Result<(), Fail> {
-    let mut ledger = new_ledger(rt.alloc(), 3)?;
-    check(&rt, rt.alloc(), &mut ledger, &AT_THE_CAP)?;
-    check(
-        &rt,
-        rt.alloc(),
-        &mut ledger,
-        &[
-            (
-                "04 0161 0000000000000001 00000004 00000001 00000002 0175",
-                "86 0161 0000000000000001 00000004 00000001 00000003",
-            ),
-            (
-                "04 0161 0000000000000001 00000005 00000001 00000003 0175",
-                "85 0161 0000000000000001 00000005",
-            ),
-            (
-                "04 0161 0000000000000001 00000006 00000000 00000002 0175",
-                "86 0161 0000000000000001 00000006 00000001 00000003",
-            ),
-        ],
-    )
-}
+const AT_THE_CAP_AND_THEN_RELEASED: Example = &[
+    (RESERVE_ONE, GRANTED_ONE),
+    (
+        "01 0161 0000000000000001 00000002 00000001 0000000000015180 0175 00000002",
+        "81 0161 0000000000000001 00000002 00000003",
+    ),
+    (
+        "01 0161 0000000000000001 00000003 00000001 0000000000015180 0175 00000001",
+        "82 0161 0000000000000001 00000003 00000003 00000003",
+    ),
+    (
+        "03 0161 0000000000000001 00000004 00000001 0000000000015180 0175",
+        "84 0161 0000000000000001 00000004 00000003",
+    ),
+    // an old number again
+    (
+        "01 0161 0000000000000001 00000003 00000001 0000000000015180 0175 00000001",
+        "82 0161 0000000000000001 00000003 00000003 00000003",
+    ),
+    (
+        "01 0161 0000000000000001 00000005 00000002 0000000000015180 0175 00000001",
+        "81 0161 0000000000000001 00000005 00000001",
+    ),
+];
 
-#[test]
-fn release_then_an_old_number_again(rt: HostRuntime) -> Result<(), Fail> {
-    let mut ledger = new_ledger(rt.alloc(), 3)?;
-    check(&rt, rt.alloc(), &mut ledger, &AT_THE_CAP)?;
-    check(
-        &rt,
-        rt.alloc(),
-        &mut ledger,
-        &[
-            (
-                "03 0161 0000000000000001 00000004 00000001 0000000000015180 0175",
-                "84 0161 0000000000000001 00000004 00000003",
-            ),
-            AT_THE_CAP[2],
-            (
-                "01 0161 0000000000000001 00000005 00000002 0000000000015180 0175 00000001",
-                "81 0161 0000000000000001 00000005 00000001",
-            ),
-        ],
-    )
-}
+const THE_SAME_NUMBER_FROM_ANOTHER_HOST: Example = &[
+    (RESERVE_ONE, GRANTED_ONE),
+    (
+        "01 0162 0000000000000001 00000001 00000001 0000000000015180 0175 00000001",
+        "81 0162 0000000000000001 00000001 00000002",
+    ),
+];
 
-#[test]
-fn the_same_number_from_another_host(rt: HostRuntime) -> Result<(), Fail> {
-    let mut ledger = new_ledger(rt.alloc(), 3)?;
-    check(
-        &rt,
-        rt.alloc(),
-        &mut ledger,
-        &[
-            (RESERVE_ONE, GRANTED_ONE),
-            (
-                "01 0162 0000000000000001 00000001 00000001 0000000000015180 0175 00000001",
-                "81 0162 0000000000000001 00000001 00000002",
-            ),
-        ],
-    )
-}
+const RELEASE_OF_AN_UNHEARD_TRANSACTION: Example = &[
+    (
+        "03 0161 0000000000000001 00000002 00000001 0000000000015180 0175",
+        "84 0161 0000000000000001 00000002 00000000",
+    ),
+    (RESERVE_ONE, "87 0161 0000000000000001 00000001"),
+];
 
-#[test]
-fn release_of_an_unheard_transaction(rt: HostRuntime) -> Result<(), Fail> {
-    let mut ledger = new_ledger(rt.alloc(), 3)?;
-    check(
-        &rt,
-        rt.alloc(),
-        &mut ledger,
-        &[
-            (
-                "03 0161 0000000000000001 00000002 00000001 0000000000015180 0175",
-                "84 0161 0000000000000001 00000002 00000000",
-            ),
-            (RESERVE_ONE, "87 0161 0000000000000001 00000001"),
-        ],
-    )
-}
-
-pub const RESERVED_TWICE: [(&str, &str); 2] = [
+pub const RESERVED_TWICE_SETTLED_ONCE: Example = &[
     (RESERVE_ONE, GRANTED_ONE),
     (
         "01 0161 0000000000000001 00000002 00000001 0000000000015180 0175 00000001",
         "81 0161 0000000000000001 00000002 00000002",
     ),
-];
-
-pub const SETTLED_ONCE: [(&str, &str); 3] = [
     (
         "02 0161 0000000000000001 00000003 00000001 0000000000015180 0175 00000001",
         "83 0161 0000000000000001 00000003 00000001",
@@ -147,114 +108,98 @@ pub const SETTLED_ONCE: [(&str, &str); 3] = [
     ),
 ];
 
-#[test]
-fn reserve_twice_settle_once(rt: HostRuntime) -> Result<(), Fail> {
-    let mut ledger = new_ledger(rt.alloc(), 3)?;
-    check(&rt, rt.alloc(), &mut ledger, &RESERVED_TWICE)?;
-    check(&rt, rt.alloc(), &mut ledger, &SETTLED_ONCE)
-}
-
-/// The same over a ledger that is taken apart in between, and opened.
-#[test]
-fn opened_in_between(rt: HostRuntime) -> Result<(), Fail> {
-    let mut ledger = new_ledger(rt.alloc(), 3)?;
-    check(&rt, rt.alloc(), &mut ledger, &RESERVED_TWICE)?;
-    let connection = ledger.into_connection();
-    let Ok(mut opened) = SqlLedger::open(rt.alloc(), connection, zone(0)?, 3) else {
-        return Err("not opened".into());
-    };
-    check(&rt, rt.alloc(), &mut opened, &RESERVED_TWICE)?;
-    check(&rt, rt.alloc(), &mut opened, &SETTLED_ONCE)
-}
-
-#[test]
-fn the_list_page(rt: HostRuntime) -> Result<(), Fail> {
-    let mut ledger = new_ledger(rt.alloc(), 3)?;
-    check(
-        &rt,
-        rt.alloc(),
-        &mut ledger,
-        &[
-            (RESERVE_ONE, GRANTED_ONE),
-            (
-                "06 00000001 00",
-                "8c 00000001 01 0175 00000000 00000001 00000003",
-            ),
-            ("06 00000001 0175", "8c 00000001 00"),
-        ],
-    )
-}
+const THE_LIST_PAGE: Example = &[
+    (RESERVE_ONE, GRANTED_ONE),
+    (
+        "06 00000001 00",
+        "8c 00000001 01 0175 00000000 00000001 00000003",
+    ),
+    ("06 00000001 0175", "8c 00000001 00"),
+];
 
 /// A page has the logins of its day alone, in the order of their bytes, though they have other days too.
-#[test]
-fn the_list_page_of_one_day_among_others(rt: HostRuntime) -> Result<(), Fail> {
-    let mut ledger = new_ledger(rt.alloc(), 3)?;
-    check(
-        &rt,
-        rt.alloc(),
-        &mut ledger,
-        &[
-            (RESERVE_ONE, GRANTED_ONE),
-            (
-                "01 0161 0000000000000001 00000002 00000002 000000000002a300 0176 00000001",
-                "81 0161 0000000000000001 00000002 00000001",
-            ),
-            (
-                "01 0161 0000000000000001 00000003 00000003 0000000000015180 0177 00000002",
-                "81 0161 0000000000000001 00000003 00000002",
-            ),
-            (
-                "01 0161 0000000000000001 00000004 00000004 000000000002a300 0175 00000001",
-                "81 0161 0000000000000001 00000004 00000001",
-            ),
-            (
-                "06 00000001 00",
-                "8c 00000001 02 0175 00000000 00000001 00000003 0177 00000000 00000002 00000003",
-            ),
-            (
-                "06 00000001 0175",
-                "8c 00000001 01 0177 00000000 00000002 00000003",
-            ),
-            (
-                "06 00000002 00",
-                "8c 00000002 02 0175 00000000 00000001 00000003 0176 00000000 00000001 00000003",
-            ),
-            ("06 00000003 00", "8c 00000003 00"),
-        ],
-    )
-}
+const THE_LIST_PAGE_OF_ONE_DAY_AMONG_OTHERS: Example = &[
+    (RESERVE_ONE, GRANTED_ONE),
+    (
+        "01 0161 0000000000000001 00000002 00000002 000000000002a300 0176 00000001",
+        "81 0161 0000000000000001 00000002 00000001",
+    ),
+    (
+        "01 0161 0000000000000001 00000003 00000003 0000000000015180 0177 00000002",
+        "81 0161 0000000000000001 00000003 00000002",
+    ),
+    (
+        "01 0161 0000000000000001 00000004 00000004 000000000002a300 0175 00000001",
+        "81 0161 0000000000000001 00000004 00000001",
+    ),
+    (
+        "06 00000001 00",
+        "8c 00000001 02 0175 00000000 00000001 00000003 0177 00000000 00000002 00000003",
+    ),
+    (
+        "06 00000001 0175",
+        "8c 00000001 01 0177 00000000 00000002 00000003",
+    ),
+    (
+        "06 00000002 00",
+        "8c 00000002 02 0175 00000000 00000001 00000003 0176 00000000 00000001 00000003",
+    ),
+    ("06 00000003 00", "8c 00000003 00"),
+];
+
+const MISMATCH_AND_TOO_MANY: Example = &[
+    (RESERVE_ONE, GRANTED_ONE),
+    (
+        "01 0161 0000000000000001 00000002 00000001 0000000000015180 0176 00000001",
+        "88 0161 0000000000000001 00000002",
+    ),
+    (
+        "02 0161 0000000000000001 00000003 00000001 0000000000015180 0175 00000002",
+        "89 0161 0000000000000001 00000003 00000001",
+    ),
+];
+
+/// The examples over a default of three recipients.
+const EXAMPLES: [Example; 9] = [
+    A_REPEAT_COUNTS_ONCE,
+    AT_THE_CAP_AND_THEN_LIMITS,
+    AT_THE_CAP_AND_THEN_RELEASED,
+    THE_SAME_NUMBER_FROM_ANOTHER_HOST,
+    RELEASE_OF_AN_UNHEARD_TRANSACTION,
+    RESERVED_TWICE_SETTLED_ONCE,
+    THE_LIST_PAGE,
+    THE_LIST_PAGE_OF_ONE_DAY_AMONG_OTHERS,
+    MISMATCH_AND_TOO_MANY,
+];
 
 #[test]
-fn mismatch_and_too_many(rt: HostRuntime) -> Result<(), Fail> {
-    let mut ledger = new_ledger(rt.alloc(), 3)?;
-    check(
-        &rt,
-        rt.alloc(),
-        &mut ledger,
-        &[
-            (RESERVE_ONE, GRANTED_ONE),
-            (
-                "01 0161 0000000000000001 00000002 00000001 0000000000015180 0176 00000001",
-                "88 0161 0000000000000001 00000002",
-            ),
-            (
-                "02 0161 0000000000000001 00000003 00000001 0000000000015180 0175 00000002",
-                "89 0161 0000000000000001 00000003 00000001",
-            ),
-        ],
-    )
+fn examples(rt: HostRuntime) -> Result<(), Fail> {
+    for example in EXAMPLES {
+        check(&rt, rt.alloc(), &mut new_ledger(rt.alloc(), 3)?, example)?;
+    }
+    Ok(())
+}
+
+/// The same over ledgers that are taken apart before each request, and opened.
+#[test]
+fn examples_opened_in_between(rt: HostRuntime) -> Result<(), Fail> {
+    for example in EXAMPLES {
+        let mut ledger = new_ledger(rt.alloc(), 3)?;
+        for asked in example {
+            ledger = opened(rt.alloc(), ledger.into_connection())?;
+            check(&rt, rt.alloc(), &mut ledger, &[*asked])?;
+        }
+    }
+    Ok(())
 }
 
 #[test]
 fn a_cap_of_nothing(rt: HostRuntime) -> Result<(), Fail> {
-    let mut ledger = new_ledger(rt.alloc(), 0)?;
+    let full = "82 0161 0000000000000001 00000001 00000000 00000000";
     check(
         &rt,
         rt.alloc(),
-        &mut ledger,
-        &[(
-            RESERVE_ONE,
-            "82 0161 0000000000000001 00000001 00000000 00000000",
-        )],
+        &mut new_ledger(rt.alloc(), 0)?,
+        &[(RESERVE_ONE, full)],
     )
 }
