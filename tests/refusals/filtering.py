@@ -5,7 +5,7 @@ import socket
 from cases.filters import AUTH, BEGIN, COMMIT, CONFIG, PROCEED, RCPT, REGISTRATION, RESET_LINE, answer
 from cases.filters import SERVICE as REJECTED
 from ends import Server, apart, toml
-from sweeping import FAILED_TRY, OUT_OF_MEMORY, RIGHT, SERVICE, Run, sweep
+from sweeping import FAILED_TRY, OUT_OF_MEMORY, RIGHT, Run, sweep
 from wire import usage
 
 DAY = 1_576_146_009 // 86_400
@@ -64,19 +64,16 @@ def filtered(refusals, link, more, exchanges, counted):
 
 def ending_of(status, output, last, told, exchanges, has_server):
     """How the filter ended, and what is wrong with that, if anything."""
-    proceeds, rejects = REGISTRATION + answer(PROCEED), REGISTRATION + answer(REJECTED)
+    # one refused growth costs one try of three, so a server that is up is always heard
+    answers = REGISTRATION + answer(PROCEED if has_server else REJECTED)
     if (status, last) == (1, "mailquota: out of memory\n"):
-        fronts = [proceeds, rejects] if has_server else [rejects]
-        good = any(front.startswith(output) for front in fronts) and output[-1:] in (b"", b"\n")
+        good = answers.startswith(output) and output[-1:] in (b"", b"\n")
         return OUT_OF_MEMORY, None if good else "its lines are no front of the answers"
-    if (status, last) != (0, "") or output not in (proceeds, rejects):
+    if (status, last, output) != (0, "", answers):
         return "fault", "neither answered nor out of memory"
-    if not has_server:
-        good = output == rejects and told.connections == exchanges
-        return RIGHT, None if good else f"not 451 behind {exchanges} tries"
-    if output == rejects:
-        return SERVICE, None
     more = told.connections - exchanges
+    if not has_server:
+        return RIGHT, None if more == 0 else f"not {exchanges} tries"
     return (FAILED_TRY if more == 1 else RIGHT), None if more in (0, 1) else f"{more} more tries"
 
 

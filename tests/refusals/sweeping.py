@@ -23,7 +23,6 @@ RIGHT = "right"
 FAILED_TRY = "right behind a failed try"
 RETRY = "retry"
 CUT = "connection ended"
-SERVICE = "451"
 OUT_OF_MEMORY = "out of memory"
 
 Told = collections.namedtuple("Told", "asked refused connections")
