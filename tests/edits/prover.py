@@ -12,18 +12,25 @@ import tempfile
 import threading
 from collections import namedtuple
 
+import source
+
 RT = os.environ.get("RT", "rt")
 KIT = os.path.dirname(os.path.dirname(os.path.realpath(shutil.which(RT) or f"/{RT}")))
 PARTS = ("src", "specs", "proofs")
 # A check takes a minute or two; one that takes so many seconds hangs.
 LONGEST = 45 * 60
 
-# A proof with a hole, as `rattle check --start` writes it.
-HOLE = """\
+# A proof that rests on a hole elsewhere. (Of a proof that is a hole itself, the prover prints the goal, which takes it seconds.)
+TAKEN = """\
 use {module}.{{statement}}
+use Rattle.{crate}.proofs.Taken.{{taken}}
 
 pub {name}_spec : {{M : Type 1}} → statement M
-{name}_spec = ?
+{name}_spec = taken
+"""
+HOLE = """\
+pub taken {ℓ} : {A : Type ℓ} → A
+taken = ?
 """
 
 # How a command ended (below 0: by that signal; None: it took too long), what it printed, and its processor seconds.
@@ -112,6 +119,7 @@ class Crate:
     def __init__(self, root, name):
         self.name, self.rows, self.crates = name, rows_of(root), f"{root}/crates"
         self.folder, self.below = f"{root}/crates/{name}", below(name, self.rows)
+        self.lengths = None
 
     def rlib(self, name):
         return f"{self.crates}/{name}/out/rlib/{name}.rlib"
@@ -127,6 +135,13 @@ class Crate:
         for it in self.below:
             words += ["-L", f"dependency={os.path.dirname(self.rlib(it))}"]
         return words + ["--antt-project", f"{KIT}/rattle/logic/antt-project.json", "--logic-built", f"{KIT}/logic_built"]
+
+    def length_of(self, function):
+        """Returns how many characters the text of a function has, or a very large number where it has none of its own, and for a
+        law, whose proof is all that it does."""
+        if self.lengths is None:
+            self.lengths = source.lengths(f"{self.folder}/src")
+        return 1e9 if function.startswith("laws::") else self.lengths.get(function, 1e9)
 
     def memory(self):
         """Returns the bytes that a check may take: for its lines, its proofs, the lines below it and the kit's libraries."""
@@ -146,21 +161,28 @@ class Crate:
             for path, text in texts.items():
                 with open(f"{room}/{path}", "w", encoding="utf-8") as file:
                     file.write(text)
+            if stated:
+                self.write(f"{room}/proofs/Taken.antt", HOLE)
+                self.write(f"{room}/proofs/Lib.antt", "mod Taken\n", "a")
             for it in stated:
                 self.leave_open(it, room)
             words = [f"{KIT}/bin/rattle", "check", *self.words(), "--jobs", "1", "--allow-holes", "--short-goals"]
             return run(words + [word for it in only for word in ("--only", it)], room, LONGEST)
 
     def leave_open(self, function, room):
-        """Puts a hole in the place of the function's proof."""
+        """Has the function's proof rest on a hole."""
         place = f"{room}/proofs/{function.replace('::', '/')}"
         for it in ("Invariants.antt", "Answers.antt"):
             if os.path.isfile(f"{place}/{it}"):
                 os.remove(f"{place}/{it}")
-        os.makedirs(place, exist_ok=True)
-        with open(f"{place}/Proof.antt", "w", encoding="utf-8") as file:
-            file.write(HOLE.format(module=f"Rattle.{self.name}.proofs.{function.replace('::', '.')}.Statement",
-                                   name=function.rpartition("::")[2]))
+        self.write(f"{place}/Proof.antt", TAKEN.format(module=f"Rattle.{self.name}.proofs.{function.replace('::', '.')}.Statement",
+                                                       crate=self.name, name=function.rpartition("::")[2]))
+
+    @staticmethod
+    def write(file, text, how="w"):
+        os.makedirs(os.path.dirname(file), exist_ok=True)
+        with open(file, how, encoding="utf-8") as it:
+            it.write(text)
 
 
 ERROR = re.compile(r"(?:\./)?(\S+?):\d+:\d+: error: (?:(`[^`]*`): )?(.*)")

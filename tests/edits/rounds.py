@@ -76,12 +76,12 @@ class Rounds:
         return texts
 
     def planned(self):
-        """Returns the edits in rounds, in each of which they change different functions and can stand beside one another. An edit
-        outside functions may spoil any, and is alone."""
+        """Returns the edits in rounds, in each of which none changes what another is to spoil and they can stand beside one another.
+        An edit outside functions may spoil any, and is alone."""
         rounds = []
         for edit in self.edits:
             for it in [] if edit.is_outside else rounds:
-                if it[0].is_outside or any(overlap(edit.touched, other.touched) for other in it):
+                if it[0].is_outside or any(overlap(edit.wanted, other.touched) or overlap(edit.touched, other.wanted) for other in it):
                     continue
                 try:
                     self.composed([*it, edit])
@@ -100,7 +100,8 @@ class Rounds:
             self.try_round(it)
 
     def try_round(self, edits):
-        witness = self.unedited(edits)[:1]
+        # (the shortest, which costs least)
+        witness = sorted(self.unedited(edits), key=self.crate.length_of)[:1]
         ran = self.check(edits, sorted(set(witness).union(*(it.wanted for it in edits))))
         told = Told(ran, self.crate.name)
         if told.ended and ran.status == 1 and not told.unread:

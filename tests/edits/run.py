@@ -25,13 +25,15 @@ TOP = os.path.dirname(os.path.dirname(HERE))
 sys.path.insert(0, HERE)
 
 import minutes
-from lanes import Task, in_lanes
+from lanes import Task, free, in_lanes, processors
 from own_test import OwnTest
 from prover import RT, Crate, Ended, Running, below, lines_in, rows_of, run
 from rounds import Killed, Rounds
 
 # rt ci has the crates' proofs and tests to go through: so many seconds at most.
 LONGEST_CI = 170 * 60
+# The most memory that a check takes, in bytes, with room to spare.
+MOST_OF_A_CHECK = 5e9
 SIGNALS = (signal.SIGTERM, signal.SIGINT, signal.SIGHUP)
 COUNTS = re.compile(r"(\d+) passed, (\d+) failed\Z")
 REFUSED = re.compile(r"rt: (\w+)(: its tests are)? NOT PROVED")
@@ -127,8 +129,11 @@ def run_ci(tree, sum_):
         lines.append(line)
         print(f"rt ci: {line}" if COUNTS.match(line) else line, flush=True)
 
+    # One job for each check: copies of a check that share its work load the libraries once more each. (rt then looks at no memory.)
+    lanes = str(max(1, min(processors(), int(free() // MOST_OF_A_CHECK))))
     with minutes.Watch(tree) as watch:
-        ran = run([RT, "ci"], tree, LONGEST_CI, tell)
+        # And all anew: nothing that an earlier run kept on this machine is taken for proved.
+        ran = run(["env", f"RT_JOBS={lanes}", RT, "ci", "--anew"], tree, LONGEST_CI, tell)
     sum_.seconds.update(watch.by_crate())
     counts = COUNTS.match(lines[-1]) if lines else None
     passed, failed = map(int, counts.groups()) if counts else (0, 0)

@@ -1,4 +1,5 @@
 """Which function a place in a .rt file lies in, by the name that the prover prints."""
+import os
 import re
 from collections import namedtuple
 
@@ -107,3 +108,17 @@ def function_at(path, text, at):
     # A type's own functions are named by its module: where that is another file, the end of the name has to do.
     is_elsewhere = it.is_of_type and not re.search(rf"\b(?:struct|enum)\s+{it.names[-2]}\b", text)
     return "::".join((*(() if is_elsewhere else module_of(path)), *it.names))
+
+
+def lengths(folder):
+    """Returns how many characters each function of the .rt files in src/ has, by the name that the prover prints."""
+    found = {}
+    for at, _, names in os.walk(folder):
+        for name in names:
+            path = f"{at}/{name}"
+            if path.endswith(".rt"):
+                with open(path, encoding="utf-8") as file:
+                    text = file.read()
+                module = module_of("src" + path[len(folder):])
+                found.update({"::".join((*module, *it.names)): it.ends - it.begins for it in functions(text)})
+    return found

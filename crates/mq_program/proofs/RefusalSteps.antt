@@ -3,10 +3,10 @@ use Rattle.std.proofs.Common.{◌≡◌, ℕ, List, Option, None, Some, Result, 
 use Rattle.std.specs.Prelude.{IfSome}
 use Rattle.std.specs.Borrow.{Bor}
 use Rattle.mq_frame.specs.Range.{IsLogin}
-use Rattle.mq_program.specs.Arguments.{Refuses}
+use Rattle.mq_program.specs.Refusals.{Refuses}
 use Rattle.mq_program.specs.Faults.{fault_status}
-use Rattle.mq_program.specs.declared.arguments.Arguments.{Arguments}
-use Rattle.mq_program.specs.declared.arguments.Arguments.TheVariants.{Replay, Filter, Server, Limit, Report, Audit}
+use Rattle.mq_arguments.specs.declared.Arguments.{Arguments}
+use Rattle.mq_arguments.specs.declared.Arguments.TheVariants.{Replay, Filter, Server, Limit, Report, Audit}
 use Rattle.mq_program.specs.declared.fault.ProgramFault.{ProgramFault}
 use Rattle.mq_program.specs.declared.fault.ProgramFault.TheVariants.{Host, Login, Address}
 

@@ -1,3 +1,3 @@
-pub mod Arguments
 pub mod Auditing
 pub mod Faults
+pub mod Refusals

@@ -4,13 +4,14 @@ ghost use Rattle.std.specs.Net.Grammar.{IsSocketText};
 ghost use Rattle.mq_frame.specs.Range.{IsDay, IsLogin};
 ghost use Rattle.mq_frame.specs.declared.message.Request.TheVariants.{Limit};
 ghost use Rattle.mq_command.specs.Asking.{IsLimit};
-ghost use Rattle.mq_program.specs.Arguments.{IsLimitArguments, IsNoAddress, LimitRefuses, ReportRefuses};
+ghost use Rattle.mq_arguments.specs.Arguments.{IsLimitArguments};
+ghost use Rattle.mq_program.specs.Refusals.{IsNoAddress, LimitRefuses, ReportRefuses};
 
-use crate::arguments::{LimitArguments, ReportArguments};
 use crate::clock::run_number;
 use crate::fault::ProgramFault;
 use log::sink::Console;
 use log::{LevelFilter, Logged};
+use mq_arguments::{LimitArguments, ReportArguments};
 use mq_command::{TRIES, run_limit, run_report};
 use mq_frame::{Host, Id, Login, Request, is_host, is_login};
 use mq_tcp::{LoggedLink, TcpLink};

@@ -7,12 +7,12 @@ ghost use Rattle.mq_store.specs.Auditing.{IsAuditIn, IsRightAnswer};
 ghost use Rattle.mq_store.specs.Soundness.{HasKept, IsSound};
 ghost use Rattle.mq_program.specs.Auditing.{Audits, PrintsSound, sound_line};
 
-use crate::arguments::AuditArguments;
 use crate::fault::ProgramFault;
 use crate::server::server_settings;
 use crate::store::file_ledger;
 use log::Logged;
 use log::sink::Console;
+use mq_arguments::AuditArguments;
 use mq_command::write_whole;
 use mq_ledger::Zone;
 use mq_settings::Place;
@@ -39,8 +39,20 @@ pub fn audit<W: Write>(
     };
     let logged = Logged::new(rt, settings.log, Console(rt));
     let zone = Zone::of_offset(settings.offset).unwrap();
-    let mut ledger = file_ledger(rt, &logged, path, false, zone, settings.default)?;
-    audit_ledger(rt.alloc(), &mut ledger, output)?;
+    let ledger = file_ledger(rt, &logged, path, false, zone, settings.default)?;
+    audit_whole(rt.alloc(), ledger, output)
+}
+
+/// Audits a ledger and lets it go; the status is 0.
+fn audit_whole<S: Alter + Drop, W: Write>(
+    alloc: Global,
+    mut ledger: SqlLedger<S>,
+    output: &mut W,
+) -> Result<u8, ProgramFault>
+    ensures status { IfOk result (λ status. status ≡ 0) }
+    ensures printed { IfOk result (λ _. PrintsSound (W.contents output.old) (W.contents output.new)) }
+{
+    audit_ledger(alloc, &mut ledger, output)?;
     Ok(0)
 }
 

@@ -2,11 +2,11 @@
 ghost use Rattle.std.specs.Prelude.{IfSome};
 ghost use Rattle.mq_frame.specs.Range.{IsRun};
 
-use crate::arguments::FilterArguments;
 use crate::clock::run_number;
 use crate::fault::{ProgramFault, logged_of};
 use log::sink::Console;
 use log::{Logged, error};
+use mq_arguments::FilterArguments;
 use mq_client::{Client, run_filter};
 use mq_frame::{FromRead, ToWrite};
 use mq_settings::{read_file, read_filter_settings};

@@ -3,7 +3,6 @@
 
 mod accept;
 mod admin;
-mod arguments;
 mod auditing;
 mod clock;
 mod fault;
@@ -17,10 +16,6 @@ mod store;
 mod subcommand;
 
 pub use admin::{limit, report};
-pub use arguments::{
-    Arguments, AuditArguments, FilterArguments, LimitArguments, ReplayArguments, ReportArguments,
-    ServerArguments,
-};
 pub use auditing::{audit, audit_ledger};
 pub use clock::run_number;
 pub use fault::{ProgramFault, or_memory};

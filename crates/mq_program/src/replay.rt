@@ -1,8 +1,8 @@
 //! `replay`: answers frames from standard input over a new ledger.
-ghost use Rattle.mq_program.specs.Arguments.{IsReplayArguments};
+ghost use Rattle.mq_arguments.specs.Arguments.{IsReplayArguments};
 
-use crate::arguments::ReplayArguments;
 use crate::fault::{ProgramFault, or_memory};
+use mq_arguments::ReplayArguments;
 use mq_command::{TEXT_LIMIT, run_replay};
 use mq_ledger::Zone;
 use std::io;

@@ -1,15 +1,15 @@
 //! `server`: serves a ledger to filters.
 ghost use Rattle.std.specs.Prelude.{◌≡◌, IfOk};
 ghost use Rattle.mq_server.specs.Delivery.{HasGrown};
-ghost use Rattle.mq_program.specs.Arguments.{AreInRange};
+ghost use Rattle.mq_program.specs.Refusals.{AreInRange};
 
-use crate::arguments::ServerArguments;
 use crate::fault::{ProgramFault, logged_of};
 use crate::room::{EVENTS, Room};
 use crate::store::{file_ledger, memory_ledger};
 use log::sink::Console;
 use log::{Log, Logged, error, info};
 use mio::Events;
+use mq_arguments::ServerArguments;
 use mq_ledger::{Ledger, Zone};
 use mq_server::laws::more_deliveries;
 use mq_settings::{Place, ServerSettings, read_file, read_server_settings};

@@ -1,15 +1,16 @@
 //! Which subcommand is run, and what is printed where it isn't done.
 ghost use Rattle.std.specs.Prelude.{◌≡◌, Err};
-ghost use Rattle.mq_program.specs.Arguments.{IsArguments, Refuses};
+ghost use Rattle.mq_arguments.specs.Arguments.{IsArguments};
 ghost use Rattle.mq_program.specs.Faults.{fault_status};
+ghost use Rattle.mq_program.specs.Refusals.{Refuses};
 
 use crate::admin::{limit, report};
-use crate::arguments::Arguments;
 use crate::auditing::audit;
 use crate::fault::ProgramFault;
 use crate::filter::filter;
 use crate::replay::replay;
 use crate::server::server;
+use mq_arguments::Arguments;
 use std::io;
 use std::io::Write;
 

@@ -1,5 +1,13 @@
-//! Tests of `mq_server`: the worked examples, and what no contract says.
+//! Tests of `mq_frame`, `mq_ledger` and `mq_server`: worked examples, and what no contract says.
 #![tactic(auto)]
 
 #[cfg(test)]
-mod tests;
+mod fails_once;
+#[cfg(test)]
+mod fixtures;
+#[cfg(test)]
+mod frame;
+#[cfg(test)]
+mod ledger;
+#[cfg(test)]
+mod server;

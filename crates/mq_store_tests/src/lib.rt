@@ -1,5 +1,10 @@
-//! Tests of `mq_store`: stores of others, and a ledger's own taken apart and opened.
+//! Tests of a ledger in the tables of a store, and of both ends over a ledger: the client, a link that
+//! loses, repeats and delays, and a ledger in a list or in tables.
 #![tactic(auto)]
 
 #[cfg(test)]
-mod tests;
+mod asks;
+#[cfg(test)]
+mod store;
+#[cfg(test)]
+mod world;

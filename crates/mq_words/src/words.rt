@@ -1,12 +1,12 @@
 //! The words of the command line.
 ghost use Rattle.std.specs.Prelude.{◌≡◌, ◌≤◌, IfOk, IfSome};
 ghost use Rattle.mq_frame.specs.Range.{IsRun, IsWithin};
-ghost use Rattle.mq_program.specs.Arguments.{IsArguments, IsReplayArguments};
+ghost use Rattle.mq_arguments.specs.Arguments.{IsArguments, IsReplayArguments};
 
 use crate::subcommands::{CommandOption, SUBCOMMANDS, Subcommand, Takes, VERSION};
 use clap::error::ErrorKind;
 use clap::{Arg, ArgAction, ArgMatches, Command, Error, value_parser};
-use mq_program::{
+use mq_arguments::{
     Arguments, AuditArguments, FilterArguments, LimitArguments, ReplayArguments, ReportArguments,
     ServerArguments,
 };

@@ -1,6 +1,6 @@
 //! The command line.
 
-use mq_program::{Arguments, ReplayArguments};
+use mq_arguments::{Arguments, ReplayArguments};
 use mq_words::{WordsFault, read_arguments};
 use std::alloc::Global;
 use std::process::Abort;

@@ -1,4 +1,4 @@
-//! What only a tracker that counted all numbers shows; mq_track_tests has the other tests.
+//! What only a tracker that counted all numbers shows; mq_filter_tests has the other tests.
 use super::*;
 use mq_line::read_line;
 use std::process::Abort;

@@ -1,0 +1,75 @@
+//! What the words of a command line ask for: what each subcommand is given.
+#![tactic(auto)]
+
+/// What `replay` is given.
+#[derive(Clone, Copy, Debug, PartialEq)]
+pub struct ReplayArguments {
+    /// The limit of a login that has none of its own, 0 to 1,000,000 recipients a day.
+    pub default: u32,
+    /// How far the ledger's days are east of UTC, in minutes: -1,439 to 1,439.
+    pub offset: i32,
+    /// Whether the ledger is tables in a store in memory, and no list.
+    pub sql: bool,
+}
+
+/// What `filter` is given.
+#[derive(Clone, Copy, Debug, PartialEq)]
+pub struct FilterArguments<'a> {
+    /// The file of settings.
+    pub config: &'a str,
+    /// The number of the run, or the clock's.
+    pub run: Option<u64>,
+}
+
+/// What `server` is given.
+#[derive(Clone, Copy, Debug, PartialEq)]
+pub struct ServerArguments<'a> {
+    /// The file of settings.
+    pub config: &'a str,
+    /// Whether a new ledger is made in the database file of the settings.
+    pub create: bool,
+    /// How many connections are served, 1 to 1,000,000.
+    pub connections: u32,
+}
+
+/// What `audit` is given.
+#[derive(Clone, Copy, Debug, PartialEq)]
+pub struct AuditArguments<'a> {
+    /// The file of the server's settings.
+    pub config: &'a str,
+}
+
+/// What `limit` is given.
+#[derive(Clone, Copy, Debug, PartialEq)]
+pub struct LimitArguments<'a> {
+    pub server: &'a str,
+    pub host: &'a str,
+    pub login: &'a str,
+    /// The day number from which on the limit governs, 0 to 376,200.
+    pub from: u32,
+    /// Recipients a day, 0 to 1,000,000.
+    pub cap: u32,
+    /// The number of the run, or the clock's.
+    pub run: Option<u64>,
+}
+
+/// What `report` is given.
+#[derive(Clone, Copy, Debug, PartialEq)]
+pub struct ReportArguments<'a> {
+    pub server: &'a str,
+    /// The day number that is reported, 0 to 376,200.
+    pub day: u32,
+    /// The one login that is reported, or all.
+    pub login: Option<&'a str>,
+}
+
+/// What the words ask for.
+#[derive(Clone, Copy, Debug, PartialEq)]
+pub enum Arguments<'a> {
+    Replay(ReplayArguments),
+    Filter(FilterArguments<'a>),
+    Server(ServerArguments<'a>),
+    Limit(LimitArguments<'a>),
+    Report(ReportArguments<'a>),
+    Audit(AuditArguments<'a>),
+}

@@ -1,0 +1,6 @@
+//! The lines between smtpd and a filter.
+
+mod faults;
+mod feed;
+mod lines;
+mod results;

@@ -1,0 +1,39 @@
+-- What is refused of the words of a command line and of a server's settings.
+use Rattle.std.specs.Prelude.{ℕ, List, ◌≤◌, ◌≤ℤ◌, pos, negsuc, IfSome, ⊤}
+use Rattle.std.specs.Net.Grammar.{IsSocketText}
+use Rattle.std.specs.declared.net.SocketAddr.{SocketAddr}
+use Rattle.mq_frame.specs.Range.{IsHost, IsLogin, IsAmount}
+use Rattle.mq_arguments.specs.declared.LimitArguments.{LimitArguments}
+use Rattle.mq_arguments.specs.declared.ReportArguments.{ReportArguments}
+use Rattle.mq_arguments.specs.declared.Arguments.{Arguments}
+use Rattle.mq_arguments.specs.declared.Arguments.TheVariants.{Limit, Report}
+use Rattle.mq_program.specs.declared.fault.ProgramFault.{ProgramFault}
+use Rattle.mq_program.specs.declared.fault.ProgramFault.TheVariants.{Host, Login, Address}
+use Rattle.mq_settings.specs.declared.settings.ServerSettings.{ServerSettings}
+
+-- a limit of 0 to 1,000,000 and an offset of -1,439 to 1,439 minutes, from a file of settings
+pub record AreInRange (settings : ServerSettings) : Type 0 where
+  pub default : IsAmount settings.default
+  pub west : negsuc 1438 ≤ℤ settings.offset
+  pub east : settings.offset ≤ℤ pos 1439
+
+-- the text spells no numeric address and port
+abbrev pub IsNoAddress : List ℕ → Type 0
+IsNoAddress text = (address : SocketAddr) → ¬ IsSocketText text address
+
+-- how `limit` ends where a word of it is at fault: the host goes first, then the login, then the address
+pub record LimitRefuses (given : LimitArguments) (EndsBy : ProgramFault → Type 0) : Type 0 where
+  pub host : ¬ IsHost given.host.now → EndsBy Host
+  pub login : IsHost given.host.now → ¬ IsLogin given.login.now → EndsBy Login
+  pub address : IsHost given.host.now → IsLogin given.login.now → IsNoAddress given.server.now → EndsBy Address
+
+-- how `report` ends where a word of it is at fault: the login goes before the address
+pub record ReportRefuses (given : ReportArguments) (EndsBy : ProgramFault → Type 0) : Type 0 where
+  pub login : IfSome given.login (λ login. ¬ IsLogin login.now → EndsBy Login)
+  pub address : IfSome given.login (λ login. IsLogin login.now) → IsNoAddress given.server.now → EndsBy Address
+
+-- how a subcommand ends where a word of it is at fault
+abbrev pub Refuses : Arguments → (ProgramFault → Type 0) → Type 0
+Refuses (Limit given) EndsBy = LimitRefuses given EndsBy
+Refuses (Report given) EndsBy = ReportRefuses given EndsBy
+Refuses _ EndsBy = ⊤

@@ -1,0 +1,172 @@
+//! Sources and sinks over readers and writers that fail in mid-stream.
+
+use mq_frame::{Failed, FromRead, Sink, Source, ToWrite, write_and_flush};
+use std::io;
+use std::io::{ErrorKind, Read, Write};
+use std::process::Abort;
+use std::test::Fail;
+
+/// A reader of these calls, the last of them first.
+#[derive(Drop)]
+struct Script {
+    calls: Vec<Result<u8, ErrorKind>>,
+}
+
+impl Read for Script {
+    fn read(&mut self, buf: &mut [u8]) -> io::Result<usize> {
+        match self.calls.pop() {
+            Some(Ok(byte)) if !buf.is_empty() => {
+                buf[0] = byte;
+                Ok(1)
+            }
+            Some(Err(kind)) => Err(io::Error::from(kind)),
+            _ => Ok(0),
+        }
+    }
+}
+
+/// Reads into the piece once for each row: what is answered, and the bytes in front of the piece.
+/// Without clauses, so that its callers stay cheap to prove.
+fn check_reads<S: Source>(
+    rt: &impl Abort,
+    source: &mut S,
+    piece: &mut [u8],
+    rows: &[(Result<usize, Failed>, &[u8])],
+) {
+    for (answer, front) in rows {
+        assert_eq!(rt; source.read(piece), *answer);
+        assert!(rt; piece.starts_with(*front), "{front:?} in front");
+    }
+}
+
+/// A read that a signal interrupted is made again; a failed one is the last.
+#[test]
+fn reads_again_after_a_signal(rt: HostRuntime) -> Result<(), Fail> {
+    let calls = vec![in rt.alloc();
+        Ok(9),
+        Err(ErrorKind::BrokenPipe),
+        Ok(8),
+        Err(ErrorKind::Interrupted),
+        Err(ErrorKind::Interrupted),
+        Ok(7),
+    ]?;
+    let mut source = FromRead::new(Script { calls });
+    let rows: [(Result<usize, Failed>, &[u8]); 4] = [
+        (Ok(1), &[7]),
+        (Ok(1), &[8]),
+        (Err(Failed), &[]),
+        (Err(Failed), &[]),
+    ];
+    check_reads(&rt, &mut source, &mut [0; 4], &rows);
+    assert_eq!(rt; source.into_inner().calls.len(), 1);
+    Ok(())
+}
+
+#[test]
+fn reads_a_slice_to_its_end(rt: HostRuntime) {
+    let bytes: &[u8] = &[1, 2, 3];
+    let mut source = FromRead::new(bytes);
+    let rows: [(Result<usize, Failed>, &[u8]); 3] = [(Ok(2), &[1, 2]), (Ok(1), &[3]), (Ok(0), &[])];
+    check_reads(&rt, &mut source, &mut [0; 2], &rows);
+    assert_eq!(rt; source.into_inner().len(), 0);
+}
+
+/// A writer that takes so many bytes, two a call, and then nothing; its flush fails where it is told to.
+#[derive(Drop)]
+struct Short {
+    left: usize,
+    breaks: bool,
+}
+
+impl Write for Short {
+    fn write(&mut self, buf: &[u8]) -> io::Result<usize> {
+        let count = buf.len().min(self.left).min(2);
+        self.left -= count;
+        Ok(count)
+    }
+
+    fn flush(&mut self) -> io::Result<()> {
+        if self.breaks {
+            Err(io::Error::from(ErrorKind::BrokenPipe))
+        } else {
+            Ok(())
+        }
+    }
+}
+
+/// A call of a sink and what it answers.
+#[derive(Clone, Copy)]
+enum Call<'a> {
+    Write(&'a [u8], Result<usize, Failed>),
+    Flush(Result<(), Failed>),
+}
+
+/// Makes the calls in turn. Without clauses, so that its callers stay cheap to prove.
+fn check_calls<S: Sink>(rt: &impl Abort, sink: &mut S, calls: &[Call<'_>]) {
+    for call in calls {
+        match *call {
+            Call::Write(piece, answer) => assert_eq!(rt; sink.write(piece), answer),
+            Call::Flush(answer) => assert_eq!(rt; sink.flush(), answer),
+        }
+    }
+}
+
+/// A write that takes nothing of something is a failure, and the last call that may succeed.
+#[test]
+fn write_of_nothing_fails(rt: HostRuntime) {
+    let mut sink = ToWrite::new(Short {
+        left: 3,
+        breaks: false,
+    });
+    let calls = [
+        Call::Write(&[1, 2], Ok(2)),
+        Call::Write(&[], Ok(0)),
+        Call::Flush(Ok(())),
+        Call::Write(&[3, 4], Ok(1)),
+        Call::Write(&[4], Err(Failed)),
+        Call::Write(&[], Err(Failed)),
+        Call::Flush(Err(Failed)),
+    ];
+    check_calls(&rt, &mut sink, &calls);
+    assert_eq!(rt; sink.into_inner().left, 0);
+}
+
+#[test]
+fn failed_flush_is_the_last(rt: HostRuntime) {
+    let mut sink = ToWrite::new(Short {
+        left: 3,
+        breaks: true,
+    });
+    let calls = [Call::Flush(Err(Failed)), Call::Write(&[1], Err(Failed))];
+    check_calls(&rt, &mut sink, &calls);
+}
+
+#[test]
+fn writes_to_memory(rt: HostRuntime) {
+    let mut sink = ToWrite::new(Vec::new(rt.alloc()));
+    let calls = [Call::Write(&[1, 2], Ok(2)), Call::Flush(Ok(()))];
+    check_calls(&rt, &mut sink, &calls);
+    assert_eq!(rt; sink.into_inner().as_slice(), [1, 2].as_slice());
+}
+
+/// Without clauses, so that its callers stay cheap to prove.
+fn sent<S: Sink>(sink: &mut S, bytes: &[u8]) -> Result<(), Failed> {
+    write_and_flush(sink, bytes)
+}
+
+/// All bytes are written in as many writes as it takes, and flushed; or as many as the device takes.
+#[test]
+fn all_bytes_are_written(rt: HostRuntime) {
+    let mut sink = ToWrite::new(Vec::new(rt.alloc()));
+    assert_eq!(rt; sent(&mut sink, &[1, 2, 3]), Ok(()));
+    assert_eq!(rt; sink.into_inner().as_slice(), [1, 2, 3].as_slice());
+    for (left, breaks, answer) in [
+        (4, false, Ok(())),
+        (3, true, Err(Failed)),
+        (2, false, Err(Failed)),
+    ] {
+        let mut sink = ToWrite::new(Short { left, breaks });
+        assert_eq!(rt; sent(&mut sink, &[1, 2, 3]), answer);
+        assert_eq!(rt; sink.into_inner().left, left.saturating_sub(3));
+    }
+}

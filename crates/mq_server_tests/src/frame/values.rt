@@ -1,0 +1,105 @@
+//! The values of the link: their parts, their ranges, and how they are printed.
+
+use crate::fixtures::{check_text, id, login, page};
+use mq_frame::{
+    DecodeFault, Escaped, Host, Login, Memory, Reply, Request, Text, is_reply, is_request,
+};
+use std::process::Abort;
+use std::test::Fail;
+
+/// The name has these bytes, and gives them back.
+fn check_bytes<K: Drop>(rt: &impl Abort, name: Text<K>, bytes: &[u8]) {
+    assert!(rt; name.as_slice() == bytes);
+    assert!(rt; name.into_bytes().as_slice() == bytes);
+}
+
+#[test]
+fn names_keep_their_bytes(rt: HostRuntime) -> Result<(), Fail> {
+    let host = Host::new(Vec::from_slice(rt.alloc(), b"mx1")?);
+    check_bytes(&rt, host, b"mx1");
+    let login = Login::new(Vec::from_slice(rt.alloc(), b"alice")?);
+    check_bytes(&rt, login, b"alice");
+    Ok(())
+}
+
+#[test]
+fn pages_keep_their_rows(rt: HostRuntime) -> Result<(), Fail> {
+    let rows = page(rt.alloc(), 2)?;
+    assert!(rt; rows.as_slice().len() == 2);
+    assert!(rt; rows.into_rows().len() == 2);
+    Ok(())
+}
+
+#[test]
+fn numbers_compare_by_their_parts(rt: HostRuntime) -> Result<(), Fail> {
+    let number = id(rt.alloc(), b"mx1", 4)?;
+    assert!(rt; number.is_same(&number.clone()?));
+    assert!(rt; !number.is_same(&id(rt.alloc(), b"mx2", 4)?));
+    Ok(())
+}
+
+#[test]
+fn requests_compare_by_their_parts(rt: HostRuntime) -> Result<(), Fail> {
+    let request = Request::Release {
+        id: id(rt.alloc(), b"mx1", 4)?,
+        txn: 1,
+        at: 86_400,
+        login: login(rt.alloc(), b"alice")?,
+    };
+    assert!(rt; request.is_same(&request.clone()?));
+    let other = Request::Usage {
+        login: login(rt.alloc(), b"alice")?,
+        day: 1,
+    };
+    assert!(rt; !request.is_same(&other));
+    Ok(())
+}
+
+fn has_reply_frame(reply: Reply) -> bool {
+    is_reply(&reply)
+}
+
+fn has_request_frame(request: Request) -> bool {
+    is_request(&request)
+}
+
+/// A page of 101 rows has no frame.
+#[test]
+fn pages_out_of_range(rt: HostRuntime) -> Result<(), Fail> {
+    for (count, is_in_range) in [(100, true), (101, false)] {
+        let rows = page(rt.alloc(), count)?;
+        let found = has_reply_frame(Reply::List { day: 1, rows });
+        assert!(rt; found == is_in_range, "{count} rows");
+    }
+    Ok(())
+}
+
+/// A host with an underscore and a login without a byte have no frame.
+#[test]
+fn names_out_of_range(rt: HostRuntime) -> Result<(), Fail> {
+    let id = id(rt.alloc(), b"a_b", 1)?;
+    assert!(rt; !has_reply_frame(Reply::LimitSet { id }));
+    let login = login(rt.alloc(), b"")?;
+    assert!(rt; !has_request_frame(Request::Usage { login, day: 1 }));
+    Ok(())
+}
+
+#[test]
+fn text_of_faults(rt: HostRuntime) -> Result<(), Fail> {
+    check_text(&rt, rt.alloc(), Memory, "out of memory")?;
+    check_text(&rt, rt.alloc(), DecodeFault::Memory, "out of memory")
+}
+
+#[test]
+fn bytes_that_others_chose(rt: HostRuntime) -> Result<(), Fail> {
+    let rows: [(&[u8], &str); 4] = [
+        (b"mx1.example-2", "mx1.example-2"),
+        (b"a b\\", "a\\x20b\\x5c"),
+        (b"\x20\x21\x7e\x7f", "\\x20!~\\x7f"),
+        (b"\x00\xff|\n", "\\x00\\xff|\\x0a"),
+    ];
+    for (bytes, text) in rows {
+        check_text(&rt, rt.alloc(), Escaped(bytes), text)?;
+    }
+    Ok(())
+}

@@ -1,0 +1,184 @@
+//! A link that loses, repeats, delays and mixes up, by a pseudo-random generator.
+
+use super::scripted::answer;
+use super::usage::{deliver, usage_of};
+use mq_client::{Link, LinkFault};
+use mq_frame::{Request, encode_request, is_request};
+use mq_ledger::Ledger;
+use rand_core::utils::NextWord;
+use rand_pcg::Pcg32;
+use std::alloc::Global;
+use std::test::*;
+
+/// Pseudo-random numbers: a seed gives the same ones each time.
+#[derive(Drop)]
+pub struct Dice {
+    words: Pcg32,
+}
+
+impl Dice {
+    pub fn new(seed: u64) -> Dice {
+        Dice {
+            words: Pcg32::new(seed, 54),
+        }
+    }
+
+    /// A number below that one, or 0.
+    pub fn below(&mut self, sides: u32) -> u32 {
+        self.words.next_word().checked_rem(sides).unwrap_or(0)
+    }
+
+    /// A number from 1 to that one.
+    pub fn from_one(&mut self, most: u32) -> u32 {
+        self.below(most).saturating_add(1)
+    }
+
+    /// A place in a list of that length, or 0.
+    pub fn place(&mut self, length: usize) -> usize {
+        let word = self.words.next_word() as usize;
+        word.checked_rem(length).unwrap_or(0)
+    }
+
+    /// The same, mostly one of its last eight.
+    fn late_place(&mut self, length: usize) -> usize {
+        let reach = if self.below(3) == 0 {
+            length
+        } else {
+            length.min(8)
+        };
+        let back = self.place(reach);
+        length.saturating_sub(1).saturating_sub(back)
+    }
+}
+
+/// The logins that recipients are asked for.
+pub const LOGINS: [&[u8]; 2] = [b"alice", b"bob"];
+
+/// The days of their transactions.
+pub const DAYS: [u32; 2] = [1, 2];
+
+/// A link to a ledger, with every frame that was ever sent and every reply body that was ever written.
+#[derive(Drop)]
+pub struct Lossy<L> {
+    alloc: Global,
+    pub ledger: L,
+    pub dice: Dice,
+    sent: Vec<Vec<u8>>,
+    written: Vec<Vec<u8>>,
+    /// How many recipients of live and committed transactions were let through, for each login and day.
+    pub let_through: [u32; 4],
+    /// How many frames came to the ledger.
+    pub arrivals: u64,
+    /// At some moment more was let through than was settled and reserved, or this was above a limit.
+    pub passed: bool,
+    /// A frame had no reply, or there was no memory.
+    pub failed: bool,
+}
+
+impl<L: Ledger + Drop> Lossy<L> {
+    pub fn new(alloc: Global, ledger: L, seed: u64) -> Lossy<L> {
+        Lossy {
+            alloc,
+            ledger,
+            dice: Dice::new(seed),
+            sent: Vec::new(alloc),
+            written: Vec::new(alloc),
+            let_through: [0; 4],
+            arrivals: 0,
+            passed: false,
+            failed: false,
+        }
+    }
+
+    /// Whether what was let through is settled or reserved, and this is within the limit, for each login
+    /// and day.
+    fn is_covered(&mut self) -> bool {
+        for (place, let_through) in self.let_through.iter().enumerate() {
+            let login = LOGINS[place / 2 % 2];
+            let used = usage_of(self.alloc, &mut self.ledger, login, DAYS[place % 2]);
+            match used {
+                Some(used) if used.covers(*let_through) => {}
+                _ => return false,
+            }
+        }
+        true
+    }
+
+    /// A frame comes to the ledger, and its reply is written.
+    fn take(&mut self, frame: &[u8]) -> Option<Vec<u8>> {
+        self.arrivals = self.arrivals.saturating_add(1);
+        let Some(body) = deliver(self.alloc, &mut self.ledger, frame) else {
+            self.failed = true;
+            return None;
+        };
+        self.passed |= !self.is_covered();
+        let copied = Vec::from_slice(self.alloc, body.as_slice());
+        self.failed |= keep(&mut self.written, copied.ok());
+        Some(body)
+    }
+
+    /// A frame is on its way from now on.
+    pub fn send(&mut self, frame: &[u8]) {
+        let copied = Vec::from_slice(self.alloc, frame);
+        self.failed |= keep(&mut self.sent, copied.ok());
+    }
+
+    /// Anyone else sends a request.
+    pub fn send_request(&mut self, request: &Request) -> Result<(), Fail> {
+        let mut frame = Vec::new(self.alloc);
+        if !is_request(request) {
+            return Err("out of range".into());
+        }
+        encode_request(self.alloc, request, &mut frame)?;
+        self.send(frame.as_slice());
+        Ok(())
+    }
+
+    /// A frame that was sent some time comes to the ledger.
+    pub fn take_one(&mut self) {
+        let place = self.dice.late_place(self.sent.len());
+        let Some(frame) = self.sent.get(place) else {
+            return;
+        };
+        if let Ok(copy) = Vec::from_slice(self.alloc, frame.as_slice()) {
+            let _ = self.take(copy.as_slice());
+        }
+    }
+
+    /// A reply that was written some time, to anyone.
+    fn old_reply(&mut self) -> Option<Vec<u8>> {
+        let place = self.dice.late_place(self.written.len());
+        Vec::from_slice(self.alloc, self.written.get(place)?.as_slice()).ok()
+    }
+}
+
+/// Puts bytes behind a list, and answers whether that failed.
+fn keep(list: &mut Vec<Vec<u8>>, bytes: Option<Vec<u8>>) -> bool {
+    match bytes {
+        Some(bytes) => list.push(bytes).is_err(),
+        None => true,
+    }
+}
+
+impl<L: Ledger + Drop> Link for Lossy<L> {
+    fn exchange(&mut self, frame: &[u8], reply: &mut Vec<u8>) -> Result<(), LinkFault> {
+        reply.clear();
+        self.send(frame);
+        for _ in 0..self.dice.below(3) {
+            self.take_one();
+        }
+        match self.dice.below(20) {
+            // The frame is lost for now, and then its reply.
+            0..=2 => Err(LinkFault::TimedOut),
+            3..=6 => {
+                let _ = self.take(frame);
+                Err(LinkFault::Down)
+            }
+            // Retry, Bad, and a reply to anyone.
+            7 => answer(Vec::from_slice(self.alloc, &[0x8d]).ok(), reply),
+            8 => answer(Vec::from_slice(self.alloc, &[0x8e]).ok(), reply),
+            9..=11 => answer(self.old_reply(), reply),
+            _ => answer(self.take(frame), reply),
+        }
+    }
+}

@@ -1,0 +1,320 @@
+//! Random schedules of several hosts over one ledger, from fixed seeds.
+
+use super::lossy::{DAYS, Dice, LOGINS, Lossy};
+use super::scripted::client_of;
+use super::usage::{assert_covers, usage_of};
+use crate::asks::{plain, tables};
+use log::sink::Discard;
+use mq_client::{Asked, Client, Memory};
+use mq_frame::{Host, Id, Login, Request, is_login, is_moment};
+use mq_ledger::Ledger;
+use mq_track::{CloseEnd, Closing};
+use std::alloc::Global;
+use std::process::Abort;
+use std::test::*;
+
+/// The hosts with a filter.
+const HOSTS: [&[u8]; 4] = [b"mx1", b"mx2", b"mx3", b"mx4"];
+
+/// The first and the last second of two days.
+const MOMENTS: [u64; 4] = [86_400, 172_799, 172_800, 259_199];
+
+/// How many steps a schedule has.
+const STEPS: u32 = 60;
+
+/// A transaction of a run that isn't closed.
+#[derive(Clone, Copy)]
+struct Open {
+    txn: u32,
+    login: u32,
+    moment: u32,
+    let_through: u32,
+}
+
+impl Open {
+    /// The place of its login and day among the sums.
+    fn place(&self) -> usize {
+        (self.login % 2 * 2 + self.moment / 2 % 2) as usize
+    }
+}
+
+/// A host with a run of its filter.
+#[derive(Drop)]
+struct Sender {
+    name: &'static [u8],
+    run: u64,
+    client: Client,
+    begun: u32,
+    open: Vec<Open>,
+}
+
+/// One more of a login and day was let through.
+fn add(sums: &mut [u32; 4], place: usize) {
+    if let Some(count) = sums.get_mut(place) {
+        *count = count.saturating_add(1);
+    }
+}
+
+/// So many of them were dropped.
+fn subtract(sums: &mut [u32; 4], place: usize, dropped: u32) {
+    if let Some(count) = sums.get_mut(place) {
+        *count = count.saturating_sub(dropped);
+    }
+}
+
+/// Asks for a recipient of the transaction, where it is in range.
+fn reserve<L: Ledger + Drop>(
+    link: &mut Lossy<L>,
+    client: &mut Client,
+    open: &Open,
+) -> Result<Asked, Memory> {
+    let login = LOGINS[(open.login % 2) as usize];
+    let at = MOMENTS[(open.moment % 4) as usize];
+    if open.txn < 1 || !is_login(login) || !is_moment(at) {
+        return Ok(Asked::Unavailable);
+    }
+    client.reserve(&Discard, link, open.txn, at, login)
+}
+
+impl Sender {
+    fn new(alloc: Global, name: &'static [u8]) -> Result<Sender, Fail> {
+        Ok(Sender {
+            name,
+            run: 1,
+            client: client_of(alloc, name, 1, 2)?,
+            begun: 0,
+            open: Vec::new(alloc),
+        })
+    }
+
+    /// A transaction begins.
+    fn begin<L: Ledger + Drop>(&mut self, link: &mut Lossy<L>) -> Result<(), Fail> {
+        self.begun = self.begun.saturating_add(1);
+        self.open.push(Open {
+            txn: self.begun,
+            login: link.dice.below(2),
+            moment: link.dice.below(4),
+            let_through: 0,
+        })?;
+        Ok(())
+    }
+
+    /// A recipient of an open transaction is asked for. Where none is open, one begins.
+    fn ask<L: Ledger + Drop>(&mut self, link: &mut Lossy<L>) -> Result<(), Fail> {
+        if self.open.is_empty() {
+            self.begin(link)?;
+        }
+        let place = link.dice.place(self.open.len());
+        let Some(open) = self.open.get_mut(place) else {
+            return Ok(());
+        };
+        if reserve(link, &mut self.client, open)? == Asked::Granted {
+            open.let_through = open.let_through.saturating_add(1);
+            add(&mut link.let_through, open.place());
+        }
+        Ok(())
+    }
+
+    /// An open transaction ends.
+    fn close<L: Ledger + Drop>(&mut self, link: &mut Lossy<L>) -> Result<(), Fail> {
+        let place = link.dice.place(self.open.len());
+        if self.open.len() <= place {
+            return Ok(());
+        }
+        let open = self.open.swap_remove(place);
+        let end = if link.dice.below(3) == 0 {
+            subtract(&mut link.let_through, open.place(), open.let_through);
+            CloseEnd::Drop
+        } else {
+            CloseEnd::Commit
+        };
+        let closing = Closing { txn: open.txn, end };
+        self.client.close(&Discard, link, closing)?;
+        Ok(())
+    }
+
+    /// The run stops, and another begins.
+    fn restart(&mut self, alloc: Global, tries: u32) -> Result<(), Fail> {
+        self.run = self.run.saturating_add(1);
+        self.client = client_of(alloc, self.name, self.run, tries)?;
+        self.begun = 0;
+        self.open.clear();
+        Ok(())
+    }
+}
+
+/// A host without a filter.
+const OTHER: &[u8] = b"other";
+
+/// The number of a request of someone who isn't a filter, over few.
+fn id_of_others(alloc: Global, dice: &mut Dice) -> Result<Id, Fail> {
+    let host = Host::from_slice(alloc, OTHER)?;
+    Ok(Id {
+        host,
+        run: 1,
+        seq: dice.from_one(30),
+    })
+}
+
+/// One of the logins.
+fn login_of_others(alloc: Global, dice: &mut Dice) -> Result<Login, Fail> {
+    let place = dice.below(2) % 2;
+    Ok(Login::from_slice(alloc, LOGINS[place as usize])?)
+}
+
+/// A request of someone who isn't a filter, over few numbers and transactions.
+fn request_of_others(alloc: Global, dice: &mut Dice) -> Result<Request, Fail> {
+    let id = id_of_others(alloc, dice)?;
+    let login = login_of_others(alloc, dice)?;
+    Ok(any_request(dice, id, login))
+}
+
+/// A request of any kind that has a number.
+fn any_request(dice: &mut Dice, id: Id, login: Login) -> Request {
+    let at = MOMENTS[(dice.below(4) % 4) as usize];
+    let txn = dice.from_one(5);
+    let count = dice.from_one(2);
+    match dice.below(6) {
+        0 => Request::Limit {
+            id,
+            from_day: dice.from_one(2),
+            cap: dice.below(9),
+            login,
+        },
+        1 => Request::Release { id, txn, at, login },
+        2 => Request::Settle {
+            id,
+            txn,
+            at,
+            login,
+            count,
+        },
+        _ => Request::Reserve {
+            id,
+            txn,
+            at,
+            login,
+            count,
+        },
+    }
+}
+
+/// One step of a schedule.
+fn step<L: Ledger + Drop>(
+    alloc: Global,
+    link: &mut Lossy<L>,
+    senders: &mut [Sender],
+) -> Result<(), Fail> {
+    let place = link.dice.place(senders.len());
+    let Some(sender) = senders.get_mut(place) else {
+        return Ok(());
+    };
+    match link.dice.below(40) {
+        0..=5 => sender.begin(link),
+        6..=23 => sender.ask(link),
+        24..=30 => sender.close(link),
+        31 => {
+            let _ = sender.client.drain(&Discard, link);
+            Ok(())
+        }
+        32 => {
+            let tries = link.dice.from_one(3);
+            sender.restart(alloc, tries)
+        }
+        33..=36 => {
+            link.take_one();
+            Ok(())
+        }
+        _ => {
+            let request = request_of_others(alloc, &mut link.dice)?;
+            link.send_request(&request)
+        }
+    }
+}
+
+/// Asserts of each login and day that what was let through is settled or reserved, and within the
+/// limit.
+fn assert_state<L: Ledger + Drop>(rt: &impl Abort, alloc: Global, link: &mut Lossy<L>) {
+    for (place, let_through) in link.let_through.iter().enumerate() {
+        let login = LOGINS[place / 2 % 2];
+        let day = DAYS[place % 2];
+        let used = usage_of(alloc, &mut link.ledger, login, day);
+        assert_covers(rt, used, *let_through);
+    }
+    assert!(rt; !link.passed);
+    assert!(rt; !link.failed);
+}
+
+/// What came of some schedules.
+#[derive(Clone, Copy, Debug, PartialEq)]
+struct Tally {
+    steps: u64,
+    arrivals: u64,
+    let_through: u64,
+}
+
+/// A schedule of two to four hosts over a new ledger, with a check behind each step.
+fn assert_schedule<L: Ledger + Drop>(
+    rt: &impl Abort,
+    alloc: Global,
+    ledger: L,
+    seed: u64,
+    tally: &mut Tally,
+) -> Result<(), Fail> {
+    let mut link = Lossy::new(alloc, ledger, seed);
+    let mut senders = Vec::new(alloc);
+    let count = 2 + (seed % 3) as usize;
+    for name in HOSTS.iter().take(count) {
+        senders.push(Sender::new(alloc, name)?)?;
+    }
+    for _ in 0..STEPS {
+        step(alloc, &mut link, senders.as_mut_slice())?;
+        assert_state(rt, alloc, &mut link);
+        tally.steps = tally.steps.saturating_add(1);
+    }
+    tally.arrivals = tally.arrivals.saturating_add(link.arrivals);
+    for count in link.let_through {
+        tally.let_through = tally.let_through.saturating_add(count as u64);
+    }
+    Ok(())
+}
+
+impl Tally {
+    fn new() -> Tally {
+        Tally {
+            steps: 0,
+            arrivals: 0,
+            let_through: 0,
+        }
+    }
+}
+
+#[test]
+fn schedules_over_a_list(rt: HostRuntime) -> Result<(), Fail> {
+    let mut tally = Tally::new();
+    for seed in 0..20_000u64 {
+        assert_schedule(&rt, rt.alloc(), plain(rt.alloc(), 4)?, seed, &mut tally)?;
+    }
+    println!(rt; "20,000 schedules over a list: {tally:?}")?;
+    Ok(())
+}
+
+/// Over tables each schedule goes as it goes over a list.
+#[test]
+fn schedules_over_tables(rt: HostRuntime) -> Result<(), Fail> {
+    let mut over_list = Tally::new();
+    let mut over_tables = Tally::new();
+    for seed in 100_000..102_000u64 {
+        assert_schedule(&rt, rt.alloc(), plain(rt.alloc(), 4)?, seed, &mut over_list)?;
+        assert_schedule(
+            &rt,
+            rt.alloc(),
+            tables(rt.alloc(), 4)?,
+            seed,
+            &mut over_tables,
+        )?;
+        assert_eq!(rt; over_tables, over_list, "at {seed}");
+    }
+    println!(rt; "2,000 schedules over tables: {over_tables:?}")?;
+    Ok(())
+}

@@ -1,0 +1,76 @@
+//! Frames that come to a ledger, and what it says that a login has used.
+
+use crate::asks::ask;
+use mq_frame::{Login, Reply, Request, decode_request, encode_reply, is_reply};
+use mq_ledger::Ledger;
+use std::alloc::Global;
+use std::process::Abort;
+use std::test::*;
+
+/// Hands a frame to a ledger. The body of its reply; none where there is a fault.
+pub fn deliver<L: Ledger>(alloc: Global, ledger: &mut L, frame: &[u8]) -> Option<Vec<u8>> {
+    let body = frame.get(2..)?;
+    let request = decode_request(alloc, body).ok()?;
+    let reply = ask(ledger, &request).ok()?;
+    body_of(alloc, &reply)
+}
+
+/// The body of a reply.
+fn body_of(alloc: Global, reply: &Reply) -> Option<Vec<u8>> {
+    let mut frame = Vec::new(alloc);
+    if !is_reply(reply) {
+        return None;
+    }
+    encode_reply(alloc, reply, &mut frame).ok()?;
+    Vec::from_slice(alloc, frame.get(2..)?).ok()
+}
+
+/// What a login has settled and reserved on a day, and its limit.
+#[derive(Clone, Copy, Debug, PartialEq)]
+pub struct Used {
+    pub settled: u32,
+    pub reserved: u32,
+    pub cap: u32,
+}
+
+impl Used {
+    /// Whether what was let through is settled or reserved, and this is within the limit.
+    pub fn covers(self, let_through: u32) -> bool {
+        let taken = self.settled as u64 + self.reserved as u64;
+        let_through as u64 <= taken && taken <= self.cap as u64
+    }
+}
+
+/// What a reply says that a login has used.
+fn used_by(reply: &Reply) -> Option<Used> {
+    let Reply::Usage {
+        settled,
+        reserved,
+        cap,
+        ..
+    } = reply
+    else {
+        return None;
+    };
+    Some(Used {
+        settled: *settled,
+        reserved: *reserved,
+        cap: *cap,
+    })
+}
+
+/// What a ledger says that a login has used on a day; nothing where there is a fault.
+pub fn usage_of<L: Ledger>(alloc: Global, ledger: &mut L, login: &[u8], day: u32) -> Option<Used> {
+    let login = Login::from_slice(alloc, login).ok()?;
+    let reply = ask(ledger, &Request::Usage { login, day }).ok()?;
+    used_by(&reply)
+}
+
+/// Asserts that what was let through is settled or reserved, and that this is within the limit.
+pub fn assert_covers(rt: &impl Abort, used: Option<Used>, let_through: u32) {
+    let is_covered = match used {
+        Some(used) => used.covers(let_through),
+        None => false,
+    };
+    assert!(rt; is_covered, "{let_through} let through, {used:?}");
+}
