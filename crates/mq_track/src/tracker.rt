@@ -42,17 +42,10 @@ impl Tracker {
     pub fn new(alloc: Global) -> Tracker
         ensures { TracksAt result [] }
     {
-        Tracker::counting_from(alloc, 0)
-    }
-
-    /// A tracker that knows no session, and that counted so many transactions.
-    fn counting_from(alloc: Global, begins: u32) -> Tracker
-        ensures { result ≡ record { sessions = []; begins = begins } }
-    {
         Tracker {
             alloc,
             sessions: Sessions::new(alloc),
-            begins,
+            begins: 0,
         }
     }
 
@@ -188,6 +181,3 @@ impl Tracker {
         closing
     }
 }
-
-#[cfg(test)]
-mod tests;
