@@ -2,17 +2,22 @@
 
 use mq_arguments::{Arguments, ReplayArguments};
 use mq_words::{WordsFault, read_arguments};
-use std::alloc::Global;
+use std::alloc::{AllocError, Global};
 use std::process::Abort;
 use std::test::Fail;
 
-/// What is shown for words of a command line, and its status.
-fn shown(alloc: Global, words: &[&str]) -> Result<(String, u8), Fail> {
+/// The words of a command line as a process has them.
+fn strings(alloc: Global, words: &[&str]) -> Result<Vec<String>, AllocError> {
     let mut given = Vec::new(alloc);
     for word in words {
         given.push(String::from_str(alloc, word)?)?;
     }
-    match read_arguments(alloc, given.as_slice()) {
+    Ok(given)
+}
+
+/// What is shown for words of a command line, and its status.
+fn shown(alloc: Global, words: &[String]) -> Result<(String, u8), Fail> {
+    match read_arguments(alloc, words) {
         Ok(arguments) => Ok((format!(in alloc; "{arguments:?}")?, 0)),
         Err(WordsFault::Words(error)) => {
             let status = if error.use_stderr() { 2 } else { 0 };
@@ -29,7 +34,7 @@ fn assert_shown<R: AllocGlobal + Abort>(
     status: u8,
     text: &str,
 ) -> Result<(), Fail> {
-    let found = shown(rt.alloc(), words)?;
+    let found = shown(rt.alloc(), strings(rt.alloc(), words)?.as_slice())?;
     assert_eq!(rt; found.0.as_str(), text, "{words:?}");
     assert_eq!(rt; found.1, status, "{words:?}");
     Ok(())
@@ -247,70 +252,141 @@ For more information, try '--help'.
     Ok(())
 }
 
-/// The words that each subcommand needs, beside the numbers.
-fn needed(subcommand: &str) -> &'static [&'static str] {
-    match subcommand {
-        "filter" | "server" => &["--config=f"],
-        "limit" => &["--server=a", "--host=h", "--login=u"],
-        "report" => &["--server=a"],
-        _ => &[],
-    }
-}
-
-/// What is shown for a number option and the words that its subcommand needs.
+/// What is shown for these words and a number option behind them.
 fn shown_at(
     alloc: Global,
-    subcommand: &str,
+    words: &[&str],
     option: &str,
     number: i64,
 ) -> Result<(String, u8), Fail> {
-    let given = format!(in alloc; "--{option}={number}")?;
-    let mut words = Vec::new(alloc);
-    words.push("mailquota")?;
-    words.push(subcommand)?;
-    for word in needed(subcommand) {
-        words.push(*word)?;
-    }
-    if subcommand == "limit" && option != "from" {
-        words.push("--from=1")?;
-    }
-    if subcommand == "limit" && option != "cap" {
-        words.push("--cap=1")?;
-    }
-    if subcommand == "report" && option != "day" {
-        words.push("--day=1")?;
-    }
-    words.push(given.as_str())?;
-    shown(alloc, words.as_slice())
+    let mut given = strings(alloc, words)?;
+    given.push(format!(in alloc; "--{option}={number}")?)?;
+    shown(alloc, given.as_slice())
+}
+
+/// A number option: the words before it, its name, its value's name, and its least and greatest number.
+struct NumberRow {
+    words: &'static [&'static str],
+    option: &'static str,
+    value: &'static str,
+    least: i64,
+    most: i64,
+}
+
+const NUMBER_ROWS: &[NumberRow] = &[
+    NumberRow {
+        words: &["mailquota", "replay"],
+        option: "default",
+        value: "N",
+        least: 0,
+        most: 1_000_000,
+    },
+    NumberRow {
+        words: &["mailquota", "replay"],
+        option: "east",
+        value: "M",
+        least: 0,
+        most: 1_439,
+    },
+    NumberRow {
+        words: &["mailquota", "replay"],
+        option: "west",
+        value: "M",
+        least: 0,
+        most: 1_439,
+    },
+    NumberRow {
+        words: &["mailquota", "filter", "--config=f"],
+        option: "run",
+        value: "N",
+        least: 1,
+        most: 281_474_976_710_655,
+    },
+    NumberRow {
+        words: &["mailquota", "server", "--config=f"],
+        option: "connections",
+        value: "N",
+        least: 1,
+        most: 1_000_000,
+    },
+    NumberRow {
+        words: &[
+            "mailquota",
+            "limit",
+            "--server=a",
+            "--host=h",
+            "--login=u",
+            "--cap=1",
+        ],
+        option: "from",
+        value: "DAY",
+        least: 0,
+        most: 376_200,
+    },
+    NumberRow {
+        words: &[
+            "mailquota",
+            "limit",
+            "--server=a",
+            "--host=h",
+            "--login=u",
+            "--from=1",
+        ],
+        option: "cap",
+        value: "N",
+        least: 0,
+        most: 1_000_000,
+    },
+    NumberRow {
+        words: &[
+            "mailquota",
+            "limit",
+            "--server=a",
+            "--host=h",
+            "--login=u",
+            "--from=1",
+            "--cap=1",
+        ],
+        option: "run",
+        value: "N",
+        least: 1,
+        most: 281_474_976_710_655,
+    },
+    NumberRow {
+        words: &["mailquota", "report", "--server=a"],
+        option: "day",
+        value: "DAY",
+        least: 0,
+        most: 376_200,
+    },
+];
+
+/// Asserts that a number of the option is refused, and why.
+fn assert_refused(
+    rt: &(impl AllocGlobal + Abort),
+    row: &NumberRow,
+    number: i64,
+) -> Result<(), Fail> {
+    let alloc = rt.alloc();
+    let found = shown_at(alloc, row.words, row.option, number)?;
+    assert_eq!(rt; found.1, 2, "{} {number}", row.option);
+    let start = format!(in alloc;
+        "error: invalid value '{number}' for '--{} <{}>': ",
+        row.option, row.value
+    )?;
+    assert!(rt; found.0.starts_with(start.as_str()));
+    Ok(())
 }
 
 #[test]
 fn ranges_of_numbers(rt: HostRuntime) -> Result<(), Fail> {
-    let alloc = rt.alloc();
-    // The option, its value's name, the least and the greatest number.
-    let rows = [
-        ("replay", "default", "N", 0, 1_000_000),
-        ("replay", "east", "M", 0, 1_439),
-        ("replay", "west", "M", 0, 1_439),
-        ("filter", "run", "N", 1, 281_474_976_710_655),
-        ("server", "connections", "N", 1, 1_000_000),
-        ("limit", "from", "DAY", 0, 376_200),
-        ("limit", "cap", "N", 0, 1_000_000),
-        ("limit", "run", "N", 1, 281_474_976_710_655),
-        ("report", "day", "DAY", 0, 376_200),
-    ];
-    for (subcommand, option, value, least, most) in rows {
-        for number in [least, most] {
-            let found = shown_at(alloc, subcommand, option, number)?;
+    for row in NUMBER_ROWS {
+        for number in [row.least, row.most] {
+            let found = shown_at(rt.alloc(), row.words, row.option, number)?;
             assert_eq!(rt; found.1, 0, "{}", found.0);
         }
-        for number in [least.wrapping_sub(1), most + 1] {
-            let found = shown_at(alloc, subcommand, option, number)?;
-            assert_eq!(rt; found.1, 2, "{subcommand} {option} {number}");
-            let start = format!(in alloc;
-                "error: invalid value '{number}' for '--{option} <{value}>': "
-            )?;
-            assert!(rt; found.0.starts_with(start.as_str()));
+        for number in [row.least.wrapping_sub(1), row.most.wrapping_add(1)] {
+            assert_refused(&rt, row, number)?;
         }
     }
     Ok(())
@@ -407,10 +483,7 @@ fn replay_words(rt: HostRuntime) -> Result<(), Fail> {
         ),
     ];
     for (words, default, offset, sql) in rows {
-        let mut given = Vec::new(rt.alloc());
-        for word in words {
-            given.push(String::from_str(rt.alloc(), word)?)?;
-        }
+        let given = strings(rt.alloc(), words)?;
         let wanted = ReplayArguments {
             default,
             offset,
