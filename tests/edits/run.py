@@ -119,6 +119,12 @@ def proved_in(lines):
     return found
 
 
+def anew():
+    """Returns the words by which rt ci takes nothing for proved that an earlier run kept on this machine: a kit whose rt ci keeps
+    nothing has no word for it."""
+    return ["--anew"] if "--anew" in run([RT, "help"], TOP, LONGEST_CI).said else []
+
+
 def run_ci(tree, sum_):
     """Runs rt ci over the tree, adds what it counts and the time of each crate, and returns the crates that it refused, and the
     functions that it told proved, by crate."""
@@ -132,8 +138,7 @@ def run_ci(tree, sum_):
     # One job for each check: copies of a check that share its work load the libraries once more each. (rt then looks at no memory.)
     lanes = str(max(1, min(processors(), int(free() // MOST_OF_A_CHECK))))
     with minutes.Watch(tree) as watch:
-        # And all anew: nothing that an earlier run kept on this machine is taken for proved.
-        ran = run(["env", f"RT_JOBS={lanes}", RT, "ci", "--anew"], tree, LONGEST_CI, tell)
+        ran = run(["env", f"RT_JOBS={lanes}", RT, "ci", *anew()], tree, LONGEST_CI, tell)
     sum_.seconds.update(watch.by_crate())
     counts = COUNTS.match(lines[-1]) if lines else None
     passed, failed = map(int, counts.groups()) if counts else (0, 0)
