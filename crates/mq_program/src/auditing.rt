@@ -2,6 +2,7 @@
 ghost use Rattle.std.specs.Prelude.{◌≡◌, IfOk, IfErr, OnOk, string_bytes};
 ghost use Rattle.std.specs.Io.KnownBytes.{Appends};
 ghost use Rattle.sqlite.specs.Held.{state};
+ghost use Rattle.mq_frame.specs.Range.{IsAmount};
 ghost use Rattle.mq_command.specs.Output.{AppendsFront};
 ghost use Rattle.mq_store.specs.Auditing.{IsAuditIn, IsRightAnswer};
 ghost use Rattle.mq_store.specs.Soundness.{HasKept, IsSound};
@@ -9,7 +10,7 @@ ghost use Rattle.mq_program.specs.Auditing.{Audits, PrintsSound, sound_line};
 
 use crate::fault::ProgramFault;
 use crate::server::server_settings;
-use crate::store::file_ledger;
+use crate::store::{connect, ledger_over};
 use log::Logged;
 use log::sink::Console;
 use mq_arguments::AuditArguments;
@@ -17,7 +18,7 @@ use mq_command::write_whole;
 use mq_ledger::Zone;
 use mq_settings::Place;
 use mq_store::{Audit, OpenFault, SqlLedger};
-use sqlite::Alter;
+use sqlite::{Alter, Connection};
 use std::alloc::{AllocError, Global};
 use std::io::Write;
 
@@ -39,19 +40,24 @@ pub fn audit<W: Write>(
     };
     let logged = Logged::new(rt, settings.log, Console(rt));
     let zone = Zone::of_offset(settings.offset).unwrap();
-    let ledger = file_ledger(rt, &logged, path, false, zone, settings.default)?;
-    audit_whole(rt.alloc(), ledger, output)
+    let connection = connect(rt, &logged, path, false)?;
+    audit_whole(rt.alloc(), connection, zone, settings.default, output)
 }
 
-/// Audits a ledger and lets it go; the status is 0.
+/// Opens the ledger in a database, audits it and lets it go; the status is 0. `default` is 0 to 1,000,000. It goes over any
+/// store, since a proof over the file's own takes far longer.
 fn audit_whole<S: Alter + Drop, W: Write>(
     alloc: Global,
-    mut ledger: SqlLedger<S>,
+    connection: Connection<S>,
+    zone: Zone,
+    default: u32,
     output: &mut W,
 ) -> Result<u8, ProgramFault>
+    requires { IsAmount default }
     ensures status { IfOk result (λ status. status ≡ 0) }
     ensures printed { IfOk result (λ _. PrintsSound (W.contents output.old) (W.contents output.new)) }
 {
+    let mut ledger = ledger_over(alloc, connection, false, zone, default)?;
     audit_ledger(alloc, &mut ledger, output)?;
     Ok(0)
 }

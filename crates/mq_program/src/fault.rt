@@ -7,6 +7,7 @@ use log::sink::Console;
 use log::{LevelFilter, Logged, error};
 use mq_client::FilterFault;
 use mq_ledger::LedgerFault;
+use mq_room::RoomFault;
 use mq_server::ServeFault;
 use mq_settings::{FileFault, SettingsFault};
 use mq_store::{OpenFault, OpenRefused};
@@ -126,6 +127,20 @@ impl From<LedgerFault> for ProgramFault {
 
     fn from(cause: LedgerFault) -> ProgramFault {
         ProgramFault::Audit(cause)
+    }
+}
+
+impl From<RoomFault> for ProgramFault {
+    ghost use Rattle.mq_program.specs.Faults.{room_fault};
+
+    ghost from_gives = { λ cause fault. fault ≡ room_fault cause };
+
+    fn from(cause: RoomFault) -> ProgramFault {
+        match cause {
+            RoomFault::Accept => ProgramFault::Accept,
+            RoomFault::Memory => ProgramFault::Memory,
+            RoomFault::Store => ProgramFault::Serve(ServeFault::Store),
+        }
     }
 }
 

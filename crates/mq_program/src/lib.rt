@@ -1,16 +1,12 @@
 //! What the subcommands do with the files, the streams, the clock and the network of the process.
 #![tactic(auto)]
 
-mod accept;
 mod admin;
 mod auditing;
 mod clock;
 mod fault;
 mod filter;
-mod guest;
-mod portion;
 mod replay;
-mod room;
 mod server;
 mod store;
 mod subcommand;
@@ -19,5 +15,5 @@ pub use admin::{limit, report};
 pub use auditing::{audit, audit_ledger};
 pub use clock::run_number;
 pub use fault::{ProgramFault, or_memory};
-pub use server::{listen, serve_connections};
+pub use server::listen;
 pub use subcommand::{refuse, run_subcommand};

@@ -55,8 +55,9 @@ fn make_file(rt: &HostRuntime, path: &str) -> io::Result<()> {
     }
 }
 
-/// A connection to the database file at a path. A file that isn't there is made where a ledger is made, with mode 0600.
-fn connect<G: Log>(
+/// A connection to the database file at a path. A file that isn't there is made where a ledger is made, with mode 0600. The
+/// cause of `ProgramFault::Store` is logged.
+pub fn connect<G: Log>(
     rt: &HostRuntime,
     log: &G,
     path: &str,
@@ -79,25 +80,8 @@ fn connect<G: Log>(
     }
 }
 
-/// The ledger in the database file at a path; with `create` a new one. `default` is 0 to 1,000,000. The cause of
-/// `ProgramFault::Store` is logged.
-pub fn file_ledger<G: Log>(
-    rt: &HostRuntime,
-    log: &G,
-    path: &str,
-    create: bool,
-    zone: Zone,
-    default: u32,
-) -> Result<SqlLedger<FileStore<File>>, ProgramFault>
-    requires { IsAmount default }
-    ensures { IfOk result (λ ledger. (ledger.zone ≡ zone) × (ledger.default ≡ default)) }
-{
-    let connection = connect(rt, log, path, create)?;
-    ledger_over(rt.alloc(), connection, create, zone, default)
-}
-
 /// The ledger in a database; with `create` a new one. `default` is 0 to 1,000,000.
-fn ledger_over<S: Alter + Drop>(
+pub fn ledger_over<S: Alter + Drop>(
     alloc: Global,
     connection: Connection<S>,
     create: bool,

@@ -6,7 +6,8 @@ use crate::support::{assert_text, new_ledger};
 use log::LevelFilter;
 use log::sink::{Discard, Memory};
 use mq_client::{Link, LinkFault};
-use mq_program::{listen, serve_connections};
+use mq_program::listen;
+use mq_room::serve_connections;
 use mq_settings::{Place, ServerSettings};
 use mq_tcp::TcpLink;
 use std::alloc::Global;
@@ -240,7 +241,7 @@ fn connections_in_turn(rt: HostRuntime) -> Result<(), Fail> {
         if !end.is_empty() {
             let from = stream.local_addr()?;
             let line = format!(in rt.alloc();
-                "[WARN  mq_program::room] connection of {from}: {end}\n"
+                "[WARN  mq_room::room] connection of {from}: {end}\n"
             )?;
             lines.push_str(line.as_str())?;
         }

@@ -3,7 +3,7 @@ ghost use Rattle.std.specs.Prelude.{◌≡◌};
 ghost use Rattle.mq_server.specs.Delivery.{HasGrown};
 
 use crate::accept::Acceptor;
-use crate::fault::ProgramFault;
+use crate::fault::RoomFault;
 use crate::guest::{Guest, Turn, take_turns};
 use log::{Log, error, warn};
 use mio::unix::SourceFd;
@@ -90,7 +90,7 @@ impl<'a> Room<'a> {
         clock: &C,
         log: &G,
         timeout: Duration,
-    ) -> Result<(), ProgramFault> {
+    ) -> Result<(), RoomFault> {
         for _arrival in 0..ARRIVALS {
             let Some((stream, peer)) = self.acceptor.next(clock, log)? else {
                 return Ok(());
@@ -112,7 +112,7 @@ impl<'a> Room<'a> {
         events: &Events,
         timeout: Duration,
         ledger: &mut L,
-    ) -> Result<(), ProgramFault>
+    ) -> Result<(), RoomFault>
         ensures same_zone { (L.book ledger.new).zone ≡ (L.book ledger.old).zone }
         ensures same_default { (L.book ledger.new).default ≡ (L.book ledger.old).default }
         ensures kept { L.has_kept ledger.new → L.has_kept ledger.old }
@@ -141,7 +141,7 @@ impl<'a> Room<'a> {
         token: Token,
         timeout: Duration,
         ledger: &mut L,
-    ) -> Result<(), ProgramFault>
+    ) -> Result<(), RoomFault>
         ensures same_zone { (L.book ledger.new).zone ≡ (L.book ledger.old).zone }
         ensures same_default { (L.book ledger.new).default ≡ (L.book ledger.old).default }
         ensures kept { L.has_kept ledger.new → L.has_kept ledger.old }
@@ -247,7 +247,7 @@ fn end_of<G: Log>(
     log: &G,
     peer: &SocketAddr,
     ended: Result<Served, ServeFault>,
-) -> Result<(), ProgramFault> {
+) -> Result<(), RoomFault> {
     match ended {
         Ok(Served::InputEnd) => {}
         Ok(Served::Enough) => warn!(log; "connection of {peer}: enough"),
@@ -255,7 +255,7 @@ fn end_of<G: Log>(
         Ok(Served::CutFrame) => warn!(log; "connection of {peer}: cut frame"),
         Err(ServeFault::Store) => {
             error!(log; "connection of {peer}: {}", ServeFault::Store);
-            return Err(ProgramFault::Serve(ServeFault::Store));
+            return Err(RoomFault::Store);
         }
         Err(fault) => warn!(log; "connection of {peer}: {fault}"),
     }

@@ -1,5 +1,5 @@
 use Rattle.std.proofs.Common.{◌∙◌}
-use Rattle.mq_program.proofs.guest.take_turns.Goals as goal
+use Rattle.mq_room.proofs.guest.take_turns.Goals as goal
 
 pub returns-in_default : goal.returns-in_default
 returns-in_default g c =

@@ -1,6 +1,6 @@
 use Rattle.std.proofs.Common.{◌≡◌}
 use Rattle.mq_server.specs.Delivery.{HasGrown}
-use Rattle.mq_program.proofs.guest.take_turns.Given as goal
+use Rattle.mq_room.proofs.guest.take_turns.Given as goal
 
 -- what each turn leaves of the ledger's promises
 abbrev pub invariant-loop-turn : goal.invariant-loop-turn

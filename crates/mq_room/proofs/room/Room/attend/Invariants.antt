@@ -1,6 +1,6 @@
 use Rattle.std.proofs.Common.{◌≡◌}
 use Rattle.mq_server.specs.Delivery.{HasGrown}
-use Rattle.mq_program.proofs.room.Room.attend.Given as goal
+use Rattle.mq_room.proofs.room.Room.attend.Given as goal
 
 -- what each connection leaves of the ledger's promises
 abbrev pub invariant-loop-event : goal.invariant-loop-event

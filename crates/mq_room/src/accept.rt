@@ -1,7 +1,7 @@
 //! The next connection, also behind errors that pass.
 ghost use Rattle.std.specs.Prelude.{◌≡◌, ◌*◌, min};
 
-use crate::fault::ProgramFault;
+use crate::fault::RoomFault;
 use log::{Log, error, warn};
 use mq_tcp::deadline_after;
 use std::io;
@@ -98,7 +98,7 @@ impl<'a> Acceptor<'a> {
         &mut self,
         clock: &C,
         log: &G,
-    ) -> Result<Option<(TcpStream, SocketAddr)>, ProgramFault> {
+    ) -> Result<Option<(TcpStream, SocketAddr)>, RoomFault> {
         if !self.is_due(clock).unwrap_or(true) {
             return Ok(None);
         }
@@ -122,7 +122,7 @@ impl<'a> Acceptor<'a> {
             }
             Err(error) => {
                 error!(log; "no connection accepted: {error}");
-                Err(ProgramFault::Accept)
+                Err(RoomFault::Accept)
             }
         }
     }

@@ -1,5 +1,5 @@
 use Rattle.std.proofs.Common.{◌≤◌, length}
-use Rattle.mq_program.proofs.portion.portion_of.Given as goal
+use Rattle.mq_room.proofs.portion.portion_of.Given as goal
 
 -- what is left lies within what is held
 abbrev pub invariant-loop-frames : goal.invariant-loop-frames

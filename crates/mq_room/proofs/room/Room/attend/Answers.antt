@@ -1,5 +1,5 @@
 use Rattle.std.proofs.Common.{◌∙◌}
-use Rattle.mq_program.proofs.room.Room.attend.Goals as goal
+use Rattle.mq_room.proofs.room.Room.attend.Goals as goal
 
 pub loop-event-preserved : goal.loop-event-preserved
 loop-event-preserved g c =
