@@ -1,8 +1,8 @@
 //! What the tests are made of. None of it has a clause, so that a long test stays cheap to prove.
 
-use mq_frame::{Host, Id, Login, UsageRow, UsageRows};
+use mq_frame::{Host, Id, Login, Request, UsageRow, UsageRows, decode_request};
 use std::alloc::{AllocError, Global};
-use std::fmt::Display;
+use std::fmt::{Debug, Display};
 use std::process::Abort;
 use std::test::Fail;
 
@@ -13,6 +13,11 @@ pub fn bytes_of(alloc: Global, text: &str) -> Result<Vec<u8>, Fail> {
         bytes.extend_from_slice(&hex::decode(alloc, digits.as_bytes())?)?;
     }
     Ok(bytes)
+}
+
+/// The request of a body.
+pub fn request_of(alloc: Global, body: &str) -> Result<Request, Fail> {
+    Ok(decode_request(alloc, &bytes_of(alloc, body)?)?)
 }
 
 /// The number of a request of the host's first run.
@@ -46,9 +51,16 @@ pub fn page(alloc: Global, count: u8) -> Result<UsageRows, AllocError> {
 pub fn check_text(
     rt: &impl Abort,
     alloc: Global,
-    value: impl Display + Drop,
+    value: &impl Display,
     text: &str,
 ) -> Result<(), Fail> {
     assert_eq!(rt; format!(in alloc; "{value}")?.as_str(), text);
     Ok(())
+}
+
+/// What `{:?}` makes of a value of the link, where a name is its bytes and no more.
+pub fn printed(alloc: Global, value: &impl Debug) -> Result<String, AllocError> {
+    let text = format!(in alloc; "{value:?}")?;
+    let text = text.replace(alloc, "Text { bytes: ", "")?;
+    text.replace(alloc, ", kind: PhantomData<_> }", "")
 }

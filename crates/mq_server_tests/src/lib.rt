@@ -11,3 +11,7 @@ mod frame;
 mod ledger;
 #[cfg(test)]
 mod server;
+#[cfg(test)]
+mod serving;
+#[cfg(test)]
+mod texts;

@@ -4,75 +4,76 @@ use mq_frame::{Failed, FromRead, Sink, Source, ToWrite, write_and_flush};
 use std::io;
 use std::io::{ErrorKind, Read, Write};
 use std::process::Abort;
-use std::test::Fail;
 
-/// A reader of these calls, the last of them first.
-#[derive(Drop)]
-struct Script {
-    calls: Vec<Result<u8, ErrorKind>>,
+/// A reader of these calls.
+#[derive(Clone, Copy)]
+struct Script<'a> {
+    calls: &'a [Result<u8, ErrorKind>],
 }
 
-impl Read for Script {
+impl Read for Script<'_> {
     fn read(&mut self, buf: &mut [u8]) -> io::Result<usize> {
-        match self.calls.pop() {
-            Some(Ok(byte)) if !buf.is_empty() => {
-                buf[0] = byte;
+        let [call, rest @ ..] = self.calls else {
+            return Ok(0);
+        };
+        self.calls = rest;
+        match (call, buf) {
+            (Ok(byte), [place, ..]) => {
+                *place = *byte;
                 Ok(1)
             }
-            Some(Err(kind)) => Err(io::Error::from(kind)),
+            (Err(kind), _) => Err(io::Error::from(*kind)),
             _ => Ok(0),
         }
     }
 }
 
-/// Reads into the piece once for each row: what is answered, and the bytes in front of the piece.
-/// Without clauses, so that its callers stay cheap to prove.
-fn check_reads<S: Source>(
-    rt: &impl Abort,
-    source: &mut S,
-    piece: &mut [u8],
-    rows: &[(Result<usize, Failed>, &[u8])],
-) {
-    for (answer, front) in rows {
+/// Reads: what is answered, and the bytes in front of the piece.
+type Reads = &'static [(Result<usize, Failed>, &'static [u8])];
+
+/// Reads into the piece once for each row. Without clauses, so that its callers stay cheap to prove.
+fn check_reads<S: Source>(rt: &impl Abort, source: &mut S, piece: &mut [u8], reads: Reads) {
+    for (answer, front) in reads {
         assert_eq!(rt; source.read(piece), *answer);
         assert!(rt; piece.starts_with(*front), "{front:?} in front");
     }
 }
 
+const SIGNALS: &[Result<u8, ErrorKind>] = &[
+    Ok(7),
+    Err(ErrorKind::Interrupted),
+    Err(ErrorKind::Interrupted),
+    Ok(8),
+    Err(ErrorKind::BrokenPipe),
+    Ok(9),
+];
+
+const READ_UP_TO_A_FAILURE: Reads = &[
+    (Ok(1), &[7]),
+    (Ok(1), &[8]),
+    (Err(Failed), &[]),
+    (Err(Failed), &[]),
+];
+
 /// A read that a signal interrupted is made again; a failed one is the last.
 #[test]
-fn reads_again_after_a_signal(rt: HostRuntime) -> Result<(), Fail> {
-    let calls = vec![in rt.alloc();
-        Ok(9),
-        Err(ErrorKind::BrokenPipe),
-        Ok(8),
-        Err(ErrorKind::Interrupted),
-        Err(ErrorKind::Interrupted),
-        Ok(7),
-    ]?;
-    let mut source = FromRead::new(Script { calls });
-    let rows: [(Result<usize, Failed>, &[u8]); 4] = [
-        (Ok(1), &[7]),
-        (Ok(1), &[8]),
-        (Err(Failed), &[]),
-        (Err(Failed), &[]),
-    ];
-    check_reads(&rt, &mut source, &mut [0; 4], &rows);
+fn reads_again_after_a_signal(rt: HostRuntime) {
+    let mut source = FromRead::new(Script { calls: SIGNALS });
+    check_reads(&rt, &mut source, &mut [0; 4], READ_UP_TO_A_FAILURE);
     assert_eq!(rt; source.into_inner().calls.len(), 1);
-    Ok(())
 }
 
 #[test]
 fn reads_a_slice_to_its_end(rt: HostRuntime) {
     let bytes: &[u8] = &[1, 2, 3];
     let mut source = FromRead::new(bytes);
-    let rows: [(Result<usize, Failed>, &[u8]); 3] = [(Ok(2), &[1, 2]), (Ok(1), &[3]), (Ok(0), &[])];
-    check_reads(&rt, &mut source, &mut [0; 2], &rows);
+    let reads: Reads = &[(Ok(2), &[1, 2]), (Ok(1), &[3]), (Ok(0), &[])];
+    check_reads(&rt, &mut source, &mut [0; 2], reads);
     assert_eq!(rt; source.into_inner().len(), 0);
 }
 
 /// A writer that takes so many bytes, two a call, and then nothing; its flush fails where it is told to.
-#[derive(Drop)]
+#[derive(Clone, Copy)]
 struct Short {
     left: usize,
     breaks: bool,
@@ -111,6 +112,16 @@ fn check_calls<S: Sink>(rt: &impl Abort, sink: &mut S, calls: &[Call<'_>]) {
     }
 }
 
+const WRITTEN_UP_TO_A_FAILURE: &[Call<'static>] = &[
+    Call::Write(&[1, 2], Ok(2)),
+    Call::Write(&[], Ok(0)),
+    Call::Flush(Ok(())),
+    Call::Write(&[3, 4], Ok(1)),
+    Call::Write(&[4], Err(Failed)),
+    Call::Write(&[], Err(Failed)),
+    Call::Flush(Err(Failed)),
+];
+
 /// A write that takes nothing of something is a failure, and the last call that may succeed.
 #[test]
 fn write_of_nothing_fails(rt: HostRuntime) {
@@ -118,16 +129,7 @@ fn write_of_nothing_fails(rt: HostRuntime) {
         left: 3,
         breaks: false,
     });
-    let calls = [
-        Call::Write(&[1, 2], Ok(2)),
-        Call::Write(&[], Ok(0)),
-        Call::Flush(Ok(())),
-        Call::Write(&[3, 4], Ok(1)),
-        Call::Write(&[4], Err(Failed)),
-        Call::Write(&[], Err(Failed)),
-        Call::Flush(Err(Failed)),
-    ];
-    check_calls(&rt, &mut sink, &calls);
+    check_calls(&rt, &mut sink, WRITTEN_UP_TO_A_FAILURE);
     assert_eq!(rt; sink.into_inner().left, 0);
 }
 
@@ -137,15 +139,15 @@ fn failed_flush_is_the_last(rt: HostRuntime) {
         left: 3,
         breaks: true,
     });
-    let calls = [Call::Flush(Err(Failed)), Call::Write(&[1], Err(Failed))];
-    check_calls(&rt, &mut sink, &calls);
+    let calls = &[Call::Flush(Err(Failed)), Call::Write(&[1], Err(Failed))];
+    check_calls(&rt, &mut sink, calls);
 }
 
 #[test]
 fn writes_to_memory(rt: HostRuntime) {
     let mut sink = ToWrite::new(Vec::new(rt.alloc()));
-    let calls = [Call::Write(&[1, 2], Ok(2)), Call::Flush(Ok(()))];
-    check_calls(&rt, &mut sink, &calls);
+    let calls = &[Call::Write(&[1, 2], Ok(2)), Call::Flush(Ok(()))];
+    check_calls(&rt, &mut sink, calls);
     assert_eq!(rt; sink.into_inner().as_slice(), [1, 2].as_slice());
 }
 
@@ -154,19 +156,39 @@ fn sent<S: Sink>(sink: &mut S, bytes: &[u8]) -> Result<(), Failed> {
     write_and_flush(sink, bytes)
 }
 
+const SHORTS: &[(Short, Result<(), Failed>)] = &[
+    (
+        Short {
+            left: 4,
+            breaks: false,
+        },
+        Ok(()),
+    ),
+    (
+        Short {
+            left: 3,
+            breaks: true,
+        },
+        Err(Failed),
+    ),
+    (
+        Short {
+            left: 2,
+            breaks: false,
+        },
+        Err(Failed),
+    ),
+];
+
 /// All bytes are written in as many writes as it takes, and flushed; or as many as the device takes.
 #[test]
 fn all_bytes_are_written(rt: HostRuntime) {
     let mut sink = ToWrite::new(Vec::new(rt.alloc()));
     assert_eq!(rt; sent(&mut sink, &[1, 2, 3]), Ok(()));
     assert_eq!(rt; sink.into_inner().as_slice(), [1, 2, 3].as_slice());
-    for (left, breaks, answer) in [
-        (4, false, Ok(())),
-        (3, true, Err(Failed)),
-        (2, false, Err(Failed)),
-    ] {
-        let mut sink = ToWrite::new(Short { left, breaks });
-        assert_eq!(rt; sent(&mut sink, &[1, 2, 3]), answer);
-        assert_eq!(rt; sink.into_inner().left, left.saturating_sub(3));
+    for (short, answer) in SHORTS {
+        let mut sink = ToWrite::new(*short);
+        assert_eq!(rt; sent(&mut sink, &[1, 2, 3]), *answer);
+        assert_eq!(rt; sink.into_inner().left, short.left.saturating_sub(3));
     }
 }

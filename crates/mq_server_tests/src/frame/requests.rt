@@ -1,10 +1,7 @@
 //! Frames of requests, from the format's worked examples.
 
-use super::feed::body_of;
-use crate::fixtures::{bytes_of, id, login};
-use mq_frame::{
-    DecodeFault, Memory, REQUEST_LIMIT, Request, decode_request, encode_request, is_request,
-};
+use crate::fixtures::{bytes_of, printed};
+use mq_frame::{DecodeFault, Request, decode_request, encode_request, is_request};
 use std::alloc::Global;
 use std::process::Abort;
 use std::test::Fail;
@@ -15,273 +12,171 @@ fn decoded(alloc: Global, body: &[u8]) -> Result<Request, DecodeFault> {
 }
 
 /// The frame of a request that has to be in range. Likewise without clauses.
-fn frame_of(rt: &impl Abort, alloc: Global, request: &Request) -> Result<Vec<u8>, Memory> {
+fn frame_of(rt: &impl Abort, alloc: Global, request: &Request) -> Result<Vec<u8>, Fail> {
     assert!(rt; is_request(request));
     let mut out = Vec::new(alloc);
     encode_request(alloc, request, &mut out)?;
     Ok(out)
 }
 
-/// The frame is that of the request, both ways.
-fn check_request(rt: &impl Abort, alloc: Global, text: &str, request: Request) -> Result<(), Fail> {
-    let frame = bytes_of(alloc, text)?;
-    let body = body_of(alloc, REQUEST_LIMIT, &frame)?;
-    assert!(rt; decoded(alloc, &body)? == request, "at {text}");
-    assert!(rt; frame_of(rt, alloc, &request)? == frame, "at {text}");
+/// The request is printed so, and has this frame.
+fn check_value(
+    rt: &impl Abort,
+    alloc: Global,
+    request: &Request,
+    text: &str,
+    frame: &[u8],
+) -> Result<(), Fail> {
+    assert_eq!(rt; printed(alloc, request)?.as_str(), text);
+    assert!(rt;
+        frame_of(rt, alloc, request)?.as_slice() == frame,
+        "at {text}"
+    );
     Ok(())
 }
 
-/// A frame, and what tells its reserve from the other ones.
-#[derive(Clone, Copy)]
-struct ReserveRow {
-    frame: &'static str,
-    host: &'static [u8],
-    seq: u32,
-    txn: u32,
-    login: &'static [u8],
-    count: u32,
+/// The frame is that of the request that is printed so, both ways.
+fn check_request(rt: &impl Abort, alloc: Global, frame: &[u8], text: &str) -> Result<(), Fail> {
+    let [_, _, body @ ..] = frame else {
+        return Err("no head".into());
+    };
+    let request = decoded(alloc, body)?;
+    check_value(rt, alloc, &request, text, frame)
 }
 
-/// Reserves, first ones and repeats, of one host and of another.
-const RESERVES: [ReserveRow; 8] = [
-    ReserveRow {
-        frame: "0021 01 0161 0000000000000001 00000001 00000001 0000000000015180 0175 00000001",
-        host: b"a",
-        seq: 1,
-        txn: 1,
-        login: b"u",
-        count: 1,
-    },
-    ReserveRow {
-        frame: "0021 01 0161 0000000000000001 00000001 00000001 0000000000015180 0175 00000002",
-        host: b"a",
-        seq: 1,
-        txn: 1,
-        login: b"u",
-        count: 2,
-    },
-    ReserveRow {
-        frame: "0021 01 0161 0000000000000001 00000002 00000001 0000000000015180 0175 00000002",
-        host: b"a",
-        seq: 2,
-        txn: 1,
-        login: b"u",
-        count: 2,
-    },
-    ReserveRow {
-        frame: "0021 01 0161 0000000000000001 00000003 00000001 0000000000015180 0175 00000001",
-        host: b"a",
-        seq: 3,
-        txn: 1,
-        login: b"u",
-        count: 1,
-    },
-    ReserveRow {
-        frame: "0021 01 0161 0000000000000001 00000005 00000002 0000000000015180 0175 00000001",
-        host: b"a",
-        seq: 5,
-        txn: 2,
-        login: b"u",
-        count: 1,
-    },
-    ReserveRow {
-        frame: "0021 01 0162 0000000000000001 00000001 00000001 0000000000015180 0175 00000001",
-        host: b"b",
-        seq: 1,
-        txn: 1,
-        login: b"u",
-        count: 1,
-    },
-    ReserveRow {
-        frame: "0021 01 0161 0000000000000001 00000002 00000001 0000000000015180 0175 00000001",
-        host: b"a",
-        seq: 2,
-        txn: 1,
-        login: b"u",
-        count: 1,
-    },
-    ReserveRow {
-        frame: "0021 01 0161 0000000000000001 00000002 00000001 0000000000015180 0176 00000001",
-        host: b"a",
-        seq: 2,
-        txn: 1,
-        login: b"v",
-        count: 1,
-    },
+/// Frames with what they say, a name by its bytes: `a` is 97, `b` 98, `u` 117 and `v` 118.
+const FRAMES: &[(&str, &str)] = &[
+    (
+        "0021 01 0161 0000000000000001 00000001 00000001 0000000000015180 0175 00000001",
+        "Reserve { id: Id { host: [97], run: 1, seq: 1 }, txn: 1, at: 86400, login: [117], count: 1 }",
+    ),
+    (
+        "0021 01 0161 0000000000000001 00000001 00000001 0000000000015180 0175 00000002",
+        "Reserve { id: Id { host: [97], run: 1, seq: 1 }, txn: 1, at: 86400, login: [117], count: 2 }",
+    ),
+    (
+        "0021 01 0161 0000000000000001 00000002 00000001 0000000000015180 0175 00000002",
+        "Reserve { id: Id { host: [97], run: 1, seq: 2 }, txn: 1, at: 86400, login: [117], count: 2 }",
+    ),
+    (
+        "0021 01 0161 0000000000000001 00000003 00000001 0000000000015180 0175 00000001",
+        "Reserve { id: Id { host: [97], run: 1, seq: 3 }, txn: 1, at: 86400, login: [117], count: 1 }",
+    ),
+    (
+        "0021 01 0161 0000000000000001 00000005 00000002 0000000000015180 0175 00000001",
+        "Reserve { id: Id { host: [97], run: 1, seq: 5 }, txn: 2, at: 86400, login: [117], count: 1 }",
+    ),
+    (
+        "0021 01 0162 0000000000000001 00000001 00000001 0000000000015180 0175 00000001",
+        "Reserve { id: Id { host: [98], run: 1, seq: 1 }, txn: 1, at: 86400, login: [117], count: 1 }",
+    ),
+    (
+        "0021 01 0161 0000000000000001 00000002 00000001 0000000000015180 0175 00000001",
+        "Reserve { id: Id { host: [97], run: 1, seq: 2 }, txn: 1, at: 86400, login: [117], count: 1 }",
+    ),
+    (
+        "0021 01 0161 0000000000000001 00000002 00000001 0000000000015180 0176 00000001",
+        "Reserve { id: Id { host: [97], run: 1, seq: 2 }, txn: 1, at: 86400, login: [118], count: 1 }",
+    ),
+    (
+        "0021 02 0161 0000000000000001 00000003 00000001 0000000000015180 0175 00000001",
+        "Settle { id: Id { host: [97], run: 1, seq: 3 }, txn: 1, at: 86400, login: [117], count: 1 }",
+    ),
+    (
+        "0021 02 0161 0000000000000001 00000004 00000001 0000000000015180 0175 00000001",
+        "Settle { id: Id { host: [97], run: 1, seq: 4 }, txn: 1, at: 86400, login: [117], count: 1 }",
+    ),
+    (
+        "0021 02 0161 0000000000000001 00000003 00000001 0000000000015180 0175 00000002",
+        "Settle { id: Id { host: [97], run: 1, seq: 3 }, txn: 1, at: 86400, login: [117], count: 2 }",
+    ),
+    (
+        "001d 03 0161 0000000000000001 00000004 00000001 0000000000015180 0175",
+        "Release { id: Id { host: [97], run: 1, seq: 4 }, txn: 1, at: 86400, login: [117] }",
+    ),
+    (
+        "001d 03 0161 0000000000000001 00000002 00000001 0000000000015180 0175",
+        "Release { id: Id { host: [97], run: 1, seq: 2 }, txn: 1, at: 86400, login: [117] }",
+    ),
+    (
+        "0019 04 0161 0000000000000001 00000004 00000001 00000002 0175",
+        "Limit { id: Id { host: [97], run: 1, seq: 4 }, from_day: 1, cap: 2, login: [117] }",
+    ),
+    (
+        "0019 04 0161 0000000000000001 00000005 00000001 00000003 0175",
+        "Limit { id: Id { host: [97], run: 1, seq: 5 }, from_day: 1, cap: 3, login: [117] }",
+    ),
+    (
+        "0019 04 0161 0000000000000001 00000006 00000000 00000002 0175",
+        "Limit { id: Id { host: [97], run: 1, seq: 6 }, from_day: 0, cap: 2, login: [117] }",
+    ),
+    ("0007 05 0175 00000001", "Usage { login: [117], day: 1 }"),
+    ("0006 06 00000001 00", "List { day: 1, after: [] }"),
+    ("0007 06 00000001 0175", "List { day: 1, after: [117] }"),
 ];
 
 #[test]
-fn frames_of_reserves(rt: HostRuntime) -> Result<(), Fail> {
+fn frames_of_requests(rt: HostRuntime) -> Result<(), Fail> {
     let alloc = rt.alloc();
-    for row in RESERVES {
-        let request = Request::Reserve {
-            id: id(alloc, row.host, row.seq)?,
-            txn: row.txn,
-            at: 86_400,
-            login: login(alloc, row.login)?,
-            count: row.count,
-        };
-        check_request(&rt, alloc, row.frame, request)?;
+    for (frame, text) in FRAMES {
+        check_request(&rt, alloc, &bytes_of(alloc, frame)?, text)?;
     }
     Ok(())
 }
 
-#[test]
-fn frames_of_settles(rt: HostRuntime) -> Result<(), Fail> {
-    let alloc = rt.alloc();
-    let rows = [
-        (
-            "0021 02 0161 0000000000000001 00000003 00000001 0000000000015180 0175 00000001",
-            3,
-            1,
-        ),
-        (
-            "0021 02 0161 0000000000000001 00000004 00000001 0000000000015180 0175 00000001",
-            4,
-            1,
-        ),
-        (
-            "0021 02 0161 0000000000000001 00000003 00000001 0000000000015180 0175 00000002",
-            3,
-            2,
-        ),
-    ];
-    for (frame, seq, count) in rows {
-        let request = Request::Settle {
-            id: id(alloc, b"a", seq)?,
-            txn: 1,
-            at: 86_400,
-            login: login(alloc, b"u")?,
-            count,
-        };
-        check_request(&rt, alloc, frame, request)?;
-    }
-    Ok(())
-}
-
-#[test]
-fn frames_of_releases(rt: HostRuntime) -> Result<(), Fail> {
-    let alloc = rt.alloc();
-    let rows = [
-        (
-            "001d 03 0161 0000000000000001 00000004 00000001 0000000000015180 0175",
-            4,
-        ),
-        (
-            "001d 03 0161 0000000000000001 00000002 00000001 0000000000015180 0175",
-            2,
-        ),
-    ];
-    for (frame, seq) in rows {
-        let request = Request::Release {
-            id: id(alloc, b"a", seq)?,
-            txn: 1,
-            at: 86_400,
-            login: login(alloc, b"u")?,
-        };
-        check_request(&rt, alloc, frame, request)?;
-    }
-    Ok(())
-}
-
-#[test]
-fn frames_of_limits(rt: HostRuntime) -> Result<(), Fail> {
-    let alloc = rt.alloc();
-    let rows = [
-        (
-            "0019 04 0161 0000000000000001 00000004 00000001 00000002 0175",
-            4,
-            1,
-            2,
-        ),
-        (
-            "0019 04 0161 0000000000000001 00000005 00000001 00000003 0175",
-            5,
-            1,
-            3,
-        ),
-        (
-            "0019 04 0161 0000000000000001 00000006 00000000 00000002 0175",
-            6,
-            0,
-            2,
-        ),
-    ];
-    for (frame, seq, from_day, cap) in rows {
-        let request = Request::Limit {
-            id: id(alloc, b"a", seq)?,
-            from_day,
-            cap,
-            login: login(alloc, b"u")?,
-        };
-        check_request(&rt, alloc, frame, request)?;
-    }
-    Ok(())
-}
-
-#[test]
-fn frames_of_reports(rt: HostRuntime) -> Result<(), Fail> {
-    let alloc = rt.alloc();
-    let usage = Request::Usage {
-        login: login(alloc, b"u")?,
-        day: 1,
-    };
-    check_request(&rt, alloc, "0007 05 0175 00000001", usage)?;
-    let first_page = Request::List {
-        day: 1,
-        after: login(alloc, b"")?,
-    };
-    check_request(&rt, alloc, "0006 06 00000001 00", first_page)?;
-    let next_page = Request::List {
-        day: 1,
-        after: login(alloc, b"u")?,
-    };
-    check_request(&rt, alloc, "0007 06 00000001 0175", next_page)?;
-    Ok(())
-}
-
-/// What decoding a body refuses, `None` where it gives a request.
-fn fault_of(alloc: Global, text: &str) -> Result<Option<DecodeFault>, Fail> {
-    Ok(decoded(alloc, &bytes_of(alloc, text)?).err())
-}
-
-/// The edges of the ranges, from within.
-#[test]
-fn bodies_in_the_frame_grammar(rt: HostRuntime) -> Result<(), Fail> {
-    let alloc = rt.alloc();
-    let bodies = [
-        "05 0175 0005bd88",
+/// The edges of the ranges, from within and from without: what decoding a body refuses.
+const BODIES: &[(&str, Option<DecodeFault>)] = &[
+    ("05 0175 0005bd88", None),
+    (
         "04 0161 0000000000000001 00000001 00000001 000f4240 0175",
+        None,
+    ),
+    (
         "01 0161 0000ffffffffffff 00000001 00000001 00000007915ecc00 0175 000003e8",
-        "06 00000000 00",
-    ];
-    for text in bodies {
-        assert_eq!(rt; fault_of(alloc, text)?, None, "at {text}");
-    }
-    Ok(())
-}
-
-/// The edges of the ranges, from without.
-const BODIES_OUT_OF_RANGE: [&str; 12] = [
-    "05 0175 0005bd89",
-    "04 0161 0000000000000001 00000001 00000001 000f4241 0175",
-    "01 0161 0001000000000000 00000001 00000001 00000007915ecc00 0175 000003e8",
-    "01 0161 0000ffffffffffff 00000001 00000001 00000007915ecc01 0175 000003e8",
-    "01 0161 0000ffffffffffff 00000001 00000001 00000007915ecc00 0175 000003e9",
-    "01 0161 0000ffffffffffff 00000001 00000001 00000007915ecc00 0175 00000000",
-    "05 00 00000001",
-    "01 015f 0000000000000001 00000001 00000001 0000000000015180 0175 00000001",
-    "07",
-    "",
-    "05 0175 00000001 00",
-    "01 0161 0000000000000001 00000001 00000001 000000000001517f 0175 00000001",
+        None,
+    ),
+    ("06 00000000 00", None),
+    ("05 0175 0005bd89", Some(DecodeFault::Bad)),
+    (
+        "04 0161 0000000000000001 00000001 00000001 000f4241 0175",
+        Some(DecodeFault::Bad),
+    ),
+    (
+        "01 0161 0001000000000000 00000001 00000001 00000007915ecc00 0175 000003e8",
+        Some(DecodeFault::Bad),
+    ),
+    (
+        "01 0161 0000ffffffffffff 00000001 00000001 00000007915ecc01 0175 000003e8",
+        Some(DecodeFault::Bad),
+    ),
+    (
+        "01 0161 0000ffffffffffff 00000001 00000001 00000007915ecc00 0175 000003e9",
+        Some(DecodeFault::Bad),
+    ),
+    (
+        "01 0161 0000ffffffffffff 00000001 00000001 00000007915ecc00 0175 00000000",
+        Some(DecodeFault::Bad),
+    ),
+    ("05 00 00000001", Some(DecodeFault::Bad)),
+    (
+        "01 015f 0000000000000001 00000001 00000001 0000000000015180 0175 00000001",
+        Some(DecodeFault::Bad),
+    ),
+    ("07", Some(DecodeFault::Bad)),
+    ("", Some(DecodeFault::Bad)),
+    ("05 0175 00000001 00", Some(DecodeFault::Bad)),
+    (
+        "01 0161 0000000000000001 00000001 00000001 000000000001517f 0175 00000001",
+        Some(DecodeFault::Bad),
+    ),
 ];
 
 #[test]
-fn bodies_outside_the_frame_grammar(rt: HostRuntime) -> Result<(), Fail> {
+fn bodies_at_the_edges(rt: HostRuntime) -> Result<(), Fail> {
     let alloc = rt.alloc();
-    for text in BODIES_OUT_OF_RANGE {
-        assert_eq!(rt; fault_of(alloc, text)?, Some(DecodeFault::Bad), "at {text}");
+    for (body, fault) in BODIES {
+        let found = decoded(alloc, &bytes_of(alloc, body)?).err();
+        assert_eq!(rt; found, *fault, "at {body}");
     }
     Ok(())
 }

@@ -1,9 +1,8 @@
 //! The values of the link: their parts, their ranges, and how they are printed.
 
-use crate::fixtures::{check_text, id, login, page};
-use mq_frame::{
-    DecodeFault, Escaped, Host, Login, Memory, Reply, Request, Text, is_reply, is_request,
-};
+use crate::fixtures::{check_text, id, login, page, request_of};
+use mq_frame::{Escaped, Host, Login, Reply, Request, Text, is_reply, is_request};
+use std::alloc::{AllocError, Global};
 use std::process::Abort;
 use std::test::Fail;
 
@@ -30,28 +29,38 @@ fn pages_keep_their_rows(rt: HostRuntime) -> Result<(), Fail> {
     Ok(())
 }
 
+/// Whether the number 4 of a host is that of `mx1`.
+fn is_same_number(alloc: Global, host: &[u8]) -> Result<bool, AllocError> {
+    let number = id(alloc, host, 4)?;
+    let wanted = id(alloc, b"mx1", 4)?;
+    Ok(number.is_same(&wanted))
+}
+
 #[test]
 fn numbers_compare_by_their_parts(rt: HostRuntime) -> Result<(), Fail> {
-    let number = id(rt.alloc(), b"mx1", 4)?;
-    assert!(rt; number.is_same(&number.clone()?));
-    assert!(rt; !number.is_same(&id(rt.alloc(), b"mx2", 4)?));
+    assert!(rt; is_same_number(rt.alloc(), b"mx1")?);
+    assert!(rt; !is_same_number(rt.alloc(), b"mx2")?);
     Ok(())
+}
+
+/// The body of a release of host `mx1` and login `alice`.
+const RELEASE: &str =
+    "03 036d7831 0000000000000001 00000004 00000001 0000000000015180 05616c696365";
+
+/// The body of a report for login `alice`.
+const USAGE: &str = "05 05616c696365 00000001";
+
+/// Whether the request of a body is the release.
+fn is_same_request(alloc: Global, body: &str) -> Result<bool, Fail> {
+    let request = request_of(alloc, body)?;
+    let wanted = request_of(alloc, RELEASE)?;
+    Ok(request.is_same(&wanted))
 }
 
 #[test]
 fn requests_compare_by_their_parts(rt: HostRuntime) -> Result<(), Fail> {
-    let request = Request::Release {
-        id: id(rt.alloc(), b"mx1", 4)?,
-        txn: 1,
-        at: 86_400,
-        login: login(rt.alloc(), b"alice")?,
-    };
-    assert!(rt; request.is_same(&request.clone()?));
-    let other = Request::Usage {
-        login: login(rt.alloc(), b"alice")?,
-        day: 1,
-    };
-    assert!(rt; !request.is_same(&other));
+    assert!(rt; is_same_request(rt.alloc(), RELEASE)?);
+    assert!(rt; !is_same_request(rt.alloc(), USAGE)?);
     Ok(())
 }
 
@@ -66,10 +75,10 @@ fn has_request_frame(request: Request) -> bool {
 /// A page of 101 rows has no frame.
 #[test]
 fn pages_out_of_range(rt: HostRuntime) -> Result<(), Fail> {
-    for (count, is_in_range) in [(100, true), (101, false)] {
-        let rows = page(rt.alloc(), count)?;
+    for (count, is_in_range) in &[(100, true), (101, false)] {
+        let rows = page(rt.alloc(), *count)?;
         let found = has_reply_frame(Reply::List { day: 1, rows });
-        assert!(rt; found == is_in_range, "{count} rows");
+        assert!(rt; found == *is_in_range, "{count} rows");
     }
     Ok(())
 }
@@ -84,22 +93,18 @@ fn names_out_of_range(rt: HostRuntime) -> Result<(), Fail> {
     Ok(())
 }
 
-#[test]
-fn text_of_faults(rt: HostRuntime) -> Result<(), Fail> {
-    check_text(&rt, rt.alloc(), Memory, "out of memory")?;
-    check_text(&rt, rt.alloc(), DecodeFault::Memory, "out of memory")
-}
+/// Bytes and how they are printed.
+const ESCAPED: &[(&[u8], &str)] = &[
+    (b"mx1.example-2", "mx1.example-2"),
+    (b"a b\\", "a\\x20b\\x5c"),
+    (b"\x20\x21\x7e\x7f", "\\x20!~\\x7f"),
+    (b"\x00\xff|\n", "\\x00\\xff|\\x0a"),
+];
 
 #[test]
 fn bytes_that_others_chose(rt: HostRuntime) -> Result<(), Fail> {
-    let rows: [(&[u8], &str); 4] = [
-        (b"mx1.example-2", "mx1.example-2"),
-        (b"a b\\", "a\\x20b\\x5c"),
-        (b"\x20\x21\x7e\x7f", "\\x20!~\\x7f"),
-        (b"\x00\xff|\n", "\\x00\\xff|\\x0a"),
-    ];
-    for (bytes, text) in rows {
-        check_text(&rt, rt.alloc(), Escaped(bytes), text)?;
+    for (bytes, text) in ESCAPED {
+        check_text(&rt, rt.alloc(), &Escaped(bytes), text)?;
     }
     Ok(())
 }

@@ -5,12 +5,13 @@ ghost use Rattle.mq_ledger.specs.Answer.{history_of, replies_after};
 ghost use Rattle.mq_ledger.specs.Day.{day_of};
 ghost use Rattle.mq_ledger.specs.History.{requests as requests_of};
 
-use super::{granted, ledger, reserve, usage, used};
 use crate::fails_once::FailsOnce;
+use crate::fixtures::{printed, request_of};
+use crate::serving::ledger;
 use mq_frame::{Reply, Request, is_request};
 use mq_ledger::laws::one_more_arrival;
 use mq_ledger::{Ledger, LedgerFault};
-use std::alloc::{AllocError, Global};
+use std::alloc::Global;
 use std::process::Abort;
 use std::test::Fail;
 
@@ -39,9 +40,19 @@ fn apply_all<L: Ledger>(
     Ok(replies)
 }
 
-/// A reserve, and what was used then.
-fn two(alloc: Global) -> Result<[Request; 2], AllocError> {
-    Ok([reserve(alloc, 1, 1, 1)?, usage(alloc)?])
+/// The bodies of a reserve, and of what was used then.
+const BODIES: &[&str] = &[
+    "01 0161 0000000000000001 00000001 00000001 0000000000015180 0175 00000001",
+    "05 0175 00000001",
+];
+
+/// The requests of the bodies.
+fn requests(alloc: Global) -> Result<Vec<Request>, Fail> {
+    let mut requests = Vec::new(alloc);
+    for body in BODIES {
+        requests.push(request_of(alloc, body)?)?;
+    }
+    Ok(requests)
 }
 
 /// The replies to two requests. Without clauses, so that its callers stay cheap to prove.
@@ -49,52 +60,52 @@ fn replies_to<L: Ledger>(
     rt: &impl Abort,
     alloc: Global,
     ledger: &mut L,
-    requests: &[Request; 2],
+    requests: &[Request],
 ) -> Result<Vec<Reply>, LedgerFault> {
-    let [first, second] = requests;
+    let [first, second] = requests else {
+        return Ok(Vec::new(alloc));
+    };
     assert!(rt; is_request(first));
     assert!(rt; is_request(second));
     apply_all(alloc, ledger, requests)
 }
 
-fn check_reply(
+/// What a ledger replies to the requests, as it is printed.
+fn printed_replies<L: Ledger>(
     rt: &impl Abort,
-    replies: &[Reply],
-    place: usize,
-    wanted: Result<Reply, AllocError>,
-) -> Result<(), Fail> {
-    assert!(rt; place < replies.len());
-    assert_eq!(rt; replies[place], wanted?);
-    Ok(())
+    alloc: Global,
+    ledger: &mut L,
+) -> Result<String, Fail> {
+    let replies = replies_to(rt, alloc, ledger, &requests(alloc)?);
+    Ok(printed(alloc, &replies)?)
 }
+
+/// The host is `a`, and the login `u`.
+const REPLIES: &str = "Ok([Granted { id: Id { host: [97], run: 1, seq: 1 }, used: 1 }, \
+                       Usage { login: [117], day: 1, settled: 0, reserved: 1, cap: 3 }])";
 
 #[test]
 fn over_any_ledger(rt: HostRuntime) -> Result<(), Fail> {
     let alloc = rt.alloc();
-    let requests = two(alloc)?;
-    let mut plain = ledger(alloc, 3)?;
-    let replies = replies_to(&rt, alloc, &mut plain, &requests)?;
-    assert_eq!(rt; replies.len(), 2);
-    check_reply(&rt, &replies, 0, granted(alloc, 1, 1))?;
-    check_reply(&rt, &replies, 1, used(alloc, 0, 1))
+    let mut plain = ledger(&rt, alloc, 3)?;
+    assert_eq!(rt; printed_replies(&rt, alloc, &mut plain)?.as_str(), REPLIES);
+    Ok(())
 }
 
 #[test]
 fn over_a_ledger_that_fails_once(rt: HostRuntime) -> Result<(), Fail> {
     let alloc = rt.alloc();
-    let requests = two(alloc)?;
     let mut failing = FailsOnce {
-        ledger: ledger(alloc, 3)?,
+        ledger: ledger(&rt, alloc, 3)?,
         calls_before: 1,
         fault: LedgerFault::Store,
     };
-    assert_eq!(rt;
-        replies_to(&rt, alloc, &mut failing, &requests).err(),
-        Some(LedgerFault::Store)
-    );
-    let again = replies_to(&rt, alloc, &mut failing, &requests)?;
-    assert_eq!(rt; again.len(), 2);
-    check_reply(&rt, &again, 0, granted(alloc, 1, 1))?;
+    for replies in &["Err(Store)", REPLIES] {
+        assert_eq!(rt;
+            printed_replies(&rt, alloc, &mut failing)?.as_str(),
+            *replies
+        );
+    }
     assert_eq!(rt; failing.default_cap(), 3);
     assert_eq!(rt; failing.zone().minutes(), 0);
     Ok(())

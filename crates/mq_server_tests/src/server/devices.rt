@@ -7,7 +7,7 @@ use std::alloc::AllocError;
 use std::cell::Cell;
 
 /// Gives its bytes in pieces of at most `size`, and fails once `reads` of them were read.
-#[derive(Drop)]
+#[derive(Clone, Copy)]
 pub struct Pieces<'a> {
     pub rest: &'a [u8],
     pub size: usize,
@@ -54,35 +54,44 @@ impl Source for Pieces<'_> {
     }
 }
 
-/// Takes so many bytes, at most 5 of them at a time, and then fails.
-#[derive(Drop)]
-pub struct Room {
-    pub bytes: Vec<u8>,
+/// Takes so many bytes, at most 5 of them at a time, and then fails. It keeps none of them, but
+/// what of the wanted ones is still to come, and whether others came.
+#[derive(Clone, Copy)]
+pub struct Room<'a> {
+    pub wanted: &'a [u8],
     pub left: usize,
     pub failed: bool,
+    pub strayed: bool,
 }
 
-impl Room {
-    pub fn new(bytes: Vec<u8>, left: usize) -> Room {
+impl<'a> Room<'a> {
+    pub fn new(wanted: &'a [u8], left: usize) -> Room<'a> {
         Room {
-            bytes,
+            wanted,
             left,
             failed: false,
+            strayed: false,
         }
+    }
+
+    /// Whether just the wanted bytes were written.
+    pub fn is_right(&self) -> bool {
+        self.wanted.is_empty() && !self.strayed
     }
 }
 
-impl Sink for Room {
+impl Sink for Room<'_> {
     ghost has_failed = { λ sink. sink.failed };
 
     fn write(&mut self, piece: &[u8]) -> Result<usize, Failed> {
         let count = piece.len().min(self.left).min(5);
-        if self.failed
-            || (count == 0 && !piece.is_empty())
-            || self.bytes.extend_from_slice(&piece[..count]).is_err()
-        {
+        if self.failed || (count == 0 && !piece.is_empty()) {
             self.failed = true;
             return Err(Failed);
+        }
+        match self.wanted.strip_prefix(&piece[..count]) {
+            Some(rest) => self.wanted = rest,
+            None => self.strayed = true,
         }
         self.left -= count;
         Ok(count)
@@ -97,7 +106,7 @@ impl Sink for Room {
 }
 
 /// Gives a byte at a time, and notes whether one was read before all that was written was flushed.
-#[derive(Drop)]
+#[derive(Clone, Copy)]
 pub struct Watching<'a> {
     pub rest: &'a [u8],
     pub unflushed: &'a Cell<bool>,
@@ -125,7 +134,7 @@ impl Source for Watching<'_> {
 }
 
 /// Takes everything, and keeps nothing.
-#[derive(Drop)]
+#[derive(Clone, Copy)]
 pub struct Flushing<'a> {
     pub unflushed: &'a Cell<bool>,
 }
