@@ -42,7 +42,7 @@ fn assert_shown<R: AllocGlobal + Abort>(
 
 #[test]
 fn help(rt: HostRuntime) -> Result<(), Fail> {
-    let rows: [(&[&str], &str); 7] = [
+    let rows: &[(&[&str], &str)] = &[
         (
             &["mailquota", "--help"],
             "Daily recipient limits for smtpd, shared by all outgoing hosts
@@ -150,7 +150,7 @@ Options:
 
 #[test]
 fn usage_faults(rt: HostRuntime) -> Result<(), Fail> {
-    let rows: [(&[&str], &str); 9] = [
+    let rows: &[(&[&str], &str)] = &[
         (
             &["mailquota", "audit"],
             "error: the following required arguments were not provided:
@@ -407,7 +407,7 @@ For more information, try '--help'.
 
 #[test]
 fn words_of_subcommands(rt: HostRuntime) -> Result<(), Fail> {
-    let rows: [(&[&str], &str); 7] = [
+    let rows: &[(&[&str], &str)] = &[
         (
             &["mailquota", "filter", "--config", "f.toml"],
             "Filter(FilterArguments { config: \"f.toml\", run: None })",
@@ -453,7 +453,7 @@ fn words_of_subcommands(rt: HostRuntime) -> Result<(), Fail> {
 
 #[test]
 fn replay_words(rt: HostRuntime) -> Result<(), Fail> {
-    let rows: [(&[&str], u32, i32, bool); 3] = [
+    let rows: &[(&[&str], u32, i32, bool)] = &[
         (&["mailquota", "replay"], 100, 0, false),
         (
             &[
@@ -485,9 +485,9 @@ fn replay_words(rt: HostRuntime) -> Result<(), Fail> {
     for (words, default, offset, sql) in rows {
         let given = strings(rt.alloc(), words)?;
         let wanted = ReplayArguments {
-            default,
-            offset,
-            sql,
+            default: *default,
+            offset: *offset,
+            sql: *sql,
         };
         match read_arguments(rt.alloc(), given.as_slice()) {
             Ok(found) => {
