@@ -1,19 +1,32 @@
-//! What tests of several libraries assert. It has no clauses, so that a long test stays cheap to prove.
+//! What tests of several libraries assert.
 
 use std::alloc::Global;
 use std::fmt::Display;
 use std::process::Abort;
-use std::test::Fail;
+
+/// Why memory is never lacking where a test asks for it.
+pub const MEMORY: &str = "memory is there";
+
+/// How a value prints.
+pub fn printed<T: Display>(rt: &impl Abort, alloc: Global, value: &T) -> String {
+    format!(in alloc; "{value}").expect(rt, MEMORY)
+}
 
 /// Asserts how each of these values prints.
-pub fn assert_printed<T: Display>(
-    rt: &impl Abort,
-    alloc: Global,
-    rows: &[(T, &str)],
-) -> Result<(), Fail> {
+pub fn assert_printed<T: Display>(rt: &impl Abort, alloc: Global, rows: &[(T, &str)]) {
     for (value, text) in rows {
-        let printed = format!(in alloc; "{value}")?;
-        assert_eq!(rt; printed.as_str(), *text);
+        assert_eq!(rt; printed(rt, alloc, value).as_str(), *text);
     }
-    Ok(())
+}
+
+pub fn assert_that(rt: &impl Abort, holds: bool, what: &str) {
+    assert!(rt; holds, "{what}");
+}
+
+pub fn assert_bytes(rt: &impl Abort, got: &[u8], wanted: &[u8]) {
+    assert_eq!(rt; got, wanted);
+}
+
+pub fn assert_count(rt: &impl Abort, got: usize, wanted: usize, what: &str) {
+    assert_eq!(rt; got, wanted, "{what}");
 }

@@ -1,13 +1,13 @@
 //! Why recipients are refused without asking, as the log tells it.
 use super::*;
 
-const NAMELESS: &[u8] = b"report|0.7|1576146008.006099|smtp-in|link-auth|7641df9771b4ed00|pass|
+const NAMELESS: &str = "report|0.7|1576146008.006099|smtp-in|link-auth|7641df9771b4ed00|pass|
 ";
 
-const BOB: &[u8] = b"report|0.7|1576146010.006099|smtp-in|link-auth|7641df9771b4ed00|pass|bob
+const BOB: &str = "report|0.7|1576146010.006099|smtp-in|link-auth|7641df9771b4ed00|pass|bob
 ";
 
-const EARLY: &[u8] = b"report|0.7|0000086399.000000|smtp-in|tx-begin|7641df9771b4ed00|4c56d3a1
+const EARLY: &str = "report|0.7|0000086399.000000|smtp-in|tx-begin|7641df9771b4ed00|4c56d3a1
 ";
 
 const NO_TRANSACTION: &str = "session 7641df9771b4ed00 (login alice): recipients are refused, \
@@ -24,39 +24,56 @@ const ANOTHER: &str = "session 7641df9771b4ed00 (login bob): recipients are refu
 
 const UNANSWERED: &str = "reserve 1 of transaction 1 (host mx1, login alice): no answer in 1 tries";
 
-/// What smtpd writes, and what the log says then.
-const CASES: &[(&[&[u8]], &[&str])] = &[
-    (&[CONFIG, AUTH, RECIPIENT, RECIPIENT], &[NO_TRANSACTION]),
-    (
-        &[CONFIG, NAMELESS, BEGIN, RECIPIENT, RECIPIENT],
-        &[NO_LOGIN],
-    ),
-    (&[CONFIG, AUTH, EARLY, RECIPIENT], &[NO_DAY]),
-    // each cause once
-    (
-        &[CONFIG, AUTH, RECIPIENT, EARLY, RECIPIENT, RECIPIENT],
-        &[NO_TRANSACTION, NO_DAY],
-    ),
+const REFUSES_TWO: &[&str] = &[REGISTRATION, SERVICE, SERVICE];
+
+/// Each cause is told once in a session.
+const CAUSES: &[Row<'static>] = &[
+    Row {
+        name: "no transaction, told once",
+        lines: &[CONFIG, AUTH, RECIPIENT, RECIPIENT],
+        ended: TWO_ANSWERS,
+        text: REFUSES_TWO,
+        log: Some(&[NO_TRANSACTION]),
+        ..PLAIN
+    },
+    Row {
+        name: "no login, told once",
+        lines: &[CONFIG, NAMELESS, BEGIN, RECIPIENT, RECIPIENT],
+        ended: TWO_ANSWERS,
+        text: REFUSES_TWO,
+        log: Some(&[NO_LOGIN]),
+        ..PLAIN
+    },
+    Row {
+        name: "no day",
+        lines: &[CONFIG, AUTH, EARLY, RECIPIENT],
+        text: REFUSES,
+        log: Some(&[NO_DAY]),
+        ..PLAIN
+    },
+    Row {
+        name: "two causes",
+        lines: &[CONFIG, AUTH, RECIPIENT, EARLY, RECIPIENT, RECIPIENT],
+        ended: THREE_ANSWERS,
+        text: &[REGISTRATION, SERVICE, SERVICE, SERVICE],
+        log: Some(&[NO_TRANSACTION, NO_DAY]),
+        ..PLAIN
+    },
     // the server is down, and the transaction is held
-    (
-        &[CONFIG, AUTH, BEGIN, RECIPIENT, BOB, RECIPIENT],
-        &[UNANSWERED, ANOTHER],
-    ),
+    Row {
+        name: "another login",
+        tries: 1,
+        lines: &[CONFIG, AUTH, BEGIN, RECIPIENT, BOB, RECIPIENT],
+        ended: TWO_ANSWERS,
+        text: REFUSES_TWO,
+        sent: Sent::Frames(&[RESERVE]),
+        held: 1,
+        log: Some(&[UNANSWERED, ANOTHER]),
+        ..PLAIN
+    },
 ];
 
-/// The log of a filter that is given these lines, while the server is down.
-fn log_of(alloc: Global, lines: &[&[u8]]) -> Result<Kept, Fail> {
-    let input = joined(alloc, lines)?;
-    let log = Kept::new(alloc);
-    let written = run(&log, alloc, 1, no_replies(alloc), &input)?;
-    written.ran.ended?;
-    Ok(log)
-}
-
 #[test]
-fn each_cause_is_told_once_in_a_session(rt: HostRuntime) -> Result<(), Fail> {
-    for (lines, wanted) in CASES {
-        assert_lines(&rt, log_of(rt.alloc(), lines)?, wanted);
-    }
-    Ok(())
+fn each_cause_is_told_once_in_a_session(rt: HostRuntime) {
+    assert_rows(&rt, rt.alloc(), CAUSES);
 }

@@ -1,6 +1,7 @@
 //! Each answer is flushed before the next read.
 ghost use Rattle.std.specs.Prelude.{◌≡◌, ◌∷◌, ◌++◌, [], true, false};
 
+use super::devices::Taker;
 use super::*;
 use mq_frame::Failed;
 use std::cell::Cell;
@@ -34,6 +35,22 @@ fn keep(alloc: Global, given: &mut Vec<Bytes>, piece: &[u8]) -> bool
     given.push(piece).is_ok()
 }
 
+impl<'a> Watching<'a> {
+    fn new(alloc: Global, rest: &'a [u8], flushed: &'a Cell<usize>) -> Watching<'a> {
+        Watching {
+            alloc,
+            rest,
+            pieces: PIECES,
+            due: 0,
+            flushed,
+            off: false,
+            most: 0,
+            given: Vec::new(alloc),
+            tells: true,
+        }
+    }
+}
+
 impl Source for Watching<'_> {
     ghost use Rattle.std.specs.Prelude.{false, if◌then◌else◌, Some, None};
 
@@ -63,58 +80,7 @@ impl Source for Watching<'_> {
     }
 }
 
-/// Takes everything, and notes how many of its bytes were flushed.
-#[derive(Drop)]
-struct Flushing<'a> {
-    taken: Vec<u8>,
-    flushed: &'a Cell<usize>,
-    /// Whether each flush fails.
-    is_stuck: bool,
-    /// All that was taken was flushed.
-    clean: bool,
-    failed: bool,
-}
-
-impl Sink for Flushing<'_> {
-    ghost use Rattle.std.specs.Prelude.{Some};
-
-    ghost has_flushed = { λ sink. Some sink.clean };
-
-    ghost has_failed = { λ sink. sink.failed };
-
-    fn write(&mut self, piece: &[u8]) -> Result<usize, Failed> {
-        if self.failed || self.taken.extend_from_slice(piece).is_err() {
-            self.failed = true;
-            return Err(Failed);
-        }
-        self.clean = self.clean && piece.is_empty();
-        Ok(piece.len())
-    }
-
-    fn flush(&mut self) -> Result<(), Failed> {
-        if self.failed || self.is_stuck {
-            self.failed = true;
-            return Err(Failed);
-        }
-        self.flushed.set(self.taken.len());
-        self.clean = true;
-        Ok(())
-    }
-}
-
-impl<'a> Flushing<'a> {
-    fn new(alloc: Global, flushed: &'a Cell<usize>, is_stuck: bool) -> Flushing<'a> {
-        Flushing {
-            taken: Vec::new(alloc),
-            flushed,
-            is_stuck,
-            clean: true,
-            failed: false,
-        }
-    }
-}
-
-/// The reads of `flushes_before_it_reads`: the front, two answers in one read, a line in two pieces.
+/// The reads: the front, two answers in one read, a line in two pieces.
 const PIECES: &[(usize, usize)] = &[
     (CONFIG.len(), REGISTRATION.len()),
     (
@@ -126,7 +92,7 @@ const PIECES: &[(usize, usize)] = &[
     (COMMIT.len(), 0),
 ];
 
-const LINES: &[&[u8]] = &[CONFIG, AUTH, BEGIN, RECIPIENT, RECIPIENT, RECIPIENT, COMMIT];
+const LINES: &[&str] = &[CONFIG, AUTH, BEGIN, RECIPIENT, RECIPIENT, RECIPIENT, COMMIT];
 
 const REPLIES: &[Reply<'static>] = &[
     GRANTED,
@@ -135,54 +101,63 @@ const REPLIES: &[Reply<'static>] = &[
     Reply::Body("83 036d7831 0000000000000001 00000004 00000002"),
 ];
 
-const ANSWERS: &[&[u8]] = &[REGISTRATION, PROCEED, PROCEED, LIMIT];
+const ANSWERS: &[&str] = &[REGISTRATION, PROCEED, PROCEED, LIMIT];
 
-#[test]
-fn flushes_before_it_reads(rt: HostRuntime) -> Result<(), Fail> {
-    let alloc = rt.alloc();
-    let input = joined(alloc, LINES)?;
-    let script = script_of(alloc, REPLIES)?;
-    let flushed = Cell::new(0);
-    let mut source = Watching {
-        alloc,
-        rest: &input,
-        pieces: PIECES,
-        due: 0,
-        flushed: &flushed,
-        off: false,
-        most: 0,
-        given: Vec::new(alloc),
-        tells: true,
-    };
-    let mut sink = Flushing::new(alloc, &flushed, false);
-    let ran = filter(&Discard, alloc, 3, script, &mut source, &mut sink)?;
-    let end = Ended {
-        answers: 3,
-        left: 0,
-    };
-    assert_ended(&rt, ran.ended, Ok(end), "flushed");
-    assert!(rt; source.pieces.is_empty());
-    assert!(rt; !source.off);
-    assert!(rt; source.most <= 4096);
+/// A run whose sink fails at each flush or at none.
+#[derive(Clone, Copy)]
+struct Case {
+    is_stuck: bool,
+    ended: End,
+    taken: usize,
+    reads: usize,
+    exchanges: usize,
+}
+
+const FLUSHED: Case = Case {
+    is_stuck: false,
+    ended: THREE_ANSWERS,
+    taken: REGISTRATION.len() + 2 * PROCEED.len() + LIMIT.len(),
     // the last read finds the end
-    assert!(rt; source.tells);
-    assert_count(&rt, source.given.len(), PIECES.len() + 1, "reads");
-    assert_text(&rt, alloc, &sink.taken, ANSWERS)
+    reads: PIECES.len() + 1,
+    exchanges: 4,
+};
+
+const STUCK: Case = Case {
+    is_stuck: true,
+    ended: Err(FilterFault::Write),
+    taken: REGISTRATION.len(),
+    reads: 1,
+    exchanges: 0,
+};
+
+fn assert_flushes(rt: &impl Abort, alloc: Global, case: &Case) {
+    let input = joined(rt, alloc, LINES);
+    let output = joined(rt, alloc, ANSWERS);
+    let flushed = Cell::new(0);
+    let mut rig = rig_of(rt, alloc, 3, REPLIES);
+    let mut source = Watching::new(alloc, input.as_bytes(), &flushed);
+    let mut sink = Taker::wide(output.as_bytes(), &flushed, case.is_stuck);
+    let ended = run(alloc, &mut rig, &mut source, &mut sink);
+    assert_ended(rt, ended, case.ended, "flushes");
+    assert_watched(rt, &source, case.reads);
+    assert_that(rt, !sink.is_other, "what was written");
+    assert_count(rt, sink.taken, case.taken, "bytes");
+    assert_count(rt, rig.link.kept().len(), case.exchanges, "exchanges");
+}
+
+fn assert_watched(rt: &impl Abort, source: &Watching<'_>, reads: usize) {
+    assert_that(rt, !source.off, "what was due was flushed");
+    assert_that(
+        rt,
+        source.most <= 4096,
+        "a read asks for 4,096 bytes at most",
+    );
+    assert_that(rt, source.tells, "the reads were kept");
+    assert_count(rt, source.given.len(), reads, "reads");
 }
 
 #[test]
-fn a_flush_fails(rt: HostRuntime) -> Result<(), Fail> {
-    let alloc = rt.alloc();
-    let input = joined(alloc, ONE_RECIPIENT)?;
-    let script = no_replies(alloc);
-    let flushed = Cell::new(0);
-    let mut source = FromRead::new(input.as_slice());
-    let mut sink = Flushing::new(alloc, &flushed, true);
-    let ran = filter(&Discard, alloc, 3, script, &mut source, &mut sink);
-    let _ = source.into_inner();
-    let ran = ran?;
-    assert_ended(&rt, ran.ended, Err(FilterFault::Write), "a flush fails");
-    assert_bytes(&rt, &sink.taken, REGISTRATION);
-    assert_count(&rt, ran.link.kept().len(), 0, "exchanges");
-    Ok(())
+fn flushes_before_it_reads(rt: HostRuntime) {
+    assert_flushes(&rt, rt.alloc(), &FLUSHED);
+    assert_flushes(&rt, rt.alloc(), &STUCK);
 }

@@ -1,7 +1,7 @@
 //! What a real smtpd, OpenSMTPD 7.6.0p1, wrote to a filter.
 use super::*;
 
-const FRONT: &[u8] = b"config|smtpd-version|7.6.0-portable
+const FRONT: &str = "config|smtpd-version|7.6.0-portable
 config|protocol|0.7
 config|smtp-session-timeout|300
 config|subsystem|smtp-in
@@ -9,7 +9,7 @@ config|admd|vm
 config|ready
 ";
 
-const A_RESET: &[u8] = b"report|0.7|1795329219.245094|smtp-in|link-auth|37ab31835d776ace|pass|u01
+const A_RESET: &str = "report|0.7|1795329219.245094|smtp-in|link-auth|37ab31835d776ace|pass|u01
 report|0.7|1795329219.246102|smtp-in|tx-begin|37ab31835d776ace|3621dc70
 filter|0.7|1795329219.246450|smtp-in|rcpt-to|37ab31835d776ace|6e5fd6102582181a|r1@example.test
 filter|0.7|1795329219.247445|smtp-in|rcpt-to|37ab31835d776ace|6e5fd6102582181a|r2@example.test
@@ -18,8 +18,8 @@ report|0.7|1795329219.248144|smtp-in|tx-reset|37ab31835d776ace|3621dc70
 report|0.7|1795329219.248587|smtp-in|link-disconnect|37ab31835d776ace
 ";
 
-const A_SECOND_MAIL: &[u8] =
-    b"report|0.7|1795329220.402849|smtp-in|link-auth|8830003b8d1c8ffe|pass|u01
+const A_SECOND_MAIL: &str =
+    "report|0.7|1795329220.402849|smtp-in|link-auth|8830003b8d1c8ffe|pass|u01
 report|0.7|1795329220.403778|smtp-in|tx-begin|8830003b8d1c8ffe|5040c0c1
 filter|0.7|1795329220.403977|smtp-in|rcpt-to|8830003b8d1c8ffe|4d35946cb887bc94|r1@example.test
 report|0.7|1795329220.452388|smtp-in|tx-commit|8830003b8d1c8ffe|5040c0c1|510
@@ -31,8 +31,7 @@ report|0.7|1795329220.502284|smtp-in|tx-reset|8830003b8d1c8ffe|4495a441
 report|0.7|1795329220.502808|smtp-in|link-disconnect|8830003b8d1c8ffe
 ";
 
-const TWO_SESSIONS: &[u8] =
-    b"report|0.7|1795329227.087003|smtp-in|link-auth|d1214ca5ddd8451a|pass|u01
+const TWO_SESSIONS: &str = "report|0.7|1795329227.087003|smtp-in|link-auth|d1214ca5ddd8451a|pass|u01
 report|0.7|1795329227.307022|smtp-in|link-auth|d1214ca6b2f3c582|pass|u02
 report|0.7|1795329227.308202|smtp-in|tx-begin|d1214ca5ddd8451a|8e076780
 report|0.7|1795329227.308784|smtp-in|tx-begin|d1214ca6b2f3c582|aa55d61d
@@ -56,20 +55,18 @@ const SITTINGS: &[Row<'static>] = &[
             Reply::Body("84 036d7831 0000000000000001 00000003 00000002"),
         ],
         lines: &[FRONT, A_RESET],
-        ended: Ok(Ended {
-            answers: 2,
-            left: 0,
-        }),
+        ended: TWO_ANSWERS,
         text: &[
             REGISTRATION,
-            b"filter-result|37ab31835d776ace|6e5fd6102582181a|proceed\n",
-            b"filter-result|37ab31835d776ace|6e5fd6102582181a|proceed\n",
+            "filter-result|37ab31835d776ace|6e5fd6102582181a|proceed\n",
+            "filter-result|37ab31835d776ace|6e5fd6102582181a|proceed\n",
         ],
-        frames: &[
+        sent: Sent::Frames(&[
             "002501036d783100000000000000010000000100000001000000006b028cc30375303100000001",
             "002501036d783100000000000000010000000200000001000000006b028cc30375303100000001",
             "002103036d783100000000000000010000000300000001000000006b028cc303753031",
-        ],
+        ]),
+        ..PLAIN
     },
     Row {
         name: "a second mail",
@@ -80,21 +77,19 @@ const SITTINGS: &[Row<'static>] = &[
             Reply::Body("84 036d7831 0000000000000001 00000004 00000000"),
         ],
         lines: &[FRONT, A_SECOND_MAIL],
-        ended: Ok(Ended {
-            answers: 2,
-            left: 0,
-        }),
+        ended: TWO_ANSWERS,
         text: &[
             REGISTRATION,
-            b"filter-result|8830003b8d1c8ffe|4d35946cb887bc94|proceed\n",
-            b"filter-result|8830003b8d1c8ffe|4d35946cb887bc94|reject|550 daily recipient limit reached\n",
+            "filter-result|8830003b8d1c8ffe|4d35946cb887bc94|proceed\n",
+            "filter-result|8830003b8d1c8ffe|4d35946cb887bc94|reject|550 daily recipient limit reached\n",
         ],
-        frames: &[
+        sent: Sent::Frames(&[
             "002501036d783100000000000000010000000100000001000000006b028cc40375303100000001",
             "002502036d783100000000000000010000000200000001000000006b028cc40375303100000001",
             "002501036d783100000000000000010000000300000002000000006b028cc40375303100000001",
             "002103036d783100000000000000010000000400000002000000006b028cc403753031",
-        ],
+        ]),
+        ..PLAIN
     },
     Row {
         name: "two sessions",
@@ -106,27 +101,25 @@ const SITTINGS: &[Row<'static>] = &[
             Reply::Body("84 036d7831 0000000000000001 00000005 00000002"),
         ],
         lines: &[FRONT, TWO_SESSIONS],
-        ended: Ok(Ended {
-            answers: 3,
-            left: 0,
-        }),
+        ended: THREE_ANSWERS,
         text: &[
             REGISTRATION,
-            b"filter-result|d1214ca5ddd8451a|a90d6ef2fbf8626f|proceed\n",
-            b"filter-result|d1214ca6b2f3c582|a90d6ef2fbf8626f|proceed\n",
-            b"filter-result|d1214ca5ddd8451a|a90d6ef2fbf8626f|proceed\n",
+            "filter-result|d1214ca5ddd8451a|a90d6ef2fbf8626f|proceed\n",
+            "filter-result|d1214ca6b2f3c582|a90d6ef2fbf8626f|proceed\n",
+            "filter-result|d1214ca5ddd8451a|a90d6ef2fbf8626f|proceed\n",
         ],
-        frames: &[
+        sent: Sent::Frames(&[
             "002501036d783100000000000000010000000100000001000000006b028ccb0375303100000001",
             "002501036d783100000000000000010000000200000002000000006b028ccb0375303200000001",
             "002501036d783100000000000000010000000300000001000000006b028ccb0375303100000001",
             "002502036d783100000000000000010000000400000002000000006b028ccb0375303200000001",
             "002103036d783100000000000000010000000500000001000000006b028ccb03753031",
-        ],
+        ]),
+        ..PLAIN
     },
 ];
 
 #[test]
-fn real_sittings(rt: HostRuntime) -> Result<(), Fail> {
-    assert_rows(&rt, rt.alloc(), SITTINGS)
+fn real_sittings(rt: HostRuntime) {
+    assert_rows(&rt, rt.alloc(), SITTINGS);
 }

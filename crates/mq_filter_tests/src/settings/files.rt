@@ -1,44 +1,52 @@
 //! The file of settings.
 
-use crate::asserts::assert_printed;
+use crate::asserts::{MEMORY, printed};
 use mq_settings::{FileFault, read_file, read_limited};
 use std::alloc::Global;
-use std::test::Fail;
+use std::process::Abort;
+use std::rt::Files;
 
-// Without clauses, so that the test stays cheap to prove.
-fn read(alloc: Global, text: &[u8]) -> Result<Vec<u8>, FileFault> {
-    read_limited(alloc, text)
-}
-
-fn comment(alloc: Global, count: usize) -> Result<Vec<u8>, Fail> {
-    Ok(vec![in alloc; b'#'; count]?)
-}
-
-#[test]
-fn size_of_the_settings_file(rt: HostRuntime) -> Result<(), Fail> {
-    let text = comment(rt.alloc(), 65_536)?;
-    let taken = read(rt.alloc(), &text)?;
-    assert_eq!(rt; taken.as_slice(), text.as_slice());
-    Ok(())
-}
-
-#[test]
-fn a_settings_file_too_large(rt: HostRuntime) -> Result<(), Fail> {
-    let text = comment(rt.alloc(), 65_537)?;
-    let refused = read(rt.alloc(), &text);
-    assert!(rt; matches!(refused, Err(FileFault::TooLarge)));
-    assert_printed(
-        &rt,
-        rt.alloc(),
-        &[(FileFault::TooLarge, "settings too large")],
-    )
-}
-
-#[test]
-fn no_file_and_a_folder(rt: HostRuntime) -> Result<(), Fail> {
-    for path in ["/", "/no/such/file", ""] {
-        let refused = read_file(&rt, path);
-        assert!(rt; matches!(refused, Err(FileFault::Unreadable(_))), "{path}");
+/// Asserts that a file of these bytes was read, or why it wasn't.
+fn assert_file(
+    rt: &impl Abort,
+    alloc: Global,
+    got: Result<Vec<u8>, FileFault>,
+    wanted: Result<&[u8], &str>,
+) {
+    match got {
+        Ok(bytes) => assert_eq!(rt; Ok(bytes.as_slice()), wanted),
+        Err(fault) => assert_eq!(rt; Err(printed(rt, alloc, &fault).as_str()), wanted),
     }
-    Ok(())
+}
+
+fn comment(rt: &impl Abort, alloc: Global, count: usize) -> Vec<u8> {
+    vec![in alloc; b'#'; count].expect(rt, MEMORY)
+}
+
+fn assert_longest(rt: &impl Abort, alloc: Global) {
+    let text = comment(rt, alloc, 65_536);
+    assert_file(rt, alloc, read_limited(alloc, text.as_slice()), Ok(&text));
+}
+
+fn assert_too_large(rt: &impl Abort, alloc: Global) {
+    let text = comment(rt, alloc, 65_537);
+    let refused = read_limited(alloc, text.as_slice());
+    assert_file(rt, alloc, refused, Err("settings too large"));
+}
+
+/// A folder, a file that isn't there, and no name.
+const UNREADABLE: [&str; 3] = ["/", "/no/such/file", ""];
+
+fn assert_unreadable<R: Abort + Files + AllocGlobal>(rt: &R, path: &str) {
+    let refused = read_file(rt, path);
+    assert_file(rt, rt.alloc(), refused, Err("settings can't be read"));
+}
+
+#[test]
+fn files_of_settings(rt: HostRuntime) {
+    assert_longest(&rt, rt.alloc());
+    assert_too_large(&rt, rt.alloc());
+    for path in UNREADABLE {
+        assert_unreadable(&rt, path);
+    }
 }

@@ -1,4 +1,4 @@
-//! What the tests are made of. None of it has a clause, so that a long test stays cheap to prove.
+//! What the tests are made of.
 
 use mq_line::read_line;
 use mq_track::{CloseEnd, Closing, Standing, TrackFault, Tracker};
@@ -8,10 +8,10 @@ use std::process::Abort;
 /// A line of smtpd and what a tracker answers to it, or how a session stands.
 #[derive(Clone, Copy)]
 pub enum Step<'a> {
-    Line(&'a [u8], Answer),
+    Line(&'a str, Answer),
     /// A line that is given again where an allocation for it fails.
-    Again(&'a [u8], Answer),
-    Session(&'a [u8], Standing<'a>),
+    Again(&'a str, Answer),
+    Session(&'a str, Standing<'a>),
 }
 
 pub type Answer = Result<Option<Closing>, TrackFault>;
@@ -61,17 +61,21 @@ fn take_step(rt: &impl Abort, tracker: &mut Tracker, step: Step<'_>) {
             assert_answer(rt, text, answer, wanted);
         }
         Step::Session(session, wanted) => {
-            assert_eq!(rt; tracker.standing(session), wanted, "session {session:?}");
+            assert_eq!(rt;
+                tracker.standing(session.as_bytes()),
+                wanted,
+                "session {session}"
+            );
         }
     }
 }
 
 /// Takes one line of smtpd.
-fn take(rt: &impl Abort, tracker: &mut Tracker, text: &[u8]) -> Answer {
-    let line = read_line(text).expect(rt, "a line of smtpd");
+fn take(rt: &impl Abort, tracker: &mut Tracker, text: &str) -> Answer {
+    let line = read_line(text.as_bytes()).expect(rt, "a line of smtpd");
     tracker.apply(&line)
 }
 
-fn assert_answer(rt: &impl Abort, text: &[u8], answer: Answer, wanted: Answer) {
-    assert_eq!(rt; answer, wanted, "at {text:?}");
+fn assert_answer(rt: &impl Abort, text: &str, answer: Answer, wanted: Answer) {
+    assert_eq!(rt; answer, wanted, "at {text}");
 }
