@@ -1,7 +1,9 @@
-//! The subcommands over links that answer by a list, by pages or by a ledger.
+//! The subcommands over a link that answers by a script or by a ledger.
 
+mod asks;
 mod limit;
 mod links;
 mod report;
 mod rows;
 mod text;
+mod unanswered;

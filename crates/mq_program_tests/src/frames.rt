@@ -1,7 +1,8 @@
 //! Frames in hexadecimal, and what a server answers to them.
 //!
-//! The helpers have no clauses, so that a long test stays cheap to prove.
+//! The helpers have no clauses, so that a test stays cheap to prove.
 
+use hex::FromHexError;
 use mq_frame::{FromRead, ToWrite};
 use mq_ledger::Ledger;
 use mq_server::{Served, serve};
@@ -27,11 +28,10 @@ pub fn without_spaces(alloc: Global, text: &str) -> Result<String, AllocError> {
 }
 
 /// The bytes of hexadecimal digits. Spaces are passed over.
-pub fn bytes_of(alloc: Global, text: &str) -> Result<Vec<u8>, Fail> {
-    let digits = without_spaces(alloc, text)?;
-    match hex::decode(alloc, digits.as_bytes()) {
-        Ok(bytes) => Ok(bytes),
-        Err(_) => Err("no hexadecimal".into()),
+pub fn bytes_of(alloc: Global, text: &str) -> Result<Vec<u8>, FromHexError> {
+    match without_spaces(alloc, text) {
+        Ok(digits) => hex::decode(alloc, digits.as_bytes()),
+        Err(_) => Err(FromHexError::OutOfMemory),
     }
 }
 

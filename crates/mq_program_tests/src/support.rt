@@ -1,11 +1,11 @@
-//! What the tests share. The helpers have no clauses, so that a long test stays cheap to prove.
+//! What the tests share. The helpers have no clauses, so that a test stays cheap to prove.
 
 use mq_ledger::{PlainLedger, Zone};
 use std::alloc::Global;
-use std::io;
 use std::io::{ErrorKind, Write};
 use std::process::Abort;
 use std::test::Fail;
+use std::{io, str};
 
 /// Days of UTC.
 pub fn utc() -> Result<Zone, Fail> {
@@ -17,9 +17,11 @@ pub fn new_ledger(alloc: Global) -> Result<PlainLedger, Fail> {
     Ok(PlainLedger::new(alloc, utc()?, 3))
 }
 
-/// The text of what was written.
-pub fn text_of(bytes: Vec<u8>) -> Result<String, Fail> {
-    Ok(String::from_utf8(bytes)?)
+/// What a subcommand printed, what it said on `errors` and its status, with a `|` between: as it is told in the rows.
+pub fn told(alloc: Global, printed: &[u8], said: &[u8], status: u8) -> Result<String, Fail> {
+    let printed = str::from_utf8(printed)?;
+    let said = str::from_utf8(said)?;
+    Ok(format!(in alloc; "{printed}|{said}|{status}\n")?)
 }
 
 /// Asserts a text, and says where.
@@ -27,17 +29,11 @@ pub fn assert_text(rt: &impl Abort, found: &str, wanted: &str, at: &str) {
     assert_eq!(rt; found, wanted, "at {at}");
 }
 
-/// Asserts a status and the text that came with it.
-pub fn assert_ended(rt: &impl Abort, ended: (u8, String), status: u8, text: &str) {
-    assert_text(rt, ended.1.as_str(), text, text);
-    assert_eq!(rt; ended.0, status, "at {text}");
-}
-
 /// An output that keeps what it takes and has so much room left; its flush fails where it is told to.
 #[derive(Drop)]
 pub struct Narrow {
     pub taken: Vec<u8>,
-    pub left: usize,
+    left: usize,
     breaks: bool,
 }
 

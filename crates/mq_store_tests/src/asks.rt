@@ -1,8 +1,6 @@
 //! Requests and replies by the hexadecimal digits of their bodies, new ledgers, and ledgers that are asked.
 
-ghost use Rattle.mq_frame.specs.Range.{IsAmount};
-
-use mq_frame::{Reply, Request, decode_reply, decode_request, is_request};
+use mq_frame::{Reply, Request, decode_request, encode_reply, is_reply, is_request};
 use mq_ledger::{Ledger, LedgerFault, PlainLedger, Zone};
 use mq_store::SqlLedger;
 use sqlite::MemStore;
@@ -10,31 +8,22 @@ use std::alloc::Global;
 use std::test::*;
 
 /// Requests with their replies, in turn.
-pub type Asked<'a> = &'a [(&'a str, &'a str)];
+pub type Asked = &'static [(&'static str, &'static str)];
 
 /// The bytes of hexadecimal digits. Spaces are passed over.
-pub fn bytes_of(alloc: Global, text: &str) -> Result<Vec<u8>, Fail> {
+pub fn bytes_of(alloc: Global, text: &str) -> Option<Vec<u8>> {
     let mut digits = String::new(alloc);
     for part in text.split(' ') {
-        digits.push_str(part)?;
+        digits.push_str(part).ok()?;
     }
-    match hex::decode(alloc, digits.as_bytes()) {
-        Ok(bytes) => Ok(bytes),
-        Err(_) => Err("no hexadecimal".into()),
-    }
+    hex::decode(alloc, digits.as_bytes()).ok()
 }
 
-pub fn request_of(alloc: Global, body: &str) -> Result<Request, Fail> {
-    match decode_request(alloc, bytes_of(alloc, body)?.as_slice()) {
-        Ok(request) => Ok(request),
-        Err(_) => Err("no request".into()),
-    }
-}
-
-pub fn reply_of(alloc: Global, body: &str) -> Result<Reply, Fail> {
-    match decode_reply(alloc, bytes_of(alloc, body)?.as_slice()) {
-        Ok(reply) => Ok(reply),
-        Err(_) => Err("no reply".into()),
+/// Whether these are the bytes of the digits.
+pub fn is_body(alloc: Global, body: &[u8], digits: &str) -> bool {
+    match bytes_of(alloc, digits) {
+        Some(bytes) => bytes.as_slice() == body,
+        None => false,
     }
 }
 
@@ -46,34 +35,72 @@ pub fn ask<L: Ledger>(ledger: &mut L, request: &Request) -> Result<Reply, Ledger
     ledger.apply(request)
 }
 
-/// Checks a ledger's replies to requests, in turn. A failure names the request.
-pub fn check<L: Ledger>(alloc: Global, ledger: &mut L, asked: Asked<'_>) -> Result<(), Fail> {
-    for (request, reply) in asked {
-        let replied = ask(ledger, &request_of(alloc, request)?)?;
-        if replied != reply_of(alloc, reply)? {
-            return Err(Fail::new(*request));
-        }
+/// The body of a reply.
+fn body_of(alloc: Global, reply: &Reply) -> Option<Vec<u8>> {
+    let mut frame = Vec::new(alloc);
+    if !is_reply(reply) {
+        return None;
     }
-    Ok(())
+    encode_reply(alloc, reply, &mut frame).ok()?;
+    Vec::from_slice(alloc, frame.get(2..)?).ok()
 }
 
-/// The zone that is so many minutes ahead of UTC.
-pub fn zone(minutes: i32) -> Result<Zone, Fail> {
-    Zone::of_offset(minutes).map_err(|_| Fail::from("no such zone"))
+/// The body of a ledger's reply to a request; none where there is a fault.
+fn reply_to<L: Ledger>(alloc: Global, ledger: &mut L, request: &Request) -> Option<Vec<u8>> {
+    let reply = ask(ledger, request).ok()?;
+    body_of(alloc, &reply)
 }
 
-/// A new plain ledger of offset 0.
-pub fn plain(alloc: Global, default: u32) -> Result<PlainLedger, Fail>
-    requires { IsAmount default }
-{
-    Ok(PlainLedger::new(alloc, zone(0)?, default))
+/// The body of a ledger's reply to a request of this body; none where there is a fault.
+pub fn deliver<L: Ledger>(alloc: Global, ledger: &mut L, body: &[u8]) -> Option<Vec<u8>> {
+    let request = decode_request(alloc, body).ok()?;
+    reply_to(alloc, ledger, &request)
 }
 
-/// A new ledger of offset 0 in tables in memory.
-pub fn tables(alloc: Global, default: u32) -> Result<SqlLedger<MemStore>, Fail>
-    requires { IsAmount default }
-{
-    match SqlLedger::in_memory(alloc, zone(0)?, default) {
+/// The request of these digits.
+pub fn request_of(alloc: Global, digits: &str) -> Option<Request> {
+    let body = bytes_of(alloc, digits)?;
+    decode_request(alloc, body.as_slice()).ok()
+}
+
+/// What a ledger replies to the request of these digits, as `deliver`.
+pub fn reply_of<L: Ledger>(alloc: Global, ledger: &mut L, digits: &str) -> Option<Vec<u8>> {
+    let body = bytes_of(alloc, digits)?;
+    deliver(alloc, ledger, body.as_slice())
+}
+
+/// Whether a ledger replies so to a request; nothing where it doesn't reply.
+pub fn replies<L: Ledger>(
+    alloc: Global,
+    ledger: &mut L,
+    request: &str,
+    reply: &str,
+) -> Option<bool> {
+    let body = reply_of(alloc, ledger, request)?;
+    Some(is_body(alloc, body.as_slice(), reply))
+}
+
+/// Has a ledger take requests in turn; nothing where it doesn't reply to one.
+pub fn ask_in_turn<L: Ledger>(alloc: Global, ledger: &mut L, asked: &[(&str, &str)]) -> Option<()> {
+    for (request, _) in asked {
+        reply_of(alloc, ledger, request)?;
+    }
+    Some(())
+}
+
+/// The zone that is so many minutes ahead of UTC, less than a day.
+pub fn zone(minutes: i32) -> Zone {
+    Zone::of_offset(minutes.clamp(-1439, 1439)).unwrap()
+}
+
+/// A new plain ledger of offset 0. A default is at most 1,000,000.
+pub fn plain(alloc: Global, default: u32) -> PlainLedger {
+    PlainLedger::new(alloc, zone(0), default.min(1_000_000))
+}
+
+/// A new ledger of offset 0 in tables in memory. A default is at most 1,000,000.
+pub fn tables(alloc: Global, default: u32) -> Result<SqlLedger<MemStore>, Fail> {
+    match SqlLedger::in_memory(alloc, zone(0), default.min(1_000_000)) {
         Ok(ledger) => Ok(ledger),
         Err(_) => Err("no tables".into()),
     }

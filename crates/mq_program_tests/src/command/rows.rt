@@ -1,31 +1,39 @@
 //! The worked examples of `replay`.
 
-use super::links::Ended;
 use crate::frames::without_spaces;
-use crate::support::{text_of, utc};
+use crate::support::{assert_text, told, utc};
 use mq_command::run_replay;
-use std::alloc::Global;
+use std::alloc::{AllocError, Global};
 use std::process::Abort;
 use std::test::Fail;
 
-/// What a text prints over a new ledger with a default of 3, where spaces are for the reader
-/// alone, and what is said on `errors`.
+/// What a text prints over a new ledger with such a default, where spaces are for the reader alone, and what is said on
+/// `errors`.
 struct Example {
     what: &'static str,
+    default: u32,
     text: &'static str,
     printed: &'static str,
     said: &'static str,
 }
 
-const ANSWERED: [Example; 12] = [
+/// A reserve.
+const ONE_RESERVE: &str = "0021010161000000000000000100000001000000010000000000015180017500000001";
+
+/// What is told of it.
+const ONE_RESERVE_TOLD: &str = "001381016100000000000000010000000100000001\n||0\n";
+
+const EXAMPLES: [Example; 20] = [
     Example {
         what: "one reserve",
+        default: 3,
         text: "0021010161000000000000000100000001000000010000000000015180017500000001",
         printed: "001381016100000000000000010000000100000001\n",
         said: "",
     },
     Example {
         what: "repeats over two connections",
+        default: 3,
         text: "0021010161000000000000000100000001000000010000000000015180017500000001\n\
             0021010161000000000000000100000001000000010000000000015180017500000001\n\
             0021010161000000000000000100000001000000010000000000015180017500000001\n\n\
@@ -40,6 +48,7 @@ const ANSWERED: [Example; 12] = [
     },
     Example {
         what: "other content under a used number",
+        default: 3,
         text: "0021010161000000000000000100000001000000010000000000015180017500000001 \
             0021 01 0161 0000000000000001 00000001 00000001 0000000000015180 0175 00000002 \
             0007 05 0175 00000001",
@@ -50,6 +59,7 @@ const ANSWERED: [Example; 12] = [
     },
     Example {
         what: "three reserves, of which the third passes the cap",
+        default: 3,
         text: "0021 01 0161 0000000000000001 00000001 00000001 0000000000015180 0175 00000001 \
             0021 01 0161 0000000000000001 00000002 00000001 0000000000015180 0175 00000002 \
             0021 01 0161 0000000000000001 00000003 00000001 0000000000015180 0175 00000001",
@@ -60,6 +70,7 @@ const ANSWERED: [Example; 12] = [
     },
     Example {
         what: "a release, and then an old number again",
+        default: 3,
         text: "0021 01 0161 0000000000000001 00000001 00000001 0000000000015180 0175 00000001 \
             0021 01 0161 0000000000000001 00000002 00000001 0000000000015180 0175 00000002 \
             0021 01 0161 0000000000000001 00000003 00000001 0000000000015180 0175 00000001 \
@@ -76,6 +87,7 @@ const ANSWERED: [Example; 12] = [
     },
     Example {
         what: "the same number from another host",
+        default: 3,
         text: "0021010161000000000000000100000001000000010000000000015180017500000001 \
             0021 01 0162 0000000000000001 00000001 00000001 0000000000015180 0175 00000001",
         printed: "001381016100000000000000010000000100000001 \
@@ -84,6 +96,7 @@ const ANSWERED: [Example; 12] = [
     },
     Example {
         what: "a release of an unheard transaction",
+        default: 3,
         text: "001d 03 0161 0000000000000001 00000002 00000001 0000000000015180 0175 \
             0021010161000000000000000100000001000000010000000000015180017500000001",
         printed: "0013 84 0161 0000000000000001 00000002 00000000 \
@@ -92,6 +105,7 @@ const ANSWERED: [Example; 12] = [
     },
     Example {
         what: "two reserves and one settle",
+        default: 3,
         text: "0021 01 0161 0000000000000001 00000001 00000001 0000000000015180 0175 00000001 \
             0021 01 0161 0000000000000001 00000002 00000001 0000000000015180 0175 00000001 \
             0021 02 0161 0000000000000001 00000003 00000001 0000000000015180 0175 00000001 \
@@ -106,6 +120,7 @@ const ANSWERED: [Example; 12] = [
     },
     Example {
         what: "limits over later days",
+        default: 3,
         text: "0021 01 0161 0000000000000001 00000001 00000001 0000000000015180 0175 00000001 \
             0021 01 0161 0000000000000001 00000002 00000001 0000000000015180 0175 00000002 \
             0021 01 0161 0000000000000001 00000003 00000001 0000000000015180 0175 00000001 \
@@ -122,12 +137,14 @@ const ANSWERED: [Example; 12] = [
     },
     Example {
         what: "an empty input",
+        default: 3,
         text: "",
         printed: "",
         said: "",
     },
     Example {
         what: "the list page",
+        default: 3,
         text: "0021010161000000000000000100000001000000010000000000015180017500000001 \
             0006 06 00000001 00 \
             0007 06 00000001 0175",
@@ -138,6 +155,7 @@ const ANSWERED: [Example; 12] = [
     },
     Example {
         what: "a transaction of another login, and a settle of too many",
+        default: 3,
         text: "0021 01 0161 0000000000000001 00000001 00000001 0000000000015180 0175 00000001 \
             0021 01 0161 0000000000000001 00000002 00000001 0000000000015180 0176 00000001 \
             0021 02 0161 0000000000000001 00000003 00000001 0000000000015180 0175 00000002",
@@ -146,41 +164,51 @@ const ANSWERED: [Example; 12] = [
             0013 89 0161 0000000000000001 00000003 00000001\n",
         said: "",
     },
-];
-
-const REFUSED: [Example; 7] = [
+    Example {
+        what: "a cap of nothing",
+        default: 0,
+        text: ONE_RESERVE,
+        printed: "0017 82 0161 0000000000000001 00000001 00000000 00000000\n",
+        said: "",
+    },
     Example {
         what: "a cut frame",
+        default: 3,
         text: "002101",
         printed: "\n",
         said: "mailquota: connection 1: cut frame\n",
     },
     Example {
         what: "a length of nothing",
+        default: 3,
         text: "0000",
         printed: "00018e\n",
         said: "mailquota: connection 1: bad frame\n",
     },
     Example {
         what: "a length above the limit",
+        default: 3,
         text: "0201",
         printed: "00018e\n",
         said: "mailquota: connection 1: bad frame\n",
     },
     Example {
         what: "a usage with a byte too many",
+        default: 3,
         text: "0008 05 0175 00000001 00",
         printed: "00018e\n",
         said: "mailquota: connection 1: bad frame\n",
     },
     Example {
         what: "a moment before day 1",
+        default: 3,
         text: "002101016100000000000000010000000100000001000000000001517f017500000001",
         printed: "00018e\n",
         said: "mailquota: connection 1: bad frame\n",
     },
     Example {
         what: "the first of several, where those behind it are answered",
+        default: 3,
         text: "0021010161000000000000000100000001000000010000000000015180017500000001\n\n\
             0000\n\n\
             00\n\n\
@@ -192,97 +220,69 @@ const REFUSED: [Example; 7] = [
     },
     Example {
         what: "no hexadecimal",
+        default: 3,
         text: "0g",
         printed: "",
         said: "mailquota: line 1: not hex\n",
     },
 ];
 
-/// A reserve, and its reply.
-const ONE_RESERVE: &str = "0021010161000000000000000100000001000000010000000000015180017500000001";
-
-const ONE_REPLY: &str = "001381016100000000000000010000000100000001\n";
-
-/// What `replay` does with a text, over a list and over tables alike.
-fn replayed(alloc: Global, default: u32, text: &str) -> Result<Ended, Fail> {
-    let listed = replayed_over(alloc, default, text, false)?;
-    let tabled = replayed_over(alloc, default, text, true)?;
-    if tabled.printed != listed.printed
-        || tabled.said != listed.said
-        || tabled.status != listed.status
-    {
-        return Err("tables answer otherwise".into());
-    }
-    Ok(listed)
-}
-
-fn replayed_over(alloc: Global, default: u32, text: &str, sql: bool) -> Result<Ended, Fail> {
+/// What is told of `replay` of a text.
+fn replayed(alloc: Global, default: u32, text: &str, sql: bool) -> Result<String, Fail> {
     if default > 1_000_000 {
         return Err("no default".into());
     }
+    let zone = utc()?;
+    let text = text.as_bytes();
     let mut output = Vec::new(alloc);
     let mut errors = Vec::new(alloc);
-    let status = run_replay(
-        alloc,
-        text.as_bytes(),
-        default,
-        utc()?,
-        sql,
-        &mut output,
-        &mut errors,
-    );
-    Ok(Ended {
-        printed: text_of(output)?,
-        said: text_of(errors)?,
-        status,
-    })
+    let status = run_replay(alloc, text, default, zone, sql, &mut output, &mut errors);
+    told(alloc, output.as_slice(), errors.as_slice(), status)
 }
 
-/// Asserts what an example says.
-fn assert_example(rt: &impl Abort, alloc: Global, example: &Example) -> Result<(), Fail> {
+/// What is to be told of an example.
+fn wanted_of(alloc: Global, example: &Example) -> Result<String, AllocError> {
     let printed = without_spaces(alloc, example.printed)?;
-    replayed(alloc, 3, example.text)?.assert_is(rt, printed.as_str(), example.said, example.what);
+    let status = if example.said.is_empty() { 0 } else { 1 };
+    format!(in alloc; "{printed}|{}|{status}\n", example.said)
+}
+
+/// Asserts what an example says, over a list and over tables alike.
+fn assert_example(rt: &impl Abort, alloc: Global, example: &Example) -> Result<(), Fail> {
+    let wanted = wanted_of(alloc, example)?;
+    for sql in [false, true] {
+        let found = replayed(alloc, example.default, example.text, sql)?;
+        assert_text(rt, found.as_str(), wanted.as_str(), example.what);
+    }
     Ok(())
 }
 
 #[test]
 fn answered_connections(rt: HostRuntime) -> Result<(), Fail> {
-    for example in &ANSWERED {
+    for example in &EXAMPLES {
         assert_example(&rt, rt.alloc(), example)?;
     }
     Ok(())
 }
 
-#[test]
-fn cuts_and_bad_frames(rt: HostRuntime) -> Result<(), Fail> {
-    for example in &REFUSED {
-        assert_example(&rt, rt.alloc(), example)?;
+/// Asserts that a text is answered as the one reserve is.
+fn assert_reserve(rt: &impl Abort, alloc: Global, text: &str) -> Result<(), Fail> {
+    for sql in [false, true] {
+        let found = replayed(alloc, 3, text, sql)?;
+        assert_text(rt, found.as_str(), ONE_RESERVE_TOLD, text);
     }
     Ok(())
-}
-
-/// The one reserve with a line break behind so many digits, and behind the last.
-fn broken_reserve(alloc: Global, digits: usize) -> Result<String, Fail> {
-    match ONE_RESERVE.split_at_checked(digits) {
-        Some((front, rest)) => Ok(format!(in alloc; "{front}\n{rest}\n")?),
-        None => Err("no such digits".into()),
-    }
 }
 
 /// A line break may stand behind any whole byte.
 #[test]
 fn a_reserve_on_two_lines(rt: HostRuntime) -> Result<(), Fail> {
-    let alloc = rt.alloc();
     for cut in 1..35 {
-        let text = broken_reserve(alloc, 2 * cut)?;
-        replayed(alloc, 3, text.as_str())?.assert_is(&rt, ONE_REPLY, "", text.as_str());
+        let (front, rest) = ONE_RESERVE
+            .split_at_checked(2 * cut)
+            .ok_or("no such digits")?;
+        let text = format!(in rt.alloc(); "{front}\n{rest}\n")?;
+        assert_reserve(&rt, rt.alloc(), text.as_str())?;
     }
-    Ok(())
-}
-
-#[test]
-fn a_cap_of_nothing(rt: HostRuntime) -> Result<(), Fail> {
-    let printed = "00178201610000000000000001000000010000000000000000\n";
-    replayed(rt.alloc(), 0, ONE_RESERVE)?.assert_is(&rt, printed, "", "a cap of nothing");
     Ok(())
 }

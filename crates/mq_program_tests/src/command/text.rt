@@ -2,7 +2,7 @@
 
 use crate::frames::push_line;
 use crate::support::assert_text;
-use mq_command::{TEXT_LIMIT, TextFault, login_text, read_connections};
+use mq_command::{TEXT_LIMIT, login_text, read_connections};
 use std::alloc::Global;
 use std::test::Fail;
 
@@ -43,18 +43,19 @@ fn connections(rt: HostRuntime) -> Result<(), Fail> {
     Ok(())
 }
 
-/// Whether a text is refused as too large.
-fn is_too_large(alloc: Global, text: &[u8]) -> bool {
-    matches!(read_connections(alloc, text), Err(TextFault::TooLarge))
-}
-
 #[test]
 fn largest_text(rt: HostRuntime) -> Result<(), Fail> {
     let mut text = vec![in rt.alloc(); b' '; TEXT_LIMIT]?;
     let found = shown(rt.alloc(), text.as_slice())?;
     assert_text(&rt, found.as_str(), "", "the largest text");
     text.push(b'\n')?;
-    assert!(rt; is_too_large(rt.alloc(), text.as_slice()));
+    let found = shown(rt.alloc(), text.as_slice())?;
+    assert_text(
+        &rt,
+        found.as_str(),
+        "input too large",
+        "a text of a byte more",
+    );
     Ok(())
 }
 

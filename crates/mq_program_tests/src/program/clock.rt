@@ -2,7 +2,7 @@
 
 use crate::support::assert_text;
 use mq_program::run_number;
-use std::alloc::Global;
+use std::alloc::{AllocError, Global};
 use std::io;
 use std::io::ErrorKind;
 use std::rt::Clock;
@@ -26,38 +26,32 @@ impl Clock for Stopped {
     }
 }
 
-/// The run of a clock, or the text of its fault. Without clauses, so that a test stays cheap to prove.
-fn run_at(alloc: Global, millis: Option<u64>) -> Result<Result<u64, String>, Fail> {
+/// The run of a clock, or its fault. Without clauses, so that a test stays cheap to prove.
+fn run_at(alloc: Global, millis: Option<u64>) -> Result<String, AllocError> {
     match run_number(&Stopped(millis), None) {
-        Ok(run) => Ok(Ok(run)),
-        Err(fault) => Ok(Err(format!(in alloc; "{fault}, status {}", fault.status())?)),
+        Ok(run) => format!(in alloc; "run {run}"),
+        Err(fault) => format!(in alloc; "{fault}, status {}", fault.status()),
     }
 }
+
+const NO_RUN: &str = "run number unavailable, status 1";
+
+/// Times, and the runs of their clocks.
+const RUNS: [(Option<u64>, &str); 6] = [
+    (None, NO_RUN),
+    (Some(0), NO_RUN),
+    (Some(1), "run 1"),
+    (Some(1_576_146_008_006), "run 1576146008006"),
+    (Some(281_474_976_710_655), "run 281474976710655"),
+    (Some(281_474_976_710_656), NO_RUN),
+];
 
 #[test]
 fn run_of_the_clock(rt: HostRuntime) -> Result<(), Fail> {
-    let rows = [
-        (None, None),
-        (Some(0), None),
-        (Some(1), Some(1)),
-        (Some(1_576_146_008_006), Some(1_576_146_008_006)),
-        (Some(281_474_976_710_655), Some(281_474_976_710_655)),
-        (Some(281_474_976_710_656), None),
-    ];
-    for (millis, wanted) in rows {
-        match run_at(rt.alloc(), millis)? {
-            Ok(run) => assert_eq!(rt; Some(run), wanted),
-            Err(text) => {
-                assert_eq!(rt; wanted, None);
-                let text = text.as_str();
-                assert_text(&rt, text, "run number unavailable, status 1", "no run");
-            }
-        }
+    for (millis, wanted) in RUNS {
+        assert_text(&rt, run_at(rt.alloc(), millis)?.as_str(), wanted, wanted);
     }
-    Ok(())
-}
-
-#[test]
-fn a_given_run(rt: HostRuntime) {
+    // One that is given needs no clock.
     assert_eq!(rt; run_number(&Stopped(None), Some(7)).ok(), Some(7));
+    Ok(())
 }

@@ -1,150 +1,195 @@
 //! The ledger in a server's file, as the program makes, opens and audits it. The port of its settings is in use, so a
 //! server comes as far as its ledger and then ends.
 
-use super::refusals::refused;
+use super::refusals::{Words, refused};
 use crate::frames::{SETTLED, serve_frames};
-use crate::support::{assert_ended, text_of, utc};
-use mq_arguments::{Arguments, AuditArguments, ServerArguments};
+use crate::support::{assert_text, told, utc};
+use mq_arguments::AuditArguments;
 use mq_program::audit;
 use mq_store::SqlLedger;
 use sqlite::{Alter, Connection};
-use std::alloc::Global;
+use std::alloc::{AllocError, Global};
 use std::fs;
 use std::net::{Net, TcpListener};
 use std::os::unix::fs::PermissionsExt;
 use std::test::Fail;
 
-const LISTEN_FAILED: &str = "mailquota: listen failed\n";
-
-const DAMAGED: &str = "mailquota: store is damaged: login u day 1\n";
-
-const NOT_OURS: &str = "mailquota: store is not this ledger\n";
-
-const UNOPENED: &str = "mailquota: store can't be opened\n";
-
-/// The paths of a server's settings and its database, of which none is there but the settings.
-#[derive(Drop)]
-struct Paths {
-    config: String,
-    store: String,
-}
-
-impl Paths {
-    /// The paths that go with a port: while it is in use, nobody else has them.
-    fn new(rt: &HostRuntime, listener: &TcpListener) -> Result<Paths, Fail> {
-        let address = listener.local_addr()?;
-        let port = address.port();
-        let config = format!(in rt.alloc(); "/tmp/mailquota-{port}.toml")?;
-        let store = format!(in rt.alloc(); "/tmp/mailquota-{port}")?;
-        let text = format!(in rt.alloc();
-            "listen = \"{address}\"\nstore = \"{store}\"\ndefault = 3\noffset = 0\n"
-        )?;
-        fs::write(rt, config.as_str(), text.as_bytes())?;
-        Ok(Paths { config, store })
-    }
-
-    fn remove(self, rt: &HostRuntime) -> Result<(), Fail> {
-        let log = format!(in rt.alloc(); "{}-wal", self.store)?;
-        fs::remove_file(rt, self.config.as_str())?;
-        fs::remove_file(rt, self.store.as_str())?;
-        // only where there is one
-        let _ = fs::remove_file(rt, log.as_str());
-        Ok(())
-    }
-
-    /// The status of a server over the file, and what it says.
-    fn served(&self, rt: &HostRuntime, create: bool) -> Result<(u8, String), Fail> {
-        let given = ServerArguments {
-            config: self.config.as_str(),
-            create,
-            connections: 1,
-        };
-        refused(rt, Arguments::Server(given))
-    }
-
-    /// The status of an audit of the file that finds no right books, and what it says.
-    fn unaudited(&self, rt: &HostRuntime) -> Result<(u8, String), Fail> {
-        let config = self.config.as_str();
-        refused(rt, Arguments::Audit(AuditArguments { config }))
-    }
-
-    /// The status of an audit of the file, and what it prints.
-    fn audited(&self, rt: &HostRuntime) -> Result<(u8, String), Fail> {
-        let config = self.config.as_str();
-        let mut output = Vec::new(rt.alloc());
-        let status = audit(rt, AuditArguments { config }, &mut output)?;
-        Ok((status, text_of(output)?))
-    }
-
-    /// Changes the file. The one call over a file's own store, whose proof is dear.
-    fn change(&self, rt: &HostRuntime, what: Change) -> Result<(), Fail> {
-        let connection = Connection::open(rt, self.store.as_str())?;
-        change_file(rt.alloc(), connection, what)
-    }
-}
-
-/// What is done to a ledger's tables.
+/// What is done with the file.
 #[derive(Clone, Copy)]
-enum Change {
+enum Step {
+    /// A server is started over it.
+    Serve,
+    /// A server is started that is to make it.
+    Create,
+    /// It is audited, and its books are right.
+    Audit,
+    /// It is audited, and they aren't.
+    AuditInVain,
+    /// Its mode is looked at.
+    Mode,
     /// A transaction reserves twice and is settled once.
     Settle,
     /// Another count is written than the transactions have.
     Damage,
+    /// It is made without a table.
+    Empty,
+}
+
+const LISTEN_FAILED: &str = "|mailquota: listen failed\n|1\n";
+
+const DAMAGED: &str = "|mailquota: store is damaged: login u day 1\n|1\n";
+
+const NOT_OURS: &str = "|mailquota: store is not this ledger\n|1\n";
+
+const UNOPENED: &str = "|mailquota: store can't be opened\n|1\n";
+
+/// A ledger is made for its owner alone, opened, and audited; one whose books are wrong is not.
+const A_LEDGER: [(Step, &str); 10] = [
+    (Step::Create, LISTEN_FAILED),
+    (Step::Mode, "600\n"),
+    (Step::Audit, "sound days=0 transactions=0\n||0\n"),
+    (Step::Settle, ""),
+    (Step::Serve, LISTEN_FAILED),
+    (Step::Audit, "sound days=1 transactions=1\n||0\n"),
+    (Step::Create, NOT_OURS),
+    (Step::Damage, ""),
+    (Step::Serve, DAMAGED),
+    (Step::AuditInVain, DAMAGED),
+];
+
+/// A file that isn't there, and one that has no table.
+const NO_LEDGER: [(Step, &str); 5] = [
+    (Step::Serve, UNOPENED),
+    (Step::AuditInVain, UNOPENED),
+    (Step::Empty, ""),
+    (Step::Serve, NOT_OURS),
+    (Step::AuditInVain, NOT_OURS),
+];
+
+#[test]
+fn a_ledger_in_a_file(rt: HostRuntime) -> Result<(), Fail> {
+    let found = told_of_all(&rt, &A_LEDGER)?;
+    let wanted = texts_of(rt.alloc(), &A_LEDGER)?;
+    assert_text(&rt, found.as_str(), wanted.as_str(), "a ledger");
+    Ok(())
+}
+
+#[test]
+fn files_without_a_ledger(rt: HostRuntime) -> Result<(), Fail> {
+    let found = told_of_all(&rt, &NO_LEDGER)?;
+    let wanted = texts_of(rt.alloc(), &NO_LEDGER)?;
+    assert_text(&rt, found.as_str(), wanted.as_str(), "no ledger");
+    Ok(())
+}
+
+/// The texts of the steps.
+fn texts_of(alloc: Global, steps: &[(Step, &str)]) -> Result<String, AllocError> {
+    let mut texts = String::new(alloc);
+    for (_, text) in steps {
+        texts.push_str(text)?;
+    }
+    Ok(texts)
+}
+
+/// What is told of the steps over a new path. While its port is in use, nobody else has it.
+fn told_of_all(rt: &HostRuntime, steps: &[(Step, &str)]) -> Result<String, Fail> {
+    let listener: TcpListener = TcpListener::bind(rt, "127.0.0.1:0")?;
+    let store = format!(in rt.alloc(); "/tmp/mailquota-{}", listener.local_addr()?.port())?;
+    let config = format!(in rt.alloc(); "{store}.toml")?;
+    write_settings(rt, &listener, config.as_str(), store.as_str())?;
+    let mut all = String::new(rt.alloc());
+    for (step, _) in steps {
+        let found = told_of(rt, config.as_str(), store.as_str(), *step)?;
+        all.push_str(found.as_str())?;
+    }
+    remove(rt, config.as_str(), store.as_str())?;
+    Ok(all)
+}
+
+/// Writes settings of a server at the listener's port, over this file.
+fn write_settings(
+    rt: &HostRuntime,
+    listener: &TcpListener,
+    config: &str,
+    store: &str,
+) -> Result<(), Fail> {
+    let address = listener.local_addr()?;
+    let text = format!(in rt.alloc();
+        "listen = \"{address}\"\nstore = \"{store}\"\ndefault = 3\noffset = 0\n"
+    )?;
+    fs::write(rt, config, text.as_bytes())?;
+    Ok(())
+}
+
+/// Removes the files.
+fn remove(rt: &HostRuntime, config: &str, store: &str) -> Result<(), Fail> {
+    fs::remove_file(rt, config)?;
+    fs::remove_file(rt, store)?;
+    let log = format!(in rt.alloc(); "{store}-wal")?;
+    // only where there is one
+    let _ = fs::remove_file(rt, log.as_str());
+    Ok(())
+}
+
+/// What is told of a step: of a server or an audit in vain, what is said and the status.
+fn told_of(rt: &HostRuntime, config: &str, store: &str, step: Step) -> Result<String, Fail> {
+    match step {
+        Step::Serve => refused(rt, Words::Server(config)),
+        Step::Create => refused(rt, Words::Create(config)),
+        Step::Audit => audited(rt, config),
+        Step::AuditInVain => refused(rt, Words::Audit(config)),
+        Step::Mode => mode_of(rt, store),
+        Step::Settle | Step::Damage => change(rt, store, step),
+        Step::Empty => {
+            fs::write(rt, store, b"")?;
+            Ok(String::new(rt.alloc()))
+        }
+    }
+}
+
+/// What an audit of the file prints, and its status.
+fn audited(rt: &HostRuntime, config: &str) -> Result<String, Fail> {
+    let mut output = Vec::new(rt.alloc());
+    let status = audit(rt, AuditArguments { config }, &mut output)?;
+    told(rt.alloc(), output.as_slice(), b"", status)
+}
+
+fn mode_of(rt: &HostRuntime, store: &str) -> Result<String, Fail> {
+    let mode = fs::metadata(rt, store)?.permissions().mode() & 0o777;
+    Ok(format!(in rt.alloc(); "{mode:o}\n")?)
+}
+
+/// Changes the file. What is opened is only handed on, since a proof over a file's own store is dear.
+fn change(rt: &HostRuntime, store: &str, step: Step) -> Result<String, Fail> {
+    change_opened(rt.alloc(), Connection::open(rt, store), step)
+}
+
+fn change_opened<S: Alter + Drop, E: Drop>(
+    alloc: Global,
+    opened: Result<Connection<S>, E>,
+    step: Step,
+) -> Result<String, Fail> {
+    match opened {
+        Ok(connection) => change_file(alloc, connection, step),
+        Err(_) => Err("no database".into()),
+    }
 }
 
 fn change_file<S: Alter + Drop>(
     alloc: Global,
-    connection: Connection<S>,
-    what: Change,
-) -> Result<(), Fail> {
-    match what {
-        Change::Settle => settle(alloc, connection),
-        Change::Damage => damage(connection),
+    mut connection: Connection<S>,
+    step: Step,
+) -> Result<String, Fail> {
+    if matches!(step, Step::Settle) {
+        match SqlLedger::open(alloc, connection, utc()?, 3) {
+            Ok(mut ledger) => serve_frames(alloc, &mut ledger, SETTLED)?,
+            Err(_) => return Err("not opened".into()),
+        }
+    } else if connection
+        .execute("UPDATE usage SET reserved = 9", &[])
+        .is_err()
+    {
+        return Err("not damaged".into());
     }
-}
-
-fn settle<S: Alter + Drop>(alloc: Global, connection: Connection<S>) -> Result<(), Fail> {
-    match SqlLedger::open(alloc, connection, utc()?, 3) {
-        Ok(mut ledger) => serve_frames(alloc, &mut ledger, SETTLED),
-        Err(_) => Err("not opened".into()),
-    }
-}
-
-fn damage<S: Alter + Drop>(mut connection: Connection<S>) -> Result<(), Fail> {
-    match connection.execute("UPDATE usage SET reserved = 9", &[]) {
-        Ok(_) => Ok(()),
-        Err(_) => Err("not damaged".into()),
-    }
-}
-
-/// A ledger is made for its owner alone, opened, and audited; one whose books are wrong is not.
-#[test]
-fn a_ledger_in_a_file(rt: HostRuntime) -> Result<(), Fail> {
-    let listener: TcpListener = TcpListener::bind(&rt, "127.0.0.1:0")?;
-    let paths = Paths::new(&rt, &listener)?;
-    assert_ended(&rt, paths.served(&rt, true)?, 1, LISTEN_FAILED);
-    let made = fs::metadata(&rt, paths.store.as_str())?;
-    assert_eq!(rt; made.permissions().mode() & 0o777, 0o600);
-    assert_ended(&rt, paths.audited(&rt)?, 0, "sound days=0 transactions=0\n");
-    paths.change(&rt, Change::Settle)?;
-    assert_ended(&rt, paths.served(&rt, false)?, 1, LISTEN_FAILED);
-    assert_ended(&rt, paths.audited(&rt)?, 0, "sound days=1 transactions=1\n");
-    assert_ended(&rt, paths.served(&rt, true)?, 1, NOT_OURS);
-    paths.change(&rt, Change::Damage)?;
-    assert_ended(&rt, paths.served(&rt, false)?, 1, DAMAGED);
-    assert_ended(&rt, paths.unaudited(&rt)?, 1, DAMAGED);
-    paths.remove(&rt)
-}
-
-/// A file that isn't there, and one that has no table.
-#[test]
-fn files_without_a_ledger(rt: HostRuntime) -> Result<(), Fail> {
-    let listener: TcpListener = TcpListener::bind(&rt, "127.0.0.1:0")?;
-    let paths = Paths::new(&rt, &listener)?;
-    assert_ended(&rt, paths.served(&rt, false)?, 1, UNOPENED);
-    assert_ended(&rt, paths.unaudited(&rt)?, 1, UNOPENED);
-    fs::write(&rt, paths.store.as_str(), b"")?;
-    assert_ended(&rt, paths.served(&rt, false)?, 1, NOT_OURS);
-    assert_ended(&rt, paths.unaudited(&rt)?, 1, NOT_OURS);
-    paths.remove(&rt)
+    Ok(String::new(alloc))
 }

@@ -1,6 +1,5 @@
 //! The link and the server over the loopback, both ends in one process, one after the other.
 
-use super::refusals::assert_fault;
 use crate::frames::served;
 use crate::support::{assert_text, new_ledger};
 use log::LevelFilter;
@@ -10,10 +9,9 @@ use mq_program::listen;
 use mq_room::serve_connections;
 use mq_settings::{Place, ServerSettings};
 use mq_tcp::TcpLink;
-use std::alloc::Global;
+use std::alloc::{AllocError, Global};
 use std::io::{Read, Write};
 use std::net::{Net, Shutdown, SocketAddr, TcpListener, TcpStream};
-use std::process::Abort;
 use std::test::Fail;
 use std::time::{Duration, Instant};
 
@@ -31,16 +29,8 @@ const SHORT: u64 = 100;
 const ONE_RESERVE: &[u8] =
     b"\x00\x21\x01\x01a\x00\x00\x00\x00\x00\x00\x00\x01\x00\x00\x00\x01\x00\x00\x00\x01\x00\x00\x00\x00\x00\x01\x51\x80\x01u\x00\x00\x00\x01";
 
-/// The body of its reply: granted, 1 recipient used.
-const ONE_REPLY: &[u8] =
-    b"\x81\x01a\x00\x00\x00\x00\x00\x00\x00\x01\x00\x00\x00\x01\x00\x00\x00\x01";
-
-/// The frame of that reply.
-const ONE_REPLY_FRAME: &[u8] =
-    b"\x00\x13\x81\x01a\x00\x00\x00\x00\x00\x00\x00\x01\x00\x00\x00\x01\x00\x00\x00\x01";
-
-/// The answer to what is no request.
-const BAD: &[u8] = b"\x00\x01\x8e";
+/// The body of its reply, which is granted, with 1 recipient used.
+const ONE_REPLY: &str = "81016100000000000000010000000100000001";
 
 /// What is no frame.
 const GARBAGE: &[u8] = &[0xff; 600];
@@ -61,66 +51,58 @@ fn link_to<'a>(
     Ok(TcpLink::new(rt, address, Duration::from_millis(millis)))
 }
 
-/// Sends the reserve.
-fn send(link: &mut TcpLink<'_, HostRuntime>) -> Result<(), Fail> {
-    Ok(link.send(ONE_RESERVE)?)
-}
-
-/// Asserts what is received in place of an older reply.
-fn assert_received(
-    rt: &(impl Abort + AllocGlobal),
-    link: &mut TcpLink<'_, HostRuntime>,
-    wanted: Result<&[u8], LinkFault>,
-) -> Result<(), Fail> {
-    let mut reply = Vec::from_slice(rt.alloc(), b"old")?;
+/// What is received in place of an older reply: its digits, or a fault, which leaves none.
+fn received(alloc: Global, link: &mut TcpLink<'_, HostRuntime>) -> Result<String, AllocError> {
+    let mut reply = Vec::from_slice(alloc, b"old")?;
     let ended = link.receive(&mut reply);
-    assert_reply(rt, ended, reply.as_slice(), wanted);
-    Ok(())
+    text_of(alloc, ended, reply.as_slice())
 }
 
-/// Asserts with which fault the exchange of a reserve ends.
-fn assert_faulted(
-    rt: &(impl Abort + AllocGlobal),
-    link: &mut TcpLink<'_, HostRuntime>,
-    fault: LinkFault,
-) -> Result<(), Fail> {
-    let mut reply = Vec::from_slice(rt.alloc(), b"old")?;
+/// What the exchange of a reserve brings, in the same way.
+fn exchanged(alloc: Global, link: &mut TcpLink<'_, HostRuntime>) -> Result<String, AllocError> {
+    let mut reply = Vec::from_slice(alloc, b"old")?;
     let ended = link.exchange(ONE_RESERVE, &mut reply);
-    assert_reply(rt, ended, reply.as_slice(), Err(fault));
-    Ok(())
+    text_of(alloc, ended, reply.as_slice())
 }
 
-/// Asserts what came: a reply, or a fault, which leaves none.
-fn assert_reply(
-    rt: &impl Abort,
+fn text_of(
+    alloc: Global,
     ended: Result<(), LinkFault>,
     reply: &[u8],
-    wanted: Result<&[u8], LinkFault>,
-) {
-    let (end, bytes): (Result<(), LinkFault>, &[u8]) = match wanted {
-        Ok(bytes) => (Ok(()), bytes),
-        Err(fault) => (Err(fault), b""),
-    };
-    assert_eq!(rt; ended, end, "{wanted:?}");
-    assert_eq!(rt; reply, bytes);
+) -> Result<String, AllocError> {
+    let digits = hex::encode(alloc, reply)?;
+    match ended {
+        Ok(()) => Ok(digits),
+        Err(fault) => format!(in alloc; "{fault:?}{digits}"),
+    }
 }
 
 #[test]
 fn one_reserve(rt: HostRuntime) -> Result<(), Fail> {
     let listener = listener(&rt)?;
     let mut link = link_to(&rt, &listener, LONG)?;
-    send(&mut link)?;
-    assert!(rt; is_served(rt.alloc(), &listener)?);
-    assert_received(&rt, &mut link, Ok(ONE_REPLY))?;
-    // The connection is gone with its reply.
-    assert_received(&rt, &mut link, Err(LinkFault::Down))
+    link.send(ONE_RESERVE)?;
+    serve_next(rt.alloc(), &listener)?;
+    let reply = received(rt.alloc(), &mut link)?;
+    assert_text(&rt, reply.as_str(), ONE_REPLY, "the reply");
+    let gone = received(rt.alloc(), &mut link)?;
+    assert_text(
+        &rt,
+        gone.as_str(),
+        "Down",
+        "the connection behind its reply",
+    );
+    Ok(())
 }
 
-/// Serves the next connection over a new ledger, and tells whether it ended as it should.
-fn is_served(alloc: Global, listener: &TcpListener) -> Result<bool, Fail> {
+/// Serves the next connection over a new ledger.
+fn serve_next(alloc: Global, listener: &TcpListener) -> Result<(), Fail> {
     let (stream, _) = listener.accept()?;
     let mut ledger = new_ledger(alloc)?;
-    Ok(served(alloc, &mut ledger, &stream, &stream).is_some())
+    match served(alloc, &mut ledger, &stream, &stream) {
+        Some(_) => Ok(()),
+        None => Err("not served".into()),
+    }
 }
 
 #[test]
@@ -128,7 +110,9 @@ fn nobody_listens(rt: HostRuntime) -> Result<(), Fail> {
     let listener = listener(&rt)?;
     let mut link = link_to(&rt, &listener, LONG)?;
     drop(listener);
-    assert_faulted(&rt, &mut link, LinkFault::Down)
+    let found = exchanged(rt.alloc(), &mut link)?;
+    assert_text(&rt, found.as_str(), "Down", "no listener");
+    Ok(())
 }
 
 #[test]
@@ -136,45 +120,55 @@ fn no_answer_in_time(rt: HostRuntime) -> Result<(), Fail> {
     let listener = listener(&rt)?;
     let mut link = link_to(&rt, &listener, SHORT)?;
     let start = Instant::now(&rt)?;
-    assert_faulted(&rt, &mut link, LinkFault::TimedOut)?;
+    let found = exchanged(rt.alloc(), &mut link)?;
     let took = start.elapsed(&rt)?;
+    assert_text(&rt, found.as_str(), "TimedOut", "a peer that says nothing");
     assert!(rt; took >= Duration::from_millis(SHORT));
     assert!(rt; took < Duration::from_millis(1_900));
     Ok(())
 }
 
-/// Sends the reserve, which a peer takes and answers by these bytes.
-fn exchange(
-    rt: &(impl Abort + AllocGlobal),
+/// Takes the reserve as the next peer, and answers by these bytes.
+fn answer(alloc: Global, listener: &TcpListener, bytes: &[u8]) -> Result<(), Fail> {
+    let (mut stream, _) = listener.accept()?;
+    let mut frame = Vec::new(alloc);
+    stream.read_to_end(&mut frame)?;
+    if frame.as_slice() != ONE_RESERVE {
+        return Err("another frame".into());
+    }
+    Ok(stream.write_all(bytes)?)
+}
+
+/// What the link receives of such an answer.
+fn received_of(
+    alloc: Global,
     link: &mut TcpLink<'_, HostRuntime>,
     listener: &TcpListener,
     bytes: &[u8],
-) -> Result<(), Fail> {
-    send(link)?;
-    let (mut stream, _) = listener.accept()?;
-    let mut frame = Vec::new(rt.alloc());
-    stream.read_to_end(&mut frame)?;
-    stream.write_all(bytes)?;
-    assert_eq!(rt; frame.as_slice(), ONE_RESERVE);
-    Ok(())
+) -> Result<String, Fail> {
+    link.send(ONE_RESERVE)?;
+    answer(alloc, listener, bytes)?;
+    Ok(received(alloc, link)?)
 }
+
+/// What a peer answers, and what is received of it.
+const ANSWERS: [(&[u8], &str); 7] = [
+    (b"", "Down"),
+    (b"\x00", "Down"),
+    (b"\x00\x00", "Down"),
+    (b"\x00\x00\x01\x8e", "Down"),
+    (b"\x00\x05\x8e\x8e", "Down"),
+    (b"\x00\x01\x8e", "8e"),
+    (b"\x00\x01\x8e\x00\x01\x8d", "8e"),
+];
 
 #[test]
 fn what_a_peer_answers(rt: HostRuntime) -> Result<(), Fail> {
     let listener = listener(&rt)?;
     let mut link = link_to(&rt, &listener, LONG)?;
-    let rows: [(&[u8], Result<&[u8], LinkFault>); 7] = [
-        (b"", Err(LinkFault::Down)),
-        (b"\x00", Err(LinkFault::Down)),
-        (b"\x00\x00", Err(LinkFault::Down)),
-        (b"\x00\x00\x01\x8e", Err(LinkFault::Down)),
-        (b"\x00\x05\x8e\x8e", Err(LinkFault::Down)),
-        (b"\x00\x01\x8e", Ok(b"\x8e")),
-        (b"\x00\x01\x8e\x00\x01\x8d", Ok(b"\x8e")),
-    ];
-    for (bytes, wanted) in rows {
-        exchange(&rt, &mut link, &listener, bytes)?;
-        assert_received(&rt, &mut link, wanted)?;
+    for (bytes, wanted) in ANSWERS {
+        let found = received_of(rt.alloc(), &mut link, &listener, bytes)?;
+        assert_text(&rt, found.as_str(), wanted, wanted);
     }
     Ok(())
 }
@@ -184,9 +178,28 @@ fn the_longest_reply(rt: HostRuntime) -> Result<(), Fail> {
     let listener = listener(&rt)?;
     let mut link = link_to(&rt, &listener, LONG)?;
     let frame = vec![in rt.alloc(); 0xffu8; 65_537]?;
-    exchange(&rt, &mut link, &listener, frame.as_slice())?;
-    assert_received(&rt, &mut link, Ok(&frame[2..]))
+    let found = received_of(rt.alloc(), &mut link, &listener, frame.as_slice())?;
+    let wanted = hex::encode(rt.alloc(), &frame[2..])?;
+    assert_text(&rt, found.as_str(), wanted.as_str(), "the longest reply");
+    Ok(())
 }
+
+/// What a peer sends, whether it then waits, what it is answered in hexadecimal, and the end that is logged.
+const TURNS: [(&[u8], bool, &str, &str); 8] = [
+    (b"", false, "", ""),
+    (b"\x00\x21\x01", false, "", "cut frame"),
+    (b"\x00\x00", false, "00018e", "bad frame"),
+    (b"\x02\x01", false, "00018e", "bad frame"),
+    (GARBAGE, false, "00018e", "bad frame"),
+    (
+        ONE_RESERVE,
+        false,
+        "001381016100000000000000010000000100000001",
+        "",
+    ),
+    (b"", true, "", "read failed"),
+    (b"\x00", true, "", "read failed"),
+];
 
 /// A peer that has sent these bytes and, unless it is to wait, ended its writing.
 fn peer(
@@ -203,17 +216,27 @@ fn peer(
     Ok(stream)
 }
 
-/// What a peer sends, whether it then waits, what it is answered, and the end that is logged.
-const TURNS: [(&[u8], bool, &[u8], &str); 8] = [
-    (b"", false, b"", ""),
-    (b"\x00\x21\x01", false, b"", "cut frame"),
-    (b"\x00\x00", false, BAD, "bad frame"),
-    (b"\x02\x01", false, BAD, "bad frame"),
-    (GARBAGE, false, BAD, "bad frame"),
-    (ONE_RESERVE, false, ONE_REPLY_FRAME, ""),
-    (b"", true, b"", "read failed"),
-    (b"\x00", true, b"", "read failed"),
-];
+/// The peers of the turns.
+fn all_peers(rt: &HostRuntime, address: SocketAddr) -> Result<Vec<TcpStream>, Fail> {
+    let mut peers = Vec::new(rt.alloc());
+    for (bytes, waits, _, _) in TURNS {
+        peers.push(peer(rt, address, bytes, waits)?)?;
+    }
+    Ok(peers)
+}
+
+/// The lines that are to be logged of them.
+fn lines_of(alloc: Global, peers: &[TcpStream]) -> Result<String, Fail> {
+    let mut lines = String::new(alloc);
+    for (peer, (_, _, _, end)) in peers.iter().zip(TURNS) {
+        if !end.is_empty() {
+            let from = peer.local_addr()?;
+            let line = format!(in alloc; "[WARN  mq_room::room] connection of {from}: {end}\n")?;
+            lines.push_str(line.as_str())?;
+        }
+    }
+    Ok(lines)
+}
 
 /// Serves eight connections over a new ledger, and gives a line for each that is logged.
 fn logged_of_eight(rt: &HostRuntime, listener: &TcpListener) -> Result<String, Fail> {
@@ -230,29 +253,23 @@ fn logged_of_eight(rt: &HostRuntime, listener: &TcpListener) -> Result<String, F
     Ok(lines)
 }
 
+/// What a peer is answered to the end, in hexadecimal.
+fn answered(alloc: Global, peer: &mut TcpStream) -> Result<String, Fail> {
+    let mut bytes = Vec::new(alloc);
+    peer.read_to_end(&mut bytes)?;
+    Ok(hex::encode(alloc, bytes.as_slice())?)
+}
+
 #[test]
 fn connections_in_turn(rt: HostRuntime) -> Result<(), Fail> {
     let listener = listener(&rt)?;
-    let address = listener.local_addr()?;
-    let mut peers = Vec::new(rt.alloc());
-    let mut lines = String::new(rt.alloc());
-    for (bytes, waits, _, end) in &TURNS {
-        let stream = peer(&rt, address, bytes, *waits)?;
-        if !end.is_empty() {
-            let from = stream.local_addr()?;
-            let line = format!(in rt.alloc();
-                "[WARN  mq_room::room] connection of {from}: {end}\n"
-            )?;
-            lines.push_str(line.as_str())?;
-        }
-        peers.push(stream)?;
-    }
+    let mut peers = all_peers(&rt, listener.local_addr()?)?;
     let logged = logged_of_eight(&rt, &listener)?;
+    let lines = lines_of(rt.alloc(), peers.as_slice())?;
     assert_text(&rt, logged.as_str(), lines.as_str(), "what is logged");
-    for (mut stream, (bytes, _, reply, _)) in peers.into_iter().zip(&TURNS) {
-        let mut answered = Vec::new(rt.alloc());
-        stream.read_to_end(&mut answered)?;
-        assert_eq!(rt; answered.as_slice(), *reply, "{bytes:?}");
+    for (peer, (_, _, wanted, end)) in peers.iter_mut().zip(TURNS) {
+        let found = answered(rt.alloc(), peer)?;
+        assert_text(&rt, found.as_str(), wanted, end);
     }
     Ok(())
 }
@@ -273,7 +290,8 @@ fn a_port_in_use(rt: HostRuntime) -> Result<(), Fail> {
         Ok(_) => assert!(rt; false),
         Err(fault) => {
             assert_eq!(rt; fault.status(), 1);
-            assert_fault(&rt, fault, "listen failed")?;
+            let text = fault.to_string(rt.alloc())?;
+            assert_text(&rt, text.as_str(), "listen failed", "a port in use");
         }
     }
     Ok(())

@@ -1,12 +1,11 @@
 //! What the subcommands print on standard error, with the status, where they do nothing.
-ghost use Rattle.mq_arguments.specs.Arguments.{IsArguments};
 
-use crate::support::{assert_ended, assert_text, text_of};
+use crate::support::{assert_text, told};
 use mq_arguments::{
     Arguments, AuditArguments, FilterArguments, LimitArguments, ReportArguments, ServerArguments,
 };
 use mq_client::FilterFault;
-use mq_command::{Ending, ReplayFault, ReportFault, TextFault};
+use mq_command::{Ending, ReplayFault, ReportFault};
 use mq_frame::Login;
 use mq_ledger::LedgerFault;
 use mq_program::{ProgramFault, run_subcommand};
@@ -16,102 +15,114 @@ use std::fmt::Display;
 use std::process::Abort;
 use std::test::Fail;
 
+/// The words of a command line, by its subcommand.
+#[derive(Clone, Copy)]
+pub enum Words<'a> {
+    /// A server, a host and a login.
+    Limit(&'a str, &'a str, &'a str),
+    /// A server, and a login or none.
+    Report(&'a str, Option<&'a str>),
+    /// The file of settings, as in those that follow.
+    Filter(&'a str),
+    Server(&'a str),
+    /// A server that is to make its ledger.
+    Create(&'a str),
+    Audit(&'a str),
+}
+
+/// What is told of a subcommand that prints nothing.
+pub fn refused(rt: &HostRuntime, words: Words<'_>) -> Result<String, Fail> {
+    let mut errors = Vec::new(rt.alloc());
+    let status = match words {
+        Words::Limit(server, host, login) => {
+            let given = LimitArguments {
+                server,
+                host,
+                login,
+                from: 1,
+                cap: 2,
+                run: None,
+            };
+            run_subcommand(rt, Arguments::Limit(given), &mut errors)
+        }
+        Words::Report(server, login) => {
+            let given = ReportArguments {
+                server,
+                day: 1,
+                login,
+            };
+            run_subcommand(rt, Arguments::Report(given), &mut errors)
+        }
+        Words::Filter(config) => {
+            let given = FilterArguments {
+                config,
+                run: Some(1),
+            };
+            run_subcommand(rt, Arguments::Filter(given), &mut errors)
+        }
+        Words::Server(config) => serve(rt, config, false, &mut errors),
+        Words::Create(config) => serve(rt, config, true, &mut errors),
+        Words::Audit(config) => {
+            run_subcommand(rt, Arguments::Audit(AuditArguments { config }), &mut errors)
+        }
+    };
+    told(rt.alloc(), b"", errors.as_slice(), status)
+}
+
+/// The status of a server of one connection.
+fn serve(rt: &HostRuntime, config: &str, create: bool, errors: &mut Vec<u8>) -> u8 {
+    let given = ServerArguments {
+        config,
+        create,
+        connections: 1,
+    };
+    run_subcommand(rt, Arguments::Server(given), errors)
+}
+
 /// A login of 256 bytes.
 const LONG: &str =
     "aaaaaaaaaaaaaaaaaaaaaaaaaaaaaaaaaaaaaaaaaaaaaaaaaaaaaaaaaaaaaaaaaaaaaaaaaaaaaaaaaaaaaaaaaaaaaaaaaaaaaaaaaaaaaaaaaaaaaaaaaaaaaaaaaaaaaaaaaaaaaaaaaaaaaaaaaaaaaaaaaaaaaaaaaaaaaaaaaaaaaaaaaaaaaaaaaaaaaaaaaaaaaaaaaaaaaaaaaaaaaaaaaaaaaaaaaaaaaaaaaaaaaaaaaaaaaaaa";
 
-/// The status of a subcommand, and what it prints on standard error.
-pub fn refused(rt: &HostRuntime, given: Arguments<'_>) -> Result<(u8, String), Fail>
-    requires { IsArguments given }
-{
-    let mut errors = Vec::new(rt.alloc());
-    let status = run_subcommand(rt, given, &mut errors);
-    Ok((status, text_of(errors)?))
-}
+const BAD_HOST: &str = "|mailquota: bad host\n|2\n";
 
-/// What a limit of these words is answered.
-fn limit_refused(
-    rt: &HostRuntime,
-    server: &str,
-    host: &str,
-    login: &str,
-) -> Result<(u8, String), Fail> {
-    let given = LimitArguments {
-        server,
-        host,
-        login,
-        from: 1,
-        cap: 2,
-        run: None,
-    };
-    refused(rt, Arguments::Limit(given))
-}
+const BAD_LOGIN: &str = "|mailquota: bad login\n|2\n";
 
-#[test]
-fn words_of_limit(rt: HostRuntime) -> Result<(), Fail> {
-    let rows = [
-        ("mail:7025", "mx 1", "", "mailquota: bad host\n"),
-        ("mail:7025", "", "u", "mailquota: bad host\n"),
-        ("mail:7025", LONG, "u", "mailquota: bad host\n"),
-        ("mail:7025", "mx1", "", "mailquota: bad login\n"),
-        ("mail:7025", "mx1", LONG, "mailquota: bad login\n"),
-        ("mail:7025", "mx1", "u", "mailquota: bad address\n"),
-        ("127.0.0.1", "mx1", "u", "mailquota: bad address\n"),
-        ("", "mx1", "u", "mailquota: bad address\n"),
-    ];
-    for (server, host, login, text) in rows {
-        assert_ended(&rt, limit_refused(&rt, server, host, login)?, 2, text);
-    }
-    Ok(())
-}
+const BAD_ADDRESS: &str = "|mailquota: bad address\n|2\n";
+
+const NO_SETTINGS: &str = "|mailquota: settings can't be read\n|1\n";
+
+const REFUSED: [(Words, &str); 19] = [
+    (Words::Limit("mail:7025", "mx 1", ""), BAD_HOST),
+    (Words::Limit("mail:7025", "", "u"), BAD_HOST),
+    (Words::Limit("mail:7025", LONG, "u"), BAD_HOST),
+    (Words::Limit("mail:7025", "mx1", ""), BAD_LOGIN),
+    (Words::Limit("mail:7025", "mx1", LONG), BAD_LOGIN),
+    (Words::Limit("mail:7025", "mx1", "u"), BAD_ADDRESS),
+    (Words::Limit("127.0.0.1", "mx1", "u"), BAD_ADDRESS),
+    (Words::Limit("", "mx1", "u"), BAD_ADDRESS),
+    (Words::Report("mail:7025", Some("")), BAD_LOGIN),
+    (Words::Report("mail:7025", Some(LONG)), BAD_LOGIN),
+    (Words::Report("mail:7025", Some("u")), BAD_ADDRESS),
+    (Words::Report("[::1]", Some("u")), BAD_ADDRESS),
+    (Words::Report("localhost:7025", None), BAD_ADDRESS),
+    (Words::Filter("/"), NO_SETTINGS),
+    (Words::Server("/"), NO_SETTINGS),
+    (Words::Audit("/"), NO_SETTINGS),
+    (Words::Filter("/no/such/file"), NO_SETTINGS),
+    (Words::Server("/no/such/file"), NO_SETTINGS),
+    (Words::Audit("/no/such/file"), NO_SETTINGS),
+];
 
 #[test]
-fn words_of_report(rt: HostRuntime) -> Result<(), Fail> {
-    let rows = [
-        ("mail:7025", Some(""), "mailquota: bad login\n"),
-        ("mail:7025", Some(LONG), "mailquota: bad login\n"),
-        ("mail:7025", Some("u"), "mailquota: bad address\n"),
-        ("[::1]", Some("u"), "mailquota: bad address\n"),
-        ("localhost:7025", None, "mailquota: bad address\n"),
-    ];
-    for (server, login, text) in rows {
-        let given = ReportArguments {
-            server,
-            day: 1,
-            login,
-        };
-        assert_ended(&rt, refused(&rt, Arguments::Report(given))?, 2, text);
-    }
-    Ok(())
-}
-
-#[test]
-fn no_settings(rt: HostRuntime) -> Result<(), Fail> {
-    for config in ["/", "/no/such/file"] {
-        let filter = FilterArguments {
-            config,
-            run: Some(1),
-        };
-        let server = ServerArguments {
-            config,
-            create: false,
-            connections: 1,
-        };
-        let audit = AuditArguments { config };
-        for given in [
-            Arguments::Filter(filter),
-            Arguments::Server(server),
-            Arguments::Audit(audit),
-        ] {
-            let text = "mailquota: settings can't be read\n";
-            assert_ended(&rt, refused(&rt, given)?, 1, text);
-        }
+fn words_and_settings(rt: HostRuntime) -> Result<(), Fail> {
+    for (words, wanted) in REFUSED {
+        assert_text(&rt, refused(&rt, words)?.as_str(), wanted, wanted);
     }
     Ok(())
 }
 
 /// Asserts how a fault is printed. Without clauses, so that its callers stay cheap to prove.
-pub fn assert_fault(
+fn assert_fault(
     rt: &(impl Abort + AllocGlobal),
     fault: impl Display + Drop,
     wanted: &str,
@@ -122,32 +133,19 @@ pub fn assert_fault(
 }
 
 #[test]
-fn texts_of_commands_faults(rt: HostRuntime) -> Result<(), Fail> {
+fn texts_of_faults(rt: HostRuntime) -> Result<(), Fail> {
     assert_fault(&rt, ReportFault::TooManyPages, "too many pages")?;
-    assert_fault(&rt, TextFault::TooLarge, "input too large")?;
     let enough = ReplayFault::Connection(1, Ending::Enough);
-    assert_fault(&rt, enough, "connection 1: enough")
-}
-
-#[test]
-fn texts_of_program_faults(rt: HostRuntime) -> Result<(), Fail> {
+    assert_fault(&rt, enough, "connection 1: enough")?;
     assert_fault(&rt, ProgramFault::Accept, "accept failed")?;
     assert_fault(&rt, ProgramFault::Words, "arguments are not text")?;
     let auth = ProgramFault::Filter(FilterFault::Track(TrackFault::Auth));
     assert_fault(&rt, auth, "report refused: auth")?;
     let message = ProgramFault::Filter(FilterFault::Track(TrackFault::Message));
-    assert_fault(&rt, message, "report refused: message")
-}
-
-#[test]
-fn texts_of_audits_faults(rt: HostRuntime) -> Result<(), Fail> {
-    assert_fault(&rt, ProgramFault::MemoryStore, "store is memory")?;
+    assert_fault(&rt, message, "report refused: message")?;
     assert_fault(&rt, ProgramFault::Audit(LedgerFault::Store), "store failed")?;
-    assert_fault(
-        &rt,
-        ProgramFault::Audit(LedgerFault::Memory),
-        "out of memory",
-    )?;
+    let memory = ProgramFault::Audit(LedgerFault::Memory);
+    assert_fault(&rt, memory, "out of memory")?;
     let login = Login::from_slice(rt.alloc(), b"a b\\")?;
     let damaged = ProgramFault::Open(OpenFault::Damaged { login, day: -3 });
     assert_fault(&rt, damaged, "store is damaged: login a\\x20b\\x5c day -3")

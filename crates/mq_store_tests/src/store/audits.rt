@@ -1,6 +1,6 @@
 //! What an audit finds in a ledger's tables, and what `open` makes of it.
 
-use super::steps::{Outcome, Step, from_ledger, from_store};
+use super::steps::{Case, Outcome, Step, from_ledger};
 use super::worked::RESERVED_TWICE_SETTLED_ONCE;
 use std::test::*;
 
@@ -8,11 +8,6 @@ use std::test::*;
 const SETTLED_ONCE: Step = Step::Replies(RESERVED_TWICE_SETTLED_ONCE);
 
 const WRONG_COUNT: Step = Step::Run("UPDATE usage SET reserved = 9");
-
-#[test]
-fn a_new_ledger_is_sound(rt: HostRuntime) -> Result<(), Fail> {
-    from_ledger(rt.alloc(), &[&[Step::Sound(0, 0)]])
-}
 
 /// A store is taken apart and opened, as made and otherwise, and once more behind another count.
 const TAKEN_APART: [Step; 9] = [
@@ -40,64 +35,159 @@ const SETTINGS_FIRST: [Step; 9] = [
     Step::Open(0, 3, Outcome::NotOurs),
 ];
 
-#[test]
-fn a_store_taken_apart_and_opened(rt: HostRuntime) -> Result<(), Fail> {
-    from_ledger(rt.alloc(), &[&TAKEN_APART])?;
-    from_store(rt.alloc(), &[&[Step::Open(0, 3, Outcome::NotOurs)]])
-}
-
-#[test]
-fn settings_come_before_the_audit(rt: HostRuntime) -> Result<(), Fail> {
-    from_ledger(rt.alloc(), &[&SETTINGS_FIRST])
-}
-
-/// Texts that make a pair wrong, each with the login and the day of the least one.
-const DAMAGES: &[(&str, &str, i64)] = &[
+/// Texts that make a pair wrong. The pair that is told is the least that isn't right, by the bytes of the login,
+/// then by the day.
+const DAMAGES: &[Case] = &[
     // What is settled or reserved isn't what the transactions settled or hold.
-    ("UPDATE usage SET settled = -1", "u", 1),
-    ("UPDATE usage SET settled = 2", "u", 1),
-    ("UPDATE trans SET held = 1", "u", 1),
-    ("DELETE FROM usage", "u", 1),
-    ("DELETE FROM trans", "u", 1),
+    (
+        "UPDATE usage SET settled = -1",
+        &[
+            SETTLED_ONCE,
+            Step::Run("UPDATE usage SET settled = -1"),
+            Step::Open(0, 3, Outcome::Damaged("u", 1)),
+        ],
+    ),
+    (
+        "UPDATE usage SET settled = 2",
+        &[
+            SETTLED_ONCE,
+            Step::Run("UPDATE usage SET settled = 2"),
+            Step::Open(0, 3, Outcome::Damaged("u", 1)),
+        ],
+    ),
+    (
+        "UPDATE trans SET held = 1",
+        &[
+            SETTLED_ONCE,
+            Step::Run("UPDATE trans SET held = 1"),
+            Step::Open(0, 3, Outcome::Damaged("u", 1)),
+        ],
+    ),
+    (
+        "DELETE FROM usage",
+        &[
+            SETTLED_ONCE,
+            Step::Run("DELETE FROM usage"),
+            Step::Open(0, 3, Outcome::Damaged("u", 1)),
+        ],
+    ),
+    (
+        "DELETE FROM trans",
+        &[
+            SETTLED_ONCE,
+            Step::Run("DELETE FROM trans"),
+            Step::Open(0, 3, Outcome::Damaged("u", 1)),
+        ],
+    ),
     // Both together are above the limit.
-    ("INSERT INTO ceiling VALUES (x'75', 0, 0)", "u", 1),
+    (
+        "INSERT INTO ceiling VALUES (x'75', 0, 0)",
+        &[
+            SETTLED_ONCE,
+            Step::Run("INSERT INTO ceiling VALUES (x'75', 0, 0)"),
+            Step::Open(0, 3, Outcome::Damaged("u", 1)),
+        ],
+    ),
     // The moment is out of range, or of another day.
-    ("UPDATE trans SET moment = 86399", "u", 1),
-    ("UPDATE trans SET moment = 172800", "u", 1),
+    (
+        "UPDATE trans SET moment = 86399",
+        &[
+            SETTLED_ONCE,
+            Step::Run("UPDATE trans SET moment = 86399"),
+            Step::Open(0, 3, Outcome::Damaged("u", 1)),
+        ],
+    ),
+    (
+        "UPDATE trans SET moment = 172800",
+        &[
+            SETTLED_ONCE,
+            Step::Run("UPDATE trans SET moment = 172800"),
+            Step::Open(0, 3, Outcome::Damaged("u", 1)),
+        ],
+    ),
     // Of the pair that the tables have and the one that they had, the earlier, and the lesser login.
-    ("UPDATE usage SET day = -1", "u", -1),
-    ("UPDATE trans SET day = 2", "u", 1),
-    ("UPDATE usage SET login = x'6120625c'", "a b\\", 1),
-    ("UPDATE usage SET login = x'76'", "u", 1),
+    (
+        "UPDATE usage SET day = -1",
+        &[
+            SETTLED_ONCE,
+            Step::Run("UPDATE usage SET day = -1"),
+            Step::Open(0, 3, Outcome::Damaged("u", -1)),
+        ],
+    ),
+    (
+        "UPDATE trans SET day = 2",
+        &[
+            SETTLED_ONCE,
+            Step::Run("UPDATE trans SET day = 2"),
+            Step::Open(0, 3, Outcome::Damaged("u", 1)),
+        ],
+    ),
+    (
+        "UPDATE usage SET login = x'6120625c'",
+        &[
+            SETTLED_ONCE,
+            Step::Run("UPDATE usage SET login = x'6120625c'"),
+            Step::Open(0, 3, Outcome::Damaged("a b\\", 1)),
+        ],
+    ),
+    (
+        "UPDATE usage SET login = x'76'",
+        &[
+            SETTLED_ONCE,
+            Step::Run("UPDATE usage SET login = x'76'"),
+            Step::Open(0, 3, Outcome::Damaged("u", 1)),
+        ],
+    ),
 ];
 
-/// The pair that is told is the least that isn't right, by the bytes of the login, then by the day.
-#[test]
-fn the_least_pair_is_told(rt: HostRuntime) -> Result<(), Fail> {
-    for (text, login, day) in DAMAGES {
-        let told = Outcome::Damaged(login, *day);
-        let steps = [SETTLED_ONCE, Step::Run(text), Step::Open(0, 3, told)];
-        from_ledger(rt.alloc(), &[&steps])?;
-    }
-    Ok(())
-}
-
 /// Neither the answers nor a limit that isn't reached make a pair wrong.
-#[test]
-fn what_no_pair_goes_by(rt: HostRuntime) -> Result<(), Fail> {
-    for text in [
+const NO_DAMAGES: &[Case] = &[
+    (
         "DELETE FROM answer",
+        &[
+            SETTLED_ONCE,
+            Step::Run("DELETE FROM answer"),
+            Step::Open(0, 3, Outcome::Ready),
+            Step::Sound(1, 1),
+        ],
+    ),
+    (
         "UPDATE setting SET arrivals = 9",
+        &[
+            SETTLED_ONCE,
+            Step::Run("UPDATE setting SET arrivals = 9"),
+            Step::Open(0, 3, Outcome::Ready),
+            Step::Sound(1, 1),
+        ],
+    ),
+    (
         "INSERT INTO ceiling VALUES (x'75', 1, 1)",
+        &[
+            SETTLED_ONCE,
+            Step::Run("INSERT INTO ceiling VALUES (x'75', 1, 1)"),
+            Step::Open(0, 3, Outcome::Ready),
+            Step::Sound(1, 1),
+        ],
+    ),
+    (
         "INSERT INTO ceiling VALUES (x'75', 2, 0)",
+        &[
+            SETTLED_ONCE,
+            Step::Run("INSERT INTO ceiling VALUES (x'75', 2, 0)"),
+            Step::Open(0, 3, Outcome::Ready),
+            Step::Sound(1, 1),
+        ],
+    ),
+    (
         "INSERT INTO ceiling VALUES (x'76', 0, 0)",
-    ] {
-        let opens = Step::Open(0, 3, Outcome::Ready);
-        let steps = [SETTLED_ONCE, Step::Run(text), opens, Step::Sound(1, 1)];
-        from_ledger(rt.alloc(), &[&steps])?;
-    }
-    Ok(())
-}
+        &[
+            SETTLED_ONCE,
+            Step::Run("INSERT INTO ceiling VALUES (x'76', 0, 0)"),
+            Step::Open(0, 3, Outcome::Ready),
+            Step::Sound(1, 1),
+        ],
+    ),
+];
 
 /// A closed transaction that someone opened again: each pair is right until the ledger settles it once
 /// more, and then the transaction has what it settled last.
@@ -119,7 +209,16 @@ const OPENED_AGAIN: [Step; 6] = [
     Step::Open(0, 3, Outcome::Damaged("u", 1)),
 ];
 
+const AUDITS: &[Case] = &[
+    ("a new ledger", &[Step::Sound(0, 0)]),
+    ("a store taken apart and opened", &TAKEN_APART),
+    ("settings come before the audit", &SETTINGS_FIRST),
+    ("a ledger that is open goes wrong", &OPENED_AGAIN),
+];
+
 #[test]
-fn a_ledger_that_is_open_goes_wrong(rt: HostRuntime) -> Result<(), Fail> {
-    from_ledger(rt.alloc(), &[&OPENED_AGAIN])
+fn audits(rt: HostRuntime) -> Result<(), Fail> {
+    from_ledger(rt.alloc(), AUDITS)?;
+    from_ledger(rt.alloc(), DAMAGES)?;
+    from_ledger(rt.alloc(), NO_DAMAGES)
 }

@@ -1,7 +1,7 @@
 //! All lists of one to three of nine requests, over tables and over the plain ledger.
 
-use crate::asks::{ask, plain, request_of, tables};
-use mq_frame::Request;
+use crate::asks::{plain, reply_of, tables};
+use mq_ledger::Ledger;
 use std::alloc::Global;
 use std::process::Abort;
 use std::test::*;
@@ -18,82 +18,69 @@ const REQUESTS: &[&str] = &[
     "06 00000001 00",
 ];
 
-/// Asserts that both ledgers, new, reply the same to the requests of these places, in turn.
-fn compare(
-    rt: &impl Abort,
+/// Whether both ledgers reply to a request, and the same.
+fn agree<A: Ledger, B: Ledger>(alloc: Global, one: &mut A, other: &mut B, request: &str) -> bool {
+    let Some(wanted) = reply_of(alloc, one, request) else {
+        return false;
+    };
+    reply_of(alloc, other, request) == Some(wanted)
+}
+
+/// Whether both reply the same to the requests of these places, in turn.
+fn agree_in_turn<A: Ledger, B: Ledger>(
     alloc: Global,
-    requests: &[Request],
+    one: &mut A,
+    other: &mut B,
     places: &[usize],
-) -> Result<(), Fail> {
-    let mut over_tables = tables(alloc, 3)?;
-    let mut over_list = plain(alloc, 3)?;
+) -> bool {
     for place in places {
-        let Some(request) = requests.get(*place) else {
-            return Err("no such request".into());
-        };
-        let wanted = ask(&mut over_list, request)?;
-        assert_eq!(rt; ask(&mut over_tables, request)?, wanted, "at {places:?}");
+        match REQUESTS.get(*place) {
+            Some(request) if agree(alloc, one, other, request) => {}
+            _ => return false,
+        }
     }
+    true
+}
+
+/// Asserts that both ledgers, new, reply the same to the requests of these places, in turn.
+fn compare(rt: &impl Abort, alloc: Global, places: &[usize]) -> Result<(), Fail> {
+    let mut over_tables = tables(alloc, 3)?;
+    let mut over_list = plain(alloc, 3);
+    let is_same = agree_in_turn(alloc, &mut over_list, &mut over_tables, places);
+    assert!(rt; is_same, "at {places:?}");
     Ok(())
 }
 
-/// The lists of one to three requests that begin with the one at this place.
-fn compare_from(rt: &impl Abort, alloc: Global, first: usize) -> Result<(), Fail> {
-    let mut requests = Vec::new(alloc);
-    for body in REQUESTS {
-        requests.push(request_of(alloc, body)?)?;
-    }
-    compare(rt, alloc, &requests, &[first])?;
-    for second in 0..REQUESTS.len() {
-        compare(rt, alloc, &requests, &[first, second])?;
-        for third in 0..REQUESTS.len() {
-            compare(rt, alloc, &requests, &[first, second, third])?;
+/// The lists of one to three requests that begin with one of those at these places.
+fn compare_from(rt: &impl Abort, alloc: Global, places: &[usize]) -> Result<(), Fail> {
+    for first in places {
+        compare(rt, alloc, &[*first])?;
+        for second in 0..REQUESTS.len() {
+            compare(rt, alloc, &[*first, second])?;
+            for third in 0..REQUESTS.len() {
+                compare(rt, alloc, &[*first, second, third])?;
+            }
         }
     }
     Ok(())
 }
 
 #[test]
-fn lists_from_the_first_reserve(rt: HostRuntime) -> Result<(), Fail> {
-    compare_from(&rt, rt.alloc(), 0)
+fn lists_from_reserves(rt: HostRuntime) -> Result<(), Fail> {
+    compare_from(&rt, rt.alloc(), &[0, 1, 2])
 }
 
 #[test]
-fn lists_from_the_second_reserve(rt: HostRuntime) -> Result<(), Fail> {
-    compare_from(&rt, rt.alloc(), 1)
+fn lists_from_a_release_and_a_settle(rt: HostRuntime) -> Result<(), Fail> {
+    compare_from(&rt, rt.alloc(), &[3, 4])
 }
 
 #[test]
-fn lists_from_the_third_reserve(rt: HostRuntime) -> Result<(), Fail> {
-    compare_from(&rt, rt.alloc(), 2)
+fn lists_from_limits(rt: HostRuntime) -> Result<(), Fail> {
+    compare_from(&rt, rt.alloc(), &[5, 6])
 }
 
 #[test]
-fn lists_from_the_release(rt: HostRuntime) -> Result<(), Fail> {
-    compare_from(&rt, rt.alloc(), 3)
-}
-
-#[test]
-fn lists_from_the_settle(rt: HostRuntime) -> Result<(), Fail> {
-    compare_from(&rt, rt.alloc(), 4)
-}
-
-#[test]
-fn lists_from_the_lower_limit(rt: HostRuntime) -> Result<(), Fail> {
-    compare_from(&rt, rt.alloc(), 5)
-}
-
-#[test]
-fn lists_from_the_equal_limit(rt: HostRuntime) -> Result<(), Fail> {
-    compare_from(&rt, rt.alloc(), 6)
-}
-
-#[test]
-fn lists_from_the_usage(rt: HostRuntime) -> Result<(), Fail> {
-    compare_from(&rt, rt.alloc(), 7)
-}
-
-#[test]
-fn lists_from_the_list(rt: HostRuntime) -> Result<(), Fail> {
-    compare_from(&rt, rt.alloc(), 8)
+fn lists_from_usage_and_a_list(rt: HostRuntime) -> Result<(), Fail> {
+    compare_from(&rt, rt.alloc(), &[7, 8])
 }

@@ -1,6 +1,6 @@
 //! What is done to a ledger and to its store, as lists of steps.
 
-use crate::asks::{Asked, ask, check, request_of, tables, zone};
+use crate::asks::{Asked, ask, replies, request_of, tables, zone};
 use mq_ledger::{Ledger, LedgerFault};
 use mq_store::{Audit, OpenFault, OpenRefused, SqlLedger};
 use sqlite::{Alter, Connection};
@@ -15,6 +15,7 @@ pub enum Outcome {
     ZoneDiffers,
     DefaultDiffers,
     Damaged(&'static str, i64),
+    Memory,
     Store,
 }
 
@@ -31,8 +32,10 @@ pub enum Step {
     Counts(&'static str, i64),
     /// The ledger goes by so many minutes and that default.
     GoesBy(i32, u32),
+    /// The ledger replies so to this request.
+    Reply(&'static str, &'static str),
     /// The ledger replies so to these requests.
-    Replies(Asked<'static>),
+    Replies(Asked),
     /// It answers this request by the store's fault.
     Fails(&'static str),
     /// An audit finds each pair right, over so many rows of `usage` and `trans`.
@@ -41,44 +44,36 @@ pub enum Step {
     Wrong(&'static str, i64),
 }
 
-/// A ledger, or the store of one that isn't open.
-#[derive(Drop)]
-pub enum Held<S: Alter> {
-    Ledger(SqlLedger<S>),
-    Store(Connection<S>),
-}
+/// A list of steps, with its name.
+pub type Case = (&'static str, &'static [Step]);
+
+/// Whether a step came out as it says, or else why not.
+pub type Verdict = Result<(), &'static str>;
 
 /// What comes of making or opening, with the store.
 type Entered<S> = Result<SqlLedger<S>, OpenRefused<S>>;
 
-/// Makes a ledger. Without clauses, as `ask`.
-pub fn make<S: Alter + Drop>(
-    alloc: Global,
-    store: Connection<S>,
-    minutes: i32,
-) -> Result<Entered<S>, Fail> {
-    Ok(SqlLedger::create(alloc, store, zone(minutes)?, 3))
+/// A ledger, the store of one that isn't open, or why a step came out otherwise.
+#[derive(Drop)]
+pub enum Held<S: Alter> {
+    Ledger(SqlLedger<S>),
+    Store(Connection<S>),
+    Otherwise(&'static str),
 }
 
-/// Opens a ledger. Without clauses, as `ask`.
+/// Makes a ledger. Without clauses, as `ask`.
+pub fn make<S: Alter + Drop>(alloc: Global, store: Connection<S>, minutes: i32) -> Entered<S> {
+    SqlLedger::create(alloc, store, zone(minutes), 3)
+}
+
+/// Opens a ledger. Without clauses, as `ask`. A default is at most 1,000,000.
 pub fn open<S: Alter + Drop>(
     alloc: Global,
     store: Connection<S>,
     minutes: i32,
     default: u32,
-) -> Result<Entered<S>, Fail> {
-    if default > 1_000_000 {
-        return Err("no such default".into());
-    }
-    Ok(SqlLedger::open(alloc, store, zone(minutes)?, default))
-}
-
-/// The ledger of offset 0 and default 3 that a store holds.
-pub fn opened<S: Alter + Drop>(alloc: Global, store: Connection<S>) -> Result<SqlLedger<S>, Fail> {
-    match open(alloc, store, 0, 3)? {
-        Ok(ledger) => Ok(ledger),
-        Err(_) => Err("not opened".into()),
-    }
+) -> Entered<S> {
+    SqlLedger::open(alloc, store, zone(minutes), default.min(1_000_000))
 }
 
 /// Whether a refusal has this cause.
@@ -87,6 +82,7 @@ pub fn is_refused(fault: &OpenFault, wanted: Outcome) -> bool {
         (OpenFault::NotOurs, Outcome::NotOurs)
         | (OpenFault::ZoneDiffers, Outcome::ZoneDiffers)
         | (OpenFault::DefaultDiffers, Outcome::DefaultDiffers)
+        | (OpenFault::Memory, Outcome::Memory)
         | (OpenFault::Store, Outcome::Store) => true,
         (OpenFault::Damaged { login, day }, Outcome::Damaged(least, of)) => {
             login.as_slice() == least.as_bytes() && *day == of
@@ -96,41 +92,30 @@ pub fn is_refused(fault: &OpenFault, wanted: Outcome) -> bool {
 }
 
 /// What is held behind a making or an opening that is to come out so.
-fn judged<S: Alter + Drop>(entered: Entered<S>, wanted: Outcome) -> Result<Held<S>, Fail> {
+fn judged<S: Alter + Drop>(entered: Entered<S>, wanted: Outcome) -> Held<S> {
     match entered {
         Ok(ledger) => match wanted {
-            Outcome::Ready => Ok(Held::Ledger(ledger)),
-            _ => Err("not refused".into()),
+            Outcome::Ready => Held::Ledger(ledger),
+            _ => Held::Otherwise("not refused"),
         },
         Err(refused) => {
-            let OpenRefused { fault, connection } = refused;
-            if is_refused(&fault, wanted) {
-                Ok(Held::Store(connection))
+            if is_refused(&refused.fault, wanted) {
+                Held::Store(refused.connection)
             } else {
-                Err("another fault".into())
+                Held::Otherwise("another fault")
             }
         }
     }
 }
 
-fn store_of<S: Alter>(held: Held<S>) -> Connection<S> {
-    match held {
-        Held::Ledger(ledger) => ledger.into_connection(),
-        Held::Store(store) => store,
-    }
+/// Whether a text runs. Without clauses, as `ask`.
+fn runs<S: Alter>(store: &mut Connection<S>, text: &str) -> bool {
+    store.execute_batch(text).is_ok()
 }
 
-fn ledger_of<S: Alter + Drop>(held: Held<S>) -> Result<SqlLedger<S>, Fail> {
-    match held {
-        Held::Ledger(ledger) => Ok(ledger),
-        Held::Store(_) => Err("no ledger is open".into()),
-    }
-}
-
-/// Runs a text. Without clauses, as `ask`.
-fn run<S: Alter>(store: &mut Connection<S>, text: &str) -> Result<(), Fail> {
-    store.execute_batch(text)?;
-    Ok(())
+/// The number that a query answers.
+fn count<S: Alter>(store: &mut Connection<S>, query: &str) -> Option<i64> {
+    store.query_row(query, &[]).ok()?.get(0).ok()
 }
 
 /// What an audit finds. Without clauses, as `ask`.
@@ -138,14 +123,9 @@ pub fn audit<S: Alter>(ledger: &mut SqlLedger<S>) -> Result<Audit, LedgerFault> 
     ledger.audit()
 }
 
-/// The number that a query answers.
-fn count<S: Alter>(store: &mut Connection<S>, query: &str) -> Result<i64, Fail> {
-    Ok(store.query_row(query, &[])?.get(0)?)
-}
-
-/// A test goes on where this is so.
-pub fn wanted(holds: bool, why: &'static str) -> Result<(), Fail> {
-    if holds { Ok(()) } else { Err(why.into()) }
+/// A case goes on where this is so.
+pub fn wanted(holds: bool, why: &'static str) -> Verdict {
+    if holds { Ok(()) } else { Err(why) }
 }
 
 fn is_sound(found: &Audit, rows: (u64, u64)) -> bool {
@@ -156,77 +136,169 @@ fn is_wrong(found: &Audit, least: &str, of: i64) -> bool {
     matches!(found, Audit::Wrong { login, day } if login.as_slice() == least.as_bytes() && *day == of)
 }
 
-/// Takes a step of a ledger that is open.
-fn step_inside<S: Alter>(alloc: Global, ledger: &mut SqlLedger<S>, step: Step) -> Result<(), Fail> {
+/// Whether an audit finds what the step says.
+fn finds<S: Alter>(ledger: &mut SqlLedger<S>, step: Step) -> bool {
+    let Ok(found) = audit(ledger) else {
+        return false;
+    };
     match step {
-        Step::Replies(asked) => check(alloc, ledger, asked),
-        Step::Fails(request) => {
-            let replied = ask(ledger, &request_of(alloc, request)?);
-            wanted(replied == Err(LedgerFault::Store), "no fault of the store")
-        }
-        Step::Sound(usage, trans) => {
-            let found = audit(ledger)?;
-            wanted(is_sound(&found, (usage, trans)), "not sound so")
-        }
-        Step::Wrong(least, of) => {
-            let found = audit(ledger)?;
-            wanted(is_wrong(&found, least, of), "not wrong so")
-        }
-        Step::GoesBy(minutes, default) => {
-            let is_so = ledger.zone() == zone(minutes)? && ledger.default_cap() == default;
-            wanted(is_so, "another zone or default")
-        }
-        _ => Err("a step of the store".into()),
+        Step::Sound(usage, trans) => is_sound(&found, (usage, trans)),
+        Step::Wrong(least, of) => is_wrong(&found, least, of),
+        _ => false,
     }
 }
 
-/// Takes one step.
-fn take_step<S: Alter + Drop>(alloc: Global, before: Held<S>, step: Step) -> Result<Held<S>, Fail> {
+/// Whether a ledger answers a request by the store's fault.
+fn fails<S: Alter>(alloc: Global, ledger: &mut SqlLedger<S>, request: &str) -> Option<bool> {
+    let request = request_of(alloc, request)?;
+    Some(ask(ledger, &request) == Err(LedgerFault::Store))
+}
+
+/// Takes requests in turn; the first that isn't replied to so is told.
+fn take_all<L: Ledger>(alloc: Global, ledger: &mut L, asked: Asked) -> Verdict {
+    for (request, reply) in asked {
+        wanted(
+            replies(alloc, ledger, request, reply) == Some(true),
+            request,
+        )?;
+    }
+    Ok(())
+}
+
+/// Takes a step of a ledger that is open.
+fn take_inside<S: Alter>(alloc: Global, ledger: &mut SqlLedger<S>, step: Step) -> Verdict {
+    match step {
+        Step::Reply(request, reply) => {
+            wanted(
+                replies(alloc, ledger, request, reply) == Some(true),
+                request,
+            )
+        }
+        Step::Replies(asked) => take_all(alloc, ledger, asked),
+        Step::Fails(request) => wanted(fails(alloc, ledger, request) == Some(true), request),
+        Step::Sound(..) | Step::Wrong(..) => wanted(finds(ledger, step), "an audit"),
+        Step::GoesBy(minutes, default) => {
+            let is_so = ledger.zone() == zone(minutes) && ledger.default_cap() == default;
+            wanted(is_so, "another zone or default")
+        }
+        _ => Err("a step of the store"),
+    }
+}
+
+/// Takes a step of a store.
+fn take_outside<S: Alter + Drop>(alloc: Global, store: Connection<S>, step: Step) -> Held<S> {
     match step {
         Step::Run(text) => {
-            let mut store = store_of(before);
-            run(&mut store, text)?;
-            Ok(Held::Store(store))
+            let mut store = store;
+            if runs(&mut store, text) {
+                Held::Store(store)
+            } else {
+                Held::Otherwise(text)
+            }
         }
         Step::Counts(query, number) => {
-            let mut store = store_of(before);
-            wanted(count(&mut store, query)? == number, "another number")?;
-            Ok(Held::Store(store))
+            let mut store = store;
+            if count(&mut store, query) == Some(number) {
+                Held::Store(store)
+            } else {
+                Held::Otherwise(query)
+            }
         }
-        Step::Make(outcome) => judged(make(alloc, store_of(before), 60)?, outcome),
+        Step::Make(outcome) => judged(make(alloc, store, 60), outcome),
         Step::Open(minutes, default, outcome) => {
-            judged(open(alloc, store_of(before), minutes, default)?, outcome)
+            judged(open(alloc, store, minutes, default), outcome)
         }
-        _ => {
-            let mut ledger = ledger_of(before)?;
-            step_inside(alloc, &mut ledger, step)?;
-            Ok(Held::Ledger(ledger))
-        }
+        _ => Held::Otherwise("no ledger is open"),
+    }
+}
+
+/// Whether a step is one of the store.
+fn is_outside(step: Step) -> bool {
+    matches!(
+        step,
+        Step::Run(_) | Step::Counts(..) | Step::Make(_) | Step::Open(..)
+    )
+}
+
+/// Takes one step of a ledger.
+fn take_of_ledger<S: Alter + Drop>(alloc: Global, before: SqlLedger<S>, step: Step) -> Held<S> {
+    if is_outside(step) {
+        return take_outside(alloc, before.into_connection(), step);
+    }
+    let mut ledger = before;
+    match take_inside(alloc, &mut ledger, step) {
+        Ok(()) => Held::Ledger(ledger),
+        Err(why) => Held::Otherwise(why),
+    }
+}
+
+/// Takes one step. Behind one that came out otherwise none is taken.
+fn take_step<S: Alter + Drop>(alloc: Global, before: Held<S>, step: Step) -> Held<S> {
+    match before {
+        Held::Ledger(ledger) => take_of_ledger(alloc, ledger, step),
+        Held::Store(store) => take_outside(alloc, store, step),
+        Held::Otherwise(why) => Held::Otherwise(why),
+    }
+}
+
+fn verdict_of<S: Alter>(held: &Held<S>) -> Verdict {
+    match held {
+        Held::Ledger(_) | Held::Store(_) => Ok(()),
+        Held::Otherwise(why) => Err(*why),
     }
 }
 
 /// Takes steps in turn.
-fn play<S: Alter + Drop>(alloc: Global, before: Held<S>, steps: &[Step]) -> Result<(), Fail> {
+fn play<S: Alter + Drop>(alloc: Global, before: Held<S>, steps: &[Step]) -> Verdict {
     let mut held = before;
-    for it in steps {
-        held = take_step(alloc, held, *it)?;
+    for step in steps {
+        held = take_step(alloc, held, *step);
     }
-    Ok(())
+    verdict_of(&held)
+}
+
+/// Takes requests in turn, where the ledger is taken apart before each, and opened with this default.
+pub fn play_opened<S: Alter + Drop>(
+    alloc: Global,
+    new: SqlLedger<S>,
+    default: u32,
+    asked: Asked,
+) -> Verdict {
+    let mut held = Held::Ledger(new);
+    for (request, reply) in asked {
+        held = take_step(alloc, held, Step::Open(0, default, Outcome::Ready));
+        held = take_step(alloc, held, Step::Reply(request, reply));
+    }
+    verdict_of(&held)
+}
+
+/// A failure tells the case and what came out otherwise.
+pub fn told(alloc: Global, name: &str, verdict: Verdict) -> Result<(), Fail> {
+    match verdict {
+        Ok(()) => Ok(()),
+        Err(why) => Err(Fail::new(format!(in alloc; "{name}: {why}")?)),
+    }
 }
 
 /// Takes each of these lists of steps from a new store in memory.
-pub fn from_store(alloc: Global, lists: &[&[Step]]) -> Result<(), Fail> {
-    for steps in lists {
+pub fn from_store(alloc: Global, cases: &[Case]) -> Result<(), Fail> {
+    for (name, steps) in cases {
         let store = Connection::open_in_memory(alloc)?;
-        play(alloc, Held::Store(store), steps)?;
+        told(alloc, name, play(alloc, Held::Store(store), steps))?;
     }
     Ok(())
 }
 
+/// Takes these steps from a new ledger of that default in memory.
+pub fn from_ledger_of(alloc: Global, default: u32, name: &str, steps: &[Step]) -> Result<(), Fail> {
+    let ledger = tables(alloc, default)?;
+    told(alloc, name, play(alloc, Held::Ledger(ledger), steps))
+}
+
 /// Takes each of these lists of steps from a new ledger of default 3 in memory.
-pub fn from_ledger(alloc: Global, lists: &[&[Step]]) -> Result<(), Fail> {
-    for steps in lists {
-        play(alloc, Held::Ledger(tables(alloc, 3)?), steps)?;
+pub fn from_ledger(alloc: Global, cases: &[Case]) -> Result<(), Fail> {
+    for (name, steps) in cases {
+        from_ledger_of(alloc, 3, name, steps)?;
     }
     Ok(())
 }

@@ -1,12 +1,12 @@
 //! A ledger of which a file stops at some call, at each in turn, and that is opened anew over what
 //! is left of the files.
 
-use super::steps::{Outcome, audit, is_refused, make, open, opened, wanted};
+use super::steps::{Outcome, Verdict, audit, is_refused, make, open, wanted};
 use super::worked::RESERVED_TWICE_SETTLED_ONCE;
-use crate::asks::{Asked, ask, reply_of, request_of, tables};
+use crate::asks::{Asked, ask_in_turn, replies, tables};
 use mq_ledger::Ledger;
 use mq_store::{Audit, OpenRefused, SqlLedger};
-use sqlite::{Alter, Connection, Error, FileStore, Files, Options, Row};
+use sqlite::{Alter, Connection, FileStore, Files, Options, Row};
 use sqlite_disk::{Crash, Disk, Fuse, Memory};
 use std::alloc::Global;
 use std::test::*;
@@ -40,44 +40,51 @@ enum Stop {
     Making,
     /// At the request of this place.
     At(usize),
+    /// At a reply that differs.
+    Differing,
     /// Behind the last request.
     Nowhere,
 }
 
 /// What is asked of the ledger.
-const ASKED: Asked<'static> = RESERVED_TWICE_SETTLED_ONCE;
+const ASKED: Asked = RESERVED_TWICE_SETTLED_ONCE;
 
-fn all_of<S: Alter>(connection: &mut Connection<S>, sql: &str) -> Result<Vec<Row>, Error> {
-    connection.query_all(sql, &[])
+/// The rows that a query answers.
+fn all_of<S: Alter>(connection: &mut Connection<S>, sql: &str) -> Option<Vec<Row>> {
+    connection.query_all(sql, &[]).ok()
+}
+
+fn push_row(alloc: Global, text: &mut String, row: &Row) -> Option<()> {
+    let line = format!(in alloc; "{row:?}\n").ok()?;
+    text.push_str(line.as_str()).ok()
+}
+
+/// Puts the rows that a query answers behind a text.
+fn push_rows<S: Alter>(
+    alloc: Global,
+    text: &mut String,
+    connection: &mut Connection<S>,
+    sql: &str,
+) -> Option<()> {
+    for row in all_of(connection, sql)?.as_slice() {
+        push_row(alloc, text, row)?;
+    }
+    Some(())
 }
 
 /// The rows of the five tables as text.
-fn rows_of<S: Alter>(alloc: Global, connection: &mut Connection<S>) -> Result<String, Fail> {
+fn rows_of<S: Alter>(alloc: Global, connection: &mut Connection<S>) -> Option<String> {
     let mut text = String::new(alloc);
     for sql in ROWS {
-        let rows = all_of(connection, sql)?;
-        push_rows(alloc, &mut text, rows.as_slice())?;
+        push_rows(alloc, &mut text, connection, sql)?;
     }
-    Ok(text)
-}
-
-fn push_rows(alloc: Global, text: &mut String, rows: &[Row]) -> Result<(), Fail> {
-    for row in rows {
-        text.push_str(format!(in alloc; "{row:?}\n")?.as_str())?;
-    }
-    Ok(())
+    Some(text)
 }
 
 /// The rows of a new ledger after so many of the requests.
-fn rows_after<S: Alter + Drop>(
-    alloc: Global,
-    new: SqlLedger<S>,
-    count: usize,
-) -> Result<String, Fail> {
+fn rows_after<S: Alter + Drop>(alloc: Global, new: SqlLedger<S>, count: usize) -> Option<String> {
     let mut ledger = new;
-    for (request, _) in ASKED.iter().take(count) {
-        ask(&mut ledger, &request_of(alloc, request)?)?;
-    }
+    ask_in_turn(alloc, &mut ledger, ASKED.get(..count)?)?;
     rows_of(alloc, &mut ledger.into_connection())
 }
 
@@ -85,7 +92,8 @@ fn rows_after<S: Alter + Drop>(
 fn rows_in_turn(alloc: Global) -> Result<Vec<String>, Fail> {
     let mut rows = Vec::new(alloc);
     for count in 0..6 {
-        rows.push(rows_after(alloc, tables(alloc, 3)?, count)?)?;
+        let text = rows_after(alloc, tables(alloc, 3)?, count).ok_or("no rows")?;
+        rows.push(text)?;
     }
     Ok(rows)
 }
@@ -121,40 +129,41 @@ fn files_of<D: Disk + Drop>(connection: Connection<FileStore<D>>) -> Files<D> {
     connection.into_store().close()
 }
 
-/// Asks the ledger up to the first request that it doesn't reply to. A reply that differs is a failure.
-fn ask_all<L: Ledger>(alloc: Global, ledger: &mut L) -> Result<Stop, Fail> {
-    for (place, (request, expected)) in ASKED.iter().enumerate() {
-        match ask(ledger, &request_of(alloc, request)?) {
-            Ok(reply) => wanted(reply == reply_of(alloc, expected)?, "another reply")?,
-            Err(_) => return Ok(Stop::At(place)),
+/// Asks the ledger up to the first request that it doesn't reply to.
+fn ask_all<L: Ledger>(alloc: Global, ledger: &mut L) -> Stop {
+    for (place, (request, reply)) in ASKED.iter().enumerate() {
+        match replies(alloc, ledger, request, reply) {
+            Some(true) => {}
+            Some(false) => return Stop::Differing,
+            None => return Stop::At(place),
         }
     }
-    Ok(Stop::Nowhere)
+    Stop::Nowhere
 }
 
 /// Makes a ledger in a store and asks it, up to where the store fails.
-fn run<S: Alter + Drop>(
-    alloc: Global,
-    store: Connection<S>,
-) -> Result<(Connection<S>, Stop), Fail> {
-    match make(alloc, store, 0)? {
+fn run<S: Alter + Drop>(alloc: Global, store: Connection<S>, stop: &mut Stop) -> Connection<S> {
+    match make(alloc, store, 0) {
         Ok(ledger) => {
             let mut ledger = ledger;
-            let stop = ask_all(alloc, &mut ledger)?;
-            Ok((ledger.into_connection(), stop))
+            *stop = ask_all(alloc, &mut ledger);
+            ledger.into_connection()
         }
-        Err(refused) => Ok((refused.connection, Stop::Making)),
+        Err(refused) => {
+            *stop = Stop::Making;
+            refused.connection
+        }
     }
 }
 
 /// The same over files.
-fn run_over<D: Disk + Drop>(alloc: Global, files: Files<D>) -> Result<(Files<D>, Stop), Fail> {
+fn run_over<D: Disk + Drop>(alloc: Global, files: Files<D>, stop: &mut Stop) -> Files<D> {
     match connect(alloc, files) {
-        Ok(store) => {
-            let (store, stop) = run(alloc, store)?;
-            Ok((files_of(store), stop))
+        Ok(store) => files_of(run(alloc, store, stop)),
+        Err(files) => {
+            *stop = Stop::Making;
+            files
         }
-        Err(files) => Ok((files, Stop::Making)),
     }
 }
 
@@ -163,6 +172,7 @@ fn may_be_found(rows: &[String], stop: Stop, found: &str) -> bool {
     let (first, last) = match stop {
         Stop::Making => (0, 0),
         Stop::At(place) => (place, place.saturating_add(1)),
+        Stop::Differing => return false,
         Stop::Nowhere => (5, 5),
     };
     for (count, known) in rows.iter().enumerate() {
@@ -173,29 +183,44 @@ fn may_be_found(rows: &[String], stop: Stop, found: &str) -> bool {
     false
 }
 
-/// Checks that a ledger replies as ever to all requests, those before the stop among them, and has
-/// the rows of them all.
-fn check_again<S: Alter + Drop>(
-    alloc: Global,
-    rows: &[String],
-    store: Connection<S>,
-) -> Result<(), Fail> {
-    let mut ledger = opened(alloc, store)?;
-    let stop = ask_all(alloc, &mut ledger)?;
-    wanted(stop == Stop::Nowhere, "a request without a reply")?;
-    let mut store = ledger.into_connection();
-    check_rows(alloc, rows, Stop::Nowhere, &mut store)
-}
-
 /// Checks that a store has rows as they may be behind the stop.
 fn check_rows<S: Alter>(
     alloc: Global,
     rows: &[String],
     stop: Stop,
     store: &mut Connection<S>,
-) -> Result<(), Fail> {
-    let found = rows_of(alloc, store)?;
-    wanted(may_be_found(rows, stop, found.as_str()), "other rows")
+) -> Verdict {
+    match rows_of(alloc, store) {
+        Some(found) => wanted(may_be_found(rows, stop, found.as_str()), "other rows"),
+        None => Err("no rows"),
+    }
+}
+
+/// Checks that a ledger replies as ever to all requests, those before the stop among them, and has
+/// the rows of them all.
+fn check_again<S: Alter + Drop>(alloc: Global, rows: &[String], store: Connection<S>) -> Verdict {
+    match open(alloc, store, 0, 3) {
+        Ok(ledger) => {
+            let mut ledger = ledger;
+            let stop = ask_all(alloc, &mut ledger);
+            check_end(alloc, rows, stop, ledger.into_connection())
+        }
+        Err(_) => Err("not opened again"),
+    }
+}
+
+/// Checks that all requests have their replies, and a store the rows of them all.
+fn check_end<S: Alter + Drop>(
+    alloc: Global,
+    rows: &[String],
+    stop: Stop,
+    store: Connection<S>,
+) -> Verdict {
+    let mut store = store;
+    match stop {
+        Stop::Nowhere => check_rows(alloc, rows, stop, &mut store),
+        _ => Err("a request without its reply"),
+    }
 }
 
 /// Whether a ledger may be refused so behind the stop: none was made, and the store has no table.
@@ -205,27 +230,45 @@ fn may_be_refused<S: Alter + Drop>(stop: Stop, refused: &OpenRefused<S>) -> bool
         && refused.connection.schema().tables.is_empty()
 }
 
-/// Checks what a store holds behind a stop: a sound ledger that has rows as they may be, and goes on
-/// where that is asked for, or no table.
+/// Checks that an audit finds each pair right.
+fn check_audit<S: Alter>(ledger: &mut SqlLedger<S>) -> Verdict {
+    wanted(
+        matches!(audit(ledger), Ok(Audit::Sound { .. })),
+        "not sound",
+    )
+}
+
+/// Checks that a ledger is sound and has rows as they may be behind a stop, and goes on where that is
+/// asked for.
+fn check_ledger<S: Alter + Drop>(
+    alloc: Global,
+    rows: &[String],
+    stop: Stop,
+    ledger: SqlLedger<S>,
+    goes_on: bool,
+) -> Verdict {
+    let mut ledger = ledger;
+    let found = check_audit(&mut ledger);
+    let mut store = ledger.into_connection();
+    let found = found.and(check_rows(alloc, rows, stop, &mut store));
+    match found {
+        Ok(()) if goes_on => check_again(alloc, rows, store),
+        _ => found,
+    }
+}
+
+/// Checks what a store holds behind a stop: such a ledger, or no table.
 fn check_store<S: Alter + Drop>(
     alloc: Global,
     rows: &[String],
     stop: Stop,
     store: Connection<S>,
     goes_on: bool,
-) -> Result<(), Fail> {
-    let mut ledger = match open(alloc, store, 0, 3)? {
-        Ok(ledger) => ledger,
-        Err(refused) => return wanted(may_be_refused(stop, &refused), "refused"),
-    };
-    let found = audit(&mut ledger)?;
-    wanted(matches!(found, Audit::Sound { .. }), "not sound")?;
-    let mut store = ledger.into_connection();
-    check_rows(alloc, rows, stop, &mut store)?;
-    if goes_on {
-        check_again(alloc, rows, store)?;
+) -> Verdict {
+    match open(alloc, store, 0, 3) {
+        Ok(ledger) => check_ledger(alloc, rows, stop, ledger, goes_on),
+        Err(refused) => wanted(may_be_refused(stop, &refused), "refused"),
     }
-    Ok(())
 }
 
 /// The same of what files hold.
@@ -235,27 +278,35 @@ fn check_files<D: Disk + Drop>(
     stop: Stop,
     files: Files<D>,
     goes_on: bool,
-) -> Result<(), Fail> {
+) -> Verdict {
     match connect(alloc, files) {
         Ok(store) => check_store(alloc, rows, stop, store, goes_on),
-        Err(_) => Err("the files don't open".into()),
+        Err(_) => Err("the files don't open"),
     }
 }
 
 /// A file with all that was written to this one.
-fn copied(alloc: Global, file: &Fused) -> Result<Fused, Fail> {
+fn copied(alloc: Global, file: &Fused) -> Option<Fused> {
     let mut copy = Memory::new(alloc);
-    copy.write_at(0, file.inner().bytes())?;
-    copy.sync()?;
-    Ok(Fuse::new(copy, u64::MAX))
+    copy.write_at(0, file.inner().bytes()).ok()?;
+    copy.sync().ok()?;
+    Some(Fuse::new(copy, u64::MAX))
 }
 
 /// Files with all that was written to these.
-fn written(alloc: Global, files: &Files<Fused>) -> Result<Files<Fused>, Fail> {
-    Ok(Files {
+fn written(alloc: Global, files: &Files<Fused>) -> Option<Files<Fused>> {
+    Some(Files {
         log: copied(alloc, &files.log)?,
         db: copied(alloc, &files.db)?,
     })
+}
+
+/// Checks what files hold that have all that was written.
+fn check_written(alloc: Global, rows: &[String], stop: Stop, files: &Files<Fused>) -> Verdict {
+    match written(alloc, files) {
+        Some(files) => check_files(alloc, rows, stop, files, false),
+        None => Err("no memory"),
+    }
 }
 
 /// The files, with no more than what was synced.
@@ -266,17 +317,27 @@ fn synced(files: Files<Fused>) -> Files<Fused> {
     files
 }
 
+/// Lets a file stop at this call, and answers where the run ended. Behind it the files are opened with all
+/// that was written, and with no more than what was synced.
+fn stop_at(
+    alloc: Global,
+    rows: &[String],
+    stopping: Stopping,
+    calls: u64,
+) -> Result<Stop, &'static str> {
+    let mut stop = Stop::Making;
+    let files = run_over(alloc, fused_files(alloc, stopping, calls), &mut stop);
+    check_written(alloc, rows, stop, &files)?;
+    check_files(alloc, rows, stop, synced(files), true)?;
+    Ok(stop)
+}
+
 /// Lets a file stop at each of these calls in turn, until a run comes to its end, and answers how many
-/// calls that run made, if one did. Behind each stop the files are opened with all that was written, and
-/// with no more than what was synced.
+/// calls that run made, if one did.
 fn sweep(alloc: Global, stopping: Stopping, first: u64, last: u64) -> Result<Option<u64>, Fail> {
     let rows = rows_in_turn(alloc)?;
     for calls in first..last {
-        let files = fused_files(alloc, stopping, calls);
-        let (files, stop) = run_over(alloc, files)?;
-        check_files(alloc, rows.as_slice(), stop, written(alloc, &files)?, false)?;
-        check_files(alloc, rows.as_slice(), stop, synced(files), true)?;
-        if stop == Stop::Nowhere {
+        if stop_at(alloc, rows.as_slice(), stopping, calls)? == Stop::Nowhere {
             return Ok(Some(calls));
         }
     }
@@ -295,19 +356,19 @@ fn the_database_stops_at_each_call(rt: HostRuntime) -> Result<(), Fail> {
 #[test]
 fn the_log_stops_at_its_first_calls(rt: HostRuntime) -> Result<(), Fail> {
     let ended = sweep(rt.alloc(), Stopping::Log, 0, 12)?;
-    wanted(ended.is_none(), "a run came to its end")
+    Ok(wanted(ended.is_none(), "a run came to its end")?)
 }
 
 #[test]
 fn the_log_stops_at_further_calls(rt: HostRuntime) -> Result<(), Fail> {
     let ended = sweep(rt.alloc(), Stopping::Log, 12, 24)?;
-    wanted(ended.is_none(), "a run came to its end")
+    Ok(wanted(ended.is_none(), "a run came to its end")?)
 }
 
 #[test]
 fn the_log_stops_at_later_calls(rt: HostRuntime) -> Result<(), Fail> {
     let ended = sweep(rt.alloc(), Stopping::Log, 24, 34)?;
-    wanted(ended.is_none(), "a run came to its end")
+    Ok(wanted(ended.is_none(), "a run came to its end")?)
 }
 
 #[test]

@@ -1,10 +1,7 @@
 //! The worked examples of `docs/LEDGER.md` over tables.
 
-use super::steps::opened;
-use crate::asks::{Asked, check, tables};
-use mq_store::SqlLedger;
-use sqlite::Alter;
-use std::alloc::Global;
+use super::steps::{Step, from_ledger_of, play_opened, told};
+use crate::asks::{Asked, tables};
 use std::test::*;
 
 pub const RESERVE_ONE: &str =
@@ -14,9 +11,7 @@ pub const GRANTED_ONE: &str = "81 0161 0000000000000001 00000001 00000001";
 
 pub const USAGE: &str = "05 0175 00000001";
 
-type Example = Asked<'static>;
-
-const A_REPEAT_COUNTS_ONCE: Example = &[
+const A_REPEAT_COUNTS_ONCE: Asked = &[
     (RESERVE_ONE, GRANTED_ONE),
     (RESERVE_ONE, GRANTED_ONE),
     (RESERVE_ONE, GRANTED_ONE),
@@ -29,7 +24,7 @@ const A_REPEAT_COUNTS_ONCE: Example = &[
     (USAGE, "8b 0175 00000001 00000000 00000001 00000003"),
 ];
 
-const AT_THE_CAP_AND_THEN_LIMITS: Example = &[
+const AT_THE_CAP_AND_THEN_LIMITS: Asked = &[
     (RESERVE_ONE, GRANTED_ONE),
     (
         "01 0161 0000000000000001 00000002 00000001 0000000000015180 0175 00000002",
@@ -53,7 +48,7 @@ const AT_THE_CAP_AND_THEN_LIMITS: Example = &[
     ),
 ];
 
-const AT_THE_CAP_AND_THEN_RELEASED: Example = &[
+const AT_THE_CAP_AND_THEN_RELEASED: Asked = &[
     (RESERVE_ONE, GRANTED_ONE),
     (
         "01 0161 0000000000000001 00000002 00000001 0000000000015180 0175 00000002",
@@ -78,7 +73,7 @@ const AT_THE_CAP_AND_THEN_RELEASED: Example = &[
     ),
 ];
 
-const THE_SAME_NUMBER_FROM_ANOTHER_HOST: Example = &[
+const THE_SAME_NUMBER_FROM_ANOTHER_HOST: Asked = &[
     (RESERVE_ONE, GRANTED_ONE),
     (
         "01 0162 0000000000000001 00000001 00000001 0000000000015180 0175 00000001",
@@ -86,7 +81,7 @@ const THE_SAME_NUMBER_FROM_ANOTHER_HOST: Example = &[
     ),
 ];
 
-const RELEASE_OF_AN_UNHEARD_TRANSACTION: Example = &[
+const RELEASE_OF_AN_UNHEARD_TRANSACTION: Asked = &[
     (
         "03 0161 0000000000000001 00000002 00000001 0000000000015180 0175",
         "84 0161 0000000000000001 00000002 00000000",
@@ -94,7 +89,7 @@ const RELEASE_OF_AN_UNHEARD_TRANSACTION: Example = &[
     (RESERVE_ONE, "87 0161 0000000000000001 00000001"),
 ];
 
-pub const RESERVED_TWICE_SETTLED_ONCE: Example = &[
+pub const RESERVED_TWICE_SETTLED_ONCE: Asked = &[
     (RESERVE_ONE, GRANTED_ONE),
     (
         "01 0161 0000000000000001 00000002 00000001 0000000000015180 0175 00000001",
@@ -111,7 +106,7 @@ pub const RESERVED_TWICE_SETTLED_ONCE: Example = &[
     ),
 ];
 
-const THE_LIST_PAGE: Example = &[
+const THE_LIST_PAGE: Asked = &[
     (RESERVE_ONE, GRANTED_ONE),
     (
         "06 00000001 00",
@@ -121,7 +116,7 @@ const THE_LIST_PAGE: Example = &[
 ];
 
 /// A page has the logins of its day alone, in the order of their bytes, though they have other days too.
-const THE_LIST_PAGE_OF_ONE_DAY_AMONG_OTHERS: Example = &[
+const THE_LIST_PAGE_OF_ONE_DAY_AMONG_OTHERS: Asked = &[
     (RESERVE_ONE, GRANTED_ONE),
     (
         "01 0161 0000000000000001 00000002 00000002 000000000002a300 0176 00000001",
@@ -150,7 +145,7 @@ const THE_LIST_PAGE_OF_ONE_DAY_AMONG_OTHERS: Example = &[
     ("06 00000003 00", "8c 00000003 00"),
 ];
 
-const MISMATCH_AND_TOO_MANY: Example = &[
+const MISMATCH_AND_TOO_MANY: Asked = &[
     (RESERVE_ONE, GRANTED_ONE),
     (
         "01 0161 0000000000000001 00000002 00000001 0000000000015180 0176 00000001",
@@ -162,52 +157,63 @@ const MISMATCH_AND_TOO_MANY: Example = &[
     ),
 ];
 
-/// The examples over a default of three recipients.
-const EXAMPLES: &[Example] = &[
-    A_REPEAT_COUNTS_ONCE,
-    AT_THE_CAP_AND_THEN_LIMITS,
-    AT_THE_CAP_AND_THEN_RELEASED,
-    THE_SAME_NUMBER_FROM_ANOTHER_HOST,
-    RELEASE_OF_AN_UNHEARD_TRANSACTION,
-    RESERVED_TWICE_SETTLED_ONCE,
-    THE_LIST_PAGE,
-    THE_LIST_PAGE_OF_ONE_DAY_AMONG_OTHERS,
-    MISMATCH_AND_TOO_MANY,
+const A_CAP_OF_NOTHING: Asked = &[(
+    RESERVE_ONE,
+    "82 0161 0000000000000001 00000001 00000000 00000000",
+)];
+
+/// The examples, each with its name and the default that it is worked over.
+const EXAMPLES: &[(&str, u32, Asked)] = &[
+    ("a repeat counts once", 3, A_REPEAT_COUNTS_ONCE),
+    ("at the cap and then limits", 3, AT_THE_CAP_AND_THEN_LIMITS),
+    (
+        "at the cap and then released",
+        3,
+        AT_THE_CAP_AND_THEN_RELEASED,
+    ),
+    (
+        "the same number from another host",
+        3,
+        THE_SAME_NUMBER_FROM_ANOTHER_HOST,
+    ),
+    (
+        "release of an unheard transaction",
+        3,
+        RELEASE_OF_AN_UNHEARD_TRANSACTION,
+    ),
+    (
+        "reserved twice settled once",
+        3,
+        RESERVED_TWICE_SETTLED_ONCE,
+    ),
+    ("the list page", 3, THE_LIST_PAGE),
+    (
+        "the list page of one day among others",
+        3,
+        THE_LIST_PAGE_OF_ONE_DAY_AMONG_OTHERS,
+    ),
+    ("mismatch and too many", 3, MISMATCH_AND_TOO_MANY),
+    ("a cap of nothing", 0, A_CAP_OF_NOTHING),
 ];
 
 #[test]
 fn examples(rt: HostRuntime) -> Result<(), Fail> {
-    for example in EXAMPLES {
-        check(rt.alloc(), &mut tables(rt.alloc(), 3)?, example)?;
+    for (name, default, asked) in EXAMPLES {
+        from_ledger_of(rt.alloc(), *default, name, &[Step::Replies(asked)])?;
     }
     Ok(())
 }
 
-/// Checks a ledger's replies, where it is taken apart before each request, and opened.
-fn check_opened<S: Alter + Drop>(
-    alloc: Global,
-    new: SqlLedger<S>,
-    example: Example,
-) -> Result<(), Fail> {
-    let mut ledger = new;
-    for asked in example {
-        ledger = opened(alloc, ledger.into_connection())?;
-        check(alloc, &mut ledger, &[*asked])?;
-    }
-    Ok(())
-}
-
+/// The ledger is taken apart before each request, and opened.
 #[test]
 fn examples_opened_in_between(rt: HostRuntime) -> Result<(), Fail> {
-    for example in EXAMPLES {
-        check_opened(rt.alloc(), tables(rt.alloc(), 3)?, example)?;
+    for (name, default, asked) in EXAMPLES {
+        let ledger = tables(rt.alloc(), *default)?;
+        told(
+            rt.alloc(),
+            name,
+            play_opened(rt.alloc(), ledger, *default, asked),
+        )?;
     }
     Ok(())
-}
-
-#[test]
-fn a_cap_of_nothing(rt: HostRuntime) -> Result<(), Fail> {
-    let full = "82 0161 0000000000000001 00000001 00000000 00000000";
-    let mut ledger = tables(rt.alloc(), 0)?;
-    check(rt.alloc(), &mut ledger, &[(RESERVE_ONE, full)])
 }

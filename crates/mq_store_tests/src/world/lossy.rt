@@ -1,7 +1,7 @@
 //! A link that loses, repeats, delays and mixes up, by a pseudo-random generator.
 
-use super::scripted::answer;
-use super::usage::{deliver, usage_of};
+use super::scripted::{answer, copied};
+use super::usage::{deliver_frame, usage_of};
 use mq_client::{Link, LinkFault};
 use mq_frame::{Request, encode_request, is_request};
 use mq_ledger::Ledger;
@@ -104,23 +104,30 @@ impl<L: Ledger + Drop> Lossy<L> {
         true
     }
 
-    /// A frame comes to the ledger, and its reply is written.
-    fn take(&mut self, frame: &[u8]) -> Option<Vec<u8>> {
-        self.arrivals = self.arrivals.saturating_add(1);
-        let Some(body) = deliver(self.alloc, &mut self.ledger, frame) else {
-            self.failed = true;
-            return None;
-        };
+    /// Looks at the ledger behind an arrival, and keeps what it replied.
+    fn note(&mut self, body: &[u8]) {
         self.passed |= !self.is_covered();
-        let copied = Vec::from_slice(self.alloc, body.as_slice());
-        self.failed |= keep(&mut self.written, copied.ok());
-        Some(body)
+        self.failed |= keep(self.alloc, &mut self.written, body).is_none();
+    }
+
+    /// A frame comes to the ledger, and its reply is written.
+    fn take(&mut self, frame: &[u8]) -> Result<Vec<u8>, LinkFault> {
+        self.arrivals = self.arrivals.saturating_add(1);
+        match deliver_frame(self.alloc, &mut self.ledger, frame) {
+            Some(body) => {
+                self.note(body.as_slice());
+                Ok(body)
+            }
+            None => {
+                self.failed = true;
+                Err(LinkFault::Down)
+            }
+        }
     }
 
     /// A frame is on its way from now on.
     pub fn send(&mut self, frame: &[u8]) {
-        let copied = Vec::from_slice(self.alloc, frame);
-        self.failed |= keep(&mut self.sent, copied.ok());
+        self.failed |= keep(self.alloc, &mut self.sent, frame).is_none();
     }
 
     /// Anyone else sends a request.
@@ -134,35 +141,30 @@ impl<L: Ledger + Drop> Lossy<L> {
         Ok(())
     }
 
+    /// A copy of a frame that was sent some time.
+    fn old_frame(&mut self) -> Option<Vec<u8>> {
+        let place = self.dice.late_place(self.sent.len());
+        copied(self.alloc, self.sent.get(place)?.as_slice()).ok()
+    }
+
     /// A frame that was sent some time comes to the ledger.
     pub fn take_one(&mut self) {
-        let place = self.dice.late_place(self.sent.len());
-        let Some(frame) = self.sent.get(place) else {
-            return;
-        };
-        if let Ok(copy) = Vec::from_slice(self.alloc, frame.as_slice()) {
-            let _ = self.take(copy.as_slice());
+        if let Some(frame) = self.old_frame() {
+            let _ = self.take(frame.as_slice());
         }
     }
 
     /// A reply that was written some time, to anyone.
-    fn old_reply(&mut self) -> Option<Vec<u8>> {
+    fn old_reply(&mut self) -> Result<Vec<u8>, LinkFault> {
         let place = self.dice.late_place(self.written.len());
-        Vec::from_slice(self.alloc, self.written.get(place)?.as_slice()).ok()
+        match self.written.get(place) {
+            Some(body) => copied(self.alloc, body.as_slice()),
+            None => Err(LinkFault::Down),
+        }
     }
-}
 
-/// Puts bytes behind a list, and answers whether that failed.
-fn keep(list: &mut Vec<Vec<u8>>, bytes: Option<Vec<u8>>) -> bool {
-    match bytes {
-        Some(bytes) => list.push(bytes).is_err(),
-        None => true,
-    }
-}
-
-impl<L: Ledger + Drop> Link for Lossy<L> {
-    fn exchange(&mut self, frame: &[u8], reply: &mut Vec<u8>) -> Result<(), LinkFault> {
-        reply.clear();
+    /// What an exchange brings: the frame, or its reply, may be lost, and frames of others come.
+    fn bring(&mut self, frame: &[u8]) -> Result<Vec<u8>, LinkFault> {
         self.send(frame);
         for _ in 0..self.dice.below(3) {
             self.take_one();
@@ -175,10 +177,21 @@ impl<L: Ledger + Drop> Link for Lossy<L> {
                 Err(LinkFault::Down)
             }
             // Retry, Bad, and a reply to anyone.
-            7 => answer(Vec::from_slice(self.alloc, &[0x8d]).ok(), reply),
-            8 => answer(Vec::from_slice(self.alloc, &[0x8e]).ok(), reply),
-            9..=11 => answer(self.old_reply(), reply),
-            _ => answer(self.take(frame), reply),
+            7 => copied(self.alloc, &[0x8d]),
+            8 => copied(self.alloc, &[0x8e]),
+            9..=11 => self.old_reply(),
+            _ => self.take(frame),
         }
+    }
+}
+
+/// Puts bytes behind a list.
+fn keep(alloc: Global, list: &mut Vec<Vec<u8>>, bytes: &[u8]) -> Option<()> {
+    list.push(copied(alloc, bytes).ok()?).ok()
+}
+
+impl<L: Ledger + Drop> Link for Lossy<L> {
+    fn exchange(&mut self, frame: &[u8], reply: &mut Vec<u8>) -> Result<(), LinkFault> {
+        answer(self.bring(frame), reply)
     }
 }

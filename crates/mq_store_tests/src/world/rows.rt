@@ -2,14 +2,14 @@
 
 use super::scripted::{Scripted, run};
 use super::usage::{Used, usage_of};
-use crate::asks::{bytes_of, plain, tables};
+use crate::asks::{is_body, plain, tables};
 use mq_ledger::Ledger;
 use std::alloc::Global;
 use std::process::Abort;
 use std::test::*;
 
 /// Up to the recipient.
-pub const SESSION: &[u8] = b"config|smtpd-version|6.6.1
+const SESSION: &[u8] = b"config|smtpd-version|6.6.1
 config|smtp-session-timeout|300
 config|subsystem|smtp-in
 config|ready
@@ -18,8 +18,15 @@ report|0.7|1576146009.006099|smtp-in|tx-begin|7641df9771b4ed00|4c56d3a1
 filter|0.7|1576146010.006099|smtp-in|rcpt-to|7641df9771b4ed00|1ef1c203cc576e5d|bob@example.org
 ";
 
-pub const COMMIT: &[u8] =
-    b"report|0.7|1576146011.006099|smtp-in|tx-commit|7641df9771b4ed00|4c56d3a1|1200
+/// The same, and its transaction is committed.
+pub const COMMITTED: &[u8] = b"config|smtpd-version|6.6.1
+config|smtp-session-timeout|300
+config|subsystem|smtp-in
+config|ready
+report|0.7|1576146008.006099|smtp-in|link-auth|7641df9771b4ed00|pass|alice
+report|0.7|1576146009.006099|smtp-in|tx-begin|7641df9771b4ed00|4c56d3a1
+filter|0.7|1576146010.006099|smtp-in|rcpt-to|7641df9771b4ed00|1ef1c203cc576e5d|bob@example.org
+report|0.7|1576146011.006099|smtp-in|tx-commit|7641df9771b4ed00|4c56d3a1|1200
 ";
 
 pub const ALICE: &[u8] = b"alice";
@@ -47,8 +54,8 @@ struct Row<'a> {
     exchanges: usize,
     /// The replies of the ledger's entries, in order.
     entries: &'a [&'a str],
-    settled: u32,
-    reserved: u32,
+    /// What stands in the ledger at the end.
+    used: Used,
 }
 
 const ROWS: &[Row<'static>] = &[
@@ -61,8 +68,11 @@ const ROWS: &[Row<'static>] = &[
             "81 036d7831 0000000000000001 00000001 00000001",
             "83 036d7831 0000000000000001 00000002 00000001",
         ],
-        settled: 1,
-        reserved: 0,
+        used: Used {
+            settled: 1,
+            reserved: 0,
+            cap: 3,
+        },
     },
     // the frame comes late
     Row {
@@ -73,8 +83,11 @@ const ROWS: &[Row<'static>] = &[
             "84 036d7831 0000000000000001 00000002 00000000",
             "87 036d7831 0000000000000001 00000001",
         ],
-        settled: 0,
-        reserved: 0,
+        used: Used {
+            settled: 0,
+            reserved: 0,
+            cap: 3,
+        },
     },
     // every reply to the reserve lost
     Row {
@@ -85,21 +98,33 @@ const ROWS: &[Row<'static>] = &[
             "81 036d7831 0000000000000001 00000001 00000001",
             "84 036d7831 0000000000000001 00000002 00000001",
         ],
-        settled: 0,
-        reserved: 0,
+        used: Used {
+            settled: 0,
+            reserved: 0,
+            cap: 3,
+        },
     },
 ];
 
-/// Checks that a ledger wrote these replies, in order. A failure names the reply.
-fn check_replies(alloc: Global, replies: &[Vec<u8>], wanted: &[&str]) -> Result<(), Fail> {
-    if replies.len() != wanted.len() {
-        return Err("another count of replies".into());
+/// Asserts that a ledger wrote these replies, in order.
+fn assert_replies(rt: &impl Abort, alloc: Global, replies: &[Vec<u8>], wanted: &[&str]) {
+    assert_eq!(rt; replies.len(), wanted.len());
+    for (reply, digits) in replies.iter().zip(wanted) {
+        assert!(rt; is_body(alloc, reply.as_slice(), digits), "{digits}");
     }
-    for (reply, body) in replies.iter().zip(wanted) {
-        if reply.as_slice() != bytes_of(alloc, body)?.as_slice() {
-            return Err(Fail::new(*body));
-        }
-    }
+}
+
+/// Asserts that what the filter of a host writes for these lines ends so.
+fn assert_answer<L: Ledger + Drop>(
+    rt: &impl Abort,
+    alloc: Global,
+    link: &mut Scripted<'_, L>,
+    host: &[u8],
+    lines: &[u8],
+    answer: &[u8],
+) -> Result<(), Fail> {
+    let text = run(alloc, link, host, lines)?;
+    assert!(rt; text.as_slice().ends_with(answer));
     Ok(())
 }
 
@@ -111,24 +136,19 @@ fn assert_row<L: Ledger + Drop>(
     row: &Row<'_>,
 ) -> Result<(), Fail> {
     let mut link = Scripted::new(alloc, ledger, row.script);
-    let text = run(alloc, &mut link, b"mx1", &[SESSION, COMMIT])?;
+    assert_answer(rt, alloc, &mut link, b"mx1", COMMITTED, row.answer)?;
     link.deliver_late();
-    assert!(rt; text.as_slice().ends_with(row.answer));
     assert_eq!(rt; link.exchanges, row.exchanges);
-    check_replies(alloc, &link.replies, row.entries)?;
-    let wanted = Used {
-        settled: row.settled,
-        reserved: row.reserved,
-        cap: 3,
-    };
-    assert_eq!(rt; usage_of(alloc, &mut link.ledger, ALICE, DAY), Some(wanted));
+    assert_replies(rt, alloc, &link.replies, row.entries);
+    let used = usage_of(alloc, &mut link.ledger, ALICE, DAY);
+    assert_eq!(rt; used, Some(row.used));
     Ok(())
 }
 
 #[test]
 fn one_recipient_by_a_script(rt: HostRuntime) -> Result<(), Fail> {
     for row in ROWS {
-        assert_row(&rt, rt.alloc(), plain(rt.alloc(), 3)?, row)?;
+        assert_row(&rt, rt.alloc(), plain(rt.alloc(), 3), row)?;
         assert_row(&rt, rt.alloc(), tables(rt.alloc(), 3)?, row)?;
     }
     Ok(())
@@ -137,21 +157,22 @@ fn one_recipient_by_a_script(rt: HostRuntime) -> Result<(), Fail> {
 /// Asserts that of two hosts the first lets its recipient through, and the second refuses its own.
 fn assert_shared<L: Ledger + Drop>(rt: &impl Abort, alloc: Global, ledger: L) -> Result<(), Fail> {
     let mut link = Scripted::new(alloc, ledger, b"");
-    let first = run(alloc, &mut link, b"mx1", &[SESSION])?;
-    let second = run(alloc, &mut link, b"mx2", &[SESSION])?;
-    assert!(rt; first.as_slice().ends_with(PROCEED));
-    assert!(rt; second.as_slice().ends_with(LIMIT));
-    let wanted = Used {
-        settled: 0,
-        reserved: 1,
-        cap: 1,
-    };
-    assert_eq!(rt; usage_of(alloc, &mut link.ledger, ALICE, DAY), Some(wanted));
+    assert_answer(rt, alloc, &mut link, b"mx1", SESSION, PROCEED)?;
+    assert_answer(rt, alloc, &mut link, b"mx2", SESSION, LIMIT)?;
+    let used = usage_of(alloc, &mut link.ledger, ALICE, DAY);
+    assert_eq!(rt;
+        used,
+        Some(Used {
+            settled: 0,
+            reserved: 1,
+            cap: 1
+        })
+    );
     Ok(())
 }
 
 #[test]
 fn two_hosts_share_one_recipient(rt: HostRuntime) -> Result<(), Fail> {
-    assert_shared(&rt, rt.alloc(), plain(rt.alloc(), 1)?)?;
+    assert_shared(&rt, rt.alloc(), plain(rt.alloc(), 1))?;
     assert_shared(&rt, rt.alloc(), tables(rt.alloc(), 1)?)
 }

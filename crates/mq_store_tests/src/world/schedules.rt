@@ -76,6 +76,20 @@ fn reserve<L: Ledger + Drop>(
     client.reserve(&Discard, link, open.txn, at, login)
 }
 
+/// Closes a transaction. Without clauses, so that its callers stay cheap to prove.
+fn close<L: Ledger + Drop>(
+    link: &mut Lossy<L>,
+    client: &mut Client,
+    closing: Closing,
+) -> Result<(), Memory> {
+    client.close(&Discard, link, closing)
+}
+
+/// Sends what waits. Without clauses, as `close`.
+fn drain<L: Ledger + Drop>(link: &mut Lossy<L>, client: &mut Client) {
+    let _ = client.drain(&Discard, link);
+}
+
 impl Sender {
     fn new(alloc: Global, name: &'static [u8]) -> Result<Sender, Fail> {
         Ok(Sender {
@@ -128,8 +142,7 @@ impl Sender {
         } else {
             CloseEnd::Commit
         };
-        let closing = Closing { txn: open.txn, end };
-        self.client.close(&Discard, link, closing)?;
+        close(link, &mut self.client, Closing { txn: open.txn, end })?;
         Ok(())
     }
 
@@ -199,6 +212,12 @@ fn any_request(dice: &mut Dice, id: Id, login: Login) -> Request {
     }
 }
 
+/// Someone who isn't a filter sends a request.
+fn send_of_others<L: Ledger + Drop>(alloc: Global, link: &mut Lossy<L>) -> Result<(), Fail> {
+    let request = request_of_others(alloc, &mut link.dice)?;
+    link.send_request(&request)
+}
+
 /// One step of a schedule.
 fn step<L: Ledger + Drop>(
     alloc: Global,
@@ -214,7 +233,7 @@ fn step<L: Ledger + Drop>(
         6..=23 => sender.ask(link),
         24..=30 => sender.close(link),
         31 => {
-            let _ = sender.client.drain(&Discard, link);
+            drain(link, &mut sender.client);
             Ok(())
         }
         32 => {
@@ -225,10 +244,7 @@ fn step<L: Ledger + Drop>(
             link.take_one();
             Ok(())
         }
-        _ => {
-            let request = request_of_others(alloc, &mut link.dice)?;
-            link.send_request(&request)
-        }
+        _ => send_of_others(alloc, link),
     }
 }
 
@@ -253,7 +269,30 @@ struct Tally {
     let_through: u64,
 }
 
-/// A schedule of two to four hosts over a new ledger, with a check behind each step.
+/// The first hosts, so many.
+fn senders_of(alloc: Global, count: usize) -> Result<Vec<Sender>, Fail> {
+    let mut senders = Vec::new(alloc);
+    for name in HOSTS.iter().take(count) {
+        senders.push(Sender::new(alloc, name)?)?;
+    }
+    Ok(senders)
+}
+
+/// The steps of a schedule, with a check behind each.
+fn assert_steps<L: Ledger + Drop>(
+    rt: &impl Abort,
+    alloc: Global,
+    link: &mut Lossy<L>,
+    senders: &mut [Sender],
+) -> Result<(), Fail> {
+    for _ in 0..STEPS {
+        step(alloc, link, senders)?;
+        assert_state(rt, alloc, link);
+    }
+    Ok(())
+}
+
+/// A schedule of two to four hosts over a new ledger.
 fn assert_schedule<L: Ledger + Drop>(
     rt: &impl Abort,
     alloc: Global,
@@ -262,20 +301,9 @@ fn assert_schedule<L: Ledger + Drop>(
     tally: &mut Tally,
 ) -> Result<(), Fail> {
     let mut link = Lossy::new(alloc, ledger, seed);
-    let mut senders = Vec::new(alloc);
-    let count = 2 + (seed % 3) as usize;
-    for name in HOSTS.iter().take(count) {
-        senders.push(Sender::new(alloc, name)?)?;
-    }
-    for _ in 0..STEPS {
-        step(alloc, &mut link, senders.as_mut_slice())?;
-        assert_state(rt, alloc, &mut link);
-        tally.steps = tally.steps.saturating_add(1);
-    }
-    tally.arrivals = tally.arrivals.saturating_add(link.arrivals);
-    for count in link.let_through {
-        tally.let_through = tally.let_through.saturating_add(count as u64);
-    }
+    let mut senders = senders_of(alloc, 2 + (seed % 3) as usize)?;
+    assert_steps(rt, alloc, &mut link, senders.as_mut_slice())?;
+    tally.add(link.arrivals, link.let_through);
     Ok(())
 }
 
@@ -287,13 +315,22 @@ impl Tally {
             let_through: 0,
         }
     }
+
+    /// One more schedule has ended.
+    fn add(&mut self, arrivals: u64, let_through: [u32; 4]) {
+        self.steps = self.steps.saturating_add(STEPS as u64);
+        self.arrivals = self.arrivals.saturating_add(arrivals);
+        for count in let_through {
+            self.let_through = self.let_through.saturating_add(count as u64);
+        }
+    }
 }
 
 #[test]
 fn schedules_over_a_list(rt: HostRuntime) -> Result<(), Fail> {
     let mut tally = Tally::new();
     for seed in 0..20_000u64 {
-        assert_schedule(&rt, rt.alloc(), plain(rt.alloc(), 4)?, seed, &mut tally)?;
+        assert_schedule(&rt, rt.alloc(), plain(rt.alloc(), 4), seed, &mut tally)?;
     }
     println!(rt; "20,000 schedules over a list: {tally:?}")?;
     Ok(())
@@ -302,19 +339,13 @@ fn schedules_over_a_list(rt: HostRuntime) -> Result<(), Fail> {
 /// Over tables each schedule goes as it goes over a list.
 #[test]
 fn schedules_over_tables(rt: HostRuntime) -> Result<(), Fail> {
-    let mut over_list = Tally::new();
-    let mut over_tables = Tally::new();
+    let mut listed = Tally::new();
+    let mut tabled = Tally::new();
     for seed in 100_000..102_000u64 {
-        assert_schedule(&rt, rt.alloc(), plain(rt.alloc(), 4)?, seed, &mut over_list)?;
-        assert_schedule(
-            &rt,
-            rt.alloc(),
-            tables(rt.alloc(), 4)?,
-            seed,
-            &mut over_tables,
-        )?;
-        assert_eq!(rt; over_tables, over_list, "at {seed}");
+        assert_schedule(&rt, rt.alloc(), plain(rt.alloc(), 4), seed, &mut listed)?;
+        assert_schedule(&rt, rt.alloc(), tables(rt.alloc(), 4)?, seed, &mut tabled)?;
+        assert_eq!(rt; tabled, listed, "at {seed}");
     }
-    println!(rt; "2,000 schedules over tables: {over_tables:?}")?;
+    println!(rt; "2,000 schedules over tables: {tabled:?}")?;
     Ok(())
 }

@@ -2,7 +2,7 @@
 
 ghost use Rattle.std.specs.Prelude.{◌≡◌, [], OnErr};
 
-use super::usage::deliver;
+use super::usage::deliver_frame;
 use log::sink::Discard;
 use mq_client::{Client, Ended, FilterFault, Link, LinkFault, run_filter};
 use mq_frame::{FromRead, Host, Sink, Source, ToWrite, is_host, is_run};
@@ -36,20 +36,32 @@ impl<'a, L: Ledger + Drop> Scripted<'a, L> {
         }
     }
 
-    /// The frame comes to the ledger.
-    fn deliver(&mut self, frame: &[u8]) -> Option<Vec<u8>> {
-        let body = deliver(self.alloc, &mut self.ledger, frame)?;
-        if !self.replies.iter().any(|known| *known == body) {
-            let copy = Vec::from_slice(self.alloc, body.as_slice()).ok()?;
-            self.replies.push(copy).ok()?;
+    /// Keeps the body of a reply that wasn't written before.
+    fn keep(&mut self, body: &[u8]) -> Result<(), LinkFault> {
+        for known in self.replies.as_slice() {
+            if known.as_slice() == body {
+                return Ok(());
+            }
         }
-        Some(body)
+        let copy = copied(self.alloc, body)?;
+        self.replies.push(copy).or(Err(LinkFault::Memory))
+    }
+
+    /// The frame comes to the ledger.
+    fn deliver(&mut self, frame: &[u8]) -> Result<Vec<u8>, LinkFault> {
+        match deliver_frame(self.alloc, &mut self.ledger, frame) {
+            Some(body) => {
+                self.keep(body.as_slice())?;
+                Ok(body)
+            }
+            None => Err(LinkFault::Down),
+        }
     }
 
     /// The frames that were held back come to the ledger.
     pub fn deliver_late(&mut self) {
         let late = std::mem::replace(&mut self.late, Vec::new(self.alloc));
-        for frame in late {
+        for frame in late.as_slice() {
             let _ = self.deliver(frame.as_slice());
         }
     }
@@ -66,37 +78,43 @@ impl<'a, L: Ledger + Drop> Scripted<'a, L> {
         self.exchanges = self.exchanges.saturating_add(1);
         letter.unwrap_or(b'D')
     }
+
+    /// What the next exchange brings.
+    fn bring(&mut self, frame: &[u8]) -> Result<Vec<u8>, LinkFault> {
+        match self.next_letter() {
+            b'L' => {}
+            b'B' => {
+                let _ = self.deliver(frame);
+            }
+            b'H' => self.hold_back(frame),
+            _ => return self.deliver(frame),
+        }
+        Err(LinkFault::TimedOut)
+    }
+}
+
+/// A copy of bytes.
+pub fn copied(alloc: Global, bytes: &[u8]) -> Result<Vec<u8>, LinkFault> {
+    Vec::from_slice(alloc, bytes).or(Err(LinkFault::Memory))
 }
 
 /// Puts a body into the reply, where one came.
-pub fn answer(body: Option<Vec<u8>>, reply: &mut Vec<u8>) -> Result<(), LinkFault>
+pub fn answer(body: Result<Vec<u8>, LinkFault>, reply: &mut Vec<u8>) -> Result<(), LinkFault>
     ensures { OnErr result (reply.new.items ≡ []) }
 {
     reply.clear();
-    let Some(body) = body else {
-        return Err(LinkFault::Down);
-    };
-    match reply.extend_from_slice(body.as_slice()) {
-        Ok(()) => Ok(()),
-        Err(_) => Err(LinkFault::Memory),
+    match body {
+        Ok(body) => {
+            *reply = body;
+            Ok(())
+        }
+        Err(fault) => Err(fault),
     }
 }
 
 impl<L: Ledger + Drop> Link for Scripted<'_, L> {
     fn exchange(&mut self, frame: &[u8], reply: &mut Vec<u8>) -> Result<(), LinkFault> {
-        reply.clear();
-        match self.next_letter() {
-            b'L' => Err(LinkFault::TimedOut),
-            b'B' => {
-                let _ = self.deliver(frame);
-                Err(LinkFault::TimedOut)
-            }
-            b'H' => {
-                self.hold_back(frame);
-                Err(LinkFault::TimedOut)
-            }
-            _ => answer(self.deliver(frame), reply),
-        }
+        answer(self.bring(frame), reply)
     }
 }
 
@@ -120,21 +138,25 @@ fn filter<S: Source, W: Sink, K: Link>(
     run_filter(&Discard, alloc, input, output, link, client)
 }
 
+/// What the filter of a client writes for these lines.
+fn written_for<K: Link>(
+    alloc: Global,
+    link: &mut K,
+    client: &mut Client,
+    lines: &[u8],
+) -> Result<Vec<u8>, Fail> {
+    let mut input = FromRead::new(lines);
+    let mut output = ToWrite::new(Vec::new(alloc));
+    filter(alloc, &mut input, &mut output, link, client)?;
+    Ok(output.into_inner())
+}
+
 /// What the filter of a host writes for these lines.
 pub fn run<K: Link>(
     alloc: Global,
     link: &mut K,
     name: &[u8],
-    parts: &[&[u8]],
+    lines: &[u8],
 ) -> Result<Vec<u8>, Fail> {
-    let mut lines = Vec::new(alloc);
-    for part in parts {
-        lines.extend_from_slice(part)?;
-    }
-    let mut client = client_of(alloc, name, 1, 3)?;
-    let mut input = FromRead::new(lines.as_slice());
-    let mut output = ToWrite::new(Vec::new(alloc));
-    filter(alloc, &mut input, &mut output, link, &mut client)?;
-    let _ = input.into_inner();
-    Ok(output.into_inner())
+    written_for(alloc, link, &mut client_of(alloc, name, 1, 3)?, lines)
 }

@@ -1,28 +1,14 @@
 //! Frames that come to a ledger, and what it says that a login has used.
 
-use crate::asks::ask;
-use mq_frame::{Login, Reply, Request, decode_request, encode_reply, is_reply};
+use crate::asks::{ask, deliver};
+use mq_frame::{Login, Reply, Request};
 use mq_ledger::Ledger;
 use std::alloc::Global;
 use std::process::Abort;
-use std::test::*;
 
 /// Hands a frame to a ledger. The body of its reply; none where there is a fault.
-pub fn deliver<L: Ledger>(alloc: Global, ledger: &mut L, frame: &[u8]) -> Option<Vec<u8>> {
-    let body = frame.get(2..)?;
-    let request = decode_request(alloc, body).ok()?;
-    let reply = ask(ledger, &request).ok()?;
-    body_of(alloc, &reply)
-}
-
-/// The body of a reply.
-fn body_of(alloc: Global, reply: &Reply) -> Option<Vec<u8>> {
-    let mut frame = Vec::new(alloc);
-    if !is_reply(reply) {
-        return None;
-    }
-    encode_reply(alloc, reply, &mut frame).ok()?;
-    Vec::from_slice(alloc, frame.get(2..)?).ok()
+pub fn deliver_frame<L: Ledger>(alloc: Global, ledger: &mut L, frame: &[u8]) -> Option<Vec<u8>> {
+    deliver(alloc, ledger, frame.get(2..)?)
 }
 
 /// What a login has settled and reserved on a day, and its limit.
@@ -59,11 +45,15 @@ fn used_by(reply: &Reply) -> Option<Used> {
     })
 }
 
+/// What a ledger replies to such a request.
+fn used_of<L: Ledger>(ledger: &mut L, request: &Request) -> Option<Used> {
+    used_by(&ask(ledger, request).ok()?)
+}
+
 /// What a ledger says that a login has used on a day; nothing where there is a fault.
 pub fn usage_of<L: Ledger>(alloc: Global, ledger: &mut L, login: &[u8], day: u32) -> Option<Used> {
     let login = Login::from_slice(alloc, login).ok()?;
-    let reply = ask(ledger, &Request::Usage { login, day }).ok()?;
-    used_by(&reply)
+    used_of(ledger, &Request::Usage { login, day })
 }
 
 /// Asserts that what was let through is settled or reserved, and that this is within the limit.
