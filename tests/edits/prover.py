@@ -140,7 +140,7 @@ class Crate:
         """Returns how many characters the text of a function has, or a very large number where it has none of its own, and for a
         law, whose proof is all that it does."""
         if self.lengths is None:
-            self.lengths = source.lengths(f"{self.folder}/src")
+            self.lengths = source.lengths(self.folder)
         return 1e9 if function.startswith("laws::") else self.lengths.get(function, 1e9)
 
     def memory(self):
@@ -151,16 +151,18 @@ class Crate:
         return int(1e9 + 1e6 * lines_in(self.folder, ".rt") + 2e5 * lines_in(self.folder, ".antt") + 8e4 * lines_below
                    + min(5 * sum(os.path.getsize(it) for it in loaded if os.path.isfile(it)), 2.5e9))
 
-    def check(self, texts, only, stated=()):
+    def check(self, texts, only, stated=(), kept=None):
         """Checks these functions of a copy of the crate with these texts by path. The functions of `stated` are taken by their
-        contracts, and so is one that is refused where it is called."""
+        contracts, and so is one that is refused where it is called. Where functions are kept, no other keeps its body."""
         with tempfile.TemporaryDirectory(prefix="edits-") as room:
             for part in PARTS:
                 if os.path.isdir(f"{self.folder}/{part}"):
                     shutil.copytree(f"{self.folder}/{part}", f"{room}/{part}")
             for path, text in texts.items():
-                with open(f"{room}/{path}", "w", encoding="utf-8") as file:
-                    file.write(text)
+                self.write(f"{room}/{path}", text)
+            if kept is not None:
+                for path, text in source.texts_in(room).items():
+                    self.write(f"{room}/{path}", source.without_bodies(path, text, lambda it: source.overlap({it}, kept)))
             if stated:
                 self.write(f"{room}/proofs/Taken.antt", HOLE)
                 self.write(f"{room}/proofs/Lib.antt", "mod Taken\n", "a")

@@ -13,6 +13,7 @@ from collections import namedtuple
 
 from edit import BadEdit, Edit, edits_in
 from prover import Told, is_part
+from source import overlap
 
 # What is to be said of an edit or a crate, and whether it is as it must be.
 Result = namedtuple("Result", "is_well name said")
@@ -20,11 +21,6 @@ Result = namedtuple("Result", "is_well name said")
 
 class Killed(Exception):
     """A check was killed, most likely for memory."""
-
-
-def overlap(some, others):
-    """Returns whether two sets of functions share one, of which one may be named by its end alone."""
-    return any(a == b or a.endswith("::" + b) or b.endswith("::" + a) for a in some for b in others)
 
 
 class Rounds:
@@ -59,11 +55,14 @@ class Rounds:
         return [it for it in self.proved if "+" not in it and "::fn::" not in it and not overlap({it}, touched)]
 
     def check(self, edits, only):
-        """Checks functions over texts with these edits, with the others by their contracts."""
+        """Checks functions over texts with these edits, with the others by their contracts and without their bodies."""
         self.count += 1
         # (what an edit outside functions spoils isn't known)
-        by_contract = [] if any(it.is_outside for it in edits) else [it for it in self.unedited(edits) if it not in only]
-        ran = self.crate.check(self.composed(edits), only, by_contract)
+        by_contract, kept = [], None
+        if not any(it.is_outside for it in edits):
+            by_contract = [it for it in self.unedited(edits) if it not in only]
+            kept = set(only).union(*(it.touched for it in edits))
+        ran = self.crate.check(self.composed(edits), only, by_contract, kept)
         self.seconds += ran.seconds
         if ran.status == -9:
             raise Killed

@@ -3,9 +3,9 @@ import os
 import re
 from collections import namedtuple
 
-# A function with a body: its first place, the place behind its last, its names from the outermost module or type on, whether
-# it stands in an impl without a trait, and whether it is public.
-Function = namedtuple("Function", "begins ends names is_of_type is_public")
+# A function with a body: its first place, that of its body, the place behind its last, its names from the outermost module or type
+# on, and whether it stands in an impl without a trait.
+Function = namedtuple("Function", "begins body ends names is_of_type")
 
 # Comments, strings, characters and lifetimes, in which a brace opens nothing.
 TOKEN = re.compile(
@@ -83,15 +83,20 @@ def functions(text):
                 open_.pop()
             continue
         if it[0] == "{":
-            open_.append((name_of(said), head + len(said) - len(said.lstrip()), said))
+            open_.append((name_of(said), head + len(said) - len(said.lstrip()), at, said))
         elif it[0] == "}" and open_:
-            name, begins, said = open_.pop()
+            name, begins, body, said = open_.pop()
             if FUNCTION.search(said):
                 names = (*(it[0] for it in open_ if it[0]), name)
-                is_of_type = bool(open_) and bool(re.match(r"\s*impl\b(?!.*\bfor\b)", open_[-1][2], re.S))
-                found.append(Function(begins, at + 1, names, is_of_type, bool(re.search(r"\bpub\b", said))))
+                is_of_type = bool(open_) and bool(re.match(r"\s*impl\b(?!.*\bfor\b)", open_[-1][3], re.S))
+                found.append(Function(begins, body, at + 1, names, is_of_type))
         head = at + 1
     return sorted(found)
+
+
+def overlap(some, others):
+    """Returns whether two sets of functions share one, of which one may be named by its end alone."""
+    return any(a == b or a.endswith("::" + b) or b.endswith("::" + a) for a in some for b in others)
 
 
 def module_of(path):
@@ -99,26 +104,43 @@ def module_of(path):
     return tuple(it for it in path[len("src/"):-len(".rt")].split("/") if it not in ("lib", "main", "mod"))
 
 
+def full_name(path, text, function):
+    """Returns a function of the file as module::Type::name."""
+    # A type's own functions are named by its module: where that is another file, the end of the name has to do.
+    is_elsewhere = function.is_of_type and not re.search(rf"\b(?:struct|enum)\s+{function.names[-2]}\b", text)
+    return "::".join((*(() if is_elsewhere else module_of(path)), *function.names))
+
+
 def function_at(path, text, at):
     """Returns the innermost function that holds the place of the file, as module::Type::name, or none."""
     around = [it for it in functions(text) if it.begins <= at < it.ends]
-    if not around:
-        return None
-    it = max(around)
-    # A type's own functions are named by its module: where that is another file, the end of the name has to do.
-    is_elsewhere = it.is_of_type and not re.search(rf"\b(?:struct|enum)\s+{it.names[-2]}\b", text)
-    return "::".join((*(() if is_elsewhere else module_of(path)), *it.names))
+    return full_name(path, text, max(around)) if around else None
+
+
+def without_bodies(path, text, is_kept):
+    """Returns the text, in which a function whose name isn't kept never ends, whatever its type: it is there to be called alone."""
+    parts, last, over = [], 0, 0
+    for it in functions(text):
+        # (a function in another one goes or stays with it)
+        if it.begins >= over and not is_kept(full_name(path, text, it)):
+            parts += [text[last:it.body], "{ loop {} }"]
+            last = it.ends
+        over = max(over, it.ends)
+    return "".join(parts) + text[last:]
+
+
+def texts_in(folder):
+    """Returns the texts of the crate's .rt files by path."""
+    found = {}
+    for at, _, names in os.walk(f"{folder}/src"):
+        for name in names:
+            if name.endswith(".rt"):
+                with open(f"{at}/{name}", encoding="utf-8") as file:
+                    found[os.path.relpath(f"{at}/{name}", folder)] = file.read()
+    return found
 
 
 def lengths(folder):
-    """Returns how many characters each function of the .rt files in src/ has, by the name that the prover prints."""
-    found = {}
-    for at, _, names in os.walk(folder):
-        for name in names:
-            path = f"{at}/{name}"
-            if path.endswith(".rt"):
-                with open(path, encoding="utf-8") as file:
-                    text = file.read()
-                module = module_of("src" + path[len(folder):])
-                found.update({"::".join((*module, *it.names)): it.ends - it.begins for it in functions(text)})
-    return found
+    """Returns how many characters each function of the crate has, by the name that the prover prints."""
+    return {"::".join((*module_of(path), *it.names)): it.ends - it.begins
+            for path, text in texts_in(folder).items() for it in functions(text)}

@@ -8,7 +8,6 @@ use log::{LevelFilter, Logged, error};
 use mq_client::FilterFault;
 use mq_ledger::LedgerFault;
 use mq_room::RoomFault;
-use mq_server::ServeFault;
 use mq_settings::{FileFault, SettingsFault};
 use mq_store::{OpenFault, OpenRefused};
 use sqlite::Alter;
@@ -57,10 +56,8 @@ pub enum ProgramFault {
     Audit(LedgerFault),
     #[error("listen failed")]
     Listen,
-    #[error("accept failed")]
-    Accept,
     #[error("{0}")]
-    Serve(ServeFault),
+    Serve(RoomFault),
 }
 
 impl ProgramFault {
@@ -131,16 +128,12 @@ impl From<LedgerFault> for ProgramFault {
 }
 
 impl From<RoomFault> for ProgramFault {
-    ghost use Rattle.mq_program.specs.Faults.{room_fault};
+    ghost use Rattle.mq_program.specs.declared.fault.ProgramFault.TheVariants.{Serve};
 
-    ghost from_gives = { λ cause fault. fault ≡ room_fault cause };
+    ghost from_gives = { λ cause fault. fault ≡ Serve cause };
 
     fn from(cause: RoomFault) -> ProgramFault {
-        match cause {
-            RoomFault::Accept => ProgramFault::Accept,
-            RoomFault::Memory => ProgramFault::Memory,
-            RoomFault::Store => ProgramFault::Serve(ServeFault::Store),
-        }
+        ProgramFault::Serve(cause)
     }
 }
 

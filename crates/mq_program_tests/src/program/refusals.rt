@@ -9,6 +9,7 @@ use mq_command::{Ending, ReplayFault, ReportFault};
 use mq_frame::Login;
 use mq_ledger::LedgerFault;
 use mq_program::{ProgramFault, run_subcommand};
+use mq_room::RoomFault;
 use mq_store::OpenFault;
 use mq_track::TrackFault;
 use std::fmt::Display;
@@ -137,7 +138,8 @@ fn texts_of_faults(rt: HostRuntime) -> Result<(), Fail> {
     assert_fault(&rt, ReportFault::TooManyPages, "too many pages")?;
     let enough = ReplayFault::Connection(1, Ending::Enough);
     assert_fault(&rt, enough, "connection 1: enough")?;
-    assert_fault(&rt, ProgramFault::Accept, "accept failed")?;
+    let accept = ProgramFault::Serve(RoomFault::Accept);
+    assert_fault(&rt, accept, "accept failed")?;
     assert_fault(&rt, ProgramFault::Words, "arguments are not text")?;
     let auth = ProgramFault::Filter(FilterFault::Track(TrackFault::Auth));
     assert_fault(&rt, auth, "report refused: auth")?;
