@@ -3,7 +3,7 @@
 A round is one check of the crate over texts in which each function is edited once at most. A refused function is taken by its
 contract where it is called, and of each function the prover says whether a goal of its own was refused, or whether it only
 calls or stands on what isn't proved. So an edit is refused where that is said of the very function that it changes. The functions
-that a round doesn't edit have holes for proofs there: they are taken by their contracts, and were proved before.
+that a round doesn't edit have holes for proofs there, and no bodies: they are taken by their contracts, and were proved before.
 
 All this rests on the prover's words, so nothing else is believed of a round: an edit counts only where its functions were proved
 as they stand, in the same run; edits whose functions aren't told of are tried without the others and at last alone; an unedited
