@@ -151,19 +151,18 @@ class Crate:
         return int(1e9 + 1e6 * lines_in(self.folder, ".rt") + 2e5 * lines_in(self.folder, ".antt") + 8e4 * lines_below
                    + min(5 * sum(os.path.getsize(it) for it in loaded if os.path.isfile(it)), 2.5e9))
 
-    def check(self, texts, only, stated=(), kept=None):
+    def check(self, texts, only, stated, kept):
         """Checks these functions of a copy of the crate with these texts by path. The functions of `stated` are taken by their
-        contracts, and so is one that is refused where it is called. Where functions are kept, no other keeps its body."""
+        contracts, and so is one that is refused where it is called; where there are such, only those of `kept` keep their bodies."""
         with tempfile.TemporaryDirectory(prefix="edits-") as room:
             for part in PARTS:
                 if os.path.isdir(f"{self.folder}/{part}"):
                     shutil.copytree(f"{self.folder}/{part}", f"{room}/{part}")
             for path, text in texts.items():
                 self.write(f"{room}/{path}", text)
-            if kept is not None:
+            if stated:
                 for path, text in source.texts_in(room).items():
                     self.write(f"{room}/{path}", source.without_bodies(path, text, lambda it: source.overlap({it}, kept)))
-            if stated:
                 self.write(f"{room}/proofs/Taken.antt", HOLE)
                 self.write(f"{room}/proofs/Lib.antt", "mod Taken\n", "a")
             for it in stated:

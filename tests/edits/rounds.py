@@ -58,10 +58,8 @@ class Rounds:
         """Checks functions over texts with these edits, with the others by their contracts and without their bodies."""
         self.count += 1
         # (what an edit outside functions spoils isn't known)
-        by_contract, kept = [], None
-        if not any(it.is_outside for it in edits):
-            by_contract = [it for it in self.unedited(edits) if it not in only]
-            kept = set(only).union(*(it.touched for it in edits))
+        by_contract = [] if any(it.is_outside for it in edits) else [it for it in self.unedited(edits) if it not in only]
+        kept = set(only).union(*(it.touched for it in edits))
         ran = self.crate.check(self.composed(edits), only, by_contract, kept)
         self.seconds += ran.seconds
         if ran.status == -9:
