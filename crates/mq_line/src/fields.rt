@@ -1,5 +1,5 @@
 //! The fields of a line, which bars part.
-ghost use Rattle.std.specs.Prelude.{◌≡◌, ◌∷◌, ◌++◌, [], ℕ, List, MatchResult};
+ghost use Rattle.std.specs.Prelude.{◌≡◌, ◌<◌, ◌∷◌, ◌++◌, [], ℕ, List, MatchResult, length};
 ghost use Rattle.mq_line.specs.Pieces.{fields, fields_left, joined};
 ghost use Rattle.mq_line.specs.declared.faults.LineFault.TheVariants.{Short};
 
@@ -38,6 +38,20 @@ pub(crate) fn next_field<'a>(
         Some(text) => Ok(first_field(text)),
         None => Err(LineFault::Short),
     }
+}
+
+/// The next three fields of what is left of a line, and what is left behind them. `Short` where fewer are left.
+pub(crate) fn next_three<'a>(
+    left: Option<&'a [u8]>,
+) -> Result<(&'a [u8], &'a [u8], &'a [u8], Option<&'a [u8]>), LineFault>
+    ensures { MatchResult result
+        (λ r. fields_left left.entry ≡ r.0.now ∷ r.1.now ∷ r.2.now ∷ fields_left r.3)
+        (λ fault. (fault ≡ Short) × (length (fields_left left.entry) < 3)) }
+{
+    let (first, left) = next_field(left)?;
+    let (second, left) = next_field(left)?;
+    let (third, left) = next_field(left)?;
+    Ok((first, second, third, left))
 }
 
 /// What is left of a line, with the bars in it: nothing behind its last field.

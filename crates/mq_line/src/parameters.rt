@@ -18,11 +18,14 @@ pub enum AuthResult {
 fn result_of(word: &[u8]) -> Option<AuthResult>
     ensures { result ≡ result_lem word.now }
 {
-    match word {
-        b"pass" => Some(AuthResult::Pass),
-        b"fail" => Some(AuthResult::Fail),
-        b"error" => Some(AuthResult::Error),
-        _ => None,
+    if word == b"pass".as_slice() {
+        Some(AuthResult::Pass)
+    } else if word == b"fail".as_slice() {
+        Some(AuthResult::Fail)
+    } else if word == b"error".as_slice() {
+        Some(AuthResult::Error)
+    } else {
+        None
     }
 }
 

@@ -9,7 +9,7 @@ ghost use Rattle.mq_line.specs.Grammar.{is_number, max_fraction_digits, seconds_
 ghost use Rattle.mq_line.specs.Grammar.{IsStamp, stamp_fault, config_fault, report_fault, filter_fault};
 
 use crate::faults::LineFault;
-use crate::fields::{first_field, next_field, rest_of};
+use crate::fields::{first_field, next_field, next_three, rest_of};
 
 /// A line of smtpd, taken apart. Its parts are slices of the line, byte for byte.
 #[derive(Clone, Copy, Debug, PartialEq, Eq)]
@@ -134,9 +134,7 @@ fn read_report<'a>(left: Option<&'a [u8]>) -> Result<Line<'a>, LineFault>
         (λ line. Means (codes "report" ∷ fields_left left.entry) (meaning line))
         (λ e. report_fault (fields_left left.entry) ≡ Some e) }
 {
-    let (version, left) = next_field(left)?;
-    let (time, left) = next_field(left)?;
-    let (subsystem, left) = next_field(left)?;
+    let (version, time, subsystem, left) = next_three(left)?;
     let (event, left) = next_field(left)?;
     let (session, left) = next_field(left)?;
     let seconds = read_stamp(version, time, &[subsystem, event, session])?;
@@ -155,12 +153,8 @@ fn read_filter<'a>(left: Option<&'a [u8]>) -> Result<Line<'a>, LineFault>
         (λ line. Means (codes "filter" ∷ fields_left left.entry) (meaning line))
         (λ e. filter_fault (fields_left left.entry) ≡ Some e) }
 {
-    let (version, left) = next_field(left)?;
-    let (time, left) = next_field(left)?;
-    let (subsystem, left) = next_field(left)?;
-    let (phase, left) = next_field(left)?;
-    let (session, left) = next_field(left)?;
-    let (token, left) = next_field(left)?;
+    let (version, time, subsystem, left) = next_three(left)?;
+    let (phase, session, token, left) = next_three(left)?;
     let seconds = read_stamp(version, time, &[subsystem, phase, session, token])?;
     Ok(Line::Filter {
         seconds,
@@ -177,11 +171,14 @@ fn read_fields<'a>(line: &'a [u8]) -> Result<Line<'a>, LineFault>
     ensures { MatchResult result (λ v. Reads line.now (meaning v)) (λ e. fault_lem line.now ≡ Some e) }
 {
     let (first, left) = first_field(line);
-    match first {
-        b"config" => read_config(left),
-        b"report" => read_report(left),
-        b"filter" => read_filter(left),
-        _ => Ok(Line::Other),
+    if first == b"config".as_slice() {
+        read_config(left)
+    } else if first == b"report".as_slice() {
+        read_report(left)
+    } else if first == b"filter".as_slice() {
+        read_filter(left)
+    } else {
+        Ok(Line::Other)
     }
 }
 

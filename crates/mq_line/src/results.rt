@@ -1,6 +1,6 @@
 //! What a filter writes to smtpd.
 ghost use Rattle.std.specs.Prelude.{◌≡◌, ◌+◌, ◌<◌, ◌++◌, OnOk, OnErr, length, vec_capacity, vec_len, take};
-ghost use Rattle.mq_line.specs.Results.{registration, answer as answer_lem, result_text};
+ghost use Rattle.mq_line.specs.Results.{registration, answer as answer_lem, in_a_row, result_text};
 
 use crate::faults::Memory;
 
@@ -49,12 +49,23 @@ pub fn write_registration(out: &mut Vec<u8>) -> Result<(), Memory>
     Ok(())
 }
 
+/// Appends these parts in a row, or a front of them where memory runs out.
+fn push_parts(out: &mut Vec<u8>, parts: &[&[u8]]) -> Result<(), Memory>
+    ensures ok { OnOk result (out.new.items ≡ out.old.items ++ in_a_row parts.now) }
+    ensures front { take (vec_len out.old) out.new.items ≡ out.old.items }
+    ensures full { OnErr result (vec_capacity out.old < vec_len out.old + length (in_a_row parts.now)) }
+{
+    for part in parts {
+        out.extend_from_slice(part)?;
+    }
+    Ok(())
+}
+
 /// Appends a result line, or a front of it where memory runs out.
-#[tactic(auto, using(crate::proofs::ResultLaws::result_length))]
-fn push_result(
+fn push_result<'a>(
     out: &mut Vec<u8>,
-    session: &[u8],
-    token: &[u8],
+    session: &'a [u8],
+    token: &'a [u8],
     decision: Decision,
 ) -> Result<(), Memory>
     ensures ok { OnOk result (out.new.items ≡ out.old.items ++ result_text session.now token.now decision) }
@@ -62,14 +73,11 @@ fn push_result(
     ensures full { OnErr result
         (vec_capacity out.old < vec_len out.old + length (result_text session.now token.now decision)) }
 {
-    out.extend_from_slice(b"filter-result|")?;
-    out.extend_from_slice(session)?;
-    out.extend_from_slice(b"|")?;
-    out.extend_from_slice(token)?;
-    out.extend_from_slice(b"|")?;
-    out.extend_from_slice(answer_of(decision))?;
-    out.extend_from_slice(b"\n")?;
-    Ok(())
+    let answer: &'a [u8] = answer_of(decision);
+    push_parts(
+        out,
+        &[b"filter-result|", session, b"|", token, b"|", answer, b"\n"],
+    )
 }
 
 /// Appends the answer to the filter line with this session and this token, `filter-result` in protocol 0.7.

@@ -1,3 +1,4 @@
 pub mod FileSteps
 pub mod SettingsFaults
 pub mod TableNames
+pub mod TextLaws
