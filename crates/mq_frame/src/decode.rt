@@ -12,7 +12,7 @@ use crate::fields::IdParts;
 use crate::message::{Id, Reply, Request};
 use crate::page::{PageParts, RowParts, row_at};
 use crate::reply_parts::{ReplyParts, reply_parts};
-use crate::request_parts::{RequestParts, request_parts};
+use crate::request_parts::{RequestParts, TransactionParts, request_parts};
 use crate::text::{Host, Login};
 use crate::usage::{UsageRow, UsageRows};
 use std::alloc::{AllocError, Global};
@@ -47,6 +47,14 @@ fn own_id(alloc: Global, parts: IdParts<'_>) -> Result<Id, AllocError>
     })
 }
 
+fn own_names(alloc: Global, id: IdParts<'_>, login: &[u8]) -> Result<(Id, Login), AllocError>
+    ensures { IfOk result (λ names. names ≡ (shown_id id.entry, login.now)) }
+{
+    let id = own_id(alloc, id)?;
+    let login = Login::from_slice(alloc, login)?;
+    Ok((id, login))
+}
+
 fn own_row(alloc: Global, parts: RowParts<'_>) -> Result<UsageRow, AllocError>
     ensures { IfOk result (λ row. row ≡ shown_row parts.entry) }
 {
@@ -77,37 +85,52 @@ fn own_request(alloc: Global, parts: RequestParts<'_>) -> Result<Request, AllocE
     ensures { IfOk result (λ request. request ≡ shown_request parts.entry) }
 {
     Ok(match parts {
-        RequestParts::Reserve { transaction, count } => Request::Reserve {
-            id: own_id(alloc, transaction.id)?,
-            txn: transaction.txn,
-            at: transaction.at,
-            login: Login::from_slice(alloc, transaction.login)?,
+        RequestParts::Reserve {
+            transaction: TransactionParts { id, txn, at, login },
             count,
-        },
-        RequestParts::Settle { transaction, count } => Request::Settle {
-            id: own_id(alloc, transaction.id)?,
-            txn: transaction.txn,
-            at: transaction.at,
-            login: Login::from_slice(alloc, transaction.login)?,
+        } => {
+            let (id, login) = own_names(alloc, id, login)?;
+            Request::Reserve {
+                id,
+                txn,
+                at,
+                login,
+                count,
+            }
+        }
+        RequestParts::Settle {
+            transaction: TransactionParts { id, txn, at, login },
             count,
-        },
-        RequestParts::Release { transaction } => Request::Release {
-            id: own_id(alloc, transaction.id)?,
-            txn: transaction.txn,
-            at: transaction.at,
-            login: Login::from_slice(alloc, transaction.login)?,
-        },
+        } => {
+            let (id, login) = own_names(alloc, id, login)?;
+            Request::Settle {
+                id,
+                txn,
+                at,
+                login,
+                count,
+            }
+        }
+        RequestParts::Release {
+            transaction: TransactionParts { id, txn, at, login },
+        } => {
+            let (id, login) = own_names(alloc, id, login)?;
+            Request::Release { id, txn, at, login }
+        }
         RequestParts::Limit {
             id,
             from_day,
             cap,
             login,
-        } => Request::Limit {
-            id: own_id(alloc, id)?,
-            from_day,
-            cap,
-            login: Login::from_slice(alloc, login)?,
-        },
+        } => {
+            let (id, login) = own_names(alloc, id, login)?;
+            Request::Limit {
+                id,
+                from_day,
+                cap,
+                login,
+            }
+        }
         RequestParts::Usage { login, day } => Request::Usage {
             login: Login::from_slice(alloc, login)?,
             day,

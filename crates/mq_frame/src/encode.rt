@@ -79,8 +79,10 @@ fn put_id(out: &mut Vec<u8>, id: &Id) -> Result<(), AllocError>
     Ok(())
 }
 
+/// The kind, and what three kinds of requests begin with.
 fn put_transaction(
     out: &mut Vec<u8>,
+    kind: u8,
     id: &Id,
     txn: u32,
     at: u64,
@@ -88,8 +90,9 @@ fn put_transaction(
 ) -> Result<(), AllocError>
     requires id { IsId id.now }
     requires login { IsLogin login.now }
-    ensures { OnOk result (out.new.items ≡ out.old.items ++ transaction_bytes id.now txn at login.now) }
+    ensures { OnOk result (out.new.items ≡ out.old.items ++ kind ∷ transaction_bytes id.now txn at login.now) }
 {
+    out.push(kind)?;
     put_id(out, id)?;
     put_u32(out, txn)?;
     put_u64(out, at)?;
@@ -130,9 +133,8 @@ fn put_request(out: &mut Vec<u8>, request: &Request) -> Result<(), AllocError>
             login,
             count,
         } => {
-            out.push(RESERVE)?;
-            put_transaction(out, id, *txn, *at, login)?;
-            put_numbers(out, &[*count])
+            put_transaction(out, RESERVE, id, *txn, *at, login)?;
+            put_u32(out, *count)
         }
         Request::Settle {
             id,
@@ -141,13 +143,11 @@ fn put_request(out: &mut Vec<u8>, request: &Request) -> Result<(), AllocError>
             login,
             count,
         } => {
-            out.push(SETTLE)?;
-            put_transaction(out, id, *txn, *at, login)?;
-            put_numbers(out, &[*count])
+            put_transaction(out, SETTLE, id, *txn, *at, login)?;
+            put_u32(out, *count)
         }
         Request::Release { id, txn, at, login } => {
-            out.push(RELEASE)?;
-            put_transaction(out, id, *txn, *at, login)
+            put_transaction(out, RELEASE, id, *txn, *at, login)
         }
         Request::Limit {
             id,
@@ -158,14 +158,9 @@ fn put_request(out: &mut Vec<u8>, request: &Request) -> Result<(), AllocError>
             put_numbered(out, LIMIT, id, &[*from_day, *cap])?;
             put_login(out, login)
         }
-        Request::Usage { login, day } => {
-            out.push(USAGE)?;
-            put_login(out, login)?;
-            put_numbers(out, &[*day])
-        }
+        Request::Usage { login, day } => put_named(out, USAGE, login, &[*day]),
         Request::List { day, after } => {
-            out.push(LIST)?;
-            put_numbers(out, &[*day])?;
+            put_dated(out, LIST, *day)?;
             put_login(out, after)
         }
     }
@@ -180,6 +175,34 @@ fn put_numbered(out: &mut Vec<u8>, kind: u8, id: &Id, numbers: &[u32]) -> Result
     out.push(kind)?;
     put_id(out, id)?;
     put_numbers(out, numbers)?;
+    Ok(())
+}
+
+/// The kind, the login and the numbers behind it.
+fn put_named(out: &mut Vec<u8>, kind: u8, login: &Login, numbers: &[u32]) -> Result<(), AllocError>
+    requires { IsLogin login.now }
+    ensures { OnOk result (out.new.items
+        ≡ out.old.items ++ kind ∷ (with_length login.now ++ flat_map in_4_bytes numbers.now)) }
+{
+    out.push(kind)?;
+    put_login(out, login)?;
+    put_numbers(out, numbers)?;
+    Ok(())
+}
+
+/// The kind and the day.
+fn put_dated(out: &mut Vec<u8>, kind: u8, day: u32) -> Result<(), AllocError>
+    ensures { OnOk result (out.new.items ≡ out.old.items ++ kind ∷ in_4_bytes day) }
+{
+    out.push(kind)?;
+    put_u32(out, day)
+}
+
+/// The kind alone.
+fn put_kind(out: &mut Vec<u8>, kind: u8) -> Result<(), AllocError>
+    ensures { OnOk result (out.new.items ≡ out.old.items ++ kind ∷ []) }
+{
+    out.push(kind)?;
     Ok(())
 }
 
@@ -204,19 +227,13 @@ fn put_reply(out: &mut Vec<u8>, reply: &Reply) -> Result<(), AllocError>
             settled,
             reserved,
             cap,
-        } => {
-            out.push(USAGE_REPLY)?;
-            put_login(out, login)?;
-            put_numbers(out, &[*day, *settled, *reserved, *cap])?;
-            Ok(())
-        }
+        } => put_named(out, USAGE_REPLY, login, &[*day, *settled, *reserved, *cap]),
         Reply::List { day, rows } => {
-            out.push(LIST_REPLY)?;
-            put_numbers(out, &[*day])?;
+            put_dated(out, LIST_REPLY, *day)?;
             put_page(out, rows)
         }
-        Reply::Retry => Ok(out.push(RETRY)?),
-        Reply::Bad => Ok(out.push(BAD)?),
+        Reply::Retry => put_kind(out, RETRY),
+        Reply::Bad => put_kind(out, BAD),
     }
 }
 

@@ -1,5 +1,5 @@
 //! Bytes that others chose, as printable text.
-ghost use Rattle.std.specs.Prelude.{◌≡◌, ◌≤◌, Some};
+ghost use Rattle.std.specs.Prelude.{◌≡◌, ◌≤◌, ◌/◌, ◌%◌, ◌∷◌, [], Some};
 ghost use Rattle.std.specs.Fmt.{DisplaysOnOk};
 ghost use Rattle.mq_frame.specs.Escaped.{byte_text, digit_text, escaped};
 
@@ -17,15 +17,24 @@ fn digit(value: u8) -> char
     }
 }
 
+/// `\x` and the two digits of a byte.
+fn write_digits<W: fmt::Write>(byte: u8, f: &mut fmt::Formatter<W>) -> fmt::Result
+    ensures { DisplaysOnOk W.write_str_gives f.old result
+        (Some (92 ∷ 120 ∷ digit_text (byte / 16) ∷ digit_text (byte % 16) ∷ [])) f.new }
+{
+    f.write_str("\\x")?;
+    f.write_char(digit(byte / 16))?;
+    f.write_char(digit(byte % 16))
+}
+
 fn write_byte<W: fmt::Write>(byte: u8, f: &mut fmt::Formatter<W>) -> fmt::Result
     ensures { DisplaysOnOk W.write_str_gives f.old result (Some (byte_text byte)) f.new }
 {
     if byte >= 0x21 && byte <= 0x7e && byte != b'\\' {
-        return f.write_char(char::from(byte));
+        f.write_char(char::from(byte))
+    } else {
+        write_digits(byte, f)
     }
-    f.write_str("\\x")?;
-    f.write_char(digit(byte / 16))?;
-    f.write_char(digit(byte % 16))
 }
 
 /// Bytes as they are printed: visible ASCII but `\` as it is, any other byte as `\x` and two

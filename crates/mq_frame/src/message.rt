@@ -1,8 +1,9 @@
-ghost use Rattle.std.specs.Prelude.{◌≡◌};
+ghost use Rattle.std.specs.Prelude.{◌≡◌, IfOk};
 ghost use Rattle.mq_frame.specs.Same.{same_id, same_request};
 
 use crate::text::{Host, Login};
 use crate::usage::UsageRows;
+use std::alloc::AllocError;
 
 /// The number of a request: which host sent it, in which run of its filter, and which request of
 /// that run it is. A frame that is sent again carries the same number.
@@ -20,7 +21,7 @@ pub struct Id {
 /// `txn` names a transaction within the run of a host, 1 to 4,294,967,295; `at` is the second of
 /// its beginning since 1970-01-01T00:00:00Z, 86,400 to 32,503,680,000; `count` is a number of
 /// recipients, 1 to 1,000; a day is a day number since 1970-01-01, 0 to 376,200.
-#[derive(Clone, Debug, Drop, PartialEq)]
+#[derive(Debug, Drop, PartialEq)]
 pub enum Request {
     /// Reserve this many recipients for an open transaction.
     Reserve {
@@ -66,7 +67,7 @@ pub enum Request {
 }
 
 /// What the quota server answers. Counts are recipients, 0 to 1,000,000.
-#[derive(Clone, Debug, Drop, PartialEq)]
+#[derive(Debug, Drop, PartialEq)]
 pub enum Reply {
     /// The recipients are reserved; `used` is what the login has used that day, these included.
     Granted {
@@ -150,5 +151,146 @@ impl Request {
         ensures { result ≡ same_request self.now other.now }
     {
         *self == *other
+    }
+}
+
+/// Copies of an id and a login.
+fn clone_names(id: &Id, login: &Login) -> Result<(Id, Login), AllocError>
+    ensures { IfOk result (λ names. names ≡ (id.now, login.now)) }
+{
+    let id = id.clone()?;
+    let login = login.clone()?;
+    Ok((id, login))
+}
+
+// The two copies are written out: a derived one clones each name anew in every case, drops what it has in every way out, and takes a
+// minute to prove.
+impl Clone for Request {
+    ghost is_clone = { λ a b. b ≡ a };
+
+    fn clone(&self) -> Result<Request, AllocError> {
+        Ok(match self {
+            Request::Reserve {
+                id,
+                txn,
+                at,
+                login,
+                count,
+            } => {
+                let (id, login) = clone_names(id, login)?;
+                Request::Reserve {
+                    id,
+                    txn: *txn,
+                    at: *at,
+                    login,
+                    count: *count,
+                }
+            }
+            Request::Settle {
+                id,
+                txn,
+                at,
+                login,
+                count,
+            } => {
+                let (id, login) = clone_names(id, login)?;
+                Request::Settle {
+                    id,
+                    txn: *txn,
+                    at: *at,
+                    login,
+                    count: *count,
+                }
+            }
+            Request::Release { id, txn, at, login } => {
+                let (id, login) = clone_names(id, login)?;
+                Request::Release {
+                    id,
+                    txn: *txn,
+                    at: *at,
+                    login,
+                }
+            }
+            Request::Limit {
+                id,
+                from_day,
+                cap,
+                login,
+            } => {
+                let (id, login) = clone_names(id, login)?;
+                Request::Limit {
+                    id,
+                    from_day: *from_day,
+                    cap: *cap,
+                    login,
+                }
+            }
+            Request::Usage { login, day } => Request::Usage {
+                login: login.clone()?,
+                day: *day,
+            },
+            Request::List { day, after } => Request::List {
+                day: *day,
+                after: after.clone()?,
+            },
+        })
+    }
+}
+
+impl Clone for Reply {
+    ghost is_clone = { λ a b. b ≡ a };
+
+    fn clone(&self) -> Result<Reply, AllocError> {
+        Ok(match self {
+            Reply::Granted { id, used } => Reply::Granted {
+                id: id.clone()?,
+                used: *used,
+            },
+            Reply::Full { id, used, cap } => Reply::Full {
+                id: id.clone()?,
+                used: *used,
+                cap: *cap,
+            },
+            Reply::Settled { id, count } => Reply::Settled {
+                id: id.clone()?,
+                count: *count,
+            },
+            Reply::Released { id, held } => Reply::Released {
+                id: id.clone()?,
+                held: *held,
+            },
+            Reply::LimitSet { id } => Reply::LimitSet { id: id.clone()? },
+            Reply::Over { id, day, used } => Reply::Over {
+                id: id.clone()?,
+                day: *day,
+                used: *used,
+            },
+            Reply::Closed { id } => Reply::Closed { id: id.clone()? },
+            Reply::Mismatch { id } => Reply::Mismatch { id: id.clone()? },
+            Reply::TooMany { id, held } => Reply::TooMany {
+                id: id.clone()?,
+                held: *held,
+            },
+            Reply::Conflict { id } => Reply::Conflict { id: id.clone()? },
+            Reply::Usage {
+                login,
+                day,
+                settled,
+                reserved,
+                cap,
+            } => Reply::Usage {
+                login: login.clone()?,
+                day: *day,
+                settled: *settled,
+                reserved: *reserved,
+                cap: *cap,
+            },
+            Reply::List { day, rows } => Reply::List {
+                day: *day,
+                rows: rows.clone()?,
+            },
+            Reply::Retry => Reply::Retry,
+            Reply::Bad => Reply::Bad,
+        })
     }
 }

@@ -69,18 +69,20 @@ pub enum ReplyParts<'a> {
 fn id_alone(bytes: &[u8]) -> Option<IdParts<'_>>
     ensures { Reads shown_id result (whole id bytes.now) }
 {
-    let (id, rest) = id_at(bytes)?;
-    finished(rest)?;
-    Some(id)
+    match id_at(bytes) {
+        Some((id, [])) => Some(id),
+        _ => None,
+    }
 }
 
 fn id_and_amount(bytes: &[u8]) -> Option<(IdParts<'_>, u32)>
     ensures { Reads (λ x. (shown_id x.0, x.1)) result (whole (pair id amount) bytes.now) }
 {
     let (id, rest) = id_at(bytes)?;
-    let (amount, rest) = amount_at(rest)?;
-    finished(rest)?;
-    Some((id, amount))
+    match amount_at(rest) {
+        Some((amount, [])) => Some((id, amount)),
+        _ => None,
+    }
 }
 
 fn full_at(bytes: &[u8]) -> Option<ReplyParts<'_>>
@@ -88,18 +90,20 @@ fn full_at(bytes: &[u8]) -> Option<ReplyParts<'_>>
 {
     let (id, rest) = id_at(bytes)?;
     let (used, rest) = amount_at(rest)?;
-    let (cap, rest) = amount_at(rest)?;
-    finished(rest)?;
-    Some(ReplyParts::Full { id, used, cap })
+    match amount_at(rest) {
+        Some((cap, [])) => Some(ReplyParts::Full { id, used, cap }),
+        _ => None,
+    }
 }
 
 fn settled_at(bytes: &[u8]) -> Option<ReplyParts<'_>>
     ensures { Reads shown_reply result (numbered_reply SETTLED bytes.now) }
 {
     let (id, rest) = id_at(bytes)?;
-    let (count, rest) = count_at(rest)?;
-    finished(rest)?;
-    Some(ReplyParts::Settled { id, count })
+    match count_at(rest) {
+        Some((count, [])) => Some(ReplyParts::Settled { id, count }),
+        _ => None,
+    }
 }
 
 fn over_at(bytes: &[u8]) -> Option<ReplyParts<'_>>
@@ -107,9 +111,10 @@ fn over_at(bytes: &[u8]) -> Option<ReplyParts<'_>>
 {
     let (id, rest) = id_at(bytes)?;
     let (day, rest) = day_at(rest)?;
-    let (used, rest) = amount_at(rest)?;
-    finished(rest)?;
-    Some(ReplyParts::Over { id, day, used })
+    match amount_at(rest) {
+        Some((used, [])) => Some(ReplyParts::Over { id, day, used }),
+        _ => None,
+    }
 }
 
 fn usage_at(bytes: &[u8]) -> Option<ReplyParts<'_>>
@@ -119,24 +124,26 @@ fn usage_at(bytes: &[u8]) -> Option<ReplyParts<'_>>
     let (day, rest) = day_at(rest)?;
     let (settled, rest) = amount_at(rest)?;
     let (reserved, rest) = amount_at(rest)?;
-    let (cap, rest) = amount_at(rest)?;
-    finished(rest)?;
-    Some(ReplyParts::Usage {
-        login,
-        day,
-        settled,
-        reserved,
-        cap,
-    })
+    match amount_at(rest) {
+        Some((cap, [])) => Some(ReplyParts::Usage {
+            login,
+            day,
+            settled,
+            reserved,
+            cap,
+        }),
+        _ => None,
+    }
 }
 
 fn list_at(bytes: &[u8]) -> Option<ReplyParts<'_>>
     ensures { Reads shown_reply result (reply_of_kind LIST_REPLY bytes.now) }
 {
     let (day, rest) = day_at(bytes)?;
-    let (rows, rest) = page_at(rest)?;
-    finished(rest)?;
-    Some(ReplyParts::List { day, rows })
+    match page_at(rest) {
+        Some((rows, [])) => Some(ReplyParts::List { day, rows }),
+        _ => None,
+    }
 }
 
 /// A reply that carries an id.

@@ -3,8 +3,7 @@ ghost use Rattle.mq_frame.specs.Reading.{Reads, whole, pair, count, transaction,
 ghost use Rattle.mq_frame.specs.Parts.{shown_transaction, shown_request};
 
 use crate::fields::{
-    IdParts, after_at, amount_at, count_at, day_at, finished, id_at, login_at, moment_at,
-    ordinal_at,
+    IdParts, after_at, amount_at, count_at, day_at, id_at, login_at, moment_at, ordinal_at,
 };
 use crate::format::{LIMIT, LIST, RELEASE, RESERVE, SETTLE, USAGE};
 
@@ -60,18 +59,20 @@ fn transaction_at(bytes: &[u8]) -> Option<(TransactionParts<'_>, &[u8])>
 fn whole_transaction(bytes: &[u8]) -> Option<TransactionParts<'_>>
     ensures { Reads shown_transaction result (whole transaction bytes.now) }
 {
-    let (transaction, rest) = transaction_at(bytes)?;
-    finished(rest)?;
-    Some(transaction)
+    match transaction_at(bytes) {
+        Some((transaction, [])) => Some(transaction),
+        _ => None,
+    }
 }
 
 fn transaction_and_count(bytes: &[u8]) -> Option<(TransactionParts<'_>, u32)>
     ensures { Reads (λ x. (shown_transaction x.0, x.1)) result (whole (pair transaction count) bytes.now) }
 {
     let (transaction, rest) = transaction_at(bytes)?;
-    let (count, rest) = count_at(rest)?;
-    finished(rest)?;
-    Some((transaction, count))
+    match count_at(rest) {
+        Some((count, [])) => Some((transaction, count)),
+        _ => None,
+    }
 }
 
 fn limit_at(bytes: &[u8]) -> Option<RequestParts<'_>>
@@ -80,32 +81,35 @@ fn limit_at(bytes: &[u8]) -> Option<RequestParts<'_>>
     let (id, rest) = id_at(bytes)?;
     let (from_day, rest) = day_at(rest)?;
     let (cap, rest) = amount_at(rest)?;
-    let (login, rest) = login_at(rest)?;
-    finished(rest)?;
-    Some(RequestParts::Limit {
-        id,
-        from_day,
-        cap,
-        login,
-    })
+    match login_at(rest) {
+        Some((login, [])) => Some(RequestParts::Limit {
+            id,
+            from_day,
+            cap,
+            login,
+        }),
+        _ => None,
+    }
 }
 
 fn usage_at(bytes: &[u8]) -> Option<RequestParts<'_>>
     ensures { Reads shown_request result (request_of_kind USAGE bytes.now) }
 {
     let (login, rest) = login_at(bytes)?;
-    let (day, rest) = day_at(rest)?;
-    finished(rest)?;
-    Some(RequestParts::Usage { login, day })
+    match day_at(rest) {
+        Some((day, [])) => Some(RequestParts::Usage { login, day }),
+        _ => None,
+    }
 }
 
 fn list_at(bytes: &[u8]) -> Option<RequestParts<'_>>
     ensures { Reads shown_request result (request_of_kind LIST bytes.now) }
 {
     let (day, rest) = day_at(bytes)?;
-    let (after, rest) = after_at(rest)?;
-    finished(rest)?;
-    Some(RequestParts::List { day, after })
+    match after_at(rest) {
+        Some((after, [])) => Some(RequestParts::List { day, after }),
+        _ => None,
+    }
 }
 
 /// The request that the body spells, none where it spells none.

@@ -1,10 +1,11 @@
 //! Putting a request to a ledger.
-ghost use Rattle.std.specs.Prelude.{◌≡◌, ◌⊎◌, IfOk, IfErr, IfSome};
-ghost use Rattle.mq_frame.specs.Range.{IsReply};
+ghost use Rattle.std.specs.Prelude.{◌≡◌, ◌⊎◌, ℕ, List, IfOk, IfErr, IfSome};
+ghost use Rattle.mq_frame.specs.Range.{IsRequest, IsReply};
+ghost use Rattle.mq_frame.specs.Spelling.{SpellsRequest};
 ghost use Rattle.mq_server.specs.Steps.{AnswersBody};
 
 use crate::fault::ServeFault;
-use mq_frame::{DecodeFault, Reply, decode_request};
+use mq_frame::{DecodeFault, Reply, Request, decode_request};
 use mq_ledger::{Ledger, LedgerFault};
 use std::alloc::Global;
 
@@ -31,12 +32,28 @@ pub fn answer_body<L: Ledger>(
         AnswersBody (L.book ledger.old) (L.told ledger.old) body.now result
         (L.book ledger.new).history (L.told ledger.new) }
 {
-    let request = match decode_request(alloc, body) {
-        Ok(request) => request,
-        Err(DecodeFault::Bad) => return Ok(None),
-        Err(DecodeFault::Memory) => return Err(ServeFault::Memory),
-    };
-    match ledger.apply(&request) {
+    match decode_request(alloc, body) {
+        Ok(request) => apply(&request, ledger),
+        Err(DecodeFault::Bad) => Ok(None),
+        Err(DecodeFault::Memory) => Err(ServeFault::Memory),
+    }
+}
+
+/// The ledger's reply to the request, or `Retry` where it had no memory for it.
+fn apply<L: Ledger>(request: &Request, ledger: &mut L) -> Result<Option<Reply>, ServeFault>
+    requires { IsRequest request.now }
+    ensures in_range { IfOk result (λ answer. IfSome answer IsReply) }
+    ensures faults { IfErr result (λ fault. fault ≡ ServeFault.Store) }
+    ensures same_zone { (L.book ledger.new).zone ≡ (L.book ledger.old).zone }
+    ensures same_default { (L.book ledger.new).default ≡ (L.book ledger.old).default }
+    ensures kept { L.has_kept ledger.new → L.has_kept ledger.old }
+    ensures sound { L.has_kept ledger.new → L.is_sound ledger.old → L.is_sound ledger.new }
+    ensures answers { L.has_kept ledger.new → L.is_sound ledger.old →
+        (body : List ℕ) → SpellsRequest body request.now →
+        AnswersBody (L.book ledger.old) (L.told ledger.old) body result
+        (L.book ledger.new).history (L.told ledger.new) }
+{
+    match ledger.apply(request) {
         Ok(reply) => Ok(Some(reply)),
         Err(LedgerFault::Memory) => Ok(Some(Reply::Retry)),
         Err(LedgerFault::Store) => Err(ServeFault::Store),

@@ -1,8 +1,12 @@
-use Rattle.mq_frame.specs.Spelling.{with_length, id_bytes, in_4_bytes, in_8_bytes}
-use Rattle.mq_frame.proofs.Appends.{four_appended}
+use Rattle.std.proofs.Common.{◌∷◌, []}
+use Rattle.mq_frame.specs.Spelling.{with_length, id_bytes, in_4_bytes, in_8_bytes, transaction_bytes}
+use Rattle.mq_frame.proofs.Appends.{two_appended, four_appended}
 use Rattle.mq_frame.proofs.encode.put_transaction.Goals as goal
 
 pub returns : goal.returns
 returns c =
-    four_appended c.args.out.now.items _ (id_bytes c.args.id.now) (in_4_bytes c.args.txn) (in_8_bytes c.args.at) (with_length c.args.login.now)
-    c.in_ok-put_id.ensures c.in_ok-put_u32.ensures c.in_ok-put_u64.ensures c.in_ok-put_login.ensures
+    let id = c.args.id.now in
+    let login = c.args.login.now in
+    two_appended c.args.out.now.items _ (c.args.kind ∷ []) (transaction_bytes id c.args.txn c.args.at login) c.in_ok-push.ensures.items
+    (four_appended _ _ (id_bytes id) (in_4_bytes c.args.txn) (in_8_bytes c.args.at) (with_length login)
+    c.in_ok-put_id.ensures c.in_ok-put_u32.ensures c.in_ok-put_u64.ensures c.in_ok-put_login.ensures)
