@@ -6,6 +6,7 @@ ghost use Rattle.mq_frame.specs.Flow.{IsFlushed};
 ghost use Rattle.mq_track.specs.Sessions.{Sending};
 ghost use Rattle.mq_track.specs.State.{TracksAt};
 ghost use Rattle.mq_line.specs.Grammar.{Meaning};
+ghost use Rattle.mq_line.specs.Results.{result_text};
 ghost use Rattle.mq_client.specs.Link.{Tells};
 ghost use Rattle.mq_client.specs.Past.{Step};
 ghost use Rattle.mq_client.specs.Filter.{is_login, is_moment, query_at, query, decision_of as decision_lem, Answers};
@@ -119,6 +120,18 @@ fn decide<R: Log, K: Link>(
     }
 }
 
+/// The text of a result.
+fn text_of(alloc: Global, inquiry: Inquiry<'_>, decision: Decision) -> Result<Vec<u8>, Memory>
+    ensures { IfOk result (λ text. text.items
+        ≡ result_text inquiry.entry.session.now inquiry.entry.token.now decision) }
+{
+    let mut text = Vec::new(alloc);
+    match write_result(inquiry.session, inquiry.token, decision, &mut text) {
+        Ok(()) => Ok(text),
+        Err(_) => Err(Memory),
+    }
+}
+
 /// Decides on a request of smtpd, and writes the result.
 pub fn answer<R: Log, W: Sink, K: Link>(
     rt: &R,
@@ -150,10 +163,9 @@ pub fn answer<R: Log, W: Sink, K: Link>(
         Ok(decision) => decision,
         Err(Memory) => return Err(FilterFault::Memory),
     };
-    let mut text = Vec::new(alloc);
-    if write_result(inquiry.session, inquiry.token, decision, &mut text).is_err() {
+    let Ok(text) = text_of(alloc, inquiry, decision) else {
         return Err(FilterFault::Memory);
-    }
+    };
     match write_and_flush(output, text.as_slice()) {
         Ok(()) => Ok(()),
         Err(Failed) => Err(FilterFault::Write),

@@ -1,13 +1,17 @@
 //! Numbered requests, each sent again under its number until a reply decides it.
-ghost use Rattle.std.specs.Prelude.{◌≡◌, ◌≤◌, ◌<◌, ◌+◌, ◌^◌, ℕ, List, [], length, None, true, IfOk, IsOk, OnOk, OnErr};
+ghost use Rattle.std.specs.Prelude.{◌≡◌, ◌≤◌, ◌<◌, ◌+◌, ◌^◌, ℕ, List, Option, [], length, None, true, IfOk, IsOk, OnOk, OnErr};
 ghost use Rattle.mq_frame.specs.Range.{IsHost, IsRun, IsWithin, IsOrdinal, IsMoment, IsLogin};
 ghost use Rattle.mq_client.specs.Link.{Tells};
 ghost use Rattle.mq_client.specs.Exchanges.{Exchange, told_all};
 ghost use Rattle.mq_client.specs.Past.{Step, Ask, Close, Drain, StandsAt, Makes, view, answer_of, find};
-ghost use Rattle.mq_client.specs.Past.{refuses as refuses_lem};
+ghost use Rattle.mq_client.specs.Past.{refuses as refuses_lem, reserve_of, closing_of, answer_by};
+ghost use Rattle.mq_client.specs.Exchanges.{AreTries};
+ghost use Rattle.mq_client.specs.Held.{IsHeld};
+ghost use Rattle.mq_client.specs.Framed.{IsFramed};
+ghost use Rattle.mq_frame.specs.declared.message.Reply.{Reply};
 
 use crate::faults::Memory;
-use crate::held::{Asked, answer_to, closing_request, reserve_request};
+use crate::held::{Asked, Held, answer_to, closing_request, reserve_request};
 use crate::link::Link;
 use crate::refusal::{Cause, RefusedRecipient, Warned};
 use crate::transactions::Transactions;
@@ -45,6 +49,61 @@ impl Model for Client {
     ghost view = { state_of };
 
     ghost invariant = { IsInside };
+}
+
+/// The request for one recipient, with its frame.
+fn framed_reserve(
+    alloc: Global,
+    host: &Host,
+    run: u64,
+    seq: u32,
+    txn: u32,
+    at: u64,
+    login: &[u8],
+) -> Result<Framed, Memory>
+    requires host { IsHost host.now }
+    requires run { IsRun run }
+    requires seq { 1 ≤ seq }
+    requires txn { IsOrdinal txn }
+    requires at { IsMoment at }
+    requires login { IsLogin login.now }
+    ensures request { IfOk result (λ framed. framed.request
+        ≡ reserve_of (record { host = host.now; run = run }) seq txn at login.now) }
+    ensures frame { IfOk result IsFramed }
+{
+    let request = reserve_request(alloc, host, run, seq, txn, at, login)?;
+    Framed::new(alloc, request)
+}
+
+/// The request that closes a held transaction, with its frame.
+fn framed_closing(
+    alloc: Global,
+    host: &Host,
+    run: u64,
+    seq: u32,
+    closing: Closing,
+    known: &Held,
+) -> Result<Framed, Memory>
+    requires host { IsHost host.now }
+    requires run { IsRun run }
+    requires seq { 1 ≤ seq }
+    requires held { IsHeld closing.txn known.now }
+    ensures request { IfOk result (λ framed. framed.request
+        ≡ closing_of (record { host = host.now; run = run }) seq closing.txn closing.end known.now) }
+    ensures frame { IfOk result IsFramed }
+{
+    let request = closing_request(host, run, seq, closing.txn, closing.end, known)?;
+    Framed::new(alloc, request)
+}
+
+/// Sends the request for a recipient, and answers whether it may go through.
+fn ask<R: Log, L: Link>(rt: &R, alloc: Global, link: &mut L, reserve: Framed, tries: u32) -> Asked
+    requires { IsFramed reserve }
+    ensures { (group : List Exchange) × (decided : Option Reply)
+        × Tells (L.told link.old) (L.told link.new) (told_all group)
+        × AreTries tries reserve.request group decided × (result ≡ answer_by decided) }
+{
+    answer_to(try_all(rt, alloc, link, &reserve, tries))
 }
 
 impl Client {
@@ -123,12 +182,10 @@ impl Client {
             return Ok(Asked::Unavailable);
         }
         let seq = self.numbers + 1;
-        let request = reserve_request(self.alloc, &self.host, self.run, seq, txn, at, login)?;
-        let reserve = Framed::new(self.alloc, request)?;
+        let reserve = framed_reserve(self.alloc, &self.host, self.run, seq, txn, at, login)?;
         self.held.hold(txn, at, login)?;
         self.numbers = seq;
-        let verdict = try_all(rt, self.alloc, link, &reserve, self.tries);
-        let answer = answer_to(verdict);
+        let answer = ask(rt, self.alloc, link, reserve, self.tries);
         self.held.count(txn, answer);
         Ok(answer)
     }
@@ -176,8 +233,7 @@ impl Client {
             return Ok(());
         };
         let seq = self.numbers + 1;
-        let request = closing_request(&self.host, self.run, seq, closing.txn, closing.end, known)?;
-        let framed = Framed::new(self.alloc, request)?;
+        let framed = framed_closing(self.alloc, &self.host, self.run, seq, closing, known)?;
         self.outbox.push_back(framed)?;
         self.held.release(closing.txn);
         self.numbers = seq;

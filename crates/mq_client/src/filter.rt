@@ -6,7 +6,7 @@ ghost use Rattle.std.specs.List.{concat};
 ghost use Rattle.std.specs.Io.KnownBytes.{Appends, IsAtEnd};
 ghost use Rattle.mq_frame.specs.Flow.{IsFlushed};
 ghost use Rattle.mq_line.specs.Grammar.{Meaning, ReadyLine, meaning};
-ghost use Rattle.mq_line.specs.Results.{registration};
+ghost use Rattle.mq_line.specs.Results.{registration as registration_lem};
 ghost use Rattle.mq_line.specs.Text.{IsLine};
 ghost use Rattle.mq_track.specs.Sessions.{closing as closing_lem, fault as fault_lem};
 ghost use Rattle.mq_track.specs.State.{TracksAt};
@@ -20,7 +20,7 @@ ghost use Rattle.mq_client.specs.Loop.{CarriesHeld, HaltsHeld, SinkWorks, SoFar}
 
 use crate::answer::{Inquiry, answer};
 use crate::client::Client;
-use crate::faults::FilterFault;
+use crate::faults::{FilterFault, Memory};
 use crate::link::Link;
 use log::Log;
 use mq_frame::{Failed, Sink, Source, write_and_flush};
@@ -52,21 +52,31 @@ struct Filter {
     answers: u64,
 }
 
+/// The text of the registration.
+fn registration(alloc: Global) -> Result<Vec<u8>, Memory>
+    ensures { IfOk result (λ text. text.items ≡ registration_lem) }
+{
+    let mut text = Vec::new(alloc);
+    match write_registration(&mut text) {
+        Ok(()) => Ok(text),
+        Err(_) => Err(Memory),
+    }
+}
+
 /// Writes the registration.
 fn register<W: Sink>(alloc: Global, output: &mut W) -> Result<(), FilterFault>
-    ensures ok { OnOk result (Appends (W.contents output.old) (W.contents output.new) registration) }
+    ensures ok { OnOk result (Appends (W.contents output.old) (W.contents output.new) registration_lem) }
     ensures written { OnOk result (W.has_failed output.new ≡ false) }
     ensures fault { IfErr result (λ f. IsCut f (W.has_failed output.new)) }
     ensures works { W.has_failed output.old ≡ false → result ≢ Err FilterFault.Write → W.has_failed output.new ≡ false }
     ensures flushed { IsFlushed (W.has_flushed output.old) → result ≢ Err FilterFault.Write →
         IsFlushed (W.has_flushed output.new) }
-    ensures cut { OnErr result ((front : List ℕ) × (rest : List ℕ) × (registration ≡ front ++ rest)
+    ensures cut { OnErr result ((front : List ℕ) × (rest : List ℕ) × (registration_lem ≡ front ++ rest)
         × Appends (W.contents output.old) (W.contents output.new) front) }
 {
-    let mut text = Vec::new(alloc);
-    if write_registration(&mut text).is_err() {
+    let Ok(text) = registration(alloc) else {
         return Err(FilterFault::Memory);
-    }
+    };
     match write_and_flush(output, text.as_slice()) {
         Ok(()) => Ok(()),
         Err(Failed) => Err(FilterFault::Write),
@@ -342,6 +352,67 @@ fn finish<R: Log, K: Link>(
     })
 }
 
+/// Handles what smtpd writes until its end, or until `READS` reads were made.
+fn read_all<R: Log, S: Source, W: Sink, K: Link>(
+    rt: &R,
+    alloc: Global,
+    input: &mut S,
+    feed: &mut LineFeed,
+    filter: &mut Filter,
+    output: &mut W,
+    link: &mut K,
+    client: &mut Client,
+) -> Result<Ended, FilterFault>
+    requires empty { feed.old.rest ≡ [] }
+    requires tracker { TracksAt filter.old.tracker [] }
+    requires ready { filter.old.is_ready ≡ false }
+    requires count { filter.old.answers ≡ 0 }
+    ensures ok { IfOk result (λ e. (pieces : List (List ℕ))
+        × Supplies (supply (S.remaining input.old) (S.reads input.old))
+        (supply (S.remaining input.new) (S.reads input.new)) pieces
+        × IsAtEnd (S.remaining input.new)
+        × EndsWith (around (W.contents output.old) (K.told link.old) client.old) (concat pieces)
+        (around (W.contents output.new) (K.told link.new) client.new) e) }
+    ensures fault { IfErr result (λ f. (pieces : List (List ℕ))
+        × Supplies (supply (S.remaining input.old) (S.reads input.old))
+        (supply (S.remaining input.new) (S.reads input.new)) pieces
+        × StopsAt (around (W.contents output.old) (K.told link.old) client.old) pieces (S.remaining input.new)
+        (around (W.contents output.new) (K.told link.new) client.new) (S.has_failed input.new)
+        (W.has_failed output.new) f) }
+    // A device that failed is always told.
+    ensures written { OnOk result (W.has_failed output.new ≡ false) }
+    ensures sink_works { W.has_failed output.old ≡ false → result ≢ Err FilterFault.Write →
+        W.has_failed output.new ≡ false }
+    // What was written is handed on at every end but a failed write, and so wherever a read fails.
+    ensures flushed { IsFlushed (W.has_flushed output.old) → result ≢ Err FilterFault.Write →
+        IsFlushed (W.has_flushed output.new) }
+    ensures source_works { S.has_failed input.old ≡ false → result ≢ Err FilterFault.Read →
+        S.has_failed input.new ≡ false }
+{
+    let mut piece = [0u8; PIECE];
+    for _read in 0..READS {
+        let count = match input.read(&mut piece) {
+            Ok(count) => count,
+            Err(Failed) => return Err(FilterFault::Read),
+        };
+        if count == 0 {
+            match finish(rt, feed, filter, link, client) {
+                Ok(ended) => return Ok(ended),
+                Err(fault) => return Err(fault),
+            }
+        }
+        match feed.feed(&piece[..count]) {
+            Ok(()) => {}
+            Err(_) => return Err(FilterFault::Memory),
+        }
+        match take_lines(rt, alloc, feed, filter, output, link, client) {
+            Ok(()) => {}
+            Err(fault) => return Err(fault),
+        }
+    }
+    Err(FilterFault::Read)
+}
+
 /// Reads what smtpd writes, answers each of its requests, and asks the quota server through `client`
 /// before a recipient is let through.
 ///
@@ -387,26 +458,14 @@ pub fn run_filter<R: Log, S: Source, W: Sink, K: Link>(
         is_ready: false,
         answers: 0,
     };
-    let mut piece = [0u8; PIECE];
-    for _read in 0..READS {
-        let count = match input.read(&mut piece) {
-            Ok(count) => count,
-            Err(Failed) => return Err(FilterFault::Read),
-        };
-        if count == 0 {
-            match finish(rt, &feed, &filter, link, client) {
-                Ok(ended) => return Ok(ended),
-                Err(fault) => return Err(fault),
-            }
-        }
-        match feed.feed(&piece[..count]) {
-            Ok(()) => {}
-            Err(_) => return Err(FilterFault::Memory),
-        }
-        match take_lines(rt, alloc, &mut feed, &mut filter, output, link, client) {
-            Ok(()) => {}
-            Err(fault) => return Err(fault),
-        }
-    }
-    Err(FilterFault::Read)
+    read_all(
+        rt,
+        alloc,
+        input,
+        &mut feed,
+        &mut filter,
+        output,
+        link,
+        client,
+    )
 }

@@ -1,7 +1,8 @@
 //! What is known of a held transaction, and the requests about it.
-ghost use Rattle.std.specs.Prelude.{◌≡◌, ◌≤◌, Option, IfOk};
+ghost use Rattle.std.specs.Prelude.{◌≡◌, ◌≤◌, ◌&&◌, nat_le, if◌then◌else◌, Option, IfOk};
+ghost use Rattle.mq_frame.specs.declared.message.Request.TheVariants.{Settle, Release};
 ghost use Rattle.mq_frame.specs.Range.{IsHost, IsRun, IsOrdinal, IsMoment, IsLogin, IsRequest};
-ghost use Rattle.mq_client.specs.Past.{answer_by, reserve_of, closing_of};
+ghost use Rattle.mq_client.specs.Past.{answer_by, reserve_of, closing_of, is_commit};
 ghost use Rattle.mq_client.specs.Held.{IsHeld};
 ghost use Rattle.mq_client.specs.Verdict.{IsVerdict};
 ghost use Rattle.mq_frame.specs.declared.message.Reply.{Reply};
@@ -76,6 +77,26 @@ pub fn reserve_request(
     })
 }
 
+/// The request that closes a held transaction, by its number and a copy of its login.
+fn close_by(id: Id, txn: u32, end: CloseEnd, known: &Held, login: Login) -> Request
+    ensures { let h = known.now in result ≡ (if is_commit end && nat_le 1 h.granted
+        then Settle id txn h.at login h.granted else Release id txn h.at login) }
+{
+    let at = known.at;
+    let count = known.granted;
+    if end == CloseEnd::Commit && count >= 1 {
+        Request::Settle {
+            id,
+            txn,
+            at,
+            login,
+            count,
+        }
+    } else {
+        Request::Release { id, txn, at, login }
+    }
+}
+
 /// The request that closes a held transaction.
 pub fn closing_request(
     host: &Host,
@@ -98,17 +119,5 @@ pub fn closing_request(
         seq,
     };
     let login = known.login.clone()?;
-    let at = known.at;
-    let count = known.granted;
-    if end == CloseEnd::Commit && count >= 1 {
-        Ok(Request::Settle {
-            id,
-            txn,
-            at,
-            login,
-            count,
-        })
-    } else {
-        Ok(Request::Release { id, txn, at, login })
-    }
+    Ok(close_by(id, txn, end, known, login))
 }

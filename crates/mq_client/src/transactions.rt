@@ -1,8 +1,9 @@
 //! The transactions that a client holds, and when a recipient is asked for.
 ghost use Rattle.std.specs.Prelude.{◌≡◌, ◌<◌, ◌^◌, [], ℕ, List, length, is_some, Option, Some, None};
-ghost use Rattle.std.specs.Prelude.{OnOk, OnErr, IfSome, if◌then◌else◌, ◌==◌, ◌+◌, true};
+ghost use Rattle.std.specs.Prelude.{IfOk, OnOk, OnErr, IfSome, if◌then◌else◌, ◌==◌, ◌+◌, true};
 ghost use Rattle.std.specs.Option.{option_copied};
-ghost use Rattle.mq_client.specs.Past.{find, is_other as is_other_lem, refuses as refuses_lem, opened, let_through};
+ghost use Rattle.mq_client.specs.Past.{find, is_other as is_other_lem, refuses as refuses_lem, let_through};
+ghost use Rattle.mq_client.specs.Past.{opened as opened_lem};
 ghost use Rattle.mq_client.specs.declared.held.Held.{Held as AHeld};
 
 use crate::held::{Asked, Held};
@@ -39,6 +40,17 @@ fn is_other(known: &Held, at: u64, login: &[u8]) -> bool
     ensures { result ≡ is_other_lem known.now at login.now }
 {
     known.login.as_slice() != login || known.at != at
+}
+
+/// What is known of a transaction at its first request.
+fn opened(alloc: Global, at: u64, login: &[u8]) -> Result<Held, AllocError>
+    ensures { IfOk result (λ held. held ≡ opened_lem at login.now None) }
+{
+    Ok(Held {
+        login: Login::from_slice(alloc, login)?,
+        at,
+        granted: 0,
+    })
 }
 
 impl Transactions {
@@ -109,7 +121,7 @@ impl Transactions {
     /// Holds a transaction, if it isn't held. An `Err` changes nothing.
     pub fn hold(&mut self, txn: u32, at: u64, login: &[u8]) -> Result<(), AllocError>
         ensures find { OnOk result ((t : ℕ) → find self.new t ≡ (if txn == t
-            then Some (opened at login.now (find self.old txn)) else find self.old t)) }
+            then Some (opened_lem at login.now (find self.old txn)) else find self.old t)) }
         ensures len { OnOk result (length self.new ≡ (if is_some (find self.old txn)
             then length self.old else length self.old + 1)) }
         ensures err { OnErr result (self.new ≡ self.old) }
@@ -117,11 +129,7 @@ impl Transactions {
         if self.records.contains_key(&txn) {
             return Ok(());
         }
-        let opened = Held {
-            login: Login::from_slice(self.alloc, login)?,
-            at,
-            granted: 0,
-        };
+        let opened = opened(self.alloc, at, login)?;
         self.records.insert(txn, opened)?;
         Ok(())
     }

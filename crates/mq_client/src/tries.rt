@@ -3,7 +3,7 @@ ghost use Rattle.std.specs.Prelude.{◌≡◌, ◌<◌, ◌≤◌, ◌∷◌, []
 ghost use Rattle.mq_frame.specs.Range.{IsRequest};
 ghost use Rattle.std.specs.List.{AllByRecursion};
 ghost use Rattle.mq_client.specs.Link.{Tells};
-ghost use Rattle.mq_client.specs.Exchanges.{Exchange, IsTry, AreTries, IsSent, Sends, told_of, told_all};
+ghost use Rattle.mq_client.specs.Exchanges.{Exchange, IsTry, AreTries, IsSent, Sends, request_frame, told_of, told_all};
 ghost use Rattle.mq_client.specs.Verdict.{IsVerdict};
 ghost use Rattle.mq_frame.specs.declared.message.Reply.{Reply};
 ghost use Rattle.mq_client.specs.declared.tries.Framed.{Framed as AFramed};
@@ -13,10 +13,11 @@ use crate::faults::Memory;
 use crate::link::Link;
 use crate::verdict::{Verdict, verdict_in};
 use crate::warnings::{LimitReached, Refused, Unanswered, is_refusal};
-use log::{Log, info, warn};
+use log::{Level, Log, log};
 use mq_frame::{Request, encode_request};
 use std::alloc::Global;
 use std::collections::VecDeque;
+use std::fmt::Display;
 
 /// A request with its frame, so that sending it asks for no memory.
 #[derive(Drop)]
@@ -25,15 +26,26 @@ pub struct Framed {
     pub frame: Vec<u8>,
 }
 
+/// The frame of a request.
+fn frame_of(alloc: Global, request: &Request) -> Result<Vec<u8>, Memory>
+    requires { IsRequest request.now }
+    ensures { IfOk result (λ frame. frame.items ≡ request_frame request.now) }
+{
+    let mut frame = Vec::new(alloc);
+    encode_request(alloc, request, &mut frame)?;
+    Ok(frame)
+}
+
 impl Framed {
     pub fn new(alloc: Global, request: Request) -> Result<Framed, Memory>
         requires { IsRequest request }
         ensures request { IfOk result (λ framed. framed.request ≡ request) }
         ensures frame { IfOk result IsFramed }
     {
-        let mut frame = Vec::new(alloc);
-        encode_request(alloc, &request, &mut frame)?;
-        Ok(Framed { request, frame })
+        match frame_of(alloc, &request) {
+            Ok(frame) => Ok(Framed { request, frame }),
+            Err(refused) => Err(refused),
+        }
     }
 }
 
@@ -49,21 +61,18 @@ fn try_once<L: Link>(link: &mut L, framed: &Framed, body: &mut Vec<u8>) -> Optio
     }
 }
 
-/// Warns that a request stays undecided.
-fn warn_unanswered<R: Log>(rt: &R, request: &Request, tries: u32) {
-    let unanswered = Unanswered { request, tries };
-    warn!(rt; "{unanswered}");
+/// Logs a text.
+fn tell<R: Log, T: Display>(rt: &R, level: Level, text: &T) {
+    log!(rt; level, "{text}");
 }
 
 /// Tells of a limit that is reached, and warns where the server refused a request.
 fn tell_verdict<R: Log>(rt: &R, request: &Request, verdict: Verdict) {
     if let Verdict::Full { used, cap } = verdict {
-        let reached = LimitReached { request, used, cap };
-        info!(rt; "{reached}");
+        tell(rt, Level::Info, &LimitReached { request, used, cap });
     }
     if is_refusal(verdict) {
-        let refused = Refused { request, verdict };
-        warn!(rt; "{refused}");
+        tell(rt, Level::Warn, &Refused { request, verdict });
     }
 }
 
@@ -87,7 +96,11 @@ pub fn try_all<R: Log, L: Link>(
             return Some(verdict);
         }
     }
-    warn_unanswered(rt, &framed.request, tries);
+    let unanswered = Unanswered {
+        request: &framed.request,
+        tries,
+    };
+    tell(rt, Level::Warn, &unanswered);
     None
 }
 

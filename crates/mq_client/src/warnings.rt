@@ -15,12 +15,11 @@ impl fmt::Display for Unanswered<'_> {
     fn fmt<W: fmt::Write>(&self, f: &mut fmt::Formatter<W>) -> fmt::Result {
         let named = Named(self.request);
         let tries = self.tries;
-        match self.request {
-            Request::Settle { .. } | Request::Release { .. } => {
-                write!(f, "{named}: no answer in {tries} tries, it waits")
-            }
-            _ => write!(f, "{named}: no answer in {tries} tries"),
-        }
+        let waits = match self.request {
+            Request::Settle { .. } | Request::Release { .. } => ", it waits",
+            _ => "",
+        };
+        write!(f, "{named}: no answer in {tries} tries{waits}")
     }
 }
 
@@ -50,6 +49,16 @@ pub fn is_refusal(verdict: Verdict) -> bool {
     )
 }
 
+/// Writes that the server holds less of a transaction than a request settles.
+fn write_too_many<W: fmt::Write>(
+    f: &mut fmt::Formatter<W>,
+    request: &Request,
+    held: u32,
+) -> fmt::Result {
+    let named = Named(request);
+    write!(f, "{named}: the transaction holds {held} only")
+}
+
 /// A request that the server refused for another cause than the limit.
 #[derive(Clone, Copy)]
 pub struct Refused<'a> {
@@ -59,15 +68,13 @@ pub struct Refused<'a> {
 
 impl fmt::Display for Refused<'_> {
     fn fmt<W: fmt::Write>(&self, f: &mut fmt::Formatter<W>) -> fmt::Result {
-        let named = Named(self.request);
-        match self.verdict {
-            Verdict::Closed => write!(f, "{named}: the transaction was closed before"),
-            Verdict::Mismatch => {
-                write!(f, "{named}: the transaction has another login or moment")
-            }
-            Verdict::TooMany(held) => { write!(f, "{named}: the transaction holds {held} only") }
-            Verdict::Conflict => { write!(f, "{named}: the number was used by another request") }
-            _ => Ok(()),
-        }
+        let why = match self.verdict {
+            Verdict::Closed => "the transaction was closed before",
+            Verdict::Mismatch => "the transaction has another login or moment",
+            Verdict::TooMany(held) => return write_too_many(f, self.request, held),
+            Verdict::Conflict => "the number was used by another request",
+            _ => return Ok(()),
+        };
+        write!(f, "{}: {why}", Named(self.request))
     }
 }

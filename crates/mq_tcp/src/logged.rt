@@ -1,9 +1,11 @@
 //! A link that logs why no reply comes.
 
 use crate::tcp::TcpLink;
-use log::{Log, error, info};
+use crate::trouble::Trouble;
+use log::{Level, Log, log};
 use mq_client::{Link, LinkFault};
 use mq_frame::{ReplyParts, read_reply};
+use std::fmt;
 use std::net::Net;
 use std::rt::Clock;
 
@@ -18,6 +20,26 @@ pub struct LoggedLink<'a, R: Net, G> {
     patience: u32,
     /// How many brought none so far.
     failed: u32,
+}
+
+/// Why an exchange brought no answer: what went wrong, or what came in its place.
+#[derive(Clone, Copy)]
+struct Unanswered<'a> {
+    trouble: Option<&'a Trouble>,
+    body: &'a [u8],
+}
+
+impl fmt::Display for Unanswered<'_> {
+    fn fmt<W: fmt::Write>(&self, f: &mut fmt::Formatter<W>) -> fmt::Result {
+        if let Some(trouble) = self.trouble {
+            return trouble.fmt(f);
+        }
+        match read_reply(self.body) {
+            Some(ReplyParts::Retry) => f.write_str("it has no memory for the request"),
+            Some(_) => f.write_str("it takes the request for none"),
+            None => write!(f, "{} bytes that are no reply", self.body.len()),
+        }
+    }
 }
 
 impl<'a, R: Net + Clock, G: Log> LoggedLink<'a, R, G> {
@@ -42,8 +64,7 @@ impl<'a, R: Net + Clock, G: Log> LoggedLink<'a, R, G> {
             }
             Some(_) => {
                 if self.failed >= self.patience {
-                    let address = self.link.address();
-                    info!(self.log; "quota server {address}: answers again");
+                    self.tell(Level::Info, &"answers again");
                 }
                 self.failed = 0;
             }
@@ -52,19 +73,17 @@ impl<'a, R: Net + Clock, G: Log> LoggedLink<'a, R, G> {
 
     /// Logs why the last exchange brought no answer.
     fn log_trouble(&self, body: &[u8]) {
+        let unanswered = Unanswered {
+            trouble: self.link.trouble(),
+            body,
+        };
+        self.tell(Level::Error, &unanswered);
+    }
+
+    /// Logs a text about the quota server.
+    fn tell<T: fmt::Display>(&self, level: Level, text: &T) {
         let address = self.link.address();
-        let count = body.len();
-        match (self.link.trouble(), read_reply(body)) {
-            (Some(trouble), _) => error!(self.log; "quota server {address}: {trouble}"),
-            (None, Some(ReplyParts::Retry)) => {
-                error!(self.log; "quota server {address}: it has no memory for the request")
-            }
-            (None, Some(_)) => {
-                error!(self.log; "quota server {address}: it takes the request for none")
-            }
-            (None, None) =>
-                error!(self.log; "quota server {address}: {count} bytes that are no reply"),
-        }
+        log!(self.log; level, "quota server {address}: {text}");
     }
 }
 

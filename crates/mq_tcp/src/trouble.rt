@@ -50,7 +50,7 @@ impl fmt::Display for Trouble {
             Trouble::System(error) => match error.kind() {
                 ErrorKind::TimedOut | ErrorKind::WouldBlock => f.write_str("no answer in time"),
                 ErrorKind::UnexpectedEof => f.write_str("closed before its reply was whole"),
-                _ => write!(f, "{error}"),
+                _ => error.fmt(f),
             },
             Trouble::Empty => f.write_str("a reply of no bytes"),
             Trouble::Memory => f.write_str("no memory for its reply"),

@@ -7,8 +7,8 @@ pub returns-in-Err-clause-cut : goal.returns-in-Err-clause-cut
 returns-in-Err-clause-cut g c =
     (None, [], [], Does-nothing g.K.Link.told _ _ _ _ _ c.in-Err.ensures.link c.in-Err.ensures.client, inl (refl, refl))
 
-pub returns-then-is_err-clause-cut : goal.returns-then-is_err-clause-cut
-returns-then-is_err-clause-cut g c =
+pub returns-in_default-clause-cut : goal.returns-in_default-clause-cut
+returns-in_default-clause-cut g c =
     let (step, told, made, answers) = c.in-Ok.ensures.ok in
     let i = c.args.inquiry in (
       step,

@@ -20,8 +20,8 @@ returns-in_default-clause-ok g c =
     let absent : find i.held c.args.closing.txn ≡ None = search rules in
     ([], Tells-none _, subst F c.self.view_is (closed_nothing (state_of i) c.args.closing.txn c.args.closing.end absent))
 
-pub closing_request-requires-clause-held : goal.closing_request-requires-clause-held
-closing_request-requires-clause-held g c =
+pub framed_closing-requires-clause-held : goal.framed_closing-requires-clause-held
+framed_closing-requires-clause-held g c =
     let there : find c.self.inside.held c.args.closing.txn ≡ Some c.in-Some.known.now = search rules in
     c.self.invariant.held c.args.closing.txn c.in-Some.known.now there
 
@@ -52,5 +52,5 @@ returns-clause-ok g c =
     let F : State → Type 0 = λ s. Makes s d (record { action = Close c.args.closing.txn c.args.closing.end; group = group }) in
     let there : find i.held c.args.closing.txn ≡ Some c.in-Some.known.now = search rules in
     let D : List Request → Type 0 = λ w. Sends i.tries w group (requests_of c.send_all.new.outbox.items) in
-    let pushed = ap requests_of c.in_ok-push_back.ensures.items ∙ map-append (λ (framed : Framed). framed.request) i.outbox.items _ ∙ ap (λ q. requests_of i.outbox.items ++ q ∷ []) (c.in_ok-framed.ensures.request ∙ c.in_ok-request.ensures.request) in
+    let pushed = ap requests_of c.in_ok-push_back.ensures.items ∙ map-append (λ (framed : Framed). framed.request) i.outbox.items _ ∙ ap (λ q. requests_of i.outbox.items ++ q ∷ []) (c.in_ok-framed.ensures.request) in
     (group, told, subst F c.self.view_is (closed (state_of i) d c.args.closing.txn c.args.closing.end c.in-Some.known.now group refl refl there (subst D pushed sends) c.release.ensures.find c.release.ensures.len refl))

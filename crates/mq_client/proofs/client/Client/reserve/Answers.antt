@@ -30,28 +30,27 @@ invariant_of-self-2 g c =
     let free : refuses (find s.held c.args.txn) (length s.held) s.numbers (length s.outbox.items) c.args.at c.args.login.now ≡ false = search rules in
     let room = has_room _ _ s.numbers _ c.args.at c.args.login.now free i.places i.numbers in
     let len = c.count.ensures.len ∙ c.in_ok-hold.ensures.len in
-    let found = held_and_counted c.args.txn c.args.at c.args.login.now c.answer_to-answer.result s.held c.hold.new.self c.count.new.self c.in_ok-hold.ensures.find c.count.ensures.find in
+    let found = held_and_counted c.args.txn c.args.at c.args.login.now c.ask-answer.result s.held c.hold.new.self c.count.new.self c.in_ok-hold.ensures.find c.count.ensures.find in
     record {
       host = i.host;
       run = i.run;
       tries = i.tries;
       places = room.places (length c.count.new.self) len;
       numbers = room.numbers (length c.count.new.self) len;
-      held = asked_in_range s.held c.count.new.self c.args.txn c.args.at c.args.login.now c.answer_to-answer.result (room.few c.args.at c.args.login.now) found i.held c.requires.txn c.requires.at c.requires.login;
+      held = asked_in_range s.held c.count.new.self c.args.txn c.args.at c.args.login.now c.ask-answer.result (room.few c.args.at c.args.login.now) found i.held c.requires.txn c.requires.at c.requires.login;
       outbox = i.outbox;
     }
 
 pub returns-clause-ok : goal.returns-clause-ok
 returns-clause-ok g c =
-    let (group, decided, told, tries, verdict) = c.try_all-verdict.ensures in
-    let answer : c.answer_to-answer.result ≡ answer_by decided = c.answer_to-answer.ensures decided verdict in
+    let (group, decided, told, tries, answer) = c.ask-answer.ensures in
     let i = c.self.inside in
     let d : State = record { source = record { host = i.host; run = i.run }; tries = i.tries; held = c.count.new.self; numbers = i.numbers + 1; waiting = requests_of i.outbox.items } in
     let F : State → Type 0 = λ s. Makes s d (record { action = Ask c.args.txn c.args.at c.args.login.now; group = group }) in
     let free : refuses (find i.held c.args.txn) (length i.held) i.numbers (length i.outbox.items) c.args.at c.args.login.now ≡ false = search rules in
-    let found = held_and_counted c.args.txn c.args.at c.args.login.now c.answer_to-answer.result i.held c.hold.new.self c.count.new.self c.in_ok-hold.ensures.find c.count.ensures.find in
+    let found = held_and_counted c.args.txn c.args.at c.args.login.now c.ask-answer.result i.held c.hold.new.self c.count.new.self c.in_ok-hold.ensures.find c.count.ensures.find in
     let by : (t : ℕ) → find c.count.new.self t ≡ (if c.args.txn == t then Some (let_through (answer_by decided) (opened c.args.at c.args.login.now (find i.held c.args.txn))) else find i.held t) = rw answer at found in
-    let tries_of = rw (c.in_ok-reserve.ensures.request ∙ c.in_ok-request.ensures.request) at tries in (
+    let tries_of = rw (c.in_ok-reserve.ensures.request) at tries in (
       group,
       told,
       answer ∙ sym (answer_of_tries i.tries _ group decided tries),

@@ -1,24 +1,24 @@
-use Rattle.std.proofs.Common.{◌≡◌, ◌≤◌, ◌<◌, ◌∷◌, [], ◌++◌, length, take, refl, ap, arith, rules, inl, inr, None, length-append}
+use Rattle.std.proofs.Common.{◌≡◌, ◌≤◌, ◌<◌, ◌∷◌, [], ◌++◌, length, take, refl, ap, arith, rules, inl, inr, None, Err, length-append}
 use Rattle.std.proofs.lemmas.List.{length-take-le}
 use Rattle.std.specs.List.{concat}
 use Rattle.std.specs.Io.KnownBytes.{IsAtEnd}
 use Rattle.mq_client.specs.declared.faults.FilterFault.TheVariants as at
 use Rattle.mq_client.proofs.Looping.{Does-still, stops, so_far_start, so_far_fed, so_far_none, is_line_none}
 use Rattle.mq_client.proofs.Supplying.{supplied_start, supplied_more, consumes_kept}
-use Rattle.mq_client.proofs.filter.run_filter.Goals as goal
+use Rattle.mq_client.proofs.filter.read_all.Goals as goal
 
 pub loop-read-init : goal.loop-read-init
 loop-read-init g c = record {
   pieces = [];
   supplied = supplied_start _;
-  so_far = so_far_start _ _ c.args.client.now _ c.new-feed.result.rest c.new-feed.ensures.empty refl c.new.ensures refl;
-  held = is_line_none _ c.new-feed.ensures.empty;
-  written = λ ready. cc (ready);
+  so_far = so_far_start _ _ c.args.client.now _ c.args.feed.now.rest c.requires.empty c.requires.ready c.requires.tracker c.requires.count;
+  held = is_line_none _ c.requires.empty;
+  written = λ ready. cc (ready, c.requires.ready);
   sink_works = λ works. works;
   flushed = λ flushed. flushed;
   source_works = λ works. works;
   reads = refl;
-  count = omega (arith, ap length c.new-feed.ensures.empty);
+  count = omega (arith, c.requires.count, ap length c.requires.empty);
 }
 
 pub returns-in-Err-clause-fault : goal.returns-in-Err-clause-fault
@@ -57,7 +57,7 @@ returns-in-Err-take_lines-clause-fault g c =
     let i = c.loop-read.invariant in
     let n = c.in-Ok.count in
     let piece = take n c.read.new.piece in
-    let fed : c.feed-in-loop-read.new.self.rest ≡ c.loop-read.feed.rest ++ piece = search rules in
+    let fed : c.feed.new.self.rest ≡ c.loop-read.feed.rest ++ piece = search rules in
     let fits : n ≤ length c.read.new.piece = search rules in
     let small : n ≤ 4096 = omega arith in
     let long = length-take-le n c.read.new.piece fits in
@@ -66,7 +66,7 @@ returns-in-Err-take_lines-clause-fault g c =
       i.pieces ++ piece ∷ [],
       supplied_more _ _ _ i.pieces piece i.supplied c.in-Ok.ensures.bytes.0 c.in-Ok.ensures.told short few,
       (c.in-Err-take_lines.ensures.fault _ (i.pieces ++ piece ∷ []) _ _
-          (so_far_fed _ i.pieces c.loop-read.feed.rest c.feed-in-loop-read.new.self.rest piece c.loop-read.filter _ fed i.so_far)).0,
+          (so_far_fed _ i.pieces c.loop-read.feed.rest c.feed.new.self.rest piece c.loop-read.filter _ fed i.so_far)).0,
     )
 
 pub loop-read-preserved : goal.loop-read-preserved
@@ -74,7 +74,7 @@ loop-read-preserved g c =
     let i = c.loop-read.invariant in
     let n = c.in-Ok.count in
     let piece = take n c.read.new.piece in
-    let fed : c.feed-in-loop-read.new.self.rest ≡ c.loop-read.feed.rest ++ piece = search rules in
+    let fed : c.feed.new.self.rest ≡ c.loop-read.feed.rest ++ piece = search rules in
     let fits : n ≤ length c.read.new.piece = search rules in
     let small : n ≤ 4096 = omega arith in
     let long = length-take-le n c.read.new.piece fits in
@@ -85,7 +85,7 @@ loop-read-preserved g c =
     record {
       pieces = i.pieces ++ piece ∷ [];
       supplied = supplied_more _ _ _ i.pieces piece i.supplied c.in-Ok.ensures.bytes.0 c.in-Ok.ensures.told short few;
-      so_far = c.in-Ok-take_lines.ensures.ok _ (concat (i.pieces ++ piece ∷ [])) (so_far_fed _ i.pieces c.loop-read.feed.rest c.feed-in-loop-read.new.self.rest piece c.loop-read.filter _ fed i.so_far);
+      so_far = c.in-Ok-take_lines.ensures.ok _ (concat (i.pieces ++ piece ∷ [])) (so_far_fed _ i.pieces c.loop-read.feed.rest c.feed.new.self.rest piece c.loop-read.filter _ fed i.so_far);
       held = c.in-Ok-take_lines.ensures.left;
       written = c.in-Ok-take_lines.ensures.written i.written;
       sink_works = λ works. c.in-Ok-take_lines.ensures.works (i.sink_works works) (λ no. cc (no));
@@ -132,3 +132,57 @@ returns-in-Err-finish-clause-fault g c =
       supplied_more _ _ _ i.pieces piece i.supplied c.in-Ok.ensures.bytes.0 c.in-Ok.ensures.told short few,
       c.in-Err-finish.ensures.fault _ (i.pieces ++ piece ∷ []) _ _ _ _ at_end (so_far_none _ i.pieces piece c.loop-read.feed.rest c.loop-read.filter _ none i.so_far),
     )
+
+pub returns-in-Err-clause-sink_works : goal.returns-in-Err-clause-sink_works
+returns-in-Err-clause-sink_works g c = λ works differs. c.loop-read.invariant.sink_works works
+
+pub returns-in-Err-clause-flushed : goal.returns-in-Err-clause-flushed
+returns-in-Err-clause-flushed g c = λ flushed differs. c.loop-read.invariant.flushed flushed
+
+pub returns-in-Err-clause-source_works : goal.returns-in-Err-clause-source_works
+returns-in-Err-clause-source_works g c = λ works differs. absurd (differs refl)
+
+pub returns-in-Ok-finish-clause-sink_works : goal.returns-in-Ok-finish-clause-sink_works
+returns-in-Ok-finish-clause-sink_works g c = λ works differs. c.loop-read.invariant.sink_works works
+
+pub returns-in-Ok-finish-clause-flushed : goal.returns-in-Ok-finish-clause-flushed
+returns-in-Ok-finish-clause-flushed g c = λ flushed differs. c.loop-read.invariant.flushed flushed
+
+pub returns-in-Ok-finish-clause-source_works : goal.returns-in-Ok-finish-clause-source_works
+returns-in-Ok-finish-clause-source_works g c = λ works differs. c.in-Ok.ensures.failed
+
+pub returns-in-Err-finish-clause-sink_works : goal.returns-in-Err-finish-clause-sink_works
+returns-in-Err-finish-clause-sink_works g c = λ works differs. c.loop-read.invariant.sink_works works
+
+pub returns-in-Err-finish-clause-flushed : goal.returns-in-Err-finish-clause-flushed
+returns-in-Err-finish-clause-flushed g c = λ flushed differs. c.loop-read.invariant.flushed flushed
+
+pub returns-in-Err-finish-clause-source_works : goal.returns-in-Err-finish-clause-source_works
+returns-in-Err-finish-clause-source_works g c = λ works differs. c.in-Ok.ensures.failed
+
+pub returns-in-Err-feed-clause-sink_works : goal.returns-in-Err-feed-clause-sink_works
+returns-in-Err-feed-clause-sink_works g c = λ works differs. c.loop-read.invariant.sink_works works
+
+pub returns-in-Err-feed-clause-flushed : goal.returns-in-Err-feed-clause-flushed
+returns-in-Err-feed-clause-flushed g c = λ flushed differs. c.loop-read.invariant.flushed flushed
+
+pub returns-in-Err-feed-clause-source_works : goal.returns-in-Err-feed-clause-source_works
+returns-in-Err-feed-clause-source_works g c = λ works differs. c.in-Ok.ensures.failed
+
+pub returns-in-Err-take_lines-clause-sink_works : goal.returns-in-Err-take_lines-clause-sink_works
+returns-in-Err-take_lines-clause-sink_works g c = λ works differs. c.in-Err-take_lines.ensures.works (c.loop-read.invariant.sink_works works) (λ same. let fault : c.in-Err-take_lines.fault ≡ at.Write = cc (same) in differs (ap Err fault))
+
+pub returns-in-Err-take_lines-clause-flushed : goal.returns-in-Err-take_lines-clause-flushed
+returns-in-Err-take_lines-clause-flushed g c = λ flushed differs. c.in-Err-take_lines.ensures.flushed (c.loop-read.invariant.flushed flushed) (λ same. let fault : c.in-Err-take_lines.fault ≡ at.Write = cc (same) in differs (ap Err fault))
+
+pub returns-in-Err-take_lines-clause-source_works : goal.returns-in-Err-take_lines-clause-source_works
+returns-in-Err-take_lines-clause-source_works g c = λ works differs. c.in-Ok.ensures.failed
+
+pub returns-clause-sink_works : goal.returns-clause-sink_works
+returns-clause-sink_works g c = λ works differs. c.loop-read.invariant.sink_works works
+
+pub returns-clause-flushed : goal.returns-clause-flushed
+returns-clause-flushed g c = λ flushed differs. c.loop-read.invariant.flushed flushed
+
+pub returns-clause-source_works : goal.returns-clause-source_works
+returns-clause-source_works g c = λ works differs. absurd (differs refl)

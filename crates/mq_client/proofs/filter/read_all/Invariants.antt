@@ -4,7 +4,7 @@ use Rattle.mq_frame.specs.Flow.{IsFlushed}
 use Rattle.mq_line.specs.Text.{IsLine}
 use Rattle.mq_client.specs.Run.{around, supply, Supplies}
 use Rattle.mq_client.specs.Loop.{SinkWorks, SoFar}
-use Rattle.mq_client.proofs.filter.run_filter.Given as goal
+use Rattle.mq_client.proofs.filter.read_all.Given as goal
 
 -- the lines of the bytes that were read were handled, but for a cut one that is held
 abbrev pub invariant-loop-read : goal.invariant-loop-read
