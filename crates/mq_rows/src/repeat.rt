@@ -3,6 +3,7 @@ ghost use Rattle.std.specs.Prelude.{◌≡◌, Some, IfOk, IfErr};
 ghost use Rattle.mq_frame.specs.declared.message.Request.{Request as AnyRequest};
 ghost use Rattle.mq_frame.specs.declared.message.Reply.{Reply as AnyReply};
 ghost use Rattle.mq_frame.specs.Range.{IsRequest, IsReply};
+ghost use Rattle.mq_frame.specs.Same.{same_request};
 ghost use Rattle.mq_frame.specs.Spelling.{SpellsRequest, SpellsReply};
 ghost use Rattle.mq_ledger.specs.Arrivals.{id_of};
 ghost use Rattle.mq_rows.specs.Repeat.{IsRepeatOf};
@@ -19,6 +20,19 @@ fn fault_of(fault: DecodeFault) -> LedgerFault
     match fault {
         DecodeFault::Bad => LedgerFault::Store,
         DecodeFault::Memory => LedgerFault::Memory,
+    }
+}
+
+/// Whether the row spells that request. The fault is `Memory`, or `Store` where it spells none.
+fn is_same(alloc: Global, row: &AnswerRecord, request: &Request) -> Result<bool, LedgerFault>
+    ensures same { IfOk result (λ same. (q : AnyRequest) → SpellsRequest row.now.request q
+        → same ≡ same_request request.now q) }
+    ensures store { IfErr result (λ fault. fault ≡ LedgerFault.Store
+        → (q : AnyRequest) → SpellsRequest row.now.request q → ⊥) }
+{
+    match decode_request(alloc, row.request.as_slice()) {
+        Ok(stored) => Ok(request.is_same(&stored)),
+        Err(fault) => Err(fault_of(fault)),
     }
 }
 
@@ -39,9 +53,12 @@ pub fn stored_reply(
         → (q : AnyRequest) (a : AnyReply) → SpellsRequest row.now.request q
         → SpellsReply row.now.reply a → ⊥) }
 {
-    let stored = decode_request(alloc, row.request.as_slice()).map_err(fault_of)?;
-    if !request.is_same(&stored) {
+    let same = is_same(alloc, row, request)?;
+    if !same {
         return Ok(Reply::Conflict { id: id.clone()? });
     }
-    decode_reply(alloc, row.reply.as_slice()).map_err(fault_of)
+    match decode_reply(alloc, row.reply.as_slice()) {
+        Ok(reply) => Ok(reply),
+        Err(fault) => Err(fault_of(fault)),
+    }
 }

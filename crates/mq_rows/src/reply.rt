@@ -1,5 +1,5 @@
 //! The reply to a numbered request whose number is new, by what was found in the tables.
-ghost use Rattle.std.specs.Prelude.{◌≡◌, ◌+◌, ◌<◌, ◌≤◌, true, false, IfOk, IfErr};
+ghost use Rattle.std.specs.Prelude.{◌≡◌, ◌+◌, ◌<◌, ◌≤◌, ◌&&◌, not, true, false, IfOk, IfErr};
 ghost use Rattle.std.specs.Option.{MatchOption};
 ghost use Rattle.mq_frame.specs.declared.message.Reply.{Reply as AnyReply};
 ghost use Rattle.mq_frame.specs.Range.{IsId, IsCount, IsAmount, IsRequest, IsReply};
@@ -97,26 +97,31 @@ impl Found {
         }
     }
 
+    /// Whether the transaction is open to a request of that moment and login.
+    fn is_open(&self, at: u64, login: &Login) -> bool
+        ensures { result ≡ (agrees_with at login.now self.now.transaction
+            && not (is_closed self.now.transaction)) }
+    {
+        self.agrees(at, login) && !self.is_closed()
+    }
+
     /// The reply to a request whose transaction isn't open to it: it has another moment or login,
     /// or is closed.
-    fn refusal(&self, id: &Id, at: u64, login: &Login) -> Result<Option<Reply>, AllocError>
-        requires { IsId id.now }
-        ensures open { IfOk result (λ refused. MatchOption refused
-            ((agrees_with at login.now self.now.transaction ≡ true)
-            × (is_closed self.now.transaction ≡ false))
-            (λ _. Unit {0})) }
-        ensures refused { IfOk result (λ refused. MatchOption refused
-            (Unit {0})
-            (λ reply. ((a : AnyReply) → reply ≡ if_row_open id.now at login.now self.now.transaction a)
-            × (moves reply ≡ false) × IsReply reply)) }
+    fn refusal(&self, id: &Id, at: u64, login: &Login) -> Result<Reply, AllocError>
+        requires id { IsId id.now }
+        requires refused { (agrees_with at login.now self.now.transaction
+            && not (is_closed self.now.transaction)) ≡ false }
+        ensures refused { IfOk result (λ reply. (a : AnyReply)
+            → reply ≡ if_row_open id.now at login.now self.now.transaction a) }
+        ensures still { IfOk result (λ reply. moves reply ≡ false) }
+        ensures in_range { IfOk result IsReply }
     {
-        if !self.agrees(at, login) {
-            return Ok(Some(Reply::Mismatch { id: id.clone()? }));
+        let id = id.clone()?;
+        if self.agrees(at, login) {
+            Ok(Reply::Closed { id })
+        } else {
+            Ok(Reply::Mismatch { id })
         }
-        if self.is_closed() {
-            return Ok(Some(Reply::Closed { id: id.clone()? }));
-        }
-        Ok(None)
     }
 
     fn reserve_reply(
@@ -137,8 +142,8 @@ impl Found {
             → fits_if_open at login.now (cap_by default self.now.governing) self.now.transaction self.now.usage
             ≡ false) }
     {
-        if let Some(refused) = self.refusal(id, at, login)? {
-            return Ok(refused);
+        if !self.is_open(at, login) {
+            return Ok(self.refusal(id, at, login)?);
         }
         let used = self.fitting()?;
         let cap = self.cap(default);
@@ -174,8 +179,8 @@ impl Found {
         ensures store { IfErr result (λ fault. fault ≡ LedgerFault.Store
             → fits_if_open at login.now 0 self.now.transaction self.now.usage ≡ false) }
     {
-        if let Some(refused) = self.refusal(id, at, login)? {
-            return Ok(refused);
+        if !self.is_open(at, login) {
+            return Ok(self.refusal(id, at, login)?);
         }
         let _used = self.fitting()?;
         let held = self.held();
@@ -200,8 +205,8 @@ impl Found {
         ensures store { IfErr result (λ fault. fault ≡ LedgerFault.Store
             → fits_if_open at login.now 0 self.now.transaction self.now.usage ≡ false) }
     {
-        if let Some(refused) = self.refusal(id, at, login)? {
-            return Ok(refused);
+        if !self.is_open(at, login) {
+            return Ok(self.refusal(id, at, login)?);
         }
         let _used = self.fitting()?;
         Ok(Reply::Released {

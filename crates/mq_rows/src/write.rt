@@ -7,7 +7,7 @@ ghost use Rattle.mq_ledger.specs.Day.{day_of};
 ghost use Rattle.mq_rows.specs.Rows.{number_of, answer_row};
 ghost use Rattle.mq_rows.specs.Plan.{moves, moved, fresh, moved_or_made, transaction_write};
 ghost use Rattle.mq_rows.specs.Plan.{reserved_more, freed, usage_write, set_ceiling_to, ceiling_write};
-ghost use Rattle.mq_rows.specs.Plan.{held_by, reserved_by, used_by, fits, planned, may_be_found};
+ghost use Rattle.mq_rows.specs.Plan.{held_by, reserved_by, used_by, fits, written, planned, may_be_found};
 ghost use Rattle.mq_rows.specs.Storable.{AreStorableIf, IsStorablePlan};
 
 use crate::body::Body;
@@ -254,12 +254,12 @@ fn answer_row(
 }
 
 /// What becomes of the rows that were found: of the transaction's, of the login's of the day, and of
-/// its limit.
+/// its limit. They are taken out of what was found.
 fn writes(
     zone: Zone,
     request: &Request,
     reply: &Reply,
-    found: Found,
+    found: &mut Found,
 ) -> Result<
     (
         Write<TransactionRecord>,
@@ -269,26 +269,115 @@ fn writes(
     AllocError,
 >
     requires in_range { IsRequest request.now }
-    requires fits { moves reply.now ≡ true → fits found.transaction found.usage ≡ true }
+    requires fits { moves reply.now ≡ true → fits found.old.transaction found.old.usage ≡ true }
     ensures transaction { IfOk result (λ writes. writes.0
-        ≡ transaction_write (day_of zone) request.now reply.now found.transaction) }
+        ≡ transaction_write (day_of zone) request.now reply.now found.old.transaction) }
     ensures usage { IfOk result (λ writes. writes.1
-        ≡ usage_write (day_of zone) request.now reply.now (held_by found.transaction) found.usage) }
-    ensures ceiling { IfOk result (λ writes. writes.2 ≡ ceiling_write request.now reply.now found.ceiling) }
+        ≡ usage_write (day_of zone) request.now reply.now (held_by found.old.transaction) found.old.usage) }
+    ensures ceiling { IfOk result (λ writes. writes.2 ≡ ceiling_write request.now reply.now found.old.ceiling) }
 {
     let held = found.held();
-    let Found {
+    let ceiling = ceiling_write(request, reply, found.ceiling.take())?;
+    let usage = usage_write(zone, request, reply, held, found.usage.take())?;
+    let transaction = transaction_write(zone, request, reply, found.transaction.take())?;
+    Ok((transaction, usage, ceiling))
+}
+
+/// The row of the answer, and what becomes of the rows that were found.
+fn changes(
+    alloc: Global,
+    zone: Zone,
+    n: u64,
+    id: &Id,
+    request: &Request,
+    reply: &Reply,
+    found: &mut Found,
+) -> Result<
+    (
+        AnswerRecord,
+        (
+            Write<TransactionRecord>,
+            Write<UsageRecord>,
+            Write<CeilingRecord>,
+        ),
+    ),
+    Memory,
+>
+    requires in_range { IsRequest request.now }
+    requires reply { IsReply reply.now }
+    requires number { id_of request.now ≡ Some id.now }
+    requires fits { moves reply.now ≡ true → fits found.old.transaction found.old.usage ≡ true }
+    ensures answer { IfOk result (λ changes. changes.0
+        ≡ answer_row n (record { request = request.now; reply = reply.now })) }
+    ensures transaction { IfOk result (λ changes. changes.1.0
+        ≡ transaction_write (day_of zone) request.now reply.now found.old.transaction) }
+    ensures usage { IfOk result (λ changes. changes.1.1
+        ≡ usage_write (day_of zone) request.now reply.now (held_by found.old.transaction) found.old.usage) }
+    ensures ceiling { IfOk result (λ changes. changes.1.2
+        ≡ ceiling_write request.now reply.now found.old.ceiling) }
+{
+    let answer = answer_row(alloc, n, id, request, reply)?;
+    Ok((answer, writes(zone, request, reply, found)?))
+}
+
+/// The reply with all that is written with it, where so many were answered before.
+fn plan(
+    alloc: Global,
+    zone: Zone,
+    arrivals: u64,
+    id: &Id,
+    request: &Request,
+    reply: Reply,
+    found: &mut Found,
+) -> Result<Plan, Memory>
+    requires in_range { IsRequest request.now }
+    requires reply { IsReply reply }
+    requires number { id_of request.now ≡ Some id.now }
+    requires room { arrivals < 4611686018427387904 }
+    requires fits { moves reply ≡ true → fits found.old.transaction found.old.usage ≡ true }
+    ensures { IfOk result (λ plan. plan ≡ written (day_of zone) arrivals request.now found.old reply) }
+{
+    let arrivals = arrivals + 1;
+    let (answer, (transaction, usage, ceiling)) = changes(
+        alloc, zone, arrivals, id, request, &reply, found,
+    )?;
+    Ok(Plan {
+        answer,
+        arrivals,
         transaction,
         usage,
-        governing: _,
-        over: _,
         ceiling,
-    } = found;
-    Ok((
-        transaction_write(zone, request, reply, transaction)?,
-        usage_write(zone, request, reply, held, usage)?,
-        ceiling_write(request, reply, ceiling)?,
-    ))
+        reply,
+    })
+}
+
+/// What `decide` answers. The rows are taken out of what was found.
+fn decide_by(
+    alloc: Global,
+    zone: Zone,
+    default: u32,
+    arrivals: u64,
+    id: &Id,
+    request: &Request,
+    found: &mut Found,
+) -> Result<Plan, LedgerFault>
+    requires in_range { IsRequest request.now }
+    requires number { id_of request.now ≡ Some id.now }
+    ensures plan { IfOk result (λ plan. plan ≡ planned (day_of zone) default arrivals request.now found.old) }
+    ensures in_range { IfOk result (λ plan. IsReply plan.reply) }
+    ensures room { IfOk result (λ _. arrivals < 4611686018427387904) }
+    ensures storable { IfOk result (λ plan. AreStorableIf found.old.transaction → IsStorablePlan plan) }
+    ensures store { IfErr result (λ fault. fault ≡ LedgerFault.Store
+        → arrivals < 4611686018427387904 → may_be_found default request.now found.old ≡ false) }
+{
+    if MOST_ANSWERS <= arrivals {
+        return Err(LedgerFault::Store);
+    }
+    let reply = found.reply(default, request)?;
+    match plan(alloc, zone, arrivals, id, request, reply, found) {
+        Ok(plan) => Ok(plan),
+        Err(Memory) => Err(LedgerFault::Memory),
+    }
 }
 
 /// The reply to a numbered request, and what is written with it, where no row has its number.
@@ -303,7 +392,7 @@ pub fn decide(
     arrivals: u64,
     id: &Id,
     request: &Request,
-    found: Found,
+    mut found: Found,
 ) -> Result<Plan, LedgerFault>
     requires in_range { IsRequest request.now }
     requires number { id_of request.now ≡ Some id.now }
@@ -314,20 +403,5 @@ pub fn decide(
     ensures store { IfErr result (λ fault. fault ≡ LedgerFault.Store
         → arrivals < 4611686018427387904 → may_be_found default request.now found ≡ false) }
 {
-    if MOST_ANSWERS <= arrivals {
-        return Err(LedgerFault::Store);
-    }
-    let reply = found.reply(default, request)?;
-    let Ok(answer) = answer_row(alloc, arrivals + 1, id, request, &reply) else {
-        return Err(LedgerFault::Memory);
-    };
-    let (transaction, usage, ceiling) = writes(zone, request, &reply, found)?;
-    Ok(Plan {
-        answer,
-        arrivals: arrivals + 1,
-        transaction,
-        usage,
-        ceiling,
-        reply,
-    })
+    decide_by(alloc, zone, default, arrivals, id, request, &mut found)
 }

@@ -11,6 +11,12 @@ survives_both a b c one two = survives_then a b c _ _ (λ _. ⊥) (λ _ db none.
 pub keeps_both : (a b c : State) → Survives b c (λ _. ⊥) → (HasCleanDisk b → KeepsCommit a b) → (HasCleanDisk c → KeepsCommit b c) → HasCleanDisk c → KeepsCommit a c
 keeps_both a b c later one two clean = keeps_then a b c (one (omega (arith, later.clean))) (two clean)
 
+pub survives_three : (a b c d : State) → Survives a b (λ _. ⊥) → Survives b c (λ _. ⊥) → Survives c d (λ _. ⊥) → Survives a d (λ _. ⊥)
+survives_three a b c d one two three = survives_both a c d (survives_both a b c one two) three
+
+pub keeps_three : (a b c d : State) → Survives b c (λ _. ⊥) → Survives c d (λ _. ⊥) → (HasCleanDisk b → KeepsCommit a b) → (HasCleanDisk c → KeepsCommit b c) → (HasCleanDisk d → KeepsCommit c d) → HasCleanDisk d → KeepsCommit a d
+keeps_three a b c d later last one two three = keeps_both a c d last (keeps_both a b c later one two) three
+
 pub stays_both : (a b c : State) → Stays a b → Stays b c → Stays a c
 stays_both a b c one two = record { now = two.now ∙ one.now; inside = two.inside ∙ one.inside }
 

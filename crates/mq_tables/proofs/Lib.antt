@@ -50,4 +50,5 @@ pub mod AllUsageText
 pub mod AllTransText
 pub mod AllCeilingText
 pub mod FigureReads
+pub mod Still
 pub mod Strict

@@ -128,7 +128,6 @@ fn put_setting<S: Alter>(
     )
 }
 
-#[tactic(auto, using(crate::proofs::Chain::survives_both, crate::proofs::Chain::keeps_both))]
 fn begin_setting<S: Alter>(
     tx: &mut Transaction<'_, S>,
     made_with: &NewSetting,
@@ -149,7 +148,6 @@ fn begin_setting<S: Alter>(
     put_setting(tx, made_with)
 }
 
-#[tactic(auto, using(crate::proofs::Chain::survives_both, crate::proofs::Chain::keeps_both))]
 fn create_others<S: Alter>(tx: &mut Transaction<'_, S>) -> Result<usize, Error>
     requires inside { HasCleanDisk (state S.Store tx.old.conn.now)
         → IsTrue (state S.Store tx.old.conn.now).in_transaction }
@@ -169,7 +167,6 @@ fn create_others<S: Alter>(tx: &mut Transaction<'_, S>) -> Result<usize, Error>
     create_ceiling(tx)
 }
 
-#[tactic(auto, using(crate::proofs::Chain::survives_both, crate::proofs::Chain::keeps_both))]
 fn make_tables<S: Alter>(
     tx: &mut Transaction<'_, S>,
     made_with: &NewSetting,

@@ -31,7 +31,6 @@ const NOTHING: Found = Found {
 };
 
 /// The rows of a request's transaction, and of its login and day.
-#[tactic(auto, using(crate::proofs::Chain::survives_both, crate::proofs::Chain::keeps_both))]
 fn find_named<S: Alter>(
     tx: &mut Transaction<'_, S>,
     id: &Id,
@@ -56,12 +55,13 @@ fn find_named<S: Alter>(
     Ok(Found {
         transaction,
         usage,
-        ..NOTHING
+        governing: None,
+        over: None,
+        ceiling: None,
     })
 }
 
 /// The same, and the limit that governs the day.
-#[tactic(auto, using(crate::proofs::Chain::survives_both, crate::proofs::Chain::keeps_both))]
 fn find_for_reserve<S: Alter>(
     tx: &mut Transaction<'_, S>,
     id: &Id,
@@ -87,7 +87,6 @@ fn find_for_reserve<S: Alter>(
 }
 
 /// The first day from `from_day` on that is past the cap, and the limit from that day on.
-#[tactic(auto, using(crate::proofs::Chain::survives_both, crate::proofs::Chain::keeps_both))]
 fn find_for_limit<S: Alter>(
     tx: &mut Transaction<'_, S>,
     login: &Login,
@@ -108,9 +107,11 @@ fn find_for_limit<S: Alter>(
     let over = find_over(tx, login, from_day, cap)?;
     let ceiling = find_ceiling(tx, login, from_day)?;
     Ok(Found {
+        transaction: None,
+        usage: None,
+        governing: None,
         over,
         ceiling,
-        ..NOTHING
     })
 }
 

@@ -86,7 +86,6 @@ pub fn next_login<S: Alter>(
 /// `None` where there is none. `after` may be empty.
 ///
 /// It goes from login to login, and takes the same for each that has no row of that day.
-#[tactic(auto, using(crate::proofs::Chain::survives_both, crate::proofs::Chain::keeps_both))]
 pub fn next_usage<S: Alter>(
     tx: &mut Transaction<'_, S>,
     day: u32,

@@ -2,6 +2,7 @@ use Rattle.std.proofs.Common.{arith, sym, subst, ◌∙◌}
 use Rattle.sqlite.specs.Held.{state}
 use Rattle.sqlite.specs.State.{HasCleanDisk}
 use Rattle.mq_tables.specs.Ledger.{HasLedger}
+use Rattle.mq_store.proofs.Chain.{survives_both, keeps_both}
 use Rattle.mq_store.proofs.listing.reply_to_usage.Goals as goal
 
 pub returns-clause-replied : goal.returns-clause-replied
@@ -12,3 +13,21 @@ returns-clause-replied g c clean = λ zone H b.
     c.in_ok-usage_reply.ensures.reply
     ∙ c.reads_are_answered.ensures.usage zone c.args.default H _ b c.args.login.now c.args.day c.in_ok-usage.usage c.in_ok-governing.governing
     (c.in_ok-usage.ensures.found mid b.has.tables b.has.holds) (c.in_ok-governing.ensures.found clean b.has.tables holds)
+
+pub returns-in_err-governing-clause-survives : goal.returns-in_err-governing-clause-survives
+returns-in_err-governing-clause-survives g c = survives_both (state g.S.Store c.args.tx.now.conn.now) (state g.S.Store c.find_usage.new.tx.conn.now) (state g.S.Store c.find_governing.new.tx.conn.now) c.find_usage.ensures.survives c.find_governing.ensures.survives
+
+pub returns-in_err-governing-clause-kept : goal.returns-in_err-governing-clause-kept
+returns-in_err-governing-clause-kept g c = keeps_both (state g.S.Store c.args.tx.now.conn.now) (state g.S.Store c.find_usage.new.tx.conn.now) (state g.S.Store c.find_governing.new.tx.conn.now) c.find_governing.ensures.survives c.find_usage.ensures.kept c.find_governing.ensures.kept
+
+pub returns-in_err-usage_reply-clause-survives : goal.returns-in_err-usage_reply-clause-survives
+returns-in_err-usage_reply-clause-survives g c = survives_both (state g.S.Store c.args.tx.now.conn.now) (state g.S.Store c.find_usage.new.tx.conn.now) (state g.S.Store c.find_governing.new.tx.conn.now) c.find_usage.ensures.survives c.find_governing.ensures.survives
+
+pub returns-in_err-usage_reply-clause-kept : goal.returns-in_err-usage_reply-clause-kept
+returns-in_err-usage_reply-clause-kept g c = keeps_both (state g.S.Store c.args.tx.now.conn.now) (state g.S.Store c.find_usage.new.tx.conn.now) (state g.S.Store c.find_governing.new.tx.conn.now) c.find_governing.ensures.survives c.find_usage.ensures.kept c.find_governing.ensures.kept
+
+pub returns-clause-survives : goal.returns-clause-survives
+returns-clause-survives g c = survives_both (state g.S.Store c.args.tx.now.conn.now) (state g.S.Store c.find_usage.new.tx.conn.now) (state g.S.Store c.find_governing.new.tx.conn.now) c.find_usage.ensures.survives c.find_governing.ensures.survives
+
+pub returns-clause-kept : goal.returns-clause-kept
+returns-clause-kept g c = keeps_both (state g.S.Store c.args.tx.now.conn.now) (state g.S.Store c.find_usage.new.tx.conn.now) (state g.S.Store c.find_governing.new.tx.conn.now) c.find_governing.ensures.survives c.find_usage.ensures.kept c.find_governing.ensures.kept

@@ -2,6 +2,7 @@ use Rattle.std.proofs.Common.{arith, sym, subst}
 use Rattle.sqlite.specs.Held.{state}
 use Rattle.sqlite.specs.State.{HasCleanDisk}
 use Rattle.mq_tables.specs.Ledger.{HasLedger}
+use Rattle.mq_store.proofs.Chain.{survives_both, keeps_both}
 use Rattle.mq_store.proofs.take.plan.Goals as goal
 
 pub returns-clause-planned : goal.returns-clause-planned
@@ -12,3 +13,21 @@ returns-clause-planned g c clean = λ H b none.
     let law = c.new_numbers_are_planned.ensures c.args.zone c.args.default H c.args.request.now c.args.id.now b.has.tables c.in_ok-found.found b.legal b.has.rows c.requires.number none (λ keyed. c.in_ok-found.ensures.found clean b.has.tables holds keyed) in
     let counted = c.in_ok-arrivals.ensures.found mid b.has.tables b.has.holds in
     rw (c.in_ok-decide.ensures.plan, counted) law
+
+pub returns-in_err-found-clause-survives : goal.returns-in_err-found-clause-survives
+returns-in_err-found-clause-survives g c = survives_both (state g.S.Store c.args.tx.now.conn.now) (state g.S.Store c.read_arrivals.new.tx.conn.now) (state g.S.Store c.find.new.tx.conn.now) c.read_arrivals.ensures.survives c.find.ensures.survives
+
+pub returns-in_err-found-clause-kept : goal.returns-in_err-found-clause-kept
+returns-in_err-found-clause-kept g c = keeps_both (state g.S.Store c.args.tx.now.conn.now) (state g.S.Store c.read_arrivals.new.tx.conn.now) (state g.S.Store c.find.new.tx.conn.now) c.find.ensures.survives c.read_arrivals.ensures.kept c.find.ensures.kept
+
+pub returns-in_err-decide-clause-survives : goal.returns-in_err-decide-clause-survives
+returns-in_err-decide-clause-survives g c = survives_both (state g.S.Store c.args.tx.now.conn.now) (state g.S.Store c.read_arrivals.new.tx.conn.now) (state g.S.Store c.find.new.tx.conn.now) c.read_arrivals.ensures.survives c.find.ensures.survives
+
+pub returns-in_err-decide-clause-kept : goal.returns-in_err-decide-clause-kept
+returns-in_err-decide-clause-kept g c = keeps_both (state g.S.Store c.args.tx.now.conn.now) (state g.S.Store c.read_arrivals.new.tx.conn.now) (state g.S.Store c.find.new.tx.conn.now) c.find.ensures.survives c.read_arrivals.ensures.kept c.find.ensures.kept
+
+pub returns-clause-survives : goal.returns-clause-survives
+returns-clause-survives g c = survives_both (state g.S.Store c.args.tx.now.conn.now) (state g.S.Store c.read_arrivals.new.tx.conn.now) (state g.S.Store c.find.new.tx.conn.now) c.read_arrivals.ensures.survives c.find.ensures.survives
+
+pub returns-clause-kept : goal.returns-clause-kept
+returns-clause-kept g c = keeps_both (state g.S.Store c.args.tx.now.conn.now) (state g.S.Store c.read_arrivals.new.tx.conn.now) (state g.S.Store c.find.new.tx.conn.now) c.find.ensures.survives c.read_arrivals.ensures.kept c.find.ensures.kept

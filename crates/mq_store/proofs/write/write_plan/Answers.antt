@@ -2,6 +2,7 @@ use Rattle.std.proofs.Common.{arith}
 use Rattle.sqlite.specs.Held.{state}
 use Rattle.sqlite.specs.State.{HasCleanDisk}
 use Rattle.mq_store.proofs.Writing.{writes_ok}
+use Rattle.mq_store.proofs.Chain.{survives_both, keeps_both, survives_three, keeps_three}
 use Rattle.mq_store.proofs.write.write_plan.Goals as goal
 
 pub returns-clause-written : goal.returns-clause-written
@@ -10,3 +11,15 @@ returns-clause-written g c clean =
     let one : HasCleanDisk (state g.S.Store c.append_answer.new.tx.conn.now) = omega (arith, c.set_arrivals.ensures.survives.clean) in
     writes_ok c.args.plan.now (state g.S.Store c.args.tx.now.conn.now) (state g.S.Store c.append_answer.new.tx.conn.now) (state g.S.Store c.set_arrivals.new.tx.conn.now) (state g.S.Store c.write_rows.new.tx.conn.now) c.write_rows.result
     (c.in_ok-append_answer.ensures.appended one) (c.in_ok-set_arrivals.ensures.counted two) (c.write_rows.ensures.written clean)
+
+pub returns-in_err-set_arrivals-clause-survives : goal.returns-in_err-set_arrivals-clause-survives
+returns-in_err-set_arrivals-clause-survives g c = survives_both (state g.S.Store c.args.tx.now.conn.now) (state g.S.Store c.append_answer.new.tx.conn.now) (state g.S.Store c.set_arrivals.new.tx.conn.now) c.append_answer.ensures.survives c.set_arrivals.ensures.survives
+
+pub returns-in_err-set_arrivals-clause-kept : goal.returns-in_err-set_arrivals-clause-kept
+returns-in_err-set_arrivals-clause-kept g c = keeps_both (state g.S.Store c.args.tx.now.conn.now) (state g.S.Store c.append_answer.new.tx.conn.now) (state g.S.Store c.set_arrivals.new.tx.conn.now) c.set_arrivals.ensures.survives c.append_answer.ensures.kept c.set_arrivals.ensures.kept
+
+pub returns-clause-survives : goal.returns-clause-survives
+returns-clause-survives g c = survives_three (state g.S.Store c.args.tx.now.conn.now) (state g.S.Store c.append_answer.new.tx.conn.now) (state g.S.Store c.set_arrivals.new.tx.conn.now) (state g.S.Store c.write_rows.new.tx.conn.now) c.append_answer.ensures.survives c.set_arrivals.ensures.survives c.write_rows.ensures.survives
+
+pub returns-clause-kept : goal.returns-clause-kept
+returns-clause-kept g c = keeps_three (state g.S.Store c.args.tx.now.conn.now) (state g.S.Store c.append_answer.new.tx.conn.now) (state g.S.Store c.set_arrivals.new.tx.conn.now) (state g.S.Store c.write_rows.new.tx.conn.now) c.set_arrivals.ensures.survives c.write_rows.ensures.survives c.append_answer.ensures.kept c.set_arrivals.ensures.kept c.write_rows.ensures.kept

@@ -2,6 +2,7 @@ use Rattle.std.proofs.Common.{arith}
 use Rattle.sqlite.specs.Held.{state}
 use Rattle.sqlite.specs.State.{HasCleanDisk}
 use Rattle.mq_store.proofs.Writing.{moves_ok}
+use Rattle.mq_store.proofs.Chain.{survives_both, keeps_both, survives_three, keeps_three}
 use Rattle.mq_store.proofs.write.write_rows.Goals as goal
 
 pub returns-clause-written : goal.returns-clause-written
@@ -10,3 +11,15 @@ returns-clause-written g c clean =
     let one : HasCleanDisk (state g.S.Store c.write_transaction.new.tx.conn.now) = omega (arith, c.write_usage.ensures.survives.clean) in
     moves_ok c.args.plan.now (state g.S.Store c.args.tx.now.conn.now) (state g.S.Store c.write_transaction.new.tx.conn.now) (state g.S.Store c.write_usage.new.tx.conn.now) (state g.S.Store c.write_ceiling.new.tx.conn.now) c.write_ceiling.result
     (c.in_ok-write_transaction.ensures.written one) (c.in_ok-write_usage.ensures.written two) (c.write_ceiling.ensures.written clean)
+
+pub returns-in_err-write_usage-clause-survives : goal.returns-in_err-write_usage-clause-survives
+returns-in_err-write_usage-clause-survives g c = survives_both (state g.S.Store c.args.tx.now.conn.now) (state g.S.Store c.write_transaction.new.tx.conn.now) (state g.S.Store c.write_usage.new.tx.conn.now) c.write_transaction.ensures.survives c.write_usage.ensures.survives
+
+pub returns-in_err-write_usage-clause-kept : goal.returns-in_err-write_usage-clause-kept
+returns-in_err-write_usage-clause-kept g c = keeps_both (state g.S.Store c.args.tx.now.conn.now) (state g.S.Store c.write_transaction.new.tx.conn.now) (state g.S.Store c.write_usage.new.tx.conn.now) c.write_usage.ensures.survives c.write_transaction.ensures.kept c.write_usage.ensures.kept
+
+pub returns-clause-survives : goal.returns-clause-survives
+returns-clause-survives g c = survives_three (state g.S.Store c.args.tx.now.conn.now) (state g.S.Store c.write_transaction.new.tx.conn.now) (state g.S.Store c.write_usage.new.tx.conn.now) (state g.S.Store c.write_ceiling.new.tx.conn.now) c.write_transaction.ensures.survives c.write_usage.ensures.survives c.write_ceiling.ensures.survives
+
+pub returns-clause-kept : goal.returns-clause-kept
+returns-clause-kept g c = keeps_three (state g.S.Store c.args.tx.now.conn.now) (state g.S.Store c.write_transaction.new.tx.conn.now) (state g.S.Store c.write_usage.new.tx.conn.now) (state g.S.Store c.write_ceiling.new.tx.conn.now) c.write_usage.ensures.survives c.write_ceiling.ensures.survives c.write_transaction.ensures.kept c.write_usage.ensures.kept c.write_ceiling.ensures.kept

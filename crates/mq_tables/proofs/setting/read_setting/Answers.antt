@@ -4,6 +4,15 @@ use Rattle.mq_tables.proofs.Opens.{of_setting}
 use Rattle.mq_tables.proofs.Spared.{spares}
 use Rattle.mq_tables.proofs.setting.read_setting.Goals as goal
 
+pub returns-in-Ok-clause-autocommit : goal.returns-in-Ok-clause-autocommit
+returns-in-Ok-clause-autocommit g c = c.in-Ok.ensures.mode (rw c.set_step_limit.ensures c.requires.autocommit)
+
+pub returns-in-Ok-clause-unlimited : goal.returns-in-Ok-clause-unlimited
+returns-in-Ok-clause-unlimited g c = rw c.set_step_limit.ensures at c.in-Ok.ensures.survives.limit
+
+pub returns-in-Ok-clause-read : goal.returns-in-Ok-clause-read
+returns-in-Ok-clause-read g c clean = record { answer = Ok c.in-Ok.row; queried = rw c.set_step_limit.ensures at (c.in-Ok.ensures.row clean); read_is = ap Ok c.setting_of.ensures }
+
 pub returns-in-Ok-clause-spares : goal.returns-in-Ok-clause-spares
 returns-in-Ok-clause-spares g c clean =
     let autocommit : IsTrue c.is_autocommit-settled.result = rw (c.is_autocommit-settled.ensures.value, c.set_step_limit.ensures, c.requires.autocommit) in
@@ -14,6 +23,12 @@ pub returns-in-Ok-clause-row : goal.returns-in-Ok-clause-row
 returns-in-Ok-clause-row g c clean =
     of_setting (state g.S.Store c.args.connection.now) (state g.S.Store c.query_row.new.self) (Ok c.setting_of.result)
     (record { answer = Ok c.in-Ok.row; queried = rw c.set_step_limit.ensures at (c.in-Ok.ensures.row clean); read_is = ap Ok c.setting_of.ensures })
+
+pub returns-in-Err-clause-autocommit : goal.returns-in-Err-clause-autocommit
+returns-in-Err-clause-autocommit g c = c.in-Err.ensures.mode (rw c.set_step_limit.ensures c.requires.autocommit)
+
+pub returns-in-Err-clause-unlimited : goal.returns-in-Err-clause-unlimited
+returns-in-Err-clause-unlimited g c = rw c.set_step_limit.ensures at c.in-Err.ensures.survives.limit
 
 pub returns-in-Err-clause-read : goal.returns-in-Err-clause-read
 returns-in-Err-clause-read g c clean = record { answer = Err c.in-Err.error; queried = rw c.set_step_limit.ensures at (c.in-Err.ensures.row clean); read_is = refl }

@@ -11,7 +11,7 @@ use Rattle.mq_rows.specs.Plan.{moves, moved, moved_or_made, transaction_write}
 use Rattle.mq_rows.specs.Storable.{IsStorable, AreStorableIf, AreStorable}
 use Rattle.mq_rows.proofs.Lists.{either}
 use Rattle.mq_rows.proofs.Numbered.{number_in_range}
-use Rattle.mq_rows.proofs.write.decide.Goals as goal
+use Rattle.mq_rows.proofs.write.decide_by.Goals as goal
 
 moved_has : (count : ℕ) (a : Reply) (t : TransactionRecord) → IsStorable t → IsStorable (moved count a t)
 moved_has count (Granted id used) t h = h
@@ -44,12 +44,12 @@ write_has day (Limit id from_day cap login) a o h has = tt
 write_has day (Usage login d) a o h has = tt
 write_has day (ListRequest d after) a o h has = tt
 
-pub returns-clause-storable : goal.returns-clause-storable
-returns-clause-storable c = λ has.
+pub returns-in-Ok-clause-storable : goal.returns-in-Ok-clause-storable
+returns-in-Ok-clause-storable c = λ has.
     let limit = (number_in_range c.args.request.now c.args.id.now c.requires.in_range c.requires.number).run.to in
-    record {
-      place = rw c.in-Ok.ensures (omega arith);
-      run = rw (c.in-Ok.ensures, c.requires.number) (omega (arith, limit));
+    rw c.in-Ok.ensures record {
+      place = omega arith;
+      run = rw c.requires.number (omega (arith, limit));
       arrivals = omega arith;
-      transaction = rw c.in_ok-transaction.ensures.transaction (write_has (day_of c.args.zone) c.args.request.now c.in_ok-reply.reply c.args.found.transaction c.requires.in_range has);
+      transaction = write_has (day_of c.args.zone) c.args.request.now c.in_ok-reply.reply c.args.found.now.transaction c.requires.in_range has;
     }
