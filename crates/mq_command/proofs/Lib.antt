@@ -1,3 +1,4 @@
+pub mod AnswerSteps
 pub mod AskSteps
 pub mod EndSteps
 pub mod Fronts

@@ -1,6 +1,6 @@
 -- What an administrator's question to the quota server brings.
 use Rattle.std.specs.Prelude.{◌≡◌, ◌<◌, ◌==◌, ℕ, List, [], ◌∷◌, ◌++◌, Bool, true, false, length, ◌&&◌, ◌⊎◌, Option}
-use Rattle.std.specs.Prelude.{Result, Ok, Err, codes}
+use Rattle.std.specs.Prelude.{Result, Ok, Err, codes, ⊤}
 use Rattle.std.specs.List.{All}
 use Rattle.std.specs.Io.KnownBytes.{Appends, Keeps}
 use Rattle.mq_frame.specs.Range.{IsRequest}
@@ -106,6 +106,21 @@ Limits request told told' old new (Err (Over day used)) =
 Limits request told told' old new (Err Conflict) =
     (id : Id) × IsAnswered request (says.Conflict id) told told' × Keeps old new
 Limits request told told' old new (Err (Unanswered fault)) = Asks request told told' (Err fault) × Keeps old new
+
+-- a reply that may answer a limit
+abbrev pub AnswersLimit : Reply → Type 0
+AnswersLimit (says.LimitSet id) = ⊤
+AnswersLimit (says.Over id day used) = ⊤
+AnswersLimit (says.Conflict id) = ⊤
+AnswersLimit _ = ⊥
+
+-- What telling the reply to a limit leads to.
+abbrev pub TellsLimit : Reply → Option (List ℕ) → Option (List ℕ) → Result (Unit {0}) SetFault → Type 0
+TellsLimit reply old new (Ok _) = (id : Id) × (reply ≡ says.LimitSet id) × Appends old new set_line
+TellsLimit reply old new (Err Write) = (id : Id) × (reply ≡ says.LimitSet id) × AppendsFront old new set_line
+TellsLimit reply old new (Err (Over day used)) = (id : Id) × (reply ≡ says.Over id day used) × Keeps old new
+TellsLimit reply old new (Err Conflict) = (id : Id) × (reply ≡ says.Conflict id) × Keeps old new
+TellsLimit reply old new (Err (Unanswered fault)) = ⊥
 
 -- 0 where all is done and printed, else 1
 abbrev pub status_of : {Fault : Type 0} → Result (Unit {0}) Fault → ℕ

@@ -49,6 +49,25 @@ pub record IsReplay (zone : ℤ) (default : ℕ) (connections written : List (Li
   pub served : AreServed (empty_book zone default) [] (wires (map Some connections) (map (λ _. Some []) connections))
       (wires left (map Some written)) (map result_of all) seen
 
+-- What printing the answers to connections leads to, of which this was written on each and each ended so: a line for
+-- each in order, all of them where the output doesn't fail.
+abbrev pub Prints : List (List ℕ) → List ConnectionEnd → Option (List ℕ) → Option (List ℕ)
+    → Result (Unit {0}) ReplayFault → Type 0
+Prints written all old new (Ok _) = (faults_of all ≡ []) × Appends old new (hex_lines written)
+Prints written all old new (Err (Connection number ending)) =
+    (slice_get (faults_of all) 0 ≡ Some (number, ending)) × Appends old new (hex_lines written)
+Prints written all old new (Err (Output fault)) = AppendsFront old new (hex_lines written)
+Prints written all old new (Err _) = ⊥
+
+-- What connections lead to that are served over a new ledger; a fault of the serving as a whole leaves the output as it
+-- was.
+abbrev pub ReplaysOver : ℤ → ℕ → List (List ℕ) → Option (List ℕ) → Option (List ℕ)
+    → Result (Unit {0}) ReplayFault → Type 0
+ReplaysOver zone default connections old new (Err (Serve fault)) = Keeps old new
+ReplaysOver zone default connections old new ended =
+    (written : List (List ℕ)) × (all : List ConnectionEnd) × IsReplay zone default connections written all
+    × Prints written all old new ended
+
 -- why a text is refused; want of memory may come before another cause but its size
 abbrev pub IsTextRefusal : List ℕ → TextFault → Type 0
 IsTextRefusal text refused.TooLarge = 1048576 < length text

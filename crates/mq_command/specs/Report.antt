@@ -9,6 +9,7 @@ use Rattle.std.specs.Io.KnownBytes.{Appends, Keeps}
 use Rattle.std.specs.List.{flat_map}
 use Rattle.mq_frame.specs.Escaped.{escaped}
 use Rattle.mq_frame.specs.declared.message.Request.TheVariants as asks
+use Rattle.mq_frame.specs.declared.message.Reply.{Reply}
 use Rattle.mq_frame.specs.declared.message.Reply.TheVariants as says
 use Rattle.mq_frame.specs.declared.usage.UsageRow.{UsageRow}
 use Rattle.mq_client.specs.declared.link.Told.{Told}
@@ -51,6 +52,19 @@ pub record IsBadPage (day : ℕ) (after : List ℕ) (old new : Option (List Told
   pub rows : List UsageRow
   pub answered : IsAnswered (asks.List day after) (says.List other rows) old new
   pub bad : other ≡ day → IsAscendingAbove after rows → ⊥
+
+-- a reply that may answer a list
+abbrev pub AnswersList : Reply → Type 0
+AnswersList (says.List day rows) = ⊤
+AnswersList _ = ⊥
+
+-- What is made of a reply with a page: its rows, where they are of that day and ascend from there.
+abbrev pub TakesPage : ℕ → List ℕ → Reply → Result (List UsageRow) ReportFault → Type 0
+TakesPage day after reply (Ok rows) = (reply ≡ says.List day rows) × IsAscendingAbove after rows
+TakesPage day after reply (Err BadPage) =
+    (other : ℕ) × (rows : List UsageRow) × (reply ≡ says.List other rows)
+    × (other ≡ day → IsAscendingAbove after rows → ⊥)
+TakesPage day after reply (Err _) = ⊥
 
 -- What asking for a page leads to.
 abbrev pub AsksPage : ℕ → List ℕ → Option (List Told) → Option (List Told) → Result (List UsageRow) ReportFault → Type 0
@@ -110,12 +124,28 @@ pub record IsUsage (day : ℕ) (login : List ℕ) (old new : Option (List Told))
   pub answered : IsAnswered (asks.Usage login day) (says.Usage login day row.settled row.reserved row.cap) old new
   pub of_login : row.login ≡ login
 
+-- a reply that may answer a usage
+abbrev pub AnswersUsage : Reply → Type 0
+AnswersUsage (says.Usage login day settled reserved cap) = ⊤
+AnswersUsage _ = ⊥
+
+-- the reply says this of a login on some day
+abbrev pub HasRow : Reply → UsageRow → Type 0
+HasRow reply row = (day : ℕ) × (reply ≡ says.Usage row.login day row.settled row.reserved row.cap)
+
 -- What asking for a login's usage leads to.
 abbrev pub AsksUsage : ℕ → List ℕ → Option (List Told) → Option (List Told) → Result UsageRow ReportFault → Type 0
 AsksUsage day login old new (Ok row) = IsUsage day login old new row
 AsksUsage day login old new (Err (Unanswered fault)) = Asks (asks.Usage login day) old new (Err fault)
 AsksUsage day login old new (Err Memory) = new ≡ old
 AsksUsage day login old new (Err _) = ⊥
+
+-- What printing the line of a row leads to: all of it, or a front where the output or memory fails.
+abbrev pub PrintsRow : UsageRow → Option (List ℕ) → Option (List ℕ) → Result (Unit {0}) ReportFault → Type 0
+PrintsRow row old new (Ok _) = Appends old new (row_line row)
+PrintsRow row old new (Err Write) = AppendsFront old new (row_line row)
+PrintsRow row old new (Err Memory) = AppendsFront old new (row_line row)
+PrintsRow row old new (Err _) = ⊥
 
 -- The report of one login: its line. Where it isn't done, nothing; a front of the line where the output or memory
 -- fails.

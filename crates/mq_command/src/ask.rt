@@ -1,7 +1,8 @@
 //! A question of an administrator to the quota server.
-ghost use Rattle.std.specs.Prelude.{◌≡◌, ◌∷◌, [], true, IfOk, MatchResult};
+ghost use Rattle.std.specs.Prelude.{◌≡◌, ◌∷◌, [], true, false, IfOk, MatchResult};
 ghost use Rattle.std.specs.Option.{MatchOption};
 ghost use Rattle.mq_frame.specs.Range.{IsReply, IsRequest};
+ghost use Rattle.mq_frame.specs.Spelling.{SpellsReply};
 ghost use Rattle.mq_frame.specs.declared.message.Reply.{Reply as AReply};
 ghost use Rattle.mq_command.specs.Asking.{fits, frame_of, Asks, Brought, IsMissed, Sends};
 ghost use Rattle.mq_command.specs.declared.ask.AskFault.TheVariants.{Memory as AMemory};
@@ -74,7 +75,17 @@ fn try_once<L: Link>(
     if link.exchange(frame, body).is_err() {
         return Ok(None);
     }
-    match decode_reply(alloc, body.as_slice()) {
+    answer_in(alloc, request, body.as_slice())
+}
+
+/// The reply that a body spells, where it answers the request.
+fn answer_in(alloc: Global, request: &Request, body: &[u8]) -> Result<Option<Reply>, Memory>
+    ensures { MatchResult result (λ answer. MatchOption answer
+        ((reply : AReply) → SpellsReply body.now reply → fits request.now reply ≡ false)
+        (λ reply. SpellsReply body.now reply × (fits request.now reply ≡ true)))
+        (λ fault. (reply : AReply) × SpellsReply body.now reply) }
+{
+    match decode_reply(alloc, body) {
         Ok(reply) => {
             if fits(request, &reply) {
                 Ok(Some(reply))

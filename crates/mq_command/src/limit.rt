@@ -1,6 +1,6 @@
 //! `limit`: sets the limit of a login.
 ghost use Rattle.std.specs.Prelude.{◌≡◌, Ok, Err, Result as AResult};
-ghost use Rattle.mq_command.specs.Asking.{IsLimit, Limits, status_of};
+ghost use Rattle.mq_command.specs.Asking.{AnswersLimit, IsLimit, Limits, TellsLimit, status_of};
 ghost use Rattle.mq_command.specs.declared.limit.SetFault.{SetFault as ASetFault};
 
 use crate::ask::{AskFault, ask};
@@ -39,16 +39,26 @@ fn set_limit<L: Link, W: Write>(
         (W.contents output.new) result }
 {
     match ask(alloc, link, request) {
-        Ok(Reply::LimitSet { .. }) => {
+        Ok(reply) => tell_limit(&reply, output),
+        Err(fault) => Err(SetFault::Unanswered(fault)),
+    }
+}
+
+/// Prints `set` where a reply says that the limit is set, or gives why it isn't.
+fn tell_limit<W: Write>(reply: &Reply, output: &mut W) -> Result<(), SetFault>
+    requires { AnswersLimit reply.now }
+    ensures { TellsLimit reply.now (W.contents output.old) (W.contents output.new) result }
+{
+    match reply {
+        Reply::LimitSet { .. } => {
             if write_whole(output, b"set\n").is_err() || output.flush().is_err() {
                 return Err(SetFault::Write);
             }
             Ok(())
         }
-        Ok(Reply::Over { day, used, .. }) => Err(SetFault::Over(day, used)),
-        Ok(Reply::Conflict { .. }) => Err(SetFault::Conflict),
-        Ok(_) => unreachable!(),
-        Err(fault) => Err(SetFault::Unanswered(fault)),
+        Reply::Over { day, used, .. } => Err(SetFault::Over(*day, *used)),
+        Reply::Conflict { .. } => Err(SetFault::Conflict),
+        _ => unreachable!(),
     }
 }
 

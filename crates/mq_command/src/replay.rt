@@ -1,18 +1,14 @@
-//! `replay`: frames in hexadecimal, answered over a new ledger.
-ghost use Rattle.std.specs.Prelude.{◌≡◌, ℕ, ℤ, Ok, Err, None, Some, Result as AResult, [], map, IfOk, IfErr};
-ghost use Rattle.std.specs.Io.KnownBytes.{Keeps};
+//! `replay`: frames in hexadecimal, answered over a ledger.
+ghost use Rattle.std.specs.Prelude.{◌≡◌, ℕ, ℤ, [], map, IfOk};
 ghost use Rattle.std.specs.List.{slice_get};
-ghost use Rattle.mq_frame.specs.Range.{IsAmount};
-ghost use Rattle.mq_command.specs.declared.replay.ReplayFault.{ReplayFault as AReplayFault};
-ghost use Rattle.mq_command.specs.Replay.{empty_book, ending_of, faults_of, IsReplay, Replays, status_of};
+ghost use Rattle.mq_command.specs.Replay.{empty_book, ending_of, faults_of, IsReplay, Prints, ReplaysOver};
 
-use crate::connections::{TextFault, read_connections};
+use crate::connections::TextFault;
 use crate::output::{OutputFault, write_hex_lines};
 use mq_frame::{FromRead, ToWrite};
-use mq_ledger::{Ledger, PlainLedger, Zone};
+use mq_ledger::Ledger;
 use mq_server::{ConnectionEnd, ServeFault, Served, serve_all};
-use mq_store::{OpenFault, SqlLedger};
-use std::alloc::Global;
+use std::alloc::{AllocError, Global};
 use std::io::Write;
 use thiserror::Error;
 
@@ -76,6 +72,31 @@ fn first_fault(ends: &[ConnectionEnd]) -> Option<(usize, Ending)>
     None
 }
 
+/// What each connection sends.
+fn inputs_of<'a>(
+    alloc: Global,
+    connections: &'a [Vec<u8>],
+) -> Result<Vec<FromRead<&'a [u8]>>, AllocError>
+    ensures { IfOk result (λ inputs. map (λ s. s.inner.now) inputs.items ≡ map (λ c. c.items) connections.now) }
+{
+    let mut inputs = Vec::with_capacity(alloc, connections.len())?;
+    for connection in connections {
+        inputs.push(FromRead::new(connection.as_slice()))?;
+    }
+    Ok(inputs)
+}
+
+/// An output for each connection, with nothing written.
+fn outputs_for(alloc: Global, connections: &[Vec<u8>]) -> Result<Vec<ToWrite<Vec<u8>>>, AllocError>
+    ensures { IfOk result (λ outputs. map (λ s. s.inner.items) outputs.items ≡ map (λ _. []) connections.now) }
+{
+    let mut outputs = Vec::with_capacity(alloc, connections.len())?;
+    for _connection in connections {
+        outputs.push(ToWrite::new(Vec::new(alloc)))?;
+    }
+    Ok(outputs)
+}
+
 /// Serves the connections in turn over a ledger.
 fn serve_over<L: Ledger>(
     alloc: Global,
@@ -87,133 +108,50 @@ fn serve_over<L: Ledger>(
         → IfOk result (λ answered. IsReplay zone default (map (λ c. c.items) connections.now)
         (map (λ s. s.inner.items) answered.written.items) answered.ends.items) }
 {
-    let mut inputs = Vec::with_capacity(alloc, connections.len())?;
-    let mut written = Vec::with_capacity(alloc, connections.len())?;
-    for connection in connections {
-        let input = FromRead::new(connection.as_slice());
-        if inputs.push(input).is_err() || written.push(ToWrite::new(Vec::new(alloc))).is_err() {
-            return Err(ServeFault::Memory);
-        }
-    }
+    let mut inputs = inputs_of(alloc, connections)?;
+    let mut written = outputs_for(alloc, connections)?;
     let ends = serve_all(alloc, inputs.as_mut_slice(), written.as_mut_slice(), ledger)?;
     Ok(Answered { written, ends })
 }
 
-/// Serves the connections in turn over a new list.
-fn serve_list(
+/// Prints what was written on each connection, a line of hexadecimal for each, and tells the first that didn't end as it
+/// should.
+fn print_answers<W: Write>(
     alloc: Global,
-    connections: &[Vec<u8>],
-    default: u32,
-    zone: Zone,
-) -> Result<Answered, ServeFault>
-    requires { IsAmount default }
-    ensures { IfOk result (λ answered. IsReplay zone default (map (λ c. c.items) connections.now)
-        (map (λ s. s.inner.items) answered.written.items) answered.ends.items) }
-{
-    let mut ledger = PlainLedger::new(alloc, zone, default);
-    serve_over(alloc, connections, &mut ledger)
-}
-
-/// Serves the connections in turn over new tables in a store in memory.
-fn serve_tables(
-    alloc: Global,
-    connections: &[Vec<u8>],
-    default: u32,
-    zone: Zone,
-) -> Result<Answered, ServeFault>
-    requires { IsAmount default }
-    ensures { IfOk result (λ answered. IsReplay zone default (map (λ c. c.items) connections.now)
-        (map (λ s. s.inner.items) answered.written.items) answered.ends.items) }
-{
-    match SqlLedger::in_memory(alloc, zone, default) {
-        Ok(mut ledger) => serve_over(alloc, connections, &mut ledger),
-        Err(OpenFault::Memory) => Err(ServeFault::Memory),
-        Err(_) => Err(ServeFault::Store),
-    }
-}
-
-/// Serves the connections in turn over a new ledger: a list, or with `sql` tables in memory.
-fn serve_connections(
-    alloc: Global,
-    connections: &[Vec<u8>],
-    default: u32,
-    zone: Zone,
-    sql: bool,
-) -> Result<Answered, ServeFault>
-    requires { IsAmount default }
-    ensures { IfOk result (λ answered. IsReplay zone default (map (λ c. c.items) connections.now)
-        (map (λ s. s.inner.items) answered.written.items) answered.ends.items) }
-{
-    if sql {
-        return serve_tables(alloc, connections, default, zone);
-    }
-    serve_list(alloc, connections, default, zone)
-}
-
-/// Answers the connections of a text over a new ledger, a line of hexadecimal for each.
-fn replay<W: Write>(
-    alloc: Global,
-    text: &[u8],
-    default: u32,
-    zone: Zone,
-    sql: bool,
+    answered: Answered,
     output: &mut W,
 ) -> Result<(), ReplayFault>
-    requires { IsAmount default }
-    ensures { Replays zone default text.now (W.contents output.old) (W.contents output.new) result }
+    ensures { Prints (map (λ s. s.inner.items) answered.written.items) answered.ends.items (W.contents output.old)
+        (W.contents output.new) result }
 {
-    let connections = match read_connections(alloc, text) {
-        Ok(connections) => connections,
-        Err(fault) => return Err(ReplayFault::Text(fault)),
-    };
-    let Answered { written, ends } = match serve_connections(
-        alloc,
-        connections.as_slice(),
-        default,
-        zone,
-        sql,
-    ) {
-        Ok(answered) => answered,
-        Err(fault) => return Err(ReplayFault::Serve(fault)),
-    };
-    if let Err(fault) = write_hex_lines(alloc, output, written) {
+    if let Err(fault) = write_hex_lines(alloc, output, answered.written) {
         return Err(ReplayFault::Output(fault));
     }
     if output.flush().is_err() {
         return Err(ReplayFault::Output(OutputFault::Write));
     }
-    match first_fault(ends.as_slice()) {
+    match first_fault(answered.ends.as_slice()) {
         None => Ok(()),
         Some((number, ending)) => Err(ReplayFault::Connection(number, ending)),
     }
 }
 
-/// Answers the connections of a text over a new ledger, a line of hexadecimal for each, and says
-/// on `errors` why it isn't done.
+/// Answers connections in turn over a ledger, a line of hexadecimal for each.
 ///
-/// `default` is the limit of a login that has none of its own, 0 to 1,000,000 recipients a day. The
-/// ledger is a list, or with `sql` tables in a store in memory.
-/// The result is the exit status: 0, or 1 where the text is refused, a connection doesn't end as
-/// it should, or the output fails.
-pub fn run_replay<W: Write, E: Write>(
+/// What is printed is told of a ledger that has applied nothing.
+pub fn replay_over<L: Ledger, W: Write>(
     alloc: Global,
-    text: &[u8],
-    default: u32,
-    zone: Zone,
-    sql: bool,
+    connections: &[Vec<u8>],
+    ledger: &mut L,
     output: &mut W,
-    errors: &mut E,
-) -> u8
-    requires { IsAmount default }
-    ensures replays { (outcome : AResult (Unit {0}) AReplayFault) × (result ≡ status_of outcome)
-        × Replays zone default text.now (W.contents output.old) (W.contents output.new) outcome }
-    ensures quiet { result ≡ 0 → errors.new ≡ errors.old }
+) -> Result<(), ReplayFault>
+    ensures { L.has_kept ledger.new → L.is_sound ledger.old → (zone : ℤ) (default : ℕ)
+        → L.book ledger.old ≡ empty_book zone default
+        → ReplaysOver zone default (map (λ c. c.items) connections.now) (W.contents output.old)
+        (W.contents output.new) result }
 {
-    match replay(alloc, text, default, zone, sql, output) {
-        Ok(()) => 0,
-        Err(fault) => {
-            let _ = writeln!(errors, "mailquota: {fault}");
-            1
-        }
+    match serve_over(alloc, connections, ledger) {
+        Ok(answered) => print_answers(alloc, answered, output),
+        Err(fault) => Err(ReplayFault::Serve(fault)),
     }
 }

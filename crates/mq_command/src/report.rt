@@ -1,8 +1,9 @@
 //! `report`: prints what logins used on a day.
 ghost use Rattle.std.specs.Prelude.{◌≡◌, IfOk, IfSome, option_map, Ok, Err, Result as AResult};
-ghost use Rattle.mq_frame.specs.Range.{IsDay, IsAfter, IsLogin, IsPage as IsPageInRange};
+ghost use Rattle.mq_frame.specs.Range.{IsDay, IsAfter, IsLogin, IsPage as IsPageInRange, IsReply};
 ghost use Rattle.mq_command.specs.Asking.{status_of};
-ghost use Rattle.mq_command.specs.Report.{AsksPage, AsksUsage, output_fault, Reports, ReportsAll, ReportsOne};
+ghost use Rattle.mq_command.specs.Report.{AnswersList, AnswersUsage, AsksPage, AsksUsage, HasRow, output_fault};
+ghost use Rattle.mq_command.specs.Report.{PrintsRow, Reports, ReportsAll, ReportsOne, TakesPage};
 ghost use Rattle.mq_command.specs.declared.report.ReportFault.{ReportFault as AReportFault};
 ghost use Rattle.mq_command.specs.declared.report.ReportFault.TheVariants.{Memory as AMemory};
 
@@ -78,22 +79,30 @@ fn ask_usage<L: Link>(
         day,
     };
     match ask(alloc, link, &request) {
-        Ok(
-            Reply::Usage {
-                login,
-                settled,
-                reserved,
-                cap,
-                ..
-            },
-        ) => Ok(UsageRow {
+        Ok(reply) => Ok(row_of(reply)),
+        Err(fault) => Err(ReportFault::Unanswered(fault)),
+    }
+}
+
+/// The row of a login, as a reply says it.
+fn row_of(reply: Reply) -> UsageRow
+    requires { AnswersUsage reply }
+    ensures { HasRow reply result }
+{
+    match reply {
+        Reply::Usage {
             login,
             settled,
             reserved,
             cap,
-        }),
-        Ok(_) => unreachable!(),
-        Err(fault) => Err(ReportFault::Unanswered(fault)),
+            ..
+        } => UsageRow {
+            login,
+            settled,
+            reserved,
+            cap,
+        },
+        _ => unreachable!(),
     }
 }
 
@@ -114,19 +123,29 @@ fn ask_page<L: Link>(
         after: after.clone()?,
     };
     match ask(alloc, link, &request) {
-        Ok(
-            Reply::List {
-                day: answered,
-                rows,
-            },
-        ) => {
+        Ok(reply) => rows_of(reply, day, after),
+        Err(fault) => Err(ReportFault::Unanswered(fault)),
+    }
+}
+
+/// The rows of a reply's page, where they are of that day and ascend from behind a login.
+fn rows_of(reply: Reply, day: u32, after: &Login) -> Result<UsageRows, ReportFault>
+    requires answers { AnswersList reply }
+    requires in_range { IsReply reply }
+    ensures page { TakesPage day after.now reply result }
+    ensures in_range { IfOk result IsPageInRange }
+{
+    match reply {
+        Reply::List {
+            day: answered,
+            rows,
+        } => {
             if answered != day || !is_ascending(after.as_slice(), rows.as_slice()) {
                 return Err(ReportFault::BadPage);
             }
             Ok(rows)
         }
-        Ok(_) => unreachable!(),
-        Err(fault) => Err(ReportFault::Unanswered(fault)),
+        _ => unreachable!(),
     }
 }
 
@@ -144,7 +163,14 @@ fn report_one<L: Link, W: Write>(
         (W.contents output.new) result }
 {
     let row = ask_usage(alloc, link, day, login)?;
-    write_row(alloc, output, &row)?;
+    print_row(alloc, output, &row)
+}
+
+/// Prints the line of a row, and flushes the output.
+fn print_row<W: Write>(alloc: Global, output: &mut W, row: &UsageRow) -> Result<(), ReportFault>
+    ensures { PrintsRow row.now (W.contents output.old) (W.contents output.new) result }
+{
+    write_row(alloc, output, row)?;
     if output.flush().is_err() {
         return Err(ReportFault::Write);
     }

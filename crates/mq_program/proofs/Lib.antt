@@ -1,2 +1,3 @@
 pub mod AuditSteps
 pub mod RefusalSteps
+pub mod ReplaySteps

@@ -2,13 +2,14 @@
 use Rattle.std.specs.Prelude.{ℕ, List, ◌≤◌, ◌≤ℤ◌, pos, negsuc, IfSome, ⊤}
 use Rattle.std.specs.Net.Grammar.{IsSocketText}
 use Rattle.std.specs.declared.net.SocketAddr.{SocketAddr}
-use Rattle.mq_frame.specs.Range.{IsHost, IsLogin, IsAmount}
+use Rattle.mq_frame.specs.Range.{IsHost, IsLogin, IsAmount, IsWithin}
 use Rattle.mq_arguments.specs.declared.LimitArguments.{LimitArguments}
 use Rattle.mq_arguments.specs.declared.ReportArguments.{ReportArguments}
 use Rattle.mq_arguments.specs.declared.Arguments.{Arguments}
 use Rattle.mq_arguments.specs.declared.Arguments.TheVariants.{Limit, Report}
 use Rattle.mq_program.specs.declared.fault.ProgramFault.{ProgramFault}
 use Rattle.mq_program.specs.declared.fault.ProgramFault.TheVariants.{Host, Login, Address}
+use Rattle.mq_settings.specs.declared.settings.FilterSettings.{FilterSettings}
 use Rattle.mq_settings.specs.declared.settings.ServerSettings.{ServerSettings}
 
 -- a limit of 0 to 1,000,000 and an offset of -1,439 to 1,439 minutes, from a file of settings
@@ -16,6 +17,11 @@ pub record AreInRange (settings : ServerSettings) : Type 0 where
   pub default : IsAmount settings.default
   pub west : negsuc 1438 ≤ℤ settings.offset
   pub east : settings.offset ≤ℤ pos 1439
+
+-- a host's name and 1 to 10 tries, from a file of settings
+pub record CanAsk (settings : FilterSettings) : Type 0 where
+  pub host : IsHost settings.host
+  pub tries : IsWithin 1 10 settings.tries
 
 -- the text spells no numeric address and port
 abbrev pub IsNoAddress : List ℕ → Type 0

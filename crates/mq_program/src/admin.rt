@@ -128,9 +128,9 @@ fn ask_report<R: Clock + Net + Print + Eprint + AllocGlobal, E: Write>(
     requires day { IsDay day }
     requires login { IfSome login (λ login. IsLogin login.now) }
 {
+    let mut output = BufWriter::new(rt.alloc(), io::writer(rt)).map_err(|_| ProgramFault::Memory)?;
     let logged = Logged::new(rt, LevelFilter::Error, Console(rt));
     let link = TcpLink::new(rt, address, Duration::from_millis(TIMEOUT));
     let mut link = LoggedLink::new(link, &logged, TRIES);
-    let mut output = BufWriter::new(rt.alloc(), io::writer(rt)).map_err(|_| ProgramFault::Memory)?;
     Ok(run_report(rt.alloc(), &mut link, day, login, &mut output, errors))
 }

@@ -7,6 +7,7 @@ ghost use Rattle.mq_command.specs.Output.{AppendsFront};
 ghost use Rattle.mq_store.specs.Auditing.{IsAuditIn, IsRightAnswer};
 ghost use Rattle.mq_store.specs.Soundness.{HasKept, IsSound};
 ghost use Rattle.mq_program.specs.Auditing.{Audits, PrintsSound, sound_line};
+ghost use Rattle.mq_program.specs.Refusals.{AreInRange};
 
 use crate::fault::ProgramFault;
 use crate::server::server_settings;
@@ -16,7 +17,7 @@ use log::sink::Console;
 use mq_arguments::AuditArguments;
 use mq_command::write_whole;
 use mq_ledger::Zone;
-use mq_settings::Place;
+use mq_settings::{Place, ServerSettings};
 use mq_store::{Audit, OpenFault, SqlLedger};
 use sqlite::{Alter, Connection};
 use std::alloc::{AllocError, Global};
@@ -34,6 +35,19 @@ pub fn audit<W: Write>(
     ensures printed { IfOk result (λ _. PrintsSound (W.contents output.old) (W.contents output.new)) }
 {
     let settings = server_settings(rt, given.config)?;
+    audit_file(rt, &settings, output)
+}
+
+/// Audits the ledger in the file of these settings.
+fn audit_file<W: Write>(
+    rt: &HostRuntime,
+    settings: &ServerSettings,
+    output: &mut W,
+) -> Result<u8, ProgramFault>
+    requires { AreInRange settings.now }
+    ensures status { IfOk result (λ status. status ≡ 0) }
+    ensures printed { IfOk result (λ _. PrintsSound (W.contents output.old) (W.contents output.new)) }
+{
     let path = match &settings.store {
         Place::Memory => return Err(ProgramFault::MemoryStore),
         Place::File(path) => path.as_str(),

@@ -1,20 +1,36 @@
 //! `filter`: answers smtpd on standard input and output.
-ghost use Rattle.std.specs.Prelude.{IfSome};
+ghost use Rattle.std.specs.Prelude.{IfOk, IfSome};
 ghost use Rattle.mq_frame.specs.Range.{IsRun};
+ghost use Rattle.mq_program.specs.Refusals.{CanAsk};
 
 use crate::clock::run_number;
 use crate::fault::{ProgramFault, logged_of};
 use log::sink::Console;
-use log::{Logged, error};
+use log::{Log, Logged, error};
 use mq_arguments::FilterArguments;
-use mq_client::{Client, run_filter};
+use mq_client::{Client, Link, run_filter};
 use mq_frame::{FromRead, ToWrite};
-use mq_settings::{read_file, read_filter_settings};
+use mq_settings::{FilterSettings, read_file, read_filter_settings};
 use mq_tcp::{LoggedLink, TcpLink};
 use std::io;
 use std::net::Net;
 use std::rt::{Clock, Files};
 use std::time::Duration;
+
+/// The filter's settings in a file. Why they can't be used is logged.
+fn filter_settings<R: Files + Eprint + AllocGlobal>(
+    rt: &R,
+    file: &str,
+) -> Result<FilterSettings, ProgramFault>
+    ensures { IfOk result CanAsk }
+{
+    let text = read_file(rt, file).map_err(|fault| logged_of(rt, file, ProgramFault::File(fault)))?;
+    read_filter_settings(rt.alloc(), text.as_slice()).map_err(|fault| logged_of(
+        rt,
+        file,
+        ProgramFault::Settings(fault),
+    ))
+}
 
 /// Runs the filter until its input ends: the settings first, then the clock.
 pub fn filter<R: Files + Clock + Net + Input + Print + Eprint + AllocGlobal>(
@@ -23,35 +39,44 @@ pub fn filter<R: Files + Clock + Net + Input + Print + Eprint + AllocGlobal>(
 ) -> Result<u8, ProgramFault>
     requires { IfSome given.run IsRun }
 {
-    let file = given.config;
-    let text = read_file(rt, file).map_err(|fault| logged_of(rt, file, ProgramFault::File(fault)))?;
-    let settings = read_filter_settings(rt.alloc(), text.as_slice()).map_err(|fault| logged_of(
-        rt,
-        file,
-        ProgramFault::Settings(fault),
-    ))?;
+    let settings = filter_settings(rt, given.config)?;
     let run = run_number(rt, given.run)?;
-    let logged = Logged::new(rt, settings.log, Console(rt));
-    let timeout = Duration::from_millis(u64::from(settings.timeout));
-    let link = TcpLink::new(rt, settings.server, timeout);
-    let mut link = LoggedLink::new(link, &logged, settings.tries);
+    run_client(rt, &settings, run)
+}
+
+/// Runs the filter as the client of this run.
+fn run_client<R: Clock + Net + Input + Print + Eprint + AllocGlobal>(
+    rt: &R,
+    settings: &FilterSettings,
+    run: u64,
+) -> Result<u8, ProgramFault>
+    requires settings { CanAsk settings.now }
+    requires run { IsRun run }
+{
     let mut client = match Client::new(rt.alloc(), &settings.host, run, settings.tries) {
         Ok(client) => client,
         Err(_) => return Err(ProgramFault::Memory),
     };
+    let logged = Logged::new(rt, settings.log, Console(rt));
+    let timeout = Duration::from_millis(u64::from(settings.timeout));
+    let link = TcpLink::new(rt, settings.server, timeout);
+    let mut link = LoggedLink::new(link, &logged, settings.tries);
+    answer_lines(rt, &logged, &mut link, &mut client)
+}
+
+/// Answers the lines on standard input. Why that ends before their end is logged.
+fn answer_lines<R: Input + Print + AllocGlobal, G: Log, K: Link>(
+    rt: &R,
+    log: &G,
+    link: &mut K,
+    client: &mut Client,
+) -> Result<u8, ProgramFault> {
     let mut input = FromRead::new(rt.reader());
     let mut output = ToWrite::new(io::writer(rt));
-    match run_filter(
-        &logged,
-        rt.alloc(),
-        &mut input,
-        &mut output,
-        &mut link,
-        &mut client,
-    ) {
+    match run_filter(log, rt.alloc(), &mut input, &mut output, link, client) {
         Ok(_) => Ok(0),
         Err(fault) => {
-            error!(logged; "the filter ends: {fault}");
+            error!(log; "the filter ends: {fault}");
             Err(ProgramFault::Filter(fault))
         }
     }

@@ -15,5 +15,6 @@ pub use admin::{limit, report};
 pub use auditing::{audit, audit_ledger};
 pub use clock::run_number;
 pub use fault::{ProgramFault, or_memory};
+pub use replay::run_replay;
 pub use server::listen;
 pub use subcommand::{refuse, run_subcommand};

@@ -1,12 +1,122 @@
 //! `replay`: answers frames from standard input over a new ledger.
+ghost use Rattle.std.specs.Prelude.{◌≡◌, Result as AResult, map};
 ghost use Rattle.mq_arguments.specs.Arguments.{IsReplayArguments};
+ghost use Rattle.mq_frame.specs.Range.{IsAmount};
+ghost use Rattle.mq_command.specs.Replay.{Replays, ReplaysOver, status_of};
+ghost use Rattle.mq_command.specs.declared.replay.ReplayFault.{ReplayFault as AReplayFault};
 
 use crate::fault::{ProgramFault, or_memory};
 use mq_arguments::ReplayArguments;
-use mq_command::{TEXT_LIMIT, run_replay};
-use mq_ledger::Zone;
+use mq_command::{ReplayFault, TEXT_LIMIT, read_connections, replay_over};
+use mq_ledger::{PlainLedger, Zone};
+use mq_server::ServeFault;
+use mq_store::{OpenFault, SqlLedger};
+use std::alloc::Global;
 use std::io;
 use std::io::{BufWriter, Read, Write};
+
+/// Answers connections over a new list.
+fn replay_over_list<W: Write>(
+    alloc: Global,
+    connections: &[Vec<u8>],
+    default: u32,
+    zone: Zone,
+    output: &mut W,
+) -> Result<(), ReplayFault>
+    requires { IsAmount default }
+    ensures { ReplaysOver zone default (map (λ c. c.items) connections.now) (W.contents output.old)
+        (W.contents output.new) result }
+{
+    let mut ledger = PlainLedger::new(alloc, zone, default);
+    replay_over(alloc, connections, &mut ledger, output)
+}
+
+/// Answers connections over new tables in a store in memory.
+fn replay_over_tables<W: Write>(
+    alloc: Global,
+    connections: &[Vec<u8>],
+    default: u32,
+    zone: Zone,
+    output: &mut W,
+) -> Result<(), ReplayFault>
+    requires { IsAmount default }
+    ensures { ReplaysOver zone default (map (λ c. c.items) connections.now) (W.contents output.old)
+        (W.contents output.new) result }
+{
+    match SqlLedger::in_memory(alloc, zone, default) {
+        Ok(mut ledger) => replay_over(alloc, connections, &mut ledger, output),
+        Err(OpenFault::Memory) => Err(ReplayFault::Serve(ServeFault::Memory)),
+        Err(_) => Err(ReplayFault::Serve(ServeFault::Store)),
+    }
+}
+
+/// Answers connections over a new ledger: a list, or with `sql` tables in memory.
+fn replay_over_new<W: Write>(
+    alloc: Global,
+    connections: &[Vec<u8>],
+    default: u32,
+    zone: Zone,
+    sql: bool,
+    output: &mut W,
+) -> Result<(), ReplayFault>
+    requires { IsAmount default }
+    ensures { ReplaysOver zone default (map (λ c. c.items) connections.now) (W.contents output.old)
+        (W.contents output.new) result }
+{
+    if sql {
+        return replay_over_tables(alloc, connections, default, zone, output);
+    }
+    replay_over_list(alloc, connections, default, zone, output)
+}
+
+/// Answers the connections of a text over a new ledger, which is made once the text is read.
+fn replay_text<W: Write>(
+    alloc: Global,
+    text: &[u8],
+    default: u32,
+    zone: Zone,
+    sql: bool,
+    output: &mut W,
+) -> Result<(), ReplayFault>
+    requires { IsAmount default }
+    ensures { Replays zone default text.now (W.contents output.old) (W.contents output.new) result }
+{
+    let connections = match read_connections(alloc, text) {
+        Ok(connections) => connections,
+        Err(fault) => return Err(ReplayFault::Text(fault)),
+    };
+    replay_over_new(alloc, connections.as_slice(), default, zone, sql, output)
+}
+
+/// Answers the connections of a text over a new ledger, a line of hexadecimal for each, and says
+/// on `errors` why it isn't done.
+///
+/// `default` is the limit of a login that has none of its own, 0 to 1,000,000 recipients a day. The
+/// ledger is a list, or with `sql` tables in a store in memory.
+/// The result is the exit status: 0, or 1 where the text is refused, a connection doesn't end as
+/// it should, or the output fails.
+pub fn run_replay<W: Write, E: Write>(
+    alloc: Global,
+    text: &[u8],
+    default: u32,
+    zone: Zone,
+    sql: bool,
+    output: &mut W,
+    errors: &mut E,
+) -> u8
+    requires { IsAmount default }
+    ensures replays { (outcome : AResult (Unit {0}) AReplayFault) × (result ≡ status_of outcome)
+        × Replays zone default text.now (W.contents output.old) (W.contents output.new) outcome }
+    ensures quiet { result ≡ 0 → errors.new ≡ errors.old }
+{
+    match replay_text(alloc, text, default, zone, sql, output) {
+        Ok(()) => 0,
+        Err(fault) => {
+            let _ = writeln!(errors, "mailquota: {fault}");
+            1
+        }
+    }
+}
 
 /// `replay`: from standard input to standard output.
 pub fn replay<R: Input + Print + AllocGlobal, E: Write>(
@@ -16,16 +126,37 @@ pub fn replay<R: Input + Print + AllocGlobal, E: Write>(
 ) -> Result<u8, ProgramFault>
     requires { IsReplayArguments given }
 {
+    let text = read_text(rt)?;
+    print_replay(rt, text.as_slice(), given, errors)
+}
+
+/// The text on standard input, or a front of it that is too large.
+fn read_text<R: Input + AllocGlobal>(rt: &R) -> Result<Vec<u8>, ProgramFault> {
     let mut text = Vec::new(rt.alloc());
-    rt.reader()
+    match rt
+        .reader()
         .take(TEXT_LIMIT as u64 + 1)
         .read_to_end(&mut text)
-        .map_err(|e| or_memory(&e, ProgramFault::Read))?;
+    {
+        Ok(_) => Ok(text),
+        Err(cause) => Err(or_memory(&cause, ProgramFault::Read)),
+    }
+}
+
+/// Answers a text on standard output.
+fn print_replay<R: Print + AllocGlobal, E: Write>(
+    rt: &R,
+    text: &[u8],
+    given: ReplayArguments,
+    errors: &mut E,
+) -> Result<u8, ProgramFault>
+    requires { IsReplayArguments given }
+{
     let zone = Zone::of_offset(given.offset).unwrap();
     let mut output = BufWriter::new(rt.alloc(), io::writer(rt)).map_err(|_| ProgramFault::Memory)?;
     Ok(run_replay(
         rt.alloc(),
-        text.as_slice(),
+        text,
         given.default,
         zone,
         given.sql,

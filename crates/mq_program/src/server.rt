@@ -32,19 +32,40 @@ pub fn server_settings(rt: &HostRuntime, file: &str) -> Result<ServerSettings, P
 /// Serves so many connections: the settings first, then the ledger, then the port.
 pub fn server(rt: &HostRuntime, given: ServerArguments<'_>) -> Result<u8, ProgramFault> {
     let settings = server_settings(rt, given.config)?;
+    serve(rt, &settings, given.create, given.connections)
+}
+
+/// Serves so many connections by these settings.
+fn serve(
+    rt: &HostRuntime,
+    settings: &ServerSettings,
+    create: bool,
+    connections: u32,
+) -> Result<u8, ProgramFault>
+    requires { AreInRange settings.now }
+{
     let logged = Logged::new(rt, settings.log, Console(rt));
-    let count = given.connections;
     match &settings.store {
-        Place::Memory => {
-            let zone = Zone::of_offset(settings.offset).unwrap();
-            let mut ledger = memory_ledger(rt.alloc(), zone, settings.default)?;
-            listen(rt, &logged, rt.alloc(), &settings, &mut ledger, count)
-        }
+        Place::Memory => listen_in_memory(rt, &logged, settings, connections),
         Place::File(path) => {
-            let connection = connect(rt, &logged, path.as_str(), given.create)?;
-            listen_over(rt, &logged, &settings, connection, given.create, count)
+            let connection = connect(rt, &logged, path.as_str(), create)?;
+            listen_over(rt, &logged, settings, connection, create, connections)
         }
     }
+}
+
+/// Serves so many connections over a new ledger in memory.
+fn listen_in_memory<G: Log>(
+    rt: &HostRuntime,
+    log: &G,
+    settings: &ServerSettings,
+    connections: u32,
+) -> Result<u8, ProgramFault>
+    requires { AreInRange settings.now }
+{
+    let zone = Zone::of_offset(settings.offset).unwrap();
+    let mut ledger = memory_ledger(rt.alloc(), zone, settings.default)?;
+    listen(rt, log, rt.alloc(), settings, &mut ledger, connections)
 }
 
 /// Serves so many connections over the ledger in a database; with `create` over a new one. It goes over any store, since a

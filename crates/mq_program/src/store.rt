@@ -55,6 +55,25 @@ fn make_file(rt: &HostRuntime, path: &str) -> io::Result<()> {
     }
 }
 
+/// Looks whether the file is there; where a ledger is made, makes one that isn't.
+fn find_file<G: Log>(
+    rt: &HostRuntime,
+    log: &G,
+    path: &str,
+    create: bool,
+) -> Result<(), ProgramFault> {
+    let is_there = if create {
+        make_file(rt, path)
+    } else {
+        fs::metadata(rt, path).map(|_| ())
+    };
+    match is_there {
+        Ok(()) => Ok(()),
+        Err(cause) if cause.kind() == ErrorKind::OutOfMemory => Err(ProgramFault::Memory),
+        Err(cause) => Err(unopened(log, path, cause)),
+    }
+}
+
 /// A connection to the database file at a path. A file that isn't there is made where a ledger is made, with mode 0600. The
 /// cause of `ProgramFault::Store` is logged.
 pub fn connect<G: Log>(
@@ -63,16 +82,7 @@ pub fn connect<G: Log>(
     path: &str,
     create: bool,
 ) -> Result<Connection<FileStore<File>>, ProgramFault> {
-    let is_there = if create {
-        make_file(rt, path)
-    } else {
-        fs::metadata(rt, path).map(|_| ())
-    };
-    match is_there {
-        Ok(()) => {}
-        Err(cause) if cause.kind() == ErrorKind::OutOfMemory => return Err(ProgramFault::Memory),
-        Err(cause) => return Err(unopened(log, path, cause)),
-    }
+    find_file(rt, log, path, create)?;
     match Connection::open(rt, path) {
         Ok(connection) => Ok(connection),
         Err(Error::SqliteFailure(ErrorCode::OutOfMemory)) => Err(ProgramFault::Memory),

@@ -96,30 +96,41 @@ impl Guest {
         ensures history { L.has_kept ledger.new → L.is_sound ledger.old →
             HasGrown (L.book ledger.old) (L.book ledger.new) }
     {
-        more_deliveries();
+        match self.bytes_due(clock, timeout) {
+            Ok(bytes) => self.answer(clock, alloc, bytes, timeout, ledger),
+            Err(turn) => {
+                more_deliveries();
+                turn
+            }
+        }
+    }
+
+    /// Writes replies that wait and, where none is left, reads what came: how many bytes of what is held are answered
+    /// now, or else what the turn leaves.
+    fn bytes_due(&mut self, clock: &impl Clock, timeout: Duration) -> Result<usize, Turn> {
         match self.write_replies(clock, timeout) {
             Ok(true) => {}
-            Ok(false) => return Turn::Waits,
-            Err(_) => return Turn::Ended(Err(ServeFault::Write)),
+            Ok(false) => return Err(Turn::Waits),
+            Err(_) => return Err(Turn::Ended(Err(ServeFault::Write))),
         }
         if let Some(end) = self.end {
-            return Turn::Ended(end);
+            return Err(Turn::Ended(end));
         }
         let came = match self.read_more(clock, timeout) {
             Ok(count) => Some(count),
             Err(error) if error.kind() == ErrorKind::WouldBlock => None,
-            Err(error) => return Turn::Ended(Err(read_fault(&error))),
+            Err(error) => return Err(Turn::Ended(Err(read_fault(&error)))),
         };
         let portion = portion_of(&self.held, FRAMES.min(ENOUGH - self.answered));
         let bytes = match (portion.bytes, came) {
-            (0, Some(0)) if self.held.is_empty() => return Turn::Ended(Ok(Served::InputEnd)),
+            (0, Some(0)) if self.held.is_empty() => return Err(Turn::Ended(Ok(Served::InputEnd))),
             (0, Some(0)) => self.held.len(),
-            (0, Some(_)) => return Turn::Answered,
-            (0, None) => return Turn::Waits,
+            (0, Some(_)) => return Err(Turn::Answered),
+            (0, None) => return Err(Turn::Waits),
             (bytes, _) => bytes,
         };
         self.answered += portion.frames;
-        self.answer(clock, alloc, bytes, timeout, ledger)
+        Ok(bytes)
     }
 
     /// Answers at most so many bytes of what is held. Where the store failed, nothing more is waited for.

@@ -249,10 +249,7 @@ fn end_of<G: Log>(
     ended: Result<Served, ServeFault>,
 ) -> Result<(), RoomFault> {
     match ended {
-        Ok(Served::InputEnd) => {}
-        Ok(Served::Enough) => warn!(log; "connection of {peer}: enough"),
-        Ok(Served::BadFrame) => warn!(log; "connection of {peer}: bad frame"),
-        Ok(Served::CutFrame) => warn!(log; "connection of {peer}: cut frame"),
+        Ok(served) => warn_of(log, peer, served),
         Err(ServeFault::Store) => {
             error!(log; "connection of {peer}: {}", ServeFault::Store);
             return Err(RoomFault::Store);
@@ -260,4 +257,15 @@ fn end_of<G: Log>(
         Err(fault) => warn!(log; "connection of {peer}: {fault}"),
     }
     Ok(())
+}
+
+/// Warns of a connection that ended before its peer's end, or within a frame.
+fn warn_of<G: Log>(log: &G, peer: &SocketAddr, served: Served) {
+    let how = match served {
+        Served::InputEnd => return,
+        Served::Enough => "enough",
+        Served::BadFrame => "bad frame",
+        Served::CutFrame => "cut frame",
+    };
+    warn!(log; "connection of {peer}: {how}");
 }

@@ -37,14 +37,35 @@ pub fn serve_connections<R: Clock + Net, G: Log, L: Ledger>(
     more_deliveries();
     let mut events = Events::with_capacity(alloc, EVENTS)?;
     let mut room = Room::new(rt, alloc, listener, connections).map_err(|e| no_poll(log, &e))?;
+    serve_room(rt, log, alloc, &mut room, &mut events, timeout, ledger)
+}
+
+/// Serves the connections of a room, round by round, until all were accepted and have ended.
+fn serve_room<C: Clock, G: Log, L: Ledger>(
+    clock: &C,
+    log: &G,
+    alloc: Global,
+    room: &mut Room<'_>,
+    events: &mut Events,
+    timeout: Duration,
+    ledger: &mut L,
+) -> Result<(), RoomFault>
+    ensures same_zone { (L.book ledger.new).zone ≡ (L.book ledger.old).zone }
+    ensures same_default { (L.book ledger.new).default ≡ (L.book ledger.old).default }
+    ensures kept { L.has_kept ledger.new → L.has_kept ledger.old }
+    ensures sound { L.has_kept ledger.new → L.is_sound ledger.old → L.is_sound ledger.new }
+    ensures history { L.has_kept ledger.new → L.is_sound ledger.old →
+        HasGrown (L.book ledger.old) (L.book ledger.new) }
+{
+    more_deliveries();
     for _round in 0..u64::MAX {
-        room.admit(rt, log, timeout)?;
+        room.admit(clock, log, timeout)?;
         // The last connection may just have been given up for want of memory: then nothing more comes.
         if room.is_over() {
             break;
         }
-        let now = room.wait(rt, &mut events).map_err(|e| no_poll(log, &e))?;
-        room.attend(rt, log, alloc, &events, timeout, ledger)?;
+        let now = room.wait(clock, events).map_err(|e| no_poll(log, &e))?;
+        room.attend(clock, log, alloc, events, timeout, ledger)?;
         room.dismiss_late(log, now);
     }
     Ok(())

@@ -1,5 +1,5 @@
 use Rattle.std.proofs.Common.{◌∙◌}
-use Rattle.mq_room.proofs.serving.serve_connections.Goals as goal
+use Rattle.mq_room.proofs.serving.serve_room.Goals as goal
 
 pub returns-in_err-attend-clause-history : goal.returns-in_err-attend-clause-history
 returns-in_err-attend-clause-history g c =

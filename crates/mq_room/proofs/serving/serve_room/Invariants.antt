@@ -1,6 +1,6 @@
 use Rattle.std.proofs.Common.{◌≡◌}
 use Rattle.mq_server.specs.Delivery.{HasGrown}
-use Rattle.mq_room.proofs.serving.serve_connections.Given as goal
+use Rattle.mq_room.proofs.serving.serve_room.Given as goal
 
 -- what each round leaves of the ledger's promises
 abbrev pub invariant-loop-round : goal.invariant-loop-round
