@@ -23,7 +23,7 @@ ROUNDS = 15
 def seconds(asker, words, port, clients, reserves):
     server = subprocess.Popen(words, stdin=subprocess.DEVNULL)
     try:
-        wait_for_listener(port, server)
+        wait_for_listener(server)
         run = subprocess.run([asker, str(port), str(clients), str(reserves)], capture_output=True, check=True, timeout=60)
         server.wait(timeout=60)
         return float(run.stdout)

@@ -98,7 +98,7 @@ def main():
             filled.write(path, logins, lambda place: (b"user%d@example.org" % place, 1))
             server = subprocess.Popen([program, "server", "--config", filled.settings(folder, path, port)])
             try:
-                wait_for_listener(port, server)
+                wait_for_listener(server)
                 measure(program, port, logins)
             finally:
                 server.terminate()

@@ -2,7 +2,8 @@
 """The gate, and the must-fail edits in rounds.
 
 usage: run.py gate [CRATE ..]        rt ci over a copy of the tree without its must-fail edits, then those edits in rounds over the
-                                     libraries that it built, and the test of the rounds. With names: these crates and those below
+                                     libraries that it built, the test of the rounds, and the cases of tests/program over the program
+                                     as each compiler built it. With names: these crates and those below
        run.py must-fail [CRATE ..]   the gate's edits alone, over libraries that `rt lib` builds where they stand
        run.py further [CRATE ..]     the same for the edits of tests/edits/CRATE, which the gate leaves out
 
@@ -32,6 +33,10 @@ from rounds import Killed, Rounds
 
 # rt ci has the crates' proofs and tests to go through: so many seconds at most.
 LONGEST_CI = 170 * 60
+# The cases over the built program mostly wait for what it does: so many seconds at most.
+LONGEST_CASES = 20 * 60
+# How the name of the program ends that each compiler makes.
+BUILDS = ("", ".by-rattle")
 # The most memory that a check takes, in bytes, with room to spare.
 MOST_OF_A_CHECK = 5e9
 SIGNALS = (signal.SIGTERM, signal.SIGINT, signal.SIGHUP)
@@ -200,8 +205,33 @@ def gate(names, sum_):
         own = OwnTest()
         crates = [Crate(tree, it) for it in rows_of(tree) if it not in refused]
         try_edits(crates, lambda it: f"{edits}/{it}", proved, sum_, [Task(own, 0, 1e9, own.run)])
+        # (last, with nothing beside them: they wait for what others do)
+        if "mailquota" in rows_of(tree):
+            run_cases(tree, sum_)
     whole = resource.getrusage(resource.RUSAGE_CHILDREN)
     print("\n".join(minutes.table(sum_.seconds, whole.ru_utime + whole.ru_stime)), flush=True)
+
+
+def run_cases(tree, sum_):
+    """Runs the cases of tests/program over the program as each compiler built it, side by side."""
+    made = {it: f"{tree}/crates/mailquota/out/mailquota{it}" for it in BUILDS}
+    words = lambda it: [sys.executable, f"{tree}/tests/program/run.py", "--gate", it]
+    tasks = [Task(ending, 0, 1e8, lambda it=it: run(words(it), tree, LONGEST_CASES)) for ending, it in made.items()]
+    for ending, ended in in_lanes(tasks):
+        add_cases(f"tests/program over mailquota{ending}", ended.result(), sum_)
+
+
+def add_cases(name, ran, sum_):
+    """Adds what a run of the cases counted, and tells those that failed."""
+    lines = ran.said.rstrip("\n").split("\n")
+    counts = COUNTS.match(lines[-1])
+    passed, failed = map(int, counts.groups()) if counts else (0, 0)
+    sum_.passed += passed
+    sum_.seconds["tests/program", "test"] += ran.seconds
+    print(f"== {name}: {passed} passed, {failed} failed, {ran.seconds:.0f} s", flush=True)
+    if ran.status or failed or not passed:
+        print("\n".join(it for it in lines if it.startswith("NOT ")) or "\n".join(lines[-SAID:]), flush=True)
+        sum_.fail(name, f"it ended with status {ran.status} and {failed} failed", max(failed, 1))
 
 
 def alone(names, place_of, sum_):

@@ -1,40 +1,104 @@
 """Both ends of the link: the program's processes, and a server that answers by a script."""
+import contextlib
+import itertools
+import os
 import select
 import socket
 import struct
 import subprocess
+import sys
 import threading
 import time
 
-SECONDS = 60
+# Enough for whatever is to come, also on a machine that has much else to do.
+SECONDS = 150
+# Milliseconds of the same, where a timeout is a setting.
+LONG = 60_000
+# Runs a program under a limit of the system: its name, its number, and the words. A write beyond a file's size then fails.
+LIMITED = """import os, resource, signal, sys
+signal.signal(signal.SIGXFSZ, signal.SIG_IGN)
+resource.setrlimit(getattr(resource, sys.argv[1]), (int(sys.argv[2]), int(sys.argv[2])))
+os.execv(sys.argv[3], sys.argv[3:])"""
 
 
 def free_port():
+    """A port that was free just now; another process may take it before long, so a server had better choose its own (0)."""
     with socket.socket() as probe:
         probe.bind(("127.0.0.1", 0))
         return probe.getsockname()[1]
 
 
-def wait_for_listener(port, process):
-    """Waits until a process listens at the port, without a connection, which would be counted."""
-    wanted = f":{port:04X} "
-    for _ in range(SECONDS * 100):
-        for table in ("/proc/net/tcp", "/proc/net/tcp6"):
-            with open(table) as lines:
-                if any(wanted in line[:90] and line.split()[1].endswith(wanted.strip()) and line.split()[3] == "0A" for line in lines):
-                    return
-        if process.poll() is not None:
-            return
-        time.sleep(0.01)
+@contextlib.contextmanager
+def nobody_there():
+    """An address at which nobody listens, nor can anybody else begin to."""
+    with socket.socket() as held:
+        held.bind(("127.0.0.1", 0))
+        yield f"127.0.0.1:{held.getsockname()[1]}"
+
+
+def loopback_of_6():
+    """The loopback of IPv6, or that of IPv4 where a machine has no other."""
+    try:
+        with socket.create_server(("::1", 0), family=socket.AF_INET6):
+            return "::1"
+    except OSError:
+        return "127.0.0.1"
+
+
+def sockets_of(process):
+    """The system's numbers of the sockets that a process has open."""
+    folder, found = f"/proc/{process.pid}/fd", set()
+    with contextlib.suppress(OSError):
+        for name in os.listdir(folder):
+            with contextlib.suppress(OSError):
+                found.add(os.readlink(f"{folder}/{name}").removeprefix("socket:[").removesuffix("]"))
+    return found
+
+
+def listening_port(process):
+    """The port at which a process listens; 0 where it doesn't."""
+    own = sockets_of(process)
+    for table in ("tcp", "tcp6"):
+        with open(f"/proc/net/{table}", encoding="ascii") as lines:
+            next(lines)
+            for _, local, _, state, *_, number in (line.split()[:10] for line in lines):
+                # (those that listen stand first)
+                if state != "0A":
+                    break
+                if number in own:
+                    return int(local.rpartition(":")[2], 16)
+    return 0
+
+
+def wait_for_listener(process):
+    """Waits until a process listens, without a connection, which would be counted; gives the port, and 0 where it ended before."""
+    found = []
+    wait_until(lambda: found.append(listening_port(process)) or found[-1] or process.poll() is not None)
+    return found[-1]
 
 
 def wait_until(holds):
     """Waits until this holds; tells whether it does."""
-    for _ in range(SECONDS * 50):
-        if holds():
-            return True
-        time.sleep(0.02)
-    return False
+    end = time.monotonic() + SECONDS
+    while not holds():
+        if time.monotonic() > end:
+            return False
+        time.sleep(0.005)
+    return True
+
+
+def soon(what, enough):
+    """What one of several goes brings, and how long it took: the first that takes less than so many seconds, or the tenth.
+
+    A machine that has much else to do may hold one up, and hardly ten.
+    """
+    for _ in range(10):
+        start = time.monotonic()
+        came = what()
+        took = time.monotonic() - start
+        if took < enough:
+            break
+    return came, took
 
 
 def apart(errors):
@@ -51,19 +115,37 @@ def toml(settings):
     return "".join(f"{key} = {spelled(value)}\n" for key, value in settings.items())
 
 
+def is_stopped(process):
+    """Whether the system has stopped a process."""
+    with open(f"/proc/{process.pid}/stat", encoding="ascii") as stat:
+        return stat.read().rpartition(") ")[2][0] == "T"
+
+
 class Server:
-    """The real server in a process of its own."""
+    """The real server in a process of its own, at a port that the system chooses."""
 
     def __init__(self, world, connections=1_000_000, host="127.0.0.1", words=(), **settings):
-        self.port = free_port()
-        self.host = host
-        shown = f"[{host}]" if ":" in host else host
-        self.address = f"{shown}:{self.port}"
-        whole = {"listen": self.address, "store": "memory", "default": 3, "offset": 0, "timeout": 400, **settings}
+        listen = f"[{host}]:0" if ":" in host else f"{host}:0"
+        whole = {"listen": listen, "store": "memory", "default": 3, "offset": 0, "timeout": LONG, **settings}
+        words = ["--config", world.new_file(toml(whole)), "--connections", str(connections), *words]
+        self.begin(world, words, listen=listen)
+
+    @classmethod
+    def of_words(cls, world, *words, folder):
+        """One that is started in a folder by these words alone, and listens at 127.0.0.1."""
+        server = cls.__new__(cls)
+        server.begin(world, words, folder=folder)
+        return server
+
+    def begin(self, world, words, listen="127.0.0.1:0", folder=None):
+        self.listen = listen
         self.log = open(world.new_file(""), "w+b")
-        words = ["server", "--config", world.new_file(toml(whole)), "--connections", str(connections), *words]
-        self.process = subprocess.Popen([world.program, *words], stderr=self.log, stdin=subprocess.DEVNULL, stdout=self.log)
-        wait_for_listener(self.port, self.process)
+        self.process = subprocess.Popen(
+            [world.program, "server", *words], stdin=subprocess.DEVNULL, stdout=self.log, stderr=self.log, cwd=folder
+        )
+        self.port = wait_for_listener(self.process)
+        self.host = listen.rpartition(":")[0].strip("[]")
+        self.address = f"{listen.removesuffix('0')}{self.port}"
 
     def __enter__(self):
         return self
@@ -134,17 +216,17 @@ class Script:
     """A server that answers its connections by a list: bytes, SILENCE until the peer gives up, DRIP, a byte now and
     then for as long, or RESET.
 
-    A function in the list is given what came and makes the bytes. After the list nobody listens.
+    A function in the list is given what came and makes one of these. After the list nobody listens.
     """
 
-    def __init__(self, answers):
+    def __init__(self, answers, host="127.0.0.1"):
         self.answers = list(answers)
         self.heard = []
         self.silent = []
         self.over = False
-        self.listener = socket.create_server(("127.0.0.1", 0), backlog=128)
+        self.listener = socket.create_server((host, 0), backlog=128, family=socket.AF_INET6 if ":" in host else socket.AF_INET)
         self.port = self.listener.getsockname()[1]
-        self.address = f"127.0.0.1:{self.port}"
+        self.address = f"[{host}]:{self.port}" if ":" in host else f"{host}:{self.port}"
         self.thread = threading.Thread(target=self.serve, daemon=True)
 
     def __enter__(self):
@@ -165,6 +247,8 @@ class Script:
                 return
             peer.settimeout(SECONDS)
             self.heard.append(read_all(peer))
+            if callable(answer):
+                answer = answer(self.heard[-1])
             if answer is SILENCE:
                 self.silent.append(peer)
             elif answer is DRIP:
@@ -172,15 +256,17 @@ class Script:
             elif answer is RESET:
                 reset(peer)
             else:
-                self.give(peer, answer(self.heard[-1]) if callable(answer) else answer)
+                self.give(peer, answer)
         self.listener.close()
 
     def next_peer(self):
-        """The next connection, or None once the case is over."""
-        while not self.over:
+        """The next connection, or None once the case is over and all that came before were heard."""
+        while True:
+            is_over = self.over
             if select.select([self.listener], [], [], 0.05)[0]:
                 return self.listener.accept()[0]
-        return None
+            if is_over:
+                return None
 
     def drip(self, peer):
         """A reply of 65,535 bytes, one each tenth of a second."""
@@ -209,24 +295,34 @@ class World:
     def __init__(self, program, folder):
         self.program = program
         self.folder = folder
-        self.files = 0
+        self.numbers = itertools.count(1)
 
     def new_file(self, content):
-        self.files += 1
-        path = f"{self.folder}/{self.files}.toml"
+        path = f"{self.folder}/{next(self.numbers)}.toml"
         with open(path, "wb") as file:
             file.write(content if isinstance(content, bytes) else content.encode())
         return path
 
-    def run(self, *words, text=b"", output=None):
-        """Runs the program; gives its status, its output and its errors as text."""
+    def run(self, *words, text=b"", output=None, folder=None, limit=()):
+        """Runs the program, in this folder where one is given, under this limit where one is; gives its status, its output and
+        its errors as text."""
+        before = [sys.executable, "-I", "-S", "-c", LIMITED, *map(str, limit)] if limit else []
         run = subprocess.run(
-            [self.program, *words], input=text, stdout=output or subprocess.PIPE, stderr=subprocess.PIPE, timeout=SECONDS * 2
+            [*before, self.program, *words], input=text, stdout=output or subprocess.PIPE, stderr=subprocess.PIPE, timeout=SECONDS * 2,
+            cwd=folder,
         )
         return run.returncode, run.stdout or b"", run.stderr.decode(errors="replace")
 
+    def run_with_room(self, room, *words, text=b""):
+        """Runs the program over an output that takes so many bytes; gives its status, what the output took, and its errors."""
+        path = self.new_file("")
+        with open(path, "r+b") as output:
+            status, _, errors = self.run(*words, text=text, output=output, limit=("RLIMIT_FSIZE", room))
+            output.seek(0)
+            return status, output.read(), errors
+
     def filter_file(self, address, **settings):
-        return self.new_file(toml({"host": "mx1", "server": address, "tries": 3, "timeout": 1000, **settings}))
+        return self.new_file(toml({"host": "mx1", "server": address, "tries": 3, "timeout": LONG, **settings}))
 
     def filter(self, address, text, **settings):
         return self.run("filter", "--config", self.filter_file(address, **settings), "--run", "1", text=text)

@@ -2,39 +2,100 @@
 """Runs the program as an administrator, smtpd and a peer would, over loopback, and tells what was expected and what came.
 
 usage: run.py PROGRAM [WORD..]     with words: the groups of cases whose names have one of them
+       run.py --gate PROGRAM       the groups that the gate runs
+
+Groups run side by side, each in a process of its own. The last line is 'N passed, M failed', and the status 1 where any failed.
 """
 import importlib
 import os
+import re
 import signal
+import subprocess
 import sys
 import tempfile
+import time
+import traceback
+from concurrent.futures import ThreadPoolExecutor
+
+sys.dont_write_bytecode = True
 
 from checks import Checks
 from ends import World
 
-GROUPS = [
-    "words", "filter_settings", "server_settings", "peers", "filters", "recordings", "asking", "two_hosts", "signals",
-    "stores", "audits", "kills", "failures",
+# (those that take longest stand first)
+GATE_GROUPS = [
+    "asking", "filters", "questions", "peers", "filter_settings", "server_settings", "replays", "audits", "words", "links",
+    "stores", "refusals", "recordings", "two_hosts", "signals",
 ]
+# what these do to a server, its files and the machine takes longer, and some of it wants root
+OTHER_GROUPS = ["full_pages", "crowds", "kills", "failures"]
 # these run only where they are named
 LONG_GROUPS = ["many_pages"]
+# So many groups at once: they mostly wait.
+AT_ONCE = 4
+COUNTS = re.compile(r"(\d+) passed, (\d+) failed\n\Z")
 
 
 def main():
-    program, wanted = os.path.abspath(sys.argv[1]), sys.argv[2:]
     # (what runs in the background may ignore these, and the program would inherit it; one that is caught it doesn't)
-    for it in (signal.SIGINT, signal.SIGHUP):
+    for it in (signal.SIGINT, signal.SIGHUP, signal.SIGTERM):
         signal.signal(it, lambda number, _: sys.exit(128 + number))
-    checks = Checks()
+    words = sys.argv[1:]
+    if words[0] == "--group":
+        return run_group(words[1], words[2])
+    if words[0] == "--gate":
+        return run_groups(words[1], GATE_GROUPS)
+    return run_groups(words[0], groups_of(words[1:]))
+
+
+def groups_of(words):
+    if not words:
+        return GATE_GROUPS + OTHER_GROUPS
+    return [group for group in GATE_GROUPS + OTHER_GROUPS + LONG_GROUPS if any(word in group for word in words)]
+
+
+def run_groups(program, groups):
+    """Runs these groups, each as it is ready, and tells of them in this order."""
+    passed, failed, running = 0, 0, []
+    pool = ThreadPoolExecutor(AT_ONCE)
+    try:
+        for told in pool.map(lambda group: told_by(group, program, running), groups):
+            counts = COUNTS.search(told)
+            print(told[:counts.start()] if counts else f"{told}NOT a group: it didn't come to its end\n", end="", flush=True)
+            passed += int(counts[1]) if counts else 0
+            failed += int(counts[2]) if counts else 1
+    finally:
+        pool.shutdown(wait=False, cancel_futures=True)
+        for process in running:
+            process.terminate()
+    print(f"{passed} passed, {failed} failed")
+    return 1 if failed or not passed else 0
+
+
+def told_by(group, program, running):
+    """What a group prints that runs in a process of its own."""
+    words = [sys.executable, os.path.abspath(__file__), "--group", group, program]
+    with subprocess.Popen(words, stdin=subprocess.DEVNULL, stdout=subprocess.PIPE, stderr=subprocess.STDOUT) as process:
+        running.append(process)
+        told = process.communicate()[0].decode(errors="replace")
+    return told
+
+
+def run_group(group, program):
+    """Runs the cases of a group. The program is called by its name, which it shows in its help."""
+    print(f"-- {group}", flush=True)
+    checks, start = Checks(), time.monotonic()
     with tempfile.TemporaryDirectory() as folder:
-        for group in GROUPS + LONG_GROUPS:
-            if not (any(word in group for word in wanted) if wanted else group in GROUPS):
-                continue
-            print(f"-- {group}", flush=True)
-            importlib.import_module(f"cases.{group}").run(World(program, folder), checks)
-    print(f"{checks.passed} passed, {checks.failed} failed")
-    sys.exit(1 if checks.failed or not checks.passed else 0)
+        os.symlink(os.path.abspath(program), f"{folder}/mailquota")
+        try:
+            importlib.import_module(f"cases.{group}").run(World(f"{folder}/mailquota", folder), checks)
+        except Exception:
+            checks.tell(f"{group}: it comes to its end", False, "no exception", traceback.format_exc())
+            traceback.print_exc()
+    print(f"-- {group}: {time.monotonic() - start:.1f} s")
+    print(f"{checks.passed} passed, {checks.failed} failed", flush=True)
+    return 1 if checks.failed or not checks.passed else 0
 
 
 if __name__ == "__main__":
-    main()
+    sys.exit(main())

@@ -1,14 +1,32 @@
-//! Requests and replies by the hexadecimal digits of their bodies, new ledgers, and ledgers that are asked.
+//! Requests and replies by the hexadecimal digits of their bodies, new ledgers, ledgers that are asked, and
+//! what is told of what they answer.
 
 use mq_frame::{Reply, Request, decode_request, encode_reply, is_reply, is_request};
 use mq_ledger::{Ledger, LedgerFault, PlainLedger, Zone};
 use mq_store::SqlLedger;
 use sqlite::MemStore;
 use std::alloc::Global;
+use std::fmt::Debug;
 use std::test::*;
 
 /// Requests with their replies, in turn.
 pub type Asked = &'static [(&'static str, &'static str)];
+
+/// Whether something came out as it says, or else why not.
+pub type Verdict = Result<(), &'static str>;
+
+/// It goes on where this is so.
+pub fn wanted(holds: bool, why: &'static str) -> Verdict {
+    if holds { Ok(()) } else { Err(why) }
+}
+
+/// A failure tells the case and what came out otherwise.
+pub fn told<N: Debug + Drop>(alloc: Global, name: N, verdict: Verdict) -> Result<(), Fail> {
+    match verdict {
+        Ok(()) => Ok(()),
+        Err(why) => Err(Fail::new(format!(in alloc; "{name:?}: {why}")?)),
+    }
+}
 
 /// The bytes of hexadecimal digits. Spaces are passed over.
 pub fn bytes_of(alloc: Global, text: &str) -> Option<Vec<u8>> {
@@ -35,26 +53,35 @@ pub fn ask<L: Ledger>(ledger: &mut L, request: &Request) -> Result<Reply, Ledger
     ledger.apply(request)
 }
 
+/// Puts the frame of a reply in range behind the bytes, if there is memory.
+fn put_frame(alloc: Global, reply: &Reply, bytes: &mut Vec<u8>) -> bool {
+    is_reply(reply) && encode_reply(alloc, reply, bytes).is_ok()
+}
+
 /// The body of a reply.
 fn body_of(alloc: Global, reply: &Reply) -> Option<Vec<u8>> {
     let mut frame = Vec::new(alloc);
-    if !is_reply(reply) {
-        return None;
+    if put_frame(alloc, reply, &mut frame) {
+        Vec::from_slice(alloc, frame.get(2..).unwrap_or(&[])).ok()
+    } else {
+        None
     }
-    encode_reply(alloc, reply, &mut frame).ok()?;
-    Vec::from_slice(alloc, frame.get(2..)?).ok()
 }
 
 /// The body of a ledger's reply to a request; none where there is a fault.
 fn reply_to<L: Ledger>(alloc: Global, ledger: &mut L, request: &Request) -> Option<Vec<u8>> {
-    let reply = ask(ledger, request).ok()?;
-    body_of(alloc, &reply)
+    match ask(ledger, request) {
+        Ok(reply) => body_of(alloc, &reply),
+        Err(_) => None,
+    }
 }
 
 /// The body of a ledger's reply to a request of this body; none where there is a fault.
 pub fn deliver<L: Ledger>(alloc: Global, ledger: &mut L, body: &[u8]) -> Option<Vec<u8>> {
-    let request = decode_request(alloc, body).ok()?;
-    reply_to(alloc, ledger, &request)
+    match decode_request(alloc, body) {
+        Ok(request) => reply_to(alloc, ledger, &request),
+        Err(_) => None,
+    }
 }
 
 /// The request of these digits.
@@ -99,9 +126,6 @@ pub fn plain(alloc: Global, default: u32) -> PlainLedger {
 }
 
 /// A new ledger of offset 0 in tables in memory. A default is at most 1,000,000.
-pub fn tables(alloc: Global, default: u32) -> Result<SqlLedger<MemStore>, Fail> {
-    match SqlLedger::in_memory(alloc, zone(0), default.min(1_000_000)) {
-        Ok(ledger) => Ok(ledger),
-        Err(_) => Err("no tables".into()),
-    }
+pub fn tables(alloc: Global, default: u32) -> Result<SqlLedger<MemStore>, &'static str> {
+    SqlLedger::in_memory(alloc, zone(0), default.min(1_000_000)).or(Err("no tables"))
 }

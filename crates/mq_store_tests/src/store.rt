@@ -6,6 +6,7 @@ mod steps;
 mod stops;
 mod worked;
 
+use crate::asks::{Verdict, told, wanted};
 use mq_frame::Login;
 use mq_store::OpenFault;
 use std::alloc::Global;
@@ -175,19 +176,19 @@ fn rows_of_no_history(rt: HostRuntime) -> Result<(), Fail> {
 }
 
 /// A fault of that kind.
-fn fault_of(alloc: Global, kind: Outcome) -> Result<OpenFault, Fail> {
-    Ok(match kind {
-        Outcome::NotOurs => OpenFault::NotOurs,
-        Outcome::ZoneDiffers => OpenFault::ZoneDiffers,
-        Outcome::DefaultDiffers => OpenFault::DefaultDiffers,
-        Outcome::Damaged(login, day) => OpenFault::Damaged {
-            login: Login::from_slice(alloc, login.as_bytes())?,
-            day,
-        },
-        Outcome::Memory => OpenFault::Memory,
-        Outcome::Store => OpenFault::Store,
-        Outcome::Ready => return Err("no fault".into()),
-    })
+fn fault_of(alloc: Global, kind: &Outcome) -> Option<OpenFault> {
+    match kind {
+        Outcome::NotOurs => Some(OpenFault::NotOurs),
+        Outcome::ZoneDiffers => Some(OpenFault::ZoneDiffers),
+        Outcome::DefaultDiffers => Some(OpenFault::DefaultDiffers),
+        Outcome::Damaged(login, day) => Some(OpenFault::Damaged {
+            login: Login::from_slice(alloc, login.as_bytes()).ok()?,
+            day: *day,
+        }),
+        Outcome::Memory => Some(OpenFault::Memory),
+        Outcome::Store => Some(OpenFault::Store),
+        Outcome::Ready => None,
+    }
 }
 
 /// The printed texts.
@@ -204,15 +205,26 @@ const TEXTS: &[(Outcome, &str)] = &[
     (Outcome::Store, "store failed"),
 ];
 
-/// The text of a fault of that kind.
-fn text_of(alloc: Global, kind: Outcome) -> Result<String, Fail> {
-    Ok(fault_of(alloc, kind)?.to_string(alloc)?)
+/// The text of a fault.
+fn text_of(alloc: Global, fault: &OpenFault) -> Option<String> {
+    fault.to_string(alloc).ok()
+}
+
+/// Checks the text of a fault of that kind.
+fn check_text(alloc: Global, kind: &Outcome, text: &str) -> Verdict {
+    let Some(fault) = fault_of(alloc, kind) else {
+        return Err("no fault");
+    };
+    match text_of(alloc, &fault) {
+        Some(found) => wanted(found.as_str() == text, "another text"),
+        None => Err("no text"),
+    }
 }
 
 #[test]
 fn texts(rt: HostRuntime) -> Result<(), Fail> {
     for (kind, text) in TEXTS {
-        assert_eq!(rt; text_of(rt.alloc(), *kind)?.as_str(), *text);
+        told(rt.alloc(), *text, check_text(rt.alloc(), kind, text))?;
     }
     Ok(())
 }

@@ -1,7 +1,7 @@
 """`limit` and `report`, asked of the real server and of one that answers by a script."""
 import time
 
-from ends import DRIP, RESET, SILENCE, Script, Server, apart, free_port
+from ends import DRIP, RESET, SECONDS, SILENCE, Script, Server, apart, nobody_there
 from wire import BAD, RETRY, frame, full, granted, identity, limit, number, page, page_reply, release, reserve, row, settle, text, usage
 
 ADMIN = {"host": b"admin", "run": 7}
@@ -9,7 +9,6 @@ ADMIN = {"host": b"admin", "run": 7}
 
 def run(world, checks):
     of_the_real_server(world, checks)
-    pages_of_the_real_server(world, checks)
     limit_by_script(world, checks)
     usage_by_script(world, checks)
     pages_by_script(world, checks)
@@ -74,17 +73,6 @@ def of_the_real_server(world, checks):
         checks.equal("logins of any bytes, in byte order", report(world, server.address), (0, lines.encode(), ""))
 
 
-def pages_of_the_real_server(world, checks):
-    with Server(world) as server:
-        for count in (99, 100, 101, 200, 250):
-            logins = [b"u%03d" % n for n in range(count)]
-            day = count
-            asked = b"".join(reserve(1000 * count + n, txn=1000 * count + n, login=login, at=86_400 * day) for n, login in enumerate(logins))
-            server.ask(asked)
-            lines = b"".join(b"      0       1       3 " + login + b"\n" for login in logins)
-            checks.equal(f"report of {count} logins", report(world, server.address, day=day), (0, lines, ""))
-
-
 def limit_by_script(world, checks):
     asked = limit(1, 1, 5, **ADMIN)
     good = frame(b"\x85" + identity(1, **ADMIN))
@@ -110,8 +98,8 @@ def limit_by_script(world, checks):
                 times = 3
             came = without_log(set_limit(world, server.address, cap=5))
         checks.equal(f"limit, {what}", (came, server.heard), (wanted, [asked] * times))
-    address = f"127.0.0.1:{free_port()}"
-    came = set_limit(world, address, cap=5)
+    with nobody_there() as address:
+        came = set_limit(world, address, cap=5)
     checks.equal("limit without a server", without_log(came), unavailable)
     causes(checks, "limit without a server", came, address, "Connection refused (os error 111)")
     for what, script, cause in [
@@ -132,14 +120,14 @@ def limit_by_script(world, checks):
         took = time.monotonic() - start
     checks.equal("limit of a silent server", (without_log(came), server.heard), (unavailable, [asked] * 3))
     causes(checks, "limit of a silent server", came, server.address, "no answer in time")
-    checks.holds("limit of a silent server: three tries of 2,000 ms", 5.9 < took < 8, "6 s", f"{took:.1f} s")
+    checks.holds("limit of a silent server: three tries of 2,000 ms", 5.99 < took < SECONDS, "6 s", f"{took:.1f} s")
     with Script([DRIP] * 3) as server:
         start = time.monotonic()
         came = report(world, server.address)
         took = time.monotonic() - start
     checks.equal("report of a server that drips", without_log(came), unavailable)
     causes(checks, "report of a server that drips", came, server.address, "no answer in time")
-    checks.holds("report of a server that drips: three tries of 2,000 ms", 5.9 < took < 8, "6 s", f"{took:.1f} s")
+    checks.holds("report of a server that drips: three tries of 2,000 ms", 5.99 < took < SECONDS, "6 s", f"{took:.1f} s")
 
 
 def usage_reply(login=b"u", day=1):
@@ -161,7 +149,8 @@ def usage_by_script(world, checks):
         with Script(script) as server:
             came = without_log(report(world, server.address, login="u"))
         checks.equal(f"report of a login, {what}", (came, server.heard), (wanted, [usage()] * times))
-    checks.equal("report without a server", without_log(report(world, f"127.0.0.1:{free_port()}")), unavailable)
+    with nobody_there() as address:
+        checks.equal("report without a server", without_log(report(world, address)), unavailable)
 
 
 def rows_of(names):

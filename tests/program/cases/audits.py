@@ -177,6 +177,9 @@ def refused(world, checks):
     ]:
         by_both(world, checks, what, place, wanted, **more)
     checks.equal("audit makes no file", os.path.exists(f"{world.folder}/none"), False)
+    damaged = left_by_a_server(world, "audit-day", reserve(1, login=b"a b\\"))
+    damaged = edited(world, damaged, "audit-day-before", "UPDATE usage SET day = -3")
+    by_both(world, checks, "a day before 1970", damaged, r"store is damaged: login a\x20b\x5c day -3")
     checks.equal("audit of a ledger in memory", audit(world, "memory"), fault("store is memory"))
     for what, file, wanted in [
         ("no settings", f"{world.folder}/none", "settings can't be read"),
@@ -193,6 +196,10 @@ def outputs(world, checks):
         wrong = edited(world, path, "audit-output-wrong", "UPDATE usage SET reserved = 9")
         came = audit(world, wrong, output=full)
         checks.equal("audit of wrong books to a full device", came, fault("store is damaged: login u day 1"))
+    printed = SOUND[1]
+    for room in range(len(printed)):
+        came = world.run_with_room(room, "audit", "--config", settings(world, path))
+        checks.equal(f"audit over an output with room for {room} bytes", came, (1, printed[:room], "mailquota: write failed\n"))
 
 
 def beside_a_server(world, checks):

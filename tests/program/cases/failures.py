@@ -18,7 +18,7 @@ import time
 
 import wire
 from cases.filters import INPUT, PROCEED, REGISTRATION, SERVICE, answer
-from ends import SECONDS, Server, apart, free_port, read_all
+from ends import LONG, SECONDS, Server, apart, read_all
 from wire import BAD, RETRY, granted, page, reserve, usage
 
 DEFAULT = 1_000_000
@@ -52,9 +52,8 @@ class Disk:
     """A small file system in memory, at a folder of its own."""
 
     def __init__(self, world, size):
-        self.folder = f"{world.folder}/disk{world.files}"
+        self.folder = f"{world.folder}/disk{next(world.numbers)}"
         self.size = size
-        world.files += 1
 
     def __enter__(self):
         os.mkdir(self.folder)
@@ -162,7 +161,7 @@ def a_full_disk(world, checks, disk, larger):
         checks.equal(f"{what}: status and text", how_it_ended(server), (1, "mailquota: store failed\n"))
         log = server.log_lines()[:-1]
         checks.holds(f"{what}: the log", len(log) == 1 and log[0].startswith("[ERROR") and "store failed" in log[0], "one line", log)
-        came = world.filter(server.address, INPUT, timeout=1_000)[:2]
+        came = world.filter(server.address, INPUT)[:2]
         checks.equal(f"{what}: a filter then", came, (0, REGISTRATION + answer(SERVICE)))
     checks.holds(f"{what}: replies before it was", len(asked.replies) > 20, "more than 20", len(asked.replies))
     with Server(world, store=path, default=DEFAULT) as server:
@@ -238,7 +237,7 @@ def a_file_that_becomes_read_only(world, checks):
 
 
 def settings_of(path):
-    return f'listen = "127.0.0.1:{free_port()}"\nstore = "{path}"\ndefault = {DEFAULT}\noffset = 0\n'
+    return f'listen = "127.0.0.1:0"\nstore = "{path}"\ndefault = {DEFAULT}\noffset = 0\n'
 
 
 def damaged_files(world, checks):
@@ -382,12 +381,12 @@ def refused_memory(world, checks):
             retried = came.count(RETRY)
         checks.holds(f"{what}: requests that are to be sent again", retried > 0, "some", retried)
         # (what it asks for may fit where a longer list did not)
-        came = world.filter(server.address, INPUT, timeout=1_000)[:2]
+        came = world.filter(server.address, INPUT)[:2]
         answered = came in [(0, REGISTRATION + answer(result)) for result in (SERVICE, PROCEED)]
         checks.holds(f"{what}: a filter", answered, "answered once", came)
         resource.prlimit(server.process.pid, resource.RLIMIT_AS, (resource.RLIM_INFINITY, resource.RLIM_INFINITY))
         same_answers(checks, f"{what}, and then some", server, asked)
-        came = world.filter(server.address, INPUT, timeout=1_000)[:2]
+        came = world.filter(server.address, INPUT)[:2]
         checks.equal(f"{what}, and then some: a filter", came, (0, REGISTRATION + answer(PROCEED)))
 
 
@@ -404,10 +403,11 @@ def hundreds_of_peers(world, checks):
             peers.append(peer)
             if place % 100 == 99:
                 start = time.monotonic()
-                came.append(world.filter(server.address, INPUT, timeout=5_000))
+                came.append(world.filter(server.address, INPUT))
                 slowest = max(slowest, time.monotonic() - start)
         checks.equal("a filter between 500 peers that send nothing, half a frame or junk", came, [(0, REGISTRATION + answer(PROCEED), "")] * 5)
-        checks.holds("a filter between 500 such peers: how long the slowest took", slowest < 1, "below 1 s", f"{slowest:.2f} s")
+        good = slowest < LONG / 2_000
+        checks.holds("a filter between 500 such peers: how long the slowest took", good, "below 30 s, half a timeout", f"{slowest:.2f} s")
         junk = [read_all(peer) for place, peer in enumerate(peers) if place % len(sent) > 2]
         checks.equal("peers that send junk among them: their replies", junk, [BAD] * 200)
         for peer in peers:

@@ -1,5 +1,5 @@
 """Settings of the filter: accepted ones end in the refusal of an empty input, so that nothing is asked."""
-from ends import apart, free_port
+from ends import apart
 
 ACCEPTED = "input ended before config ready"
 GOOD = {"host": '"mx1"', "server": '"127.0.0.1:7025"'}
@@ -70,11 +70,10 @@ def order(world, checks):
 
 
 def values(world, checks):
-    port = free_port()
     host_64, host_65 = '"' + "a" * 64 + '"', '"' + "a" * 65 + '"'
     accepted = [
         ("host", [host_64, '"a"', '"Mx-1.example.org"']),
-        ("server", [f'"127.0.0.1:{port}"', '"[::1]:7025"', '"127.0.0.1:65535"', "'10.0.0.1:1'"]),
+        ("server", ['"127.0.0.1:7026"', '"[::1]:7025"', '"127.0.0.1:65535"', "'10.0.0.1:1'"]),
         ("tries", ["1", "10", "0x0a"]),
         ("timeout", ["1", "60000", "60_000"]),
         ("log", ['"off"', '"error"', '"warn"', '"info"']),

@@ -5,7 +5,7 @@ import socket
 import subprocess
 import time
 
-from ends import DRIP, RESET, SECONDS, SILENCE, Script, apart, free_port
+from ends import DRIP, LONG, RESET, SECONDS, SILENCE, Script, apart, nobody_there
 from wire import BAD, RETRY, frame, granted, identity, number, reserve, settled
 
 REGISTRATION = b"".join(
@@ -106,9 +106,17 @@ def tries(world, checks):
         ("silence", SILENCE),
     ]
     for what, first in good:
-        scripted(world, checks, f"{what}, then the grant", INPUT, [first, GRANTED], results=[answer(PROCEED)], frames=[RESERVE] * 2, errors="", timeout=300)
+        timeout = 2_000 if first is SILENCE else LONG
+        scripted(
+            world, checks, f"{what}, then the grant", INPUT, [first, GRANTED], results=[answer(PROCEED)], frames=[RESERVE] * 2, errors="",
+            timeout=timeout,
+        )
     for what, first in good:
-        errors = scripted(world, checks, f"{what}, twice, with tries = 2", INPUT, [first, first], results=[answer(SERVICE)], frames=[RESERVE] * 2, timeout=300, tries=2)
+        timeout = 300 if first is SILENCE else LONG
+        errors = scripted(
+            world, checks, f"{what}, twice, with tries = 2", INPUT, [first, first], results=[answer(SERVICE)], frames=[RESERVE] * 2,
+            timeout=timeout, tries=2,
+        )
         told(checks, f"{what}, twice", errors, 1, ["mx1", "alice", "transaction 1"])
     scripted(world, checks, "a grant and more bytes", INPUT, [GRANTED + b"more"], results=[answer(PROCEED)], frames=[RESERVE], errors="")
     scripted(world, checks, "ten tries, the tenth granted", INPUT, [b""] * 9 + [GRANTED], results=[answer(PROCEED)], frames=[RESERVE] * 10, errors="", tries=10)
@@ -179,7 +187,8 @@ def refusals(world, checks):
 
 def no_server(world, checks):
     text = INPUT + COMMIT
-    status, output, errors = world.filter(f"127.0.0.1:{free_port()}", text)
+    with nobody_there() as address:
+        status, output, errors = world.filter(address, text)
     checks.equal("no server: lines and status", (status, output), (0, REGISTRATION + answer(SERVICE)))
     told(checks, "no server: reserve, release at the commit, release at the end", errors, 3, ["mx1", "alice", "transaction 1"])
     with socket.socket() as listener:
@@ -199,7 +208,7 @@ def no_server(world, checks):
         for peer in waiting:
             peer.close()
     checks.equal("a server that accepts nothing: lines and status", (status, output), (0, REGISTRATION + answer(SERVICE)))
-    checks.holds("a server that accepts nothing: the timeout of a connect", 0.55 < took < 2, "2 tries of 300 ms", f"{took:.2f} s")
+    checks.holds("a server that accepts nothing: the timeout of a connect", 0.59 < took < SECONDS, "2 tries of 300 ms", f"{took:.2f} s")
     with Script([SILENCE, SILENCE, SILENCE]) as server:
         start = time.monotonic()
         status, output, _ = world.filter(server.address, INPUT, timeout=200)
@@ -208,9 +217,10 @@ def no_server(world, checks):
         start = time.monotonic()
         dripped = world.filter(server.address, INPUT, tries=2, timeout=300)[:2]
         dripping = time.monotonic() - start
-    good = dripped == (0, REGISTRATION + answer(SERVICE)) and 0.55 < dripping < 2
+    good = dripped == (0, REGISTRATION + answer(SERVICE)) and 0.59 < dripping < SECONDS
     checks.holds("a server that drips: 2 tries of 300 ms", good, "451 after 600 ms", (dripped, f"{dripping:.2f} s"))
-    checks.holds("a silent server: 3 tries of 200 ms", (status, output) == (0, REGISTRATION + answer(SERVICE)) and 0.55 < took < 2, "451 after 600 ms", (output, f"{took:.2f} s"))
+    good = (status, output) == (0, REGISTRATION + answer(SERVICE)) and 0.59 < took < SECONDS
+    checks.holds("a silent server: 3 tries of 200 ms", good, "451 after 600 ms", (output, f"{took:.2f} s"))
 
 
 def without_a_question(world, checks):

@@ -15,7 +15,7 @@ import threading
 import time
 
 import wire
-from ends import SECONDS, free_port, toml, wait_for_listener
+from ends import SECONDS, toml, wait_for_listener
 
 KILLS = 100
 HOSTS = [b"mx1", b"mx2", b"mx3", b"mx4"]
@@ -38,26 +38,23 @@ class FileServer:
         self.process = None
         self.port = None
 
-    def settings(self, port):
+    def settings(self):
         """A file of settings."""
-        whole = {"listen": f"127.0.0.1:{port}", "store": self.store, "default": DEFAULT, "offset": 0, "timeout": 20_000}
+        whole = {"listen": "127.0.0.1:0", "store": self.store, "default": DEFAULT, "offset": 0, "timeout": 20_000}
         return self.world.new_file(toml(whole))
 
     def start(self, *options):
-        port = free_port()
-        words = [self.world.program, "server", "--config", self.settings(port), *options]
+        words = [self.world.program, "server", "--config", self.settings(), *options]
         with open(self.log, "ab") as log:
             self.process = subprocess.Popen(words, stdin=subprocess.DEVNULL, stdout=log, stderr=log)
-        return port
 
     def serve(self, *options):
         """Starts it, and tells the port once it listens."""
-        port = self.start(*options)
-        wait_for_listener(port, self.process)
+        self.start(*options)
+        self.port = wait_for_listener(self.process)
         if self.process.poll() is not None:
             with open(self.log, errors="replace") as log:
                 raise AssertionError(f"the server ended with status {self.process.returncode}: {log.read()[-500:]}")
-        self.port = port
 
     def kill(self):
         if self.process.poll() is None:
@@ -66,7 +63,7 @@ class FileServer:
 
     def audit(self):
         """What `audit` says while no server has the file."""
-        return self.world.run("audit", "--config", self.settings(free_port()))
+        return self.world.run("audit", "--config", self.settings())
 
     def replies(self, frames):
         """What comes back for these frames, whole frame by whole frame, until the connection breaks."""

@@ -3,12 +3,11 @@ import os
 import random
 import resource
 import select
-import socket
 import threading
 import time
 
 from cases.filters import INPUT, PROCEED, REGISTRATION, answer
-from ends import SECONDS, Server, read_all, reset, wait_until
+from ends import LONG, SECONDS, Server, loopback_of_6, read_all, reset, send_no_more, soon, wait_until
 from wire import BAD, frame, full, granted, limit, number, page, page_reply, release, released, reserve, row, settle, settled, usage
 
 NOTHING_USED = bytes.fromhex("0013" "8b" "0175" "00000001" "00000000" "00000000" "00000003")
@@ -67,6 +66,9 @@ def requests(world, checks):
             server.ask(b"".join(bytes.fromhex(sent) for what, sent, _ in exchanges if what not in ("the usage", "the list"))).hex(),
             server.log_lines(),
         ), ("".join(wanted for what, _, wanted in exchanges if what not in ("the usage", "the list")), []))
+    if loopback_of_6() != "::1":
+        checks.skip("a request over IPv6", "there is none")
+        return
     with Server(world, host="::1") as server:
         checks.equal("a request over IPv6", server.ask(usage()), NOTHING_USED)
 
@@ -105,41 +107,49 @@ def bad_bytes(world, checks):
             peer = server.connect()
             name = name_of(peer)
             peer.sendall(sent)
-            peer.shutdown(socket.SHUT_WR)
+            send_no_more(peer)
             checks.equal(f"{what}: the reply", read_all(peer), wanted)
             peer.close()
             goes_on(server, checks, what, before, word=word and (name, word))
 
 
 def slow_and_broken(world, checks):
-    with Server(world, timeout=400) as server:
-        for what, sent, wanted in [("a peer that sends nothing", b"", b""), ("half a frame and no more", reserve(1)[:9], b""), ("a request, then nothing", usage(), NOTHING_USED)]:
-            before, start = len(server.log_lines()), time.monotonic()
-            peer = server.connect()
-            peer.sendall(sent)
-            came = read_all(peer)
-            took = time.monotonic() - start
-            checks.equal(f"{what}: the reply", came, wanted)
-            checks.holds(f"{what}: the server's timeout ends it", 0.35 < took < 2, "after 400 ms", f"{took:.2f} s")
-            goes_on(server, checks, what, before, word=(name_of(peer), "read failed"))
-            peer.close()
+    with Server(world, timeout=1_000) as server:
+        for what, sent, wanted in [
+            ("a peer that sends nothing", b"", b""), ("half a frame and no more", reserve(1)[:9], b""),
+            ("a request, then nothing", usage(), NOTHING_USED),
+        ]:
+            a_slow_peer(server, checks, what, sent, wanted)
+    with Server(world) as server:
         before = len(server.log_lines())
         peer = server.connect()
         for byte in usage():
             peer.sendall(bytes([byte]))
             time.sleep(0.02)
-        peer.shutdown(socket.SHUT_WR)
+        send_no_more(peer)
         checks.equal("a request byte by byte", read_all(peer), NOTHING_USED)
         peer.close()
         goes_on(server, checks, "a request byte by byte", before, word=None)
         resets(server, checks)
         waits_for_nobody(server, checks)
-    a_peer_that_reads_nothing(world, checks)
-    many_long_requests(world, checks)
     peers_that_drip(world, checks)
-    silent_peers(world, checks)
     two_on_one_connection_each(world, checks)
     no_files_left(world, checks)
+
+
+def a_slow_peer(server, checks, what, sent, wanted):
+    """It is waited for as long as the timeout, and not as long as two seconds, which is the usual one."""
+
+    def ended():
+        before = len(server.log_lines())
+        with server.connect() as peer:
+            peer.sendall(sent)
+            return before, name_of(peer), read_all(peer)
+
+    (before, name, came), took = soon(ended, 1.9)
+    checks.equal(f"{what}: the reply", came, wanted)
+    checks.holds(f"{what}: the server's timeout ends it", 0.99 < took < 1.9, "after 1 s", f"{took:.2f} s")
+    goes_on(server, checks, what, before, word=(name, "read failed"))
 
 
 def resets(server, checks):
@@ -154,7 +164,7 @@ def resets(server, checks):
 
 
 def waits_for_nobody(server, checks):
-    """Peers that send nothing, half a frame, or a whole one and then nothing hold nobody back."""
+    """Peers that send nothing, half a frame, or a whole one and then nothing hold nobody back: their timeouts aren't waited for."""
     stuck = [server.connect() for _ in range(3)]
     stuck[1].sendall(reserve(1)[:9])
     stuck[2].sendall(usage() + reserve(1)[:9])
@@ -164,43 +174,22 @@ def waits_for_nobody(server, checks):
     took = time.monotonic() - start
     for peer in stuck:
         peer.close()
-    checks.holds("requests behind three stuck peers", came == [NOTHING_USED] * 3 and took < 0.2, "their answers at once", (came, f"{took:.2f} s"))
+    good = came == [NOTHING_USED] * 3 and took < LONG / 2_000
+    checks.holds("requests behind three stuck peers", good, "their answers, no timeout waited for", (came, f"{took:.2f} s"))
 
 
-def a_peer_that_reads_nothing(world, checks):
-    """A page of ten logins of 255 bytes is 2,686 bytes; 10,000 of them don't fit into what the kernel keeps."""
-    with Server(world, timeout=2_000) as server:
-        logins = [b"%03d" % n + b"x" * 252 for n in range(10)]
-        sent = b"".join(reserve(n + 1, txn=n + 1, login=login) for n, login in enumerate(logins))
-        checks.equal("ten logins", server.ask(sent), b"".join(granted(n + 1, 1) for n in range(10)))
-        checks.equal("a page of ten long logins", server.ask(page()), page_reply([row(login, 0, 1, 3) for login in logins]))
-        before = len(server.log_lines())
-        peer = server.connect(room=4_096)
-        peer.sendall(page() * 10_000)
-        came, slowest = [], 0
-        for _ in range(100):
-            start = time.monotonic()
-            came.append(server.ask(usage()))
-            slowest = max(slowest, time.monotonic() - start)
-        checks.equal("beside a peer that reads nothing: a hundred connections", came, [NOTHING_USED] * 100)
-        checks.holds("beside a peer that reads nothing: how long the slowest took", slowest < 1, "below 1 s, half the timeout", f"{slowest:.2f} s")
-        wait_until(lambda: len(server.log_lines()) > before)
-        goes_on(server, checks, "a peer that reads nothing", before, word=(name_of(peer), "write failed"))
-        peer.close()
-
-
-def many_long_requests(world, checks):
-    """More than the kernel keeps: 9,999 requests of 262 bytes at once, on one connection whose peer reads all the while."""
-    with Server(world, timeout=20_000) as server:
-        asked, wanted = page(after=b"x" * 255), page_reply([])
-        with server.connect() as peer:
-            asking = threading.Thread(target=peer.sendall, args=(asked * 9_999,), daemon=True)
-            asking.start()
-            came, peer_waits = b"", select.poll()
-            peer_waits.register(peer, select.POLLIN)
-            while len(came) < len(wanted) * 9_999 and peer_waits.poll(5_000):
-                came += peer.recv(65_536)
-            checks.equal("9,999 long requests at once: their replies", (len(came) // len(wanted), came == wanted * 9_999), (9_999, True))
+def two_on_one_connection_each(world, checks):
+    """Two peers that keep their connections are answered by turns."""
+    with Server(world, default=1_000) as server:
+        one, two = server.connect(), server.connect()
+        came = []
+        for turn in range(20):
+            for peer, host in ((one, b"a"), (two, b"b")):
+                peer.sendall(reserve(turn + 1, host=host))
+                came.append(peer.recv(65_536))
+        wanted = [granted(turn + 1, 2 * turn + of, host=host) for turn in range(20) for of, host in ((1, b"a"), (2, b"b"))]
+        checks.equal("two peers by turns, each on one connection", came, wanted)
+        checks.equal("two peers by turns: the log", (one.close(), two.close(), server.ask(usage(day=2)), server.log_lines())[3], [])
 
 
 def drip(peer, sent, pause):
@@ -219,86 +208,38 @@ def drip(peer, sent, pause):
 
 def peers_that_drip(world, checks):
     """A byte now and then, each inside the timeout: a connection ends after two timeouts all the same."""
-    with Server(world, timeout=400) as server:
-        before = len(server.log_lines())
-        peer = server.connect()
-        name = name_of(peer)
-        took = drip(peer, reserve(1) * 100, 0.1)
-        checks.holds("a peer that drips: two timeouts end it", 0.7 < took < 1.5, "after 800 ms", f"{took:.2f} s")
+    with Server(world, timeout=1_000) as server:
+
+        def dripped():
+            before, peer = len(server.log_lines()), server.connect()
+            name = name_of(peer)
+            drip(peer, reserve(1) * 100, 0.1)
+            return before, name
+
+        (before, name), took = soon(dripped, 3.2)
+        checks.holds("a peer that drips: two timeouts end it", 1.9 < took < 3.2, "after 2 s", f"{took:.2f} s")
         goes_on(server, checks, "a peer that drips", before, word=(name, "read failed"))
-    with Server(world, timeout=200, default=1_000) as server:
+    with Server(world, default=1_000) as server:
         over = threading.Event()
 
         def drip_on():
             while not over.is_set():
-                drip(server.connect(), reserve(1) * 100, 0.1)
+                drip(server.connect(), reserve(1), 0.05)
 
         dripping = threading.Thread(target=drip_on, daemon=True)
         dripping.start()
         time.sleep(0.05)
-        came = [world.filter(server.address, INPUT, timeout=1_000)[:2] for _ in range(5)]
+        came = [world.filter(server.address, INPUT)[:2] for _ in range(5)]
         over.set()
         dripping.join(timeout=SECONDS)
         checks.equal("a filter beside a peer that drips all the while", came, [(0, REGISTRATION + answer(PROCEED))] * 5)
 
 
-def silent_peers(world, checks):
-    """500 peers that send nothing hold a connection each; filters are answered meanwhile, at their first try."""
-    with Server(world, timeout=60_000, default=1_000) as server:
-        silent = [server.connect() for _ in range(500)]
-        came, log, slowest = [], "", 0
-        for _ in range(5):
-            start = time.monotonic()
-            status, output, errors = world.filter(server.address, INPUT, timeout=1_000)
-            slowest = max(slowest, time.monotonic() - start)
-            came.append((status, output))
-            log += errors
-        checks.equal("filters beside 500 silent peers", (came, log), ([(0, REGISTRATION + answer(PROCEED))] * 5, ""))
-        checks.holds("filters beside 500 silent peers: how long the slowest took", slowest < 0.5, "below 0.5 s", f"{slowest:.2f} s")
-        for peer in silent[:-1]:
-            peer.close()
-        silent[-1].sendall(usage())
-        checks.equal("the last of 500 silent peers asks at last", silent[-1].recv(65_536), NOTHING_USED.replace(number(3), number(1_000)))
-        silent[-1].close()
-        checks.equal("the log beside 500 silent peers that go", server.log_lines(), [])
-    with Server(world, timeout=300) as server:
-        silent = [server.connect() for _ in range(500)]
-        start = time.monotonic()
-        ended = [read_all(peer) for peer in silent]
-        took = time.monotonic() - start
-        for peer in silent:
-            peer.close()
-        checks.holds("500 silent peers are ended side by side", ended == [b""] * 500 and took < 2, "within 2 s, at 300 ms each", f"{took:.2f} s")
-        lines = server.log_lines()
-        checks.holds("500 silent peers: the log", len(lines) == 500 and all("read failed" in line for line in lines), "a line for each", lines)
-    with Server(world, timeout=60_000) as server:
-        crowd = [server.connect() for _ in range(905)]
-        checks.equal("more connections than places: the next is answered", server.ask(usage()), NOTHING_USED)
-        lines = server.log_lines()
-        names = [name_of(peer) for peer in crowd[:6]]
-        good = len(lines) == 6 and all(f"connection of {name}: too many connections" in line for name, line in zip(names, lines))
-        checks.holds("more connections than places: those that waited longest went", good, "a line for each of the first six", lines)
-        for peer in crowd:
-            peer.close()
-
-
-def two_on_one_connection_each(world, checks):
-    """Two peers that keep their connections are answered by turns."""
-    with Server(world, timeout=5_000, default=1_000) as server:
-        one, two = server.connect(), server.connect()
-        came = []
-        for turn in range(20):
-            for peer, host in ((one, b"a"), (two, b"b")):
-                peer.sendall(reserve(turn + 1, host=host))
-                came.append(peer.recv(65_536))
-        wanted = [granted(turn + 1, 2 * turn + of, host=host) for turn in range(20) for of, host in ((1, b"a"), (2, b"b"))]
-        checks.equal("two peers by turns, each on one connection", came, wanted)
-        checks.equal("two peers by turns: the log", (one.close(), two.close(), server.ask(usage(day=2)), server.log_lines())[3], [])
-
-
 def no_files_left(world, checks):
     """accept fails while the server may open no file, and is tried again until it may."""
     with Server(world) as server:
+        # (once it has answered, it has opened all that it needs, and closed what it was asked on)
+        checks.equal("a server before it may open no file", server.ask(usage()), NOTHING_USED)
         before = len(server.log_lines())
         taken = {int(name) for name in os.listdir(f"/proc/{server.process.pid}/fd")}
         free = min(set(range(len(taken) + 1)) - taken)
@@ -306,15 +247,16 @@ def no_files_left(world, checks):
         resource.prlimit(server.process.pid, resource.RLIMIT_NOFILE, (free, was[1]))
         peer = server.connect()
         peer.sendall(usage())
-        peer.shutdown(socket.SHUT_WR)
-        time.sleep(0.5)
+        send_no_more(peer)
+        wait_until(lambda: len(server.log_lines()) >= before + 4)
         resource.prlimit(server.process.pid, resource.RLIMIT_NOFILE, was)
         checks.equal("a server that may open no file: the reply once it may", read_all(peer), NOTHING_USED)
         peer.close()
         lines = server.log_lines()[before:]
-        waits = [line for line in lines if "no connection accepted: Too many open files" in line]
-        good = 3 <= len(waits) <= 8 and len(lines) - len(waits) <= 1
-        checks.holds("a server that may open no file: the log", good, "a line for each attempt, with pauses that grow", lines)
+        said = "[WARN  mq_room::accept] no connection accepted: Too many open files (os error 24); next attempt in {} ms"
+        wanted = [said.format(min(10 * 2 ** place, 1_000)) for place in range(len(lines))]
+        what = "a server that may open no file: a line for each attempt, with pauses that grow"
+        checks.equal(what, (len(lines) >= 4, lines), (True, wanted))
 
 
 def random_bytes(world, checks):
@@ -333,21 +275,12 @@ def random_bytes(world, checks):
             if came != wanted:
                 wrong.append((sent, came))
         checks.equal(f"{rounds} random frames: other replies than expected", wrong, [])
-        checks.equal("random frames: lines of the log, and the next connection", (len(server.log_lines()), server.ask(usage())), (rounds, NOTHING_USED))
+        # (the last line is there once the next connection is answered)
+        came = server.ask(usage()), len(server.log_lines())
+        checks.equal("random frames: the next connection, and lines of the log", came, (NOTHING_USED, rounds))
 
 
 def ends(world, checks):
-    with Server(world, timeout=20_000) as server:
-        peer = server.connect()
-        peer.sendall(usage() * 9_999)
-        came = b""
-        while len(came) < len(NOTHING_USED) * 9_999:
-            came += peer.recv(65_536)
-        peer.sendall(usage() * 2)
-        came += read_all(peer)
-        checks.equal("10,001 requests on a connection: the answers", (len(came), came == NOTHING_USED * 10_000), (21 * 10_000, True))
-        goes_on(server, checks, "10,001 requests on a connection", 0, word=(name_of(peer), "enough"))
-        peer.close()
     with Server(world, connections=3) as server:
         for _ in range(2):
             server.ask(usage())
@@ -357,7 +290,7 @@ def ends(world, checks):
     with Server(world, connections=1) as server:
         peers = [server.connect()]
         peers[0].sendall(usage())
-        peers[0].shutdown(socket.SHUT_WR)
+        send_no_more(peers[0])
         checks.equal("--connections 1: reply and status", (read_all(peers[0]), server.status()), (NOTHING_USED, 0))
     with Server(world, connections=2, log="off") as server:
         server.ask(b"\x00\x00")
@@ -369,7 +302,7 @@ def ends(world, checks):
         checks.equal("a port in use", two, (1, b"", log + "mailquota: listen failed\n"))
     with Server(world, connections=1, log="info") as server:
         server.ask(usage())
-        begin = f"[INFO  mq_program::server] listening on {server.address} for 1 connections"
+        begin = f"[INFO  mq_program::server] listening on {server.listen} for 1 connections"
         end = "[INFO  mq_program::server] ending after 1 connections"
         checks.equal('log = "info": status, start and end', (server.status(), server.log_lines()), (0, [begin, end]))
     with Server(world, offset=60) as server:

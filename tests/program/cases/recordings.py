@@ -2,7 +2,7 @@
 from pathlib import Path
 
 from cases.filters import LIMIT, PROCEED, REGISTRATION, SERVICE, answer
-from ends import Server, free_port
+from ends import Server, nobody_there
 
 FOLDER = Path(__file__).parent.parent / "recordings"
 # the day of 1795329219 to 1795329227, in UTC: 20,779 whole days are 1,795,305,600 seconds
@@ -38,5 +38,6 @@ def run(world, checks):
             checks.equal(f"{name}, default {default}, the same run again: the server gives the same answers", came, (0, wanted, ""))
             checks.equal(f"{name}, default {default}: the server's log", server.log_lines(), [])
     text = (FOLDER / "two_sessions.smtpd").read_bytes()
-    status, output, _ = world.filter(f"127.0.0.1:{free_port()}", text)
+    with nobody_there() as address:
+        status, output, _ = world.filter(address, text)
     checks.equal("two_sessions without a server", (status, output), (0, answers((SERVICE, THREE), (SERVICE, FOUR), (SERVICE, THREE))))

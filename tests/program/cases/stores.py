@@ -1,6 +1,8 @@
 """The server over a database file: made, opened again, refused."""
 import os
 import signal
+import socket
+import sqlite3
 import stat
 
 from ends import Server, apart, toml
@@ -10,6 +12,9 @@ from wire import full, granted, page, page_reply, reserve, row, settle, settled
 def run(world, checks):
     made_and_opened(world, checks)
     refused(world, checks)
+    with socket.create_server(("127.0.0.1", 0)) as taken:
+        a_ledger_in_a_file(world, checks, taken.getsockname()[1])
+        files_without_a_ledger(world, checks, taken.getsockname()[1])
 
 
 def used(in_settled, in_reserved, cap=3):
@@ -70,3 +75,53 @@ def refused(world, checks):
         else:
             checks.holds(f"{what}: the log", len(log) == 1 and f"{place}: {cause}" in log[0], f"one line with {place} and '{cause}'", log)
     checks.holds("no file is made without --create", not os.path.exists(f"{world.folder}/none"), "none is there", os.listdir(world.folder))
+
+
+class AtATakenPort:
+    """What the subcommands say of a file, where a server comes as far as its ledger and then ends, since its port is in use."""
+
+    def __init__(self, world, checks, path, port):
+        self.world, self.checks, self.path = world, checks, path
+        self.file = settings(world, path, listen=f"127.0.0.1:{port}")
+
+    def server(self, what, said, *words):
+        status, output, errors = self.world.run("server", "--config", self.file, "--connections", "1", *words)
+        self.checks.equal(f"{what}: a server", (status, output, apart(errors)[1]), (1, b"", f"mailquota: {said}\n"))
+
+    def audit(self, what, printed):
+        self.checks.equal(f"{what}: audit", self.world.run("audit", "--config", self.file), (0, printed, ""))
+
+    def audit_in_vain(self, what, said):
+        status, output, errors = self.world.run("audit", "--config", self.file)
+        self.checks.equal(f"{what}: audit", (status, output, apart(errors)[1]), (1, b"", f"mailquota: {said}\n"))
+
+
+def a_ledger_in_a_file(world, checks, port):
+    """It is made for its owner alone, opened, and audited; one whose books are wrong isn't."""
+    path = f"{world.folder}/steps"
+    it = AtATakenPort(world, checks, path, port)
+    it.server("a new ledger", "listen failed", "--create")
+    checks.equal("a new ledger: its mode", f"{stat.S_IMODE(os.stat(path).st_mode):o}", "600")
+    it.audit("a new ledger", b"sound days=0 transactions=0\n")
+    with Server(world, store=path) as server:
+        server.ask(reserve(1) + reserve(2) + settle(3))
+    it.server("a ledger of a message", "listen failed")
+    it.audit("a ledger of a message", b"sound days=1 transactions=1\n")
+    it.server("a ledger that is to be made once more", "store is not this ledger", "--create")
+    database = sqlite3.connect(path)
+    database.execute("UPDATE usage SET reserved = 9")
+    database.commit()
+    database.close()
+    it.server("a ledger with another count", "store is damaged: login u day 1")
+    it.audit_in_vain("a ledger with another count", "store is damaged: login u day 1")
+
+
+def files_without_a_ledger(world, checks, port):
+    path = f"{world.folder}/no-steps"
+    it = AtATakenPort(world, checks, path, port)
+    it.server("a file that isn't there", "store can't be opened")
+    it.audit_in_vain("a file that isn't there", "store can't be opened")
+    with open(path, "wb"):
+        pass
+    it.server("a file without tables", "store is not this ledger")
+    it.audit_in_vain("a file without tables", "store is not this ledger")

@@ -1,19 +1,34 @@
-"""Words of the command line: help and usage faults."""
+"""Words of the command line: help, usage faults, ranges of numbers, and what words ask for, shown by what happens."""
+import os
+import resource
+import time
+
+from cases.filters import INPUT, PROCEED, REGISTRATION, answer
+from cases.texts_of_words import FAULTS, HELPS
+from ends import Script, Server, loopback_of_6, toml, wait_until
+from wire import frame, granted, identity, limit, number, page, page_reply, reserve, text, usage
+
+MORE = "\n\nFor more information, try '--help'.\n"
+NO_FILE = "No such file or directory (os error 2)"
+MOST_RUN = 281_474_976_710_655
 
 
 def run(world, checks):
     helps(world, checks)
     version(world, checks)
     usage_faults(world, checks)
+    ranges_of_numbers(world, checks)
     bad_words_of_the_administrator(world, checks)
+    words_of_a_filter(world, checks)
+    words_of_a_server_and_an_audit(world, checks)
+    words_of_questions(world, checks)
+    words_of_replay(world, checks)
+    tables_of_replay(world, checks)
 
 
 def helps(world, checks):
-    for words in ([], ["replay"], ["filter"], ["server"], ["limit"], ["report"], ["audit"]):
-        status, output, errors = world.run(*words, "--help")
-        name = " ".join([*words, "--help"])
-        checks.equal(f"{name}: status and errors", (status, errors), (0, ""))
-        checks.holds(f"{name}: text", b"Usage: mailquota" in output, "help on standard output", output)
+    for words, wanted in HELPS:
+        checks.equal(" ".join(words), world.run(*words), (0, wanted.encode(), ""))
     with open("/dev/full", "wb") as full:
         status, _, errors = world.run("--help", output=full)
     checks.equal("--help to a full device", (status, errors), (1, "mailquota: write failed\n"))
@@ -25,66 +40,209 @@ def version(world, checks):
 
 
 def usage_faults(world, checks):
-    limit = ["limit", "--server", "127.0.0.1:1", "--host", "a", "--login", "u"]
+    for words, wanted in FAULTS:
+        checks.equal(f"usage fault of '{' '.join(words)}'", world.run(*words), (2, b"", wanted))
+    asked = ["limit", "--server", "127.0.0.1:1", "--host", "a", "--login", "u"]
     faults = [
         ([], "subcommand"),
         (["send"], "unrecognized subcommand 'send'"),
-        (["replay", "--default", "1000001"], "invalid value '1000001' for '--default <N>': 1000001 is not in 0..=1000000"),
         (["replay", "--default", "-1"], "error: "),
-        (["replay", "--east", "1440"], "1440 is not in 0..=1439"),
-        (["replay", "--west", "1440"], "1440 is not in 0..=1439"),
         (["replay", "now"], "unexpected argument 'now' found"),
-        (["filter"], "--config"),
-        (["filter", "--config", "f", "--run", "0"], "0 is not in 1..=281474976710655"),
-        (["filter", "--config", "f", "--run", "281474976710656"], "281474976710656 is not in 1..=281474976710655"),
         (["server"], "--config"),
-        (["server", "--config", "f", "--connections", "0"], "0 is not in 1..=1000000"),
-        (["server", "--config", "f", "--connections", "1000001"], "1000001 is not in 1..=1000000"),
-        (["audit"], "--config"),
-        (["audit", "--config", "f", "--create"], "unexpected argument '--create' found"),
-        (limit + ["--cap", "1"], "--from"),
-        (limit + ["--from", "1"], "--cap"),
-        (limit + ["--from", "376201", "--cap", "1"], "376201 is not in 0..=376200"),
-        (limit + ["--from", "1", "--cap", "1000001"], "1000001 is not in 0..=1000000"),
-        (limit + ["--from", "1", "--cap", "many"], "invalid value 'many'"),
+        (asked + ["--cap", "1"], "--from"),
+        (asked + ["--from", "1"], "--cap"),
+        (asked + ["--from", "1", "--cap", "many"], "invalid value 'many'"),
         (["report", "--server", "127.0.0.1:1"], "--day"),
         (["report", "--day", "1"], "--server"),
-        (["report", "--server", "127.0.0.1:1", "--day", "376201"], "376201 is not in 0..=376200"),
     ]
-    for words, text in faults:
+    for words, part in faults:
         status, output, errors = world.run(*words)
-        good = (status, output) == (2, b"") and text in errors and errors.startswith("error: ")
-        checks.holds(f"usage fault of '{' '.join(words)}'", good, f"status 2, {text!r} on standard error alone", (status, output, errors))
+        good = (status, output) == (2, b"") and part in errors and errors.startswith("error: ")
+        checks.holds(f"usage fault of '{' '.join(words)}'", good, f"status 2, {part!r} on standard error alone", (status, output, errors))
     for words in ([b"\xff"], [b"report", b"--server", b"127.0.0.1:1", b"--day", b"1", b"--login", b"\xff\xfe"]):
         came = world.run(*words)
         checks.equal(f"words that are no UTF-8, {words[-1].hex()}", came, (2, b"", "mailquota: arguments are not text\n"))
 
 
+def unreadable(name):
+    """How a subcommand ends whose settings aren't there."""
+    return 1, b"", f"[ERROR mq_program::fault] {name}: {NO_FILE}\nmailquota: settings can't be read\n"
+
+
+BAD_ADDRESS = (2, b"", "mailquota: bad address\n")
+BAD_LOGIN = (2, b"", "mailquota: bad login\n")
+ASKED = ["limit", "--server=a", "--host=h", "--login=u"]
+# the words before a number, its option, how its value is called, its least and greatest number, and how the program ends by these
+NUMBERS = [
+    (["replay"], "default", "N", 0, 1_000_000, (0, b"", "")),
+    (["replay"], "east", "M", 0, 1_439, (0, b"", "")),
+    (["replay"], "west", "M", 0, 1_439, (0, b"", "")),
+    (["filter", "--config=f"], "run", "N", 1, MOST_RUN, unreadable("f")),
+    (["server", "--config=f"], "connections", "N", 1, 1_000_000, unreadable("f")),
+    (ASKED + ["--cap=1"], "from", "DAY", 0, 376_200, BAD_ADDRESS),
+    (ASKED + ["--from=1"], "cap", "N", 0, 1_000_000, BAD_ADDRESS),
+    (ASKED + ["--from=1", "--cap=1"], "run", "N", 1, MOST_RUN, BAD_ADDRESS),
+    (["report", "--server=a"], "day", "DAY", 0, 376_200, BAD_ADDRESS),
+]
+
+
+def ranges_of_numbers(world, checks):
+    for words, option, value, least, most, wanted in NUMBERS:
+        shown = f"{words[0]} --{option}"
+        for given in (least, most):
+            checks.equal(f"{shown}={given}", world.run(*words, f"--{option}={given}", folder=world.folder), wanted)
+        for given in (least - 1, most + 1):
+            why = f"{given} is not in {least}..={most}" if given >= 0 else "invalid digit found in string"
+            refused = (2, b"", f"error: invalid value '{given}' for '--{option} <{value}>': {why}{MORE}")
+            checks.equal(f"{shown}={given}", world.run(*words, f"--{option}={given}", folder=world.folder), refused)
+    wanted = f"error: invalid value '1000001' for '--default <N>': 1000001 is not in 0..=1000000{MORE}"
+    checks.equal("replay --default 1000001", world.run("replay", "--default", "1000001"), (2, b"", wanted))
+
+
 def bad_words_of_the_administrator(world, checks):
     """A bad host, login or address, in this order, before anything is sent."""
 
-    def limit(server, host, login):
-        return ["limit", "--server", server, "--host", host, "--login", login, "--from", "1", "--cap", "1"]
+    def asked(server, host, login):
+        return ["limit", "--server", server, "--host", host, "--login", login, "--from", "1", "--cap", "2"]
 
     def report(server, login):
         return ["report", "--server", server, "--day", "1", "--login", login]
 
-    good = "127.0.0.1:1"
-    for words, text in [
-        (limit("nowhere", "a_b", ""), "bad host"),
-        (limit("nowhere", "", "u"), "bad host"),
-        (limit(good, "a" * 65, "u"), "bad host"),
-        (limit(good, "mx1 ", "u"), "bad host"),
-        (limit("nowhere", "a", ""), "bad login"),
-        (limit(good, "a" * 64, "u" * 256), "bad login"),
-        (limit("nowhere", "a", "u"), "bad address"),
-        (limit("localhost:7025", "a", "u" * 255), "bad address"),
-        (limit("127.0.0.1", "a", "u"), "bad address"),
-        (limit("127.0.0.1:65536", "a", "u"), "bad address"),
+    good, long = "127.0.0.1:1", "a" * 256
+    for words, said in [
+        (asked("nowhere", "a_b", ""), "bad host"),
+        (asked("nowhere", "", "u"), "bad host"),
+        (asked(good, "a" * 65, "u"), "bad host"),
+        (asked(good, "mx1 ", "u"), "bad host"),
+        (asked("mail:7025", "mx 1", ""), "bad host"),
+        (asked("mail:7025", "", "u"), "bad host"),
+        (asked("mail:7025", long, "u"), "bad host"),
+        (asked("nowhere", "a", ""), "bad login"),
+        (asked(good, "a" * 64, "u" * 256), "bad login"),
+        (asked("mail:7025", "mx1", ""), "bad login"),
+        (asked("mail:7025", "mx1", long), "bad login"),
+        (asked("nowhere", "a", "u"), "bad address"),
+        (asked("localhost:7025", "a", "u" * 255), "bad address"),
+        (asked("127.0.0.1", "a", "u"), "bad address"),
+        (asked("127.0.0.1:65536", "a", "u"), "bad address"),
+        (asked("mail:7025", "mx1", "u"), "bad address"),
+        (asked("127.0.0.1", "mx1", "u"), "bad address"),
+        (asked("", "mx1", "u"), "bad address"),
         (report("nowhere", ""), "bad login"),
         (report(good, "u" * 256), "bad login"),
+        (report("mail:7025", ""), "bad login"),
+        (report("mail:7025", long), "bad login"),
         (report("nowhere", "u"), "bad address"),
+        (report("mail:7025", "u"), "bad address"),
+        (report("[::1]", "u"), "bad address"),
         (["report", "--server", "localhost:7025", "--day", "1"], "bad address"),
     ]:
         shown = " ".join(word if len(word) < 20 else f"({len(word)} bytes)" for word in words)
-        checks.equal(f"'{shown}'", world.run(*words), (2, b"", f"mailquota: {text}\n"))
+        checks.equal(f"'{shown}'", world.run(*words), (2, b"", f"mailquota: {said}\n"))
+
+
+def milliseconds():
+    return time.time_ns() // 1_000_000
+
+
+def run_in(heard, place):
+    """The run in a frame whose host's name is so long."""
+    return int.from_bytes(heard[4 + place:12 + place], "big")
+
+
+def asked_of_the_clock(checks, what, start, heard):
+    """The run of a frame of host mx1 that was made since then."""
+    run = run_in(heard, 3)
+    checks.holds(f"{what}: the run is the clock's", start <= run <= milliseconds(), f"{start} or a little more", run)
+    return run
+
+
+def words_of_a_filter(world, checks):
+    """The file is looked for where the program runs, and the number of the run is in its frames."""
+
+    def grant(heard):
+        return granted(1, 1, host=b"mx1", run=run_in(heard, 3))
+
+    folder = f"{world.folder}/filter"
+    os.mkdir(folder)
+    came = world.run("filter", "--config", "f.toml", folder=folder)
+    checks.equal("filter --config f.toml, which isn't there", came, unreadable("f.toml"))
+    for words, name in [(["--config", "f.toml"], "f.toml"), (["--run=7", "--config=f"], "f")]:
+        what, start = f"filter {' '.join(words)}", milliseconds()
+        with Script([grant]) as script:
+            os.rename(world.filter_file(script.address), f"{folder}/{name}")
+            came = world.run("filter", *words, text=INPUT, folder=folder)
+        checks.equal(f"{what}: what it answers", came, (0, REGISTRATION + answer(PROCEED), ""))
+        run = 7 if "--run=7" in words else asked_of_the_clock(checks, what, start, script.heard[0])
+        checks.equal(f"{what}: its frames", script.heard, [reserve(1, login=b"alice", at=1_576_146_009, host=b"mx1", run=run)])
+
+
+def words_of_a_server_and_an_audit(world, checks):
+    """With --create a new ledger is made; how many connections are served is logged."""
+    folder = f"{world.folder}/server"
+    os.mkdir(folder)
+    checks.equal("server --config=s, which isn't there", world.run("server", "--config=s", "--create", folder=folder), unreadable("s"))
+    checks.equal("audit --config s.toml, which isn't there", world.run("audit", "--config", "s.toml", folder=folder), unreadable("s.toml"))
+    settings = {"listen": "127.0.0.1:0", "store": f"{folder}/made", "default": 3, "offset": 0, "log": "info"}
+    for name in ("s", "s.toml"):
+        os.rename(world.new_file(toml(settings)), f"{folder}/{name}")
+    with Server.of_words(world, "--config=s", "--create", folder=folder) as server:
+        wait_until(server.log_lines)
+        lines = ["[INFO  mq_program::server] listening on 127.0.0.1:0 for 1000000 connections"]
+        came = server.log_lines(), server.ask(page())
+        checks.equal("server --config=s --create: the log, and its ledger", came, (lines, page_reply([])))
+    came = world.run("audit", "--config", "s.toml", folder=folder)
+    checks.equal("audit --config s.toml: of that ledger", came, (0, b"sound days=0 transactions=0\n", ""))
+
+
+def words_of_questions(world, checks):
+    start = milliseconds()
+    with Script([lambda heard: frame(b"\x85" + identity(1, host=b"mx1", run=run_in(heard, 3)))], host=loopback_of_6()) as script:
+        words = [f"--server={script.address}", "--host=mx1", "--login=u v", "--from=2", "--cap=3"]
+        came = world.run("limit", *words)
+    checks.equal("limit without a run: what it prints", came, (0, b"set\n", ""))
+    run = asked_of_the_clock(checks, "limit without a run", start, script.heard[0])
+    checks.equal("limit without a run: its frame", script.heard, [limit(1, 2, 3, login=b"u v", host=b"mx1", run=run)])
+    with Script([page_reply([], day=2)]) as script:
+        came = world.run("report", "--day=2", f"--server={script.address}")
+    checks.equal("report without a login: what it prints, and its frame", (came, script.heard), ((0, b"", ""), [page(day=2)]))
+    checks.equal("report of an empty login", world.run("report", "--day=2", "--server=a", "--login="), BAD_LOGIN)
+    checks.equal("report without a login, of a bad address", world.run("report", "--day=2", "--server=a"), BAD_ADDRESS)
+
+
+# words of replay, the default that they ask for, a day, and the first second of it by their offset of 0, -1,439 and 60 minutes
+REPLAYS = [
+    ([], 100, 2, 2 * 86_400),
+    (["--default", "0", "--west", "1439", "--sql"], 0, 1, 86_400 + 1_439 * 60),
+    (["--east=90", "--default=1000000", "--west=30"], 1_000_000, 2, 2 * 86_400 - 60 * 60),
+]
+
+
+def words_of_replay(world, checks):
+    """Login u has a limit of 5 and a recipient on each side of a midnight, and login v has the default."""
+    for words, default, day, first in REPLAYS:
+        asked = limit(1, 0, 5) + reserve(2, txn=1, at=first - 1) + reserve(3, txn=2, at=first)
+        asked += usage(day=day - 1) + usage(day=day) + usage(b"v", day=day)
+        wanted = frame(b"\x85" + identity(1)) + granted(2, 1) + granted(3, 1)
+        wanted += used(b"u", day - 1, 1, 5) + used(b"u", day, 1, 5) + used(b"v", day, 0, default)
+        came = world.run("replay", *words, text=asked.hex().encode())
+        checks.equal(" ".join(["replay", *words]), came, (0, f"{wanted.hex()}\n".encode(), ""))
+
+
+def used(login, day, in_reserved, cap):
+    return frame(b"\x8b" + text(login) + number(day) + number(0) + number(in_reserved) + number(cap))
+
+
+def tables_of_replay(world, checks):
+    """Tables (`--sql`) answer as a list does and take more memory, which shows in the pages that the program touches."""
+    asked = b"".join(reserve(number, txn=number) for number in range(1, 51)).hex().encode()
+    without = [pages_touched(lambda: world.run("replay", text=asked)) for _ in range(3)]
+    with_it = [pages_touched(lambda: world.run("replay", "--sql", text=asked)) for _ in range(3)]
+    checks.holds("replay --sql: pages of memory", min(with_it) > max(without), "more than without", (without, with_it))
+
+
+def pages_touched(go):
+    """How many pages of memory are touched by the program that is run here."""
+    before = resource.getrusage(resource.RUSAGE_CHILDREN).ru_minflt
+    go()
+    return resource.getrusage(resource.RUSAGE_CHILDREN).ru_minflt - before

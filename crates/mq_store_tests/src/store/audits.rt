@@ -1,7 +1,8 @@
 //! What an audit finds in a ledger's tables, and what `open` makes of it.
 
-use super::steps::{Case, Outcome, Step, from_ledger};
+use super::steps::{Case, Outcome, Step, from_ledger, from_ledger_of};
 use super::worked::RESERVED_TWICE_SETTLED_ONCE;
+use std::alloc::Global;
 use std::test::*;
 
 /// Login u reserves twice on day 1, and is settled with one.
@@ -35,158 +36,34 @@ const SETTINGS_FIRST: [Step; 9] = [
     Step::Open(0, 3, Outcome::NotOurs),
 ];
 
-/// Texts that make a pair wrong. The pair that is told is the least that isn't right, by the bytes of the login,
-/// then by the day.
-const DAMAGES: &[Case] = &[
+/// Texts that make a pair wrong, with the pair that is told: the least that isn't right, by the bytes of the
+/// login, then by the day.
+const DAMAGES: &[(&str, &str, i64)] = &[
     // What is settled or reserved isn't what the transactions settled or hold.
-    (
-        "UPDATE usage SET settled = -1",
-        &[
-            SETTLED_ONCE,
-            Step::Run("UPDATE usage SET settled = -1"),
-            Step::Open(0, 3, Outcome::Damaged("u", 1)),
-        ],
-    ),
-    (
-        "UPDATE usage SET settled = 2",
-        &[
-            SETTLED_ONCE,
-            Step::Run("UPDATE usage SET settled = 2"),
-            Step::Open(0, 3, Outcome::Damaged("u", 1)),
-        ],
-    ),
-    (
-        "UPDATE trans SET held = 1",
-        &[
-            SETTLED_ONCE,
-            Step::Run("UPDATE trans SET held = 1"),
-            Step::Open(0, 3, Outcome::Damaged("u", 1)),
-        ],
-    ),
-    (
-        "DELETE FROM usage",
-        &[
-            SETTLED_ONCE,
-            Step::Run("DELETE FROM usage"),
-            Step::Open(0, 3, Outcome::Damaged("u", 1)),
-        ],
-    ),
-    (
-        "DELETE FROM trans",
-        &[
-            SETTLED_ONCE,
-            Step::Run("DELETE FROM trans"),
-            Step::Open(0, 3, Outcome::Damaged("u", 1)),
-        ],
-    ),
+    ("UPDATE usage SET settled = -1", "u", 1),
+    ("UPDATE usage SET settled = 2", "u", 1),
+    ("UPDATE trans SET held = 1", "u", 1),
+    ("DELETE FROM usage", "u", 1),
+    ("DELETE FROM trans", "u", 1),
     // Both together are above the limit.
-    (
-        "INSERT INTO ceiling VALUES (x'75', 0, 0)",
-        &[
-            SETTLED_ONCE,
-            Step::Run("INSERT INTO ceiling VALUES (x'75', 0, 0)"),
-            Step::Open(0, 3, Outcome::Damaged("u", 1)),
-        ],
-    ),
+    ("INSERT INTO ceiling VALUES (x'75', 0, 0)", "u", 1),
     // The moment is out of range, or of another day.
-    (
-        "UPDATE trans SET moment = 86399",
-        &[
-            SETTLED_ONCE,
-            Step::Run("UPDATE trans SET moment = 86399"),
-            Step::Open(0, 3, Outcome::Damaged("u", 1)),
-        ],
-    ),
-    (
-        "UPDATE trans SET moment = 172800",
-        &[
-            SETTLED_ONCE,
-            Step::Run("UPDATE trans SET moment = 172800"),
-            Step::Open(0, 3, Outcome::Damaged("u", 1)),
-        ],
-    ),
+    ("UPDATE trans SET moment = 86399", "u", 1),
+    ("UPDATE trans SET moment = 172800", "u", 1),
     // Of the pair that the tables have and the one that they had, the earlier, and the lesser login.
-    (
-        "UPDATE usage SET day = -1",
-        &[
-            SETTLED_ONCE,
-            Step::Run("UPDATE usage SET day = -1"),
-            Step::Open(0, 3, Outcome::Damaged("u", -1)),
-        ],
-    ),
-    (
-        "UPDATE trans SET day = 2",
-        &[
-            SETTLED_ONCE,
-            Step::Run("UPDATE trans SET day = 2"),
-            Step::Open(0, 3, Outcome::Damaged("u", 1)),
-        ],
-    ),
-    (
-        "UPDATE usage SET login = x'6120625c'",
-        &[
-            SETTLED_ONCE,
-            Step::Run("UPDATE usage SET login = x'6120625c'"),
-            Step::Open(0, 3, Outcome::Damaged("a b\\", 1)),
-        ],
-    ),
-    (
-        "UPDATE usage SET login = x'76'",
-        &[
-            SETTLED_ONCE,
-            Step::Run("UPDATE usage SET login = x'76'"),
-            Step::Open(0, 3, Outcome::Damaged("u", 1)),
-        ],
-    ),
+    ("UPDATE usage SET day = -1", "u", -1),
+    ("UPDATE trans SET day = 2", "u", 1),
+    ("UPDATE usage SET login = x'6120625c'", "a b\\", 1),
+    ("UPDATE usage SET login = x'76'", "u", 1),
 ];
 
 /// Neither the answers nor a limit that isn't reached make a pair wrong.
-const NO_DAMAGES: &[Case] = &[
-    (
-        "DELETE FROM answer",
-        &[
-            SETTLED_ONCE,
-            Step::Run("DELETE FROM answer"),
-            Step::Open(0, 3, Outcome::Ready),
-            Step::Sound(1, 1),
-        ],
-    ),
-    (
-        "UPDATE setting SET arrivals = 9",
-        &[
-            SETTLED_ONCE,
-            Step::Run("UPDATE setting SET arrivals = 9"),
-            Step::Open(0, 3, Outcome::Ready),
-            Step::Sound(1, 1),
-        ],
-    ),
-    (
-        "INSERT INTO ceiling VALUES (x'75', 1, 1)",
-        &[
-            SETTLED_ONCE,
-            Step::Run("INSERT INTO ceiling VALUES (x'75', 1, 1)"),
-            Step::Open(0, 3, Outcome::Ready),
-            Step::Sound(1, 1),
-        ],
-    ),
-    (
-        "INSERT INTO ceiling VALUES (x'75', 2, 0)",
-        &[
-            SETTLED_ONCE,
-            Step::Run("INSERT INTO ceiling VALUES (x'75', 2, 0)"),
-            Step::Open(0, 3, Outcome::Ready),
-            Step::Sound(1, 1),
-        ],
-    ),
-    (
-        "INSERT INTO ceiling VALUES (x'76', 0, 0)",
-        &[
-            SETTLED_ONCE,
-            Step::Run("INSERT INTO ceiling VALUES (x'76', 0, 0)"),
-            Step::Open(0, 3, Outcome::Ready),
-            Step::Sound(1, 1),
-        ],
-    ),
+const NO_DAMAGES: &[&str] = &[
+    "DELETE FROM answer",
+    "UPDATE setting SET arrivals = 9",
+    "INSERT INTO ceiling VALUES (x'75', 1, 1)",
+    "INSERT INTO ceiling VALUES (x'75', 2, 0)",
+    "INSERT INTO ceiling VALUES (x'76', 0, 0)",
 ];
 
 /// A closed transaction that someone opened again: each pair is right until the ledger settles it once
@@ -216,9 +93,26 @@ const AUDITS: &[Case] = &[
     ("a ledger that is open goes wrong", &OPENED_AGAIN),
 ];
 
+/// Runs a text over the store of login u, settled with one, and tells what opens it otherwise.
+fn damage(alloc: Global, text: &'static str, login: &'static str, day: i64) -> Result<(), Fail> {
+    let opened = Step::Open(0, 3, Outcome::Damaged(login, day));
+    from_ledger_of(alloc, 3, text, &[SETTLED_ONCE, Step::Run(text), opened])
+}
+
+/// The same where nothing is damaged.
+fn no_damage(alloc: Global, text: &'static str) -> Result<(), Fail> {
+    let opened = Step::Open(0, 3, Outcome::Ready);
+    let steps = &[SETTLED_ONCE, Step::Run(text), opened, Step::Sound(1, 1)];
+    from_ledger_of(alloc, 3, text, steps)
+}
+
 #[test]
 fn audits(rt: HostRuntime) -> Result<(), Fail> {
-    from_ledger(rt.alloc(), AUDITS)?;
-    from_ledger(rt.alloc(), DAMAGES)?;
-    from_ledger(rt.alloc(), NO_DAMAGES)
+    for (text, login, day) in DAMAGES {
+        damage(rt.alloc(), *text, *login, *day)?;
+    }
+    for text in NO_DAMAGES {
+        no_damage(rt.alloc(), *text)?;
+    }
+    from_ledger(rt.alloc(), AUDITS)
 }

@@ -1,9 +1,8 @@
 //! All lists of one to three of nine requests, over tables and over the plain ledger.
 
-use crate::asks::{plain, reply_of, tables};
+use crate::asks::{Verdict, plain, reply_of, tables, told, wanted};
 use mq_ledger::Ledger;
 use std::alloc::Global;
-use std::process::Abort;
 use std::test::*;
 
 const REQUESTS: &[&str] = &[
@@ -42,23 +41,27 @@ fn agree_in_turn<A: Ledger, B: Ledger>(
     true
 }
 
-/// Asserts that both ledgers, new, reply the same to the requests of these places, in turn.
-fn compare(rt: &impl Abort, alloc: Global, places: &[usize]) -> Result<(), Fail> {
+/// Checks that both ledgers, new, reply the same to the requests of these places, in turn.
+fn check(alloc: Global, places: &[usize]) -> Verdict {
     let mut over_tables = tables(alloc, 3)?;
     let mut over_list = plain(alloc, 3);
     let is_same = agree_in_turn(alloc, &mut over_list, &mut over_tables, places);
-    assert!(rt; is_same, "at {places:?}");
-    Ok(())
+    wanted(is_same, "another reply")
 }
 
-/// The lists of one to three requests that begin with one of those at these places.
-fn compare_from(rt: &impl Abort, alloc: Global, places: &[usize]) -> Result<(), Fail> {
+/// A failure tells the places.
+fn check_list(alloc: Global, places: &[usize]) -> Result<(), Fail> {
+    told(alloc, places, check(alloc, places))
+}
+
+/// Checks the lists of one to three requests that begin with one of those at these places.
+fn check_from(alloc: Global, places: &[usize]) -> Result<(), Fail> {
     for first in places {
-        compare(rt, alloc, &[*first])?;
+        check_list(alloc, &[*first])?;
         for second in 0..REQUESTS.len() {
-            compare(rt, alloc, &[*first, second])?;
+            check_list(alloc, &[*first, second])?;
             for third in 0..REQUESTS.len() {
-                compare(rt, alloc, &[*first, second, third])?;
+                check_list(alloc, &[*first, second, third])?;
             }
         }
     }
@@ -67,20 +70,20 @@ fn compare_from(rt: &impl Abort, alloc: Global, places: &[usize]) -> Result<(), 
 
 #[test]
 fn lists_from_reserves(rt: HostRuntime) -> Result<(), Fail> {
-    compare_from(&rt, rt.alloc(), &[0, 1, 2])
+    check_from(rt.alloc(), &[0, 1, 2])
 }
 
 #[test]
 fn lists_from_a_release_and_a_settle(rt: HostRuntime) -> Result<(), Fail> {
-    compare_from(&rt, rt.alloc(), &[3, 4])
+    check_from(rt.alloc(), &[3, 4])
 }
 
 #[test]
 fn lists_from_limits(rt: HostRuntime) -> Result<(), Fail> {
-    compare_from(&rt, rt.alloc(), &[5, 6])
+    check_from(rt.alloc(), &[5, 6])
 }
 
 #[test]
 fn lists_from_usage_and_a_list(rt: HostRuntime) -> Result<(), Fail> {
-    compare_from(&rt, rt.alloc(), &[7, 8])
+    check_from(rt.alloc(), &[7, 8])
 }

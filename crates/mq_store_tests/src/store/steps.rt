@@ -1,6 +1,7 @@
 //! What is done to a ledger and to its store, as lists of steps.
 
-use crate::asks::{Asked, ask, replies, request_of, tables, zone};
+use crate::asks::{Asked, Verdict, ask, replies, request_of, tables, told, wanted, zone};
+use mq_frame::Reply;
 use mq_ledger::{Ledger, LedgerFault};
 use mq_store::{Audit, OpenFault, OpenRefused, SqlLedger};
 use sqlite::{Alter, Connection};
@@ -8,7 +9,7 @@ use std::alloc::Global;
 use std::test::*;
 
 /// What comes of making or opening a ledger.
-#[derive(Clone, Copy)]
+#[derive(Drop)]
 pub enum Outcome {
     Ready,
     NotOurs,
@@ -20,7 +21,7 @@ pub enum Outcome {
 }
 
 /// One step. The store of a ledger is taken from it where the step is one of the store.
-#[derive(Clone, Copy)]
+#[derive(Drop)]
 pub enum Step {
     /// The store runs this text.
     Run(&'static str),
@@ -46,9 +47,6 @@ pub enum Step {
 
 /// A list of steps, with its name.
 pub type Case = (&'static str, &'static [Step]);
-
-/// Whether a step came out as it says, or else why not.
-pub type Verdict = Result<(), &'static str>;
 
 /// What comes of making or opening, with the store.
 type Entered<S> = Result<SqlLedger<S>, OpenRefused<S>>;
@@ -77,7 +75,7 @@ pub fn open<S: Alter + Drop>(
 }
 
 /// Whether a refusal has this cause.
-pub fn is_refused(fault: &OpenFault, wanted: Outcome) -> bool {
+pub fn is_refused(fault: &OpenFault, wanted: &Outcome) -> bool {
     match (fault, wanted) {
         (OpenFault::NotOurs, Outcome::NotOurs)
         | (OpenFault::ZoneDiffers, Outcome::ZoneDiffers)
@@ -85,14 +83,14 @@ pub fn is_refused(fault: &OpenFault, wanted: Outcome) -> bool {
         | (OpenFault::Memory, Outcome::Memory)
         | (OpenFault::Store, Outcome::Store) => true,
         (OpenFault::Damaged { login, day }, Outcome::Damaged(least, of)) => {
-            login.as_slice() == least.as_bytes() && *day == of
+            login.as_slice() == least.as_bytes() && *day == *of
         }
         _ => false,
     }
 }
 
 /// What is held behind a making or an opening that is to come out so.
-fn judged<S: Alter + Drop>(entered: Entered<S>, wanted: Outcome) -> Held<S> {
+fn judged<S: Alter + Drop>(entered: Entered<S>, wanted: &Outcome) -> Held<S> {
     match entered {
         Ok(ledger) => match wanted {
             Outcome::Ready => Held::Ledger(ledger),
@@ -115,17 +113,15 @@ fn runs<S: Alter>(store: &mut Connection<S>, text: &str) -> bool {
 
 /// The number that a query answers.
 fn count<S: Alter>(store: &mut Connection<S>, query: &str) -> Option<i64> {
-    store.query_row(query, &[]).ok()?.get(0).ok()
+    match store.query_row(query, &[]) {
+        Ok(row) => row.get(0).ok(),
+        Err(_) => None,
+    }
 }
 
 /// What an audit finds. Without clauses, as `ask`.
 pub fn audit<S: Alter>(ledger: &mut SqlLedger<S>) -> Result<Audit, LedgerFault> {
     ledger.audit()
-}
-
-/// A case goes on where this is so.
-pub fn wanted(holds: bool, why: &'static str) -> Verdict {
-    if holds { Ok(()) } else { Err(why) }
 }
 
 fn is_sound(found: &Audit, rows: (u64, u64)) -> bool {
@@ -137,21 +133,27 @@ fn is_wrong(found: &Audit, least: &str, of: i64) -> bool {
 }
 
 /// Whether an audit finds what the step says.
-fn finds<S: Alter>(ledger: &mut SqlLedger<S>, step: Step) -> bool {
+fn finds<S: Alter>(ledger: &mut SqlLedger<S>, step: &Step) -> bool {
     let Ok(found) = audit(ledger) else {
         return false;
     };
     match step {
-        Step::Sound(usage, trans) => is_sound(&found, (usage, trans)),
-        Step::Wrong(least, of) => is_wrong(&found, least, of),
+        Step::Sound(usage, trans) => is_sound(&found, (*usage, *trans)),
+        Step::Wrong(least, of) => is_wrong(&found, least, *of),
         _ => false,
     }
 }
 
+fn is_fault(answer: Result<Reply, LedgerFault>) -> bool {
+    matches!(answer, Err(LedgerFault::Store))
+}
+
 /// Whether a ledger answers a request by the store's fault.
 fn fails<S: Alter>(alloc: Global, ledger: &mut SqlLedger<S>, request: &str) -> Option<bool> {
-    let request = request_of(alloc, request)?;
-    Some(ask(ledger, &request) == Err(LedgerFault::Store))
+    match request_of(alloc, request) {
+        Some(request) => Some(is_fault(ask(ledger, &request))),
+        None => None,
+    }
 }
 
 /// Takes requests in turn; the first that isn't replied to so is told.
@@ -166,7 +168,7 @@ fn take_all<L: Ledger>(alloc: Global, ledger: &mut L, asked: Asked) -> Verdict {
 }
 
 /// Takes a step of a ledger that is open.
-fn take_inside<S: Alter>(alloc: Global, ledger: &mut SqlLedger<S>, step: Step) -> Verdict {
+fn take_inside<S: Alter>(alloc: Global, ledger: &mut SqlLedger<S>, step: &Step) -> Verdict {
     match step {
         Step::Reply(request, reply) => {
             wanted(
@@ -178,42 +180,47 @@ fn take_inside<S: Alter>(alloc: Global, ledger: &mut SqlLedger<S>, step: Step) -
         Step::Fails(request) => wanted(fails(alloc, ledger, request) == Some(true), request),
         Step::Sound(..) | Step::Wrong(..) => wanted(finds(ledger, step), "an audit"),
         Step::GoesBy(minutes, default) => {
-            let is_so = ledger.zone() == zone(minutes) && ledger.default_cap() == default;
+            let is_so = ledger.zone() == zone(*minutes) && ledger.default_cap() == *default;
             wanted(is_so, "another zone or default")
         }
         _ => Err("a step of the store"),
     }
 }
 
-/// Takes a step of a store.
-fn take_outside<S: Alter + Drop>(alloc: Global, store: Connection<S>, step: Step) -> Held<S> {
+/// Takes a step of a store that stays one.
+fn take_at<S: Alter>(store: &mut Connection<S>, step: &Step) -> Verdict {
     match step {
-        Step::Run(text) => {
-            let mut store = store;
-            if runs(&mut store, text) {
-                Held::Store(store)
-            } else {
-                Held::Otherwise(text)
-            }
-        }
-        Step::Counts(query, number) => {
-            let mut store = store;
-            if count(&mut store, query) == Some(number) {
-                Held::Store(store)
-            } else {
-                Held::Otherwise(query)
-            }
-        }
+        Step::Run(text) => wanted(runs(store, text), text),
+        Step::Counts(query, number) => wanted(count(store, query) == Some(*number), query),
+        _ => Err("no ledger is open"),
+    }
+}
+
+/// A store behind a step that came out so.
+fn left<S: Alter + Drop>(store: Connection<S>, verdict: Verdict) -> Held<S> {
+    match verdict {
+        Ok(()) => Held::Store(store),
+        Err(why) => Held::Otherwise(why),
+    }
+}
+
+/// Takes a step of a store.
+fn take_outside<S: Alter + Drop>(alloc: Global, store: Connection<S>, step: &Step) -> Held<S> {
+    match step {
         Step::Make(outcome) => judged(make(alloc, store, 60), outcome),
         Step::Open(minutes, default, outcome) => {
-            judged(open(alloc, store, minutes, default), outcome)
+            judged(open(alloc, store, *minutes, *default), outcome)
         }
-        _ => Held::Otherwise("no ledger is open"),
+        _ => {
+            let mut store = store;
+            let verdict = take_at(&mut store, step);
+            left(store, verdict)
+        }
     }
 }
 
 /// Whether a step is one of the store.
-fn is_outside(step: Step) -> bool {
+fn is_outside(step: &Step) -> bool {
     matches!(
         step,
         Step::Run(_) | Step::Counts(..) | Step::Make(_) | Step::Open(..)
@@ -221,7 +228,7 @@ fn is_outside(step: Step) -> bool {
 }
 
 /// Takes one step of a ledger.
-fn take_of_ledger<S: Alter + Drop>(alloc: Global, before: SqlLedger<S>, step: Step) -> Held<S> {
+fn take_of_ledger<S: Alter + Drop>(alloc: Global, before: SqlLedger<S>, step: &Step) -> Held<S> {
     if is_outside(step) {
         return take_outside(alloc, before.into_connection(), step);
     }
@@ -233,7 +240,7 @@ fn take_of_ledger<S: Alter + Drop>(alloc: Global, before: SqlLedger<S>, step: St
 }
 
 /// Takes one step. Behind one that came out otherwise none is taken.
-fn take_step<S: Alter + Drop>(alloc: Global, before: Held<S>, step: Step) -> Held<S> {
+fn take_step<S: Alter + Drop>(alloc: Global, before: Held<S>, step: &Step) -> Held<S> {
     match before {
         Held::Ledger(ledger) => take_of_ledger(alloc, ledger, step),
         Held::Store(store) => take_outside(alloc, store, step),
@@ -252,7 +259,7 @@ fn verdict_of<S: Alter>(held: &Held<S>) -> Verdict {
 fn play<S: Alter + Drop>(alloc: Global, before: Held<S>, steps: &[Step]) -> Verdict {
     let mut held = before;
     for step in steps {
-        held = take_step(alloc, held, *step);
+        held = take_step(alloc, held, step);
     }
     verdict_of(&held)
 }
@@ -266,25 +273,17 @@ pub fn play_opened<S: Alter + Drop>(
 ) -> Verdict {
     let mut held = Held::Ledger(new);
     for (request, reply) in asked {
-        held = take_step(alloc, held, Step::Open(0, default, Outcome::Ready));
-        held = take_step(alloc, held, Step::Reply(request, reply));
+        held = take_step(alloc, held, &Step::Open(0, default, Outcome::Ready));
+        held = take_step(alloc, held, &Step::Reply(request, reply));
     }
     verdict_of(&held)
-}
-
-/// A failure tells the case and what came out otherwise.
-pub fn told(alloc: Global, name: &str, verdict: Verdict) -> Result<(), Fail> {
-    match verdict {
-        Ok(()) => Ok(()),
-        Err(why) => Err(Fail::new(format!(in alloc; "{name}: {why}")?)),
-    }
 }
 
 /// Takes each of these lists of steps from a new store in memory.
 pub fn from_store(alloc: Global, cases: &[Case]) -> Result<(), Fail> {
     for (name, steps) in cases {
         let store = Connection::open_in_memory(alloc)?;
-        told(alloc, name, play(alloc, Held::Store(store), steps))?;
+        told(alloc, *name, play(alloc, Held::Store(store), steps))?;
     }
     Ok(())
 }

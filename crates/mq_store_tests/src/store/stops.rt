@@ -1,9 +1,9 @@
 //! A ledger of which a file stops at some call, at each in turn, and that is opened anew over what
 //! is left of the files.
 
-use super::steps::{Outcome, Verdict, audit, is_refused, make, open, wanted};
+use super::steps::{Outcome, audit, is_refused, make, open};
 use super::worked::RESERVED_TWICE_SETTLED_ONCE;
-use crate::asks::{Asked, ask_in_turn, replies, tables};
+use crate::asks::{Asked, Verdict, ask_in_turn, replies, tables, wanted};
 use mq_ledger::Ledger;
 use mq_store::{Audit, OpenRefused, SqlLedger};
 use sqlite::{Alter, Connection, FileStore, Files, Options, Row};
@@ -88,12 +88,19 @@ fn rows_after<S: Alter + Drop>(alloc: Global, new: SqlLedger<S>, count: usize) -
     rows_of(alloc, &mut ledger.into_connection())
 }
 
+/// Puts the rows after so many of the requests behind a list.
+fn put_rows(alloc: Global, rows: &mut Vec<String>, count: usize) -> Verdict {
+    match rows_after(alloc, tables(alloc, 3)?, count) {
+        Some(text) => rows.push(text).or(Err("no memory")),
+        None => Err("no rows"),
+    }
+}
+
 /// The rows after each count of requests, from 0 on.
-fn rows_in_turn(alloc: Global) -> Result<Vec<String>, Fail> {
+fn rows_in_turn(alloc: Global) -> Result<Vec<String>, &'static str> {
     let mut rows = Vec::new(alloc);
     for count in 0..6 {
-        let text = rows_after(alloc, tables(alloc, 3)?, count).ok_or("no rows")?;
-        rows.push(text)?;
+        put_rows(alloc, &mut rows, count)?;
     }
     Ok(rows)
 }
@@ -124,11 +131,6 @@ fn connect<D: Disk + Drop>(
     }
 }
 
-/// The files of a connection, without a further call of them.
-fn files_of<D: Disk + Drop>(connection: Connection<FileStore<D>>) -> Files<D> {
-    connection.into_store().close()
-}
-
 /// Asks the ledger up to the first request that it doesn't reply to.
 fn ask_all<L: Ledger>(alloc: Global, ledger: &mut L) -> Stop {
     for (place, (request, reply)) in ASKED.iter().enumerate() {
@@ -156,10 +158,10 @@ fn run<S: Alter + Drop>(alloc: Global, store: Connection<S>, stop: &mut Stop) ->
     }
 }
 
-/// The same over files.
+/// The same over files, which are closed without a further call of them.
 fn run_over<D: Disk + Drop>(alloc: Global, files: Files<D>, stop: &mut Stop) -> Files<D> {
     match connect(alloc, files) {
-        Ok(store) => files_of(run(alloc, store, stop)),
+        Ok(store) => run(alloc, store, stop).into_store().close(),
         Err(files) => {
             *stop = Stop::Making;
             files
@@ -226,7 +228,7 @@ fn check_end<S: Alter + Drop>(
 /// Whether a ledger may be refused so behind the stop: none was made, and the store has no table.
 fn may_be_refused<S: Alter + Drop>(stop: Stop, refused: &OpenRefused<S>) -> bool {
     stop == Stop::Making
-        && is_refused(&refused.fault, Outcome::NotOurs)
+        && is_refused(&refused.fault, &Outcome::NotOurs)
         && refused.connection.schema().tables.is_empty()
 }
 
@@ -317,31 +319,48 @@ fn synced(files: Files<Fused>) -> Files<Fused> {
     files
 }
 
-/// Lets a file stop at this call, and answers where the run ended. Behind it the files are opened with all
-/// that was written, and with no more than what was synced.
+/// Checks what the files hold behind a stop: they are opened with all that was written, and with no more
+/// than what was synced.
+fn check_both(alloc: Global, rows: &[String], stop: Stop, files: Files<Fused>) -> Verdict {
+    let verdict = check_written(alloc, rows, stop, &files);
+    verdict.and(check_files(alloc, rows, stop, synced(files), true))
+}
+
+/// Lets a file stop at this call, and answers whether the run came to its end all the same.
 fn stop_at(
     alloc: Global,
     rows: &[String],
     stopping: Stopping,
     calls: u64,
-) -> Result<Stop, &'static str> {
+) -> Result<bool, &'static str> {
     let mut stop = Stop::Making;
     let files = run_over(alloc, fused_files(alloc, stopping, calls), &mut stop);
-    check_written(alloc, rows, stop, &files)?;
-    check_files(alloc, rows, stop, synced(files), true)?;
-    Ok(stop)
+    match check_both(alloc, rows, stop, files) {
+        Ok(()) => Ok(stop == Stop::Nowhere),
+        Err(why) => Err(why),
+    }
 }
 
-/// Lets a file stop at each of these calls in turn, until a run comes to its end, and answers how many
-/// calls that run made, if one did.
-fn sweep(alloc: Global, stopping: Stopping, first: u64, last: u64) -> Result<Option<u64>, Fail> {
-    let rows = rows_in_turn(alloc)?;
+/// What becomes of the calls at which a file stops in turn: how many calls the first run made that came to
+/// its end, if one did.
+type Swept = Result<Option<u64>, &'static str>;
+
+/// Lets a file stop at each of these calls in turn, until a run comes to its end.
+fn sweep_over(alloc: Global, rows: &[String], stopping: Stopping, first: u64, last: u64) -> Swept {
     for calls in first..last {
-        if stop_at(alloc, rows.as_slice(), stopping, calls)? == Stop::Nowhere {
+        if stop_at(alloc, rows, stopping, calls)? {
             return Ok(Some(calls));
         }
     }
     Ok(None)
+}
+
+/// The same, with the rows that may be found.
+fn sweep(alloc: Global, stopping: Stopping, first: u64, last: u64) -> Swept {
+    match rows_in_turn(alloc) {
+        Ok(rows) => sweep_over(alloc, rows.as_slice(), stopping, first, last),
+        Err(why) => Err(why),
+    }
 }
 
 #[test]

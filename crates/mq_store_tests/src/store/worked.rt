@@ -1,7 +1,8 @@
 //! The worked examples of `docs/LEDGER.md` over tables.
 
-use super::steps::{Step, from_ledger_of, play_opened, told};
-use crate::asks::{Asked, tables};
+use super::steps::{Step, from_ledger_of, play_opened};
+use crate::asks::{Asked, Verdict, tables, told};
+use std::alloc::Global;
 use std::test::*;
 
 pub const RESERVE_ONE: &str =
@@ -204,16 +205,15 @@ fn examples(rt: HostRuntime) -> Result<(), Fail> {
     Ok(())
 }
 
-/// The ledger is taken apart before each request, and opened.
+/// Takes an example's requests, where the ledger is taken apart before each, and opened.
+fn check_opened(alloc: Global, default: u32, asked: Asked) -> Verdict {
+    play_opened(alloc, tables(alloc, default)?, default, asked)
+}
+
 #[test]
 fn examples_opened_in_between(rt: HostRuntime) -> Result<(), Fail> {
     for (name, default, asked) in EXAMPLES {
-        let ledger = tables(rt.alloc(), *default)?;
-        told(
-            rt.alloc(),
-            name,
-            play_opened(rt.alloc(), ledger, *default, asked),
-        )?;
+        told(rt.alloc(), *name, check_opened(rt.alloc(), *default, asked))?;
     }
     Ok(())
 }

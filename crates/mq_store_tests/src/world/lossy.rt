@@ -1,14 +1,13 @@
 //! A link that loses, repeats, delays and mixes up, by a pseudo-random generator.
 
-use super::scripted::{answer, copied};
-use super::usage::{deliver_frame, usage_of};
+use super::scripted::{answer, copied, keep};
+use super::usage::{deliver_frame, is_covered};
 use mq_client::{Link, LinkFault};
 use mq_frame::{Request, encode_request, is_request};
 use mq_ledger::Ledger;
 use rand_core::utils::NextWord;
 use rand_pcg::Pcg32;
 use std::alloc::Global;
-use std::test::*;
 
 /// Pseudo-random numbers: a seed gives the same ones each time.
 #[derive(Drop)]
@@ -70,9 +69,9 @@ pub struct Lossy<L> {
     /// How many frames came to the ledger.
     pub arrivals: u64,
     /// At some moment more was let through than was settled and reserved, or this was above a limit.
-    pub passed: bool,
-    /// A frame had no reply, or there was no memory.
-    pub failed: bool,
+    passed: bool,
+    /// A frame had no reply, a request was out of range, or there was no memory.
+    failed: bool,
 }
 
 impl<L: Ledger + Drop> Lossy<L> {
@@ -95,13 +94,17 @@ impl<L: Ledger + Drop> Lossy<L> {
     fn is_covered(&mut self) -> bool {
         for (place, let_through) in self.let_through.iter().enumerate() {
             let login = LOGINS[place / 2 % 2];
-            let used = usage_of(self.alloc, &mut self.ledger, login, DAYS[place % 2]);
-            match used {
-                Some(used) if used.covers(*let_through) => {}
-                _ => return false,
+            let day = DAYS[place % 2];
+            if !is_covered(self.alloc, &mut self.ledger, login, day, *let_through) {
+                return false;
             }
         }
         true
+    }
+
+    /// Whether this is so, was so behind each arrival, and nothing failed.
+    pub fn is_well(&mut self) -> bool {
+        self.is_covered() && !self.passed && !self.failed
     }
 
     /// Looks at the ledger behind an arrival, and keeps what it replied.
@@ -126,25 +129,27 @@ impl<L: Ledger + Drop> Lossy<L> {
     }
 
     /// A frame is on its way from now on.
-    pub fn send(&mut self, frame: &[u8]) {
+    fn send(&mut self, frame: &[u8]) {
         self.failed |= keep(self.alloc, &mut self.sent, frame).is_none();
     }
 
     /// Anyone else sends a request.
-    pub fn send_request(&mut self, request: &Request) -> Result<(), Fail> {
+    pub fn send_request(&mut self, request: &Request) {
         let mut frame = Vec::new(self.alloc);
-        if !is_request(request) {
-            return Err("out of range".into());
+        if put_request(self.alloc, request, &mut frame) {
+            self.send(frame.as_slice());
+        } else {
+            self.failed = true;
         }
-        encode_request(self.alloc, request, &mut frame)?;
-        self.send(frame.as_slice());
-        Ok(())
     }
 
     /// A copy of a frame that was sent some time.
     fn old_frame(&mut self) -> Option<Vec<u8>> {
         let place = self.dice.late_place(self.sent.len());
-        copied(self.alloc, self.sent.get(place)?.as_slice()).ok()
+        match self.sent.get(place) {
+            Some(frame) => copied(self.alloc, frame.as_slice()).ok(),
+            None => None,
+        }
     }
 
     /// A frame that was sent some time comes to the ledger.
@@ -185,9 +190,9 @@ impl<L: Ledger + Drop> Lossy<L> {
     }
 }
 
-/// Puts bytes behind a list.
-fn keep(alloc: Global, list: &mut Vec<Vec<u8>>, bytes: &[u8]) -> Option<()> {
-    list.push(copied(alloc, bytes).ok()?).ok()
+/// Puts the frame of a request in range behind the bytes, if there is memory.
+fn put_request(alloc: Global, request: &Request, bytes: &mut Vec<u8>) -> bool {
+    is_request(request) && encode_request(alloc, request, bytes).is_ok()
 }
 
 impl<L: Ledger + Drop> Link for Lossy<L> {

@@ -1,11 +1,10 @@
 //! Worked schedules: what smtpd is told, what is sent, and what stands in the ledger at the end.
 
-use super::scripted::{Scripted, run};
+use super::scripted::{Script, Scripted, run};
 use super::usage::{Used, usage_of};
-use crate::asks::{is_body, plain, tables};
+use crate::asks::{Verdict, is_body, plain, tables, told, wanted};
 use mq_ledger::Ledger;
 use std::alloc::Global;
-use std::process::Abort;
 use std::test::*;
 
 /// Up to the recipient.
@@ -46,22 +45,22 @@ const SERVICE: &[u8] =
 ";
 
 /// A schedule of one recipient whose transaction is committed.
-#[derive(Clone, Copy)]
-struct Row<'a> {
-    script: &'a [u8],
+struct Row {
+    name: &'static str,
+    script: Script,
     /// The last line that smtpd is told.
-    answer: &'a [u8],
+    answer: &'static [u8],
     exchanges: usize,
     /// The replies of the ledger's entries, in order.
-    entries: &'a [&'a str],
+    entries: &'static [&'static str],
     /// What stands in the ledger at the end.
     used: Used,
 }
 
-const ROWS: &[Row<'static>] = &[
-    // a lost reply
+const ROWS: &[Row] = &[
     Row {
-        script: b"BDD",
+        name: "a lost reply",
+        script: *b"BDDDD",
         answer: PROCEED,
         exchanges: 3,
         entries: &[
@@ -74,9 +73,9 @@ const ROWS: &[Row<'static>] = &[
             cap: 3,
         },
     },
-    // the frame comes late
     Row {
-        script: b"HHHD",
+        name: "the frame comes late",
+        script: *b"HHHDD",
         answer: SERVICE,
         exchanges: 4,
         entries: &[
@@ -89,9 +88,9 @@ const ROWS: &[Row<'static>] = &[
             cap: 3,
         },
     },
-    // every reply to the reserve lost
     Row {
-        script: b"BBBD",
+        name: "every reply to the reserve lost",
+        script: *b"BBBDD",
         answer: SERVICE,
         exchanges: 4,
         entries: &[
@@ -106,73 +105,91 @@ const ROWS: &[Row<'static>] = &[
     },
 ];
 
-/// Asserts that a ledger wrote these replies, in order.
-fn assert_replies(rt: &impl Abort, alloc: Global, replies: &[Vec<u8>], wanted: &[&str]) {
-    assert_eq!(rt; replies.len(), wanted.len());
-    for (reply, digits) in replies.iter().zip(wanted) {
-        assert!(rt; is_body(alloc, reply.as_slice(), digits), "{digits}");
+/// Whether these are the bodies of these digits, in order.
+fn are_bodies(alloc: Global, bodies: &[Vec<u8>], wanted: &[&str]) -> bool {
+    for (place, digits) in wanted.iter().enumerate() {
+        match bodies.get(place) {
+            Some(body) if is_body(alloc, body.as_slice(), digits) => {}
+            _ => return false,
+        }
     }
+    bodies.len() == wanted.len()
 }
 
-/// Asserts that what the filter of a host writes for these lines ends so.
-fn assert_answer<L: Ledger + Drop>(
-    rt: &impl Abort,
+/// Checks that what the filter of a host writes for these lines ends so.
+fn check_answer<L: Ledger + Drop>(
     alloc: Global,
-    link: &mut Scripted<'_, L>,
+    link: &mut Scripted<L>,
     host: &[u8],
     lines: &[u8],
     answer: &[u8],
-) -> Result<(), Fail> {
-    let text = run(alloc, link, host, lines)?;
-    assert!(rt; text.as_slice().ends_with(answer));
-    Ok(())
+) -> Verdict {
+    match run(alloc, link, host, lines) {
+        Some(text) => wanted(text.as_slice().ends_with(answer), "another answer"),
+        None => Err("no answer"),
+    }
 }
 
-/// Asserts that the schedule comes out as it was worked, over a ledger of default 3.
-fn assert_row<L: Ledger + Drop>(
-    rt: &impl Abort,
-    alloc: Global,
-    ledger: L,
-    row: &Row<'_>,
-) -> Result<(), Fail> {
-    let mut link = Scripted::new(alloc, ledger, row.script);
-    assert_answer(rt, alloc, &mut link, b"mx1", COMMITTED, row.answer)?;
+/// Checks what stands in the ledger of a link.
+fn check_used<L: Ledger + Drop>(alloc: Global, link: &mut Scripted<L>, used: Used) -> Verdict {
+    let found = usage_of(alloc, &mut link.ledger, ALICE, DAY);
+    wanted(found == Some(used), "another usage")
+}
+
+/// Checks that the schedule comes out over a link as it was worked.
+fn check_link<L: Ledger + Drop>(alloc: Global, link: &mut Scripted<L>, row: &Row) -> Verdict {
+    check_answer(alloc, link, b"mx1", COMMITTED, row.answer)?;
     link.deliver_late();
-    assert_eq!(rt; link.exchanges, row.exchanges);
-    assert_replies(rt, alloc, &link.replies, row.entries);
-    let used = usage_of(alloc, &mut link.ledger, ALICE, DAY);
-    assert_eq!(rt; used, Some(row.used));
-    Ok(())
+    wanted(link.exchanges == row.exchanges, "other exchanges")?;
+    let is_so = are_bodies(alloc, link.replies.as_slice(), row.entries);
+    wanted(is_so, "other replies")?;
+    check_used(alloc, link, row.used)
+}
+
+/// The same over a ledger of default 3.
+fn check_row<L: Ledger + Drop>(alloc: Global, ledger: L, row: &Row) -> Verdict {
+    let mut link = Scripted::new(alloc, ledger, row.script);
+    check_link(alloc, &mut link, row)
+}
+
+/// The same over a list and over tables.
+fn check_both(alloc: Global, row: &Row) -> Verdict {
+    check_row(alloc, plain(alloc, 3), row)?;
+    check_row(alloc, tables(alloc, 3)?, row)
 }
 
 #[test]
 fn one_recipient_by_a_script(rt: HostRuntime) -> Result<(), Fail> {
     for row in ROWS {
-        assert_row(&rt, rt.alloc(), plain(rt.alloc(), 3), row)?;
-        assert_row(&rt, rt.alloc(), tables(rt.alloc(), 3)?, row)?;
+        told(rt.alloc(), row.name, check_both(rt.alloc(), row))?;
     }
     Ok(())
 }
 
-/// Asserts that of two hosts the first lets its recipient through, and the second refuses its own.
-fn assert_shared<L: Ledger + Drop>(rt: &impl Abort, alloc: Global, ledger: L) -> Result<(), Fail> {
-    let mut link = Scripted::new(alloc, ledger, b"");
-    assert_answer(rt, alloc, &mut link, b"mx1", SESSION, PROCEED)?;
-    assert_answer(rt, alloc, &mut link, b"mx2", SESSION, LIMIT)?;
-    let used = usage_of(alloc, &mut link.ledger, ALICE, DAY);
-    assert_eq!(rt;
-        used,
-        Some(Used {
-            settled: 0,
-            reserved: 1,
-            cap: 1
-        })
-    );
-    Ok(())
+/// What stands where one recipient of a cap of 1 was let through, and isn't sent yet.
+const ONE_RESERVED: Used = Used {
+    settled: 0,
+    reserved: 1,
+    cap: 1,
+};
+
+/// Checks that of two hosts the first lets its recipient through, and the second refuses its own.
+fn check_hosts<L: Ledger + Drop>(alloc: Global, link: &mut Scripted<L>) -> Verdict {
+    check_answer(alloc, link, b"mx1", SESSION, PROCEED)?;
+    check_answer(alloc, link, b"mx2", SESSION, LIMIT)?;
+    check_used(alloc, link, ONE_RESERVED)
+}
+
+/// The same over a ledger of default 1.
+fn check_shared<L: Ledger + Drop>(alloc: Global, ledger: L) -> Verdict {
+    let mut link = Scripted::new(alloc, ledger, *b"DDDDD");
+    check_hosts(alloc, &mut link)
 }
 
 #[test]
 fn two_hosts_share_one_recipient(rt: HostRuntime) -> Result<(), Fail> {
-    assert_shared(&rt, rt.alloc(), plain(rt.alloc(), 1))?;
-    assert_shared(&rt, rt.alloc(), tables(rt.alloc(), 1)?)
+    let listed = check_shared(rt.alloc(), plain(rt.alloc(), 1));
+    told(rt.alloc(), "over a list", listed)?;
+    let tabled = check_shared(rt.alloc(), tables(rt.alloc(), 1)?);
+    told(rt.alloc(), "over tables", tabled)
 }

@@ -1,16 +1,14 @@
 //! Random schedules of several hosts over one ledger, from fixed seeds.
 
-use super::lossy::{DAYS, Dice, LOGINS, Lossy};
+use super::lossy::{Dice, LOGINS, Lossy};
 use super::scripted::client_of;
-use super::usage::{assert_covers, usage_of};
-use crate::asks::{plain, tables};
+use crate::asks::{Verdict, plain, tables, told, wanted};
 use log::sink::Discard;
-use mq_client::{Asked, Client, Memory};
+use mq_client::{Asked, Client};
 use mq_frame::{Host, Id, Login, Request, is_login, is_moment};
 use mq_ledger::Ledger;
 use mq_track::{CloseEnd, Closing};
 use std::alloc::Global;
-use std::process::Abort;
 use std::test::*;
 
 /// The hosts with a filter.
@@ -62,18 +60,22 @@ fn subtract(sums: &mut [u32; 4], place: usize, dropped: u32) {
     }
 }
 
-/// Asks for a recipient of the transaction, where it is in range.
+/// Whether a recipient of the transaction is let through, where it is in range; nothing where there is no
+/// memory.
 fn reserve<L: Ledger + Drop>(
     link: &mut Lossy<L>,
     client: &mut Client,
     open: &Open,
-) -> Result<Asked, Memory> {
+) -> Option<bool> {
     let login = LOGINS[(open.login % 2) as usize];
     let at = MOMENTS[(open.moment % 4) as usize];
     if open.txn < 1 || !is_login(login) || !is_moment(at) {
-        return Ok(Asked::Unavailable);
+        return Some(false);
     }
-    client.reserve(&Discard, link, open.txn, at, login)
+    match client.reserve(&Discard, link, open.txn, at, login) {
+        Ok(asked) => Some(asked == Asked::Granted),
+        Err(_) => None,
+    }
 }
 
 /// Closes a transaction. Without clauses, so that its callers stay cheap to prove.
@@ -81,8 +83,8 @@ fn close<L: Ledger + Drop>(
     link: &mut Lossy<L>,
     client: &mut Client,
     closing: Closing,
-) -> Result<(), Memory> {
-    client.close(&Discard, link, closing)
+) -> Option<()> {
+    client.close(&Discard, link, closing).ok()
 }
 
 /// Sends what waits. Without clauses, as `close`.
@@ -90,9 +92,22 @@ fn drain<L: Ledger + Drop>(link: &mut Lossy<L>, client: &mut Client) {
     let _ = client.drain(&Discard, link);
 }
 
+/// A recipient of an open transaction is asked for.
+fn ask_of<L: Ledger + Drop>(
+    link: &mut Lossy<L>,
+    client: &mut Client,
+    open: &mut Open,
+) -> Option<()> {
+    if reserve(link, client, open)? {
+        open.let_through = open.let_through.saturating_add(1);
+        add(&mut link.let_through, open.place());
+    }
+    Some(())
+}
+
 impl Sender {
-    fn new(alloc: Global, name: &'static [u8]) -> Result<Sender, Fail> {
-        Ok(Sender {
+    fn new(alloc: Global, name: &'static [u8]) -> Option<Sender> {
+        Some(Sender {
             name,
             run: 1,
             client: client_of(alloc, name, 1, 2)?,
@@ -102,38 +117,36 @@ impl Sender {
     }
 
     /// A transaction begins.
-    fn begin<L: Ledger + Drop>(&mut self, link: &mut Lossy<L>) -> Result<(), Fail> {
+    fn begin(&mut self, dice: &mut Dice) -> Option<()> {
         self.begun = self.begun.saturating_add(1);
-        self.open.push(Open {
+        let login = dice.below(2);
+        let moment = dice.below(4);
+        let open = Open {
             txn: self.begun,
-            login: link.dice.below(2),
-            moment: link.dice.below(4),
+            login,
+            moment,
             let_through: 0,
-        })?;
-        Ok(())
+        };
+        self.open.push(open).ok()
     }
 
     /// A recipient of an open transaction is asked for. Where none is open, one begins.
-    fn ask<L: Ledger + Drop>(&mut self, link: &mut Lossy<L>) -> Result<(), Fail> {
+    fn ask<L: Ledger + Drop>(&mut self, link: &mut Lossy<L>) -> Option<()> {
         if self.open.is_empty() {
-            self.begin(link)?;
+            self.begin(&mut link.dice)?;
         }
         let place = link.dice.place(self.open.len());
-        let Some(open) = self.open.get_mut(place) else {
-            return Ok(());
-        };
-        if reserve(link, &mut self.client, open)? == Asked::Granted {
-            open.let_through = open.let_through.saturating_add(1);
-            add(&mut link.let_through, open.place());
+        match self.open.get_mut(place) {
+            Some(open) => ask_of(link, &mut self.client, open),
+            None => Some(()),
         }
-        Ok(())
     }
 
     /// An open transaction ends.
-    fn close<L: Ledger + Drop>(&mut self, link: &mut Lossy<L>) -> Result<(), Fail> {
+    fn close<L: Ledger + Drop>(&mut self, link: &mut Lossy<L>) -> Option<()> {
         let place = link.dice.place(self.open.len());
         if self.open.len() <= place {
-            return Ok(());
+            return Some(());
         }
         let open = self.open.swap_remove(place);
         let end = if link.dice.below(3) == 0 {
@@ -142,17 +155,16 @@ impl Sender {
         } else {
             CloseEnd::Commit
         };
-        close(link, &mut self.client, Closing { txn: open.txn, end })?;
-        Ok(())
+        close(link, &mut self.client, Closing { txn: open.txn, end })
     }
 
     /// The run stops, and another begins.
-    fn restart(&mut self, alloc: Global, tries: u32) -> Result<(), Fail> {
+    fn restart(&mut self, alloc: Global, tries: u32) -> Option<()> {
         self.run = self.run.saturating_add(1);
         self.client = client_of(alloc, self.name, self.run, tries)?;
         self.begun = 0;
         self.open.clear();
-        Ok(())
+        Some(())
     }
 }
 
@@ -160,26 +172,30 @@ impl Sender {
 const OTHER: &[u8] = b"other";
 
 /// The number of a request of someone who isn't a filter, over few.
-fn id_of_others(alloc: Global, dice: &mut Dice) -> Result<Id, Fail> {
-    let host = Host::from_slice(alloc, OTHER)?;
-    Ok(Id {
-        host,
-        run: 1,
-        seq: dice.from_one(30),
-    })
+fn id_of_others(alloc: Global, dice: &mut Dice) -> Option<Id> {
+    match Host::from_slice(alloc, OTHER) {
+        Ok(host) => Some(Id {
+            host,
+            run: 1,
+            seq: dice.from_one(30),
+        }),
+        Err(_) => None,
+    }
 }
 
 /// One of the logins.
-fn login_of_others(alloc: Global, dice: &mut Dice) -> Result<Login, Fail> {
+fn login_of_others(alloc: Global, dice: &mut Dice) -> Option<Login> {
     let place = dice.below(2) % 2;
-    Ok(Login::from_slice(alloc, LOGINS[place as usize])?)
+    Login::from_slice(alloc, LOGINS[place as usize]).ok()
 }
 
 /// A request of someone who isn't a filter, over few numbers and transactions.
-fn request_of_others(alloc: Global, dice: &mut Dice) -> Result<Request, Fail> {
+fn request_of_others(alloc: Global, dice: &mut Dice) -> Option<Request> {
     let id = id_of_others(alloc, dice)?;
-    let login = login_of_others(alloc, dice)?;
-    Ok(any_request(dice, id, login))
+    match login_of_others(alloc, dice) {
+        Some(login) => Some(any_request(dice, id, login)),
+        None => None,
+    }
 }
 
 /// A request of any kind that has a number.
@@ -213,28 +229,27 @@ fn any_request(dice: &mut Dice, id: Id, login: Login) -> Request {
 }
 
 /// Someone who isn't a filter sends a request.
-fn send_of_others<L: Ledger + Drop>(alloc: Global, link: &mut Lossy<L>) -> Result<(), Fail> {
+fn send_of_others<L: Ledger + Drop>(alloc: Global, link: &mut Lossy<L>) -> Option<()> {
     let request = request_of_others(alloc, &mut link.dice)?;
-    link.send_request(&request)
+    link.send_request(&request);
+    Some(())
 }
 
-/// One step of a schedule.
+/// One step of a schedule; nothing where there is no memory.
 fn step<L: Ledger + Drop>(
     alloc: Global,
     link: &mut Lossy<L>,
     senders: &mut [Sender],
-) -> Result<(), Fail> {
+) -> Option<()> {
     let place = link.dice.place(senders.len());
-    let Some(sender) = senders.get_mut(place) else {
-        return Ok(());
-    };
+    let sender = senders.get_mut(place)?;
     match link.dice.below(40) {
-        0..=5 => sender.begin(link),
+        0..=5 => sender.begin(&mut link.dice),
         6..=23 => sender.ask(link),
         24..=30 => sender.close(link),
         31 => {
             drain(link, &mut sender.client);
-            Ok(())
+            Some(())
         }
         32 => {
             let tries = link.dice.from_one(3);
@@ -242,23 +257,10 @@ fn step<L: Ledger + Drop>(
         }
         33..=36 => {
             link.take_one();
-            Ok(())
+            Some(())
         }
         _ => send_of_others(alloc, link),
     }
-}
-
-/// Asserts of each login and day that what was let through is settled or reserved, and within the
-/// limit.
-fn assert_state<L: Ledger + Drop>(rt: &impl Abort, alloc: Global, link: &mut Lossy<L>) {
-    for (place, let_through) in link.let_through.iter().enumerate() {
-        let login = LOGINS[place / 2 % 2];
-        let day = DAYS[place % 2];
-        let used = usage_of(alloc, &mut link.ledger, login, day);
-        assert_covers(rt, used, *let_through);
-    }
-    assert!(rt; !link.passed);
-    assert!(rt; !link.failed);
 }
 
 /// What came of some schedules.
@@ -270,41 +272,61 @@ struct Tally {
 }
 
 /// The first hosts, so many.
-fn senders_of(alloc: Global, count: usize) -> Result<Vec<Sender>, Fail> {
+fn senders_of(alloc: Global, count: usize) -> Option<Vec<Sender>> {
     let mut senders = Vec::new(alloc);
     for name in HOSTS.iter().take(count) {
-        senders.push(Sender::new(alloc, name)?)?;
+        senders.push(Sender::new(alloc, name)?).ok()?;
     }
-    Ok(senders)
+    Some(senders)
 }
 
-/// The steps of a schedule, with a check behind each.
-fn assert_steps<L: Ledger + Drop>(
-    rt: &impl Abort,
+/// Takes the steps of a schedule. Behind each what was let through is settled or reserved for each login
+/// and day, and within the limit.
+fn check_steps<L: Ledger + Drop>(
     alloc: Global,
     link: &mut Lossy<L>,
     senders: &mut [Sender],
-) -> Result<(), Fail> {
+) -> Verdict {
     for _ in 0..STEPS {
-        step(alloc, link, senders)?;
-        assert_state(rt, alloc, link);
+        let taken = step(alloc, link, senders);
+        wanted(taken.is_some(), "a step without memory")?;
+        wanted(
+            link.is_well(),
+            "more let through than is counted, or above the limit",
+        )?;
     }
     Ok(())
 }
 
+/// A schedule of so many hosts over a link.
+fn check_link<L: Ledger + Drop>(alloc: Global, link: &mut Lossy<L>, count: usize) -> Verdict {
+    match senders_of(alloc, count) {
+        Some(senders) => {
+            let mut senders = senders;
+            check_steps(alloc, link, senders.as_mut_slice())
+        }
+        None => Err("no memory"),
+    }
+}
+
 /// A schedule of two to four hosts over a new ledger.
-fn assert_schedule<L: Ledger + Drop>(
-    rt: &impl Abort,
+fn check_schedule<L: Ledger + Drop>(
     alloc: Global,
     ledger: L,
     seed: u64,
     tally: &mut Tally,
-) -> Result<(), Fail> {
+) -> Verdict {
     let mut link = Lossy::new(alloc, ledger, seed);
-    let mut senders = senders_of(alloc, 2 + (seed % 3) as usize)?;
-    assert_steps(rt, alloc, &mut link, senders.as_mut_slice())?;
+    let verdict = check_link(alloc, &mut link, 2 + (seed % 3) as usize);
     tally.add(link.arrivals, link.let_through);
-    Ok(())
+    verdict
+}
+
+/// A schedule over tables, which goes as over a list.
+fn check_tables(alloc: Global, seed: u64, listed: &mut Tally, tabled: &mut Tally) -> Verdict {
+    check_schedule(alloc, plain(alloc, 4), seed, listed)?;
+    check_schedule(alloc, tables(alloc, 4)?, seed, tabled)?;
+    wanted(*tabled == *listed, "over tables it goes otherwise")
 }
 
 impl Tally {
@@ -330,7 +352,8 @@ impl Tally {
 fn schedules_over_a_list(rt: HostRuntime) -> Result<(), Fail> {
     let mut tally = Tally::new();
     for seed in 0..20_000u64 {
-        assert_schedule(&rt, rt.alloc(), plain(rt.alloc(), 4), seed, &mut tally)?;
+        let verdict = check_schedule(rt.alloc(), plain(rt.alloc(), 4), seed, &mut tally);
+        told(rt.alloc(), seed, verdict)?;
     }
     println!(rt; "20,000 schedules over a list: {tally:?}")?;
     Ok(())
@@ -342,9 +365,8 @@ fn schedules_over_tables(rt: HostRuntime) -> Result<(), Fail> {
     let mut listed = Tally::new();
     let mut tabled = Tally::new();
     for seed in 100_000..102_000u64 {
-        assert_schedule(&rt, rt.alloc(), plain(rt.alloc(), 4), seed, &mut listed)?;
-        assert_schedule(&rt, rt.alloc(), tables(rt.alloc(), 4)?, seed, &mut tabled)?;
-        assert_eq!(rt; tabled, listed, "at {seed}");
+        let verdict = check_tables(rt.alloc(), seed, &mut listed, &mut tabled);
+        told(rt.alloc(), seed, verdict)?;
     }
     println!(rt; "2,000 schedules over tables: {tabled:?}")?;
     Ok(())

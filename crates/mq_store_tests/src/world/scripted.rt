@@ -8,24 +8,26 @@ use mq_client::{Client, Ended, FilterFault, Link, LinkFault, run_filter};
 use mq_frame::{FromRead, Host, Sink, Source, ToWrite, is_host, is_run};
 use mq_ledger::Ledger;
 use std::alloc::Global;
-use std::test::*;
 
-/// A link to a ledger whose exchanges go by letters: with `L` the frame is lost, with `B` it is
-/// delivered and the reply is lost, with `H` it is delivered once the runs have ended; with any other
-/// letter, and behind the last one, it is delivered and the reply comes.
+/// The letters of five exchanges: with `L` the frame is lost, with `B` it is delivered and the reply is
+/// lost, with `H` it is delivered once the runs have ended; with any other letter, and behind the last
+/// one, it is delivered and the reply comes.
+pub type Script = [u8; 5];
+
+/// A link to a ledger whose exchanges go by a script.
 #[derive(Drop)]
-pub struct Scripted<'a, L> {
+pub struct Scripted<L> {
     alloc: Global,
     pub ledger: L,
-    script: &'a [u8],
+    script: Script,
     pub exchanges: usize,
     late: Vec<Vec<u8>>,
     /// The bodies of the replies, each once, in the order in which they were first written.
     pub replies: Vec<Vec<u8>>,
 }
 
-impl<'a, L: Ledger + Drop> Scripted<'a, L> {
-    pub fn new(alloc: Global, ledger: L, script: &'a [u8]) -> Scripted<'a, L> {
+impl<L: Ledger + Drop> Scripted<L> {
+    pub fn new(alloc: Global, ledger: L, script: Script) -> Scripted<L> {
         Scripted {
             alloc,
             ledger,
@@ -36,22 +38,19 @@ impl<'a, L: Ledger + Drop> Scripted<'a, L> {
         }
     }
 
-    /// Keeps the body of a reply that wasn't written before.
-    fn keep(&mut self, body: &[u8]) -> Result<(), LinkFault> {
-        for known in self.replies.as_slice() {
-            if known.as_slice() == body {
-                return Ok(());
-            }
+    /// Keeps the body of a reply that wasn't written before. One that isn't kept for want of memory is
+    /// missed by who looks at the replies.
+    fn note(&mut self, body: &[u8]) {
+        if !has(self.replies.as_slice(), body) {
+            let _ = keep(self.alloc, &mut self.replies, body);
         }
-        let copy = copied(self.alloc, body)?;
-        self.replies.push(copy).or(Err(LinkFault::Memory))
     }
 
     /// The frame comes to the ledger.
     fn deliver(&mut self, frame: &[u8]) -> Result<Vec<u8>, LinkFault> {
         match deliver_frame(self.alloc, &mut self.ledger, frame) {
             Some(body) => {
-                self.keep(body.as_slice())?;
+                self.note(body.as_slice());
                 Ok(body)
             }
             None => Err(LinkFault::Down),
@@ -63,12 +62,6 @@ impl<'a, L: Ledger + Drop> Scripted<'a, L> {
         let late = std::mem::replace(&mut self.late, Vec::new(self.alloc));
         for frame in late.as_slice() {
             let _ = self.deliver(frame.as_slice());
-        }
-    }
-
-    fn hold_back(&mut self, frame: &[u8]) {
-        if let Ok(copy) = Vec::from_slice(self.alloc, frame) {
-            let _ = self.late.push(copy);
         }
     }
 
@@ -86,16 +79,33 @@ impl<'a, L: Ledger + Drop> Scripted<'a, L> {
             b'B' => {
                 let _ = self.deliver(frame);
             }
-            b'H' => self.hold_back(frame),
+            b'H' => {
+                let _ = keep(self.alloc, &mut self.late, frame);
+            }
             _ => return self.deliver(frame),
         }
         Err(LinkFault::TimedOut)
     }
 }
 
+/// Whether bytes are among these.
+fn has(list: &[Vec<u8>], bytes: &[u8]) -> bool {
+    for known in list {
+        if known.as_slice() == bytes {
+            return true;
+        }
+    }
+    false
+}
+
 /// A copy of bytes.
 pub fn copied(alloc: Global, bytes: &[u8]) -> Result<Vec<u8>, LinkFault> {
     Vec::from_slice(alloc, bytes).or(Err(LinkFault::Memory))
+}
+
+/// Puts bytes behind a list.
+pub fn keep(alloc: Global, list: &mut Vec<Vec<u8>>, bytes: &[u8]) -> Option<()> {
+    list.push(copied(alloc, bytes).ok()?).ok()
 }
 
 /// Puts a body into the reply, where one came.
@@ -112,19 +122,26 @@ pub fn answer(body: Result<Vec<u8>, LinkFault>, reply: &mut Vec<u8>) -> Result<(
     }
 }
 
-impl<L: Ledger + Drop> Link for Scripted<'_, L> {
+impl<L: Ledger + Drop> Link for Scripted<L> {
     fn exchange(&mut self, frame: &[u8], reply: &mut Vec<u8>) -> Result<(), LinkFault> {
         answer(self.bring(frame), reply)
     }
 }
 
 /// A client of a host's run, with so many tries.
-pub fn client_of(alloc: Global, name: &[u8], run: u64, tries: u32) -> Result<Client, Fail> {
-    let host = Host::from_slice(alloc, name)?;
+fn new_client(alloc: Global, host: &Host, run: u64, tries: u32) -> Option<Client> {
     if !is_host(host.as_slice()) || !is_run(run) || tries < 1 || 10 < tries {
-        return Err("no client".into());
+        return None;
     }
-    Ok(Client::new(alloc, &host, run, tries)?)
+    Client::new(alloc, host, run, tries).ok()
+}
+
+/// A client of a host's run, with so many tries.
+pub fn client_of(alloc: Global, name: &[u8], run: u64, tries: u32) -> Option<Client> {
+    match Host::from_slice(alloc, name) {
+        Ok(host) => new_client(alloc, &host, run, tries),
+        Err(_) => None,
+    }
 }
 
 /// Runs the filter. Without clauses, so that its callers stay cheap to prove.
@@ -138,25 +155,28 @@ fn filter<S: Source, W: Sink, K: Link>(
     run_filter(&Discard, alloc, input, output, link, client)
 }
 
-/// What the filter of a client writes for these lines.
+/// What the filter of a client writes for these lines; nothing where it doesn't come to its end.
 fn written_for<K: Link>(
     alloc: Global,
     link: &mut K,
     client: &mut Client,
     lines: &[u8],
-) -> Result<Vec<u8>, Fail> {
+) -> Option<Vec<u8>> {
     let mut input = FromRead::new(lines);
     let mut output = ToWrite::new(Vec::new(alloc));
-    filter(alloc, &mut input, &mut output, link, client)?;
-    Ok(output.into_inner())
+    match filter(alloc, &mut input, &mut output, link, client) {
+        Ok(_) => Some(output.into_inner()),
+        Err(_) => None,
+    }
 }
 
-/// What the filter of a host writes for these lines.
-pub fn run<K: Link>(
-    alloc: Global,
-    link: &mut K,
-    name: &[u8],
-    lines: &[u8],
-) -> Result<Vec<u8>, Fail> {
-    written_for(alloc, link, &mut client_of(alloc, name, 1, 3)?, lines)
+/// What the filter of a host writes for these lines, as `written_for`.
+pub fn run<K: Link>(alloc: Global, link: &mut K, name: &[u8], lines: &[u8]) -> Option<Vec<u8>> {
+    match client_of(alloc, name, 1, 3) {
+        Some(client) => {
+            let mut client = client;
+            written_for(alloc, link, &mut client, lines)
+        }
+        None => None,
+    }
 }

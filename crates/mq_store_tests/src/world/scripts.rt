@@ -1,13 +1,12 @@
 //! All scripts of up to five letters.
 
 use super::rows::{ALICE, COMMITTED, DAY};
-use super::scripted::{Scripted, run};
-use super::usage::{assert_covers, usage_of};
-use crate::asks::{plain, tables};
+use super::scripted::{Script, Scripted, run};
+use super::usage::is_covered;
+use crate::asks::{Verdict, plain, tables, told, wanted};
 use mq_client::Link;
 use mq_ledger::Ledger;
 use std::alloc::Global;
-use std::process::Abort;
 use std::test::*;
 
 /// The end of a line that lets a recipient through.
@@ -25,31 +24,53 @@ fn proceeds(text: &[u8]) -> u32 {
 }
 
 /// How many recipients the filter lets through over a link.
-fn let_through<K: Link>(alloc: Global, link: &mut K) -> Result<u32, Fail> {
-    Ok(proceeds(run(alloc, link, b"mx1", COMMITTED)?.as_slice()))
+fn let_through<K: Link>(alloc: Global, link: &mut K) -> Option<u32> {
+    match run(alloc, link, b"mx1", COMMITTED) {
+        Some(text) => Some(proceeds(text.as_slice())),
+        None => None,
+    }
 }
 
-/// Runs a committed recipient by the script: what was let through is settled or reserved, and that is
-/// within the limit, before the late frames come and after it.
-fn assert_script<L: Ledger + Drop>(
-    rt: &impl Abort,
+/// Checks that so many are settled or reserved, and that this is within the limit.
+fn check_covered<L: Ledger + Drop>(
     alloc: Global,
-    ledger: L,
-    script: &[u8],
-) -> Result<(), Fail> {
-    let mut link = Scripted::new(alloc, ledger, script);
-    let count = let_through(alloc, &mut link)?;
-    assert_covers(rt, usage_of(alloc, &mut link.ledger, ALICE, DAY), count);
-    link.deliver_late();
-    assert_covers(rt, usage_of(alloc, &mut link.ledger, ALICE, DAY), count);
-    Ok(())
+    link: &mut Scripted<L>,
+    let_through: u32,
+) -> Verdict {
+    let holds = is_covered(alloc, &mut link.ledger, ALICE, DAY, let_through);
+    wanted(
+        holds,
+        "more let through than is counted, or above the limit",
+    )
 }
 
-/// The script of five letters with that number: its letters in base 4.
-fn script_of(number: u32) -> [u8; 5] {
+/// Runs a committed recipient over a link: what was let through is settled or reserved, and that is
+/// within the limit, before the late frames come and after it.
+fn check_link<L: Ledger + Drop>(alloc: Global, link: &mut Scripted<L>) -> Verdict {
+    let Some(count) = let_through(alloc, link) else {
+        return Err("no answer");
+    };
+    check_covered(alloc, link, count)?;
+    link.deliver_late();
+    check_covered(alloc, link, count)
+}
+
+/// The same by a script.
+fn check_script<L: Ledger + Drop>(alloc: Global, ledger: L, script: Script) -> Verdict {
+    let mut link = Scripted::new(alloc, ledger, script);
+    check_link(alloc, &mut link)
+}
+
+/// The same over tables.
+fn check_over_tables(alloc: Global, script: Script) -> Verdict {
+    check_script(alloc, tables(alloc, 3)?, script)
+}
+
+/// The script of so many letters with that number: its letters in base 4.
+fn script_of(length: usize, number: u32) -> Script {
     let mut script = [b'D'; 5];
     let mut rest = number;
-    for letter in &mut script {
+    for letter in script.iter_mut().take(length) {
         *letter = match rest % 4 {
             0 => b'D',
             1 => b'L',
@@ -68,9 +89,9 @@ const COUNTS: &[(usize, u32)] = &[(0, 1), (1, 4), (2, 16), (3, 64), (4, 256), (5
 fn scripts_over_a_list(rt: HostRuntime) -> Result<(), Fail> {
     for (length, count) in COUNTS {
         for number in 0..*count {
-            let script = script_of(number);
-            let script = script.get(..*length).unwrap_or(&script);
-            assert_script(&rt, rt.alloc(), plain(rt.alloc(), 3), script)?;
+            let script = script_of(*length, number);
+            let verdict = check_script(rt.alloc(), plain(rt.alloc(), 3), script);
+            told(rt.alloc(), number, verdict)?;
         }
     }
     Ok(())
@@ -80,9 +101,8 @@ fn scripts_over_a_list(rt: HostRuntime) -> Result<(), Fail> {
 fn scripts_over_tables(rt: HostRuntime) -> Result<(), Fail> {
     for (length, count) in COUNTS {
         for number in 0..*count {
-            let script = script_of(number);
-            let script = script.get(..*length).unwrap_or(&script);
-            assert_script(&rt, rt.alloc(), tables(rt.alloc(), 3)?, script)?;
+            let script = script_of(*length, number);
+            told(rt.alloc(), number, check_over_tables(rt.alloc(), script))?;
         }
     }
     Ok(())

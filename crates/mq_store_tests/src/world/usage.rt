@@ -4,7 +4,6 @@ use crate::asks::{ask, deliver};
 use mq_frame::{Login, Reply, Request};
 use mq_ledger::Ledger;
 use std::alloc::Global;
-use std::process::Abort;
 
 /// Hands a frame to a ledger. The body of its reply; none where there is a fault.
 pub fn deliver_frame<L: Ledger>(alloc: Global, ledger: &mut L, frame: &[u8]) -> Option<Vec<u8>> {
@@ -12,7 +11,7 @@ pub fn deliver_frame<L: Ledger>(alloc: Global, ledger: &mut L, frame: &[u8]) -> 
 }
 
 /// What a login has settled and reserved on a day, and its limit.
-#[derive(Clone, Copy, Debug, PartialEq)]
+#[derive(Clone, Copy, PartialEq)]
 pub struct Used {
     pub settled: u32,
     pub reserved: u32,
@@ -47,20 +46,31 @@ fn used_by(reply: &Reply) -> Option<Used> {
 
 /// What a ledger replies to such a request.
 fn used_of<L: Ledger>(ledger: &mut L, request: &Request) -> Option<Used> {
-    used_by(&ask(ledger, request).ok()?)
+    match ask(ledger, request) {
+        Ok(reply) => used_by(&reply),
+        Err(_) => None,
+    }
 }
 
 /// What a ledger says that a login has used on a day; nothing where there is a fault.
 pub fn usage_of<L: Ledger>(alloc: Global, ledger: &mut L, login: &[u8], day: u32) -> Option<Used> {
-    let login = Login::from_slice(alloc, login).ok()?;
-    used_of(ledger, &Request::Usage { login, day })
+    match Login::from_slice(alloc, login) {
+        Ok(login) => used_of(ledger, &Request::Usage { login, day }),
+        Err(_) => None,
+    }
 }
 
-/// Asserts that what was let through is settled or reserved, and that this is within the limit.
-pub fn assert_covers(rt: &impl Abort, used: Option<Used>, let_through: u32) {
-    let is_covered = match used {
+/// Whether a ledger says that what was let through of a login on a day is settled or reserved, and that this
+/// is within the limit.
+pub fn is_covered<L: Ledger>(
+    alloc: Global,
+    ledger: &mut L,
+    login: &[u8],
+    day: u32,
+    let_through: u32,
+) -> bool {
+    match usage_of(alloc, ledger, login, day) {
         Some(used) => used.covers(let_through),
         None => false,
-    };
-    assert!(rt; is_covered, "{let_through} let through, {used:?}");
+    }
 }

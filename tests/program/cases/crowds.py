@@ -1,0 +1,106 @@
+"""Many peers of the server at once, many requests of one, and one that takes nothing of what it is answered."""
+import select
+import threading
+import time
+
+from cases.filters import INPUT, PROCEED, REGISTRATION, answer
+from cases.peers import NOTHING_USED, goes_on, name_of
+from ends import LONG, Server, read_all, wait_until
+from wire import granted, number, page, page_reply, reserve, row, usage
+
+
+def run(world, checks):
+    a_peer_that_reads_nothing(world, checks)
+    many_requests(world, checks)
+    many_long_requests(world, checks)
+    silent_peers(world, checks)
+
+
+def a_peer_that_reads_nothing(world, checks):
+    """A page of ten logins of 255 bytes is 2,686 bytes; 10,000 of them don't fit into what the kernel keeps."""
+    with Server(world, timeout=4_000) as server:
+        logins = [b"%03d" % n + b"x" * 252 for n in range(10)]
+        sent = b"".join(reserve(n + 1, txn=n + 1, login=login) for n, login in enumerate(logins))
+        checks.equal("ten logins", server.ask(sent), b"".join(granted(n + 1, 1) for n in range(10)))
+        checks.equal("a page of ten long logins", server.ask(page()), page_reply([row(login, 0, 1, 3) for login in logins]))
+        before = len(server.log_lines())
+        peer = server.connect(room=4_096)
+        peer.sendall(page() * 10_000)
+        came, slowest = [], 0
+        for _ in range(100):
+            start = time.monotonic()
+            came.append(server.ask(usage()))
+            slowest = max(slowest, time.monotonic() - start)
+        checks.equal("beside a peer that reads nothing: a hundred connections", came, [NOTHING_USED] * 100)
+        checks.holds("beside a peer that reads nothing: how long the slowest took", slowest < 2, "below 2 s, half the timeout", f"{slowest:.2f} s")
+        wait_until(lambda: len(server.log_lines()) > before)
+        goes_on(server, checks, "a peer that reads nothing", before, word=(name_of(peer), "write failed"))
+        peer.close()
+
+
+def many_requests(world, checks):
+    with Server(world) as server:
+        peer = server.connect()
+        peer.sendall(usage() * 9_999)
+        came = b""
+        while len(came) < len(NOTHING_USED) * 9_999:
+            came += peer.recv(65_536)
+        peer.sendall(usage() * 2)
+        came += read_all(peer)
+        checks.equal("10,001 requests on a connection: the answers", (len(came), came == NOTHING_USED * 10_000), (21 * 10_000, True))
+        goes_on(server, checks, "10,001 requests on a connection", 0, word=(name_of(peer), "enough"))
+        peer.close()
+
+
+def many_long_requests(world, checks):
+    """More than the kernel keeps: 9,999 requests of 262 bytes at once, on one connection whose peer reads all the while."""
+    with Server(world) as server:
+        asked, wanted = page(after=b"x" * 255), page_reply([])
+        with server.connect() as peer:
+            asking = threading.Thread(target=peer.sendall, args=(asked * 9_999,), daemon=True)
+            asking.start()
+            came, peer_waits = b"", select.poll()
+            peer_waits.register(peer, select.POLLIN)
+            while len(came) < len(wanted) * 9_999 and peer_waits.poll(LONG):
+                came += peer.recv(65_536)
+            checks.equal("9,999 long requests at once: their replies", (len(came) // len(wanted), came == wanted * 9_999), (9_999, True))
+
+
+def silent_peers(world, checks):
+    """500 peers that send nothing hold a connection each; filters are answered meanwhile, at their first try."""
+    with Server(world, timeout=60_000, default=1_000) as server:
+        silent = [server.connect() for _ in range(500)]
+        came, log, slowest = [], "", 0
+        for _ in range(5):
+            start = time.monotonic()
+            status, output, errors = world.filter(server.address, INPUT)
+            slowest = max(slowest, time.monotonic() - start)
+            came.append((status, output))
+            log += errors
+        checks.equal("filters beside 500 silent peers", (came, log), ([(0, REGISTRATION + answer(PROCEED))] * 5, ""))
+        checks.holds("filters beside 500 silent peers: how long the slowest took", slowest < LONG / 3_000, "far below 60 s, a timeout", f"{slowest:.2f} s")
+        for peer in silent[:-1]:
+            peer.close()
+        silent[-1].sendall(usage())
+        checks.equal("the last of 500 silent peers asks at last", silent[-1].recv(65_536), NOTHING_USED.replace(number(3), number(1_000)))
+        silent[-1].close()
+        checks.equal("the log beside 500 silent peers that go", server.log_lines(), [])
+    with Server(world, timeout=300) as server:
+        silent = [server.connect() for _ in range(500)]
+        start = time.monotonic()
+        ended = [read_all(peer) for peer in silent]
+        took = time.monotonic() - start
+        for peer in silent:
+            peer.close()
+        checks.holds("500 silent peers are ended side by side", ended == [b""] * 500 and took < 75, "far below 150 s, at 300 ms each", f"{took:.2f} s")
+        lines = server.log_lines()
+        checks.holds("500 silent peers: the log", len(lines) == 500 and all("read failed" in line for line in lines), "a line for each", lines)
+    with Server(world, timeout=60_000) as server:
+        crowd = [server.connect() for _ in range(905)]
+        checks.equal("more connections than places: the next is answered", server.ask(usage()), NOTHING_USED)
+        lines = server.log_lines()
+        names = [name_of(peer) for peer in crowd[:6]]
+        good = len(lines) == 6 and all(f"connection of {name}: too many connections" in line for name, line in zip(names, lines))
+        checks.holds("more connections than places: those that waited longest went", good, "a line for each of the first six", lines)
+        for peer in crowd:
+            peer.close()

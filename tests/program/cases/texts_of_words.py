@@ -1,0 +1,146 @@
+"""What the program tells of its words: whole texts of help, and of faults of usage."""
+
+# words and the help for them
+HELPS = [
+    (["--help"], """Daily recipient limits for smtpd, shared by all outgoing hosts
+
+Usage: mailquota <COMMAND>
+
+Commands:
+  server  Serve the ledger to filters
+  filter  Answer smtpd on standard input and output
+  limit   Set the limit of a login from a day on
+  report  Print what logins used on a day
+  audit   Check the books of the ledger in a file
+  replay  Answer frames in hexadecimal from standard input over a new ledger
+
+Options:
+  -h, --help     Print help
+  -V, --version  Print version
+"""),
+    (["replay", "--help"], """Answer frames in hexadecimal from standard input over a new ledger
+
+Usage: mailquota replay [OPTIONS]
+
+Options:
+      --default <N>  Limit of a login that has none of its own [default: 100]
+      --east <M>     Minutes that a day begins before UTC's [default: 0]
+      --west <M>     Minutes that a day begins after UTC's [default: 0]
+      --sql          Keep the ledger in tables in memory
+  -h, --help         Print help
+"""),
+    (["filter", "--help"], """Answer smtpd on standard input and output
+
+Usage: mailquota filter [OPTIONS] --config <FILE>
+
+Options:
+      --config <FILE>  Settings
+      --run <N>        Number of the run; the clock's milliseconds where it isn't given
+  -h, --help           Print help
+"""),
+    (["server", "--help"], """Serve the ledger to filters
+
+Usage: mailquota server [OPTIONS] --config <FILE>
+
+Options:
+      --config <FILE>    Settings
+      --create           Make a new ledger; one in memory is always new
+      --connections <N>  Connections to serve [default: 1000000]
+  -h, --help             Print help
+"""),
+    (["limit", "--help"], """Set the limit of a login from a day on
+
+Usage: mailquota limit [OPTIONS] --server <ADDRESS> --host <HOST> --login <LOGIN> --from <DAY> --cap <N>
+
+Options:
+      --server <ADDRESS>  Numeric address and port of the quota server
+      --host <HOST>       Host that asks
+      --login <LOGIN>     Login, as smtpd reports it
+      --from <DAY>        Day number from which on the limit governs
+      --cap <N>           Recipients a day
+      --run <N>           Number of the run; the clock's milliseconds where it isn't given
+  -h, --help              Print help
+"""),
+    (["report", "--help"], """Print what logins used on a day
+
+Usage: mailquota report [OPTIONS] --server <ADDRESS> --day <DAY>
+
+Options:
+      --server <ADDRESS>  Numeric address and port of the quota server
+      --day <DAY>         Day number, counted from 1970-01-01
+      --login <LOGIN>     One login, as smtpd reports it; all where it isn't given
+  -h, --help              Print help
+"""),
+    (["audit", "--help"], """Check the books of the ledger in a file
+
+Usage: mailquota audit --config <FILE>
+
+Options:
+      --config <FILE>  Settings
+  -h, --help           Print help
+"""),
+]
+
+# words and what is said of them
+FAULTS = [
+    (["audit"], """error: the following required arguments were not provided:
+  --config <FILE>
+
+Usage: mailquota audit --config <FILE>
+
+For more information, try '--help'.
+"""),
+    (["check"], """error: unrecognized subcommand 'check'
+
+Usage: mailquota <COMMAND>
+
+For more information, try '--help'.
+"""),
+    (["audit", "--config=s", "--create"], """error: unexpected argument '--create' found
+
+Usage: mailquota audit --config <FILE>
+
+For more information, try '--help'.
+"""),
+    (["replay", "--list"], """error: unexpected argument '--list' found
+
+Usage: mailquota replay [OPTIONS]
+
+For more information, try '--help'.
+"""),
+    (["filter"], """error: the following required arguments were not provided:
+  --config <FILE>
+
+Usage: mailquota filter --config <FILE>
+
+For more information, try '--help'.
+"""),
+    (["server", "--create"], """error: the following required arguments were not provided:
+  --config <FILE>
+
+Usage: mailquota server --config <FILE> --create
+
+For more information, try '--help'.
+"""),
+    (["limit", "--host=mx1", "--login=u", "--from=1", "--cap=2"], """error: the following required arguments were not provided:
+  --server <ADDRESS>
+
+Usage: mailquota limit --server <ADDRESS> --host <HOST> --login <LOGIN> --from <DAY> --cap <N>
+
+For more information, try '--help'.
+"""),
+    (["report", "--login", "u"], """error: the following required arguments were not provided:
+  --server <ADDRESS>
+  --day <DAY>
+
+Usage: mailquota report --server <ADDRESS> --day <DAY> --login <LOGIN>
+
+For more information, try '--help'.
+"""),
+    (["report", "--day=1", "--day=2"], """error: the argument '--day <DAY>' cannot be used multiple times
+
+Usage: mailquota report [OPTIONS] --server <ADDRESS> --day <DAY>
+
+For more information, try '--help'.
+"""),
+]
