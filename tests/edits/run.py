@@ -43,7 +43,7 @@ SIGNALS = (signal.SIGTERM, signal.SIGINT, signal.SIGHUP)
 COUNTS = re.compile(r"(\d+) passed, (\d+) failed\Z")
 REFUSED = re.compile(r"rt: (\w+)(: its tests are)? NOT PROVED")
 PROVED = re.compile(r"fn (\w+)::(\S+): proved\Z")
-# So many lines of what rt ci says of a crate that it refuses are told again.
+# So many lines of what rt ci says of a crate that it refuses are told again, and of the cases that failed.
 SAID = 12
 
 
@@ -230,7 +230,7 @@ def add_cases(name, ran, sum_):
     sum_.seconds["tests/program", "test"] += ran.seconds
     print(f"== {name}: {passed} passed, {failed} failed, {ran.seconds:.0f} s", flush=True)
     if ran.status or failed or not passed:
-        print("\n".join(it for it in lines if it.startswith("NOT ")) or "\n".join(lines[-SAID:]), flush=True)
+        print("\n".join([it for it in lines if it.startswith("NOT ")][:SAID]) or "\n".join(lines[-SAID:]), flush=True)
         sum_.fail(name, f"it ended with status {ran.status} and {failed} failed", max(failed, 1))
 
 

@@ -41,6 +41,9 @@ def main():
     for it in (signal.SIGINT, signal.SIGHUP, signal.SIGTERM):
         signal.signal(it, lambda number, _: sys.exit(128 + number))
     words = sys.argv[1:]
+    if not words:
+        print(__doc__, end="", file=sys.stderr)
+        return 2
     if words[0] == "--group":
         return run_group(words[1], words[2])
     if words[0] == "--gate":
