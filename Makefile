@@ -3,6 +3,7 @@
 
 RT = rt
 PROGRAM = crates/mailquota/out/mailquota
+EXAMPLE = crates/mq_demo/out/mq_demo
 
 DESTDIR =
 PREFIX = /usr/local
@@ -21,8 +22,10 @@ build:
 	@cd crates/mailquota && $(RT) run -- --help >/dev/null
 	@echo "built $(PROGRAM)"
 
-demo: build
-	@sh examples/demo.sh $(PROGRAM) examples/one-reserve.hex
+# Proves and compiles what the example stands on, a quarter of what the program does.
+demo:
+	@cd crates/mq_demo && $(RT) run </dev/null >/dev/null
+	@sh examples/demo.sh $(EXAMPLE) examples/one-reserve.hex
 
 # docs/GATE.md says what it does. The last line is 'N passed, M failed'.
 check:
@@ -32,7 +35,7 @@ check:
 edits:
 	@RT=$(RT) python3 tests/edits/run.py further
 
-# The program over loopback, as peers, smtpd and administrators use it: Python 3 alone, about two minutes.
+# The program over loopback, as peers, smtpd and administrators use it: Python 3 alone, a minute or two.
 program-tests:
 	@test -x $(PROGRAM) || { echo "run 'make build' first" >&2; exit 1; }
 	@python3 tests/program/run.py $(PROGRAM)

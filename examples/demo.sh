@@ -1,8 +1,8 @@
 #!/bin/sh
-# Runs one frame through `mailquota replay` and says what was asked and answered.
+# Runs one frame through the example program and says what was asked and answered.
 # usage: demo.sh PROGRAM FRAME
 set -eu
-reply=$("$1" replay --default 3 <"$2")
+reply=$("$1" <"$2")
 printf 'asked:    %s\n' "$(tr -d '\n' <"$2")"
 printf 'answered: %s\n' "$reply"
 if [ "$reply" != 001381016100000000000000010000000100000001 ]; then
