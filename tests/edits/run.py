@@ -213,25 +213,27 @@ def gate(names, sum_):
 
 
 def run_cases(tree, sum_):
-    """Runs the cases of tests/program over the program as each compiler built it, side by side."""
-    made = {it: f"{tree}/crates/mailquota/out/mailquota{it}" for it in BUILDS}
-    words = lambda it: [sys.executable, f"{tree}/tests/program/run.py", "--gate", it]
-    tasks = [Task(ending, 0, 1e8, lambda it=it: run(words(it), tree, LONGEST_CASES)) for ending, it in made.items()]
-    for ending, ended in in_lanes(tasks):
-        add_cases(f"tests/program over mailquota{ending}", ended.result(), sum_)
+    """Runs the cases of tests/program over the program as each compiler built it, one after the other."""
+    counts = set()
+    for ending in BUILDS:
+        words = [sys.executable, f"{tree}/tests/program/run.py", "--gate", f"{tree}/crates/mailquota/out/mailquota{ending}"]
+        counts.add(add_cases(f"tests/program over mailquota{ending}", run(words, tree, LONGEST_CASES), sum_))
+    if len(counts) > 1:
+        sum_.fail("tests/program", "over one build it tried more cases than over the other")
 
 
 def add_cases(name, ran, sum_):
-    """Adds what a run of the cases counted, and tells those that failed."""
+    """Adds what a run of the cases counted, tells those that failed, and returns how many it tried."""
     lines = ran.said.rstrip("\n").split("\n")
     counts = COUNTS.match(lines[-1])
     passed, failed = map(int, counts.groups()) if counts else (0, 0)
     sum_.passed += passed
     sum_.seconds["tests/program", "test"] += ran.seconds
     print(f"== {name}: {passed} passed, {failed} failed, {ran.seconds:.0f} s", flush=True)
-    if ran.status or failed or not passed:
+    if ran.status != 0 or failed or not passed:
         print("\n".join([it for it in lines if it.startswith("NOT ")][:SAID]) or "\n".join(lines[-SAID:]), flush=True)
         sum_.fail(name, f"it ended with status {ran.status} and {failed} failed", max(failed, 1))
+    return passed + failed
 
 
 def alone(names, place_of, sum_):

@@ -108,11 +108,27 @@ def apart(errors):
     return log, "".join(line for line in lines if not line.startswith("["))
 
 
+def without_log(came):
+    """What a run ended with, printed and said, without the log's lines."""
+    status, output, errors = came
+    return status, output, apart(errors)[1]
+
+
+def fault(text, output=b""):
+    """What a run ends with, has printed and says where it isn't done."""
+    return 1, output, f"mailquota: {text}\n"
+
+
 def toml(settings):
     def spelled(value):
         return f'"{value}"' if isinstance(value, str) else str(value)
 
     return "".join(f"{key} = {spelled(value)}\n" for key, value in settings.items())
+
+
+def ledger_settings(world, path, **more):
+    """A file of settings of a server that nobody reaches, over the ledger's file at this path."""
+    return world.new_file(toml({"listen": "127.0.0.1:1", "store": path, "default": 3, "offset": 0, **more}))
 
 
 def is_stopped(process):

@@ -31,8 +31,12 @@ GATE_GROUPS = [
 OTHER_GROUPS = ["full_pages", "crowds", "kills", "failures"]
 # these run only where they are named
 LONG_GROUPS = ["many_pages"]
+# texts that groups share
+NO_GROUPS = ["__init__", "texts_of_words"]
 # So many groups at once: they mostly wait.
 AT_ONCE = 4
+# A group that takes so many seconds hangs, but for the long ones.
+LONGEST = 10 * 60
 COUNTS = re.compile(r"(\d+) passed, (\d+) failed\n\Z")
 
 
@@ -57,16 +61,25 @@ def groups_of(words):
     return [group for group in GATE_GROUPS + OTHER_GROUPS + LONG_GROUPS if any(word in group for word in words)]
 
 
+def unlisted():
+    """The files of cases that no list above names, which so would never run."""
+    files = os.listdir(os.path.join(os.path.dirname(os.path.abspath(__file__)), "cases"))
+    listed = {*GATE_GROUPS, *OTHER_GROUPS, *LONG_GROUPS, *NO_GROUPS}
+    return sorted({os.path.splitext(it)[0] for it in files if it.endswith(".py")} - listed)
+
+
 def run_groups(program, groups):
     """Runs these groups, each as it is ready, and tells of them in this order."""
     passed, failed, running = 0, 0, []
+    for group in unlisted():
+        print(f"NOT {group}: no list names it")
+        failed += 1
     pool = ThreadPoolExecutor(AT_ONCE)
     try:
-        for told in pool.map(lambda group: told_by(group, program, running), groups):
-            counts = COUNTS.search(told)
-            print(told[:counts.start()] if counts else f"{told}NOT a group: it didn't come to its end\n", end="", flush=True)
-            passed += int(counts[1]) if counts else 0
-            failed += int(counts[2]) if counts else 1
+        for group, (told, status) in zip(groups, pool.map(lambda group: told_by(group, program, running), groups)):
+            good, bad = counted(group, told, status)
+            passed += good
+            failed += bad
     finally:
         pool.shutdown(wait=False, cancel_futures=True)
         for process in running:
@@ -75,13 +88,28 @@ def run_groups(program, groups):
     return 1 if failed or not passed else 0
 
 
+def counted(group, told, status):
+    """Prints what a group told, and returns how many of its cases passed and failed: one that ends in another way has failed."""
+    counts = COUNTS.search(told)
+    passed, failed = map(int, counts.groups()) if counts else (0, 0)
+    print(told[:counts.start()] if counts else told, end="", flush=True)
+    if failed == 0 and (status or not passed):
+        print(f"NOT {group}: it ended with status {status} and {passed} passed", flush=True)
+        failed = 1
+    return passed, failed
+
+
 def told_by(group, program, running):
-    """What a group prints that runs in a process of its own."""
+    """What a group prints that runs in a process of its own, and its status."""
     words = [sys.executable, os.path.abspath(__file__), "--group", group, program]
     with subprocess.Popen(words, stdin=subprocess.DEVNULL, stdout=subprocess.PIPE, stderr=subprocess.STDOUT) as process:
         running.append(process)
-        told = process.communicate()[0].decode(errors="replace")
-    return told
+        try:
+            told = process.communicate(timeout=None if group in LONG_GROUPS else LONGEST)[0]
+        except subprocess.TimeoutExpired:
+            process.terminate()
+            told = process.communicate()[0]
+    return told.decode(errors="replace"), process.returncode
 
 
 def run_group(group, program):

@@ -138,7 +138,7 @@ fn print_answers<W: Write>(
 
 /// Answers connections in turn over a ledger, a line of hexadecimal for each.
 ///
-/// What is printed is told of a ledger that has applied nothing.
+/// What is printed is told of a sound ledger that keeps its premise and has applied nothing.
 pub fn replay_over<L: Ledger, W: Write>(
     alloc: Global,
     connections: &[Vec<u8>],

@@ -47,6 +47,7 @@ fn own_id(alloc: Global, parts: IdParts<'_>) -> Result<Id, AllocError>
     })
 }
 
+/// An id and a login of their own, made of parts.
 fn own_names(alloc: Global, id: IdParts<'_>, login: &[u8]) -> Result<(Id, Login), AllocError>
     ensures { IfOk result (λ names. names ≡ (shown_id id.entry, login.now)) }
 {

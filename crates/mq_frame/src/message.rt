@@ -163,8 +163,8 @@ fn clone_names(id: &Id, login: &Login) -> Result<(Id, Login), AllocError>
     Ok((id, login))
 }
 
-// The two copies are written out: a derived one clones each name anew in every case, drops what it has in every way out, and takes a
-// minute to prove.
+// The copies of requests and replies are written out, since a derived one takes a minute to prove: at each name that it
+// copies there is a way out, on which all that was copied before is dropped.
 impl Clone for Request {
     ghost is_clone = { λ a b. b ≡ a };
 

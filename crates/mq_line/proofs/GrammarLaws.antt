@@ -48,24 +48,6 @@ is_stamp version time names seconds v t n = record {
 pub is_unnamed : (version time : List ℕ) (names : List (Bor (List ℕ))) (seconds : ℕ) → version ≡ codes "0.7" → Some seconds ≡ seconds_of time → list_any (λ name. eqb (length name.now) 0) names ≡ true → stamp_fault version time (map (λ name. name.now) names) ≡ Some EmptyField
 is_unnamed version time names seconds v t n = rw (v, ← t, list_any-names names ∙ n) refl
 
--- too few fields
-pub short_report : (fs : List (List ℕ)) → length fs < 5 → report_fault fs ≡ Some Short
-short_report [] h = refl
-short_report (a ∷ []) h = refl
-short_report (a ∷ b ∷ []) h = refl
-short_report (a ∷ b ∷ c ∷ []) h = refl
-short_report (a ∷ b ∷ c ∷ d ∷ []) h = refl
-short_report (a ∷ b ∷ c ∷ d ∷ e ∷ more) h = absurd (omega arith)
-
-pub short_filter : (fs : List (List ℕ)) → length fs < 6 → filter_fault fs ≡ Some Short
-short_filter [] h = refl
-short_filter (a ∷ []) h = refl
-short_filter (a ∷ b ∷ []) h = refl
-short_filter (a ∷ b ∷ c ∷ []) h = refl
-short_filter (a ∷ b ∷ c ∷ d ∷ []) h = refl
-short_filter (a ∷ b ∷ c ∷ d ∷ e ∷ []) h = refl
-short_filter (a ∷ b ∷ c ∷ d ∷ e ∷ f ∷ more) h = absurd (omega arith)
-
 -- what fields mean, where they mean something
 abbrev config_reading : List (List ℕ) → Option Meaning
 config_reading [] = None

@@ -1,4 +1,4 @@
--- What is refused of the words of a command line and of a server's settings.
+-- What is refused of the words of a command line and of a filter's and a server's settings.
 use Rattle.std.specs.Prelude.{ℕ, List, ◌≤◌, ◌≤ℤ◌, pos, negsuc, IfSome, ⊤}
 use Rattle.std.specs.Net.Grammar.{IsSocketText}
 use Rattle.std.specs.declared.net.SocketAddr.{SocketAddr}

@@ -44,7 +44,7 @@ pub fn filter<R: Files + Clock + Net + Input + Print + Eprint + AllocGlobal>(
     run_client(rt, &settings, run)
 }
 
-/// Runs the filter as the client of this run.
+/// Runs the filter under this run number, over a link to the server of the settings.
 fn run_client<R: Clock + Net + Input + Print + Eprint + AllocGlobal>(
     rt: &R,
     settings: &FilterSettings,

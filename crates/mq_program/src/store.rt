@@ -56,7 +56,7 @@ fn make_file(rt: &HostRuntime, path: &str) -> io::Result<()> {
 }
 
 /// Looks whether the file is there; where a ledger is made, makes one that isn't.
-fn find_file<G: Log>(
+fn find_or_make_file<G: Log>(
     rt: &HostRuntime,
     log: &G,
     path: &str,
@@ -82,7 +82,7 @@ pub fn connect<G: Log>(
     path: &str,
     create: bool,
 ) -> Result<Connection<FileStore<File>>, ProgramFault> {
-    find_file(rt, log, path, create)?;
+    find_or_make_file(rt, log, path, create)?;
     match Connection::open(rt, path) {
         Ok(connection) => Ok(connection),
         Err(Error::SqliteFailure(ErrorCode::OutOfMemory)) => Err(ProgramFault::Memory),

@@ -96,7 +96,7 @@ impl Guest {
         ensures history { L.has_kept ledger.new → L.is_sound ledger.old →
             HasGrown (L.book ledger.old) (L.book ledger.new) }
     {
-        match self.bytes_due(clock, timeout) {
+        match self.next_portion(clock, timeout) {
             Ok(bytes) => self.answer(clock, alloc, bytes, timeout, ledger),
             Err(turn) => {
                 more_deliveries();
@@ -106,8 +106,8 @@ impl Guest {
     }
 
     /// Writes replies that wait and, where none is left, reads what came: how many bytes of what is held are answered
-    /// now, or else what the turn leaves.
-    fn bytes_due(&mut self, clock: &impl Clock, timeout: Duration) -> Result<usize, Turn> {
+    /// now. Where none are, what the turn leaves: that it waits, that it has been answered all, or the connection's end.
+    fn next_portion(&mut self, clock: &impl Clock, timeout: Duration) -> Result<usize, Turn> {
         match self.write_replies(clock, timeout) {
             Ok(true) => {}
             Ok(false) => return Err(Turn::Waits),

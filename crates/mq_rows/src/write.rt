@@ -351,7 +351,7 @@ fn plan(
     })
 }
 
-/// What `decide` answers. The rows are taken out of what was found.
+/// The plan for a request, by the rows that were found, which are lent: those that it keeps are taken out.
 fn decide_by(
     alloc: Global,
     zone: Zone,

@@ -1,7 +1,5 @@
 """`limit` and `report`, asked of the real server and of one that answers by a script."""
-import time
-
-from ends import DRIP, RESET, SECONDS, SILENCE, Script, Server, apart, nobody_there
+from ends import DRIP, RESET, SILENCE, Script, Server, apart, fault, nobody_there, soon, without_log
 from wire import BAD, RETRY, frame, full, granted, identity, limit, number, page, page_reply, release, reserve, row, settle, text, usage
 
 ADMIN = {"host": b"admin", "run": 7}
@@ -22,15 +20,6 @@ def set_limit(world, address, *, cap, start=1, login="u", run=7, **more):
 
 def report(world, address, *, day=1, login=None, **more):
     return world.run("report", "--server", address, "--day", str(day), *(["--login", login] if login is not None else []), **more)
-
-
-def fault(message, output=b""):
-    return (1, output, f"mailquota: {message}\n")
-
-
-def without_log(came):
-    status, output, errors = came
-    return status, output, apart(errors)[1]
 
 
 def causes(checks, what, came, address, cause):
@@ -114,20 +103,20 @@ def limit_by_script(world, checks):
         with Script(script) as server:
             came = set_limit(world, server.address, cap=5)
         causes(checks, f"limit, {what}", came, server.address, cause)
-    with Script([SILENCE] * 3) as server:
-        start = time.monotonic()
-        came = set_limit(world, server.address, cap=5)
-        took = time.monotonic() - start
+    (came, server), took = soon(lambda: asked_of([SILENCE] * 3, lambda address: set_limit(world, address, cap=5)), 8)
     checks.equal("limit of a silent server", (without_log(came), server.heard), (unavailable, [asked] * 3))
     causes(checks, "limit of a silent server", came, server.address, "no answer in time")
-    checks.holds("limit of a silent server: three tries of 2,000 ms", 5.99 < took < SECONDS, "6 s", f"{took:.1f} s")
-    with Script([DRIP] * 3) as server:
-        start = time.monotonic()
-        came = report(world, server.address)
-        took = time.monotonic() - start
+    checks.holds("limit of a silent server: three tries of 2,000 ms", 5.99 < took < 8, "6 s", f"{took:.1f} s")
+    (came, server), took = soon(lambda: asked_of([DRIP] * 3, lambda address: report(world, address)), 8)
     checks.equal("report of a server that drips", without_log(came), unavailable)
     causes(checks, "report of a server that drips", came, server.address, "no answer in time")
-    checks.holds("report of a server that drips: three tries of 2,000 ms", 5.99 < took < SECONDS, "6 s", f"{took:.1f} s")
+    checks.holds("report of a server that drips: three tries of 2,000 ms", 5.99 < took < 8, "6 s", f"{took:.1f} s")
+
+
+def asked_of(script, ask):
+    """What comes of a question to a server that follows a script, and that server."""
+    with Script(script) as server:
+        return ask(server.address), server
 
 
 def usage_reply(login=b"u", day=1):

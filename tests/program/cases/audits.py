@@ -4,7 +4,7 @@ import shutil
 import signal
 import sqlite3
 
-from ends import Server, apart, toml
+from ends import Server, apart, fault, ledger_settings, without_log
 from wire import granted, limit, release, reserve, settle, usage
 
 # two reserves of a transaction of login u on day 1, a settle of 1, and a settle that comes too late
@@ -24,21 +24,8 @@ def run(world, checks):
     beside_a_server(world, checks)
 
 
-def settings(world, path, **more):
-    return world.new_file(toml({"listen": "127.0.0.1:1", "store": path, "default": 3, "offset": 0, **more}))
-
-
 def audit(world, path, output=None, **more):
-    return world.run("audit", "--config", settings(world, path, **more), output=output)
-
-
-def without_log(came):
-    status, output, errors = came
-    return status, output, apart(errors)[1]
-
-
-def fault(text):
-    return 1, b"", f"mailquota: {text}\n"
+    return world.run("audit", "--config", ledger_settings(world, path, **more), output=output)
 
 
 def left_by_a_server(world, name, frames, end=None):
@@ -103,7 +90,7 @@ def edited(world, source, name, *statements):
 def by_both(world, checks, what, path, wanted, **more):
     """`audit` and `server` refuse the file in the same words."""
     for subcommand in ("audit", "server"):
-        came = world.run(subcommand, "--config", settings(world, path, **more))
+        came = world.run(subcommand, "--config", ledger_settings(world, path, **more))
         checks.equal(f"{what}: {subcommand}", without_log(came), fault(wanted))
 
 
@@ -183,7 +170,7 @@ def refused(world, checks):
     checks.equal("audit of a ledger in memory", audit(world, "memory"), fault("store is memory"))
     for what, file, wanted in [
         ("no settings", f"{world.folder}/none", "settings can't be read"),
-        ("a key that isn't known", settings(world, "memory", hots=1), "setting hots: unknown"),
+        ("a key that isn't known", ledger_settings(world, "memory", hots=1), "setting hots: unknown"),
         ("no store", world.new_file('listen = "127.0.0.1:1"\ndefault = 3\noffset = 0\n'), "setting store: missing"),
     ]:
         checks.equal(f"audit by {what}", without_log(world.run("audit", "--config", file)), fault(wanted))
@@ -198,7 +185,7 @@ def outputs(world, checks):
         checks.equal("audit of wrong books to a full device", came, fault("store is damaged: login u day 1"))
     printed = SOUND[1]
     for room in range(len(printed)):
-        came = world.run_with_room(room, "audit", "--config", settings(world, path))
+        came = world.run_with_room(room, "audit", "--config", ledger_settings(world, path))
         checks.equal(f"audit over an output with room for {room} bytes", came, (1, printed[:room], "mailquota: write failed\n"))
 
 

@@ -4,8 +4,9 @@ import select
 import socket
 import subprocess
 import time
+from contextlib import ExitStack
 
-from ends import DRIP, LONG, RESET, SECONDS, SILENCE, Script, apart, nobody_there
+from ends import DRIP, LONG, RESET, SECONDS, SILENCE, Script, apart, nobody_there, soon
 from wire import BAD, RETRY, frame, granted, identity, number, reserve, settled
 
 REGISTRATION = b"".join(
@@ -46,6 +47,8 @@ def answer(result, session=b"7641df9771b4ed00", token=b"1ef1c203cc576e5d"):
 PROCEED = b"proceed"
 LIMIT = b"reject|550 daily recipient limit reached"
 SERVICE = b"reject|451 quota service unavailable"
+# the status and lines of a filter whose reserve got no reply
+UNANSWERED = 0, REGISTRATION + answer(SERVICE)
 
 
 def run(world, checks):
@@ -189,38 +192,37 @@ def no_server(world, checks):
     text = INPUT + COMMIT
     with nobody_there() as address:
         status, output, errors = world.filter(address, text)
-    checks.equal("no server: lines and status", (status, output), (0, REGISTRATION + answer(SERVICE)))
+    checks.equal("no server: lines and status", (status, output), UNANSWERED)
     told(checks, "no server: reserve, release at the commit, release at the end", errors, 3, ["mx1", "alice", "transaction 1"])
-    with socket.socket() as listener:
+    came, took = soon(lambda: not_accepted(world), 4)
+    checks.equal("a server that accepts nothing: lines and status", came, UNANSWERED)
+    checks.holds("a server that accepts nothing: the timeout of a connect", 0.59 < took < 4, "2 tries of 300 ms", f"{took:.2f} s")
+    came, took = soon(lambda: scripted_end(world, [SILENCE] * 3, timeout=200), 4)
+    good = came == UNANSWERED and 0.59 < took < 4
+    checks.holds("a silent server: 3 tries of 200 ms", good, "451 after 600 ms", (came, f"{took:.2f} s"))
+    came, took = soon(lambda: scripted_end(world, [DRIP] * 2, tries=2, timeout=300), 4)
+    good = came == UNANSWERED and 0.59 < took < 4
+    checks.holds("a server that drips: 2 tries of 300 ms", good, "451 after 600 ms", (came, f"{took:.2f} s"))
+
+
+def not_accepted(world):
+    """The status and lines of a filter that asks a server which accepts nothing and has as many waiting as it lets wait."""
+    with socket.socket() as listener, ExitStack() as waiting:
         listener.bind(("127.0.0.1", 0))
         listener.listen(0)
-        address = listener.getsockname()
-        waiting = []
         for _ in range(3):
-            peer = socket.socket()
+            peer = waiting.enter_context(socket.socket())
             peer.setblocking(False)
-            peer.connect_ex(address)
-            waiting.append(peer)
+            peer.connect_ex(listener.getsockname())
+        # (they have to be there before the filter is)
         time.sleep(0.1)
-        start = time.monotonic()
-        status, output, errors = world.filter(f"127.0.0.1:{address[1]}", INPUT, tries=2, timeout=300)
-        took = time.monotonic() - start
-        for peer in waiting:
-            peer.close()
-    checks.equal("a server that accepts nothing: lines and status", (status, output), (0, REGISTRATION + answer(SERVICE)))
-    checks.holds("a server that accepts nothing: the timeout of a connect", 0.59 < took < SECONDS, "2 tries of 300 ms", f"{took:.2f} s")
-    with Script([SILENCE, SILENCE, SILENCE]) as server:
-        start = time.monotonic()
-        status, output, _ = world.filter(server.address, INPUT, timeout=200)
-        took = time.monotonic() - start
-    with Script([DRIP, DRIP]) as server:
-        start = time.monotonic()
-        dripped = world.filter(server.address, INPUT, tries=2, timeout=300)[:2]
-        dripping = time.monotonic() - start
-    good = dripped == (0, REGISTRATION + answer(SERVICE)) and 0.59 < dripping < SECONDS
-    checks.holds("a server that drips: 2 tries of 300 ms", good, "451 after 600 ms", (dripped, f"{dripping:.2f} s"))
-    good = (status, output) == (0, REGISTRATION + answer(SERVICE)) and 0.59 < took < SECONDS
-    checks.holds("a silent server: 3 tries of 200 ms", good, "451 after 600 ms", (output, f"{took:.2f} s"))
+        return world.filter("{}:{}".format(*listener.getsockname()), INPUT, tries=2, timeout=300)[:2]
+
+
+def scripted_end(world, script, **settings):
+    """The status and lines of a filter that asks a server by this script."""
+    with Script(script) as server:
+        return world.filter(server.address, INPUT, **settings)[:2]
 
 
 def without_a_question(world, checks):

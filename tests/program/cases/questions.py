@@ -5,7 +5,7 @@ A limit of the program is the first of its run, so limits differ by their runs.
 from concurrent.futures import ThreadPoolExecutor
 from contextlib import nullcontext
 
-from ends import SILENCE, Script, Server, apart
+from ends import SILENCE, Script, Server, without_log
 from wire import frame, page
 
 # two reserves of login u on day 1 by one transaction, of which a settle keeps one
@@ -57,7 +57,7 @@ def run(world, checks):
     rows = EXCHANGES + [(f"a page that isn't right: {what}", b"", *row) for what, *row in BAD_PAGES] + \
         [(f"pages: {what}", b"", *row) for what, *row in PAGES] + NO_ANSWERS
     # (some wait until a timeout is over)
-    with ThreadPoolExecutor(8) as pool:
+    with ThreadPoolExecutor(4) as pool:
         came = list(pool.map(lambda row: exchanged(world, *row[1:4]), rows))
     for (what, _, _, _, told, sent), (came_told, came_sent) in zip(rows, came):
         checks.equal(f"{what}: what is told", came_told, told)
@@ -76,13 +76,8 @@ def exchanged(world, before, answers, asks):
             server.ask(before)
         answering = {SERVED: lambda heard: server.ask(heard), LOST: lambda heard: (server.ask(heard), SILENCE)[1]}
         with Script([answering.get(answer, answer) for answer in answers]) as script:
-            told = [without_log(world.run(*words, f"--server={script.address}")) for words in asks]
+            told = [told_by(world, script, words) for words in asks]
         return told, script.heard
-
-
-def without_log(came):
-    status, output, errors = came
-    return status, output.decode(), apart(errors)[1]
 
 
 # answers of the real server: its reply, and its reply that is lost
@@ -100,6 +95,11 @@ def of_logins(first, last):
     """The page of day 1 with the logins of these numbers, the first and the last, each with one recipient of three reserved."""
     rows = b"".join(b"\x05u%04d" % n + bytes.fromhex("00000000 00000001 00000003") for n in range(first, last + 1))
     return frame(bytes.fromhex("8c 00000001") + bytes([last + 1 - first]) + rows)
+
+
+def told_by(world, script, words):
+    status, output, errors = without_log(world.run(*words, f"--server={script.address}"))
+    return status, output.decode(), errors
 
 
 def lines_of(logins):
@@ -236,7 +236,7 @@ def printed_logins(world, checks):
     for login, shown in LOGINS:
         row = bytes([len(login)]) + login + bytes.fromhex("00000000 00000001 00000003")
         with Script([frame(bytes.fromhex("8c 00000001 01") + row)]) as script:
-            came = without_log(world.run(*ASK_ALL, f"--server={script.address}"))
+            came = told_by(world, script, ASK_ALL)
         checks.equal(f"the login {login.hex()}: its line", came, done(f"      0       1       3 {shown}\n"))
 
 

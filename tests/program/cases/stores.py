@@ -5,7 +5,7 @@ import socket
 import sqlite3
 import stat
 
-from ends import Server, apart, toml
+from ends import Server, apart, fault, ledger_settings, without_log
 from wire import full, granted, page, page_reply, reserve, row, settle, settled
 
 
@@ -35,15 +35,11 @@ def made_and_opened(world, checks):
         server.status()
     with Server(world, store=path) as server:
         checks.equal("the file opened again, behind SIGKILL", server.ask(settle(4, count=2) + page()), settled(4, 2) + used(2, 0))
-        second = world.run("server", "--config", settings(world, path))
+        second = world.run("server", "--config", ledger_settings(world, path))
         checks.equal("a second server over the file", (second[0], apart(second[2])[1]), (1, "mailquota: store can't be opened\n"))
         checks.equal("the first one goes on", server.ask(page()), used(2, 0))
     with Server(world, words=["--create"]) as server:
         checks.equal("--create in memory", server.ask(reserve(1)), granted(1, 1))
-
-
-def settings(world, path, **more):
-    return world.new_file(toml({"listen": "127.0.0.1:1", "store": path, "default": 3, "offset": 0, **more}))
 
 
 def refused(world, checks):
@@ -67,9 +63,9 @@ def refused(world, checks):
         ("another default", path, [], {"default": 4}, "store has another default", None),
         ("another offset and default", path, [], {"offset": 60, "default": 4}, "store has another offset", None),
     ]:
-        status, output, errors = world.run("server", "--config", settings(world, place, **more), *words)
-        log, said = apart(errors)
-        checks.equal(f"{what}: status, output, text", (status, output, said), (1, b"", f"mailquota: {wanted}\n"))
+        came = world.run("server", "--config", ledger_settings(world, place, **more), *words)
+        log = apart(came[2])[0]
+        checks.equal(f"{what}: status, output, text", without_log(came), fault(wanted))
         if cause is None:
             checks.equal(f"{what}: the log", log, [])
         else:
@@ -82,18 +78,17 @@ class AtATakenPort:
 
     def __init__(self, world, checks, path, port):
         self.world, self.checks, self.path = world, checks, path
-        self.file = settings(world, path, listen=f"127.0.0.1:{port}")
+        self.file = ledger_settings(world, path, listen=f"127.0.0.1:{port}")
 
     def server(self, what, said, *words):
-        status, output, errors = self.world.run("server", "--config", self.file, "--connections", "1", *words)
-        self.checks.equal(f"{what}: a server", (status, output, apart(errors)[1]), (1, b"", f"mailquota: {said}\n"))
+        came = self.world.run("server", "--config", self.file, "--connections", "1", *words)
+        self.checks.equal(f"{what}: a server", without_log(came), fault(said))
 
     def audit(self, what, printed):
         self.checks.equal(f"{what}: audit", self.world.run("audit", "--config", self.file), (0, printed, ""))
 
     def audit_in_vain(self, what, said):
-        status, output, errors = self.world.run("audit", "--config", self.file)
-        self.checks.equal(f"{what}: audit", (status, output, apart(errors)[1]), (1, b"", f"mailquota: {said}\n"))
+        self.checks.equal(f"{what}: audit", without_log(self.world.run("audit", "--config", self.file)), fault(said))
 
 
 def a_ledger_in_a_file(world, checks, port):

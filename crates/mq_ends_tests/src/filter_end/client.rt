@@ -227,7 +227,7 @@ fn run<S: Source, W: Sink>(alloc: Global, rig: &mut Rig, input: &mut S, output: 
     )
 }
 
-/// A run of the filter that was worked on paper.
+/// A run of the filter that was worked out by hand.
 #[derive(Clone, Copy)]
 struct Row<'a> {
     name: &'a str,

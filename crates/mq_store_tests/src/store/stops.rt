@@ -369,7 +369,7 @@ fn the_database_stops_at_each_call(rt: HostRuntime) -> Result<(), Fail> {
         return Err("no run came to its end".into());
     };
     println!(rt; "the database file: {stops} stops")?;
-    Ok(())
+    Ok(wanted(stops > 0, "no call stopped it")?)
 }
 
 #[test]

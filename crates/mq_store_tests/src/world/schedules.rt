@@ -356,7 +356,7 @@ fn schedules_over_a_list(rt: HostRuntime) -> Result<(), Fail> {
         told(rt.alloc(), seed, verdict)?;
     }
     println!(rt; "20,000 schedules over a list: {tally:?}")?;
-    Ok(())
+    Ok(wanted(tally.let_through > 0, "nobody was let through")?)
 }
 
 /// Over tables each schedule goes as it goes over a list.
@@ -369,5 +369,5 @@ fn schedules_over_tables(rt: HostRuntime) -> Result<(), Fail> {
         told(rt.alloc(), seed, verdict)?;
     }
     println!(rt; "2,000 schedules over tables: {tabled:?}")?;
-    Ok(())
+    Ok(wanted(tabled.let_through > 0, "nobody was let through")?)
 }

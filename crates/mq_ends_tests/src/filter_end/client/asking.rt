@@ -94,7 +94,7 @@ fn play(rt: &impl Abort, rig: &mut Rig, steps: &[Step<'_>]) {
     }
 }
 
-/// Calls that were worked on paper.
+/// Calls that were worked out by hand.
 #[derive(Clone, Copy)]
 struct Case<'a> {
     tries: u32,
