@@ -1,10 +1,11 @@
-//! The server's end: frames, the ledger and the engine.
+//! The server's end: frames, the ledger, the engine, and a link to it.
 
 mod asserts;
 mod fails_once;
 mod fixtures;
 mod frame;
 mod ledger;
+mod link;
 mod server;
 mod serving;
 mod texts;

@@ -179,14 +179,14 @@ def refused(world, checks):
 def outputs(world, checks):
     path = left_by_a_server(world, "audit-output", TWO_AND_A_SETTLE)
     with open("/dev/full", "wb") as full:
-        checks.equal("audit to a full device", audit(world, path, output=full), (1, b"", "mailquota: write failed\n"))
+        checks.equal("audit to a full device", audit(world, path, output=full), fault("write failed"))
         wrong = edited(world, path, "audit-output-wrong", "UPDATE usage SET reserved = 9")
         came = audit(world, wrong, output=full)
         checks.equal("audit of wrong books to a full device", came, fault("store is damaged: login u day 1"))
     printed = SOUND[1]
     for room in range(len(printed)):
         came = world.run_with_room(room, "audit", "--config", ledger_settings(world, path))
-        checks.equal(f"audit over an output with room for {room} bytes", came, (1, printed[:room], "mailquota: write failed\n"))
+        checks.equal(f"audit over an output with room for {room} bytes", came, fault("write failed", printed[:room]))
 
 
 def beside_a_server(world, checks):

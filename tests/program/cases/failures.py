@@ -18,7 +18,7 @@ import time
 
 import wire
 from cases.filters import INPUT, PROCEED, REGISTRATION, SERVICE, answer
-from ends import LONG, SECONDS, Server, apart, read_all
+from ends import LONG, SECONDS, Server, apart, fault, read_all, without_log
 from wire import BAD, RETRY, granted, page, reserve, usage
 
 DEFAULT = 1_000_000
@@ -361,8 +361,8 @@ def other_databases(world, checks):
     path = f"{world.folder}/noise"
     with open(path, "wb") as file:
         file.write(b"SQLite format 3\0" + random.Random(3).randbytes(20_000))
-    status, output, errors = world.run("server", "--config", world.new_file(settings_of(path)))
-    checks.equal("noise behind a database's first bytes", (status, output, apart(errors)[1]), (1, b"", "mailquota: store can't be opened\n"))
+    came = world.run("server", "--config", world.new_file(settings_of(path)))
+    checks.equal("noise behind a database's first bytes", without_log(came), fault("store can't be opened"))
 
 
 def refused_memory(world, checks):

@@ -1,5 +1,5 @@
 """Settings of the filter: accepted ones end in the refusal of an empty input, so that nothing is asked."""
-from ends import apart
+from ends import apart, fault, without_log
 
 ACCEPTED = "input ended before config ready"
 GOOD = {"host": '"mx1"', "server": '"127.0.0.1:7025"'}
@@ -16,8 +16,8 @@ def run(world, checks):
 
 
 def expect(world, checks, what, content, wanted):
-    status, output, errors = world.run("filter", "--config", world.new_file(content), "--run", "1")
-    checks.equal(f"filter settings, {what}", (status, output, apart(errors)[1]), (1, b"", f"mailquota: {wanted}\n"))
+    came = world.run("filter", "--config", world.new_file(content), "--run", "1")
+    checks.equal(f"filter settings, {what}", without_log(came), fault(wanted))
 
 
 def files(world, checks):
@@ -29,8 +29,8 @@ def files(world, checks):
     text = text_of()
     expect(world, checks, "65,536 bytes", text + "#" * (65_536 - len(text)), ACCEPTED)
     expect(world, checks, "65,537 bytes", text + "#" * (65_537 - len(text)), "settings too large")
-    status, output, errors = world.run("filter", "--config", "/dev/zero")
-    checks.equal("filter settings, a file without end", (status, output, apart(errors)[1]), (1, b"", "mailquota: settings too large\n"))
+    came = world.run("filter", "--config", "/dev/zero")
+    checks.equal("filter settings, a file without end", without_log(came), fault("settings too large"))
     for what, content in [
         ("no TOML", "host"),
         ("bytes that are no text", b'host = "\xff\xfe"\n'),

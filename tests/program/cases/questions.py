@@ -98,6 +98,7 @@ def of_logins(first, last):
 
 
 def told_by(world, script, words):
+    """What the program ends with, prints and says, as texts, where this is asked of a server by a script."""
     status, output, errors = without_log(world.run(*words, f"--server={script.address}"))
     return status, output.decode(), errors
 

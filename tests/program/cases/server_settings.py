@@ -1,7 +1,7 @@
 """Settings of the server: accepted ones end in the refusal of a port that is in use, so that nothing is served."""
 import socket
 
-from ends import apart
+from ends import fault, without_log
 
 ACCEPTED = "listen failed"
 
@@ -24,8 +24,8 @@ class Cases:
         return "".join(f"{key} = {value}\n" for key, value in {**self.good, **settings}.items() if value is not None)
 
     def expect(self, what, content, wanted, *words):
-        status, output, errors = self.world.run("server", "--config", self.world.new_file(content), *words)
-        self.checks.equal(f"server settings, {what}", (status, output, apart(errors)[1]), (1, b"", f"mailquota: {wanted}\n"))
+        came = self.world.run("server", "--config", self.world.new_file(content), *words)
+        self.checks.equal(f"server settings, {what}", without_log(came), fault(wanted))
 
     def files(self):
         for what, path, cause in [

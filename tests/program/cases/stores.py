@@ -36,7 +36,7 @@ def made_and_opened(world, checks):
     with Server(world, store=path) as server:
         checks.equal("the file opened again, behind SIGKILL", server.ask(settle(4, count=2) + page()), settled(4, 2) + used(2, 0))
         second = world.run("server", "--config", ledger_settings(world, path))
-        checks.equal("a second server over the file", (second[0], apart(second[2])[1]), (1, "mailquota: store can't be opened\n"))
+        checks.equal("a second server over the file", without_log(second), fault("store can't be opened"))
         checks.equal("the first one goes on", server.ask(page()), used(2, 0))
     with Server(world, words=["--create"]) as server:
         checks.equal("--create in memory", server.ask(reserve(1)), granted(1, 1))

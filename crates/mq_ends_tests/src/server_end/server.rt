@@ -14,7 +14,7 @@ use std::cell::Cell;
 use std::process::Abort;
 
 /// One recipient reserved for the login `u` under the number 1 of run 1 of host `a`, and its reply.
-const RESERVE: &str =
+pub const RESERVE: &str =
     "0021 01 0161 0000000000000001 00000001 00000001 0000000000015180 0175 00000001";
 
 const GRANTED: &str = "0013 81 0161 0000000000000001 00000001 00000001";
