@@ -143,8 +143,8 @@ class Server:
     def __init__(self, world, connections=1_000_000, host="127.0.0.1", words=(), **settings):
         listen = f"[{host}]:0" if ":" in host else f"{host}:0"
         whole = {"listen": listen, "store": "memory", "default": 3, "offset": 0, "timeout": LONG, **settings}
-        words = ["--config", world.new_file(toml(whole)), "--connections", str(connections), *words]
-        self.begin(world, words, listen=listen)
+        many = ["--connections", str(connections)] if connections else []
+        self.begin(world, ["--config", world.new_file(toml(whole)), *many, *words], listen=listen)
 
     @classmethod
     def of_words(cls, world, *words, folder):

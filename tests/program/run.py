@@ -18,14 +18,17 @@ import traceback
 from concurrent.futures import ThreadPoolExecutor
 
 sys.dont_write_bytecode = True
+# (the ledger that expected replies are taken from)
+sys.path.append(os.path.join(os.path.dirname(os.path.abspath(__file__)), os.pardir, "model"))
 
 from checks import Checks
 from ends import World
 
 # (those that take longest stand first)
 GATE_GROUPS = [
-    "asking", "filters", "questions", "peers", "filter_settings", "server_settings", "replays", "audits", "words", "links",
-    "stores", "refusals", "recordings", "two_hosts", "signals",
+    "edges", "asking", "filters", "questions", "peers", "filter_settings", "server_settings", "replays", "audits", "words", "links",
+    "stores", "refusals", "recordings", "two_hosts", "signals", "as_used", "edges_of_clients",
+    "oracles",
 ]
 # what these do to a server, its files and the machine takes longer, and some of it wants root
 OTHER_GROUPS = ["full_pages", "crowds", "kills", "failures"]

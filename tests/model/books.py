@@ -1,0 +1,124 @@
+"""The quota ledger as tables: each request changes a few sums, so that 100,000 of them take a second or two.
+
+It is written from docs/LEDGER.md and docs/STORE.md, and `oracles` of tests/program holds it against the ledger of ledger.py, which reads every number off
+the whole list.
+"""
+from ledger import NotInGrammar, decode, frame, id_bytes, number, text
+
+RESERVE, SETTLE, RELEASE, LIMIT, USAGE = range(1, 6)
+ROWS_OF_A_PAGE = 100
+LONGEST_REQUEST = 512
+MOST_FRAMES = 10_000
+
+
+class Books:
+    def __init__(self, minutes=0, default=3):
+        self.minutes = minutes
+        self.default = default
+        # each with its request as it is read, and as it came
+        self.answers = []
+        self.places = {}
+        # login, moment, day, held, settled, closed
+        self.transactions = {}
+        # settled and reserved
+        self.usage = {}
+        self.limits = {}
+
+    def day(self, at):
+        return (at + 60 * self.minutes) // 86_400
+
+    def used(self, login, day):
+        return sum(self.usage.get((login, day), (0, 0)))
+
+    def cap(self, login, day):
+        """That of the latest limit up to this day."""
+        return max(((start, cap) for start, cap in self.limits.get(login, {}).items() if start <= day), default=(0, self.default))[1]
+
+    def apply(self, body):
+        """The body of the reply to this one, which spells a request."""
+        request = decode(body)
+        if request["kind"] == USAGE:
+            return b"\x8b" + text(request["login"]) + number(request["day"]) + self.row(request["login"], request["day"])
+        if request["kind"] > USAGE:
+            return self.page(request["day"], request["after"])
+        place = self.places.get(request["id"])
+        if place is not None:
+            _, known, reply = self.answers[place]
+            return reply if known == body else b"\x8a" + id_bytes(request["id"])
+        kind, fields = self.limit(request) if request["kind"] == LIMIT else self.recipients(request)
+        reply = bytes([kind]) + id_bytes(request["id"]) + b"".join(map(number, fields))
+        self.places[request["id"]] = len(self.answers)
+        self.answers.append((request["id"], body, reply))
+        return reply
+
+    def limit(self, request):
+        login, start, cap = request["login"], request["from_day"], request["cap"]
+        over = [day for of, day in self.usage if of == login and day >= start and self.used(login, day) > cap]
+        if over:
+            return 0x86, [min(over), self.used(login, min(over))]
+        self.limits.setdefault(login, {})[start] = cap
+        return 0x85, []
+
+    def recipients(self, request):
+        """The answer to a reserve, a settle or a release."""
+        host, run, _ = request["id"]
+        login, at = request["login"], request["at"]
+        state = self.transactions.setdefault((host, run, request["txn"]), [login, at, self.day(at), 0, 0, 0])
+        if (login, at) != (state[0], state[1]):
+            return 0x88, []
+        if state[5]:
+            return 0x87, []
+        key, held = (login, state[2]), state[3]
+        if request["kind"] == RESERVE:
+            used, cap = self.used(*key), self.cap(*key)
+            if used + request["count"] > cap:
+                return 0x82, [used, cap]
+            self.add(key, 0, request["count"])
+            state[3] += request["count"]
+            return 0x81, [used + request["count"]]
+        if request["kind"] == SETTLE and request["count"] > held:
+            return 0x89, [held]
+        settled = request["count"] if request["kind"] == SETTLE else 0
+        if key in self.usage:
+            self.add(key, settled, -held)
+        state[3:] = [0, settled, 1]
+        return (0x83, [settled]) if request["kind"] == SETTLE else (0x84, [held])
+
+    def add(self, key, settled, reserved):
+        before = self.usage.get(key, (0, 0))
+        self.usage[key] = (before[0] + settled, before[1] + reserved)
+
+    def row(self, login, day):
+        return b"".join(map(number, [*self.usage.get((login, day), (0, 0)), self.cap(login, day)]))
+
+    def page(self, day, after):
+        logins = sorted(login for login, of in self.usage if of == day and login > after)[:ROWS_OF_A_PAGE]
+        rows = b"".join(text(login) + self.row(login, day) for login in logins)
+        return b"\x8c" + number(day) + bytes([len(logins)]) + rows
+
+    def serve(self, stream):
+        """What is written on a connection for these bytes."""
+        written, place, answered = [], 0, 0
+        while answered < MOST_FRAMES and len(stream) >= place + 2:
+            length = int.from_bytes(stream[place:place + 2], "big")
+            body = stream[place + 2:place + 2 + length]
+            if not 0 < length <= LONGEST_REQUEST:
+                return b"".join([*written, frame(b"\x8e")])
+            if len(body) < length:
+                break
+            try:
+                written.append(frame(self.apply(body)))
+            except NotInGrammar:
+                return b"".join([*written, frame(b"\x8e")])
+            place, answered = place + 2 + length, answered + 1
+        return b"".join(written)
+
+    def rows(self):
+        """The rows of the five tables, each table's in order, without the version."""
+        return {
+            "setting": [(1, self.minutes, self.default, len(self.answers))],
+            "answer": [(n, *number_of, body, reply) for n, (number_of, body, reply) in enumerate(self.answers, 1)],
+            "trans": sorted((*name, *state) for name, state in self.transactions.items()),
+            "usage": sorted((*key, *sums) for key, sums in self.usage.items()),
+            "ceiling": sorted((login, start, cap) for login, caps in self.limits.items() for start, cap in caps.items()),
+        }

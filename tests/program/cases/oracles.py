@@ -1,0 +1,50 @@
+"""The two ledgers of tests/model, of which one keeps sums and the other reads all off its whole list, agree over random connections."""
+import random
+
+from books import Books
+from ledger import Ledger, decode, serve
+from random_inputs import connections_of
+
+SEEDS = 500
+
+
+def run(_world, checks):
+    answers, sums, answered, kinds = [], [], 0, set()
+    for seed in range(SEEDS):
+        dice = random.Random(seed)
+        default, offset = dice.choice([0, 1, 3, 5, 100]), dice.choice([-1_439, -90, 0, 60, 1_439])
+        model, books = Ledger(offset, default), Books(offset, default)
+        if any(serve(stream, model)[0] != books.serve(stream) for stream in connections_of(dice)):
+            answers.append(seed)
+        if sums_of(model) != sums_in(books):
+            sums.append(seed)
+        answered += len(model.entries)
+        kinds |= {kind for _, kind, _ in model.entries}
+    checks.equal(f"{SEEDS} seeds with {answered} entries: those whose replies differ", answers, [])
+    checks.equal(f"{SEEDS} seeds: those whose rows differ", sums, [])
+    checks.equal("the kinds of replies among them", sorted(kinds), [0x81, 0x82, 0x83, 0x84, 0x85, 0x86, 0x87, 0x88, 0x89])
+
+
+def sums_of(model):
+    """What the rows hold, read off the whole list."""
+    granted = {(request["login"], model.day(request["at"])) for request, kind, _ in model.entries if kind == 0x81}
+    first = {}
+    for request, _, _ in model.entries:
+        if request["kind"] <= 3:
+            first.setdefault(model.transaction(request), request)
+    transactions = {
+        name: [request["login"], request["at"], model.day(request["at"]), model.held(name), settled_of(model, name), int(model.closed(name))]
+        for name, request in first.items()
+    }
+    caps = {(request["login"], request["from_day"]): request["cap"] for request, kind, _ in model.entries if kind == 0x85}
+    usage = {key: (model.settled(*key), model.reserved(*key)) for key in granted}
+    return [(request, reply) for request, _, reply in model.entries], transactions, usage, caps
+
+
+def settled_of(model, transaction):
+    return sum(request["count"] for request, kind, _ in model.of(transaction) if kind == 0x83)
+
+
+def sums_in(books):
+    caps = {(login, start): cap for login, starts in books.limits.items() for start, cap in starts.items()}
+    return [(decode(body), reply) for _, body, reply in books.answers], books.transactions, books.usage, caps

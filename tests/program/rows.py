@@ -1,0 +1,35 @@
+"""The rows of a ledger's file that no server has open."""
+import os
+import shutil
+import sqlite3
+
+# The version isn't compared: what a file's five tables hold is the same in each.
+COLUMNS = {
+    "setting": "id, minutes, cap, arrivals",
+    "answer": "n, host, run, seq, request, reply",
+    "trans": "host, run, txn, login, moment, day, held, settled, closed",
+    "usage": "login, day, settled, reserved",
+    "ceiling": "login, day, cap",
+}
+KEYS = {"setting": "id", "answer": "n", "trans": "host, run, txn", "usage": "login, day", "ceiling": "login, day"}
+
+
+def rows_in(path):
+    """The rows of the five tables, each table's in the order of its key. A copy is read, so that the file stays as it is."""
+    copy = f"{path}.read"
+    for end in ("", "-wal"):
+        if os.path.exists(path + end):
+            shutil.copy(path + end, copy + end)
+    database = sqlite3.connect(copy)
+    found = {table: database.execute(f"SELECT {columns} FROM {table} ORDER BY {KEYS[table]}").fetchall() for table, columns in COLUMNS.items()}
+    database.close()
+    return found
+
+
+def same_rows(checks, what, path, books):
+    """A case for each table: its rows are these."""
+    found, wanted = rows_in(path), books.rows()
+    for table in COLUMNS:
+        other = [pair for pair in zip(found[table], wanted[table]) if pair[0] != pair[1]]
+        came = len(found[table]), [row for row, _ in other[:2]]
+        checks.equal(f"{what}: rows of {table}", came, (len(wanted[table]), []))
