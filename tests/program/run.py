@@ -26,12 +26,12 @@ from ends import World
 
 # (those that take longest stand first)
 GATE_GROUPS = [
-    "edges", "asking", "filters", "questions", "peers", "filter_settings", "server_settings", "replays", "audits", "words", "links",
+    "edges", "full_pages", "crowds", "bodies", "asking", "filters", "questions", "peers", "restarts", "filter_settings", "server_settings", "replays", "audits", "words", "links",
     "stores", "refusals", "recordings", "two_hosts", "signals", "as_used", "edges_of_clients",
     "oracles",
 ]
 # what these do to a server, its files and the machine takes longer, and some of it wants root
-OTHER_GROUPS = ["full_pages", "crowds", "kills", "failures"]
+OTHER_GROUPS = ["kills", "failures"]
 # these run only where they are named
 LONG_GROUPS = ["many_pages"]
 # texts that groups share
