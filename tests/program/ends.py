@@ -21,6 +21,11 @@ resource.setrlimit(getattr(resource, sys.argv[1]), (int(sys.argv[2]), int(sys.ar
 os.execv(sys.argv[3], sys.argv[3:])"""
 
 
+def under(limit):
+    """The words before a program's that run it under this limit, where there is one."""
+    return [sys.executable, "-I", "-S", "-c", LIMITED, *map(str, limit)] if limit else []
+
+
 def free_port():
     """A port that was free just now; another process may take it before long, so a server had better choose its own (0)."""
     with socket.socket() as probe:
@@ -140,11 +145,11 @@ def is_stopped(process):
 class Server:
     """The real server in a process of its own, at a port that the system chooses."""
 
-    def __init__(self, world, connections=1_000_000, host="127.0.0.1", words=(), **settings):
+    def __init__(self, world, connections=1_000_000, host="127.0.0.1", words=(), limit=(), **settings):
         listen = f"[{host}]:0" if ":" in host else f"{host}:0"
         whole = {"listen": listen, "store": "memory", "default": 3, "offset": 0, "timeout": LONG, **settings}
         many = ["--connections", str(connections)] if connections else []
-        self.begin(world, ["--config", world.new_file(toml(whole)), *many, *words], listen=listen)
+        self.begin(world, ["--config", world.new_file(toml(whole)), *many, *words], listen=listen, limit=limit)
 
     @classmethod
     def of_words(cls, world, *words, folder):
@@ -153,11 +158,11 @@ class Server:
         server.begin(world, words, folder=folder)
         return server
 
-    def begin(self, world, words, listen="127.0.0.1:0", folder=None):
+    def begin(self, world, words, listen="127.0.0.1:0", folder=None, limit=()):
         self.listen = listen
         self.log = open(world.new_file(""), "w+b")
         self.process = subprocess.Popen(
-            [world.program, "server", *words], stdin=subprocess.DEVNULL, stdout=self.log, stderr=self.log, cwd=folder
+            [*under(limit), world.program, "server", *words], stdin=subprocess.DEVNULL, stdout=self.log, stderr=self.log, cwd=folder
         )
         self.port = wait_for_listener(self.process)
         self.host = listen.rpartition(":")[0].strip("[]")
@@ -322,9 +327,8 @@ class World:
     def run(self, *words, text=b"", output=None, folder=None, limit=()):
         """Runs the program, in this folder where one is given, under this limit where one is; gives its status, its output and
         its errors as text."""
-        before = [sys.executable, "-I", "-S", "-c", LIMITED, *map(str, limit)] if limit else []
         run = subprocess.run(
-            [*before, self.program, *words], input=text, stdout=output or subprocess.PIPE, stderr=subprocess.PIPE, timeout=SECONDS * 2,
+            [*under(limit), self.program, *words], input=text, stdout=output or subprocess.PIPE, stderr=subprocess.PIPE, timeout=SECONDS * 2,
             cwd=folder,
         )
         return run.returncode, run.stdout or b"", run.stderr.decode(errors="replace")

@@ -4,12 +4,13 @@ import wire
 from books import Books
 from cases.asking import report
 from cases.edges import answers
-from ends import Server
+from ends import Script, Server
 
 LONGEST = 255
 # bytes of a body about which a buffer grows, one below and one beyond, and the longest
 SIZES = [size + more for size in (256, 512, 1_024, 2_048, 4_096, 8_192, 16_384) for more in (-1, 0, 1)] + [10_000, 20_000, 20_001, 25_000, 26_805, 26_806]
 MANY = 5_000
+PAGES = 2_500
 LAST_DAY = 376_200
 
 
@@ -17,7 +18,9 @@ def run(world, checks):
     of_each_count(world, checks)
     of_each_size(world, checks)
     nobody_of_many(world, checks)
+    many_at_once(world, checks)
     longer_than_a_page(world, checks)
+    thousands_of_pages(world, checks)
 
 
 def long_name(number):
@@ -103,6 +106,28 @@ def nobody_of_many(world, checks):
             for day, wanted in lines.items():
                 checks.equal(f"{what}: {MANY:,} logins, the report of day {day}", report(world, server.address, day=day), (0, wanted, ""))
     print(f"    {MANY:,} logins, {len(days)} days", flush=True)
+
+
+def many_at_once(world, checks):
+    """As many full pages as a connection is answered at a time, one beyond, and a hundred, asked for at once."""
+    with Server(world) as server:
+        books = Books()
+        sent = b"".join(wire.reserve(n, txn=n, login=long_name(n)) for n in range(1, 101))
+        checks.equal("a hundred logins of 255 bytes", answers(server, sent), books.serve(sent))
+        for many in (7, 8, 9, 16, 100):
+            came, wanted = answers(server, wire.page() * many), books.serve(wire.page()) * many
+            checks.equal(f"{many} full pages asked for at once", (len(came), came == wanted), (len(wanted), True))
+
+
+def thousands_of_pages(world, checks):
+    """A report of 2,500 full pages, by a server that answers so."""
+    pages = [wire.page_reply([wire.row(wire.number(100 * place + n), 0, 1, 3) for n in range(100)]) for place in range(PAGES)]
+    with Script([*pages, wire.page_reply([])]) as server:
+        status, output, errors = report(world, server.address)
+    checks.equal(f"a report of {PAGES:,} pages: status, lines, errors", (status, output.count(b"\n"), errors), (0, 100 * PAGES, ""))
+    asked = [wire.page(b"" if place == 0 else wire.number(100 * place - 1)) for place in range(PAGES + 1)]
+    checks.equal(f"a report of {PAGES:,} pages: what is asked", server.heard == asked, True)
+    print(f"    {PAGES:,} full pages of a report", flush=True)
 
 
 def longer_than_a_page(world, checks):

@@ -1,0 +1,71 @@
+"""A ledger's file or its log that can grow no further, by the system's limit on the size of files: no reply goes out that isn't stored, the
+server ends with a text, and with room again every reply that was read is given again and counts."""
+import os
+import resource
+
+import wire
+from books import Books
+from cases.failures import how_it_ended, is_refusal, replies_of
+from cases.filters import INPUT, REGISTRATION, SERVICE, answer
+from ends import Server, ledger_settings, without_log
+from rows import same_rows
+
+DEFAULT = 1_000_000
+# bytes by which a file may still grow: no page, a part of one, and some
+ROOMS = [0, 1, 4_095, 4_096, 20_000, 100_000, 300_000]
+# bytes in which the tables can't be made
+TOO_SMALL = [0, 1, 4_096, 40_960, 100_000]
+MANY = 400
+
+
+def run(world, checks):
+    for room in ROOMS:
+        grows_no_further(world, checks, room)
+    for size in TOO_SMALL:
+        too_small(world, checks, size)
+    print(f"    {len(ROOMS)} rooms to grow, {len(TOO_SMALL)} too small for the tables", flush=True)
+
+
+def request(number):
+    return wire.reserve(number, txn=number, login=b"%03d" % (number % 50) + b"x" * 100, at=86_400 * (1 + number % 3))
+
+
+def limited(server, path, room):
+    """From now on none of the server's files grows by more than this beyond its log."""
+    size = os.path.getsize(f"{path}-wal") + room
+    resource.prlimit(server.process.pid, resource.RLIMIT_FSIZE, (size, resource.RLIM_INFINITY))
+
+
+def grows_no_further(world, checks, room):
+    what, path, books = f"a log that grows by {room:,} bytes", f"{world.folder}/room{room}", Books(0, DEFAULT)
+    unlimited = ("RLIMIT_FSIZE", resource.RLIM_INFINITY)
+    with Server(world, words=["--create"], limit=unlimited, store=path, default=DEFAULT) as server:
+        first = [request(n) for n in range(1, 21)]
+        checks.equal(f"{what}: before", replies_of(server, first), [books.serve(it) for it in first])
+        limited(server, path, room)
+        later = [request(n) for n in range(21, 21 + MANY)]
+        came = replies_of(server, later)
+        wanted = [books.serve(it) for it in later[:len(came)]]
+        checks.equal(f"{what}: the replies until the store fails", came, wanted)
+        checks.holds(f"{what}: how many these are", len(came) < MANY and (room < 20_000 or len(came) > 0), "few", len(came))
+        checks.equal(f"{what}: status and text", how_it_ended(server), (1, "mailquota: store failed\n"))
+        came = world.filter(server.address, INPUT)[:2]
+        checks.equal(f"{what}: a filter then", came, (0, REGISTRATION + answer(SERVICE)))
+    # What stands behind the last reply isn't stored, or it is: then it gets the reply that it would have had.
+    with Server(world, store=path, default=DEFAULT) as server:
+        asked = [request(n) for n in range(1, 21 + MANY)]
+        checks.equal(f"{what}, and room again: old and new requests", replies_of(server, asked), [books.serve(it) for it in asked])
+    same_rows(checks, f"{what}, and room again", path, books)
+    came = world.run("audit", "--config", ledger_settings(world, path, default=DEFAULT))
+    checks.equal(f"{what}: audit", came, (0, f"sound days={len(books.usage)} transactions={len(books.transactions)}\n".encode(), ""))
+
+
+def too_small(world, checks, size):
+    what, path = f"files of {size:,} bytes at most", f"{world.folder}/small{size}"
+    settings = ledger_settings(world, path)
+    came = world.run("server", "--config", settings, "--create", limit=("RLIMIT_FSIZE", size))
+    checks.equal(f"{what}: --create", without_log(came), (1, b"", "mailquota: store can't be opened\n"))
+    status, output, errors = without_log(world.run("server", "--config", settings))
+    checks.holds(f"{what}: opened then", (status, output) == (1, b"") and is_refusal(errors), "status 1 and a text", errors)
+    with Server(world, words=["--create"], store=path) as server:
+        checks.equal(f"{what}, and room again: --create", server.ask(wire.reserve(1)), wire.granted(1, 1))

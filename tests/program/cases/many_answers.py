@@ -1,0 +1,133 @@
+"""Tens of thousands of answers in one ledger, over tables in memory and over a file, of connections of one server, and days of one login."""
+import socket
+import threading
+
+import wire
+from books import Books
+from ends import SECONDS, Server, ledger_settings, send_no_more
+from rows import same_rows
+
+MANY = 70_000
+# answers about which one is asked for again, for a conflict and for what is used
+PLACES = [1_000, 4_096, 9_999, 10_000, 10_001, 16_384, 20_000, 20_001, 32_768, 50_000, 65_535, 65_536, 65_537, MANY]
+# requests of a connection, of at most 10,000
+PORTION = 5_000
+DEFAULT = 1_000_000
+
+
+def run(world, checks):
+    many_answers(world, checks, "tables in memory", "memory")
+    many_answers(world, checks, "a file", f"{world.folder}/many")
+    a_long_list(world, checks)
+    many_days(world, checks)
+    many_connections(world, checks)
+
+
+def request(number):
+    """Five numbers a mail: three reserves, a settle or a release, and a limit; 50 logins, ten days."""
+    mail, part = divmod(number, 5)
+    its = {"txn": mail + 1, "login": b"%02d" % (mail % 50), "at": 86_400 * (1 + mail % 10)}
+    if part == 3:
+        return wire.settle(number, count=2, **its) if mail % 3 else wire.release(number, **its)
+    if part == 4:
+        return wire.limit(number, 5, 900_000 + mail, login=its["login"])
+    return wire.reserve(number, count=part + 1, **its)
+
+
+def ask(server, sent):
+    """All replies to what is sent, which is read while it is sent."""
+    with server.connect() as peer:
+        def send():
+            peer.sendall(sent)
+            send_no_more(peer)
+
+        sending = threading.Thread(target=send, daemon=True)
+        sending.start()
+        came = []
+        while piece := peer.recv(65_536):
+            came.append(piece)
+        sending.join()
+    return b"".join(came)
+
+
+def outcome(server, sent):
+    try:
+        return ask(server, sent)
+    except OSError as error:
+        return repr(error)
+
+
+def many_answers(world, checks, what, store):
+    books, settings = Books(0, DEFAULT), {"store": store, "default": DEFAULT}
+    frames = [request(number) for number in range(1, MANY + 1)]
+    with Server(world, words=["--create"], **settings) as server:
+        for first in range(0, MANY, PORTION):
+            sent = b"".join(frames[first:first + PORTION])
+            checks.equal(f"{what}: answers {first + 1:,} to {first + PORTION:,}", outcome(server, sent), books.serve(sent))
+        again(checks, what, server, books, frames)
+    if store == "memory":
+        return
+    with Server(world, **settings) as server:
+        again(checks, f"{what} opened again", server, books, frames)
+        checks.equal(f"{what} opened again: one more", outcome(server, request(MANY + 1)), books.serve(request(MANY + 1)))
+    same_rows(checks, what, store, books)
+    came = world.run("audit", "--config", ledger_settings(world, store, default=DEFAULT))
+    checks.equal(f"{what}: audit", came, (0, f"sound days={len(books.usage)} transactions={len(books.transactions)}\n".encode(), ""))
+    print(f"    {MANY:,} answers, {len(books.transactions):,} transactions, {sum(map(len, books.limits.values())):,} limits", flush=True)
+
+
+def again(checks, what, server, books, frames):
+    for place in PLACES:
+        frame = frames[place - 1]
+        sent = frame + frame[:-1] + bytes([frame[-1] ^ 1]) + wire.usage(b"%02d" % (place % 50)) + wire.page(day=1 + place % 10)
+        checks.equal(f"{what}: the answer {place:,} again, and another request under its number", outcome(server, sent), books.serve(sent))
+
+
+def a_long_list(world, checks):
+    """More answers than a connection has, of a few for each login, since a list is gone through for each."""
+    frames = [wire.reserve(n, txn=n, login=b"%d" % (n // 3)) for n in range(1, 10_101)]
+    sent = [b"".join(frames[:9_000]), b"".join(frames[9_000:] + frames[9_990:10_010]) + wire.usage(b"3333")]
+    for words in ([], ["--sql"]):
+        books = Books(0, DEFAULT)
+        printed = "".join(f"{books.serve(it).hex()}\n" for it in sent)
+        came = world.run("replay", "--default", str(DEFAULT), *words, text="\n\n".join(it.hex() for it in sent).encode())
+        checks.equal(" ".join(["10,100 answers: replay", *words]), came, (0, printed.encode(), ""))
+
+
+def many_days(world, checks):
+    """One login on 2,000 days: a limit looks at all of them for the least day on which more was used."""
+    days = 2_000
+    reserves = [wire.reserve(n, txn=n, at=86_400 * (3 * n), count=1 + n % 2) for n in range(1, days + 1)]
+    limits = [wire.limit(days + n, day, cap) for n, (day, cap) in enumerate([(0, 1), (0, 2), (2_999, 1), (5_997, 0), (0, 0), (6_001, 0), (0, 3)], 1)]
+    asked = [wire.usage(day=day) for day in (0, 3, 3_000, 6_000, 6_001)]
+    sent = b"".join(reserves + limits + asked + limits)
+    for words in ([], ["--sql"]):
+        came = world.run("replay", "--default", "5", *words, text=sent.hex().encode())
+        checks.equal(" ".join([f"a login of {days:,} days: replay", *words]), came, (0, Books(0, 5).serve(sent).hex().encode() + b"\n", ""))
+    path, books = f"{world.folder}/days", Books(0, 5)
+    with Server(world, words=["--create"], store=path, default=5) as server:
+        checks.equal(f"a login of {days:,} days, a file", outcome(server, sent), books.serve(sent))
+    with Server(world, store=path, default=5) as server:
+        checks.equal(f"a login of {days:,} days, the file opened again", outcome(server, sent), books.serve(sent))
+
+
+def many_connections(world, checks):
+    """70,000 connections of one server, one after the other."""
+    with Server(world) as server:
+        wanted, good = Books().serve(wire.usage()), 0
+        # (an address has some 28,000 ports, each of which rests for a minute)
+        while good < MANY and asked_from(f"127.0.1.{1 + good // 10_000}", server.port) == wanted:
+            good += 1
+        checks.equal("connections of a server that are answered", good, MANY)
+    print(f"    {MANY:,} connections of a server", flush=True)
+
+
+def asked_from(address, port):
+    """What comes back for a question from this address of the loopback, or why nothing does."""
+    try:
+        with socket.create_connection(("127.0.0.1", port), timeout=SECONDS, source_address=(address, 0)) as peer:
+            peer.sendall(wire.usage())
+            send_no_more(peer)
+            return b"".join(iter(lambda: peer.recv(65_536), b""))
+    except OSError as error:
+        return repr(error)
