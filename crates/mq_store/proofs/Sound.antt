@@ -15,7 +15,7 @@ use Rattle.mq_ledger.specs.declared.ledger.LedgerFault.{LedgerFault}
 use Rattle.mq_ledger.specs.declared.ledger.LedgerFault.TheVariants as ledger
 use Rattle.mq_ledger.specs.declared.zone.Zone.{Zone}
 use Rattle.mq_ledger.specs.Answer.{build}
-use Rattle.mq_ledger.specs.Day.{IsOffset, day_of}
+use Rattle.mq_ledger.specs.Day.{IsZone, day_of}
 use Rattle.mq_ledger.specs.Legal.{Book, IsLegal, IsLegalBook}
 use Rattle.mq_rows.specs.declared.audited.Audit.{Audit}
 use Rattle.mq_rows.specs.declared.audited.Audit.TheVariants.{Sound, Wrong}
@@ -53,7 +53,7 @@ pub spelled_by : (answers : List AnswerRecord) → filter_map request_at (map (�
 spelled_by [] = refl
 spelled_by (a ∷ more) = ap (cons_option (request_at a.request)) (spelled_by more)
 
-pub made_new : (zone : Zone) (default : ℕ) (old new : State) → IsOffset zone → IsAmount default → IsMadeOver (made_with zone default) old.now new.now → HasKept new → lacks_sequence old.now.schema ≡ false → AreUnnamed old.now.schema → IsNew zone default new
+pub made_new : (zone : Zone) (default : ℕ) (old new : State) → IsZone zone → IsAmount default → IsMadeOver (made_with zone default) old.now new.now → HasKept new → lacks_sequence old.now.schema ≡ false → AreUnnamed old.now.schema → IsNew zone default new
 made_new zone default old new offset amount made kept counters unnamed =
     let l = (made.made counters).ledger unnamed in
     let none : requests_in new.now ≡ [] = ap (filter_map request_at) (bodies_are new.now (new_rows (made_with zone default)) l) in

@@ -11,6 +11,7 @@ use Rattle.sqlite.specs.declared.error.ErrorCode.TheVariants.{Closed, TooBig}
 use Rattle.sqlite.specs.declared.error.Error.{Error}
 use Rattle.sqlite.specs.declared.error.Error.TheVariants.{SqliteFailure}
 use Rattle.mq_ledger.specs.declared.zone.Zone.{Zone}
+use Rattle.mq_ledger.specs.Day.{minutes_in}
 use Rattle.mq_ledger.specs.declared.ledger.LedgerFault.{LedgerFault}
 use Rattle.mq_ledger.specs.declared.ledger.LedgerFault.TheVariants as ledger
 use Rattle.mq_rows.specs.declared.audited.Audit.{Audit}
@@ -26,7 +27,7 @@ use Rattle.mq_store.specs.Auditing.{IsAuditIn}
 
 -- what the tables are made with
 abbrev pub made_with : Zone → ℕ → NewSetting
-made_with zone default = record { minutes = zone; cap = default }
+made_with zone default = record { minutes = minutes_in zone; cap = default }
 
 -- memory and the disk, and any other cause
 abbrev pub fault_of_code : ErrorCode → OpenFault
@@ -52,7 +53,7 @@ fault_of _ = NotOurs
 abbrev pub fault_in : Zone → ℕ → Setting → Option OpenFault
 fault_in zone default s =
     if int_eq s.version (pos 1) then (
-    if int_eq s.minutes zone then (if int_eq s.cap (pos default) then None else Some DefaultDiffers)
+    if int_eq s.minutes (minutes_in zone) then (if int_eq s.cap (pos default) then None else Some DefaultDiffers)
     else Some ZoneDiffers
     )
     else Some NotOurs

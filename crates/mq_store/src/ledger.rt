@@ -5,7 +5,7 @@ ghost use Rattle.sqlite.specs.Tree.{Trees};
 ghost use Rattle.mq_frame.specs.Range.{IsAmount, IsRequest, IsReply};
 ghost use Rattle.mq_ledger.specs.Answer.{build, reply};
 ghost use Rattle.mq_ledger.specs.Arrivals.{first};
-ghost use Rattle.mq_ledger.specs.Day.{IsOffset, day_of};
+ghost use Rattle.mq_ledger.specs.Day.{IsZone, day_of};
 ghost use Rattle.mq_ledger.specs.History.{requests};
 ghost use Rattle.mq_tables.specs.Making.{has_ledger_table, AreUnnamed, HasCounters, IsMadeOver, AreMadeOver};
 ghost use Rattle.mq_tables.specs.Reading.{Spares};
@@ -105,7 +105,7 @@ fn fault_in_ledger<S: Alter>(
 /// What the tables are made with.
 fn new_setting(zone: Zone, default: u32) -> NewSetting
     ensures value { result ≡ made_with zone default }
-    ensures in_range { IsOffset zone }
+    ensures in_range { IsZone zone }
 {
     NewSetting {
         minutes: zone.minutes(),
@@ -350,10 +350,10 @@ impl<S: Alter> Ledger for SqlLedger<S> {
 
     ghost sound_is_legal = { λ _ sound. sound.legal };
 
-    fn zone(&self) -> Zone
-        ensures { result ≡ self.now.zone }
+    fn zone(&self) -> &Zone
+        ensures { result.now ≡ self.now.zone }
     {
-        self.zone
+        &self.zone
     }
 
     fn default_cap(&self) -> u32
