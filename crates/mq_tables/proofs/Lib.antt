@@ -45,6 +45,10 @@ pub mod LoginText
 pub mod LoginReads
 pub mod ArrivalText
 pub mod ArrivalReads
+pub mod RuleText
+pub mod RuleReads
+pub mod RuleInserts
+pub mod Later
 pub mod Keyed
 pub mod AllUsageText
 pub mod AllTransText
