@@ -59,3 +59,9 @@ pub spares : (text : List ℕ) → AlwaysBare text → (old new : State) (answer
 spares text bare old new answer settled h survives clean =
     let it = spared text bare (unlimited old) new settled (queried text bare (unlimited old) new answer h) (crash text bare (unlimited old) new survives clean) in
     record { was_open = it.was_open; now = it.now; committed = it.committed; crash = it.crash }
+
+-- a connection that answers is open
+pub answers_open : (text : List ℕ) → AlwaysBare text → (old new : State) (row : Row) → QueriesRow text [] old new (Ok row) → IsTrue new.is_open
+unfolding QueriesRow
+answers_open text bare old new row (inl h) = h.1.0.is_open
+answers_open text bare old new row (inr h) = (shown_same text bare old new h.0 h.1).0.is_open

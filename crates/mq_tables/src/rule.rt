@@ -24,6 +24,7 @@ pub fn read_rule<S: Alter>(connection: &mut Connection<S>) -> Result<Row, Error>
         → IsRuleRead (state S.Store connection.old) (state S.Store connection.new) result }
     ensures spares { HasCleanDisk (state S.Store connection.new)
         → Spares (state S.Store connection.old) (state S.Store connection.new) }
+    ensures clean { HasCleanDisk (state S.Store connection.new) → HasCleanDisk (state S.Store connection.old) }
 
     // Where our table is there, at any place.
     ensures row { HasCleanDisk (state S.Store connection.new) → (text : List ℕ)

@@ -74,6 +74,8 @@ pub fn read_setting<S: Alter>(connection: &mut Connection<S>) -> Result<Option<S
         → IsRead (state S.Store connection.old) (state S.Store connection.new) result }
     ensures spares { HasCleanDisk (state S.Store connection.new)
         → Spares (state S.Store connection.old) (state S.Store connection.new) }
+    ensures open { HasCleanDisk (state S.Store connection.new)
+        → OnOk result (IsTrue (state S.Store connection.new).is_open) }
 
     // Where our table is there, at any place.
     ensures row { HasCleanDisk (state S.Store connection.new) → (s : SettingRow)

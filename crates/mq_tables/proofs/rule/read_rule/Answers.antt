@@ -1,4 +1,4 @@
-use Rattle.std.proofs.Common.{IsTrue, Ok, Err}
+use Rattle.std.proofs.Common.{arith, IsTrue, Ok, Err}
 use Rattle.sqlite.specs.Held.{state}
 use Rattle.mq_tables.specs.Reading.{rule_text}
 use Rattle.mq_tables.proofs.Plain.{any_bare}
@@ -44,3 +44,9 @@ returns-in-Err-clause-spares g c clean =
 pub returns-in-Err-clause-row : goal.returns-in-Err-clause-row
 returns-in-Err-clause-row g c clean text has =
     rule_answered (state g.S.Store c.args.connection.now) (state g.S.Store c.query_row.new.self) text has (Err c.in-Err.error) (rw c.set_step_limit.ensures at (c.in-Err.ensures.row clean))
+
+pub returns-in-Ok-clause-clean : goal.returns-in-Ok-clause-clean
+returns-in-Ok-clause-clean g c clean = omega (arith, rw c.set_step_limit.ensures at c.in-Ok.ensures.survives.clean)
+
+pub returns-in-Err-clause-clean : goal.returns-in-Err-clause-clean
+returns-in-Err-clause-clean g c clean = omega (arith, rw c.set_step_limit.ensures at c.in-Err.ensures.survives.clean)
