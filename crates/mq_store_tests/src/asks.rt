@@ -120,6 +120,14 @@ pub fn zone(minutes: i32) -> Zone {
     Zone::of_offset(minutes.clamp(-1439, 1439)).unwrap()
 }
 
+/// The zone of a rule; UTC where the text is none.
+pub fn zone_by(rule: &str) -> Zone {
+    match Zone::of_rule(rule) {
+        Ok(zone) => zone,
+        Err(_) => zone(0),
+    }
+}
+
 /// A new plain ledger of offset 0. A default is at most 1,000,000.
 pub fn plain(alloc: Global, default: u32) -> PlainLedger {
     PlainLedger::new(alloc, zone(0), default.min(1_000_000))
@@ -127,5 +135,14 @@ pub fn plain(alloc: Global, default: u32) -> PlainLedger {
 
 /// A new ledger of offset 0 in tables in memory. A default is at most 1,000,000.
 pub fn tables(alloc: Global, default: u32) -> Result<SqlLedger<MemStore>, &'static str> {
-    SqlLedger::in_memory(alloc, zone(0), default.min(1_000_000)).or(Err("no tables"))
+    tables_in(alloc, zone(0), default)
+}
+
+/// The same of this zone.
+pub fn tables_in(
+    alloc: Global,
+    zone: Zone,
+    default: u32,
+) -> Result<SqlLedger<MemStore>, &'static str> {
+    SqlLedger::in_memory(alloc, zone, default.min(1_000_000)).or(Err("no tables"))
 }

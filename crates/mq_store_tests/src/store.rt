@@ -14,6 +14,9 @@ use std::test::*;
 use steps::{Case, Outcome, Step, from_ledger, from_store};
 use worked::{GRANTED_ONE, RESERVE_ONE, USAGE};
 
+/// The rule of Central Europe.
+const EUROPE: &str = "CET-1CEST,M3.5.0,M10.5.0/3";
+
 /// Stores of others and of ledgers.
 const STORES: &[Case] = &[
     // Opening stores of others, each with its fault.
@@ -40,7 +43,7 @@ const STORES: &[Case] = &[
         &[
             Step::Run(
                 "CREATE TABLE setting (id INTEGER PRIMARY KEY, version INTEGER, minutes INTEGER, cap INTEGER); \
-            INSERT INTO setting VALUES (1, 2, 60, 3)",
+            INSERT INTO setting VALUES (1, 3, 60, 3)",
             ),
             Step::Open(60, 3, Outcome::NotOurs),
         ],
@@ -69,7 +72,7 @@ const STORES: &[Case] = &[
         "no table, of another zone",
         &[Step::Open(0, 3, Outcome::NotOurs)],
     ),
-    // A table of one of the five names is there, in either case.
+    // A table of one of the six names is there, in either case.
     (
         "setting is taken",
         &[
@@ -103,6 +106,90 @@ const STORES: &[Case] = &[
         &[
             Step::Run("CREATE TABLE Ceiling (a TEXT)"),
             Step::Make(Outcome::NotOurs),
+        ],
+    ),
+    (
+        "rule is taken",
+        &[
+            Step::Run("CREATE TABLE rule (a TEXT)"),
+            Step::Make(Outcome::NotOurs),
+            Step::MakeBy(EUROPE, Outcome::NotOurs),
+        ],
+    ),
+    // A ledger by a zone rule, taken apart and opened.
+    (
+        "by a rule",
+        &[
+            Step::MakeBy(EUROPE, Outcome::Ready),
+            Step::Open(60, 3, Outcome::ZoneDiffers),
+            Step::Open(0, 3, Outcome::ZoneDiffers),
+            Step::OpenBy("CET-1CEST,M3.5.0,M10.5.0/2", 3, Outcome::ZoneDiffers),
+            Step::OpenBy(EUROPE, 4, Outcome::DefaultDiffers),
+            Step::OpenBy(EUROPE, 3, Outcome::Ready),
+            Step::GoesByRule(EUROPE),
+            Step::MakeBy(EUROPE, Outcome::NotOurs),
+            Step::Counts("SELECT version FROM setting", 2),
+            Step::Counts("SELECT minutes FROM setting", 0),
+            Step::Counts("SELECT count(*) FROM rule WHERE id = 1", 1),
+        ],
+    ),
+    (
+        "by an offset, opened by a rule",
+        &[
+            Step::Make(Outcome::Ready),
+            Step::OpenBy(EUROPE, 3, Outcome::ZoneDiffers),
+            Step::Counts("SELECT version FROM setting", 1),
+        ],
+    ),
+    (
+        "by a rule, of another default and zone",
+        &[
+            Step::MakeBy(EUROPE, Outcome::Ready),
+            Step::Open(0, 4, Outcome::ZoneDiffers),
+        ],
+    ),
+    (
+        "a rule without its row",
+        &[
+            Step::MakeBy(EUROPE, Outcome::Ready),
+            Step::Run("DELETE FROM rule"),
+            Step::OpenBy(EUROPE, 3, Outcome::NotOurs),
+            Step::Open(0, 3, Outcome::NotOurs),
+        ],
+    ),
+    (
+        "a rule without its table",
+        &[
+            Step::MakeBy(EUROPE, Outcome::Ready),
+            Step::Run("DROP TABLE rule"),
+            Step::OpenBy(EUROPE, 3, Outcome::NotOurs),
+        ],
+    ),
+    (
+        "a rule under another key",
+        &[
+            Step::MakeBy(EUROPE, Outcome::Ready),
+            Step::Run("UPDATE rule SET id = 2"),
+            Step::OpenBy(EUROPE, 3, Outcome::NotOurs),
+        ],
+    ),
+    (
+        "a rule that is no bytes",
+        &[
+            Step::MakeBy(EUROPE, Outcome::Ready),
+            Step::Run(
+                "DROP TABLE rule; CREATE TABLE rule (id INTEGER PRIMARY KEY, bytes TEXT); \
+                INSERT INTO rule VALUES (1, 'CET-1CEST,M3.5.0,M10.5.0/3')",
+            ),
+            Step::OpenBy(EUROPE, 3, Outcome::NotOurs),
+        ],
+    ),
+    (
+        "a rule and a version after it",
+        &[
+            Step::MakeBy(EUROPE, Outcome::Ready),
+            Step::Run("UPDATE setting SET version = 3"),
+            Step::OpenBy(EUROPE, 3, Outcome::NotOurs),
         ],
     ),
     // A ledger made behind another table is taken apart and opened.
@@ -194,7 +281,7 @@ fn fault_of(alloc: Global, kind: &Outcome) -> Option<OpenFault> {
 /// The printed texts.
 const TEXTS: &[(Outcome, &str)] = &[
     (Outcome::NotOurs, "store is not this ledger"),
-    (Outcome::ZoneDiffers, "store has another offset"),
+    (Outcome::ZoneDiffers, "store has another zone"),
     (Outcome::DefaultDiffers, "store has another default"),
     (Outcome::Damaged("u", 1), "store is damaged: login u day 1"),
     (

@@ -4,6 +4,7 @@ mod files;
 
 use crate::filter_end::asserts::{MEMORY, assert_text, printed};
 use mq_frame::Escaped;
+use mq_ledger::Zone;
 use mq_settings::{FilterSettings, ServerSettings, read_filter_settings, read_server_settings};
 use std::alloc::Global;
 use std::process::Abort;
@@ -54,11 +55,23 @@ fn server_text(rt: &impl Abort, alloc: Global, settings: &ServerSettings) -> Str
         listen,
         store,
         default,
-        offset,
+        zone,
         timeout,
         log,
     } = settings;
-    format!(in alloc; "{listen} {store:?} {default} {offset} {timeout} {log:?}").expect(rt, MEMORY)
+    let days = zone_text(rt, alloc, zone);
+    format!(in alloc; "{listen} {store:?} {default} {days} {timeout} {log:?}").expect(rt, MEMORY)
+}
+
+/// The rule of a zone, or its minutes east of UTC.
+fn zone_text(rt: &impl Abort, alloc: Global, zone: &Zone) -> String {
+    match zone.rule().map(std::str::from_utf8) {
+        Some(Ok(rule)) => String::from_str(alloc, rule).expect(rt, MEMORY),
+        _ => {
+            let minutes = zone.minutes();
+            format!(in alloc; "{minutes}").expect(rt, MEMORY)
+        }
+    }
 }
 
 fn assert_outcome(rt: &impl Abort, alloc: Global, whose: Whose, text: &str, wanted: &str) {
@@ -169,6 +182,31 @@ const OUTCOMES: &[(Whose, &str, &str)] = &[
         Whose::Server,
         "listen = \"127.0.0.1:7025\"\nstore = \"memory\"\ndefault = 0\noffset = 1440",
         "setting offset: bad value",
+    ),
+    (
+        Whose::Server,
+        "listen = \"[::1]:7025\"\nstore = \"memory\"\ndefault = 0\nrule = \"CET-1CEST,M3.5.0,M10.5.0/3\"\n",
+        "[::1]:7025 Memory 0 CET-1CEST,M3.5.0,M10.5.0/3 2000 Warn",
+    ),
+    (
+        Whose::Server,
+        "listen = \"127.0.0.1:7025\"\nstore = \"memory\"\ndefault = 0\noffset = 0\nrule = \"UTC0\"",
+        "setting rule: bad value",
+    ),
+    (
+        Whose::Server,
+        "listen = \"127.0.0.1:7025\"\nstore = \"memory\"\ndefault = 0\noffset = 1440\nrule = \"UTC0\"",
+        "setting offset: bad value",
+    ),
+    (
+        Whose::Server,
+        "listen = \"127.0.0.1:7025\"\nstore = \"memory\"\ndefault = 0\nrule = \"Europe/Berlin\"",
+        "setting rule: bad value",
+    ),
+    (
+        Whose::Server,
+        "listen = \"127.0.0.1:7025\"\nstore = \"memory\"\ndefault = 0\nrule = 60",
+        "setting rule: bad value",
     ),
 ];
 

@@ -22,7 +22,7 @@ impl<L: Ledger> Ledger for FailsOnce<L> {
 
     ghost sound_is_legal = { λ s. L.sound_is_legal s.ledger };
 
-    fn zone(&self) -> Zone {
+    fn zone(&self) -> &Zone {
         self.ledger.zone()
     }
 

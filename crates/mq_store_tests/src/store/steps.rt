@@ -1,8 +1,8 @@
 //! What is done to a ledger and to its store, as lists of steps.
 
-use crate::asks::{Asked, Verdict, ask, replies, request_of, tables, told, wanted, zone};
+use crate::asks::{Asked, Verdict, ask, replies, request_of, tables, told, wanted, zone, zone_by};
 use mq_frame::Reply;
-use mq_ledger::{Ledger, LedgerFault};
+use mq_ledger::{Ledger, LedgerFault, Zone};
 use mq_store::{Audit, OpenFault, OpenRefused, SqlLedger};
 use sqlite::{Alter, Connection};
 use std::alloc::Global;
@@ -27,12 +27,18 @@ pub enum Step {
     Run(&'static str),
     /// A ledger of 60 minutes and default 3 is made over the store.
     Make(Outcome),
+    /// One of this zone rule and default 3 is made.
+    MakeBy(&'static str, Outcome),
     /// One of so many minutes and that default is opened.
     Open(i32, u32, Outcome),
+    /// One of this zone rule and that default is opened.
+    OpenBy(&'static str, u32, Outcome),
     /// The store answers this query by that number.
     Counts(&'static str, i64),
     /// The ledger goes by so many minutes and that default.
     GoesBy(i32, u32),
+    /// The ledger goes by this zone rule.
+    GoesByRule(&'static str),
     /// The ledger replies so to this request.
     Reply(&'static str, &'static str),
     /// The ledger replies so to these requests.
@@ -60,18 +66,18 @@ pub enum Held<S: Alter> {
 }
 
 /// Makes a ledger. Without clauses, as `ask`.
-pub fn make<S: Alter + Drop>(alloc: Global, store: Connection<S>, minutes: i32) -> Entered<S> {
-    SqlLedger::create(alloc, store, zone(minutes), 3)
+pub fn make<S: Alter + Drop>(alloc: Global, store: Connection<S>, zone: Zone) -> Entered<S> {
+    SqlLedger::create(alloc, store, zone, 3)
 }
 
 /// Opens a ledger. Without clauses, as `ask`. A default is at most 1,000,000.
 pub fn open<S: Alter + Drop>(
     alloc: Global,
     store: Connection<S>,
-    minutes: i32,
+    zone: Zone,
     default: u32,
 ) -> Entered<S> {
-    SqlLedger::open(alloc, store, zone(minutes), default.min(1_000_000))
+    SqlLedger::open(alloc, store, zone, default.min(1_000_000))
 }
 
 /// Whether a refusal has this cause.
@@ -180,9 +186,10 @@ fn take_inside<S: Alter>(alloc: Global, ledger: &mut SqlLedger<S>, step: &Step) 
         Step::Fails(request) => wanted(fails(alloc, ledger, request) == Some(true), request),
         Step::Sound(..) | Step::Wrong(..) => wanted(finds(ledger, step), "an audit"),
         Step::GoesBy(minutes, default) => {
-            let is_so = ledger.zone() == zone(*minutes) && ledger.default_cap() == *default;
+            let is_so = *ledger.zone() == zone(*minutes) && ledger.default_cap() == *default;
             wanted(is_so, "another zone or default")
         }
+        Step::GoesByRule(rule) => wanted(*ledger.zone() == zone_by(rule), "another zone"),
         _ => Err("a step of the store"),
     }
 }
@@ -207,9 +214,13 @@ fn left<S: Alter + Drop>(store: Connection<S>, verdict: Verdict) -> Held<S> {
 /// Takes a step of a store.
 fn take_outside<S: Alter + Drop>(alloc: Global, store: Connection<S>, step: &Step) -> Held<S> {
     match step {
-        Step::Make(outcome) => judged(make(alloc, store, 60), outcome),
+        Step::Make(outcome) => judged(make(alloc, store, zone(60)), outcome),
+        Step::MakeBy(rule, outcome) => judged(make(alloc, store, zone_by(rule)), outcome),
         Step::Open(minutes, default, outcome) => {
-            judged(open(alloc, store, *minutes, *default), outcome)
+            judged(open(alloc, store, zone(*minutes), *default), outcome)
+        }
+        Step::OpenBy(rule, default, outcome) => {
+            judged(open(alloc, store, zone_by(rule), *default), outcome)
         }
         _ => {
             let mut store = store;
@@ -223,7 +234,12 @@ fn take_outside<S: Alter + Drop>(alloc: Global, store: Connection<S>, step: &Ste
 fn is_outside(step: &Step) -> bool {
     matches!(
         step,
-        Step::Run(_) | Step::Counts(..) | Step::Make(_) | Step::Open(..)
+        Step::Run(_)
+            | Step::Counts(..)
+            | Step::Make(_)
+            | Step::MakeBy(..)
+            | Step::Open(..)
+            | Step::OpenBy(..)
     )
 }
 

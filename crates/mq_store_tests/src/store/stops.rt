@@ -1,9 +1,9 @@
-//! A ledger of which a file stops at some call, at each in turn, and that is opened anew over what
+//! A ledger by a zone rule of which a file stops at some call, at each in turn, and that is opened anew over what
 //! is left of the files.
 
 use super::steps::{Outcome, audit, is_refused, make, open};
 use super::worked::RESERVED_TWICE_SETTLED_ONCE;
-use crate::asks::{Asked, Verdict, ask_in_turn, replies, tables, wanted};
+use crate::asks::{Asked, Verdict, ask_in_turn, replies, tables_in, wanted, zone_by};
 use mq_ledger::Ledger;
 use mq_store::{Audit, OpenRefused, SqlLedger};
 use sqlite::{Alter, Connection, FileStore, Files, Options, Row};
@@ -14,9 +14,13 @@ use std::test::*;
 /// A file that passes so many calls on, and fails each one after.
 type Fused = Fuse<Memory>;
 
-/// The rows of the five tables, by their keys.
+/// The rule of Central Europe, by which the moment of the requests is of the same day as in UTC.
+const RULE: &str = "CET-1CEST,M3.5.0,M10.5.0/3";
+
+/// The rows of the tables, by their keys.
 const ROWS: &[&str] = &[
     "SELECT * FROM setting",
+    "SELECT * FROM rule",
     "SELECT * FROM answer ORDER BY n",
     "SELECT * FROM trans ORDER BY host, run, txn",
     "SELECT * FROM usage ORDER BY login, day",
@@ -72,7 +76,7 @@ fn push_rows<S: Alter>(
     Some(())
 }
 
-/// The rows of the five tables as text.
+/// The rows of the tables as text.
 fn rows_of<S: Alter>(alloc: Global, connection: &mut Connection<S>) -> Option<String> {
     let mut text = String::new(alloc);
     for sql in ROWS {
@@ -90,7 +94,7 @@ fn rows_after<S: Alter + Drop>(alloc: Global, new: SqlLedger<S>, count: usize) -
 
 /// Puts the rows after so many of the requests behind a list.
 fn put_rows(alloc: Global, rows: &mut Vec<String>, count: usize) -> Verdict {
-    match rows_after(alloc, tables(alloc, 3)?, count) {
+    match rows_after(alloc, tables_in(alloc, zone_by(RULE), 3)?, count) {
         Some(text) => rows.push(text).or(Err("no memory")),
         None => Err("no rows"),
     }
@@ -145,7 +149,7 @@ fn ask_all<L: Ledger>(alloc: Global, ledger: &mut L) -> Stop {
 
 /// Makes a ledger in a store and asks it, up to where the store fails.
 fn run<S: Alter + Drop>(alloc: Global, store: Connection<S>, stop: &mut Stop) -> Connection<S> {
-    match make(alloc, store, 0) {
+    match make(alloc, store, zone_by(RULE)) {
         Ok(ledger) => {
             let mut ledger = ledger;
             *stop = ask_all(alloc, &mut ledger);
@@ -201,7 +205,7 @@ fn check_rows<S: Alter>(
 /// Checks that a ledger replies as ever to all requests, those before the stop among them, and has
 /// the rows of them all.
 fn check_again<S: Alter + Drop>(alloc: Global, rows: &[String], store: Connection<S>) -> Verdict {
-    match open(alloc, store, 0, 3) {
+    match open(alloc, store, zone_by(RULE), 3) {
         Ok(ledger) => {
             let mut ledger = ledger;
             let stop = ask_all(alloc, &mut ledger);
@@ -267,7 +271,7 @@ fn check_store<S: Alter + Drop>(
     store: Connection<S>,
     goes_on: bool,
 ) -> Verdict {
-    match open(alloc, store, 0, 3) {
+    match open(alloc, store, zone_by(RULE), 3) {
         Ok(ledger) => check_ledger(alloc, rows, stop, ledger, goes_on),
         Err(refused) => wanted(may_be_refused(stop, &refused), "refused"),
     }

@@ -209,7 +209,7 @@ impl<L: Ledger> Ledger for Telling<L> {
 
     ghost sound_is_legal = { λ s. L.sound_is_legal s.inner };
 
-    fn zone(&self) -> Zone {
+    fn zone(&self) -> &Zone {
         self.inner.zone()
     }
 
