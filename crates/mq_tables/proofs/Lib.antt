@@ -9,6 +9,10 @@ pub mod Inserting
 pub mod Places
 pub mod Makes
 pub mod Selecting
+pub mod TermShape
+pub mod SelectShape
+pub mod Selected
+pub mod UsageReads
 pub mod Refusals
 pub mod Answered
 pub mod Anywhere
@@ -16,7 +20,6 @@ pub mod Opens
 pub mod Found
 pub mod NewLedger
 pub mod Meanings
-pub mod ByKey
 pub mod Updating
 pub mod ArrivalSets
 pub mod RowFacts
@@ -25,7 +28,6 @@ pub mod UsageSets
 pub mod Finds
 pub mod Changes
 pub mod UsageInserts
-pub mod UsageReads
 pub mod Appending
 pub mod CeilingUpdates
 pub mod CeilingInserts
@@ -34,14 +36,10 @@ pub mod TransactionInserts
 pub mod TransactionReads
 pub mod AnswerReads
 pub mod Firsts
-pub mod Latest
 pub mod Governing
-pub mod CeilingText
 pub mod CeilingReads
-pub mod OverText
 pub mod OverReads
 pub mod Earliest
-pub mod LoginText
 pub mod LoginReads
 pub mod ArrivalText
 pub mod ArrivalReads
@@ -50,9 +48,6 @@ pub mod RuleReads
 pub mod RuleInserts
 pub mod Later
 pub mod Keyed
-pub mod AllUsageText
-pub mod AllTransText
-pub mod AllCeilingText
 pub mod FigureReads
 pub mod Still
 pub mod Strict
