@@ -12,6 +12,7 @@ pub mod Selecting
 pub mod TermShape
 pub mod SelectShape
 pub mod Selected
+pub mod InsertShape
 pub mod UsageReads
 pub mod Refusals
 pub mod Answered

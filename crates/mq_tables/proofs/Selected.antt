@@ -57,7 +57,7 @@ module _ (params r : Row) where
   all_same [] h = refl
   all_same (x ∷ xs) h = ap₂ (λ a b. a && b) h.0 (all_same xs h.1)
 
-  same_tests : (ts : List Test) → list_all (holds full) (filter_of None ts) ≡ list_all (holds cut) (filter_of None ts)
+  pub same_tests : (ts : List Test) → list_all (holds full) (filter_of None ts) ≡ list_all (holds cut) (filter_of None ts)
   same_tests [] = refl
   same_tests (t ∷ more) = all_same (filter_of None (t ∷ more)) (each_same t more)
 
