@@ -13,6 +13,7 @@ pub mod TermShape
 pub mod SelectShape
 pub mod Selected
 pub mod InsertShape
+pub mod UpdateShape
 pub mod UsageReads
 pub mod Refusals
 pub mod Answered
