@@ -34,7 +34,7 @@ is_insert = record {
   timeless = λ params. append-nil params;
 }
 
-row_is : (old new : State) (u : CeilingRecord) (tree : ℕ) (place : IsTableIn old.now.schema ceiling_table tree) → drop 1 (new_row insert_text shape is_insert (ceiling_fields u) old new tree place) ≡ ceiling_fields u
+row_is : (old new : State) (u : CeilingRecord) (tree : ℕ) (place : IsTableIn old.now.schema ceiling_table tree) → drop 1 (new_row insert_text shape is_insert (ceiling_fields u) old new tree place.at place.named place.there) ≡ ceiling_fields u
 row_is old new u tree place = rw (cast_int (pos u.day), cast_int (pos u.cap), cast_null) refl
 
 pub inserts_ceiling : (old new : State) (u : CeilingRecord) (r : Result ℕ Error) → ExecutesInside 0 insert_text (ceiling_fields u) old new r → OnOk r (IsTrue new.in_transaction) × OnOk r (WritesCeiling (write.Insert u) old new)
@@ -44,6 +44,6 @@ inserts_ceiling old new u (Ok count) h = (
   λ t l.
       let tree = l.at.ceiling in
       let place = l.tables.ceiling in
-      let it = inserted insert_text shape is_insert (ceiling_fields u) old new tree place count h.0 in
-      ceilings_changed old.now new.now t l it.schema_is it.sound it.tables (u ∷ t.ceilings) (holds_inserted insert_text shape is_insert (ceiling_fields u) old new tree place ceiling_fields u t.ceilings (row_is old new u tree place) l.holds.ceilings it),
+      let it = inserted insert_text shape is_insert (ceiling_fields u) old new tree place.at place.named place.there count h.0 in
+      ceilings_changed old.now new.now t l it.schema_is it.sound it.tables (u ∷ t.ceilings) (holds_inserted insert_text shape is_insert (ceiling_fields u) old new tree place.at place.named place.there ceiling_fields u t.ceilings (row_is old new u tree place) l.holds.ceilings it),
 )

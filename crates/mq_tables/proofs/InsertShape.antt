@@ -1,5 +1,5 @@
 -- An INSERT of one row of parameters into a table of ours, over any schema that has the table at some place.
-use Rattle.std.proofs.Common.{◌≡◌, ℕ, ◌+◌, ◌/◌, List, [], ◌∷◌, drop, length, false, Ok, refl, sym, ap, subst}
+use Rattle.std.proofs.Common.{◌≡◌, ℕ, ◌+◌, ◌/◌, List, [], ◌∷◌, drop, length, false, Some, Ok, slice_get, refl, sym, ap, subst}
 use Rattle.sqlite.specs.Order.{Row}
 use Rattle.sqlite.specs.Schema.{Schema}
 use Rattle.sqlite.specs.Table.{Table}
@@ -11,9 +11,9 @@ use Rattle.sqlite.specs.Effect.{value_rows}
 use Rattle.sqlite.specs.Rowids.TheVariants.{Chosen}
 use Rattle.sqlite.specs.Rows.{stamped}
 use Rattle.sqlite.specs.State.{State, Executes}
+use Rattle.sqlite_schema.specs.Names.{table_named}
 use Rattle.sqlite_resolve.specs.Compile.{first, small, new_rows}
 use Rattle.sqlite.proofs.Callers.{IsPlain, command_of}
-use Rattle.mq_tables.specs.Places.{IsTableIn}
 use Rattle.mq_tables.specs.Records.{Holds}
 use Rattle.mq_tables.specs.Written.{Inserted}
 use Rattle.mq_tables.proofs.Plain.{parsed_in}
@@ -39,15 +39,16 @@ pub record IsInsertOf (text : List ℕ) (shape : InsertShape) : Type 0 where
   pub formats : shape.table.stamps.formats ≡ []
   pub timeless : (params : Row) → stamped shape.table params ≡ params
 
-module _ (text : List ℕ) (shape : InsertShape) (it : IsInsertOf text shape) (params : Row) (old new : State) (tree : ℕ) (place : IsTableIn old.now.schema shape.table tree) where
+module _ (text : List ℕ) (shape : InsertShape) (it : IsInsertOf text shape) (params : Row) (old new : State) (tree at : ℕ) (named : table_named old.now.schema shape.table.name ≡ Some at)
+    (there : slice_get old.now.schema.tables at ≡ Some (in_tree shape tree)) where
   abbrev pub new_row : Row
   new_row = with_rowid Chosen (old.now.trees tree) (cast_row (in_tree shape tree) (eval_all shape.terms (params ∷ [])))
 
   pub inserted : (count : ℕ) → Executes text params old new (Ok count) → Inserted old.now.schema (in_tree shape tree) new_row old new
   inserted count h =
       let s = old.now.schema in
-      let is = understood_insert text it.parsed it.insert s place.at (in_tree shape tree) (Values shape.terms (length shape.terms)) (rw it.named place.named) place.there it.formats (it.rows s tree) in
-      inserts text params old new s refl place.at (in_tree shape tree) (record { place = place.there; uncounted = it.uncounted; timeless = it.timeless; unreferred = unreferred s tree })
+      let is = understood_insert text it.parsed it.insert s at (in_tree shape tree) (Values shape.terms (length shape.terms)) (rw it.named named) there it.formats (it.rows s tree) in
+      inserts text params old new s refl at (in_tree shape tree) (record { place = there; uncounted = it.uncounted; timeless = it.timeless; unreferred = unreferred s tree })
       shape.terms (length shape.terms) (ap command_of is) (subst IsPlain (sym is) (refl, refl)) (it.whole params) count h
 
   -- one record more, whose fields are the parameters

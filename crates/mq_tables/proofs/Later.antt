@@ -5,7 +5,6 @@ use Rattle.sqlite.specs.declared.error.Error.{Error}
 use Rattle.sqlite.specs.Schema.{Schema}
 use Rattle.sqlite.specs.Table.{Table}
 use Rattle.sqlite.specs.Change.{created, next_tree}
-use Rattle.sqlite.specs.Does.{lacks_sequence}
 use Rattle.sqlite.specs.Effect.{Database}
 use Rattle.sqlite.specs.State.{State}
 use Rattle.sqlite_schema.specs.Names.{same_name}
@@ -14,8 +13,8 @@ use Rattle.mq_ledger.specs.declared.zone.Zone.{Zone}
 use Rattle.mq_tables.specs.declared.setting.NewSetting.{NewSetting}
 use Rattle.mq_tables.specs.Tables.{setting_table, rule_table}
 use Rattle.mq_tables.specs.Settings.{rule_fields}
-use Rattle.mq_tables.specs.Ledger.{IsThere, HasLater}
-use Rattle.mq_tables.specs.Making.{chain, trees_for, is_ours, AreUnnamed, other_tables, setting_row, new_rows, HasCounters, HasStarted, HasBegun, HasAdded, IsMade, IsMadeOver}
+use Rattle.mq_tables.specs.Ledger.{HasLater}
+use Rattle.mq_tables.specs.Making.{trees_for, is_ours, AreUnnamed, other_tables, setting_row, new_rows, HasCounters, HasStarted, HasBegun, HasAdded, IsMade, IsMadeOver}
 use Rattle.mq_tables.proofs.Chains.{all_joined, all_both, of_chain}
 use Rattle.mq_tables.proofs.Found.{IsFound, begun, still_all, in_database}
 use Rattle.mq_tables.proofs.NewLedger.{AreFive, five_over, five_made}

@@ -45,7 +45,6 @@ pub mod Earliest
 pub mod LoginReads
 pub mod ArrivalText
 pub mod ArrivalReads
-pub mod RuleText
 pub mod RuleReads
 pub mod RuleInserts
 pub mod Later

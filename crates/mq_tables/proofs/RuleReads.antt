@@ -1,5 +1,5 @@
 -- What is read of the rule, over a store that has its table at any place.
-use Rattle.std.proofs.Common.{◌≡◌, inl, inr, ℕ, ◌^◌, nat_le, List, [], ◌∷◌, length, true, false, Some, true≢false, Ok, Err, Result, slice_get, arith, refl, sym, ap, subst, ◌∙◌}
+use Rattle.std.proofs.Common.{◌≡◌, inl, inr, ℕ, List, [], ◌∷◌, codes, length, None, false, Some, true≢false, Ok, Err, Result, slice_get, arith, refl, sym, ap, subst, ◌∙◌}
 use Rattle.std.specs.Prelude.{is_ok}
 use Rattle.std.specs.List.Sorted.{IsPermutation}
 use Rattle.sqlite.specs.declared.types.Value.TheVariants.{Blob}
@@ -8,26 +8,54 @@ use Rattle.sqlite_resolve.specs.declared.compiled.Compiled.{Compiled}
 use Rattle.sqlite.specs.Clock.{timed}
 use Rattle.sqlite.specs.Command.TheVariants.{Select}
 use Rattle.sqlite.specs.Effect.{Database}
-use Rattle.sqlite.specs.Listing.{understood, reads_listing, IsSourceOf}
+use Rattle.sqlite.specs.Listing.{understood, reads_listing, listing_schema, IsSourceOf}
 use Rattle.sqlite.specs.Ops.{binary}
 use Rattle.sqlite.specs.Order.{Row, value_cmp}
-use Rattle.sqlite.specs.Program.{overlay}
 use Rattle.sqlite.specs.State.{State, QueriesRow, Shown, IsStatement}
-use Rattle.sqlite.specs.Tree.{Trees}
 use Rattle.sqlite.proofs.Callers.{IsPlain, command_of, begins_shown, one_permutation, EndsIn}
+use Rattle.sqlite_schema.specs.Names.{same_name}
 use Rattle.sqlite_tied.specs.Compute.{everything}
 use Rattle.mq_tables.specs.Reading.{rule_text, unlimited}
 use Rattle.mq_tables.specs.Settings.{HasRule, IsRuleOf, rule_fields}
-use Rattle.mq_tables.specs.Written.{plain_query, chosen}
-use Rattle.mq_tables.proofs.Plain.{any_apart}
-use Rattle.mq_tables.proofs.Queries.{selects}
+use Rattle.mq_tables.specs.Tables.{rule_table}
+use Rattle.mq_tables.specs.Written.{chosen}
 use Rattle.mq_tables.proofs.Refusals.{IsStop, query_stops, names_of, tail_of}
-use Rattle.mq_tables.proofs.RuleText.{select_parsed, select_query, select_unlisted, key_tests, shown_terms, names, select_compiled, accepted, understood_so}
+use Rattle.mq_tables.proofs.SelectShape.{SelectShape, IsSelect, IsAccepted, filter_in, shown_in, query_in, names_in, compiled_of, means, plain, apart}
+use Rattle.mq_tables.proofs.Selected.{shows_rows}
+use Rattle.mq_tables.proofs.TermShape.{field}
+use Rattle.mq_tables.proofs.TermShape.Operand.{One}
+use Rattle.mq_tables.proofs.TermShape.Relation.{Same}
 
-stored : (t : ℕ) (db : Trees) → nat_le (2 ^ 31) t ≡ false → overlay db [] t ≡ db t
-stored t db low = rw low
+abbrev pub rule_shape : SelectShape
+rule_shape = record {
+  table = rule_table;
+  shown = field (codes "bytes") 1 ∷ [];
+  tests = record { column = field (codes "id") 0; by = Same; operand = One } ∷ [];
+  order = None;
+}
 
-rule_ends : (tail_of (Ok (select_compiled 0)) ≡ length rule_text) × (length (names_of (Ok (select_compiled 0))) ≡ 0)
+pub rule_select : IsSelect rule_text rule_shape
+unfolding everything listing_schema same_name
+rule_select = record {
+  parsed = refl;
+  select = _;
+  statement = refl;
+  timeless = refl;
+  unlisted = refl;
+  source = (_, refl, refl, refl, refl, refl, refl);
+  shown = ((_, refl, refl), tt);
+  filter = (_, _, refl, refl, refl);
+  ungrouped = (refl, refl, refl);
+  order = (refl, refl);
+  alone = (refl, refl, refl);
+  known = λ t. refl;
+  short = refl;
+}
+
+rule_accepted : IsAccepted rule_shape
+rule_accepted s t low found = rw (low, found)
+
+rule_ends : (tail_of (Ok (compiled_of rule_text rule_shape 0)) ≡ length rule_text) × (length (names_of (Ok (compiled_of rule_text rule_shape 0))) ≡ 0)
 unfolding everything
 rule_ends = (refl, refl)
 
@@ -35,26 +63,26 @@ module _ (old new : State) (text : List ℕ) (has : HasRule old.now text) where
   abbrev tree : ℕ
   tree = has.tree
 
-  is : understood old.now.schema rule_text ≡ Ok (select_compiled tree)
-  is = understood_so old.now.schema tree has.table
+  is : understood old.now.schema rule_text ≡ Ok (compiled_of rule_text rule_shape tree)
+  is = means rule_text rule_shape rule_select rule_accepted old.now.schema tree has.table
 
-  plain : IsPlain (understood old.now.schema rule_text)
-  plain = subst IsPlain (sym is) (refl, refl)
+  plain' : IsPlain (understood old.now.schema rule_text)
+  plain' = plain rule_text rule_shape rule_select rule_accepted old.now.schema tree has.table
 
-  apart : reads_listing old.now.schema rule_text ≡ false
-  apart = any_apart rule_text select_parsed select_query select_unlisted old.now.schema (select_compiled tree) is
+  apart' : reads_listing old.now.schema rule_text ≡ false
+  apart' = apart rule_text rule_shape rule_select rule_accepted old.now.schema tree has.table
 
   abbrev only : Row
   only = Blob text ∷ []
 
-  chosen_is : chosen key_tests shown_terms [] (rule_fields text ∷ []) ≡ only ∷ []
+  chosen_is : chosen (filter_in rule_shape) (shown_in rule_shape) [] (rule_fields text ∷ []) ≡ only ∷ []
   unfolding binary value_cmp lib.Ieee.is_nan lib.Ieee.lt
   chosen_is = refl
 
   shown_is : (rows : List Row) → Shown rule_text [] (unlimited old) new rows → rows ≡ only ∷ []
   shown_is rows h =
-      let all = selects rule_text [] (unlimited old) new old.now.schema refl tree key_tests shown_terms names (ap command_of is) plain apart (stored tree old.now.trees has.table.stored) rows h in
-      one_permutation only rows (subst (λ shown. IsPermutation shown rows) (ap (chosen key_tests shown_terms []) has.row ∙ chosen_is) all)
+      let all = shows_rows rule_text rule_shape rule_select rule_accepted [] (unlimited old) new tree has.table rows h refl in
+      one_permutation only rows (subst (λ shown. IsPermutation shown rows) (ap (chosen (filter_in rule_shape) (shown_in rule_shape) []) has.row ∙ chosen_is) all)
 
   first_is : (row : Row) (rows : List Row) → slice_get rows 0 ≡ Some row → rows ≡ only ∷ [] → row ≡ only
   first_is row rows there whole = let e : Some only ≡ Some row = sym (ap (λ rs. slice_get rs 0) whole) ∙ there in cc
@@ -65,7 +93,7 @@ module _ (old new : State) (text : List ℕ) (has : HasRule old.now text) where
   ends : (c : Compiled) (db : Database) (it : IsStatement (unlimited old) rule_text [] c) → IsSourceOf (reads_listing old.now.schema rule_text) old.now db → EndsIn c.command db (timed [] c.formats it.now)
   ends c db it source =
       let known = sym is ∙ it.is in
-      let same : Select (record { lets = []; body = plain_query tree key_tests shown_terms }) names ≡ c.command = ap command_of known in
+      let same : Select (record { lets = []; body = query_in rule_shape tree }) (names_in rule_shape tree) ≡ c.command = ap command_of known in
       subst (λ k. EndsIn k db (timed [] c.formats it.now)) same tt
 
   stopped : (e : Error) → IsStop (unlimited old) e → IsRuleOf text (Err e)
@@ -79,7 +107,7 @@ module _ (old new : State) (text : List ℕ) (has : HasRule old.now text) where
       head_is row' all.0 (shown_is (row' ∷ all.0) all.1)
   rule_answered (Ok row') (inr h) = first_is row' h.0 h.2 (shown_is h.0 h.1)
   rule_answered (Err e) (inl h) =
-      stopped e (query_stops rule_text [] (unlimited old) new e old.now.schema refl tree key_tests shown_terms names (ap command_of is) plain
-      (ap is_ok is) (sym rule_ends.1 ∙ sym (ap (λ r. length (names_of r)) is)) (let e = ap tail_of is in omega (arith, e, rule_ends.0)) apart
-      (accepted old.now.schema tree has.table.stored has.table.found) h)
+      stopped e (query_stops rule_text [] (unlimited old) new e old.now.schema refl tree (filter_in rule_shape) (shown_in rule_shape) (names_in rule_shape tree) (ap command_of is) plain'
+      (ap is_ok is) (sym rule_ends.1 ∙ sym (ap (λ r. length (names_of r)) is)) (let e = ap tail_of is in omega (arith, e, rule_ends.0)) apart'
+      (rule_accepted old.now.schema tree has.table.stored has.table.found) h)
   rule_answered (Err e) (inr h) = absurd (let none = shown_is [] h.1 in cc)

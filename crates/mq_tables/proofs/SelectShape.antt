@@ -23,7 +23,6 @@ use Rattle.sqlite_draft.specs.declared.join.Step.TheVariants.{Inner}
 use Rattle.sqlite_resolve.specs.declared.scope.Output.{Output}
 use Rattle.sqlite_resolve.specs.declared.state.Carried.{Carried}
 use Rattle.sqlite_resolve.specs.declared.state.State.{State}
-use Rattle.sqlite_resolve.specs.Literal.{integer}
 use Rattle.sqlite_resolve.specs.Lowering.{fresh, max_budget, nothing}
 use Rattle.sqlite_resolve.specs.Scope.{Name, Context}
 use Rattle.sqlite_resolve.specs.Select.{outermost, inside}
@@ -36,12 +35,11 @@ use Rattle.sqlite_typing.specs.Types.{accepts_program}
 use Rattle.sqlite.specs.Command.TheVariants.{Select as Select'}
 use Rattle.sqlite.specs.Listing.{understood, if_select, listing_schema, reads_listing}
 use Rattle.sqlite.proofs.Callers.{IsPlain, command_of}
-use Rattle.sqlite_tied.specs.Compute.{everything}
 use Rattle.mq_tables.specs.Places.{IsTableIn}
 use Rattle.mq_tables.specs.Written.{plain_query, latest_query}
 use Rattle.mq_tables.proofs.Plain.{parsed_in, IsQuery, IsBare, any_bare, any_apart}
 use Rattle.mq_tables.proofs.Selecting.{bound_one, column_lowered, join_one, body_is, parts_are, named_is, query_is, sorts_one, parts_ordered, named_ordered, constant_number, query_ordered, plan_selects}
-use Rattle.mq_tables.proofs.TermShape.{Field, Test, is_field, of_field, carried_is, binary_alone, shown_term, filter_of, carried_at, output_of, AreShown, IsFilter, state_of, depth_of, nodes_of, spent_on, spent_most, last_after, last_shown, bound_at, filter_lowered, fields_shown}
+use Rattle.mq_tables.proofs.TermShape.{Field, Test, one_reads, is_field, of_field, carried_is, binary_alone, shown_term, filter_of, carried_at, output_of, AreShown, IsFilter, state_of, depth_of, nodes_of, spent_on, spent_most, last_after, last_shown, bound_at, filter_lowered, fields_shown}
 
 pub record Sorting : Type 0 where
   pub column : Field
@@ -75,6 +73,9 @@ query_in shape t = paged t shape.table.key (filter_in shape) (shown_in shape) sh
 
 abbrev pub names_in : SelectShape → ℕ → List Name
 names_in shape t = map (λ (o : Output). o.name) (map (output_of (in_tree shape t)) shape.shown)
+
+abbrev pub compiled_of : List ℕ → SelectShape → ℕ → Compiled
+compiled_of text shape t = with_command (parsed_in (first text)) ([], (Select' (record { lets = []; body = query_in shape t }) (names_in shape t), None))
 
 -- ---- how the text is written
 
@@ -124,10 +125,6 @@ abbrev pub IsAccepted : SelectShape → Type 0
 IsAccepted shape = (s : Schema) (t : ℕ) → nat_le (2 ^ 31) t ≡ false → find (λ (x : Table). x.tree == t) s.tables ≡ Some (in_tree shape t) → accepts_program s [] (query_in shape t) [] ≡ true
 
 -- ---- what it means
-
-one_reads : integer false (codes "1") ≡ Ok (Int (pos 1))
-unfolding everything
-one_reads = refl
 
 unaliased : (table : Table) (name : Name) (fs : List Field) (k : ℕ) → position_from (λ (o : Output). o.is_alias && same_name o.name name) k (map (output_of table) fs) ≡ None
 unaliased table name [] k = refl
@@ -220,10 +217,7 @@ module _ (text : List ℕ) (shape : SelectShape) (it : IsSelect text shape) wher
     project_is : project ≡ shown_in shape
     project_is = map-map (λ (o : Output). o.term) (output_of table) shape.shown
 
-    abbrev pub compiled_in : Compiled
-    compiled_in = with_command (parsed_in (first text)) ([], (Select' (record { lets = []; body = query_in shape t }) (names_in shape t), None))
-
-    pub means : understood s text ≡ Ok compiled_in
+    pub means : understood s text ≡ Ok (compiled_of text shape t)
     unfolding understood compiled
     means =
         let accepts = subst (λ p. accepts_program s [] (paged t shape.table.key (filter_in shape) p shape.order) [] ≡ true) (sym project_is) (accepted s t place.stored place.found) in
@@ -238,4 +232,4 @@ module _ (text : List ℕ) (shape : SelectShape) (it : IsSelect text shape) wher
     plain = subst IsPlain (sym means) (refl, refl)
 
     pub apart : reads_listing s text ≡ false
-    apart = any_apart text it.parsed query_of_text it.unlisted s compiled_in means
+    apart = any_apart text it.parsed query_of_text it.unlisted s (compiled_of text shape t) means

@@ -1,5 +1,5 @@
 -- What a SELECT of this shape answers of the records: all that pass, or the first of them in the order.
-use Rattle.std.proofs.Common.{◌≡◌, ◌⊎◌, ℕ, ◌+◌, ◌-◌, suc, ◌&&◌, List, [], ◌∷◌, drop, map, filter, reverse, Bool, Some, None, Result, arith, refl, sym, ap, ap₂, subst}
+use Rattle.std.proofs.Common.{◌≡◌, ◌⊎◌, ℕ, ◌+◌, suc, ◌&&◌, List, [], ◌∷◌, drop, map, filter, reverse, Bool, Some, None, Result, arith, refl, sym, ap₂, subst}
 use Rattle.std.specs.Prelude.{Vec, IfOk, IfErr, OnOk}
 use Rattle.std.specs.declared.alloc.Global.{Global}
 use Rattle.std.specs.List.{AllByRecursion, list_all}
@@ -8,7 +8,7 @@ use Rattle.std.proofs.lemmas.List.Sorted.{IsPermutation-trans, IsPermutation-sym
 use Rattle.sqlite.specs.declared.types.Value.TheVariants.{Null}
 use Rattle.sqlite.specs.declared.error.Error.{Error}
 use Rattle.sqlite.specs.Order.{Row, column}
-use Rattle.sqlite.specs.Term.{Term, eval_all, holds}
+use Rattle.sqlite.specs.Term.{Term, eval, eval_all, holds}
 use Rattle.sqlite.specs.Command.TheVariants.{Select}
 use Rattle.sqlite.specs.Listing.{understood}
 use Rattle.sqlite.specs.State.{State, Shown, IsUnchanged, KeepsCommit, FailsToQuery, IsTooLate}
@@ -23,7 +23,8 @@ use Rattle.mq_tables.specs.Written.{chosen}
 use Rattle.mq_tables.proofs.Chains.{all_joined}
 use Rattle.mq_tables.proofs.Queries.{asked_same, asked_keeps, selects, of_records}
 use Rattle.mq_tables.proofs.Firsts as firsts
-use Rattle.mq_tables.proofs.TermShape.{Field, Test, compare_of, shown_term, test_term, all_of, filter_of}
+use Rattle.mq_tables.proofs.TermShape.Operand.{Parameter, One}
+use Rattle.mq_tables.proofs.TermShape.{Field, Test, Operand, operand_term, compare_of, shown_term, test_term, all_of, filter_of}
 use Rattle.mq_tables.proofs.SelectShape.{SelectShape, Sorting, IsSelect, IsAccepted, filter_in, shown_in, order_by, paged, names_in, bare, command_is, plain, apart}
 
 -- ---- a column that is no key is the same in a row without its rowid
@@ -46,8 +47,12 @@ module _ (params r : Row) where
   same_shown [] = refl
   same_shown (f ∷ fs) = ap₂ (λ x xs. x ∷ xs) (same_column r f.at) (same_shown fs)
 
+  same_operand : (o : Operand) → eval (operand_term o) full ≡ eval (operand_term o) cut
+  same_operand (Parameter n) = refl
+  same_operand One = refl
+
   one_same : (t : Test) → holds full (test_term None t) ≡ holds cut (test_term None t)
-  one_same t = ap (λ v. is_true (binary (Compare (compare_of t.by) Binary) v (column params (t.parameter - 1)))) (same_column r t.column.at)
+  one_same t = ap₂ (λ v w. is_true (binary (Compare (compare_of t.by) Binary) v w)) (same_column r t.column.at) (same_operand t.operand)
 
   each_same : (t : Test) (more : List Test) → AllByRecursion (λ x. holds full x ≡ holds cut x) (conjuncts (all_of None t more))
   each_same t [] = (one_same t, tt)

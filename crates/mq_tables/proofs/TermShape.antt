@@ -1,5 +1,5 @@
--- The terms of one statement on one table: the columns that it shows, and the tests of its WHERE, each of a column against a parameter.
-use Rattle.std.proofs.Common.{◌≡◌, ◌≤◌, ℕ, suc, ◌+◌, ◌-◌, ◌==◌, nat_lt, List, [], ◌∷◌, ◌++◌, map, length, Bool, true, false, ◌&&◌, Option, Some, None, Ok, slice_get, arith, append-nil, append_assoc, refl, sym, ap, ap₂, subst, ◌∙◌}
+-- The terms of one statement on one table: the columns that it shows, and the tests of its WHERE, each of a column against a parameter or the number 1.
+use Rattle.std.proofs.Common.{pos, codes, not, ◌≡◌, ◌≤◌, ℕ, suc, ◌+◌, ◌-◌, ◌==◌, nat_lt, List, [], ◌∷◌, ◌++◌, map, length, Bool, true, false, ◌&&◌, Option, Some, None, Ok, slice_get, arith, append-nil, append_assoc, refl, sym, ap, ap₂, subst, ◌∙◌}
 use Rattle.std.specs.Prelude.{if◌then◌else◌, unwrap_or, option_map}
 use Rattle.std.specs.List.{list_all}
 use Rattle.std.proofs.lemmas.Bool.{and_parts, lt-ltb, eqb-true}
@@ -9,7 +9,8 @@ use Rattle.sqlite_ast.specs.declared.Shown.{Shown, out-Shown}
 use Rattle.sqlite_ast.specs.declared.Binary.{Binary as Sign}
 use Rattle.sqlite_ast.specs.declared.Binary.TheVariants as sign
 use Rattle.sqlite.specs.Table.{Table}
-use Rattle.sqlite.specs.Term.{Term, col, op2}
+use Rattle.sqlite.specs.Term.{Term, lit, col, op2}
+use Rattle.sqlite.specs.declared.types.Value.TheVariants.{Int}
 use Rattle.sqlite_schema.specs.declared.schema.Column.{Column}
 use Rattle.sqlite_schema.specs.declared.schema.Kind.{Kind}
 use Rattle.sqlite_schema.specs.declared.schema.Kind.TheVariants as kind
@@ -31,8 +32,10 @@ use Rattle.sqlite_resolve.specs.Scope.{Name, Context, declared}
 use Rattle.sqlite_resolve.specs.Body.{outputs_from, tests, shown as shown_in}
 use Rattle.sqlite_resolve.specs.Expr.{lower, lower_to}
 use Rattle.sqlite_resolve.specs.Terms.{conjuncts}
-use Rattle.sqlite_resolve.specs.Compare.{compared, affinity_of, of_column, converted, may_be_text, of_kind, of_declared, is_filler, spelled}
-use Rattle.mq_tables.proofs.Selecting.{column_shown, column_lowered, parameter_lowered, and_lowered, equal_lowered, most_lowered, least_lowered, tested, outputs_next}
+use Rattle.sqlite_resolve.specs.Literal.{integer}
+use Rattle.sqlite_tied.specs.Compute.{everything}
+use Rattle.sqlite_resolve.specs.Compare.{compared, affinity_of, of_column, converted, may_be_text, of_kind, of_declared, is_filler}
+use Rattle.mq_tables.proofs.Selecting.{column_shown, column_lowered, parameter_lowered, integer_lowered, and_lowered, equal_lowered, most_lowered, least_lowered, tested, outputs_next}
 
 -- a column, by its name and by its place in the table
 pub record Field : Type 0 where
@@ -59,13 +62,17 @@ compare_of AtMost = Le
 compare_of AtLeast = Ge
 
 -- parameters count from 1, as in the text
+pub data Operand : Type 0 where
+  Parameter : ℕ → Operand
+  One : Operand
+
 pub record Test : Type 0 where
   pub column : Field
   pub by : Relation
-  pub parameter : ℕ
+  pub operand : Operand
 
 abbrev pub against : Field → Relation → ℕ → Test
-against f by n = record { column = f; by = by; parameter = n }
+against f by n = record { column = f; by = by; operand = Parameter n }
 
 -- ---- the table has the column, and compares it as it is
 
@@ -77,9 +84,13 @@ abbrev is_binary : Collation → Bool
 is_binary collation.Binary = true
 is_binary _ = false
 
+abbrev is_text : Kind → Bool
+is_text kind.Text = true
+is_text _ = false
+
 abbrev is_plain : Option Column → Bool
 is_plain None = false
-is_plain (Some c) = c.is_strict && is_binary c.collation
+is_plain (Some c) = (c.is_strict && is_binary c.collation) && not (is_text c.kind)
 
 abbrev pub is_field : Table → Field → Bool
 is_field table f = is_at (column_named table f.name) f.at && is_plain (slice_get table.columns f.at)
@@ -90,6 +101,7 @@ pub record IsField (table : Table) (f : Field) : Type 0 where
   pub there : slice_get table.columns f.at ≡ Some column
   pub strict : column.is_strict ≡ true
   pub binary : column.collation ≡ Binary
+  pub textless : not (is_text column.kind) ≡ true
 
 at_it : (found : Option ℕ) (at : ℕ) → is_at found at ≡ true → found ≡ Some at
 at_it None at h = absurd (cc)
@@ -105,7 +117,7 @@ of_field table f h = let both = and_parts _ _ h in go (slice_get table.columns f
   where
     go : (c : Option Column) → slice_get table.columns f.at ≡ c → column_named table f.name ≡ Some f.at → is_plain c ≡ true → IsField table f
     go None is named plain = absurd (cc)
-    go (Some c) is named plain = let parts = and_parts _ _ plain in record { column = c; named = named; there = is; strict = parts.0; binary = binary_it c.collation parts.1 }
+    go (Some c) is named plain = let parts = and_parts (c.is_strict && is_binary c.collation) (not (is_text c.kind)) plain in let more = and_parts _ _ parts.0 in record { column = c; named = named; there = is; strict = more.0; binary = binary_it c.collation more.1; textless = parts.1 }
 
 -- ---- terms
 
@@ -116,8 +128,12 @@ place key at = if is_key key at then 0 else at + 1
 abbrev pub shown_term : Option ℕ → Field → Term
 shown_term key f = col 1 (place key f.at)
 
+abbrev pub operand_term : Operand → Term
+operand_term (Parameter n) = col 0 (n - 1)
+operand_term One = lit (Int (pos 1))
+
 abbrev pub test_term : Option ℕ → Test → Term
-test_term key t = op2 (Compare (compare_of t.by) Binary) (col 1 (place key t.column.at)) (col 0 (t.parameter - 1))
+test_term key t = op2 (Compare (compare_of t.by) Binary) (col 1 (place key t.column.at)) (operand_term t.operand)
 
 -- the last test stands first in these lists, as the outermost AND has it
 abbrev pub all_of : Option ℕ → Test → List Test → Term
@@ -146,8 +162,12 @@ AreShown [] (f ∷ fs) = ⊥
 AreShown (s ∷ more) [] = ⊥
 AreShown (s ∷ more) (f ∷ fs) = ((e : Expr) × (out-Shown s ≡ Shown-F.One e None f.name) × (out-Expr e ≡ Expr-F.Column None f.name)) × AreShown more fs
 
+abbrev pub IsOperand : Expr → Operand → Type 0
+IsOperand e (Parameter n) = out-Expr e ≡ Expr-F.Parameter n
+IsOperand e One = out-Expr e ≡ Expr-F.Integer (codes "1")
+
 abbrev pub IsTest : Expr → Test → Type 0
-IsTest e t = (a : Expr) × (c : Expr) × (out-Expr e ≡ Expr-F.Binary (sign_of t.by) a c) × (out-Expr a ≡ Expr-F.Column None t.column.name) × (out-Expr c ≡ Expr-F.Parameter t.parameter)
+IsTest e t = (a : Expr) × (c : Expr) × (out-Expr e ≡ Expr-F.Binary (sign_of t.by) a c) × (out-Expr a ≡ Expr-F.Column None t.column.name) × IsOperand c t.operand
 
 abbrev pub IsAll : Expr → Test → List Test → Type 0
 IsAll e t [] = IsTest e t
@@ -194,24 +214,26 @@ last_shown key (f ∷ fs) last = last_shown key fs (carried_at key f.at)
 abbrev pub bound_at : ℕ → Name → Bound
 bound_at at name = record { name = name; table = at; slot = 1; shared = [] }
 
-abbrev is_loose : Affinity → Bool
-is_loose affinity.Loose = true
-is_loose _ = false
+-- what makes a comparison convert the other side
+abbrev converts : Affinity → Bool
+converts affinity.Loose = true
+converts affinity.Text = true
+converts _ = false
 
 either_way : {X : Type 0} (x : X) (b : Bool) → (if b then x else x) ≡ x
 either_way x true = refl
 either_way x false = refl
 
-firm_kind : (b : Bool) (k : Kind) → is_loose (if b then affinity.None else of_kind k) ≡ false
-firm_kind true k = refl
-firm_kind false kind.Integer = refl
-firm_kind false kind.Real = refl
-firm_kind false kind.Text = refl
-firm_kind false kind.Blob = refl
-firm_kind false kind.Any = refl
+firm_kind : (b : Bool) (k : Kind) → not (is_text k) ≡ true → converts (if b then affinity.None else of_kind k) ≡ false
+firm_kind true k h = refl
+firm_kind false kind.Integer h = refl
+firm_kind false kind.Real h = refl
+firm_kind false kind.Text h = absurd (cc)
+firm_kind false kind.Blob h = refl
+firm_kind false kind.Any h = refl
 
-firm_column : (c : Column) → c.is_strict ≡ true → is_loose (of_declared c) ≡ false
-firm_column c strict = rw strict (firm_kind (is_filler c) c.kind)
+firm_column : (c : Column) → c.is_strict ≡ true → not (is_text c.kind) ≡ true → converts (of_declared c) ≡ false
+firm_column c strict textless = rw strict (firm_kind (is_filler c) c.kind textless)
 
 left_alone : (a : Affinity) (t : Term) → converted a affinity.None t ≡ t
 unfolding converted
@@ -221,13 +243,18 @@ left_alone affinity.Text t = refl
 left_alone affinity.Blob t = refl
 left_alone affinity.None t = refl
 
-converted_parameter : (a : Affinity) (p : ℕ) → is_loose a ≡ false → converted affinity.None a (col 0 p) ≡ col 0 p
-unfolding converted may_be_text spelled
-converted_parameter affinity.Numeric p h = refl
-converted_parameter affinity.Loose p h = absurd (cc)
-converted_parameter affinity.Text p h = refl
-converted_parameter affinity.Blob p h = refl
-converted_parameter affinity.None p h = refl
+converted_operand : (a : Affinity) (o : Operand) → converts a ≡ false → converted affinity.None a (operand_term o) ≡ operand_term o
+unfolding converted may_be_text
+converted_operand affinity.Numeric (Parameter n) h = refl
+converted_operand affinity.Numeric One h = refl
+converted_operand affinity.Loose o h = absurd (cc)
+converted_operand affinity.Text o h = absurd (cc)
+converted_operand affinity.Blob o h = refl
+converted_operand affinity.None o h = refl
+
+pub one_reads : integer false (codes "1") ≡ Ok (Int (pos 1))
+unfolding everything
+one_reads = refl
 
 pub carried_is : (table : Table) (at : ℕ) (c : Column) → c.collation ≡ Binary → declared table at c ≡ carried_at table.key at
 carried_is table at c binary = ap (λ k. if is_key table.key at then nothing else record { collation = Some k; is_written = false }) binary
@@ -252,22 +279,27 @@ heading_is : (table : Table) (f : Field) (c : Column) → slice_get table.column
 heading_is table f c there = rw there refl
 
 module _ (cx : Context) (at : ℕ) (name : Name) (shown : List Output) (table : Table) (levels : cx.levels ≡ record { tables = bound_at at name ∷ []; shown = shown } ∷ []) (there : slice_get cx.schema.tables at ≡ Some table) where
-  parameter_affinity : (p : ℕ) → affinity_of cx (col 0 p) ≡ affinity.None
+  operand_affinity : (o : Operand) → affinity_of cx (operand_term o) ≡ affinity.None
   unfolding affinity_of of_column
-  parameter_affinity p = rw levels (either_way affinity.None (p == 0))
+  operand_affinity (Parameter n) = rw levels (either_way affinity.None (n - 1 == 0))
+  operand_affinity One = refl
 
-  column_affinity : (f : Field) → IsField table f → is_loose (affinity_of cx (shown_term table.key f)) ≡ false
+  column_affinity : (f : Field) → IsField table f → converts (affinity_of cx (shown_term table.key f)) ≡ false
   unfolding affinity_of of_column
   column_affinity f it = go (is_key table.key f.at)
     where
-      go : (b : Bool) → is_loose (affinity_of cx (col 1 (if b then 0 else f.at + 1))) ≡ false
+      go : (b : Bool) → converts (affinity_of cx (col 1 (if b then 0 else f.at + 1))) ≡ false
       go true = rw levels refl
-      go false = let next : f.at + 1 ≡ suc f.at = omega arith in rw (next, levels, there, it.there) (firm_column it.column it.strict)
+      go false = let next : f.at + 1 ≡ suc f.at = omega arith in rw (next, levels, there, it.there) (firm_column it.column it.strict it.textless)
 
-  compared_is : (t : Test) → IsField table t.column → compared cx (Compare (compare_of t.by) Binary) (shown_term table.key t.column) (col 0 (t.parameter - 1)) ≡ test_term table.key t
+  compared_is : (t : Test) → IsField table t.column → compared cx (Compare (compare_of t.by) Binary) (shown_term table.key t.column) (operand_term t.operand) ≡ test_term table.key t
   unfolding compared
   compared_is t it =
-      rw (parameter_affinity (t.parameter - 1), left_alone (affinity_of cx (shown_term table.key t.column)) (shown_term table.key t.column), converted_parameter (affinity_of cx (shown_term table.key t.column)) (t.parameter - 1) (column_affinity t.column it)) refl
+      rw (operand_affinity t.operand, left_alone (affinity_of cx (shown_term table.key t.column)) (shown_term table.key t.column), converted_operand (affinity_of cx (shown_term table.key t.column)) t.operand (column_affinity t.column it)) refl
+
+  operand_lowered : (o : Operand) (e : Expr) → IsOperand e o → (depth : ℕ) (st : State) → nat_lt 1 st.budget ≡ true → st.written ≡ None → lower_to (suc depth) cx e st ≡ Ok (operand_term o, record st { budget = st.budget - 1; written = None; last = nothing })
+  operand_lowered (Parameter n) e is depth st enough unwritten = parameter_lowered cx depth e n is st enough unwritten
+  operand_lowered One e is depth st enough unwritten = integer_lowered cx depth e (codes "1") (Int (pos 1)) is one_reads st enough unwritten
 
   either_lowered : (by : Relation) (depth : ℕ) (e a c : Expr) (x y : Term) (st one two : State) → out-Expr e ≡ Expr-F.Binary (sign_of by) a c → nat_lt 1 st.budget ≡ true → st.written ≡ None
       → lower_to depth cx a (record st { budget = st.budget - 1; written = None; last = nothing }) ≡ Ok (x, one) → lower_to depth cx c one ≡ Ok (y, two) → two.written ≡ None
@@ -282,9 +314,9 @@ module _ (cx : Context) (at : ℕ) (name : Name) (shown : List Output) (table : 
       let it = of_field table t.column known in
       let column = column_lowered cx (bound_at at name) shown table levels refl there t.column.name t.column.at it.column it.named it.there a a_is depth (state_of (budget - 1) nothing) (lt-ltb 1 (budget - 1) (omega (arith, enough))) refl in
       let carried = carried_is table t.column.at it.column it.binary in
-      let parameter = parameter_lowered cx depth c t.parameter c_is (state_of (budget - 1 - 1) (declared table t.column.at it.column)) (lt-ltb 1 (budget - 1 - 1) (omega (arith, enough))) refl in
-      let both = either_lowered t.by (suc depth) e a c (shown_term table.key t.column) (col 0 (t.parameter - 1)) (state_of budget last) (state_of (budget - 1 - 1) (declared table t.column.at it.column)) (state_of (budget - 1 - 1 - 1) nothing) is (lt-ltb 1 budget (omega (arith, enough))) refl column parameter refl in
-      both ∙ ap (λ k. Ok (compared cx (Compare (compare_of t.by) k) (shown_term table.key t.column) (col 0 (t.parameter - 1)), state_of (budget - 1 - 1 - 1) nothing)) (ap (λ k. chosen k nothing) carried ∙ binary_chosen table.key t.column.at)
+      let operand = operand_lowered t.operand c c_is depth (state_of (budget - 1 - 1) (declared table t.column.at it.column)) (lt-ltb 1 (budget - 1 - 1) (omega (arith, enough))) refl in
+      let both = either_lowered t.by (suc depth) e a c (shown_term table.key t.column) (operand_term t.operand) (state_of budget last) (state_of (budget - 1 - 1) (declared table t.column.at it.column)) (state_of (budget - 1 - 1 - 1) nothing) is (lt-ltb 1 budget (omega (arith, enough))) refl column operand refl in
+      both ∙ ap (λ k. Ok (compared cx (Compare (compare_of t.by) k) (shown_term table.key t.column) (operand_term t.operand), state_of (budget - 1 - 1 - 1) nothing)) (ap (λ k. chosen k nothing) carried ∙ binary_chosen table.key t.column.at)
       ∙ ap (λ x. Ok (x, state_of (budget - 1 - 1 - 1) nothing)) (compared_is t it)
 
   all_lowered : (t : Test) (more : List Test) → list_all (λ (u : Test). is_field table u.column) (t ∷ more) ≡ true → (e : Expr) → IsAll e t more → (depth budget : ℕ) (last : Carried) → depth_of more ≤ depth → nodes_of more + 2 ≤ budget

@@ -34,7 +34,7 @@ is_insert = record {
   timeless = λ params. append-nil params;
 }
 
-row_is : (old new : State) (u : TransactionRecord) (tree : ℕ) (place : IsTableIn old.now.schema trans_table tree) → drop 1 (new_row insert_text shape is_insert (transaction_fields u) old new tree place) ≡ transaction_fields u
+row_is : (old new : State) (u : TransactionRecord) (tree : ℕ) (place : IsTableIn old.now.schema trans_table tree) → drop 1 (new_row insert_text shape is_insert (transaction_fields u) old new tree place.at place.named place.there) ≡ transaction_fields u
 row_is old new u tree place = rw (cast_int (pos u.run), cast_int (pos u.txn), cast_int (pos u.moment), cast_int (pos u.day), cast_int (pos u.held), cast_int (pos u.settled), cast_int (pos (bit u.closed)), cast_null) refl
 
 pub inserts_trans : (old new : State) (u : TransactionRecord) (r : Result ℕ Error) → ExecutesInside 0 insert_text (transaction_fields u) old new r → OnOk r (IsTrue new.in_transaction) × OnOk r (WritesTransaction (write.Insert u) old new)
@@ -44,6 +44,6 @@ inserts_trans old new u (Ok count) h = (
   λ t l.
       let tree = l.at.trans in
       let place = l.tables.trans in
-      let it = inserted insert_text shape is_insert (transaction_fields u) old new tree place count h.0 in
-      transactions_changed old.now new.now t l it.schema_is it.sound it.tables (u ∷ t.transactions) (holds_inserted insert_text shape is_insert (transaction_fields u) old new tree place transaction_fields u t.transactions (row_is old new u tree place) l.holds.transactions it),
+      let it = inserted insert_text shape is_insert (transaction_fields u) old new tree place.at place.named place.there count h.0 in
+      transactions_changed old.now new.now t l it.schema_is it.sound it.tables (u ∷ t.transactions) (holds_inserted insert_text shape is_insert (transaction_fields u) old new tree place.at place.named place.there transaction_fields u t.transactions (row_is old new u tree place) l.holds.transactions it),
 )

@@ -34,7 +34,7 @@ is_insert = record {
   timeless = λ params. append-nil params;
 }
 
-row_is : (old new : State) (u : UsageRecord) (tree : ℕ) (place : IsTableIn old.now.schema usage_table tree) → drop 1 (new_row insert_text shape is_insert (usage_fields u) old new tree place) ≡ usage_fields u
+row_is : (old new : State) (u : UsageRecord) (tree : ℕ) (place : IsTableIn old.now.schema usage_table tree) → drop 1 (new_row insert_text shape is_insert (usage_fields u) old new tree place.at place.named place.there) ≡ usage_fields u
 row_is old new u tree place = rw (cast_int (pos u.day), cast_int (pos u.settled), cast_int (pos u.reserved), cast_null) refl
 
 pub inserts_usage : (old new : State) (u : UsageRecord) (r : Result ℕ Error) → ExecutesInside 0 insert_text (usage_fields u) old new r → OnOk r (IsTrue new.in_transaction) × OnOk r (WritesUsage (write.Insert u) old new)
@@ -44,6 +44,6 @@ inserts_usage old new u (Ok count) h = (
   λ t l.
       let tree = l.at.usage in
       let place = l.tables.usage in
-      let it = inserted insert_text shape is_insert (usage_fields u) old new tree place count h.0 in
-      usage_changed old.now new.now t l it.schema_is it.sound it.tables (u ∷ t.usage) (holds_inserted insert_text shape is_insert (usage_fields u) old new tree place usage_fields u t.usage (row_is old new u tree place) l.holds.usage it),
+      let it = inserted insert_text shape is_insert (usage_fields u) old new tree place.at place.named place.there count h.0 in
+      usage_changed old.now new.now t l it.schema_is it.sound it.tables (u ∷ t.usage) (holds_inserted insert_text shape is_insert (usage_fields u) old new tree place.at place.named place.there usage_fields u t.usage (row_is old new u tree place) l.holds.usage it),
 )

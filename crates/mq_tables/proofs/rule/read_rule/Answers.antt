@@ -1,9 +1,8 @@
 use Rattle.std.proofs.Common.{arith, IsTrue, Ok, Err}
 use Rattle.sqlite.specs.Held.{state}
 use Rattle.mq_tables.specs.Reading.{rule_text}
-use Rattle.mq_tables.proofs.Plain.{any_bare}
-use Rattle.mq_tables.proofs.RuleText.{select_parsed, select_query, select_unlisted}
-use Rattle.mq_tables.proofs.RuleReads.{rule_answered}
+use Rattle.mq_tables.proofs.RuleReads.{rule_shape, rule_select, rule_answered}
+use Rattle.mq_tables.proofs.SelectShape.{bare}
 use Rattle.mq_tables.proofs.Spared.{spares}
 use Rattle.mq_tables.proofs.rule.read_rule.Goals as goal
 
@@ -19,7 +18,7 @@ returns-in-Ok-clause-read g c clean = rw c.set_step_limit.ensures at (c.in-Ok.en
 pub returns-in-Ok-clause-spares : goal.returns-in-Ok-clause-spares
 returns-in-Ok-clause-spares g c clean =
     let autocommit : IsTrue c.is_autocommit-settled.result = rw (c.is_autocommit-settled.ensures.value, c.set_step_limit.ensures, c.requires.autocommit) in
-    spares rule_text (any_bare rule_text select_parsed select_query select_unlisted) (state g.S.Store c.args.connection.now) (state g.S.Store c.query_row.new.self) (Ok c.in-Ok.row)
+    spares rule_text (bare rule_text rule_shape rule_select) (state g.S.Store c.args.connection.now) (state g.S.Store c.query_row.new.self) (Ok c.in-Ok.row)
     (rw c.set_step_limit.ensures at (c.is_autocommit-settled.ensures.settled autocommit)) (rw c.set_step_limit.ensures at (c.in-Ok.ensures.row clean)) (rw c.set_step_limit.ensures at c.in-Ok.ensures.survives) clean
 
 pub returns-in-Ok-clause-row : goal.returns-in-Ok-clause-row
@@ -38,7 +37,7 @@ returns-in-Err-clause-read g c clean = rw c.set_step_limit.ensures at (c.in-Err.
 pub returns-in-Err-clause-spares : goal.returns-in-Err-clause-spares
 returns-in-Err-clause-spares g c clean =
     let autocommit : IsTrue c.is_autocommit-settled.result = rw (c.is_autocommit-settled.ensures.value, c.set_step_limit.ensures, c.requires.autocommit) in
-    spares rule_text (any_bare rule_text select_parsed select_query select_unlisted) (state g.S.Store c.args.connection.now) (state g.S.Store c.query_row.new.self) (Err c.in-Err.error)
+    spares rule_text (bare rule_text rule_shape rule_select) (state g.S.Store c.args.connection.now) (state g.S.Store c.query_row.new.self) (Err c.in-Err.error)
     (rw c.set_step_limit.ensures at (c.is_autocommit-settled.ensures.settled autocommit)) (rw c.set_step_limit.ensures at (c.in-Err.ensures.row clean)) (rw c.set_step_limit.ensures at c.in-Err.ensures.survives) clean
 
 pub returns-in-Err-clause-row : goal.returns-in-Err-clause-row
