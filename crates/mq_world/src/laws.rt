@@ -1,15 +1,25 @@
 //! Laws of both ends. The functions compute nothing.
-ghost use Rattle.std.specs.Prelude.{◌≡◌, ◌≤◌, ◌+◌, ℕ, List, sum_by, true};
+ghost use Rattle.std.specs.Prelude.{◌≡◌, ◌≤◌, ◌+◌, ◌++◌, ◌∷◌, ℕ, List, Bool, Option, sum_by, true, false, Some};
+ghost use Rattle.std.specs.Option.{option_map};
+ghost use Rattle.mq_line.specs.Grammar.{Meaning};
 ghost use Rattle.mq_ledger.specs.Day.{day_of};
 ghost use Rattle.mq_ledger.specs.History.{Transaction, held, settled_in, reserved, settled};
 ghost use Rattle.mq_ledger.specs.Limits.{cap};
 ghost use Rattle.mq_ledger.specs.Sums.{AreDistinct};
-ghost use Rattle.mq_client.specs.Past.{Source, view, IsBounded};
-ghost use Rattle.mq_world.specs.World.{Site, World, IsStart, Reaches};
+ghost use Rattle.mq_client.specs.Exchanges.{Exchange, request_frame};
+ghost use Rattle.mq_client.specs.Past.{Source, Action, Step, drained, view, Plays, IsPlayed, IsBounded};
+ghost use Rattle.mq_client.specs.Numbered.{exchanges_in};
+ghost use Rattle.mq_client.specs.Filter.{Takes, push};
+ghost use Rattle.mq_client.specs.Run.{Outside, EndsWith, StopsAt};
+ghost use Rattle.mq_client.specs.declared.faults.FilterFault.{FilterFault};
+ghost use Rattle.mq_client.specs.declared.filter.Ended.{Ended};
+ghost use Rattle.mq_world.specs.World.{Site, World, IsStart, Reaches, Next, with_run, with_sent, with_on_way, after_stop};
+ghost use Rattle.mq_world.specs.World.{MayCome};
+ghost use Rattle.mq_world.specs.Running.{ran, step_of, unsent, amid, frames_of, AllMayCome, GoesOn, IsNew, lines_at, IsOrOneMore};
 ghost use Rattle.mq_world.specs.Law.{standing_of, let_by, let_together, IsPastOf};
 
 use mq_client::{
-    closed_is_not_asked_for, few_at_a_time, one_request_for_a_number, readings,
+    closed_is_not_asked_for, few_at_a_time, in_turn, one_request_for_a_number, readings,
     settles_are_of_what_was_let,
 };
 use mq_frame::laws::{one_spelling, same_is_equal};
@@ -57,4 +67,44 @@ pub fn never_past_the_limit()
     replies_suit();
     sums_over_transactions();
     within_limits();
+}
+
+/// What a filter run's contract allows is a way through worlds: no line, no exchange and no end of a
+/// run is one that the steps of a world leave out. What a run's contract says of it, it says with the
+/// same words as `run_filter`.
+pub fn each_run_is_of_a_world()
+    // A line that the run takes begins the step that it makes.
+    ensures lines { (site : Site) (w : World) (s : Source) (L : List Meaning) (P : List Step) (m : Meaning)
+        (step : Option Step) (text : List ℕ) → site.is_run s ≡ true → w.runs s ≡ ran L P false →
+        IsPlayed s (site.tries s) P → Takes L m step text →
+        Next site w (with_run w s (ran (m ∷ L) (push (option_map unsent step) P) false)) }
+    // Each exchange of a step is sent once those before it have ended, whatever others did since then.
+    ensures sends { (site : Site) (w : World) (s : Source) (L : List Meaning) (P : List Step) (is_at_end : Bool)
+        (action : Action) (later earlier : List Exchange) (x : Exchange) → site.is_run s ≡ true →
+        Plays s (site.tries s) P (step_of action (later ++ x ∷ earlier)) →
+        w.runs s ≡ amid L action earlier P is_at_end →
+        Next site w (with_sent (with_run w s (with_on_way (Some x.request) (amid L action earlier P is_at_end)))
+        (request_frame x.request)) }
+    // It ends with what may come by then, and comes to what the step says.
+    ensures ends { (site : Site) (w : World) (s : Source) (L : List Meaning) (P : List Step) (is_at_end : Bool)
+        (action : Action) (later earlier : List Exchange) (x : Exchange) → site.is_run s ≡ true →
+        Plays s (site.tries s) P (step_of action (later ++ x ∷ earlier)) →
+        w.runs s ≡ with_on_way (Some x.request) (amid L action earlier P is_at_end) → MayCome w.written x.outcome →
+        Next site w (with_run w s (amid L action (x ∷ earlier) P is_at_end)) }
+    // A run to the end of its input is one of a world, from any world in which what came to it may come.
+    ensures whole { (site : Site) (w : World) (s : Source) (o : Outside) (bytes : List ℕ) (now : Outside) (e : Ended)
+        (h : EndsWith o bytes now e) → IsNew site w s o.client →
+        AllMayCome w.written (exchanges_in (drained h.group h.steps)) →
+        GoesOn site w s (ran h.after_ready (drained h.group h.steps) true)
+        (frames_of (exchanges_in (drained h.group h.steps))) }
+    // So is one that stopped, with the line in hand read or not.
+    ensures stopped { (site : Site) (w : World) (s : Source) (o : Outside) (pieces : List (List ℕ))
+        (source : Option (List ℕ)) (now : Outside) (read_failed write_failed : Bool) (f : FilterFault)
+        (h : StopsAt o pieces source now read_failed write_failed f) → IsNew site w s o.client →
+        AllMayCome w.written (exchanges_in (push h.step h.steps)) →
+        (lines : List Meaning) × IsOrOneMore lines (lines_at h.stage)
+        × GoesOn site w s (after_stop (ran lines (push h.step h.steps) false))
+        (frames_of (exchanges_in (push h.step h.steps))) }
+{
+    in_turn();
 }
