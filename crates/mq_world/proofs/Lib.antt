@@ -8,4 +8,3 @@ pub mod Runs
 pub mod Takes
 pub mod Worlds
 pub mod Within
-pub mod Running

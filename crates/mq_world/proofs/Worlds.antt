@@ -51,7 +51,7 @@ all_suit L b h = λ e i. all_at (λ x. RepliesSuit x.request x.reply) b.history 
 pub same_itself : (s : Source) → same_source s s ≡ true
 same_itself s = both_so (same_text s.host s.host) (s.run == s.run) (text_itself s.host) (number_itself s.run)
 
-source_is : (a b : Source) → same_source a b ≡ true → a ≡ b
+pub source_is : (a b : Source) → same_source a b ≡ true → a ≡ b
 source_is a b h =
     let host : a.host ≡ b.host = text_is a.host b.host (first_so (same_text a.host b.host) _ h) in
     let run : a.run ≡ b.run = number_is a.run b.run (second_so (same_text a.host b.host) (a.run == b.run) h) in

@@ -1,3 +1,4 @@
 pub mod World
 pub mod Law
 pub mod Running
+pub mod Happening

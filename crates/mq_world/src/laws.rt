@@ -1,9 +1,15 @@
 //! Laws of both ends. The functions compute nothing.
 ghost use Rattle.std.specs.Prelude.{◌≡◌, ◌≤◌, ◌+◌, ◌++◌, ◌∷◌, ℕ, List, Bool, Option, sum_by, true, false, Some};
+ghost use Rattle.std.specs.Prelude.{slice_get};
+ghost use Rattle.mq_frame.specs.Spelling.{reply_body, frame};
+ghost use Rattle.mq_frame.specs.declared.message.Reply.TheVariants.{Retry, Bad};
+ghost use Rattle.mq_client.specs.declared.link.LinkFault.{LinkFault};
+ghost use Rattle.mq_client.specs.declared.link.Outcome.TheVariants.{Answered, Faulted};
 ghost use Rattle.std.specs.Option.{option_map};
 ghost use Rattle.mq_line.specs.Grammar.{Meaning};
 ghost use Rattle.mq_ledger.specs.Day.{day_of};
 ghost use Rattle.mq_ledger.specs.History.{Transaction, held, settled_in, reserved, settled};
+ghost use Rattle.mq_ledger.specs.Legal.{Book, IsLegalBook};
 ghost use Rattle.mq_ledger.specs.Limits.{cap};
 ghost use Rattle.mq_ledger.specs.Sums.{AreDistinct};
 ghost use Rattle.mq_client.specs.Exchanges.{Exchange, request_frame};
@@ -15,6 +21,8 @@ ghost use Rattle.mq_client.specs.declared.faults.FilterFault.{FilterFault};
 ghost use Rattle.mq_client.specs.declared.filter.Ended.{Ended};
 ghost use Rattle.mq_world.specs.World.{Site, World, IsStart, Reaches, Next, with_run, with_sent, with_on_way, after_stop};
 ghost use Rattle.mq_world.specs.World.{MayCome};
+ghost use Rattle.mq_world.specs.Happening.{unused, IsReachable, HasLetOneThrough, WasAnsweredAgain, WasTakenTwice};
+ghost use Rattle.mq_world.specs.Happening.{CameLate, HasStopped};
 ghost use Rattle.mq_world.specs.Running.{ran, step_of, unsent, amid, frames_of, AllMayCome, GoesOn, IsNew, lines_at, IsOrOneMore};
 ghost use Rattle.mq_world.specs.Law.{standing_of, let_by, let_together, IsPastOf};
 
@@ -91,6 +99,12 @@ pub fn each_run_is_of_a_world()
         Plays s (site.tries s) P (step_of action (later ++ x ∷ earlier)) →
         w.runs s ≡ with_on_way (Some x.request) (amid L action earlier P is_at_end) → MayCome w.written x.outcome →
         Next site w (with_run w s (amid L action (x ∷ earlier) P is_at_end)) }
+    // What may come is a fault of the link, Retry, Bad, and any reply that was ever written.
+    ensures faults { (written : List (List ℕ)) (fault : LinkFault) → MayCome written (Faulted fault) }
+    ensures retry { (written : List (List ℕ)) → MayCome written (Answered (reply_body Retry)) }
+    ensures bad { (written : List (List ℕ)) → MayCome written (Answered (reply_body Bad)) }
+    ensures replies { (written : List (List ℕ)) (which : ℕ) (body : List ℕ) →
+        slice_get written which ≡ Some (frame body) → MayCome written (Answered body) }
     // A run to the end of its input is one of a world, from any world in which what came to it may come.
     ensures whole { (site : Site) (w : World) (s : Source) (o : Outside) (bytes : List ℕ) (now : Outside) (e : Ended)
         (h : EndsWith o bytes now e) → IsNew site w s o.client →
@@ -107,4 +121,16 @@ pub fn each_run_is_of_a_world()
         (frames_of (exchanges_in (push h.step h.steps))) }
 {
     in_turn();
+}
+
+/// Worlds are reached in which mail goes through and the network does its worst: a law of all worlds
+/// speaks of such ones too. The start's ledger may have any zone, and any default of at least one.
+pub fn what_may_happen()
+    ensures let_through { (b : Book) → IsLegalBook (unused b) → 1 ≤ b.default → IsReachable b HasLetOneThrough }
+    ensures answered_again { (b : Book) → IsLegalBook (unused b) → 1 ≤ b.default → IsReachable b WasAnsweredAgain }
+    ensures taken_twice { (b : Book) → IsLegalBook (unused b) → 1 ≤ b.default → IsReachable b WasTakenTwice }
+    ensures late { (b : Book) → IsLegalBook (unused b) → 1 ≤ b.default → IsReachable b CameLate }
+    ensures stopped { (b : Book) → IsLegalBook (unused b) → IsReachable b HasStopped }
+{
+    one_spelling();
 }

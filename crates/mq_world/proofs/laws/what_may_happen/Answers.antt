@@ -1,0 +1,279 @@
+-- A world of two runs, step by step.
+use Rattle.std.proofs.Common.{◌≡◌, ℕ, ◌≤◌, List, [], ◌∷◌, Bool, true, false, refl, ap, sym, subst, inl, inr, arith, None, Some, if◌then◌else◌}
+use Rattle.std.specs.Prelude.{codes, nat_lt, ◌||◌, ◌⊎◌, count_by}
+use Rattle.mq_frame.specs.Same.{same_text}
+use Rattle.std.proofs.lemmas.Bool.Decides.{nat_tests}
+use Rattle.std.proofs.lemmas.List.Elements.{All-from_recursion}
+use Rattle.mq_line.specs.Grammar.{Meaning, ReportLine, FilterLine}
+use Rattle.mq_frame.specs.Range.{IsHost, IsHostByte, IsRun, IsId, IsRequest, IsReply}
+use Rattle.mq_frame.specs.Spelling.{request_body, reply_body, SpellsReply, frame}
+use Rattle.mq_frame.specs.declared.message.Request.{Request}
+use Rattle.mq_frame.specs.declared.message.Reply.{Reply}
+use Rattle.mq_frame.specs.declared.message.Reply.TheVariants.{Granted, Full}
+use Rattle.mq_ledger.specs.Legal.{Book, IsLegalBook}
+use Rattle.mq_client.specs.Exchanges.{Exchange, decides, request_frame}
+use Rattle.mq_client.specs.Past.{Source, id_of, reserve_of}
+use Rattle.mq_client.specs.declared.link.LinkFault.TheVariants.{TimedOut}
+use Rattle.mq_world.specs.World.{Site, World, fresh, IsStart, after_line, with_on_way, after_exchange, after_stop, same_source, with_run, with_sent, after_arrival, reply_from, Next, Reads, Sends, Ends, Takes, Stops, Reaches, AtOnce, Later}
+use Rattle.mq_world.specs.Happening.{unused, times_written, IsReachable, failed, brought, HasLetOneThrough, WasAnsweredAgain, WasTakenTwice, CameLate, HasStopped}
+use Rattle.mq_world.proofs.Worlds.{source_is}
+use Rattle.mq_world.proofs.laws.what_may_happen.Goals as goal
+
+-- ---- the site: a run of each of two hosts
+
+abbrev pub here : Source
+here = record { host = codes "a"; run = 1 }
+
+abbrev pub there : Source
+there = record { host = codes "b"; run = 1 }
+
+abbrev pub site : Site
+site = record { is_run = λ s. same_source here s || same_source there s; tries = λ s. 3 }
+
+-- ---- the mail: a login, the beginning of a transaction, a recipient
+
+abbrev pub noon : ℕ
+noon = 1700000000
+
+abbrev pub login_line : Meaning
+login_line = ReportLine noon (codes "smtp-in") (codes "link-auth") (codes "s") (codes "pass|u")
+
+abbrev pub begin_line : Meaning
+begin_line = ReportLine noon (codes "smtp-in") (codes "tx-begin") (codes "s") (codes "m")
+
+abbrev pub recipient_line : Meaning
+recipient_line = FilterLine noon (codes "smtp-in") (codes "rcpt-to") (codes "s") (codes "t") (codes "r")
+
+-- ---- what is sent and replied
+
+abbrev pub request : Source → Request
+request s = reserve_of s 1 1 noon (codes "u")
+
+abbrev pub reply : Reply
+reply = Granted (id_of here 1) 1
+
+abbrev pub lost : Exchange
+lost = failed (request here) TimedOut
+
+abbrev pub answered : Exchange
+answered = brought (request here) reply (Some reply)
+
+abbrev pub late : Exchange
+late = brought (request there) reply None
+
+-- ---- the worlds
+
+abbrev pub reads : World → Source → Meaning → World
+reads w s line = with_run w s (after_line line (w.runs s))
+
+abbrev pub asks : World → Source → World
+asks w s = reads (reads (reads w s login_line) s begin_line) s recipient_line
+
+abbrev pub sends : World → Source → World
+sends w s = with_sent (with_run w s (with_on_way (Some (request s)) (w.runs s))) (request_frame (request s))
+
+abbrev pub ends : World → Source → Exchange → World
+ends w s x = with_run w s (after_exchange x (w.runs s))
+
+abbrev pub takes : World → World
+takes w = after_arrival w (request here)
+
+abbrev pub start : Book → World
+start b = record { runs = λ s. fresh; ledger = unused b; sent = []; written = [] }
+
+-- the first run's frame is on its way, and taken
+abbrev pub asked : Book → World
+asked b = sends (asks (start b) here) here
+
+abbrev pub taken : Book → World
+taken b = takes (asked b)
+
+-- its reply is lost, and the frame is sent and taken again
+abbrev pub tried : Book → World
+tried b = takes (sends (ends (taken b) here lost) here)
+
+abbrev pub granted : Book → World
+granted b = ends (tried b) here answered
+
+-- the other run asks, and gets that reply
+abbrev pub asked_there : Book → World
+asked_there b = sends (asks (granted b) there) there
+
+abbrev pub came_late : Book → World
+came_late b = ends (asked_there b) there late
+
+-- ---- in range
+
+host_range : (s : Source) → same_source here s ≡ true → IsHost s.host × IsRun s.run
+host_range s e = subst (λ u. IsHost u.host × IsRun u.run) (source_is here s e) (
+  record { size = record { from = omega arith; to = omega arith }; bytes = All-from_recursion IsHostByte (codes "a") (inr (inr (inl (record { from = omega arith; to = omega arith }))), tt) },
+  record { from = omega arith; to = omega arith },
+)
+
+host_there : (s : Source) → same_source there s ≡ true → IsHost s.host × IsRun s.run
+host_there s e = subst (λ u. IsHost u.host × IsRun u.run) (source_is there s e) (
+  record { size = record { from = omega arith; to = omega arith }; bytes = All-from_recursion IsHostByte (codes "b") (inr (inr (inl (record { from = omega arith; to = omega arith }))), tt) },
+  record { from = omega arith; to = omega arith },
+)
+
+either_of : (a b : Bool) → (a || b) ≡ true → (a ≡ true) ⊎ (b ≡ true)
+either_of true b e = inl refl
+either_of false b e = inr e
+
+hosts : (s : Source) → site.is_run s ≡ true → IsHost s.host × IsRun s.run
+hosts s e = elim (either_of (same_source here s) (same_source there s) e) [ inl h ↦ host_range s h | inr t ↦ host_there s t ]
+
+id_range : IsId (id_of here 1)
+id_range = let h = host_range here refl in record { host = h.0; run = h.1; seq = record { from = omega arith; to = omega arith } }
+
+request_range : IsRequest (request here)
+request_range = (id_range, record { from = omega arith; to = omega arith }, record { from = omega arith; to = omega arith }, record { from = omega arith; to = omega arith }, record { from = omega arith; to = omega arith })
+
+reply_range : IsReply reply
+reply_range = (id_range, record { from = omega arith; to = omega arith })
+
+is_start : (b : Book) → IsLegalBook (unused b) → IsStart site (start b)
+is_start b legal = record { hosts = hosts; runs = λ s. refl; ledger = legal; entries = tt; sent = tt; written = tt }
+
+-- ---- the ledger's reply
+
+granted_by : (b : Book) (t : Bool) → t ≡ false → (if t then Full (id_of here 1) 0 b.default else reply) ≡ reply
+granted_by b t e = rw e refl
+
+-- the first reply, where a limit is at least one
+first_reply : (b : Book) → 1 ≤ b.default → reply_from (unused b) (request here) ≡ reply
+first_reply b le = granted_by b (nat_lt b.default 1) (grind (arith, nat_tests, le))
+
+-- it is the one that is stored
+stored_reply : (b : Book) → 1 ≤ b.default → reply_from (taken b).ledger (request here) ≡ reply
+stored_reply b le = first_reply b le
+
+-- ---- the steps
+
+-- of a reply's spelling there is one reply
+abbrev pub OneReply : Type 0
+OneReply = (body : List ℕ) (a c : Reply) → SpellsReply body a → SpellsReply body c → a ≡ c
+
+to_asked : (b : Book) → Reaches site (start b) (asked b)
+to_asked b =
+    let w0 = start b in
+    let w1 = reads w0 here login_line in
+    let w2 = reads w1 here begin_line in
+    let w3 = reads w2 here recipient_line in
+    let r1 : Reaches site w0 w1 = Later w0 w1 AtOnce (Reads here login_line (record { up = record { is_run = refl; is_up = refl }; before_end = refl; none_on_way = refl; played = tt }) refl) in
+    let r2 : Reaches site w0 w2 = Later w1 w2 r1 (Reads here begin_line (record { up = record { is_run = refl; is_up = refl }; before_end = refl; none_on_way = refl; played = tt }) refl) in
+    let r3 : Reaches site w0 w3 = Later w2 w3 r2 (Reads here recipient_line (record { up = record { is_run = refl; is_up = refl }; before_end = refl; none_on_way = refl; played = tt }) refl) in
+    Later w3 (asked b) r3 (Sends here (request here) (record { is_run = refl; is_up = refl }) refl refl)
+
+to_taken : (b : Book) → Reaches site (start b) (taken b)
+to_taken b = Later (asked b) (taken b) (to_asked b) (Takes 0 (request_body (request here)) (request here) refl (record { bytes = refl; in_range = request_range }))
+
+to_twice : (b : Book) → Reaches site (start b) (takes (taken b))
+to_twice b = Later (taken b) (takes (taken b)) (to_taken b) (Takes 0 (request_body (request here)) (request here) refl (record { bytes = refl; in_range = request_range }))
+
+loses : (b : Book) → Next site (taken b) (ends (taken b) here lost)
+loses b = Ends here lost (record { is_run = refl; is_up = refl }) refl tt (λ a brings. absurd brings)
+
+from_lost : (b : Book) → 1 ≤ b.default → Reaches site (ends (taken b) here lost) (granted b)
+from_lost b le =
+    let w0 = ends (taken b) here lost in
+    let w1 = sends w0 here in
+    let r1 : Reaches site w0 w1 = Later w0 w1 AtOnce (Sends here (request here) (record { is_run = refl; is_up = refl }) refl refl) in
+    let r2 : Reaches site w0 (tried b) = Later w1 (tried b) r1 (Takes 0 (request_body (request here)) (request here) refl (record { bytes = refl; in_range = request_range })) in
+    Later (tried b) (granted b) r2 (Ends here answered (record { is_run = refl; is_up = refl }) refl
+    (inr (inr (0, ap (λ a. Some (frame (reply_body a))) (stored_reply b le))))
+    (record { bytes = refl; in_range = reply_range }, refl))
+
+joined : (w v z : World) → Reaches site w v → Reaches site v z → Reaches site w z
+joined w v z r AtOnce = r
+joined w v z r (Later y last q n) = Later y z (joined w v y r q) n
+
+to_granted : (b : Book) → 1 ≤ b.default → Reaches site (start b) (granted b)
+to_granted b le =
+    joined (start b) (ends (taken b) here lost) (granted b) (Later (taken b) (ends (taken b) here lost) (to_taken b) (loses b)) (from_lost b le)
+
+to_asked_there : (b : Book) → 1 ≤ b.default → Reaches site (start b) (asked_there b)
+to_asked_there b le =
+    let w0 = granted b in
+    let w1 = reads w0 there login_line in
+    let w2 = reads w1 there begin_line in
+    let w3 = reads w2 there recipient_line in
+    let r1 : Reaches site (start b) w1 = Later w0 w1 (to_granted b le) (Reads there login_line (record { up = record { is_run = refl; is_up = refl }; before_end = refl; none_on_way = refl; played = tt }) refl) in
+    let r2 : Reaches site (start b) w2 = Later w1 w2 r1 (Reads there begin_line (record { up = record { is_run = refl; is_up = refl }; before_end = refl; none_on_way = refl; played = tt }) refl) in
+    let r3 : Reaches site (start b) w3 = Later w2 w3 r2 (Reads there recipient_line (record { up = record { is_run = refl; is_up = refl }; before_end = refl; none_on_way = refl; played = tt }) refl) in
+    Later w3 (asked_there b) r3 (Sends there (request there) (record { is_run = refl; is_up = refl }) refl refl)
+
+to_late : OneReply → (b : Book) → 1 ≤ b.default → Reaches site (start b) (came_late b)
+to_late one b le =
+    Later (asked_there b) (came_late b) (to_asked_there b le) (Ends there late (record { is_run = refl; is_up = refl }) refl
+    (inr (inr (0, ap (λ a. Some (frame (reply_body a))) (stored_reply b le))))
+    (λ a spells. (let same : reply ≡ a = one (reply_body reply) reply a (record { bytes = refl; in_range = reply_range }) spells in
+    subst (λ x. decides (request there) x ≡ false) same refl)))
+
+to_stopped : (b : Book) → Reaches site (start b) (with_run (asked b) here (after_stop ((asked b).runs here)))
+to_stopped b = Later (asked b) (with_run (asked b) here (after_stop ((asked b).runs here))) (to_asked b) (Stops here (record { is_run = refl; is_up = refl }))
+
+-- ---- what has happened then
+
+reachable : (b : Book) → IsLegalBook (unused b) → (Happened : Site → (first w : World) → Type 0) → (w : World) → Reaches site (start b) w → Happened site (start b) w → IsReachable b Happened
+reachable b legal Happened w r h = record { site = site; start = start b; ledger = refl; is_start = is_start b legal; world = w; reached = r; happened = h }
+
+lets_through : (b : Book) → IsLegalBook (unused b) → 1 ≤ b.default → IsReachable b HasLetOneThrough
+lets_through b legal le = reachable b legal HasLetOneThrough (granted b) (to_granted b le)
+    (record { transaction = record { host = codes "a"; run = 1; txn = 1 }; is_run = refl; is_one = refl })
+
+-- how often frames of it stand in some that are those of this reply
+written_once : (b : Book) → 1 ≤ b.default → times_written reply (taken b) ≡ 1
+written_once b le = subst (λ a. count_by (same_text (frame (reply_body reply))) (frame (reply_body a) ∷ []) ≡ 1) (sym (first_reply b le)) refl
+
+written_twice : (b : Book) → 1 ≤ b.default → times_written reply (takes (taken b)) ≡ 2
+written_twice b le = subst (λ a. count_by (same_text (frame (reply_body reply))) (frame (reply_body a) ∷ frame (reply_body a) ∷ []) ≡ 2) (sym (first_reply b le)) refl
+
+answers_again : (b : Book) → IsLegalBook (unused b) → 1 ≤ b.default → IsReachable b WasAnsweredAgain
+answers_again b legal le = reachable b legal WasAnsweredAgain (granted b) (to_granted b le) (record {
+  run = here;
+  request = request here;
+  reply = reply;
+  fault = TimedOut;
+  before = taken b;
+  reached = to_taken b;
+  written = written_once b le;
+  lost = loses b;
+  later = from_lost b le;
+  written_again = written_twice b le;
+  came = refl;
+  once = refl;
+})
+
+takes_twice : (b : Book) → IsLegalBook (unused b) → 1 ≤ b.default → IsReachable b WasTakenTwice
+takes_twice b legal le = reachable b legal WasTakenTwice (takes (taken b)) (to_twice b)
+    (record { request = request here; reply = reply; decides_it = refl; sent = refl; written = written_twice b le; once = refl })
+
+comes_late : OneReply → (b : Book) → IsLegalBook (unused b) → 1 ≤ b.default → IsReachable b CameLate
+comes_late one b legal le = reachable b legal CameLate (came_late b) (to_late one b le) (record {
+  run = there;
+  other = here;
+  is_run = refl;
+  is_other = refl;
+  differ = refl;
+  asked = request here;
+  reply = reply;
+  decides_it = refl;
+  of_other = refl;
+  ended = refl;
+  request = request there;
+  came = refl;
+})
+
+stops : (b : Book) → IsLegalBook (unused b) → IsReachable b HasStopped
+stops b legal = reachable b legal HasStopped (with_run (asked b) here (after_stop ((asked b).runs here))) (to_stopped b)
+    (record { run = here; is_run = refl; on_way = refl; is_stopped = refl })
+
+pub returns : goal.returns
+returns c = record {
+  let_through = lets_through;
+  answered_again = answers_again;
+  taken_twice = takes_twice;
+  late = comes_late c.one_spelling.ensures.one_reply;
+  stopped = stops;
+}

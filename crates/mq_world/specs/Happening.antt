@@ -1,0 +1,107 @@
+-- What has happened on the way from a start to a world, and that worlds are reached in which it has.
+use Rattle.std.specs.Prelude.{◌≡◌, ℕ, List, [], ◌∷◌, count_by, is_some, slice_get, true, false, Option, None, Some}
+use Rattle.std.specs.List.{list_any}
+use Rattle.mq_frame.specs.Same.{same_text, same_request}
+use Rattle.mq_frame.specs.Spelling.{reply_body, frame}
+use Rattle.mq_frame.specs.declared.message.Request.{Request}
+use Rattle.mq_frame.specs.declared.message.Reply.{Reply}
+use Rattle.mq_ledger.specs.History.{Transaction, requests}
+use Rattle.mq_ledger.specs.Legal.{Book}
+use Rattle.mq_client.specs.Exchanges.{Exchange, decides, request_frame}
+use Rattle.mq_client.specs.Past.{Source, Step}
+use Rattle.mq_client.specs.Numbered.{exchanges_in}
+use Rattle.mq_client.specs.declared.link.LinkFault.{LinkFault}
+use Rattle.mq_client.specs.declared.link.Outcome.TheVariants.{Answered, Faulted}
+use Rattle.mq_world.specs.World.{Site, World, IsStart, Next, Reaches, with_run, after_exchange, same_source}
+use Rattle.mq_world.specs.Law.{run_of, standing_of, let_by}
+
+-- ---- reaching
+
+-- a ledger with the same zone and default that has answered nothing
+abbrev pub unused : Book → Book
+unused b = record { zone = b.zone; default = b.default; history = [] }
+
+-- from a start with an unused ledger a world is reached in which it has happened
+pub record IsReachable (b : Book) (Happened : Site → (start w : World) → Type 0) : Type 0 where
+  pub site : Site
+  pub start : World
+  pub ledger : start.ledger ≡ unused b
+  pub is_start : IsStart site start
+  pub world : World
+  pub reached : Reaches site start world
+  pub happened : Happened site start world
+
+-- ---- what was exchanged
+
+-- the exchange of a run that ended last, where its last step has one
+abbrev pub newest : List Step → Option Exchange
+newest [] = None
+newest (x ∷ P) = slice_get x.group 0
+
+abbrev pub failed : Request → LinkFault → Exchange
+failed q fault = record { request = q; outcome = Faulted fault; decided = None }
+
+-- an exchange that brought the reply, which decided it or didn't
+abbrev pub brought : Request → Reply → Option Reply → Exchange
+brought q a decided = record { request = q; outcome = Answered (reply_body a); decided = decided }
+
+abbrev pub times_sent : Request → World → ℕ
+times_sent q w = count_by (same_text (request_frame q)) w.sent
+
+abbrev pub times_written : Reply → World → ℕ
+times_written a w = count_by (same_text (frame (reply_body a))) w.written
+
+-- ---- what happened
+
+-- a transaction of a filter run has let one recipient through
+pub record HasLetOneThrough (site : Site) (start w : World) : Type 0 where
+  pub transaction : Transaction
+  pub is_run : site.is_run (run_of transaction) ≡ true
+  pub is_one : let_by (standing_of w transaction) ≡ 1
+
+-- A reply was written, and the exchange that it was for failed. Then the ledger wrote it again, and the next exchange
+-- brought it: the ledger has the request once.
+pub record WasAnsweredAgain (site : Site) (start w : World) : Type 0 where
+  pub run : Source
+  pub request : Request
+  pub reply : Reply
+  pub fault : LinkFault
+  pub before : World
+  pub reached : Reaches site start before
+  pub written : times_written reply before ≡ 1
+  pub lost : Next site before (with_run before run (after_exchange (failed request fault) (before.runs run)))
+  pub later : Reaches site (with_run before run (after_exchange (failed request fault) (before.runs run))) w
+  pub written_again : times_written reply w ≡ 2
+  pub came : newest (w.runs run).past ≡ Some (brought request reply (Some reply))
+  pub once : requests w.ledger.history ≡ request ∷ []
+
+-- a frame that was sent once was taken twice and got the same reply twice: the ledger has the request once
+pub record WasTakenTwice (site : Site) (start w : World) : Type 0 where
+  pub request : Request
+  pub reply : Reply
+  pub decides_it : decides request reply ≡ true
+  pub sent : times_sent request w ≡ 1
+  pub written : times_written reply w ≡ 2
+  pub once : requests w.ledger.history ≡ request ∷ []
+
+-- a reply to another run, whose exchange had ended by then, came to a run's exchange and decided nothing
+pub record CameLate (site : Site) (start w : World) : Type 0 where
+  pub run : Source
+  pub other : Source
+  pub is_run : site.is_run run ≡ true
+  pub is_other : site.is_run other ≡ true
+  pub differ : same_source run other ≡ false
+  pub asked : Request
+  pub reply : Reply
+  pub decides_it : decides asked reply ≡ true
+  pub of_other : list_any (λ x. same_request x.request asked) (exchanges_in (w.runs other).past) ≡ true
+  pub ended : (w.runs other).on_way ≡ None
+  pub request : Request
+  pub came : newest (w.runs run).past ≡ Some (brought request reply None)
+
+-- a run stopped while an exchange of it was on its way
+pub record HasStopped (site : Site) (start w : World) : Type 0 where
+  pub run : Source
+  pub is_run : site.is_run run ≡ true
+  pub on_way : is_some (w.runs run).on_way ≡ true
+  pub is_stopped : (w.runs run).is_stopped ≡ true
