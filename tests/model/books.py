@@ -4,6 +4,7 @@ It is written from docs/LEDGER.md and docs/STORE.md, and `oracles` of tests/prog
 the whole list.
 """
 from ledger import NotInGrammar, decode, frame, id_bytes, number, text
+from zones import day_of, minutes_in
 
 RESERVE, SETTLE, RELEASE, LIMIT, USAGE = range(1, 6)
 ROWS_OF_A_PAGE = 100
@@ -12,8 +13,8 @@ MOST_FRAMES = 10_000
 
 
 class Books:
-    def __init__(self, minutes=0, default=3):
-        self.minutes = minutes
+    def __init__(self, zone=0, default=3):
+        self.zone = zone
         self.default = default
         # each with its request as it is read, and as it came
         self.answers = []
@@ -25,7 +26,7 @@ class Books:
         self.limits = {}
 
     def day(self, at):
-        return (at + 60 * self.minutes) // 86_400
+        return day_of(self.zone, at)
 
     def used(self, login, day):
         return sum(self.usage.get((login, day), (0, 0)))
@@ -114,9 +115,10 @@ class Books:
         return b"".join(written)
 
     def rows(self):
-        """The rows of the five tables, each table's in order, without the version."""
-        return {
-            "setting": [(1, self.minutes, self.default, len(self.answers))],
+        """The rows of the tables, each table's in order, without the version: with a rule there is a sixth one."""
+        rule = {} if isinstance(self.zone, int) else {"rule": [(1, self.zone.encode())]}
+        return rule | {
+            "setting": [(1, minutes_in(self.zone), self.default, len(self.answers))],
             "answer": [(n, *number_of, body, reply) for n, (number_of, body, reply) in enumerate(self.answers, 1)],
             "trans": sorted((*name, *state) for name, state in self.transactions.items()),
             "usage": sorted((*key, *sums) for key, sums in self.usage.items()),

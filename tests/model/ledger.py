@@ -4,6 +4,8 @@ It keeps the list of entries and reads every number off the whole list, so that 
 shortcuts with the program.
 """
 
+from zones import day_of
+
 HOST_BYTES = frozenset(b"abcdefghijklmnopqrstuvwxyzABCDEFGHIJKLMNOPQRSTUVWXYZ0123456789.-")
 
 
@@ -86,13 +88,13 @@ def id_bytes(id):
 class Ledger:
     """Replies are bodies; an entry is (request, reply kind, reply body)."""
 
-    def __init__(self, minutes, default):
-        self.minutes = minutes
+    def __init__(self, zone, default):
+        self.zone = zone
         self.default = default
         self.entries = []
 
     def day(self, at):
-        return (at + 60 * self.minutes) // 86_400
+        return day_of(self.zone, at)
 
     @staticmethod
     def transaction(request):
@@ -225,9 +227,9 @@ def serve(stream, ledger):
         place += 2 + length
 
 
-def replay(connections, minutes, default):
+def replay(connections, zone, default):
     """Standard output, standard error and status for connections, each a byte string."""
-    ledger = Ledger(minutes, default)
+    ledger = Ledger(zone, default)
     output, first = [], None
     for place, stream in enumerate(connections, 1):
         written, end = serve(stream, ledger)

@@ -3,6 +3,8 @@
 
 usage: random_inputs.py PROGRAM [list|tables|file] [HOW_MANY] [FIRST_SEED]
 
+Half of the ledgers have an offset, and half a zone rule, with moments on both sides of its changes and midnights.
+
 The ledger is `replay`'s plain list, by default, or the tables of `replay --sql`, or those of a server over a database file, which is
 ended by SIGKILL and started again between connections now and then.
 
@@ -16,6 +18,7 @@ import sys
 import tempfile
 from pathlib import Path
 
+import zones
 from ledger import Ledger, frame, number, replay, serve, text
 
 sys.path.append(str(Path(__file__).resolve().parent.parent / "program"))
@@ -30,27 +33,49 @@ def id_of(dice):
     return text(dice.choice([b"a", b"b", b"mx1.example.org"])) + dice.choice([1, 2]).to_bytes(8, "big")
 
 
-def transaction_of(dice):
-    day = dice.choice([1, 1, 1, 2, 3])
-    at = dice.choice([86_400 * day, 86_400 * day + 3_600, 86_400 * (day + 1) - 1])
-    return number(dice.randint(1, 6)), at.to_bytes(8, "big")
+class Times:
+    """Moments that transactions begin at, and the days that are asked for."""
+
+    def __init__(self):
+        self.days = range(5)
+
+    def moment(self, dice):
+        day = dice.choice([1, 1, 1, 2, 3])
+        return dice.choice([86_400 * day, 86_400 * day + 3_600, 86_400 * (day + 1) - 1])
 
 
-def body(dice, sequence):
+class TimesOfRule:
+    """The same of a zone rule, about its changes and its midnights."""
+
+    def __init__(self, dice, rule):
+        found = zones.moments_of(dice, rule)
+        self.moments = dice.sample(found, min(len(found), 5))
+        days = {zones.day_of(rule, at) for at in self.moments}
+        self.days = sorted({day + step for day in days for step in (-1, 0, 1)})
+
+    def moment(self, dice):
+        return dice.choice(self.moments)
+
+
+def transaction_of(dice, times):
+    return number(dice.randint(1, 6)), times.moment(dice).to_bytes(8, "big")
+
+
+def body(dice, sequence, times):
     """A body that spells a request."""
     kind = dice.choices([1, 2, 3, 4, 5, 6], [10, 5, 3, 3, 2, 1])[0]
     login = dice.choice([b"u", b"u", b"v", b"\xff\x00", b"uu"])
     seq = number(dice.randint(1, 4) if dice.random() < 0.1 else sequence)
     if kind <= 3:
-        txn, at = transaction_of(dice)
+        txn, at = transaction_of(dice, times)
         count = number(dice.choice([1, 1, 1, 2, 3, 1000])) if kind <= 2 else b""
         return bytes([kind]) + id_of(dice) + seq + txn + at + text(login) + count
     if kind == 4:
-        day = number(dice.randint(0, 4))
+        day = number(dice.choice(times.days))
         return b"\x04" + id_of(dice) + seq + day + number(dice.choice([0, 1, 2, 5, 9, 1_000_000])) + text(login)
     if kind == 5:
-        return b"\x05" + text(login) + number(dice.randint(0, 4))
-    return b"\x06" + number(dice.randint(0, 4)) + text(dice.choice([b"", b"u", b"t"]))
+        return b"\x05" + text(login) + number(dice.choice(times.days))
+    return b"\x06" + number(dice.choice(times.days)) + text(dice.choice([b"", b"u", b"t"]))
 
 
 def spoil(dice, stream):
@@ -66,8 +91,8 @@ def spoil(dice, stream):
     return stream + dice.choice([b"\x00", b"\x00\x00", b"\x02\x01", b"\x00\x01\x07"])
 
 
-def connections_of(dice):
-    bodies = [body(dice, sequence) for sequence in range(1, dice.randint(2, 40))]
+def connections_of(dice, times=None):
+    bodies = [body(dice, sequence, times or Times()) for sequence in range(1, dice.randint(2, 40))]
     frames = [frame(b) for b in bodies]
     for _ in range(dice.randint(0, 8)):
         frames.insert(dice.randrange(len(frames) + 1), dice.choice(frames))
@@ -96,24 +121,24 @@ def text_of(dice, connections):
     return dice.choice(["\n\n", "\n \n\n"]).join(blocks) + dice.choice(["", "\n", "\n\n"])
 
 
-def by_replay(program, dice, connections, default, east, west, options):
+def by_replay(program, dice, connections, default, zone, options):
     """What `replay` prints and its status, and what it should."""
-    words = ["replay", "--default", str(default), "--east", str(east), "--west", str(west), *options]
+    words = ["replay", "--default", str(default), *zone.words, *options]
     run = subprocess.run([program, *words], input=text_of(dice, connections), capture_output=True, text=True, timeout=60)
-    return (run.stdout, run.stderr, run.returncode), replay(connections, east - west, default)
+    return (run.stdout, run.stderr, run.returncode), replay(connections, zone.zone, default)
 
 
-def by_server(world, dice, connections, default, offset):
+def by_server(world, dice, connections, default, zone):
     """The replies of a server over a new file and how it logs the ends of connections, and what both should be."""
     path = f"{world.folder}/ledger"
     for name in (path, f"{path}-wal"):
         if os.path.exists(name):
             os.remove(name)
-    model, came, wanted, options = Ledger(offset, default), [], [], ["--create"]
+    model, came, wanted, options = Ledger(zone.zone, default), [], [], ["--create"]
     rest = list(connections)
     while rest:
         count = dice.randint(1, len(rest)) if dice.random() < 0.5 else len(rest)
-        with Server(world, words=options, store=path, default=default, offset=offset, timeout=20_000) as server:
+        with Server(world, words=options, store=path, default=default, timeout=20_000, **zone.settings) as server:
             came += [server.ask(stream) for stream in rest[:count]]
             # behind its reply the ends of all before are logged
             server.ask(ANY_USAGE)
@@ -126,6 +151,33 @@ def by_server(world, dice, connections, default, offset):
     return came, wanted
 
 
+class Zone:
+    """What the days go by: the words of `replay` and the settings for it, and the moments that are tried."""
+
+    def __init__(self, dice):
+        if dice.random() < 0.5:
+            east, west = dice.choice([0, 60, 1439]), dice.choice([0, 90, 1439])
+            self.zone, self.times = east - west, Times()
+            self.words, self.settings = ["--east", str(east), "--west", str(west)], {"offset": self.zone}
+        else:
+            self.zone = zones.random_rule(dice)
+            self.times = TimesOfRule(dice, self.zone)
+            self.words, self.settings = ["--rule", self.zone], {"offset": None, "rule": self.zone}
+
+
+def differs(world, way, seed):
+    """What was wanted and what came of the input of this seed, if they differ."""
+    dice = random.Random(seed)
+    default, zone = dice.choice([0, 1, 3, 5, 100]), Zone(dice)
+    connections = connections_of(dice, zone.times)
+    if way == "file":
+        came, wanted = by_server(world, dice, connections, default, zone)
+    else:
+        options = {"list": [], "tables": ["--sql"]}[way]
+        came, wanted = by_replay(world.program, dice, connections, default, zone, options)
+    return None if came == wanted else f"seed {seed}, zone {zone.zone}: wanted {wanted}, got {came}"
+
+
 def main():
     program = os.path.abspath(sys.argv[1])
     way = sys.argv[2] if len(sys.argv) > 2 else "list"
@@ -134,16 +186,9 @@ def main():
     with tempfile.TemporaryDirectory() as folder:
         world = World(program, folder)
         for seed in range(first, first + how_many):
-            dice = random.Random(seed)
-            default, east, west = dice.choice([0, 1, 3, 5, 100]), dice.choice([0, 60, 1439]), dice.choice([0, 90, 1439])
-            connections = connections_of(dice)
-            if way == "file":
-                came, wanted = by_server(world, dice, connections, default, east - west)
-            else:
-                options = {"list": [], "tables": ["--sql"]}[way]
-                came, wanted = by_replay(program, dice, connections, default, east, west, options)
-            if came != wanted:
-                print(f"seed {seed} differs: wanted {wanted}, got {came}")
+            difference = differs(world, way, seed)
+            if difference:
+                print(difference)
                 sys.exit(1)
     print(f"{how_many} inputs over {way}, none differs")
 

@@ -125,10 +125,11 @@ def fault(text, output=b""):
 
 
 def toml(settings):
+    """The text of settings, without those that are None."""
     def spelled(value):
         return f'"{value}"' if isinstance(value, str) else str(value)
 
-    return "".join(f"{key} = {spelled(value)}\n" for key, value in settings.items())
+    return "".join(f"{key} = {spelled(value)}\n" for key, value in settings.items() if value is not None)
 
 
 def ledger_settings(world, path, **more):

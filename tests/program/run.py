@@ -28,14 +28,14 @@ from ends import World
 GATE_GROUPS = [
     "many_answers", "many_numbers", "many_sessions", "edges", "full_pages", "lengths", "crowds", "bodies", "full_disks", "asking", "filters", "questions", "peers", "restarts", "filter_settings", "server_settings", "replays", "audits", "words", "links",
     "stores", "refusals", "recordings", "two_hosts", "signals", "as_used", "edges_of_clients",
-    "oracles",
+    "oracles", "zones",
 ]
 # what these do to a server, its files and the machine takes longer, and some of it wants root
 OTHER_GROUPS = ["kills", "failures"]
 # these run only where they are named
 LONG_GROUPS = ["many_pages"]
 # texts that groups share
-NO_GROUPS = ["__init__", "texts_of_words"]
+NO_GROUPS = ["__init__", "rules", "texts_of_words"]
 # So many groups at once: they mostly wait.
 AT_ONCE = 4
 # A group that takes so many seconds hangs, but for the long ones.

@@ -29,7 +29,7 @@ def run(refusals, checks):
     sweep(refusals, checks, f"{name}, server", opened(refusals, made))
     # up to its end an audit with another answer allocates as the first one does
     for what, source, more, why in [
-        ("another offset", made, {"offset": 60}, "store has another offset"),
+        ("another offset", made, {"offset": 60}, "store has another zone"),
         ("another default", made, {"default": 4}, "store has another default"),
         ("wrong books", wrong, {}, "store is damaged: login u day 1"),
         ("an empty file", empty, {}, "store is not this ledger"),

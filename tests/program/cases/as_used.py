@@ -169,7 +169,7 @@ class Play:
 
 def with_runs(books, runs):
     """The same books, where each host has its run."""
-    again = Books(books.minutes, books.default)
+    again = Books(books.zone, books.default)
     for (host, _, _), body, _ in books.answers:
         place = 2 + len(host)
         again.apply(body[:place] + runs.get(host, 1).to_bytes(8, "big") + body[place + 8:])

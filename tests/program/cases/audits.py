@@ -154,9 +154,9 @@ def refused(world, checks):
     wrong = edited(world, path, "audit-refused-wrong", "UPDATE usage SET reserved = 9")
     later = edited(world, path, "audit-version", "UPDATE setting SET version = 2")
     for what, place, more, wanted in [
-        ("another offset", path, {"offset": 60}, "store has another offset"),
+        ("another offset", path, {"offset": 60}, "store has another zone"),
         ("another default", path, {"default": 4}, "store has another default"),
-        ("another offset and default, wrong books", wrong, {"offset": 60, "default": 4}, "store has another offset"),
+        ("another offset and default, wrong books", wrong, {"offset": 60, "default": 4}, "store has another zone"),
         ("another default, wrong books", wrong, {"default": 4}, "store has another default"),
         ("tables of a later version", later, {}, "store is not this ledger"),
         ("no file", f"{world.folder}/none", {}, "store can't be opened"),

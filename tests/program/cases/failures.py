@@ -27,7 +27,7 @@ FRAMES = 200
 # how many bytes are changed, each in a file of its own
 PLACES = 100
 REFUSAL = re.compile(
-    r"mailquota: (store can't be opened|store is not this ledger|store has another (offset|default)|store failed|out of memory"
+    r"mailquota: (store can't be opened|store is not this ledger|store has another (zone|default)|store failed|out of memory"
     r"|store is damaged: login ([!-\[\]-~]|\\x[0-9a-f]{2})* day -?[0-9]+)\n"
 )
 

@@ -3,7 +3,8 @@ import random
 
 from books import Books
 from ledger import Ledger, decode, serve
-from random_inputs import connections_of
+from random_inputs import Times, TimesOfRule, connections_of
+from zones import random_zone
 
 SEEDS = 500
 
@@ -12,9 +13,10 @@ def run(_world, checks):
     answers, sums, answered, kinds = [], [], 0, set()
     for seed in range(SEEDS):
         dice = random.Random(seed)
-        default, offset = dice.choice([0, 1, 3, 5, 100]), dice.choice([-1_439, -90, 0, 60, 1_439])
-        model, books = Ledger(offset, default), Books(offset, default)
-        if any(serve(stream, model)[0] != books.serve(stream) for stream in connections_of(dice)):
+        default, zone = dice.choice([0, 1, 3, 5, 100]), random_zone(dice)
+        times = Times() if isinstance(zone, int) else TimesOfRule(dice, zone)
+        model, books = Ledger(zone, default), Books(zone, default)
+        if any(serve(stream, model)[0] != books.serve(stream) for stream in connections_of(dice, times)):
             answers.append(seed)
         if sums_of(model) != sums_in(books):
             sums.append(seed)

@@ -1,6 +1,7 @@
 """Settings of the server: accepted ones end in the refusal of a port that is in use, so that nothing is served."""
 import socket
 
+from cases.rules import CENTRAL_EUROPE, NO_RULES, RULES
 from ends import fault, without_log
 
 ACCEPTED = "listen failed"
@@ -42,6 +43,7 @@ class Cases:
 
     def order(self):
         keys = ["listen", "store", "default", "offset"]
+        rule = f'"{CENTRAL_EUROPE}"'
         for key in keys:
             self.expect(f"{key} missing", self.text_of(**{key: None}), f"setting {key}: missing")
         self.expect("empty", "", "setting listen: missing")
@@ -53,6 +55,12 @@ class Cases:
         for first in range(len(keys)):
             bad = {key: "{}" for key in keys[first:]}
             self.expect(f"{', '.join(bad)} bad", self.text_of(**bad), f"setting {keys[first]}: bad value")
+        self.expect("a rule in place of an offset", self.text_of(offset=None, rule=rule), ACCEPTED)
+        self.expect("an offset and a rule", self.text_of(rule=rule), "setting rule: bad value")
+        self.expect("an offset and no rule's text", self.text_of(rule='"CET"'), "setting rule: bad value")
+        self.expect("a bad offset and a rule", self.text_of(offset=1440, rule=rule), "setting offset: bad value")
+        self.expect("default and rule bad", self.text_of(default=-1, offset=None, rule='"CET"'), "setting default: bad value")
+        self.expect("rule and timeout bad", self.text_of(offset=None, rule='"CET"', timeout=0), "setting rule: bad value")
         self.expect("timeout and log bad", self.text_of(timeout=0, log=0), "setting timeout: bad value")
         self.expect("store missing, default bad", self.text_of(store=None, default='"x"'), "setting store: missing")
 
@@ -77,4 +85,8 @@ class Cases:
         for key, spellings in refused:
             for value in spellings:
                 self.expect(f"{key} = {value}", self.text_of(**{key: value}), f"setting {key}: bad value")
+        for value in RULES:
+            self.expect(f"rule = {value}", self.text_of(offset=None, rule=f'"{value}"'), ACCEPTED)
+        for value in [f'"{it}"' for it in NO_RULES] + ["60", "true", "{}"]:
+            self.expect(f"rule = {value}", self.text_of(offset=None, rule=value), "setting rule: bad value")
         self.expect("an address of another machine", self.text_of(listen='"192.0.2.1:7025"'), ACCEPTED)

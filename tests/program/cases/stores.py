@@ -59,9 +59,9 @@ def refused(world, checks):
         ("a file that is no database, with --create", text, ["--create"], {}, opened, ""),
         ("an empty file", empty, [], {}, "store is not this ledger", None),
         ("a ledger, with --create", path, ["--create"], {}, "store is not this ledger", None),
-        ("another offset", path, [], {"offset": 60}, "store has another offset", None),
+        ("another offset", path, [], {"offset": 60}, "store has another zone", None),
         ("another default", path, [], {"default": 4}, "store has another default", None),
-        ("another offset and default", path, [], {"offset": 60, "default": 4}, "store has another offset", None),
+        ("another offset and default", path, [], {"offset": 60, "default": 4}, "store has another zone", None),
     ]:
         came = world.run("server", "--config", ledger_settings(world, place, **more), *words)
         log = apart(came[2])[0]

@@ -26,6 +26,7 @@ Options:
       --default <N>  Limit of a login that has none of its own [default: 100]
       --east <M>     Minutes that a day begins before UTC's [default: 0]
       --west <M>     Minutes that a day begins after UTC's [default: 0]
+      --rule <RULE>  Zone rule of the days, such as CET-1CEST,M3.5.0,M10.5.0/3
       --sql          Keep the ledger in tables in memory
   -h, --help         Print help
 """),
