@@ -14,7 +14,7 @@ use Rattle.mq_line.specs.declared.reading.Line.TheVariants as line
 use Rattle.mq_track.specs.Sessions.{closing, fault}
 use Rattle.mq_track.specs.State.{TracksAt, State as State'}
 use Rattle.mq_track.specs.declared.fault.TrackFault.{TrackFault}
-use Rattle.mq_client.specs.Link.{Tells}
+use Rattle.mq_link.specs.Link.{Tells}
 use Rattle.mq_client.specs.Exchanges.{Exchange, told_all}
 use Rattle.mq_client.specs.Past.{Source, Drain, Step, State, StandsAt, view, Plays, Makes, MakesAll, told_steps}
 use Rattle.mq_client.specs.Filter.{Takes, Closes, push, is_filter, answer_count}
@@ -24,7 +24,7 @@ use Rattle.mq_client.specs.declared.faults.FilterFault.{FilterFault}
 use Rattle.mq_client.specs.declared.faults.FilterFault.TheVariants as at
 use Rattle.mq_client.specs.declared.filter.Ended.{Ended}
 use Rattle.mq_client.specs.declared.filter.Filter.{Filter}
-use Rattle.mq_client.specs.declared.link.Told.{Told}
+use Rattle.mq_link.specs.declared.link.Told.{Told}
 use Rattle.mq_client.proofs.Telling.{Tells-none, Tells-trans}
 use Rattle.mq_client.proofs.Supplying.{concat_push}
 use Rattle.mq_client.proofs.Basics.{all_push}

@@ -14,7 +14,7 @@ use Rattle.mq_client.specs.Past.{Source, Action, Ask, Step, answer_of, view, hel
 use Rattle.mq_client.specs.Turns.{outcomes, all_outcomes, queue_of, next_of, ComeInTurn}
 use Rattle.mq_client.specs.Filter.{Query, Passes, Refuses, Asks, query, decision_of, Answers, Closes, Takes, push, Filters, actions}
 use Rattle.mq_client.specs.Run.{is_early, IsEarly, AreRead, IsReady}
-use Rattle.mq_client.specs.declared.link.Outcome.{Outcome}
+use Rattle.mq_link.specs.declared.link.Outcome.{Outcome}
 use Rattle.mq_client.proofs.Turning.{OneReply, turns, none_next, same_turns}
 use Rattle.mq_client.proofs.Basics.{none_some, nil_cons, cons_head, cons_tail}
 

@@ -3,13 +3,13 @@ use Rattle.std.proofs.Common.{◌≡◌, ℕ, ◌<◌, Bool, true, false, List, 
 use Rattle.mq_frame.specs.Spelling.{SpellsReply}
 use Rattle.mq_frame.specs.declared.message.Request.{Request}
 use Rattle.mq_frame.specs.declared.message.Reply.{Reply}
-use Rattle.mq_client.specs.Link.{Tells}
+use Rattle.mq_link.specs.Link.{Tells}
 use Rattle.mq_client.specs.Exchanges.{Exchange, IsDecision, IsTry, AreFailed, AreTries, IsSent, decides, request_frame, told_of, told_all}
 use Rattle.mq_client.specs.Verdict.{IsVerdict, deciding}
 use Rattle.mq_client.specs.declared.verdict.Verdict.{Verdict}
-use Rattle.mq_client.specs.declared.link.Outcome.{Outcome}
-use Rattle.mq_client.specs.declared.link.Outcome.TheVariants.{Answered}
-use Rattle.mq_client.specs.declared.link.Told.{Told}
+use Rattle.mq_link.specs.declared.link.Outcome.{Outcome}
+use Rattle.mq_link.specs.declared.link.Outcome.TheVariants.{Answered}
+use Rattle.mq_link.specs.declared.link.Told.{Told}
 
 pub Tells-none : (t : Option (List Told)) → Tells t t []
 Tells-none None = tt

@@ -9,9 +9,9 @@ use Rattle.mq_frame.specs.declared.message.Reply.{Reply}
 use Rattle.mq_frame.specs.declared.message.Reply.TheVariants.{Granted, Full, Settled, Released, Closed, Mismatch}
 use Rattle.mq_frame.specs.declared.message.Reply.TheVariants.{TooMany, Conflict}
 use Rattle.mq_frame.specs.Spelling.{SpellsReply, request_body, frame}
-use Rattle.mq_client.specs.declared.link.Outcome.{Outcome}
-use Rattle.mq_client.specs.declared.link.Outcome.TheVariants.{Answered, Faulted}
-use Rattle.mq_client.specs.declared.link.Told.{Told}
+use Rattle.mq_link.specs.declared.link.Outcome.{Outcome}
+use Rattle.mq_link.specs.declared.link.Outcome.TheVariants.{Answered, Faulted}
+use Rattle.mq_link.specs.declared.link.Told.{Told}
 
 -- an exchange of a request: how it ended, and the reply that decided the request, where one did
 pub record Exchange : Type 0 where

@@ -1,7 +1,5 @@
 -- ---- what the public calls and the laws say, each file on those before it
 
--- what a link tells of its exchanges
-pub mod Link
 -- the exchanges of one request, and of a queue: which reply decides
 pub mod Exchanges
 -- a client's past: its steps, what stands after them, and which step may come next
@@ -30,6 +28,3 @@ pub mod Inside
 pub mod Verdict
 -- the loop over lines: how far it has come, and what each of its parts adds
 pub mod Loop
--- ---- a link for tests
-
-pub mod Script

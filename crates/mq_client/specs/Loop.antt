@@ -10,7 +10,7 @@ use Rattle.mq_track.specs.Sessions.{fault as track_fault}
 use Rattle.mq_track.specs.State.{TracksAt}
 use Rattle.mq_track.specs.declared.fault.TrackFault.{TrackFault}
 use Rattle.mq_track.specs.declared.fault.TrackFault.TheVariants as track
-use Rattle.mq_client.specs.Link.{Tells}
+use Rattle.mq_link.specs.Link.{Tells}
 use Rattle.mq_client.specs.Exchanges.{told_all}
 use Rattle.mq_client.specs.Past.{Step, State, Makes, MakesAll, told_steps}
 use Rattle.mq_client.specs.Filter.{query, Answers, answer_count}
@@ -21,7 +21,7 @@ use Rattle.mq_client.specs.declared.faults.FilterFault.TheVariants as fault
 use Rattle.mq_client.specs.declared.filter.Early.{Early}
 use Rattle.mq_client.specs.declared.filter.Early.TheVariants as early
 use Rattle.mq_client.specs.declared.filter.Filter.{Filter}
-use Rattle.mq_client.specs.declared.link.Told.{Told}
+use Rattle.mq_link.specs.declared.link.Told.{Told}
 
 -- the filter has come to the stage
 abbrev pub IsAt : Filter → Stage → Type 0

@@ -16,7 +16,7 @@ use Rattle.mq_track.specs.declared.closing.CloseEnd.TheVariants as ending
 use Rattle.mq_client.specs.declared.held.Asked.{Asked}
 use Rattle.mq_client.specs.declared.held.Asked.TheVariants as asked
 use Rattle.mq_client.specs.declared.held.Held.{Held}
-use Rattle.mq_client.specs.declared.link.Told.{Told}
+use Rattle.mq_link.specs.declared.link.Told.{Told}
 
 -- who asks: a host, and a run of its filter
 pub record Source : Type 0 where

@@ -10,14 +10,14 @@ use Rattle.mq_line.specs.Text.{IsLine, IsTooLong, Holds}
 use Rattle.mq_track.specs.Events.{event}
 use Rattle.mq_track.specs.Sessions.{closing, fault as track_fault}
 use Rattle.mq_track.specs.Steps.{needs_memory}
-use Rattle.mq_client.specs.Link.{Tells}
+use Rattle.mq_link.specs.Link.{Tells}
 use Rattle.mq_client.specs.Exchanges.{Exchange}
 use Rattle.mq_client.specs.Past.{Step, drained, State, StandsAt, view, MakesAll, told_steps}
 use Rattle.mq_client.specs.Filter.{Takes, push, Filters, is_filter, answer_count}
 use Rattle.mq_client.specs.declared.faults.FilterFault.{FilterFault}
 use Rattle.mq_client.specs.declared.faults.FilterFault.TheVariants as at
 use Rattle.mq_client.specs.declared.filter.Ended.{Ended}
-use Rattle.mq_client.specs.declared.link.Told.{Told}
+use Rattle.mq_link.specs.declared.link.Told.{Told}
 
 -- ---- the input
 

@@ -6,7 +6,7 @@ use Rattle.mq_client.specs.Exchanges.{Exchange, decisions, IsDecision}
 use Rattle.mq_client.specs.Past.{Source, Action, Ask, Close, Drain, Step, View, view, reserve_of, closing_of, refuses}
 use Rattle.mq_client.specs.Past.{held_for}
 use Rattle.mq_client.specs.declared.held.Held.{Held}
-use Rattle.mq_client.specs.declared.link.Outcome.{Outcome}
+use Rattle.mq_link.specs.declared.link.Outcome.{Outcome}
 
 -- how many exchanges failed since the last one that decided
 abbrev pub failures : List Exchange → ℕ

@@ -7,7 +7,7 @@ ghost use Rattle.mq_track.specs.Sessions.{Sending};
 ghost use Rattle.mq_track.specs.State.{TracksAt};
 ghost use Rattle.mq_line.specs.Grammar.{Meaning};
 ghost use Rattle.mq_line.specs.Results.{result_text};
-ghost use Rattle.mq_client.specs.Link.{Tells};
+ghost use Rattle.mq_link.specs.Link.{Tells};
 ghost use Rattle.mq_client.specs.Past.{Step};
 ghost use Rattle.mq_client.specs.Filter.{is_login, is_moment, query_at, query, decision_of as decision_lem, Answers};
 ghost use Rattle.mq_client.specs.Run.{around};
@@ -16,11 +16,11 @@ ghost use Rattle.mq_client.specs.Loop.{MakesOne, told_one, Does, Replies, IsCut}
 use crate::client::Client;
 use crate::faults::{FilterFault, Memory};
 use crate::held::Asked;
-use crate::link::Link;
 use crate::refusal::Cause;
 use log::Log;
 use mq_frame::{Failed, Sink, is_login, is_moment, write_and_flush};
 use mq_line::{Decision, write_result};
+use mq_link::Link;
 use mq_track::{Standing, Tracker};
 use std::alloc::Global;
 

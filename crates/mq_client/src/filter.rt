@@ -10,10 +10,10 @@ ghost use Rattle.mq_line.specs.Results.{registration as registration_lem};
 ghost use Rattle.mq_line.specs.Text.{IsLine};
 ghost use Rattle.mq_track.specs.Sessions.{closing as closing_lem, fault as fault_lem};
 ghost use Rattle.mq_track.specs.State.{TracksAt};
-ghost use Rattle.mq_client.specs.Link.{Tells};
+ghost use Rattle.mq_link.specs.Link.{Tells};
 ghost use Rattle.mq_client.specs.Past.{Step, State};
 ghost use Rattle.mq_client.specs.Filter.{Closes};
-ghost use Rattle.mq_client.specs.declared.link.Told.{Told};
+ghost use Rattle.mq_link.specs.declared.link.Told.{Told};
 ghost use Rattle.mq_client.specs.Run.{Outside, around, supply, Supplies, EndsWith, StopsAt};
 ghost use Rattle.mq_client.specs.Loop.{MakesOne, told_one, IsCut, IsSorted, IsRefused, filter_fault, Carries, Halts};
 ghost use Rattle.mq_client.specs.Loop.{CarriesHeld, HaltsHeld, SinkWorks, SoFar};
@@ -21,10 +21,10 @@ ghost use Rattle.mq_client.specs.Loop.{CarriesHeld, HaltsHeld, SinkWorks, SoFar}
 use crate::answer::{Inquiry, answer};
 use crate::client::Client;
 use crate::faults::{FilterFault, Memory};
-use crate::link::Link;
 use log::Log;
 use mq_frame::{Failed, Sink, Source, write_and_flush};
 use mq_line::{Line, LineFeed, read_line, write_registration};
+use mq_link::Link;
 use mq_track::{Closing, TrackFault, Tracker};
 use std::alloc::Global;
 

@@ -10,10 +10,8 @@ mod faults;
 mod filter;
 mod held;
 mod laws;
-mod link;
 mod named;
 mod refusal;
-mod script;
 mod transactions;
 mod tries;
 mod verdict;
@@ -27,5 +25,3 @@ pub use laws::{
     closed_is_not_asked_for, few_at_a_time, in_turn, one_request_for_a_number, one_run, readings,
     settles_are_of_what_was_let,
 };
-pub use link::{Bytes, Link, LinkFault, Outcome, Told};
-pub use script::ScriptLink;

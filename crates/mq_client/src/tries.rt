@@ -2,7 +2,7 @@
 ghost use Rattle.std.specs.Prelude.{◌≡◌, ◌<◌, ◌≤◌, ◌∷◌, [], List, Option, length, IfOk};
 ghost use Rattle.mq_frame.specs.Range.{IsRequest};
 ghost use Rattle.std.specs.List.{AllByRecursion};
-ghost use Rattle.mq_client.specs.Link.{Tells};
+ghost use Rattle.mq_link.specs.Link.{Tells};
 ghost use Rattle.mq_client.specs.Exchanges.{Exchange, IsTry, AreTries, IsSent, Sends, request_frame, told_of, told_all};
 ghost use Rattle.mq_client.specs.Verdict.{IsVerdict};
 ghost use Rattle.mq_frame.specs.declared.message.Reply.{Reply};
@@ -10,11 +10,11 @@ ghost use Rattle.mq_client.specs.declared.tries.Framed.{Framed as AFramed};
 ghost use Rattle.mq_client.specs.Framed.{IsFramed, requests_of};
 
 use crate::faults::Memory;
-use crate::link::Link;
 use crate::verdict::{Verdict, verdict_in};
 use crate::warnings::{LimitReached, Refused, Unanswered, is_refusal};
 use log::{Level, Log, log};
 use mq_frame::{Request, encode_request};
+use mq_link::Link;
 use std::alloc::Global;
 use std::collections::VecDeque;
 use std::fmt::Display;

@@ -6,7 +6,7 @@ ghost use Rattle.mq_frame.specs.Shown.{shown_id};
 ghost use Rattle.mq_frame.specs.Same.{same_id};
 ghost use Rattle.mq_client.specs.Exchanges.{answers_reserve, answers_closing, IsDecision};
 ghost use Rattle.mq_client.specs.Verdict.{IsVerdict, deciding};
-ghost use Rattle.mq_client.specs.declared.link.Outcome.TheVariants.{Answered};
+ghost use Rattle.mq_link.specs.declared.link.Outcome.TheVariants.{Answered};
 
 use mq_frame::{Id, IdParts, ReplyParts, Request, read_reply};
 

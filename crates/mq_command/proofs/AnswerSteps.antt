@@ -6,7 +6,7 @@ use Rattle.mq_frame.specs.declared.message.Reply.{Reply}
 use Rattle.mq_frame.specs.declared.message.Reply.TheVariants as says
 use Rattle.mq_frame.specs.declared.message.Id.{Id}
 use Rattle.mq_frame.specs.declared.usage.UsageRow.{UsageRow}
-use Rattle.mq_client.specs.declared.link.Told.{Told}
+use Rattle.mq_link.specs.declared.link.Told.{Told}
 use Rattle.mq_command.specs.Asking.{fits, IsAnswered, IsLimit, AnswersLimit, TellsLimit, Limits}
 use Rattle.mq_command.specs.Report.{AnswersList, AnswersUsage, TakesPage, AsksPage, IsUsage, PrintsRow, ReportsOne}
 use Rattle.mq_command.specs.declared.limit.SetFault.{SetFault}

@@ -16,10 +16,10 @@ use Rattle.mq_command.specs.declared.ask.AskFault.{AskFault}
 use Rattle.mq_command.specs.declared.ask.AskFault.TheVariants.{Unavailable, Memory}
 use Rattle.mq_command.specs.declared.limit.SetFault.{SetFault}
 use Rattle.mq_command.specs.declared.limit.SetFault.TheVariants.{Over, Conflict, Unanswered, Write}
-use Rattle.mq_client.specs.Link.{Tells}
-use Rattle.mq_client.specs.declared.link.Outcome.{Outcome}
-use Rattle.mq_client.specs.declared.link.Outcome.TheVariants.{Answered, Faulted}
-use Rattle.mq_client.specs.declared.link.Told.{Told}
+use Rattle.mq_link.specs.Link.{Tells}
+use Rattle.mq_link.specs.declared.link.Outcome.{Outcome}
+use Rattle.mq_link.specs.declared.link.Outcome.TheVariants.{Answered, Faulted}
+use Rattle.mq_link.specs.declared.link.Told.{Told}
 
 -- whether a reply answers a limit, a usage or a list
 abbrev pub fits : Request → Reply → Bool

@@ -12,7 +12,7 @@ use Rattle.mq_frame.specs.declared.message.Request.TheVariants as asks
 use Rattle.mq_frame.specs.declared.message.Reply.{Reply}
 use Rattle.mq_frame.specs.declared.message.Reply.TheVariants as says
 use Rattle.mq_frame.specs.declared.usage.UsageRow.{UsageRow}
-use Rattle.mq_client.specs.declared.link.Told.{Told}
+use Rattle.mq_link.specs.declared.link.Told.{Told}
 use Rattle.mq_command.specs.Asking.{Asks, IsAnswered}
 use Rattle.mq_command.specs.Output.{AppendsFront}
 use Rattle.mq_command.specs.declared.output.OutputFault.{OutputFault}

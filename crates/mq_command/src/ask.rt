@@ -6,11 +6,11 @@ ghost use Rattle.mq_frame.specs.Spelling.{SpellsReply};
 ghost use Rattle.mq_frame.specs.declared.message.Reply.{Reply as AReply};
 ghost use Rattle.mq_command.specs.Asking.{fits, frame_of, Asks, Brought, IsMissed, Sends};
 ghost use Rattle.mq_command.specs.declared.ask.AskFault.TheVariants.{Memory as AMemory};
-ghost use Rattle.mq_client.specs.Link.{Tells};
-ghost use Rattle.mq_client.specs.declared.link.Told.{Told};
+ghost use Rattle.mq_link.specs.Link.{Tells};
+ghost use Rattle.mq_link.specs.declared.link.Told.{Told};
 
-use mq_client::Link;
 use mq_frame::{DecodeFault, Memory, Reply, Request, decode_reply, encode_request};
+use mq_link::Link;
 use std::alloc::Global;
 use thiserror::Error;
 

@@ -5,8 +5,8 @@ ghost use Rattle.mq_command.specs.declared.limit.SetFault.{SetFault as ASetFault
 
 use crate::ask::{AskFault, ask};
 use crate::output::write_whole;
-use mq_client::Link;
 use mq_frame::{Reply, Request};
+use mq_link::Link;
 use std::alloc::Global;
 use std::io::Write;
 use thiserror::Error;

@@ -9,3 +9,4 @@ mod link;
 mod server;
 mod serving;
 mod texts;
+mod wires;

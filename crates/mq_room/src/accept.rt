@@ -3,7 +3,7 @@ ghost use Rattle.std.specs.Prelude.{◌≡◌, ◌*◌, min};
 
 use crate::fault::RoomFault;
 use log::{Log, error, warn};
-use mq_tcp::deadline_after;
+use mq_deadline::deadline_after;
 use std::io;
 use std::io::ErrorKind;
 use std::net::{OpenListener, SocketAddr, TcpListener, TcpStream};

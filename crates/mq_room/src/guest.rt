@@ -3,11 +3,11 @@ ghost use Rattle.std.specs.Prelude.{◌≡◌, ◌≤◌};
 ghost use Rattle.mq_server.specs.Delivery.{HasGrown};
 
 use crate::portion::portion_of;
+use mq_deadline::deadline_after;
 use mq_frame::{FromRead, ToWrite};
 use mq_ledger::Ledger;
 use mq_server::laws::more_deliveries;
 use mq_server::{ENOUGH, PIECE, ServeFault, Served, serve};
-use mq_tcp::deadline_after;
 use std::alloc::Global;
 use std::io;
 use std::io::{ErrorKind, Read, Write};

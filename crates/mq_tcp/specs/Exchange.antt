@@ -1,12 +1,14 @@
--- What one exchange with the quota server reads off its connection, and why it fails.
-use Rattle.std.specs.Prelude.{◌≤◌, ℕ, List, length, Option}
-use Rattle.std.specs.Io.KnownBytes.{Consumes}
+-- What one exchange with the quota server writes and reads over its connection, and why it fails.
+use Rattle.std.specs.Prelude.{ℕ, List, Option}
+use Rattle.std.specs.Io.KnownBytes.{Appends}
 use Rattle.std.specs.IoError.{error_kind}
 use Rattle.std.specs.declared.io.ErrorKind.{ErrorKind}
 use Rattle.std.specs.declared.io.ErrorKind.TheVariants as kind
-use Rattle.mq_frame.specs.Spelling.{frame, in_2_bytes}
-use Rattle.mq_client.specs.declared.link.LinkFault.{LinkFault}
-use Rattle.mq_client.specs.declared.link.LinkFault.TheVariants.{Down, TimedOut, Memory}
+use Rattle.mq_link.specs.Body.{IsReceived}
+use Rattle.mq_link.specs.declared.body.BodyFault.{BodyFault}
+use Rattle.mq_link.specs.declared.body.BodyFault.TheVariants as body
+use Rattle.mq_link.specs.declared.link.LinkFault.{LinkFault}
+use Rattle.mq_link.specs.declared.link.LinkFault.TheVariants.{Down, TimedOut, Memory}
 use Rattle.mq_tcp.specs.declared.trouble.Trouble.{Trouble}
 use Rattle.mq_tcp.specs.declared.trouble.Trouble.TheVariants.{System, Empty, Unconnected, Memory as OutOfMemory}
 
@@ -16,6 +18,12 @@ fault_of kind.TimedOut = TimedOut
 fault_of kind.WouldBlock = TimedOut
 fault_of _ = Down
 
+-- why no body was read, as a link keeps it
+abbrev pub body_trouble : BodyFault → Trouble
+body_trouble (body.Read error) = System error
+body_trouble body.Empty = Empty
+body_trouble body.Memory = OutOfMemory
+
 -- the same, of whatever kept a reply away
 abbrev pub trouble_fault : Trouble → LinkFault
 trouble_fault (System error) = fault_of (error_kind error)
@@ -23,14 +31,24 @@ trouble_fault Empty = Down
 trouble_fault OutOfMemory = Memory
 trouble_fault Unconnected = Down
 
--- the frame of a body of 1 to 65,535 bytes was read
-pub record IsReceived (old new : Option (List ℕ)) (body : List ℕ) : Type 0 where
-  pub some : 1 ≤ length body
-  pub fits : length body ≤ 65535
-  pub read : Consumes old new (frame body)
+-- what makes the connections of a link, and the connection that is open
+pub record Standing (C S : Type 0) : Type 0 where
+  pub connector : C
+  pub stream : Option S
 
--- a length above 0 was read, and nothing behind it
-pub record IsHeadOnly (old new : Option (List ℕ)) : Type 0 where
-  pub announced : ℕ
-  pub some : 1 ≤ announced
-  pub read : Consumes old new (in_2_bytes announced)
+-- Of the streams of a kind, some are new, and each tells the bytes that were written to it.
+
+-- the frame was written, whole and alone, over a connection that was new, and left it so
+pub record IsSent {S : Type 0} (is_new : S → Type 0) (contents : S → Option (List ℕ)) (frame : List ℕ) (sent : S)
+    : Type 0 where
+  pub opened : S
+  pub begun : is_new opened
+  pub written : Appends (contents opened) (contents sent) frame
+
+-- the frame was sent over a new connection, and then the frame of the body was read from it
+pub record IsExchange {S : Type 0} (is_new : S → Type 0) (contents remaining : S → Option (List ℕ))
+    (frame body : List ℕ) : Type 0 where
+  pub sent : S
+  pub is_sent : IsSent is_new contents frame sent
+  pub left : Option (List ℕ)
+  pub received : IsReceived (remaining sent) left body

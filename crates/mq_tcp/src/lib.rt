@@ -1,12 +1,12 @@
-//! The link to the quota server over TCP, and streams that are waited for until a deadline.
+//! The link to the quota server over TCP, and a link that logs why no reply comes.
 #![tactic(auto)]
 
+mod connect;
 mod logged;
 mod tcp;
-mod timed;
 mod trouble;
 
-pub use logged::LoggedLink;
+pub use connect::{Connect, Connector};
+pub use logged::{Explain, LoggedLink};
 pub use tcp::TcpLink;
-pub use timed::{Timed, deadline_after};
 pub use trouble::Trouble;

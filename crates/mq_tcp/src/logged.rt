@@ -1,25 +1,40 @@
 //! A link that logs why no reply comes.
 
-use crate::tcp::TcpLink;
 use crate::trouble::Trouble;
 use log::{Level, Log, log};
-use mq_client::{Link, LinkFault};
 use mq_frame::{ReplyParts, read_reply};
+use mq_link::{Link, LinkFault};
 use std::fmt;
-use std::net::Net;
-use std::rt::Clock;
+use std::marker::Model;
+use std::net::SocketAddr;
 
-/// The TCP link, with a log of its troubles: an error line once so many exchanges in a row brought no answer, with
+/// A link that says why its last exchange brought no reply.
+pub trait Explain {
+    /// Where the server is.
+    fn address(&self) -> SocketAddr;
+
+    /// Why the last exchange brought no reply, if it brought none.
+    fn trouble(&self) -> Option<&Trouble>;
+}
+
+/// A link with a log of its troubles: an error line once so many exchanges in a row brought no answer, with
 /// what the last one met, and an info line where an answer comes again. So a server that is away costs one line,
-/// however often it is asked.
+/// however often it is asked. Each of its exchanges is one of the link's, with the same frame and the same end; contracts
+/// see the link.
 #[derive(Drop)]
-pub struct LoggedLink<'a, R: Net, G> {
-    link: TcpLink<'a, R>,
+pub struct LoggedLink<'a, L, G> {
+    link: L,
     log: &'a G,
     /// How many exchanges in a row may bring no answer before a line is logged.
     patience: u32,
     /// How many brought none so far.
     failed: u32,
+}
+
+impl<'a, L, G> Model for LoggedLink<'a, L, G> {
+    ghost Value = { L };
+
+    ghost view = { λ logged. logged.link };
 }
 
 /// Why an exchange brought no answer: what went wrong, or what came in its place.
@@ -42,9 +57,13 @@ impl fmt::Display for Unanswered<'_> {
     }
 }
 
-impl<'a, R: Net + Clock, G: Log> LoggedLink<'a, R, G> {
+impl<'a, L: Link + Explain, G: Log> LoggedLink<'a, L, G> {
+    ghost use Rattle.std.specs.Prelude.{◌≡◌};
+
     /// The link with a log of its troubles. `patience` is how often a request is sent.
-    pub fn new(link: TcpLink<'a, R>, log: &'a G, patience: u32) -> LoggedLink<'a, R, G> {
+    pub fn new(link: L, log: &'a G, patience: u32) -> LoggedLink<'a, L, G>
+        ensures { result ≡ link }
+    {
         LoggedLink {
             link,
             log,
@@ -54,7 +73,9 @@ impl<'a, R: Net + Clock, G: Log> LoggedLink<'a, R, G> {
     }
 
     /// Notes what an exchange brought.
-    fn note(&mut self, body: &[u8]) {
+    fn note(&mut self, body: &[u8])
+        ensures { self.new ≡ self.old }
+    {
         match read_reply(body) {
             None | Some(ReplyParts::Retry | ReplyParts::Bad) => {
                 self.failed = self.failed.saturating_add(1);
@@ -87,7 +108,10 @@ impl<'a, R: Net + Clock, G: Log> LoggedLink<'a, R, G> {
     }
 }
 
-impl<R: Net + Clock, G: Log> Link for LoggedLink<'_, R, G> {
+impl<L: Link + Explain, G: Log> Link for LoggedLink<'_, L, G> {
+    // The exchanges of its link.
+    ghost told = { λ logged. L.told logged };
+
     fn exchange(&mut self, frame: &[u8], reply: &mut Vec<u8>) -> Result<(), LinkFault> {
         let ended = self.link.exchange(frame, reply);
         self.note(reply.as_slice());

@@ -1,27 +1,29 @@
 //! The link to the quota server over TCP: a connection for each exchange.
-ghost use Rattle.std.specs.Prelude.{◌≡◌, ◌≢◌, ◌≤◌, ℕ, List, [], ◌∷◌, Option, None, IsSome, IfSome, IfOk, Err, OnOk};
-ghost use Rattle.std.specs.Prelude.{OnErr, IfErr, MatchOption, vec_len};
+ghost use Rattle.std.specs.Prelude.{◌≡◌, ◌≢◌, ℕ, List, [], ◌∷◌, Option, None, IfSome, IfOk, Err, OnOk, option_map, suc};
+ghost use Rattle.std.specs.Prelude.{OnErr, IfErr, MatchOption};
 ghost use Rattle.std.specs.Io.KnownBytes.{Appends};
-ghost use Rattle.mq_client.specs.Link.{Tells, outcome_of};
-ghost use Rattle.mq_frame.specs.Spelling.{in_2_bytes};
-ghost use Rattle.mq_tcp.specs.Exchange.{IsReceived, IsHeadOnly, trouble_fault};
+ghost use Rattle.mq_link.specs.Link.{Tells, outcome_of};
+ghost use Rattle.mq_link.specs.Body.{IsReceived, IsHeadOnly};
+ghost use Rattle.mq_tcp.specs.Exchange.{Standing, IsSent, IsExchange, trouble_fault};
 
-use crate::timed::{Timed, deadline_after};
+use crate::connect::{Connect, Connector};
+use crate::logged::Explain;
 use crate::trouble::Trouble;
-use mq_client::{Link, LinkFault};
+use mq_deadline::{Timed, deadline_after};
+use mq_link::{Link, LinkFault, read_body};
 use std::io;
 use std::io::{Read, Write};
 use std::marker::Model;
-use std::net::{Net, OpenStream, Shutdown, SocketAddr, TcpStream};
+use std::net::{Net, OpenStream, Shutdown, SocketAddr};
 use std::rt::Clock;
 use std::time::Duration;
 
 /// The stream with one timeout for all that is done with it from now on.
-fn timed<'a, C: Clock, S: OpenStream + Drop>(
+fn timed<'a, K: Clock, S: OpenStream + Drop>(
     stream: S,
-    clock: &'a C,
+    clock: &'a K,
     timeout: Duration,
-) -> io::Result<Timed<'a, C, S>>
+) -> io::Result<Timed<'a, K, S>>
     ensures { IfOk result (λ timed. timed ≡ stream) }
 {
     let deadline = deadline_after(clock, timeout)?;
@@ -29,8 +31,8 @@ fn timed<'a, C: Clock, S: OpenStream + Drop>(
 }
 
 /// Writes a whole frame and ends the writing side.
-fn write_frame<C: Clock, S: Write + OpenStream + Drop>(
-    mut stream: Timed<'_, C, S>,
+fn write_frame<K: Clock, S: Write + OpenStream + Drop>(
+    mut stream: Timed<'_, K, S>,
     frame: &[u8],
 ) -> io::Result<S>
     ensures { IfOk result (λ written. Appends (S.contents stream.entry) (S.contents written) frame.now) }
@@ -41,46 +43,10 @@ fn write_frame<C: Clock, S: Write + OpenStream + Drop>(
     Ok(stream)
 }
 
-/// The length of the body that the two bytes of a head announce.
-fn length_of(high: u8, low: u8) -> usize
-    ensures spelled { in_2_bytes result ≡ high ∷ low ∷ [] }
-    ensures fits { result ≤ 65535 }
-{
-    usize::from(u16::from_be_bytes([high, low]))
-}
-
-/// Reads the body of one frame.
-fn read_body<S: Read>(stream: &mut S, reply: &mut Vec<u8>) -> Result<(), Trouble>
-    ensures body { OnOk result (IsReceived (S.remaining stream.old) (S.remaining stream.new) reply.new.items) }
-    ensures empty { OnErr result (reply.new.items ≡ []) }
-    ensures memory { result ≡ Err Trouble.Memory → IsHeadOnly (S.remaining stream.old) (S.remaining stream.new) }
-{
-    reply.clear();
-    let mut head = [0u8; 2];
-    if let Err(error) = stream.read_exact(&mut head) {
-        return Err(Trouble::System(error));
-    }
-    let length = length_of(head[0], head[1]);
-    if length == 0 {
-        return Err(Trouble::Empty);
-    }
-    if reply.resize(length, 0).is_err() {
-        reply.clear();
-        return Err(Trouble::Memory);
-    }
-    match stream.read_exact(reply.as_mut_slice()) {
-        Ok(()) => Ok(()),
-        Err(error) => {
-            reply.clear();
-            Err(Trouble::System(error))
-        }
-    }
-}
-
 /// Reads the body of one frame with one timeout for all of it.
-fn read_within<C: Clock, S: Read + OpenStream + Drop>(
+fn read_within<K: Clock, S: Read + OpenStream + Drop>(
     stream: S,
-    clock: &C,
+    clock: &K,
     timeout: Duration,
     reply: &mut Vec<u8>,
 ) -> Result<(), Trouble>
@@ -90,58 +56,70 @@ fn read_within<C: Clock, S: Read + OpenStream + Drop>(
 {
     reply.clear();
     match timed(stream, clock, timeout) {
-        Ok(mut stream) => read_body(&mut stream, reply),
+        Ok(mut stream) => match read_body(&mut stream, reply) {
+            Ok(()) => Ok(()),
+            Err(fault) => Err(Trouble::from(fault)),
+        },
         Err(error) => Err(Trouble::System(error)),
     }
 }
 
-/// A link that makes a new connection for each frame. Contracts see the connection that is open.
+/// A link that makes a new connection for each frame. Contracts see what makes the connections, and the connection that
+/// is open.
 #[derive(Drop)]
-pub struct TcpLink<'a, R: Net> {
-    net: &'a R,
-    address: SocketAddr,
+pub struct TcpLink<'a, K, C: Connect> {
+    connector: C,
+    clock: &'a K,
     timeout: Duration,
-    stream: Option<R::Stream>,
+    stream: Option<C::Stream>,
     trouble: Option<Trouble>,
 }
 
-impl<'a, R: Net> Model for TcpLink<'a, R> {
-    ghost Value = { Option R.Stream };
+impl<'a, K, C: Connect> Model for TcpLink<'a, K, C> {
+    ghost use Rattle.mq_tcp.specs.Exchange.{Standing};
 
-    ghost view = { λ link. link.stream };
+    ghost Value = { Standing C C.Stream };
+
+    ghost view = { λ link. record { connector = link.connector; stream = link.stream } };
 }
 
-impl<'a, R: Net + Clock> TcpLink<'a, R> {
+impl<'a, R: Net + Clock> TcpLink<'a, R, Connector<'a, R>> {
     /// A link to this address, with no connection. `timeout`, above 0, is how long it may take to
     /// connect, how long to write a whole frame, and how long to read a whole reply.
-    pub fn new(net: &'a R, address: SocketAddr, timeout: Duration) -> TcpLink<'a, R>
-        ensures { result ≡ None }
+    pub fn new(
+        net: &'a R,
+        address: SocketAddr,
+        timeout: Duration,
+    ) -> TcpLink<'a, R, Connector<'a, R>>
+        ensures { result.stream ≡ None }
+    {
+        TcpLink::over(Connector::new(net, address, timeout), net, timeout)
+    }
+}
+
+impl<'a, K: Clock, C: Connect> TcpLink<'a, K, C> {
+    /// A link over the connections that are made so, with none yet. `timeout`, above 0, is how long it may take to
+    /// write a whole frame, and how long to read a whole reply.
+    pub fn over(connector: C, clock: &'a K, timeout: Duration) -> TcpLink<'a, K, C>
+        ensures { result ≡ record { connector = connector; stream = None } }
     {
         TcpLink {
-            net,
-            address,
+            connector,
+            clock,
             timeout,
             stream: None,
             trouble: None,
         }
     }
 
-    /// Where the server is.
-    pub fn address(&self) -> SocketAddr {
-        self.address
-    }
-
-    /// Why the last exchange brought no reply, if it brought none.
-    pub fn trouble(&self) -> Option<&Trouble> {
-        self.trouble.as_ref()
-    }
-
-    /// Makes a new connection, writes the frame and ends the writing side. Where it fails no
+    /// Makes a new connection, writes the frame whole and ends the writing side. Where it fails no
     /// connection is left.
     pub fn send(&mut self, frame: &[u8]) -> Result<(), LinkFault>
-        ensures open { OnOk result (IsSome self.new) }
-        ensures closed { OnErr result (self.new ≡ None) }
+        ensures sent { OnOk result ((sent : C.Stream) × (self.new.stream ≡ Some sent)
+            × IsSent C.is_new C.Stream.contents frame.now sent) }
+        ensures closed { OnErr result (self.new.stream ≡ None) }
         ensures no_memory { IfErr result (λ fault. fault ≢ LinkFault.Memory) }
+        ensures tried { C.tried self.new.connector ≡ option_map suc (C.tried self.old.connector) }
     {
         self.stream = None;
         self.trouble = None;
@@ -165,42 +143,61 @@ impl<'a, R: Net + Clock> TcpLink<'a, R> {
         fault
     }
 
-    fn connect_and_write(&self, frame: &[u8]) -> io::Result<R::Stream> {
-        let stream = TcpStream::connect_timeout(self.net, &self.address, self.timeout)?;
-        write_frame(timed(stream, self.net, self.timeout)?, frame)
+    /// A new connection over which the frame was written.
+    fn connect_and_write(&mut self, frame: &[u8]) -> io::Result<C::Stream>
+        ensures sent { IfOk result (IsSent C.is_new C.Stream.contents frame.now) }
+        ensures tried { C.tried self.new.connector ≡ option_map suc (C.tried self.old.connector) }
+        ensures stream { self.new.stream ≡ self.old.stream }
+    {
+        let stream = self.connector.connect()?;
+        write_frame(timed(stream, self.clock, self.timeout)?, frame)
     }
 
     /// Reads one frame's body and drops the connection, also at a fault. Without a connection, at
     /// the end of the input and at a length of 0 it is `Down`.
     pub fn receive(&mut self, reply: &mut Vec<u8>) -> Result<(), LinkFault>
-        ensures closed { self.new ≡ None }
-        ensures body { MatchOption self.old (result ≡ Err LinkFault.Down)
+        ensures closed { self.new ≡ record { connector = self.old.connector; stream = None } }
+        ensures body { MatchOption self.old.stream (result ≡ Err LinkFault.Down)
             (λ stream. OnOk result ((left : Option (List ℕ))
-            × IsReceived (R.Stream.remaining stream) left reply.new.items)) }
+            × IsReceived (C.Stream.remaining stream) left reply.new.items)) }
         ensures empty { OnErr result (reply.new.items ≡ []) }
-        ensures memory { IfSome self.old (λ stream. result ≡ Err LinkFault.Memory →
-            (left : Option (List ℕ)) × IsHeadOnly (R.Stream.remaining stream) left) }
+        ensures memory { IfSome self.old.stream (λ stream. result ≡ Err LinkFault.Memory →
+            (left : Option (List ℕ)) × IsHeadOnly (C.Stream.remaining stream) left) }
     {
         reply.clear();
         let Some(stream) = self.stream.take() else {
             return Err(self.fail(Trouble::Unconnected));
         };
-        match read_within(stream, self.net, self.timeout, reply) {
+        match read_within(stream, self.clock, self.timeout, reply) {
             Ok(()) => Ok(()),
             Err(trouble) => Err(self.fail(trouble)),
         }
     }
 }
 
-impl<R: Net + Clock> Link for TcpLink<'_, R> {
+impl<K: Clock, C: Connect> Explain for TcpLink<'_, K, C> {
+    fn address(&self) -> SocketAddr {
+        self.connector.address()
+    }
+
+    fn trouble(&self) -> Option<&Trouble> {
+        self.trouble.as_ref()
+    }
+}
+
+impl<K: Clock, C: Connect> Link for TcpLink<'_, K, C> {
     /// Sends the frame over a new connection and reads one body of 1 to 65,535 bytes; no connection
     /// is left.
     fn exchange(&mut self, frame: &[u8], reply: &mut Vec<u8>) -> Result<(), LinkFault>
         ensures told { Tells None None (record { frame = frame.now; outcome = outcome_of result reply.new.items }
             ∷ []) }
         ensures empty { OnErr result (reply.new.items ≡ []) }
-        ensures body { OnOk result (1 ≤ vec_len reply.new × vec_len reply.new ≤ 65535) }
-        ensures closed { self.new ≡ None }
+        // The frame was written whole over a new connection, and the body is the one that was read.
+        ensures exchanged { OnOk result (IsExchange C.is_new C.Stream.contents C.Stream.remaining frame.now
+            reply.new.items) }
+        // A connection is tried at each exchange.
+        ensures tried { C.tried self.new.connector ≡ option_map suc (C.tried self.old.connector) }
+        ensures closed { self.new.stream ≡ None }
     {
         reply.clear();
         self.send(frame)?;

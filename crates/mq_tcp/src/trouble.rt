@@ -1,9 +1,9 @@
 //! Why an exchange brought no reply, for those who look after the link.
 ghost use Rattle.std.specs.Prelude.{◌≡◌};
 ghost use Rattle.std.specs.IoError.{error_kind};
-ghost use Rattle.mq_tcp.specs.Exchange.{fault_of, trouble_fault};
+ghost use Rattle.mq_tcp.specs.Exchange.{body_trouble, fault_of, trouble_fault};
 
-use mq_client::LinkFault;
+use mq_link::{BodyFault, LinkFault};
 use std::io::ErrorKind;
 use std::{fmt, io};
 
@@ -27,6 +27,18 @@ fn fault_of(error: &io::Error) -> LinkFault
     match error.kind() {
         ErrorKind::TimedOut | ErrorKind::WouldBlock => LinkFault::TimedOut,
         _ => LinkFault::Down,
+    }
+}
+
+impl From<BodyFault> for Trouble {
+    ghost from_gives = { λ fault trouble. trouble ≡ body_trouble fault };
+
+    fn from(fault: BodyFault) -> Trouble {
+        match fault {
+            BodyFault::Read(error) => Trouble::System(error),
+            BodyFault::Empty => Trouble::Empty,
+            BodyFault::Memory => Trouble::Memory,
+        }
     }
 }
 

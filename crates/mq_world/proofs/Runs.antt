@@ -16,9 +16,9 @@ use Rattle.mq_client.specs.Past.{Source, Action, Ask, Close, Drain, Step, View, 
 use Rattle.mq_client.specs.Turns.{next, AreUnderway}
 use Rattle.mq_client.specs.Numbered.{id_in, IsNumbered, NoneReturns}
 use Rattle.mq_client.specs.declared.held.Asked.TheVariants as asked
-use Rattle.mq_client.specs.declared.link.LinkFault.TheVariants.{Down}
-use Rattle.mq_client.specs.declared.link.Outcome.{Outcome}
-use Rattle.mq_client.specs.declared.link.Outcome.TheVariants.{Faulted}
+use Rattle.mq_link.specs.declared.link.LinkFault.TheVariants.{Down}
+use Rattle.mq_link.specs.declared.link.Outcome.{Outcome}
+use Rattle.mq_link.specs.declared.link.Outcome.TheVariants.{Faulted}
 use Rattle.mq_world.specs.World.{begun, with_exchange}
 use Rattle.mq_world.proofs.Basics.{clash, none_some, In}
 use Rattle.mq_world.proofs.Known.{OfFrames, OfClients}

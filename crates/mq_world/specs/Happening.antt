@@ -10,8 +10,8 @@ use Rattle.mq_ledger.specs.Legal.{Book}
 use Rattle.mq_client.specs.Exchanges.{Exchange, decides, request_frame}
 use Rattle.mq_client.specs.Past.{Source, Step}
 use Rattle.mq_client.specs.Numbered.{exchanges_in}
-use Rattle.mq_client.specs.declared.link.LinkFault.{LinkFault}
-use Rattle.mq_client.specs.declared.link.Outcome.TheVariants.{Answered, Faulted}
+use Rattle.mq_link.specs.declared.link.LinkFault.{LinkFault}
+use Rattle.mq_link.specs.declared.link.Outcome.TheVariants.{Answered, Faulted}
 use Rattle.mq_world.specs.World.{Site, World, IsStart, Next, Reaches, with_run, after_exchange, same_source}
 use Rattle.mq_world.specs.Law.{run_of, standing_of, let_by}
 

@@ -21,8 +21,8 @@ use Rattle.mq_client.specs.Past.{Source, Action, Drain, Step, view, IsPlayed}
 use Rattle.mq_client.specs.Turns.{next}
 use Rattle.mq_client.specs.Numbered.{id_in}
 use Rattle.mq_client.specs.Filter.{push, action_of}
-use Rattle.mq_client.specs.declared.link.Outcome.{Outcome}
-use Rattle.mq_client.specs.declared.link.Outcome.TheVariants.{Answered, Faulted}
+use Rattle.mq_link.specs.declared.link.Outcome.{Outcome}
+use Rattle.mq_link.specs.declared.link.Outcome.TheVariants.{Answered, Faulted}
 
 -- which hosts and runs are those of filter runs, and how often each of them tries a request
 pub record Site : Type 0 where

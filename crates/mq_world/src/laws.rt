@@ -3,8 +3,8 @@ ghost use Rattle.std.specs.Prelude.{◌≡◌, ◌≤◌, ◌+◌, ◌++◌, ◌
 ghost use Rattle.std.specs.Prelude.{slice_get};
 ghost use Rattle.mq_frame.specs.Spelling.{reply_body, frame};
 ghost use Rattle.mq_frame.specs.declared.message.Reply.TheVariants.{Retry, Bad};
-ghost use Rattle.mq_client.specs.declared.link.LinkFault.{LinkFault};
-ghost use Rattle.mq_client.specs.declared.link.Outcome.TheVariants.{Answered, Faulted};
+ghost use Rattle.mq_link.specs.declared.link.LinkFault.{LinkFault};
+ghost use Rattle.mq_link.specs.declared.link.Outcome.TheVariants.{Answered, Faulted};
 ghost use Rattle.std.specs.Option.{option_map};
 ghost use Rattle.mq_line.specs.Grammar.{Meaning};
 ghost use Rattle.mq_ledger.specs.Day.{day_of};

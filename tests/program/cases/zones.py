@@ -108,10 +108,13 @@ def edited(world, source, *statements):
 
 
 def made(world, name, **zone):
-    """A file with a ledger of one request, of a server that has ended."""
+    """A file with a ledger of one request, of a server that has ended; nothing is left in its log."""
     path = f"{world.folder}/{name}"
     with Server(world, words=["--create"], store=path, **zone) as server:
         server.ask(reserve(1))
+    database = sqlite3.connect(path)
+    database.execute("PRAGMA wal_checkpoint(TRUNCATE)")
+    database.close()
     return path
 
 

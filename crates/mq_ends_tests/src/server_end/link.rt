@@ -6,10 +6,10 @@ use crate::server_end::asserts::assert_text;
 use crate::server_end::fixtures::bytes_of;
 use crate::server_end::server::RESERVE;
 use crate::server_end::serving::{ledger, run};
-use mq_client::{Link, LinkFault};
 use mq_frame::{FromRead, ToWrite};
+use mq_link::{Link, LinkFault};
 use mq_server::Served;
-use mq_tcp::TcpLink;
+use mq_tcp::{Connector, TcpLink};
 use std::alloc::{AllocError, Global};
 use std::net::{Net, TcpListener};
 use std::process::Abort;
@@ -25,6 +25,9 @@ const LONG: u64 = 10_000;
 /// The body of the reply to `RESERVE`, which is granted, with 1 recipient used.
 const GRANTED_BODY: &str = "81016100000000000000010000000100000001";
 
+/// A link over the loopback.
+type Linked<'a> = TcpLink<'a, HostRuntime, Connector<'a, HostRuntime>>;
+
 /// A listener at a free port.
 fn listener(rt: &HostRuntime) -> Result<TcpListener, Fail> {
     let listener: TcpListener = TcpListener::bind(rt, LOOPBACK)?;
@@ -32,10 +35,7 @@ fn listener(rt: &HostRuntime) -> Result<TcpListener, Fail> {
 }
 
 /// A link to a listener.
-fn link_to<'a>(
-    rt: &'a HostRuntime,
-    listener: &TcpListener,
-) -> Result<TcpLink<'a, HostRuntime>, Fail> {
+fn link_to<'a>(rt: &'a HostRuntime, listener: &TcpListener) -> Result<Linked<'a>, Fail> {
     let address = listener.local_addr()?;
     Ok(TcpLink::new(rt, address, Duration::from_millis(LONG)))
 }
@@ -54,18 +54,14 @@ fn text_of(
 }
 
 /// What is received in place of an older reply.
-fn received(alloc: Global, link: &mut TcpLink<'_, HostRuntime>) -> Result<String, AllocError> {
+fn received(alloc: Global, link: &mut Linked<'_>) -> Result<String, AllocError> {
     let mut reply = Vec::from_slice(alloc, b"old")?;
     let ended = link.receive(&mut reply);
     text_of(alloc, ended, reply.as_slice())
 }
 
 /// What the exchange of a frame brings in place of an older reply.
-fn exchanged(
-    alloc: Global,
-    link: &mut TcpLink<'_, HostRuntime>,
-    frame: &[u8],
-) -> Result<String, AllocError> {
+fn exchanged(alloc: Global, link: &mut Linked<'_>, frame: &[u8]) -> Result<String, AllocError> {
     let mut reply = Vec::from_slice(alloc, b"old")?;
     let ended = link.exchange(frame, &mut reply);
     text_of(alloc, ended, reply.as_slice())

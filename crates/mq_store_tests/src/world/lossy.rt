@@ -2,9 +2,9 @@
 
 use super::scripted::{answer, copied, keep};
 use super::usage::{deliver_frame, is_covered};
-use mq_client::{Link, LinkFault};
 use mq_frame::{Request, encode_request, is_request};
 use mq_ledger::Ledger;
+use mq_link::{Link, LinkFault};
 use rand_core::utils::NextWord;
 use rand_pcg::Pcg32;
 use std::alloc::Global;

@@ -4,8 +4,8 @@ use super::rows::{ALICE, COMMITTED, DAY};
 use super::scripted::{Script, Scripted, run};
 use super::usage::is_covered;
 use crate::asks::{Verdict, plain, tables, told, wanted};
-use mq_client::Link;
 use mq_ledger::Ledger;
+use mq_link::Link;
 use std::alloc::Global;
 use std::test::*;
 

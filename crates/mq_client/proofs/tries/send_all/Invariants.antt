@@ -1,7 +1,7 @@
 use Rattle.std.proofs.Common.{List, length, ◌≤◌}
 use Rattle.std.specs.List.{AllByRecursion}
 use Rattle.mq_client.specs.Framed.{IsFramed, requests_of}
-use Rattle.mq_client.specs.Link.{Tells}
+use Rattle.mq_link.specs.Link.{Tells}
 use Rattle.mq_client.specs.Exchanges.{Exchange, SendsSome, told_all}
 use Rattle.mq_client.proofs.tries.send_all.Given as goal
 

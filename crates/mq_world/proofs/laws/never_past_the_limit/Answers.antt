@@ -35,8 +35,8 @@ use Rattle.mq_world.proofs.Worlds.{IsRead, IsSound, all_suit, same_itself, put_s
 use Rattle.mq_world.proofs.Within.{standing_each, on_each, let_if, let_from, by_from, counts_so_far}
 use Rattle.mq_frame.specs.declared.message.Reply.TheVariants as reply
 use Rattle.mq_frame.specs.declared.message.Request.TheVariants.{Reserve, Settle, Release}
-use Rattle.mq_client.specs.declared.link.Outcome.{Outcome}
-use Rattle.mq_client.specs.declared.link.Outcome.TheVariants.{Answered, Faulted}
+use Rattle.mq_link.specs.declared.link.Outcome.{Outcome}
+use Rattle.mq_link.specs.declared.link.Outcome.TheVariants.{Answered, Faulted}
 use Rattle.mq_world.proofs.laws.never_past_the_limit.Goals as goal
 
 -- ---- the start

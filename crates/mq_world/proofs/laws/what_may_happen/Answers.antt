@@ -13,7 +13,7 @@ use Rattle.mq_frame.specs.declared.message.Reply.TheVariants.{Granted, Full}
 use Rattle.mq_ledger.specs.Legal.{Book, IsLegalBook}
 use Rattle.mq_client.specs.Exchanges.{Exchange, decides, request_frame}
 use Rattle.mq_client.specs.Past.{Source, id_of, reserve_of}
-use Rattle.mq_client.specs.declared.link.LinkFault.TheVariants.{TimedOut}
+use Rattle.mq_link.specs.declared.link.LinkFault.TheVariants.{TimedOut}
 use Rattle.mq_world.specs.World.{Site, World, fresh, IsStart, after_line, with_on_way, after_exchange, after_stop, same_source, with_run, with_sent, after_arrival, reply_from, Next, Reads, Sends, Ends, Takes, Stops, Reaches, AtOnce, Later}
 use Rattle.mq_world.specs.Happening.{unused, times_written, IsReachable, failed, brought, HasLetOneThrough, WasAnsweredAgain, WasTakenTwice, CameLate, HasStopped}
 use Rattle.mq_world.proofs.Worlds.{source_is}

@@ -5,7 +5,7 @@ use Rattle.std.proofs.lemmas.List.{take_all, take-append-le, get_or_past}
 use Rattle.std.proofs.KnownBytes.{Consumes-trans}
 use Rattle.mq_frame.specs.Spelling.{in_2_bytes}
 use Rattle.std.specs.Io.KnownBytes.{Consumes}
-use Rattle.mq_tcp.specs.Exchange.{IsReceived}
+use Rattle.mq_link.specs.Body.{IsReceived}
 
 -- the front of a list that begins with it
 take_front : (n : ℕ) (front rest : List ℕ) → n ≡ length front → take n (front ++ rest) ≡ front

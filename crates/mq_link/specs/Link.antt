@@ -1,9 +1,9 @@
 -- The exchanges that a link tells.
 use Rattle.std.specs.Prelude.{◌≡◌, ℕ, List, ◌++◌, ⊤, Option, None, Some, Result, Ok, Err}
-use Rattle.mq_client.specs.declared.link.LinkFault.{LinkFault}
-use Rattle.mq_client.specs.declared.link.Outcome.{Outcome}
-use Rattle.mq_client.specs.declared.link.Outcome.TheVariants.{Answered, Faulted}
-use Rattle.mq_client.specs.declared.link.Told.{Told}
+use Rattle.mq_link.specs.declared.link.LinkFault.{LinkFault}
+use Rattle.mq_link.specs.declared.link.Outcome.{Outcome}
+use Rattle.mq_link.specs.declared.link.Outcome.TheVariants.{Answered, Faulted}
+use Rattle.mq_link.specs.declared.link.Told.{Told}
 
 -- how an exchange ended that answered this, with this reply body
 abbrev pub outcome_of : {X : Type 0} → Result X LinkFault → List ℕ → Outcome

@@ -1,7 +1,7 @@
 use Rattle.std.proofs.Common.{rules, arith, refl, [], ◌∷◌}
 use Rattle.std.proofs.lemmas.Nat.{be_bytes_2}
-use Rattle.mq_tcp.proofs.BodySteps.{two_small}
-use Rattle.mq_tcp.proofs.tcp.length_of.Goals as goal
+use Rattle.mq_link.proofs.BodySteps.{two_small}
+use Rattle.mq_link.proofs.body.length_of.Goals as goal
 
 pub returns-clause-spelled : goal.returns-clause-spelled
 returns-clause-spelled c =

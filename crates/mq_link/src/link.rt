@@ -75,8 +75,8 @@ pub struct Told {
 /// A link to the quota server.
 pub trait Link {
     ghost use Rattle.std.specs.Prelude.{◌≡◌, ◌∷◌, [], List, Option, None, OnErr};
-    ghost use Rattle.mq_client.specs.Link.{Tells, outcome_of};
-    ghost use Rattle.mq_client.specs.declared.link.Told.{Told};
+    ghost use Rattle.mq_link.specs.Link.{Tells, outcome_of};
+    ghost use Rattle.mq_link.specs.declared.link.Told.{Told};
 
     // The exchanges so far, the oldest first, where the link tells them.
     ghost told: { Self → Option (List Told) } = { λ _. None };

@@ -1,6 +1,6 @@
 use Rattle.std.proofs.Common.{rules, arith, ◌∙◌}
-use Rattle.mq_tcp.proofs.BodySteps.{received, two_of}
-use Rattle.mq_tcp.proofs.tcp.read_body.Goals as goal
+use Rattle.mq_link.proofs.BodySteps.{received, two_of}
+use Rattle.mq_link.proofs.body.read_body.Goals as goal
 
 pub returns-in-Ok-clause-body : goal.returns-in-Ok-clause-body
 returns-in-Ok-clause-body g c =
