@@ -6,6 +6,7 @@ import sqlite3
 
 import zones
 from books import Books
+from cases.audits import edited
 from cases.rules import CENTRAL_EUROPE, NO_RULES, RULES
 from ends import Server, fault, ledger_settings, without_log
 from random_inputs import differs
@@ -95,26 +96,11 @@ def a_file(world, checks):
     checks.equal("a file by a rule: audit", came, (0, b"sound days=7 transactions=8\n", ""))
 
 
-def edited(world, source, *statements):
-    path = world.new_file("")
-    with open(source, "rb") as before, open(path, "wb") as after:
-        after.write(before.read())
-    database = sqlite3.connect(path)
-    for statement in statements:
-        database.execute(statement)
-    database.commit()
-    database.close()
-    return path
-
-
 def made(world, name, **zone):
-    """A file with a ledger of one request, of a server that has ended; nothing is left in its log."""
+    """A file with a ledger of one request, of a server that has ended."""
     path = f"{world.folder}/{name}"
     with Server(world, words=["--create"], store=path, **zone) as server:
         server.ask(reserve(1))
-    database = sqlite3.connect(path)
-    database.execute("PRAGMA wal_checkpoint(TRUNCATE)")
-    database.close()
     return path
 
 
@@ -146,17 +132,17 @@ def tables_of_other_versions(world, checks):
     by_rule = {"offset": None, "rule": CENTRAL_EUROPE}
     rule = f"{world.folder}/zone-rule"
     table = "CREATE TABLE rule (id INTEGER PRIMARY KEY, bytes BLOB NOT NULL) STRICT"
-    alone = edited(world, world.new_file(""), table)
+    alone = edited(world, world.new_file(""), "zone-alone", table)
     for zone in ({}, by_rule):
         by_both(world, checks, f"a table of the name rule alone, {'a rule' if zone else 'an offset'}", alone, NOT_OURS, "--create", **zone)
-    for what, statement in [
+    for place, (what, statement) in enumerate([
         ("a version that there isn't", "UPDATE setting SET version = 9"),
         ("no row of the rule", "DELETE FROM rule"),
         ("a rule of another number", "UPDATE rule SET id = 2"),
         ("no table of the rule", "DROP TABLE rule"),
-    ]:
-        by_both(world, checks, f"a ledger by a rule, {what}", edited(world, rule, statement), NOT_OURS, **by_rule)
-    other = edited(world, rule, "UPDATE rule SET bytes = x'55544330'")
+    ]):
+        by_both(world, checks, f"a ledger by a rule, {what}", edited(world, rule, f"zone-other{place}", statement), NOT_OURS, **by_rule)
+    other = edited(world, rule, "zone-other-rule", "UPDATE rule SET bytes = x'55544330'")
     by_both(world, checks, "a ledger by a rule, another rule in its row", other, ANOTHER_ZONE, **by_rule)
 
 
