@@ -168,6 +168,7 @@ fn new_setting(zone: Zone, default: u32) -> NewSetting
     ensures value { result ≡ made_with zone default }
     ensures in_range { IsZone zone }
 {
+    // (its clause says that a zone is in range)
     let _minutes = zone.minutes();
     NewSetting { zone, cap: default }
 }
@@ -187,8 +188,8 @@ impl<S: Alter> SqlLedger<S> {
     /// store holds. The default is the limit of a login that has none for a day: 0 to 1,000,000.
     ///
     /// A ledger by a zone rule has a sixth table. Refused, the store has the tables that it had. `NotOurs`
-    /// comes exactly where a table of one of the six names is there, whatever the zone; its other faults are `Memory` and `Store`. A connection within a
-    /// transaction is `Store`.
+    /// comes exactly where a table of one of the six names is there, whatever the zone; its other faults
+    /// are `Memory` and `Store`. A connection within a transaction is `Store`.
     pub fn create(
         alloc: Global,
         connection: Connection<S>,
