@@ -8,6 +8,7 @@ use mq_ledger::Zone;
 use mq_settings::{FilterSettings, ServerSettings, read_filter_settings, read_server_settings};
 use std::alloc::Global;
 use std::process::Abort;
+use std::str;
 
 /// Whose settings a text has.
 #[derive(Clone, Copy)]
@@ -65,9 +66,12 @@ fn server_text(rt: &impl Abort, alloc: Global, settings: &ServerSettings) -> Str
 
 /// The rule of a zone, or its minutes east of UTC.
 fn zone_text(rt: &impl Abort, alloc: Global, zone: &Zone) -> String {
-    match zone.rule().map(std::str::from_utf8) {
-        Some(Ok(rule)) => String::from_str(alloc, rule).expect(rt, MEMORY),
-        _ => {
+    match zone.rule() {
+        Some(rule) => {
+            let text = str::from_utf8(rule).expect(rt, "a text");
+            String::from_str(alloc, text).expect(rt, MEMORY)
+        }
+        None => {
             let minutes = zone.minutes();
             format!(in alloc; "{minutes}").expect(rt, MEMORY)
         }
