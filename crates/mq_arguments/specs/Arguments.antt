@@ -1,16 +1,16 @@
 -- What the words of a command line may ask for.
-use Rattle.std.specs.Prelude.{◌≤◌, ◌≤ℤ◌, pos, negsuc, IfSome, ⊤}
+use Rattle.std.specs.Prelude.{◌≤◌, IfSome, ⊤}
 use Rattle.mq_frame.specs.Range.{IsRun, IsDay, IsAmount, IsWithin}
 use Rattle.mq_arguments.specs.declared.ReplayArguments.{ReplayArguments}
 use Rattle.mq_arguments.specs.declared.LimitArguments.{LimitArguments}
 use Rattle.mq_arguments.specs.declared.Arguments.{Arguments}
 use Rattle.mq_arguments.specs.declared.Arguments.TheVariants.{Replay, Filter, Server, Limit, Report, Audit}
 
--- a limit of 0 to 1,000,000 and an offset of -1,439 to 1,439 minutes
+-- a limit of 0 to 1,000,000, and at most 1,439 minutes either way
 pub record IsReplayArguments (given : ReplayArguments) : Type 0 where
   pub default : given.default ≤ 1000000
-  pub west : negsuc 1438 ≤ℤ given.offset
-  pub east : given.offset ≤ℤ pos 1439
+  pub east : given.east ≤ 1439
+  pub west : given.west ≤ 1439
 
 pub record IsLimitArguments (given : LimitArguments) : Type 0 where
   pub from : IsDay given.from

@@ -3,11 +3,15 @@
 
 /// What `replay` is given.
 #[derive(Clone, Copy, Debug, PartialEq)]
-pub struct ReplayArguments {
+pub struct ReplayArguments<'a> {
     /// The limit of a login that has none of its own, 0 to 1,000,000 recipients a day.
     pub default: u32,
-    /// How far the ledger's days are east of UTC, in minutes: -1,439 to 1,439.
-    pub offset: i32,
+    /// How far the ledger's days are east of UTC, in minutes: 0 to 1,439.
+    pub east: u32,
+    /// How far they are west of it, in minutes: 0 to 1,439. What counts is the difference.
+    pub west: u32,
+    /// The POSIX zone rule that the days go by in place of an offset.
+    pub rule: Option<&'a str>,
     /// Whether the ledger is tables in a store in memory, and no list.
     pub sql: bool,
 }
@@ -66,7 +70,7 @@ pub struct ReportArguments<'a> {
 /// What the words ask for.
 #[derive(Clone, Copy, Debug, PartialEq)]
 pub enum Arguments<'a> {
-    Replay(ReplayArguments),
+    Replay(ReplayArguments<'a>),
     Filter(FilterArguments<'a>),
     Server(ServerArguments<'a>),
     Limit(LimitArguments<'a>),

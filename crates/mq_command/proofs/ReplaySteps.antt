@@ -1,6 +1,7 @@
 -- What the serving of connections says of a replay.
 use Rattle.std.proofs.Common.{◌≡◌, ℕ, ℤ, List, [], ◌++◌, ◌∷◌, Option, Some, Result, Ok, Err, length, map, take, drop, refl, sym, ap, ◌∙◌, arith}
 use Rattle.std.proofs.lemmas.List.{take_all, take-append-le, length-map}
+use Rattle.mq_ledger.specs.declared.zone.Zone.{Zone}
 use Rattle.mq_server.specs.Connections.{wires, result_of, AreServed}
 use Rattle.mq_server.specs.Delivery.{Delivery}
 use Rattle.mq_server.specs.declared.connections.ConnectionEnd.{ConnectionEnd}
@@ -16,7 +17,7 @@ map_twice g f (x ∷ xs) = ap (λ l. g (f x) ∷ l) (map_twice g f xs)
 pub written_back : {X : Type 0} (n : ℕ) (new old : List X) → n ≡ length new → take n (new ++ drop (length new) old) ≡ new
 written_back n new old e = take-append-le n new (drop (length new) old) (omega (arith, e)) ∙ take_all n new (omega (arith, e))
 
-pub of_serving : {I O V : Type 0} (read : I → List ℕ) (held : O → List ℕ) (bytes : V → List ℕ) (zone : ℤ) (default : ℕ) (connections : List V) (inputs : List I) (outputs written : List O)
+pub of_serving : {I O V : Type 0} (read : I → List ℕ) (held : O → List ℕ) (bytes : V → List ℕ) (zone : Zone) (default : ℕ) (connections : List V) (inputs : List I) (outputs written : List O)
     (left : List (Option (List ℕ))) (all : List ConnectionEnd) (seen : List Delivery)
     → map read inputs ≡ map bytes connections → map held outputs ≡ map (λ _. []) connections → length written ≡ length outputs
     → AreServed (empty_book zone default) [] (wires (map (λ s. Some (read s)) inputs) (map (λ s. Some (held s)) outputs)) (wires left (map (λ s. Some (held s)) written)) (map result_of all) seen
@@ -34,7 +35,7 @@ of_serving read held bytes zone default connections inputs outputs written left 
     }
 
 -- what was served and then printed
-pub of_printing : (zone : ℤ) (default : ℕ) (connections written : List (List ℕ)) (all : List ConnectionEnd) (old new : Option (List ℕ)) (ended : Result (Unit {0}) ReplayFault)
+pub of_printing : (zone : Zone) (default : ℕ) (connections written : List (List ℕ)) (all : List ConnectionEnd) (old new : Option (List ℕ)) (ended : Result (Unit {0}) ReplayFault)
     → IsReplay zone default connections written all → Prints written all old new ended → ReplaysOver zone default connections old new ended
 of_printing zone default connections written all old new (Ok u) replay printed = (written, all, replay, printed)
 of_printing zone default connections written all old new (Err (Connection number ending)) replay printed = (written, all, replay, printed)

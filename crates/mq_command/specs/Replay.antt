@@ -3,6 +3,7 @@ use Rattle.std.specs.Prelude.{◌≡◌, ◌<◌, ℕ, ℤ, List, [], map, lengt
 use Rattle.std.specs.List.{filter_map, enumerate_from, slice_get}
 use Rattle.std.specs.Io.KnownBytes.{Appends, Keeps}
 use Rattle.mq_ledger.specs.Legal.{Book}
+use Rattle.mq_ledger.specs.declared.zone.Zone.{Zone}
 use Rattle.mq_server.specs.Connections.{wires, result_of, AreServed}
 use Rattle.mq_server.specs.Delivery.{Delivery}
 use Rattle.mq_server.specs.declared.connection.Served.TheVariants as served
@@ -37,11 +38,11 @@ abbrev pub faults_of : List ConnectionEnd → List (ℕ × Ending)
 faults_of all = faults_from 1 all
 
 -- a ledger without a history
-abbrev pub empty_book : ℤ → ℕ → Book
+abbrev pub empty_book : Zone → ℕ → Book
 empty_book zone default = record { zone = zone; default = default; history = [] }
 
 -- Connections were served in turn over a new ledger: this was written on each, and each ended so.
-pub record IsReplay (zone : ℤ) (default : ℕ) (connections written : List (List ℕ))
+pub record IsReplay (zone : Zone) (default : ℕ) (connections written : List (List ℕ))
     (all : List ConnectionEnd) : Type 0 where
   pub seen : List Delivery
   pub left : List (Option (List ℕ))
@@ -61,7 +62,7 @@ Prints written all old new (Err _) = ⊥
 
 -- What connections lead to that are served over a new ledger; a fault of the serving as a whole leaves the output as it
 -- was.
-abbrev pub ReplaysOver : ℤ → ℕ → List (List ℕ) → Option (List ℕ) → Option (List ℕ)
+abbrev pub ReplaysOver : Zone → ℕ → List (List ℕ) → Option (List ℕ) → Option (List ℕ)
     → Result (Unit {0}) ReplayFault → Type 0
 ReplaysOver zone default connections old new (Err (Serve fault)) = Keeps old new
 ReplaysOver zone default connections old new ended =
@@ -75,14 +76,14 @@ IsTextRefusal text (refused.NotHex number) = first_not_hex text ≡ Some number
 IsTextRefusal text refused.Memory = Unit {0}
 
 -- the connections of a text were served, with these written and these ends
-pub record IsReplayOf (zone : ℤ) (default : ℕ) (text : List ℕ) (written : List (List ℕ))
+pub record IsReplayOf (zone : Zone) (default : ℕ) (text : List ℕ) (written : List (List ℕ))
     (all : List ConnectionEnd) : Type 0 where
   pub hex : first_not_hex text ≡ None
   pub replay : IsReplay zone default (connections_of text) written all
 
 -- What a text leads to: a line for each connection in order, all of them where nothing fails; a fault of the text or
 -- of the serving as a whole leaves the output as it was.
-abbrev pub Replays : ℤ → ℕ → List ℕ → Option (List ℕ) → Option (List ℕ) → Result (Unit {0}) ReplayFault → Type 0
+abbrev pub Replays : Zone → ℕ → List ℕ → Option (List ℕ) → Option (List ℕ) → Result (Unit {0}) ReplayFault → Type 0
 Replays zone default text old new (Ok _) =
     (written : List (List ℕ)) × (all : List ConnectionEnd) × IsReplayOf zone default text written all
     × (faults_of all ≡ []) × Appends old new (hex_lines written)

@@ -1,6 +1,7 @@
 //! `replay`: frames in hexadecimal, answered over a ledger.
 ghost use Rattle.std.specs.Prelude.{◌≡◌, ℕ, ℤ, [], map, IfOk};
 ghost use Rattle.std.specs.List.{slice_get};
+ghost use Rattle.mq_ledger.specs.declared.zone.Zone.{Zone as AnyZone};
 ghost use Rattle.mq_command.specs.Replay.{empty_book, ending_of, faults_of, IsReplay, Prints, ReplaysOver};
 
 use crate::connections::TextFault;
@@ -103,7 +104,7 @@ fn serve_over<L: Ledger>(
     connections: &[Vec<u8>],
     ledger: &mut L,
 ) -> Result<Answered, ServeFault>
-    ensures { L.has_kept ledger.new → L.is_sound ledger.old → (zone : ℤ) (default : ℕ)
+    ensures { L.has_kept ledger.new → L.is_sound ledger.old → (zone : AnyZone) (default : ℕ)
         → L.book ledger.old ≡ empty_book zone default
         → IfOk result (λ answered. IsReplay zone default (map (λ c. c.items) connections.now)
         (map (λ s. s.inner.items) answered.written.items) answered.ends.items) }
@@ -145,7 +146,7 @@ pub fn replay_over<L: Ledger, W: Write>(
     ledger: &mut L,
     output: &mut W,
 ) -> Result<(), ReplayFault>
-    ensures { L.has_kept ledger.new → L.is_sound ledger.old → (zone : ℤ) (default : ℕ)
+    ensures { L.has_kept ledger.new → L.is_sound ledger.old → (zone : AnyZone) (default : ℕ)
         → L.book ledger.old ≡ empty_book zone default
         → ReplaysOver zone default (map (λ c. c.items) connections.now) (W.contents output.old)
         (W.contents output.new) result }

@@ -9,16 +9,16 @@ use Rattle.mq_frame.specs.Range.{IsRequest, IsReply, IsAmount}
 use Rattle.mq_ledger.specs.declared.entry.Entry.{Entry}
 use Rattle.mq_ledger.specs.Answer.{if_open, answer, appended, stored_by, reply, reply_to, reply_by, with_arrival, with_arrival_by, history_of}
 use Rattle.mq_ledger.specs.Arrivals.{id_of}
-use Rattle.mq_ledger.specs.Day.{IsOffset, day_of}
+use Rattle.mq_ledger.specs.Day.{IsZone, day_of}
 use Rattle.mq_ledger.specs.History.{requests, transaction, granted_in, used, IsOpenTo}
 use Rattle.mq_ledger.specs.Legal.{Book, IsLegal, IsLegalBook}
-use Rattle.mq_ledger.proofs.Clocks.{offset_days}
+use Rattle.mq_ledger.proofs.Clocks.{zone_days}
 use Rattle.mq_ledger.proofs.Numbers.{legal_build, legal_more}
 use Rattle.mq_ledger.proofs.Transactions.{entry}
 use Rattle.mq_ledger.proofs.Ranges.{IsRanged, legal_ranged, used_fits, held_fits, reply_range}
 
 pub book_ranged : (b : Book) → IsLegalBook b → IsRanged (day_of b.zone) b.default b.history
-book_ranged b h = legal_ranged (day_of b.zone) b.default b.history h.default (offset_days b.zone h.zone) h.legal
+book_ranged b h = legal_ranged (day_of b.zone) b.default b.history h.default (zone_days b.zone h.zone) h.legal
 
 pub book_used : (b : Book) → IsLegalBook b → (l : List ℕ) (d : ℕ) → used (day_of b.zone) b.history l d ≤ 1000000
 book_used b h l d = used_fits (day_of b.zone) b.default b.history (book_ranged b h) l d
@@ -58,13 +58,13 @@ pub book_arrival : (b c : Book) (r : Request) → IsLegalBook b → IsRequest r 
 book_arrival b c r h range same_zone same_default after =
     let legal = legal_arrival (day_of b.zone) b.default b.history r h.legal range in
     record {
-      zone = subst IsOffset (sym same_zone) h.zone;
+      zone = subst IsZone (sym same_zone) h.zone;
       default = subst IsAmount (sym same_default) h.default;
       legal = rw (same_zone, same_default, after) legal;
     }
 
 pub book_reply : (b : Book) (r : Request) (a : Reply) → IsLegalBook b → IsRequest r → a ≡ reply (day_of b.zone) b.default b.history r → IsReply a
-book_reply b r a h range is = subst IsReply (sym is) (reply_range (day_of b.zone) b.default b.history r h.default (offset_days b.zone h.zone) h.legal range)
+book_reply b r a h range is = subst IsReply (sym is) (reply_range (day_of b.zone) b.default b.history r h.default (zone_days b.zone h.zone) h.legal range)
 
 pub book_history : (b : Book) (r : Request) (K : List Entry) → IsLegalBook b → K ≡ with_arrival (day_of b.zone) b.default b.history r → K ≡ history_of (day_of b.zone) b.default (requests b.history ++ r ∷ [])
 book_history b r K h is = is ∙ sym (legal_more (day_of b.zone) b.default b.history r h.legal)

@@ -1,31 +1,66 @@
--- From an instant and an offset to a day number.
-use Rattle.std.proofs.Common.{◌≡◌, ◌≤ℤ◌, pos, negsuc, ℕ, ◌<◌, ◌≤◌, ◌+◌, ◌*◌, ◌/◌, ℤ, ◌+ℤ◌, ◌*ℤ◌, ◌<ℤ◌, arith, int_div}
+-- From what a clock shows to a day number.
+use Rattle.std.proofs.Common.{◌≡◌, ◌∙◌, ◌≤ℤ◌, ◌<ℤ◌, ◌≤◌, pos, negsuc, ℕ, ◌+◌, ◌*◌, ◌/◌, List, ℤ, ◌+ℤ◌, ◌*ℤ◌, arith, int_div, sym, ap}
+use Rattle.std.specs.Int.{int_div_euclid}
+use Rattle.jiff_core.specs.Date.{epoch_day}
+use Rattle.jiff_core.specs.DateTime.{civil_nanos}
+use Rattle.jiff_core.specs.Timestamp.{nanos_of_seconds}
+use Rattle.jiff_core.specs.declared.civil.datetime.DateTime.{DateTime}
+use Rattle.jiff_tz.specs.Zone.{offset_at}
+use Rattle.jiff_tz.specs.declared.timezone.TimeZone.{TimeZone}
+use Rattle.jiff.specs.Placed.{IsPosixZone}
 use Rattle.jiff.proofs.SpanFacts.{signed_arith}
-use Rattle.mq_ledger.specs.Day.{IsOffset, natural, clock, day_of, IsDayRule}
+use Rattle.mq_ledger.specs.Day.{Days, IsOffset, IsZone, IsDayRule, ByOffset, ByRule, natural, clock, rule_clock, limited, day_of}
+use Rattle.mq_frame.specs.Range.{IsMoment}
+use Rattle.mq_ledger.specs.Rule.{ahead}
+use Rattle.mq_ledger.proofs.Rules.{ahead_posix}
 
--- the whole days of a clock that shows a number of seconds
-pub clock_day : (s day nanos : ℤ) (n : ℕ) → pos 0 ≤ℤ s → nanos ≡ s *ℤ pos 1000000000 → nanos ≡ day *ℤ pos 86400000000000 +ℤ pos n → n < 86400000000000 → day ≡ pos (natural s / 86400)
-clock_day (pos k) day nanos n low e f lt = omega (arith, signed_arith)
-clock_day (negsuc k) day nanos n low e f lt = absurd (omega (arith, signed_arith))
+-- the date's day number is the whole days of the clock
+pub whole_days : (shown : DateTime) (s : ℤ) → civil_nanos shown ≡ s *ℤ pos 1000000000 → epoch_day shown.date ≡ int_div_euclid s (pos 86400)
+unfolding civil_nanos
+whole_days shown s is = omega (arith, signed_arith, is)
 
-pub day_hours : (day since hours : ℤ) → pos 0 ≤ℤ day → since ≡ day *ℤ pos 86400000000000 → hours ≡ int_div since (pos 3600000000000) → hours ≡ day *ℤ pos 24
-day_hours (pos k) since hours low g h = omega (arith, signed_arith)
-day_hours (negsuc k) since hours low g h = absurd (omega (arith, signed_arith))
+-- an offset's days are in range as they are
+unlimited : (s : ℤ) → pos 0 ≤ℤ s → s ≤ℤ pos 32503766340 → limited (int_div_euclid s (pos 86400)) ≡ natural s / 86400
+unlimited (pos n) low high = omega (arith, signed_arith, high)
+unlimited (negsuc n) low high = absurd (omega (arith, signed_arith))
 
-shown_fits : (s : ℤ) → s ≤ℤ pos 32503766340 → natural s / 86400 ≤ 376200
-shown_fits (pos n) h = omega (arith, signed_arith)
-shown_fits (negsuc n) h = omega arith
+pub day_at_offset : (minutes : ℤ) (at : ℕ) (shown : DateTime) → IsOffset minutes → IsMoment at → civil_nanos shown ≡ nanos_of_seconds (pos at) +ℤ nanos_of_seconds (pos 60 *ℤ minutes) → limited (epoch_day shown.date) ≡ day_of (ByOffset minutes) at
+day_at_offset minutes at shown offset moment is =
+    ap limited (whole_days shown (clock minutes at) (omega (arith, signed_arith, is)))
+    ∙ unlimited (clock minutes at) (omega (arith, signed_arith, offset.from, moment.from)) (omega (arith, signed_arith, offset.to, moment.to))
 
-pub day_fits : (m : ℤ) (at : ℕ) → m ≤ℤ pos 1439 → at ≤ 32503680000 → day_of m at ≤ 376200
-day_fits m at h k = shown_fits (clock m at) (omega (arith, signed_arith))
+pub day_by_rule : (text : List ℕ) (at : ℕ) (shown : DateTime) → civil_nanos shown ≡ nanos_of_seconds (pos at) +ℤ nanos_of_seconds (ahead text (nanos_of_seconds (pos at))) → limited (epoch_day shown.date) ≡ day_of (ByRule text) at
+day_by_rule text at shown is = ap limited (whole_days shown (rule_clock text at) (omega (arith, signed_arith, is)))
+
+-- the same of what `jiff` shows in a zone that it reads from the text
+pub day_in_zone : (text : List ℕ) (zone : TimeZone) (at : ℕ) (shown : DateTime) → IsPosixZone text zone → civil_nanos shown ≡ nanos_of_seconds (pos at) +ℤ nanos_of_seconds (offset_at zone (nanos_of_seconds (pos at))) → day_of (ByRule text) at ≡ limited (epoch_day shown.date)
+day_in_zone text zone at shown reads is =
+    let n : ℤ = nanos_of_seconds (pos at) in
+    sym (day_by_rule text at shown (is ∙ ap (λ s. n +ℤ nanos_of_seconds s) (ahead_posix text zone n reads)))
+
+pub day_of_hours : (day since hours : ℤ) → since ≡ day *ℤ pos 86400000000000 → hours ≡ int_div since (pos 3600000000000) → hours ≡ day *ℤ pos 24
+day_of_hours (pos k) since hours g h = omega (arith, signed_arith)
+day_of_hours (negsuc k) since hours g h = omega (arith, signed_arith)
+
+-- The day at an offset is the floor of the clock.
 
 floor_of : (s : ℤ) → pos 0 ≤ℤ s → (pos (86400 * (natural s / 86400)) ≤ℤ s) × (s <ℤ pos (86400 * (natural s / 86400 + 1)))
 floor_of (pos n) h = (omega (arith, signed_arith), omega (arith, signed_arith))
 floor_of (negsuc n) h = absurd (omega (arith, signed_arith))
 
-pub day_floor : (m : ℤ) (at : ℕ) → negsuc 1438 ≤ℤ m → 86400 ≤ at → (pos (86400 * day_of m at) ≤ℤ clock m at) × (clock m at <ℤ pos (86400 * (day_of m at + 1)))
-day_floor m at h k = floor_of (clock m at) (omega (arith, signed_arith))
+pub offset_floor : (minutes : ℤ) (at : ℕ) → IsOffset minutes → IsMoment at → (pos (86400 * day_of (ByOffset minutes) at) ≤ℤ clock minutes at) × (clock minutes at <ℤ pos (86400 * (day_of (ByOffset minutes) at + 1)))
+offset_floor minutes at offset moment = floor_of (clock minutes at) (omega (arith, signed_arith, offset.from, moment.from))
 
--- days of an offset in range
-pub offset_days : (m : ℤ) → IsOffset m → IsDayRule (day_of m)
-offset_days m h = λ at moment. record { from = omega arith; to = day_fits m at h.to moment.to }
+-- Days in range.
+
+offset_fits : (s : ℤ) → s ≤ℤ pos 32503766340 → natural s / 86400 ≤ 376200
+offset_fits (pos n) h = omega (arith, signed_arith)
+offset_fits (negsuc n) h = omega arith
+
+limited_fits : (day : ℤ) → limited day ≤ 376200
+limited_fits (pos n) = omega arith
+limited_fits (negsuc n) = omega arith
+
+pub zone_days : (zone : Days) → IsZone zone → IsDayRule (day_of zone)
+zone_days (ByOffset minutes) h = λ at moment. record { from = omega arith; to = offset_fits (clock minutes at) (omega (arith, signed_arith, h.to, moment.to)) }
+zone_days (ByRule text) h = λ at moment. record { from = omega arith; to = limited_fits _ }

@@ -5,7 +5,7 @@ use Rattle.mq_ledger.specs.declared.entry.Entry.{Entry}
 use Rattle.mq_ledger.specs.declared.zone.Zone.{Zone}
 use Rattle.mq_ledger.specs.Answer.{build}
 use Rattle.mq_ledger.specs.Arrivals.{first}
-use Rattle.mq_ledger.specs.Day.{IsOffset, day_of}
+use Rattle.mq_ledger.specs.Day.{IsZone, day_of}
 use Rattle.mq_ledger.specs.History.{requests}
 
 -- the requests are in range, each is numbered and no number comes twice, and each has its answer
@@ -22,6 +22,6 @@ pub record Book : Type 0 where
 
 -- the history is legal with that zone and that default, which are in range
 pub record IsLegalBook (b : Book) : Type 0 where
-  pub zone : IsOffset b.zone
+  pub zone : IsZone b.zone
   pub default : IsAmount b.default
   pub legal : IsLegal (day_of b.zone) b.default b.history

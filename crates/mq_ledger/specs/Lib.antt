@@ -1,11 +1,15 @@
 pub mod Answer
 pub mod Arrivals
 pub mod Day
+pub mod DaysCode
 pub mod History
+pub mod Kept
 pub mod Legal
 pub mod Limits
 pub mod Over
 pub mod Page
+pub mod Rule
+pub mod SameDays
 pub mod Suits
 pub mod Sums
 pub mod Told

@@ -1,15 +1,21 @@
 //! Laws of the definitions, for whoever builds on a ledger. Each function does nothing: its
 //! contract is the law.
-ghost use Rattle.std.specs.Prelude.{◌≡◌, ◌≤◌, ◌<◌, ◌+◌, ℕ, ℤ, List, [], ◌∷◌, ◌++◌, Option, Some, None, All, true};
+ghost use Rattle.jiff.specs.Placed.{IsPosixZone};
+ghost use Rattle.jiff.specs.Words.{civil_nanos, epoch_day, nanos_of_seconds, offset_at};
+ghost use Rattle.jiff_core.specs.declared.civil.datetime.DateTime.{DateTime as AnyDateTime};
+ghost use Rattle.jiff_tz.specs.declared.timezone.TimeZone.{TimeZone as AnyTimeZone};
+ghost use Rattle.std.specs.Prelude.{◌≡◌, ◌≤◌, ◌<◌, ◌+◌, ◌*◌, ◌≤ℤ◌, ◌<ℤ◌, ◌+ℤ◌, ℕ, ℤ, pos, List, [], ◌∷◌, ◌++◌, Option, Some, None, All, true};
 ghost use Rattle.std.specs.Prelude.{false, ◌&&◌, ◌||◌, find, nat_le, if◌then◌else◌, sum_by};
 ghost use Rattle.std.specs.Option.{option_or};
 ghost use Rattle.mq_frame.specs.declared.message.Id.{Id};
 ghost use Rattle.mq_frame.specs.declared.message.Request.{Request as AnyRequest};
-ghost use Rattle.mq_frame.specs.Range.{IsRequest, IsReply, IsAmount};
+ghost use Rattle.mq_frame.specs.Range.{IsRequest, IsReply, IsAmount, IsMoment};
 ghost use Rattle.mq_ledger.specs.declared.entry.Entry.{Entry as AnyEntry};
 ghost use Rattle.mq_ledger.specs.Answer.{answer, stored, reply, with_arrival, history_of};
 ghost use Rattle.mq_ledger.specs.Arrivals.{id_of, has_id, first, is_first};
-ghost use Rattle.mq_ledger.specs.Day.{IsOffset, IsDayRule, day_of};
+ghost use Rattle.mq_ledger.specs.Day.{ByOffset, ByRule, IsOffset, IsZone, IsDayRule, clock, limited, day_of};
+ghost use Rattle.mq_ledger.specs.Day.{central_europe};
+ghost use Rattle.mq_ledger.specs.declared.zone.Zone.{Zone as AnyZone};
 ghost use Rattle.mq_ledger.specs.History.{requests, Transaction, same_transaction, is_of, named, agrees, closes};
 ghost use Rattle.mq_ledger.specs.History.{closed, granted, counted, held, settled_in, settled_of, reserved, settled};
 ghost use Rattle.mq_ledger.specs.History.{used, gained, freed};
@@ -71,15 +77,44 @@ pub fn number_keeps_its_reply()
         ≡ reply day default (history_of day default A) r }
 {}
 
-/// The days of an offset are in range, and so are all replies to requests in range.
+/// The days of a zone are in range, and so are all replies to requests in range.
 pub fn replies_in_range()
-    ensures days { (minutes : ℤ) → IsOffset minutes → IsDayRule (day_of minutes) }
+    ensures days { (zone : AnyZone) → IsZone zone → IsDayRule (day_of zone) }
     ensures replies { (day : ℕ → ℕ) (default : ℕ) (H : List AnyEntry) (r : AnyRequest) →
         IsAmount default → IsDayRule day → IsLegal day default H → IsRequest r →
         IsReply (reply day default H r) }
     ensures stored { (day : ℕ → ℕ) (default : ℕ) (H : List AnyEntry) →
         IsAmount default → IsDayRule day → IsLegal day default H →
         All (λ e. IsReply e.reply) H }
+{}
+
+/// At an offset the day of a moment is the floor of the clock's seconds over 86,400.
+pub fn day_is_the_floor()
+    ensures { (minutes : ℤ) (at : ℕ) → IsOffset minutes → IsMoment at →
+        (pos (86400 * day_of (ByOffset minutes) at) ≤ℤ clock minutes at)
+        × (clock minutes at <ℤ pos (86400 * (day_of (ByOffset minutes) at + 1))) }
+{}
+
+/// With a rule the day of a moment is that of the civil date that `jiff` shows: in whatever zone it
+/// reads from the rule's text, at that instant, the day number of the date, limited.
+pub fn day_of_the_civil_date()
+    ensures { (text : List ℕ) (zone : AnyTimeZone) (at : ℕ) (shown : AnyDateTime) →
+        IsPosixZone text zone →
+        civil_nanos shown ≡ nanos_of_seconds (pos at)
+        +ℤ nanos_of_seconds (offset_at zone (nanos_of_seconds (pos at))) →
+        day_of (ByRule text) at ≡ limited (epoch_day shown.date) }
+{}
+
+/// Days of Central Europe: in winter, in summer, and around a day of 23 hours.
+pub fn days_of_central_europe()
+    ensures winter { (day_of central_europe 1576105199 ≡ 18241)
+        × (day_of central_europe 1576105200 ≡ 18242) }
+    ensures summer { (day_of central_europe 1593554399 ≡ 18443)
+        × (day_of central_europe 1593554400 ≡ 18444) }
+    ensures short { (day_of central_europe 1585436399 ≡ 18349)
+        × (day_of central_europe 1585436400 ≡ 18350)
+        × (day_of central_europe 1585519199 ≡ 18350)
+        × (day_of central_europe 1585519200 ≡ 18351) }
 {}
 
 /// The day that `Over` names is the least of all days from the from-day on on which more is used

@@ -65,8 +65,8 @@ pub trait Ledger {
     ghost is_sound: { Self → Type 0 };
 
     /// What its days go by.
-    fn zone(&self) -> Zone
-        ensures { result ≡ (book self.now).zone };
+    fn zone(&self) -> &Zone
+        ensures { result.now ≡ (book self.now).zone };
 
     /// The limit of a login that has none for a day: recipients, 0 to 1,000,000.
     fn default_cap(&self) -> u32

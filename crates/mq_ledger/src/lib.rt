@@ -12,4 +12,4 @@ mod zone;
 pub use entry::Entry;
 pub use ledger::{Ledger, LedgerFault, Told};
 pub use plain::PlainLedger;
-pub use zone::{BadOffset, Zone};
+pub use zone::{BadOffset, RuleFault, Zone};

@@ -115,8 +115,8 @@ impl Ledger for PlainLedger {
 
     ghost sound_is_legal = { λ _ sound. sound };
 
-    fn zone(&self) -> Zone {
-        self.zone
+    fn zone(&self) -> &Zone {
+        &self.zone
     }
 
     fn default_cap(&self) -> u32 {

@@ -1,14 +1,15 @@
 -- How a subcommand ends where a word of it is at fault.
-use Rattle.std.proofs.Common.{◌≡◌, ℕ, List, Option, None, Some, Result, Ok, Err, sym, ap, ◌∙◌}
+use Rattle.std.proofs.Common.{◌≡◌, ℕ, List, Option, None, Some, Result, Ok, Err, refl, sym, ap, ◌∙◌}
 use Rattle.std.specs.Prelude.{IfSome}
 use Rattle.std.specs.Borrow.{Bor}
 use Rattle.mq_frame.specs.Range.{IsLogin}
-use Rattle.mq_program.specs.Refusals.{Refuses}
+use Rattle.mq_ledger.specs.declared.zone.Zone.{Zone}
+use Rattle.mq_program.specs.Refusals.{IsRuleAlone, IsZoneOf, Refuses}
 use Rattle.mq_program.specs.Faults.{fault_status}
 use Rattle.mq_arguments.specs.declared.Arguments.{Arguments}
 use Rattle.mq_arguments.specs.declared.Arguments.TheVariants.{Replay, Filter, Server, Limit, Report, Audit}
 use Rattle.mq_program.specs.declared.fault.ProgramFault.{ProgramFault}
-use Rattle.mq_program.specs.declared.fault.ProgramFault.TheVariants.{Host, Login, Address}
+use Rattle.mq_program.specs.declared.fault.ProgramFault.TheVariants.{Host, Login, Address, Rule}
 
 -- the status of a subcommand that ended so
 abbrev status_in : Result ℕ ProgramFault → ℕ
@@ -21,9 +22,22 @@ for_login : (login : Option (Bor (List ℕ))) (A B : Type 0) → (A → B) → I
 for_login None A B step given = given
 for_login (Some text) A B step given = λ no. step (given no)
 
+-- what follows for a rule that is at fault
+for_rule : (rule : Option (Bor (List ℕ))) (east west : ℕ) (A B : Type 0) → (A → B) → IfSome rule (λ text. ¬ IsRuleAlone east west text.now → A)
+    → IfSome rule (λ text. ¬ IsRuleAlone east west text.now → B)
+for_rule None east west A B step given = given
+for_rule (Some text) east west A B step given = λ no. step (given no)
+
+-- a zone that is refused is a rule that is at fault; one that isn't, is none
+pub zone_refused : (rule : Option (Bor (List ℕ))) (east west : ℕ) (zone : Result Zone ProgramFault) (ended : Result ℕ ProgramFault) → IsZoneOf east west rule zone
+    → ((fault : ProgramFault) → zone ≡ Err fault → ended ≡ Err fault) → IfSome rule (λ text. ¬ IsRuleAlone east west text.now → ended ≡ Err Rule)
+zone_refused None east west zone ended is refused = tt
+zone_refused (Some text) east west (Ok zone) ended is refused = λ no. absurd (no is.1)
+zone_refused (Some text) east west (Err fault) ended is refused = λ no. refused fault refl ∙ ap Err is.0
+
 -- another way to say how it ends
 for_refusals : (given : Arguments) (A B : ProgramFault → Type 0) → ((fault : ProgramFault) → A fault → B fault) → Refuses given A → Refuses given B
-for_refusals (Replay given) A B step refuses = refuses
+for_refusals (Replay given) A B step refuses = for_rule given.rule given.east given.west (A Rule) (B Rule) (step Rule) refuses
 for_refusals (Filter given) A B step refuses = refuses
 for_refusals (Server given) A B step refuses = refuses
 for_refusals (Audit given) A B step refuses = refuses

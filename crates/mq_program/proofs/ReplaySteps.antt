@@ -1,12 +1,13 @@
 -- What a replay over connections says of a text.
-use Rattle.std.proofs.Common.{◌≡◌, ℕ, ℤ, List, Option, None, Result, Ok, Err}
+use Rattle.std.proofs.Common.{◌≡◌, ℕ, List, Option, None, Result, Ok, Err}
+use Rattle.mq_ledger.specs.declared.zone.Zone.{Zone}
 use Rattle.mq_command.specs.Connections.{connections_of, first_not_hex}
 use Rattle.mq_command.specs.Replay.{Replays, ReplaysOver}
 use Rattle.mq_command.specs.declared.replay.ReplayFault.{ReplayFault}
 use Rattle.mq_command.specs.declared.replay.ReplayFault.TheVariants.{Text, Serve, Connection, Output}
 
 -- the connections of a text were answered
-pub of_text : (zone : ℤ) (default : ℕ) (text : List ℕ) (connections : List (List ℕ)) (old new : Option (List ℕ)) (ended : Result (Unit {0}) ReplayFault)
+pub of_text : (zone : Zone) (default : ℕ) (text : List ℕ) (connections : List (List ℕ)) (old new : Option (List ℕ)) (ended : Result (Unit {0}) ReplayFault)
     → first_not_hex text ≡ None → connections ≡ connections_of text → ReplaysOver zone default connections old new ended
     → Replays zone default text old new ended
 of_text zone default text connections old new (Ok u) hex is (written, all, replay, printed) =

@@ -3,7 +3,7 @@ use Rattle.std.specs.Prelude.{ℕ}
 use Rattle.std.specs.declared.io.ErrorKind.{ErrorKind}
 use Rattle.std.specs.declared.io.ErrorKind.TheVariants as kind
 use Rattle.mq_program.specs.declared.fault.ProgramFault.{ProgramFault}
-use Rattle.mq_program.specs.declared.fault.ProgramFault.TheVariants.{Words, Host, Login, Address, Memory}
+use Rattle.mq_program.specs.declared.fault.ProgramFault.TheVariants.{Words, Host, Login, Address, Rule, Memory}
 
 -- 2 where the words are at fault, else 1
 abbrev pub fault_status : ProgramFault → ℕ
@@ -11,6 +11,7 @@ fault_status Words = 2
 fault_status Host = 2
 fault_status Login = 2
 fault_status Address = 2
+fault_status Rule = 2
 fault_status _ = 1
 
 -- want of memory goes before any other fault

@@ -1,22 +1,24 @@
 -- What is refused of the words of a command line and of a filter's and a server's settings.
-use Rattle.std.specs.Prelude.{ℕ, List, ◌≤◌, ◌≤ℤ◌, pos, negsuc, IfSome, ⊤}
+use Rattle.std.specs.Prelude.{◌≡◌, ℕ, List, pos, ◌-ℤ◌, Option, None, Some, Result, Ok, IfSome, MatchResult, ⊤}
+use Rattle.std.specs.Borrow.{Bor}
 use Rattle.std.specs.Net.Grammar.{IsSocketText}
 use Rattle.std.specs.declared.net.SocketAddr.{SocketAddr}
 use Rattle.mq_frame.specs.Range.{IsHost, IsLogin, IsAmount, IsWithin}
+use Rattle.mq_ledger.specs.declared.zone.Zone.{Zone}
+use Rattle.mq_ledger.specs.Day.{ByOffset, ByRule, IsRule}
+use Rattle.mq_arguments.specs.declared.ReplayArguments.{ReplayArguments}
 use Rattle.mq_arguments.specs.declared.LimitArguments.{LimitArguments}
 use Rattle.mq_arguments.specs.declared.ReportArguments.{ReportArguments}
 use Rattle.mq_arguments.specs.declared.Arguments.{Arguments}
-use Rattle.mq_arguments.specs.declared.Arguments.TheVariants.{Limit, Report}
+use Rattle.mq_arguments.specs.declared.Arguments.TheVariants.{Replay, Limit, Report}
 use Rattle.mq_program.specs.declared.fault.ProgramFault.{ProgramFault}
-use Rattle.mq_program.specs.declared.fault.ProgramFault.TheVariants.{Host, Login, Address}
+use Rattle.mq_program.specs.declared.fault.ProgramFault.TheVariants.{Host, Login, Address, Rule}
 use Rattle.mq_settings.specs.declared.settings.FilterSettings.{FilterSettings}
 use Rattle.mq_settings.specs.declared.settings.ServerSettings.{ServerSettings}
 
--- a limit of 0 to 1,000,000 and an offset of -1,439 to 1,439 minutes, from a file of settings
+-- a limit of 0 to 1,000,000, from a file of settings
 pub record AreInRange (settings : ServerSettings) : Type 0 where
   pub default : IsAmount settings.default
-  pub west : negsuc 1438 ≤ℤ settings.offset
-  pub east : settings.offset ≤ℤ pos 1439
 
 -- a host's name and 1 to 10 tries, from a file of settings
 pub record CanAsk (settings : FilterSettings) : Type 0 where
@@ -38,8 +40,30 @@ pub record ReportRefuses (given : ReportArguments) (EndsBy : ProgramFault → Ty
   pub login : IfSome given.login (λ login. ¬ IsLogin login.now → EndsBy Login)
   pub address : IfSome given.login (λ login. IsLogin login.now) → IsNoAddress given.server.now → EndsBy Address
 
+-- a zone rule, and no minutes beside it
+pub record IsRuleAlone (east west : ℕ) (text : List ℕ) : Type 0 where
+  pub rule : IsRule text
+  pub no_east : east ≡ 0
+  pub no_west : west ≡ 0
+
+-- the zone of a rule that stands alone
+abbrev pub IsZoneByRule : ℕ → ℕ → List ℕ → Result Zone ProgramFault → Type 0
+IsZoneByRule east west text r =
+    MatchResult r (λ zone. (zone ≡ ByRule text) × IsRuleAlone east west text)
+    (λ fault. (fault ≡ Rule) × ¬ IsRuleAlone east west text)
+
+-- the zone that `replay` is given: the minutes east less those west, or a rule
+abbrev pub IsZoneOf : ℕ → ℕ → Option (Bor (List ℕ)) → Result Zone ProgramFault → Type 0
+IsZoneOf east west None r = r ≡ Ok (ByOffset (pos east -ℤ pos west))
+IsZoneOf east west (Some text) r = IsZoneByRule east west text.now r
+
+-- how `replay` ends where its rule is at fault
+abbrev pub ReplayRefuses : ReplayArguments → (ProgramFault → Type 0) → Type 0
+ReplayRefuses given EndsBy = IfSome given.rule (λ text. ¬ IsRuleAlone given.east given.west text.now → EndsBy Rule)
+
 -- how a subcommand ends where a word of it is at fault
 abbrev pub Refuses : Arguments → (ProgramFault → Type 0) → Type 0
+Refuses (Replay given) EndsBy = ReplayRefuses given EndsBy
 Refuses (Limit given) EndsBy = LimitRefuses given EndsBy
 Refuses (Report given) EndsBy = ReportRefuses given EndsBy
 Refuses _ EndsBy = ⊤

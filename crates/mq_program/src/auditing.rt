@@ -53,9 +53,14 @@ fn audit_file<W: Write>(
         Place::File(path) => path.as_str(),
     };
     let logged = Logged::new(rt, settings.log, Console(rt));
-    let zone = Zone::of_offset(settings.offset).unwrap();
     let connection = connect(rt, &logged, path, false)?;
-    audit_whole(rt.alloc(), connection, zone, settings.default, output)
+    audit_whole(
+        rt.alloc(),
+        connection,
+        settings.zone,
+        settings.default,
+        output,
+    )
 }
 
 /// Opens the ledger in a database, audits it and lets it go; the status is 0. `default` is 0 to 1,000,000. It goes over any

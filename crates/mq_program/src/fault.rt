@@ -28,6 +28,9 @@ pub enum ProgramFault {
     Login,
     #[error("bad address")]
     Address,
+    /// No zone rule of 1 to 64 bytes, or minutes east or west beside it.
+    #[error("bad rule")]
+    Rule,
     #[error("read failed")]
     Read,
     #[error("write failed")]
@@ -71,7 +74,8 @@ impl ProgramFault {
             ProgramFault::Words
             | ProgramFault::Host
             | ProgramFault::Login
-            | ProgramFault::Address => 2,
+            | ProgramFault::Address
+            | ProgramFault::Rule => 2,
             _ => 1,
         }
     }

@@ -1,14 +1,15 @@
 //! `replay`: answers frames from standard input over a new ledger.
-ghost use Rattle.std.specs.Prelude.{◌≡◌, Result as AResult, map};
+ghost use Rattle.std.specs.Prelude.{◌≡◌, Err, Result as AResult, map};
 ghost use Rattle.mq_arguments.specs.Arguments.{IsReplayArguments};
 ghost use Rattle.mq_frame.specs.Range.{IsAmount};
 ghost use Rattle.mq_command.specs.Replay.{Replays, ReplaysOver, status_of};
 ghost use Rattle.mq_command.specs.declared.replay.ReplayFault.{ReplayFault as AReplayFault};
+ghost use Rattle.mq_program.specs.Refusals.{IsZoneByRule, IsZoneOf, ReplayRefuses};
 
 use crate::fault::{ProgramFault, or_memory};
 use mq_arguments::ReplayArguments;
 use mq_command::{ReplayFault, TEXT_LIMIT, read_connections, replay_over};
-use mq_ledger::{PlainLedger, Zone};
+use mq_ledger::{PlainLedger, RuleFault, Zone};
 use mq_server::ServeFault;
 use mq_store::{OpenFault, SqlLedger};
 use std::alloc::Global;
@@ -118,16 +119,58 @@ pub fn run_replay<W: Write, E: Write>(
     }
 }
 
-/// `replay`: from standard input to standard output.
+/// The zone of a rule that stands alone.
+fn zone_by_rule(text: &str, east: u32, west: u32) -> Result<Zone, ProgramFault>
+    ensures { IsZoneByRule east west text.now result }
+{
+    if east != 0 || west != 0 {
+        return Err(ProgramFault::Rule);
+    }
+    match Zone::of_rule(text) {
+        Ok(zone) => Ok(zone),
+        Err(RuleFault::Rule) => Err(ProgramFault::Rule),
+        Err(RuleFault::Memory) => Err(ProgramFault::Memory),
+    }
+}
+
+/// The zone that the words name: a rule, or the minutes east less those west.
+fn zone_of(given: ReplayArguments<'_>) -> Result<Zone, ProgramFault>
+    requires { IsReplayArguments given }
+    ensures { IsZoneOf given.entry.east given.entry.west given.entry.rule result }
+{
+    match given.rule {
+        Some(text) => zone_by_rule(text, given.east, given.west),
+        None => Ok(Zone::of_offset(given.east as i32 - given.west as i32).unwrap()),
+    }
+}
+
+/// `replay`: from standard input to standard output. A rule that is at fault is refused before any input
+/// is read.
 pub fn replay<R: Input + Print + AllocGlobal, E: Write>(
     rt: &R,
-    given: ReplayArguments,
+    given: ReplayArguments<'_>,
+    errors: &mut E,
+) -> Result<u8, ProgramFault>
+    requires { IsReplayArguments given }
+    ensures { ReplayRefuses given.entry (λ fault. result ≡ Err fault) }
+{
+    match zone_of(given) {
+        Ok(zone) => replay_input(rt, given, zone, errors),
+        Err(fault) => Err(fault),
+    }
+}
+
+/// Answers what is on standard input.
+fn replay_input<R: Input + Print + AllocGlobal, E: Write>(
+    rt: &R,
+    given: ReplayArguments<'_>,
+    zone: Zone,
     errors: &mut E,
 ) -> Result<u8, ProgramFault>
     requires { IsReplayArguments given }
 {
     let text = read_text(rt)?;
-    print_replay(rt, text.as_slice(), given, errors)
+    print_replay(rt, text.as_slice(), given, zone, errors)
 }
 
 /// The text on standard input, or a front of it that is too large.
@@ -147,12 +190,12 @@ fn read_text<R: Input + AllocGlobal>(rt: &R) -> Result<Vec<u8>, ProgramFault> {
 fn print_replay<R: Print + AllocGlobal, E: Write>(
     rt: &R,
     text: &[u8],
-    given: ReplayArguments,
+    given: ReplayArguments<'_>,
+    zone: Zone,
     errors: &mut E,
 ) -> Result<u8, ProgramFault>
     requires { IsReplayArguments given }
 {
-    let zone = Zone::of_offset(given.offset).unwrap();
     let mut output = BufWriter::new(rt.alloc(), io::writer(rt)).map_err(|_| ProgramFault::Memory)?;
     Ok(run_replay(
         rt.alloc(),

@@ -8,7 +8,7 @@ use crate::store::{connect, ledger_over, memory_ledger};
 use log::sink::Console;
 use log::{Log, Logged, error, info};
 use mq_arguments::ServerArguments;
-use mq_ledger::{Ledger, Zone};
+use mq_ledger::Ledger;
 use mq_room::serve_connections;
 use mq_settings::{Place, ServerSettings, read_file, read_server_settings};
 use sqlite::{Alter, Connection};
@@ -63,8 +63,7 @@ fn listen_in_memory<G: Log>(
 ) -> Result<u8, ProgramFault>
     requires { AreInRange settings.now }
 {
-    let zone = Zone::of_offset(settings.offset).unwrap();
-    let mut ledger = memory_ledger(rt.alloc(), zone, settings.default)?;
+    let mut ledger = memory_ledger(rt.alloc(), settings.zone, settings.default)?;
     listen(rt, log, rt.alloc(), settings, &mut ledger, connections)
 }
 
@@ -80,8 +79,13 @@ fn listen_over<G: Log, S: Alter + Drop>(
 ) -> Result<u8, ProgramFault>
     requires { AreInRange settings.now }
 {
-    let zone = Zone::of_offset(settings.offset).unwrap();
-    let mut ledger = ledger_over(rt.alloc(), connection, create, zone, settings.default)?;
+    let mut ledger = ledger_over(
+        rt.alloc(),
+        connection,
+        create,
+        settings.zone,
+        settings.default,
+    )?;
     listen(rt, log, rt.alloc(), settings, &mut ledger, connections)
 }
 

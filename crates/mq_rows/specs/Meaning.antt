@@ -4,6 +4,7 @@ use Rattle.std.specs.List.{filter_map}
 use Rattle.mq_frame.specs.Reading.{request_at}
 use Rattle.mq_frame.specs.declared.message.Request.{Request}
 use Rattle.mq_ledger.specs.declared.entry.Entry.{Entry}
+use Rattle.mq_ledger.specs.declared.zone.Zone.{Zone}
 use Rattle.mq_ledger.specs.Answer.{build}
 use Rattle.mq_ledger.specs.Day.{day_of}
 use Rattle.mq_ledger.specs.Legal.{Book, IsLegalBook}
@@ -19,11 +20,11 @@ abbrev pub history_in : (ℕ → ℕ) → ℕ → List AnswerRecord → List Ent
 history_in day default answers = build day default (requests_in answers)
 
 -- the zone, the default limit and that history
-abbrev pub meaning : ℤ → ℕ → List AnswerRecord → Book
+abbrev pub meaning : Zone → ℕ → List AnswerRecord → Book
 meaning zone default answers =
     record { zone = zone; default = default; history = history_in (day_of zone) default answers }
 
 -- the tables mean a legal history, and they are its rows
-pub record AreSound (zone : ℤ) (default : ℕ) (t : Tables) : Type 0 where
+pub record AreSound (zone : Zone) (default : ℕ) (t : Tables) : Type 0 where
   pub legal : IsLegalBook (meaning zone default t.answers)
   pub rows : AreRows (meaning zone default t.answers) t

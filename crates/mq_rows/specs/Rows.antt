@@ -2,7 +2,7 @@
 --
 -- `day` gives the day of a moment. A table but the answers has at most one row under a key, and the
 -- rule gives the row of each key, where there is one.
-use Rattle.std.specs.Prelude.{ℕ, List, [], map, length, Bool, ◌==◌, ◌&&◌, if◌then◌else◌, Option, Some, None}
+use Rattle.std.specs.Prelude.{◌≡◌, ℕ, List, [], map, length, Bool, true, ◌==◌, ◌&&◌, if◌then◌else◌, Option, Some, None}
 use Rattle.std.specs.Prelude.{option_map, unwrap_or}
 use Rattle.std.specs.List.{enumerate_from}
 use Rattle.mq_frame.specs.declared.message.Id.{Id}
@@ -11,7 +11,9 @@ use Rattle.mq_frame.specs.declared.message.Request.TheVariants.{Reserve, Settle,
 use Rattle.mq_frame.specs.Same.{same_text}
 use Rattle.mq_frame.specs.Spelling.{request_body, reply_body}
 use Rattle.mq_ledger.specs.declared.entry.Entry.{Entry}
+use Rattle.mq_ledger.specs.declared.zone.Zone.{Zone}
 use Rattle.mq_ledger.specs.Arrivals.{id_of}
+use Rattle.mq_ledger.specs.Day.{ByOffset, ByRule, minutes_in, rule_in}
 use Rattle.mq_ledger.specs.History.{Transaction, same_transaction, named, closed, held, settled_in, settled, reserved}
 use Rattle.mq_ledger.specs.Legal.{Book}
 use Rattle.mq_ledger.specs.Limits.{set_cap}
@@ -22,9 +24,29 @@ use Rattle.mq_rows.specs.declared.record.TransactionRecord.{TransactionRecord}
 use Rattle.mq_rows.specs.declared.record.UsageRecord.{UsageRecord}
 use Rattle.mq_rows.specs.declared.record.CeilingRecord.{CeilingRecord}
 
--- setting: version 1, the zone, the default limit, and the length of the history
-abbrev pub setting_row : Book → SettingRecord
-setting_row b = record { version = 1; minutes = b.zone; cap = b.default; arrivals = length b.history }
+-- the version of the tables that a ledger is made with: 1 with an offset, 2 with a rule
+abbrev pub version_of : Zone → ℕ
+version_of (ByOffset minutes) = 1
+version_of (ByRule text) = 2
+
+-- whether tables of this version may be those of a ledger that goes by this zone
+abbrev pub is_version : Zone → ℕ → Bool
+is_version zone version = version == version_of zone
+
+-- setting: the version of the tables, what a store keeps of the zone, the default limit, and the length of the history
+abbrev pub setting_row : ℕ → Book → SettingRecord
+setting_row version b = record {
+  version = version;
+  minutes = minutes_in b.zone;
+  cap = b.default;
+  arrivals = length b.history;
+  rule = rule_in b.zone;
+}
+
+-- the row is that of the book, in a version that tables of its zone may have
+pub record IsSetting (b : Book) (s : SettingRecord) : Type 0 where
+  pub row : s ≡ setting_row s.version b
+  pub version : is_version b.zone s.version ≡ true
 
 -- the number of a request; every request of a history has one
 abbrev pub number_of : Request → Id

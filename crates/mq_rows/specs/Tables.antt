@@ -1,4 +1,4 @@
--- The five tables, and when they are the rows of a history.
+-- The tables, and when they are the rows of a history.
 use Rattle.std.specs.Prelude.{◌≡◌, ℕ, List, [], ◌∷◌, filter, Option, Some, None}
 use Rattle.mq_ledger.specs.declared.entry.Entry.{Entry}
 use Rattle.mq_ledger.specs.Day.{day_of}
@@ -9,10 +9,11 @@ use Rattle.mq_rows.specs.declared.record.AnswerRecord.{AnswerRecord}
 use Rattle.mq_rows.specs.declared.record.TransactionRecord.{TransactionRecord}
 use Rattle.mq_rows.specs.declared.record.UsageRecord.{UsageRecord}
 use Rattle.mq_rows.specs.declared.record.CeilingRecord.{CeilingRecord}
-use Rattle.mq_rows.specs.Rows.{setting_row, answer_rows, transaction_row, usage_row, ceiling_row, is_transaction}
+use Rattle.mq_rows.specs.Rows.{IsSetting, answer_rows, transaction_row, usage_row, ceiling_row, is_transaction}
 use Rattle.mq_rows.specs.Rows.{is_usage, is_ceiling}
 
--- the tables' rows: the answers in the order of n, the rows of the last three in any order
+-- the tables' rows: that of the settings with the rule, which has a table of its own from version 2 on; the answers in the
+-- order of n; the rows of the last three in any order
 pub record Tables : Type 0 where
   pub setting : SettingRecord
   pub answers : List AnswerRecord
@@ -39,7 +40,7 @@ AreCeilings H rows = (l : List ℕ) (d : ℕ) → filter (is_ceiling l d) rows �
 
 -- the tables are the rows of the history, with its zone and its default limit
 pub record AreRows (b : Book) (t : Tables) : Type 0 where
-  pub setting : t.setting ≡ setting_row b
+  pub setting : IsSetting b t.setting
   pub answers : t.answers ≡ answer_rows b.history
   pub transactions : AreTransactions (day_of b.zone) b.history t.transactions
   pub usage : AreUsage (day_of b.zone) b.history t.usage

@@ -3,14 +3,14 @@ use Rattle.std.specs.Prelude.{◌≡◌, [], ◌∷◌, ◌++◌}
 use Rattle.mq_ledger.specs.Day.{day_of}
 use Rattle.mq_ledger.specs.Legal.{Book}
 use Rattle.mq_rows.specs.declared.plan.Plan.{Plan}
-use Rattle.mq_rows.specs.Rows.{setting_row, answer_rows}
+use Rattle.mq_rows.specs.Rows.{IsSetting, answer_rows}
 use Rattle.mq_rows.specs.Tables.{Tables, AreTransactions, AreUsage, AreCeilings}
 use Rattle.mq_rows.specs.Plan.{Leads, same_key, set_transaction, same_day, set_usage, same_from, set_ceiling}
 
 -- With the planned answer behind the others, the count of answers set and the planned writes made,
 -- the tables are the rows of the book.
 pub record LeadTo (b : Book) (t : Tables) (p : Plan) : Type 0 where
-  pub setting : record t.setting { arrivals = p.arrivals } ≡ setting_row b
+  pub setting : IsSetting b (record t.setting { arrivals = p.arrivals })
   pub answers : t.answers ++ p.answer ∷ [] ≡ answer_rows b.history
   pub transactions :
       Leads same_key set_transaction p.transaction t.transactions (AreTransactions (day_of b.zone) b.history)

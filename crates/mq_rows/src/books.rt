@@ -41,7 +41,7 @@ fn is_moment_of(zone: Zone, day: i64, moment: i64) -> bool
     let Ok(at) = u64::try_from(moment) else {
         return false;
     };
-    is_moment(at) && i64::from(zone.day(at)) == day
+    is_moment(at) && i64::from(zone.day_at(at)) == day
 }
 
 impl Sums {

@@ -13,7 +13,8 @@ ghost use Rattle.mq_frame.specs.Spelling.{SpellsRequest, SpellsReply};
 ghost use Rattle.mq_ledger.specs.declared.entry.Entry.{Entry as AnyEntry};
 ghost use Rattle.mq_ledger.specs.Answer.{answer, appended, build, reply, stored};
 ghost use Rattle.mq_ledger.specs.Arrivals.{id_of, first};
-ghost use Rattle.mq_ledger.specs.Day.{IsOffset, IsDayRule, day_of};
+ghost use Rattle.mq_ledger.specs.Day.{IsZone, IsDayRule, day_of};
+ghost use Rattle.mq_ledger.specs.declared.zone.Zone.{Zone as AnyZone};
 ghost use Rattle.mq_ledger.specs.History.{Transaction, requests};
 ghost use Rattle.mq_ledger.specs.Legal.{Book, IsLegal, IsLegalBook};
 ghost use Rattle.mq_ledger.specs.Page.{row, page};
@@ -22,7 +23,7 @@ ghost use Rattle.mq_rows.specs.declared.record.TransactionRecord.{TransactionRec
 ghost use Rattle.mq_rows.specs.declared.record.UsageRecord.{UsageRecord};
 ghost use Rattle.mq_rows.specs.declared.record.CeilingRecord.{CeilingRecord};
 ghost use Rattle.mq_rows.specs.declared.plan.Found.{Found};
-ghost use Rattle.mq_rows.specs.Rows.{setting_row, answer_row, answer_rows, transaction_row, usage_row, ceiling_row};
+ghost use Rattle.mq_rows.specs.Rows.{setting_row, version_of, answer_row, answer_rows, transaction_row, usage_row, ceiling_row};
 ghost use Rattle.mq_rows.specs.Rows.{is_transaction, is_usage, is_ceiling};
 ghost use Rattle.mq_rows.specs.Tables.{Tables, AreTransactions, AreUsage, AreCeilings, AreRows};
 ghost use Rattle.mq_rows.specs.Meaning.{meaning, AreSound};
@@ -215,9 +216,9 @@ pub fn rows_mean_their_history()
         meaning b.zone b.default t.answers ≡ b }
     ensures sound { (b : Book) (t : Tables) → IsLegalBook b → AreRows b t →
         AreSound b.zone b.default t }
-    ensures new { (zone : ℤ) (default : ℕ) → IsOffset zone → IsAmount default →
+    ensures new { (zone : AnyZone) (default : ℕ) → IsZone zone → IsAmount default →
         AreSound zone default (record {
-          setting = setting_row (record { zone = zone; default = default; history = [] });
+          setting = setting_row (version_of zone) (record { zone = zone; default = default; history = [] });
           answers = [];
           transactions = [];
           usage = [];

@@ -19,9 +19,8 @@ pub use audited::{Audit, LimitFigures, Pair, TransactionFigures, UsageFigures};
 pub use auditing::audit;
 pub use body::Body;
 pub use plan::{Found, Plan, Write};
-pub use record::{
-    AnswerRecord, CeilingRecord, SettingRecord, TransactionRecord, UsageRecord, VERSION,
-};
+pub use record::{AnswerRecord, CeilingRecord, SettingRecord, TransactionRecord, UsageRecord};
 pub use repeat::stored_reply;
+pub use setting::version_of;
 pub use usage::{page_row, usage_reply};
 pub use write::decide;

@@ -2,20 +2,20 @@
 use crate::body::Body;
 use mq_frame::{Host, Id, Login};
 
-/// The version of the tables.
-pub const VERSION: u32 = 1;
-
-/// The one row of `setting`: what the ledger goes by, and how many requests it has answered.
-#[derive(Clone, Copy, Debug)]
+/// The one row of `setting`, and with it that of `rule`: what the ledger goes by, and how many
+/// requests it has answered.
+#[derive(Debug, Drop)]
 pub struct SettingRecord {
-    /// The version of the tables.
+    /// The version of the tables: `version_of` of the ledger's zone.
     pub version: u32,
-    /// The minutes of the ledger's zone east of UTC, -1,439 to 1,439.
+    /// The minutes of the ledger's zone east of UTC, -1,439 to 1,439; 0 with a rule.
     pub minutes: i32,
     /// The limit of a login that has none for a day: recipients, 0 to 1,000,000.
     pub cap: u32,
     /// The numbered requests that were answered: the rows of `answer`.
     pub arrivals: u64,
+    /// The text of the zone's rule, where there is one: the row of `rule`, a table of version 2.
+    pub rule: Option<Body>,
 }
 
 /// A row of `answer`: a numbered request and the reply that its number keeps.

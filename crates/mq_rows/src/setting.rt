@@ -1,20 +1,15 @@
-ghost use Rattle.std.specs.Prelude.{◌≡◌, []};
-ghost use Rattle.mq_rows.specs.Rows.{setting_row};
+ghost use Rattle.std.specs.Prelude.{◌≡◌};
+ghost use Rattle.mq_rows.specs.Rows.{version_of};
 
-use crate::record::{SettingRecord, VERSION};
 use mq_ledger::Zone;
 
-impl SettingRecord {
-    /// The row of a ledger that has answered nothing. The default is the limit of a login that has
-    /// none for a day: recipients, 0 to 1,000,000.
-    pub fn new(zone: Zone, default: u32) -> SettingRecord
-        ensures { result ≡ setting_row (record { zone = zone; default = default; history = [] }) }
-    {
-        SettingRecord {
-            version: VERSION,
-            minutes: zone.minutes(),
-            cap: default,
-            arrivals: 0,
-        }
+/// The version of the tables that a ledger of this zone is made with: 1 with an offset, and 2 with a
+/// rule, which has a table of its own.
+pub fn version_of(zone: &Zone) -> u32
+    ensures { result ≡ version_of zone.now }
+{
+    match zone.rule() {
+        None => 1,
+        Some(_) => 2,
     }
 }

@@ -105,7 +105,7 @@ fn transaction_write(
     };
     match row {
         None => {
-            let row = fresh(zone.day(at), id, txn, at, login)?;
+            let row = fresh(zone.day_at(at), id, txn, at, login)?;
             Ok(Write::Insert(moved(count, reply, row)))
         }
         Some(row) if moves(reply) => Ok(Write::Update(moved(count, reply, row))),
@@ -176,7 +176,7 @@ fn usage_write(
                 ..
             },
             Reply::Granted { .. },
-        ) => { reserved_more(login, zone.day(*at), *count, row) }
+        ) => { reserved_more(login, zone.day_at(*at), *count, row) }
         (Request::Settle { count, .. }, Reply::Settled { .. }) => Ok(freed(*count, held, row)),
         (Request::Release { .. }, Reply::Released { .. }) => Ok(freed(0, held, row)),
         _ => Ok(Write::Keep),

@@ -4,8 +4,9 @@ use Rattle.std.specs.Prelude.{IfErr}
 use Rattle.std.specs.Result.{IsErrAnd}
 use Rattle.std.specs.declared.net.SocketAddr.{SocketAddr}
 use Rattle.toml.specs.Data.{Members}
+use Rattle.mq_ledger.specs.declared.zone.Zone.{Zone}
 use Rattle.mq_settings.specs.Keys.{filter_keys, server_keys, HasOnly}
-use Rattle.mq_settings.specs.Settings.{Spells, IsTableRefusal, memory, IsHostAt, IsAddressAt, tries_at, timeout_at, default_at, offset_at, IsPlaceAt, level_at, IsFilterRefusal, IsServerRefusal}
+use Rattle.mq_settings.specs.Settings.{Spells, IsTableRefusal, memory, IsHostAt, IsAddressAt, tries_at, timeout_at, default_at, IsZoneAt, IsPlaceAt, level_at, IsFilterRefusal, IsServerRefusal}
 use Rattle.mq_settings.specs.declared.settings.key.Key.TheVariants.{Server, Listen}
 use Rattle.mq_settings.specs.declared.settings.value.Place.{Place}
 use Rattle.mq_settings.specs.declared.settings.fault.SettingsFault.{SettingsFault}
@@ -67,14 +68,14 @@ pub server_at_default : (text : List ℕ) (table : Members) (listen : SocketAddr
     → IsAddressAt Listen table (Ok listen) → IsPlaceAt table (Ok store) → default_at table ≡ Err e → IsServerRefusal text e
 server_at_default text table listen store e spells names l s bad = inr (table, spells, names, inr (listen, l, inr (store, s, inl bad)))
 
-pub server_at_offset : (text : List ℕ) (table : Members) (listen : SocketAddr) (store : Place) (default : ℕ) (e : SettingsFault) → Spells text table → HasOnly server_keys table
-    → IsAddressAt Listen table (Ok listen) → IsPlaceAt table (Ok store) → default_at table ≡ Ok default → offset_at table ≡ Err e → IsServerRefusal text e
-server_at_offset text table listen store default e spells names l s d bad = inr (table, spells, names, inr (listen, l, inr (store, s, inr (default, d, inl bad))))
+pub server_at_zone : (text : List ℕ) (table : Members) (listen : SocketAddr) (store : Place) (default : ℕ) (e : SettingsFault) → Spells text table → HasOnly server_keys table
+    → IsAddressAt Listen table (Ok listen) → IsPlaceAt table (Ok store) → default_at table ≡ Ok default → IsZoneAt table (Err e) → IsServerRefusal text e
+server_at_zone text table listen store default e spells names l s d bad = inr (table, spells, names, inr (listen, l, inr (store, s, inr (default, d, inl bad))))
 
-pub server_at_timeout : (text : List ℕ) (table : Members) (listen : SocketAddr) (store : Place) (default : ℕ) (offset : ℤ) (e : SettingsFault) → Spells text table → HasOnly server_keys table
-    → IsAddressAt Listen table (Ok listen) → IsPlaceAt table (Ok store) → default_at table ≡ Ok default → offset_at table ≡ Ok offset → timeout_at table ≡ Err e → IsServerRefusal text e
-server_at_timeout text table listen store default offset e spells names l s d o bad = inr (table, spells, names, inr (listen, l, inr (store, s, inr (default, d, inr (offset, o, inl bad)))))
+pub server_at_timeout : (text : List ℕ) (table : Members) (listen : SocketAddr) (store : Place) (default : ℕ) (zone : Zone) (e : SettingsFault) → Spells text table → HasOnly server_keys table
+    → IsAddressAt Listen table (Ok listen) → IsPlaceAt table (Ok store) → default_at table ≡ Ok default → IsZoneAt table (Ok zone) → timeout_at table ≡ Err e → IsServerRefusal text e
+server_at_timeout text table listen store default zone e spells names l s d z bad = inr (table, spells, names, inr (listen, l, inr (store, s, inr (default, d, inr (zone, z, inl bad)))))
 
-pub server_at_log : (text : List ℕ) (table : Members) (listen : SocketAddr) (store : Place) (default : ℕ) (offset : ℤ) (timeout : ℕ) (e : SettingsFault) → Spells text table → HasOnly server_keys table
-    → IsAddressAt Listen table (Ok listen) → IsPlaceAt table (Ok store) → default_at table ≡ Ok default → offset_at table ≡ Ok offset → timeout_at table ≡ Ok timeout → level_at table ≡ Err e → IsServerRefusal text e
-server_at_log text table listen store default offset timeout e spells names l s d o m bad = inr (table, spells, names, inr (listen, l, inr (store, s, inr (default, d, inr (offset, o, inr (timeout, m, bad))))))
+pub server_at_log : (text : List ℕ) (table : Members) (listen : SocketAddr) (store : Place) (default : ℕ) (zone : Zone) (timeout : ℕ) (e : SettingsFault) → Spells text table → HasOnly server_keys table
+    → IsAddressAt Listen table (Ok listen) → IsPlaceAt table (Ok store) → default_at table ≡ Ok default → IsZoneAt table (Ok zone) → timeout_at table ≡ Ok timeout → level_at table ≡ Err e → IsServerRefusal text e
+server_at_log text table listen store default zone timeout e spells names l s d z m bad = inr (table, spells, names, inr (listen, l, inr (store, s, inr (default, d, inr (zone, z, inr (timeout, m, bad))))))

@@ -5,7 +5,7 @@ use Rattle.std.specs.Ordering.{nat_cmp, is_le}
 use Rattle.std.specs.Cmp.Lexicographic.{slice_cmp}
 use Rattle.toml.specs.Data.{Members, get_member}
 use Rattle.mq_settings.specs.declared.settings.key.Key.{Key}
-use Rattle.mq_settings.specs.declared.settings.key.Key.TheVariants.{Host, Server, Tries, Listen, Store, Default, Offset}
+use Rattle.mq_settings.specs.declared.settings.key.Key.TheVariants.{Host, Server, Tries, Listen, Store, Default, Offset, Rule}
 use Rattle.mq_settings.specs.declared.settings.key.Key.TheVariants.{Timeout, Log}
 
 -- a key as it is written
@@ -17,6 +17,7 @@ key_name Listen = codes "listen"
 key_name Store = codes "store"
 key_name Default = codes "default"
 key_name Offset = codes "offset"
+key_name Rule = codes "rule"
 key_name Timeout = codes "timeout"
 key_name Log = codes "log"
 
@@ -26,7 +27,7 @@ filter_keys = Host ∷ Server ∷ Tries ∷ Timeout ∷ Log ∷ []
 
 -- the keys of the server's settings, in the order in which they are checked
 abbrev pub server_keys : List Key
-server_keys = Listen ∷ Store ∷ Default ∷ Offset ∷ Timeout ∷ Log ∷ []
+server_keys = Listen ∷ Store ∷ Default ∷ Offset ∷ Rule ∷ Timeout ∷ Log ∷ []
 
 -- whether a name is one of these keys
 abbrev pub is_known : List Key → List ℕ → Bool

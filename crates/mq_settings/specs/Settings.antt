@@ -12,9 +12,11 @@ use Rattle.toml.specs.Parse.{parse_document}
 use Rattle.log.specs.declared.level.LevelFilter.{LevelFilter}
 use Rattle.log.specs.declared.level.LevelFilter.TheVariants as level
 use Rattle.mq_frame.specs.Range.{IsHost}
+use Rattle.mq_ledger.specs.declared.zone.Zone.{Zone}
+use Rattle.mq_ledger.specs.Day.{ByOffset, ByRule, IsRule}
 use Rattle.mq_settings.specs.Keys.{key_name, filter_keys, server_keys, IsLeastUnknown, HasOnly}
 use Rattle.mq_settings.specs.declared.settings.key.Key.{Key}
-use Rattle.mq_settings.specs.declared.settings.key.Key.TheVariants.{Host, Server, Tries, Listen, Store, Default, Offset}
+use Rattle.mq_settings.specs.declared.settings.key.Key.TheVariants.{Host, Server, Tries, Listen, Store, Default, Offset, Rule}
 use Rattle.mq_settings.specs.declared.settings.key.Key.TheVariants.{Timeout, Log}
 use Rattle.mq_settings.specs.declared.settings.value.Place.{Place}
 use Rattle.mq_settings.specs.declared.settings.value.Place.TheVariants as place
@@ -75,18 +77,30 @@ count_of key least most absent (Some entry) = count_in key least most (as_intege
 abbrev pub count_at : Key → ℕ → ℕ → Result ℕ SettingsFault → Members → Result ℕ SettingsFault
 count_at key least most absent table = count_of key least most absent (get_member (key_name key) table)
 
--- minutes east of UTC, within a day
-abbrev pub offset_in : Option ℤ → Result ℤ SettingsFault
-offset_in None = Err (Bad Offset)
-offset_in (Some minutes) =
-    if int_le (negsuc 1438) minutes && int_le minutes (pos 1439) then Ok minutes else Err (Bad Offset)
+-- the zone of minutes east of UTC, within a day
+abbrev pub zone_by_offset : Option ℤ → Result Zone SettingsFault
+zone_by_offset None = Err (Bad Offset)
+zone_by_offset (Some minutes) =
+    if int_le (negsuc 1438) minutes && int_le minutes (pos 1439) then Ok (ByOffset minutes) else Err (Bad Offset)
 
-abbrev pub offset_of : Option Data → Result ℤ SettingsFault
-offset_of None = Err (Missing Offset)
-offset_of (Some entry) = offset_in (as_integer entry)
+-- the zone of a rule: the text is one
+abbrev pub IsZoneByRule : Option Data → Result Zone SettingsFault → Type 0
+IsZoneByRule rule r = TextAs Rule (λ text zone. (zone ≡ ByRule text) × IsRule text) rule r
 
-abbrev pub offset_at : Members → Result ℤ SettingsFault
-offset_at table = offset_of (get_member (key_name Offset) table)
+-- where a rule stands beside an offset: the rule is too much, unless the offset is refused before it
+abbrev pub beside_a_rule : Result Zone SettingsFault → Result Zone SettingsFault
+beside_a_rule (Ok zone) = Err (Bad Rule)
+beside_a_rule (Err e) = Err e
+
+-- an offset or a rule, of which one has to be there
+abbrev pub IsZoneOf : Option Data → Option Data → Result Zone SettingsFault → Type 0
+IsZoneOf None None r = r ≡ Err (Missing Offset)
+IsZoneOf (Some offset) None r = r ≡ zone_by_offset (as_integer offset)
+IsZoneOf (Some offset) (Some rule) r = r ≡ beside_a_rule (zone_by_offset (as_integer offset))
+IsZoneOf None (Some rule) r = IsZoneByRule (Some rule) r
+
+abbrev pub IsZoneAt : Members → Result Zone SettingsFault → Type 0
+IsZoneAt table r = IsZoneOf (get_member (key_name Offset) table) (get_member (key_name Rule) table) r
 
 -- how much is logged
 abbrev pub level_named : List ℕ → Option LevelFilter
@@ -167,7 +181,7 @@ pub record IsServerSettings (table : Members) (settings : ServerSettings) : Type
   pub listen : IsAddressAt Listen table (Ok settings.listen)
   pub store : IsPlaceAt table (Ok settings.store)
   pub default : default_at table ≡ Ok settings.default
-  pub offset : offset_at table ≡ Ok settings.offset
+  pub zone : IsZoneAt table (Ok settings.zone)
   pub timeout : timeout_at table ≡ Ok settings.timeout
   pub log : level_at table ≡ Ok settings.log
 
@@ -175,7 +189,7 @@ pub record IsServerSettings (table : Members) (settings : ServerSettings) : Type
 abbrev pub IsServerFault : Members → SettingsFault → Type 0
 IsServerFault table e =
     FailsOr (IsAddressAt Listen table) (FailsOr (IsPlaceAt table)
-    (FailsOr (λ r. default_at table ≡ r) (FailsOr (λ r. offset_at table ≡ r)
+    (FailsOr (λ r. default_at table ≡ r) (FailsOr (IsZoneAt table)
     (FailsOr (λ r. timeout_at table ≡ r) (λ f. level_at table ≡ Err f))))) e
 
 -- why the server's settings are refused

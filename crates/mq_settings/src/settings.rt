@@ -15,6 +15,7 @@ pub use flaw::Flaw;
 pub use key::Key;
 use log::LevelFilter;
 use mq_frame::Host;
+use mq_ledger::Zone;
 use std::alloc::Global;
 use std::net::SocketAddr;
 pub use value::Place;
@@ -39,8 +40,8 @@ pub struct ServerSettings {
     pub store: Place,
     /// The limit of a login that has none of its own, 0 to 1,000,000 recipients a day.
     pub default: u32,
-    /// How far the ledger's days are east of UTC, in minutes: -1,439 to 1,439.
-    pub offset: i32,
+    /// What the ledger's days go by.
+    pub zone: Zone,
     /// Milliseconds of each read and write, 1 to 60,000.
     pub timeout: u32,
     pub log: LevelFilter,
@@ -48,11 +49,12 @@ pub struct ServerSettings {
 
 const FILTER_KEYS: [Key; 5] = [Key::Host, Key::Server, Key::Tries, Key::Timeout, Key::Log];
 
-const SERVER_KEYS: [Key; 6] = [
+const SERVER_KEYS: [Key; 7] = [
     Key::Listen,
     Key::Store,
     Key::Default,
     Key::Offset,
+    Key::Rule,
     Key::Timeout,
     Key::Log,
 ];
@@ -92,14 +94,14 @@ pub fn read_server_settings(alloc: Global, text: &[u8]) -> Result<ServerSettings
     let listen = value::read_address(&table, Key::Listen)?;
     let store = value::read_place(alloc, &table)?;
     let default = value::read_count(&table, Key::Default, 0, 1_000_000, None)?;
-    let offset = value::read_offset(&table)?;
+    let zone = value::read_zone(&table)?;
     let timeout = value::read_count(&table, Key::Timeout, 1, 60_000, Some(2_000))?;
     let log = value::read_level(&table)?;
     Ok(ServerSettings {
         listen,
         store,
         default,
-        offset,
+        zone,
         timeout,
         log,
     })

@@ -32,7 +32,7 @@ pub record HasKept (s : State) : Type 0 where
   pub clean : HasCleanDisk s
   pub is_open : IsTrue s.is_open
 
--- The store has kept, it means a legal history of that zone and default, and its five tables are the
+-- The store has kept, it means a legal history of that zone and default, and its tables are the
 -- rows of that history.
 pub record IsSound (zone : Zone) (default : ℕ) (s : State) : Type 0 where
   pub kept : HasKept s

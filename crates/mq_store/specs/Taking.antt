@@ -14,14 +14,14 @@ use Rattle.mq_ledger.specs.History.{requests}
 use Rattle.mq_ledger.specs.Legal.{Book, IsLegalBook}
 use Rattle.mq_rows.specs.declared.plan.Plan.{Plan}
 use Rattle.mq_rows.specs.Plan.{Leads, same_key, set_transaction, same_day, set_usage, same_from, set_ceiling}
-use Rattle.mq_rows.specs.Rows.{setting_row, answer_rows}
+use Rattle.mq_rows.specs.Rows.{IsSetting, answer_rows}
 use Rattle.mq_rows.specs.Tables.{Tables, AreTransactions, AreUsage, AreCeilings, AreRows}
 use Rattle.mq_rows.specs.Written.{LeadTo}
 use Rattle.mq_tables.specs.Ledger.{HasLedger}
 use Rattle.mq_store.specs.declared.take.Taken.{Taken}
 use Rattle.mq_store.specs.declared.take.Taken.TheVariants.{Read, Written}
 
--- the five tables are the rows of this book
+-- the tables are the rows of this book
 pub record HasRows (b : Book) (db : Database) : Type 0 where
   pub tables : Tables
   pub holds : HasLedger db tables
@@ -44,7 +44,7 @@ pub record Stays (old new : State) : Type 0 where
 
 -- The settings and the answers are those of the book, and the planned writes lead to its other rows.
 pub record RowsLead (b : Book) (t : Tables) (p : Plan) : Type 0 where
-  pub setting : t.setting ≡ setting_row b
+  pub setting : IsSetting b t.setting
   pub answers : t.answers ≡ answer_rows b.history
   pub transactions :
       Leads same_key set_transaction p.transaction t.transactions (AreTransactions (day_of b.zone) b.history)

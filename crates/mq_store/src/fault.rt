@@ -1,10 +1,14 @@
-ghost use Rattle.std.specs.Prelude.{◌≡◌};
-ghost use Rattle.mq_store.specs.Opening.{fault_of, fault_of_code, fault_in, judged, ledger_fault, open_fault};
+ghost use Rattle.std.specs.Prelude.{◌≡◌, ◌&&◌, Some, None};
+ghost use Rattle.std.specs.Ordering.{int_eq};
+ghost use Rattle.mq_ledger.specs.Day.{minutes_in, rule_in};
+ghost use Rattle.mq_store.specs.Opening.{fault_of, fault_of_code, fault_in, fault_where, fault_by_rule, is_known};
+ghost use Rattle.mq_store.specs.Opening.{same_rule, ledger_fault, open_fault};
 
 use mq_frame::{Escaped, Login};
 use mq_ledger::{LedgerFault, Zone};
+use mq_tables::rule::rule_of;
 use mq_tables::setting::Setting;
-use sqlite::{Alter, Connection, Error, ErrorCode};
+use sqlite::{Alter, Connection, Error, ErrorCode, Row};
 use std::alloc::{AllocError, AllocFailed};
 use thiserror::Error as Described;
 
@@ -12,12 +16,13 @@ use thiserror::Error as Described;
 /// the first that applies is told.
 #[derive(Debug, Drop, PartialEq, Described)]
 pub enum OpenFault {
-    /// To make: a table of one of the five names is there. To open: the row of settings can't be
-    /// read, or isn't there, or is one of another version.
+    /// To make: a table of one of the ledger's names is there. To open: the row of settings, or that of the
+    /// rule where its version has one, can't be read, or isn't there, or the version is another.
     #[error("store is not this ledger")]
     NotOurs,
-    /// It was made with another offset.
-    #[error("store has another offset")]
+    /// It was made with another zone: with another offset, with another rule, or with one in place of
+    /// the other.
+    #[error("store has another zone")]
     ZoneDiffers,
     /// It was made with another default.
     #[error("store has another default")]
@@ -55,7 +60,7 @@ fn fault_of_code(code: ErrorCode) -> OpenFault
     }
 }
 
-fn fault_of(error: &Error) -> OpenFault
+pub(crate) fn fault_of(error: &Error) -> OpenFault
     ensures { result ≡ fault_of error.now }
 {
     match error {
@@ -64,13 +69,50 @@ fn fault_of(error: &Error) -> OpenFault
     }
 }
 
-fn fault_in(zone: Zone, default: u32, setting: &Setting) -> Option<OpenFault>
-    ensures { result ≡ fault_in zone default setting.now }
+fn is_known(version: i64) -> bool
+    ensures { result ≡ is_known version }
 {
-    if setting.version != 1 {
+    version == 1 || version == 2
+}
+
+fn has_no_rule(zone: &Zone) -> bool
+    ensures { result ≡ same_rule (rule_in zone.now) None }
+{
+    match zone.rule() {
+        None => true,
+        Some(_) => false,
+    }
+}
+
+fn has_rule(zone: &Zone, text: &[u8]) -> bool
+    ensures { result ≡ same_rule (rule_in zone.now) (Some text.now) }
+{
+    match zone.rule() {
+        Some(rule) => rule == text,
+        None => false,
+    }
+}
+
+fn is_zone_without_rule(zone: &Zone, setting: &Setting) -> bool
+    ensures { result ≡ int_eq setting.now.minutes (minutes_in zone.now) && same_rule (rule_in zone.now) None }
+{
+    setting.minutes == i64::from(zone.minutes()) && has_no_rule(zone)
+}
+
+fn is_zone_with_rule(zone: &Zone, setting: &Setting, text: &[u8]) -> bool
+    ensures { result ≡ int_eq setting.now.minutes (minutes_in zone.now)
+        && same_rule (rule_in zone.now) (Some text.now) }
+{
+    setting.minutes == i64::from(zone.minutes()) && has_rule(zone, text)
+}
+
+fn fault_where(is_zone: bool, default: u32, setting: &Setting) -> Option<OpenFault>
+    ensures { result ≡ fault_where is_zone default setting.now }
+{
+    if !is_known(setting.version) {
         return Some(OpenFault::NotOurs);
     }
-    if setting.minutes != i64::from(zone.minutes()) {
+    if !is_zone {
         return Some(OpenFault::ZoneDiffers);
     }
     if setting.cap != i64::from(default) {
@@ -79,17 +121,34 @@ fn fault_in(zone: Zone, default: u32, setting: &Setting) -> Option<OpenFault>
     None
 }
 
-/// Why a ledger of that zone and default isn't opened where its settings read so, if it isn't.
-pub(crate) fn judged(
+/// Why a ledger of that zone and default isn't opened where its settings are so, and it has no rule.
+pub(crate) fn fault_without_rule(zone: Zone, default: u32, setting: &Setting) -> Option<OpenFault>
+    ensures { result ≡ fault_in zone default setting.now None }
+{
+    fault_where(is_zone_without_rule(&zone, setting), default, setting)
+}
+
+/// The same where it has this rule.
+fn fault_with_rule(zone: Zone, default: u32, setting: &Setting, text: &[u8]) -> Option<OpenFault>
+    ensures { result ≡ fault_in zone default setting.now (Some text.now) }
+{
+    fault_where(is_zone_with_rule(&zone, setting, text), default, setting)
+}
+
+/// The same where the rule reads so.
+pub(crate) fn fault_by_rule(
     zone: Zone,
     default: u32,
-    read: &Result<Option<Setting>, Error>,
+    setting: &Setting,
+    rule: &Result<Row, Error>,
 ) -> Option<OpenFault>
-    ensures { result ≡ judged zone default read.now }
+    ensures { result ≡ fault_by_rule zone default setting.now rule.now }
 {
-    match read {
-        Ok(Some(setting)) => fault_in(zone, default, setting),
-        Ok(None) => Some(OpenFault::NotOurs),
+    match rule {
+        Ok(row) => match rule_of(row) {
+            Some(text) => fault_with_rule(zone, default, setting, text),
+            None => Some(OpenFault::NotOurs),
+        },
         Err(error) => Some(fault_of(error)),
     }
 }

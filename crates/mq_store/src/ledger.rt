@@ -1,18 +1,19 @@
-ghost use Rattle.std.specs.Prelude.{◌≡◌, ◌⊎◌, List, [], ◌∷◌, ◌++◌, false, None, Some, IsTrue, IfOk, IfErr, OnOk, OnErr};
+ghost use Rattle.std.specs.Prelude.{◌≡◌, ◌⊎◌, ℕ, Option, true, List, [], ◌∷◌, ◌++◌, false, None, Some, IsTrue, IfOk, IfErr, OnOk, OnErr};
 ghost use Rattle.sqlite.specs.Held.{state};
 ghost use Rattle.sqlite.specs.State.{HasCleanDisk};
 ghost use Rattle.sqlite.specs.Tree.{Trees};
 ghost use Rattle.mq_frame.specs.Range.{IsAmount, IsRequest, IsReply};
 ghost use Rattle.mq_ledger.specs.Answer.{build, reply};
 ghost use Rattle.mq_ledger.specs.Arrivals.{first};
-ghost use Rattle.mq_ledger.specs.Day.{IsOffset, day_of};
+ghost use Rattle.mq_ledger.specs.Day.{IsZone, day_of};
 ghost use Rattle.mq_ledger.specs.History.{requests};
 ghost use Rattle.mq_tables.specs.Making.{has_ledger_table, AreUnnamed, HasCounters, IsMadeOver, AreMadeOver};
 ghost use Rattle.mq_tables.specs.Reading.{Spares};
-ghost use Rattle.mq_tables.specs.Settings.{SettingRow, HasSetting};
+ghost use Rattle.mq_tables.specs.Settings.{SettingRow, HasRule, shown_of};
 ghost use Rattle.mq_store.specs.Auditing.{IsAuditIn, IsRightAnswer};
 ghost use Rattle.mq_store.specs.Crash.{LeavesNew, LeavesOld, AreApplied, FindsOnly, FindsNew, FindsEither};
-ghost use Rattle.mq_store.specs.Opening.{made_with, create_fault, IsJudged, IsOf, IsChecked, IsOpening, IsOpeningOf};
+ghost use Rattle.mq_store.specs.Opening.{made_with, create_fault, has_rule_table, IsJudged, IsJudgedBy, IsOf, IsChecked};
+ghost use Rattle.mq_store.specs.Opening.{HoldsRule, HasSettings, IsOpening, IsOpeningOf};
 ghost use Rattle.mq_ledger.specs.declared.entry.Entry.{Entry as AnyEntry};
 ghost use Rattle.mq_store.specs.Soundness.{book_in, HasKept, IsSound, IsNew, MeansBook, IsOpened};
 ghost use Rattle.mq_store.specs.Taking.{HasBook, book_of};
@@ -20,7 +21,9 @@ ghost use Rattle.mq_store.specs.declared.fault.OpenFault.TheVariants.{NotOurs, M
 
 use crate::apply::apply;
 use crate::auditing::audit_store;
-use crate::fault::{OpenFault, OpenRefused, judged, open_fault};
+use crate::fault::{
+    OpenFault, OpenRefused, fault_by_rule, fault_of, fault_without_rule, open_fault,
+};
 use crate::laws::{books_are_right, later_arrivals_add_nothing, tables_mean_their_book};
 use mq_frame::{Reply, Request};
 use mq_ledger::{Ledger, LedgerFault, Zone};
@@ -28,12 +31,13 @@ use mq_rows::Audit;
 use mq_tables::create::make_ledger;
 use mq_tables::laws::trees_have_one_schema;
 use mq_tables::names::has_ledger_table;
-use mq_tables::setting::{NewSetting, read_setting};
+use mq_tables::rule::read_rule;
+use mq_tables::setting::{NewSetting, Setting, read_setting};
 use sqlite::{Alter, Connection, Error, ErrorCode};
 use std::alloc::Global;
 use std::marker::Model;
 
-/// A ledger in five tables of a store, which may hold others too.
+/// A ledger in five or six tables of a store, which may hold others too.
 #[derive(Drop)]
 pub struct SqlLedger<S: Alter> {
     alloc: Global,
@@ -54,6 +58,60 @@ impl<S: Alter> Model for SqlLedger<S> {
     ghost invariant = { λ l. IsReady (record { connection = l.connection; zone = l.zone; default = l.default }) };
 }
 
+/// The version of tables that have one for the rule.
+const RULED: i64 = 2;
+
+/// Why the store isn't opened where its settings are so, and their version has a table for the rule.
+fn fault_where_ruled<S: Alter>(
+    connection: &mut Connection<S>,
+    zone: Zone,
+    default: u32,
+    setting: &Setting,
+) -> Option<OpenFault>
+    requires autocommit { connection.old.in_transaction ≡ false }
+    ensures autocommit { connection.new.in_transaction ≡ false }
+    ensures unlimited { connection.new.step_limit ≡ None }
+    ensures judged { HasCleanDisk (state S.Store connection.new)
+        → IsJudgedBy S.Store true zone default setting.now connection.old connection.new result }
+    ensures exact { HasCleanDisk (state S.Store connection.new) → (s : SettingRow) (text : List ℕ)
+        → shown_of s ≡ setting.now → HasRule (state S.Store connection.old).now text
+        → IsOf zone default s (Some text) result }
+    ensures clean { HasCleanDisk (state S.Store connection.new) → HasCleanDisk (state S.Store connection.old) }
+    ensures spares { HasCleanDisk (state S.Store connection.new)
+        → Spares (state S.Store connection.old) (state S.Store connection.new) }
+{
+    let rule = read_rule(connection);
+    fault_by_rule(zone, default, setting, &rule)
+}
+
+/// Why the store isn't opened where its settings are so, if it isn't.
+fn fault_by_setting<S: Alter>(
+    connection: &mut Connection<S>,
+    zone: Zone,
+    default: u32,
+    setting: &Setting,
+) -> Option<OpenFault>
+    requires autocommit { connection.old.in_transaction ≡ false }
+    requires unlimited { connection.old.step_limit ≡ None }
+    ensures autocommit { connection.new.in_transaction ≡ false }
+    ensures unlimited { connection.new.step_limit ≡ None }
+    ensures judged { HasCleanDisk (state S.Store connection.new)
+        → IsJudgedBy S.Store (has_rule_table setting.now.version) zone default setting.now connection.old
+        connection.new result }
+    ensures exact { HasCleanDisk (state S.Store connection.new) → (s : SettingRow) (rule : Option (List ℕ))
+        → shown_of s ≡ setting.now → HoldsRule (has_rule_table s.version) (state S.Store connection.old).now rule
+        → IsOf zone default s rule result }
+    ensures clean { HasCleanDisk (state S.Store connection.new) → HasCleanDisk (state S.Store connection.old) }
+    ensures spares { HasCleanDisk (state S.Store connection.new)
+        → Spares (state S.Store connection.old) (state S.Store connection.new) }
+{
+    if setting.version == RULED {
+        fault_where_ruled(connection, zone, default, setting)
+    } else {
+        fault_without_rule(zone, default, setting)
+    }
+}
+
 /// Why the store isn't opened by its settings, if it isn't.
 fn fault_in_store<S: Alter>(
     connection: &mut Connection<S>,
@@ -64,14 +122,17 @@ fn fault_in_store<S: Alter>(
     ensures autocommit { connection.new.in_transaction ≡ false }
     ensures unlimited { connection.new.step_limit ≡ None }
     ensures judged { HasCleanDisk (state S.Store connection.new)
-        → IsJudged zone default (state S.Store connection.old) (state S.Store connection.new) result }
-    ensures exact { HasCleanDisk (state S.Store connection.new) → (s : SettingRow)
-        → HasSetting (state S.Store connection.old).now s → IsOf zone default s result }
+        → IsJudged S.Store zone default connection.old connection.new result }
+    ensures exact { HasCleanDisk (state S.Store connection.new) → (s : SettingRow) (rule : Option (List ℕ))
+        → HasSettings (state S.Store connection.old).now s rule → IsOf zone default s rule result }
     ensures spares { HasCleanDisk (state S.Store connection.new)
         → Spares (state S.Store connection.old) (state S.Store connection.new) }
 {
-    let read = read_setting(connection);
-    judged(zone, default, &read)
+    match read_setting(connection) {
+        Ok(Some(setting)) => fault_by_setting(connection, zone, default, &setting),
+        Ok(None) => Some(OpenFault::NotOurs),
+        Err(error) => Some(fault_of(&error)),
+    }
 }
 
 /// Why the store isn't opened, if it isn't: by its settings, and behind them by an audit of its rows.
@@ -86,9 +147,9 @@ fn fault_in_ledger<S: Alter>(
     ensures unlimited { connection.new.step_limit ≡ None }
     ensures found { HasCleanDisk (state S.Store connection.new)
         → IsOpening S.Store zone default connection.old connection.new result }
-    ensures exact { HasCleanDisk (state S.Store connection.new) → (s : SettingRow)
-        → HasSetting (state S.Store connection.old).now s
-        → IsOpeningOf zone default (state S.Store connection.old).now s result }
+    ensures exact { HasCleanDisk (state S.Store connection.new) → (s : SettingRow) (rule : Option (List ℕ))
+        → HasSettings (state S.Store connection.old).now s rule
+        → IsOpeningOf zone default (state S.Store connection.old).now s rule result }
     ensures spares { HasCleanDisk (state S.Store connection.new)
         → Spares (state S.Store connection.old) (state S.Store connection.new) }
 {
@@ -105,12 +166,10 @@ fn fault_in_ledger<S: Alter>(
 /// What the tables are made with.
 fn new_setting(zone: Zone, default: u32) -> NewSetting
     ensures value { result ≡ made_with zone default }
-    ensures in_range { IsOffset zone }
+    ensures in_range { IsZone zone }
 {
-    NewSetting {
-        minutes: zone.minutes(),
-        cap: default,
-    }
+    let _minutes = zone.minutes();
+    NewSetting { zone, cap: default }
 }
 
 /// What a refusal to make the tables is answered by.
@@ -127,8 +186,8 @@ impl<S: Alter> SqlLedger<S> {
     /// Makes the tables of a ledger that has applied nothing, in one transaction, over whatever the
     /// store holds. The default is the limit of a login that has none for a day: 0 to 1,000,000.
     ///
-    /// Refused, the store has the tables that it had. `NotOurs` comes exactly where a table of one
-    /// of the five names is there; its other faults are `Memory` and `Store`. A connection within a
+    /// A ledger by a zone rule has a sixth table. Refused, the store has the tables that it had. `NotOurs`
+    /// comes exactly where a table of one of the six names is there, whatever the zone; its other faults are `Memory` and `Store`. A connection within a
     /// transaction is `Store`.
     pub fn create(
         alloc: Global,
@@ -167,7 +226,7 @@ impl<S: Alter> SqlLedger<S> {
         ensures within { IfErr result (λ e. IsTrue connection.in_transaction
             → (e.fault ≡ Store) × (e.connection ≡ connection)) }
 
-        // What an open after a crash may find: all five tables, or none of them.
+        // What an open after a crash may find: all tables of the ledger, or none of them.
         ensures crash_ok { IfOk result (λ l. HasCleanDisk (state S.Store l.connection) → (db : Trees)
             → (state S.Store l.connection).may_leave db → db ≡ (state S.Store l.connection).now.trees) }
         ensures crash_err { IfErr result (λ e. HasCleanDisk (state S.Store e.connection) → (db : Trees)
@@ -175,7 +234,7 @@ impl<S: Alter> SqlLedger<S> {
             ⊎ AreMadeOver (made_with zone default) (state S.Store connection).now db) }
 
         // What it does find, as a sound database: the rows of the empty history; behind a fault all
-        // five tables, or trees that could be found before.
+        // tables of the ledger, or trees that could be found before.
         ensures found_ok { IfOk result (λ l. HasCleanDisk (state S.Store l.connection)
             → HasCounters (state S.Store connection) → AreUnnamed (state S.Store connection).now.schema
             → FindsOnly (state S.Store l.connection) (HasBook (book_of zone default []))) }
@@ -227,22 +286,23 @@ impl<S: Alter> SqlLedger<S> {
         requires in_range { IsAmount default }
         ensures lent { IfOk result (λ l. (l.zone ≡ zone) × (l.default ≡ default)) }
 
-        // Over any store: what the store answers to the one query decides, and behind it the audit.
+        // Over any store: what the store answers to the queries for settings and rule decides, and behind them
+        // the audit.
         ensures ok { IfOk result (λ l. HasCleanDisk (state S.Store l.connection)
             → IsOpening S.Store zone default connection l.connection None) }
         ensures err { IfErr result (λ e. HasCleanDisk (state S.Store e.connection)
             → connection.in_transaction ≡ false
             → IsOpening S.Store zone default connection e.connection (Some e.fault)) }
 
-        // Over a store with our table of settings, wherever it stands: its row decides, and behind it
-        // the audit.
-        ensures exact_ok { IfOk result (λ l. HasCleanDisk (state S.Store l.connection) → (s : SettingRow)
-            → HasSetting (state S.Store connection).now s
-            → IsOpeningOf zone default (state S.Store connection).now s None) }
+        // Over a store with our table of settings and, in a version that has one, that of the rule, wherever
+        // they stand: their rows decide, and behind them the audit.
+        ensures exact_ok { IfOk result (λ l. HasCleanDisk (state S.Store l.connection)
+            → (s : SettingRow) (rule : Option (List ℕ)) → HasSettings (state S.Store connection).now s rule
+            → IsOpeningOf zone default (state S.Store connection).now s rule None) }
         ensures exact_err { IfErr result (λ e. HasCleanDisk (state S.Store e.connection)
-            → connection.in_transaction ≡ false → (s : SettingRow)
-            → HasSetting (state S.Store connection).now s
-            → IsOpeningOf zone default (state S.Store connection).now s (Some e.fault)) }
+            → connection.in_transaction ≡ false
+            → (s : SettingRow) (rule : Option (List ℕ)) → HasSettings (state S.Store connection).now s rule
+            → IsOpeningOf zone default (state S.Store connection).now s rule (Some e.fault)) }
 
         // Over the rows of a legal history, whatever the store did before: it is of this zone and default,
         // and the ledger is sound and means it. Where a legal history of this zone and default has these
@@ -350,10 +410,10 @@ impl<S: Alter> Ledger for SqlLedger<S> {
 
     ghost sound_is_legal = { λ _ sound. sound.legal };
 
-    fn zone(&self) -> Zone
-        ensures { result ≡ self.now.zone }
+    fn zone(&self) -> &Zone
+        ensures { result.now ≡ self.now.zone }
     {
-        self.zone
+        &self.zone
     }
 
     fn default_cap(&self) -> u32

@@ -43,7 +43,7 @@ use Rattle.mq_tables.specs.Places.{IsSettingIn, IsUnreferred}
 use Rattle.mq_tables.specs.Written.{plain_query, chosen as chosen_rows, Updated}
 use Rattle.mq_tables.specs.Updates.{HasSetArrivals, CountsArrivals}
 use Rattle.mq_tables.specs.Ledger.{setting_in}
-use Rattle.mq_tables.proofs.Changes.{setting_changed}
+use Rattle.mq_tables.proofs.Changes.{arrivals_changed}
 use Rattle.sqlite.specs.Command.TheVariants.{Update}
 use Rattle.mq_tables.proofs.Plain.{parsed_in}
 use Rattle.mq_tables.proofs.Makes.{cast_int, cast_null}
@@ -198,5 +198,5 @@ counts_arrivals old new n (Ok count) h = (
   h.1.mode,
   λ t l.
       let it = set_so old new (pos n) l.at.setting l.tables.setting l.tables.setting_alone count h.0 in
-      setting_changed old.now new.now t l it.schema it.sound it.others (record t.setting { arrivals = n }) (it.row (setting_in t.setting) l.holds.setting),
+      arrivals_changed old.now new.now t l it.schema it.sound it.others n (it.row (setting_in t.setting) l.holds.setting),
 )

@@ -1,21 +1,20 @@
--- Where one of the five tables changes, the other four hold what they held.
-use Rattle.std.proofs.Common.{arith, slice_index_or, ◌≡◌, ◌≢◌, ◌==◌, ℕ, find, List, [], ◌∷◌, Some, sym, ap, subst, ◌∙◌}
+-- Where one of the five tables changes, the other four hold what they held, and so do those of later versions.
+use Rattle.std.proofs.Common.{arith, slice_index_or, ◌≡◌, ◌≢◌, ◌==◌, ℕ, find, List, [], ◌∷◌, nat_le, Bool, true, false, Some, sym, ap, subst, ◌∙◌}
 use Rattle.sqlite_trees.proofs.ListLemmas.{all-slice_get}
 use Rattle.sqlite.specs.Schema.{Schema}
 use Rattle.sqlite.specs.Table.{Table}
 use Rattle.sqlite.specs.Tree.{Trees}
 use Rattle.sqlite.specs.Effect.{Database, IsDatabase}
-use Rattle.mq_rows.specs.declared.record.SettingRecord.{SettingRecord}
 use Rattle.mq_rows.specs.declared.record.AnswerRecord.{AnswerRecord}
 use Rattle.mq_rows.specs.declared.record.TransactionRecord.{TransactionRecord}
 use Rattle.mq_rows.specs.declared.record.UsageRecord.{UsageRecord}
 use Rattle.mq_rows.specs.declared.record.CeilingRecord.{CeilingRecord}
 use Rattle.mq_rows.specs.Tables.{Tables}
-use Rattle.mq_tables.specs.Tables.{setting_table, answer_table, trans_table, usage_table, ceiling_table}
+use Rattle.mq_tables.specs.Tables.{setting_table, answer_table, trans_table, usage_table, ceiling_table, rule_table}
 use Rattle.mq_tables.specs.Places.{IsTableIn}
 use Rattle.mq_tables.specs.Records.{HoldsAnswers, HoldsTransactions, HoldsUsage, HoldsCeilings}
-use Rattle.mq_tables.specs.Settings.{setting_fields}
-use Rattle.mq_tables.specs.Ledger.{IsLedgerIn, HasLedger, setting_in}
+use Rattle.mq_tables.specs.Settings.{setting_fields, rule_rows}
+use Rattle.mq_tables.specs.Ledger.{IsLedgerIn, IsThere, Since, HasLater, HasLedger, setting_in}
 use Rattle.mq_tables.specs.Updates.{KeepsOthers}
 
 -- two tables of different names have different trees
@@ -90,12 +89,39 @@ ceiling_trans e = trans_ceiling (sym e)
 ceiling_usage : ceiling_table.name ≢ usage_table.name
 ceiling_usage e = usage_ceiling (sym e)
 
+rule_setting : rule_table.name ≢ setting_table.name
+rule_setting e = absurd cc
+
+rule_answer : rule_table.name ≢ answer_table.name
+rule_answer e = absurd cc
+
+rule_trans : rule_table.name ≢ trans_table.name
+rule_trans e = absurd cc
+
+rule_usage : rule_table.name ≢ usage_table.name
+rule_usage e = absurd cc
+
+rule_ceiling : rule_table.name ≢ ceiling_table.name
+rule_ceiling e = absurd cc
+
+-- what holds since some version is made of what held since then
+since : (Now Then Before : Type 0) (b : Bool) → (Now → Then) → Since b Now Before → Since b Then Before
+since Now Then Before true make h = make h
+since Now Then Before false make h = h
+
 module _ (old new : Database) (t : Tables) (l : HasLedger old t) (schema : new.schema ≡ old.schema) (sound : IsDatabase new) where
   tables : IsLedgerIn new.schema l.at
   tables = subst (λ s. IsLedgerIn s l.at) (sym schema) l.tables
 
-  pub setting_changed : KeepsOthers old.schema l.at.setting old.trees new.trees → (after : SettingRecord) → new.trees l.at.setting ≡ setting_fields (setting_in after) ∷ [] → HasLedger new (record t { setting = after })
-  setting_changed others after holds = record {
+  -- where another table changes, those of later versions don't
+  later_kept : (changed : Table) (tree : ℕ) → IsTableIn old.schema changed tree → rule_table.name ≢ changed.name → KeepsOthers old.schema tree old.trees new.trees → HasLater new t
+  later_kept changed tree place apart others =
+      let moved : IsThere old rule_table (rule_rows t.setting.rule) → IsThere new rule_table (rule_rows t.setting.rule) =
+      λ it. record { tree = it.tree; table = subst (λ s. IsTableIn s rule_table it.tree) (sym schema) it.table; holds = kept_of old.schema _ _ _ _ _ _ it.table place apart others ∙ it.holds } in
+      record { rule = since _ _ _ (nat_le 2 t.setting.version) moved l.later.rule }
+
+  pub arrivals_changed : KeepsOthers old.schema l.at.setting old.trees new.trees → (arrivals : ℕ) → new.trees l.at.setting ≡ setting_fields (setting_in (record t.setting { arrivals = arrivals })) ∷ [] → HasLedger new (record t { setting = record t.setting { arrivals = arrivals } })
+  arrivals_changed others arrivals holds = record {
     sound = sound;
     at = l.at;
     tables = tables;
@@ -106,6 +132,7 @@ module _ (old new : Database) (t : Tables) (l : HasLedger old t) (schema : new.s
       usage = subst (λ rows. HoldsUsage rows t.usage) (sym (kept_of old.schema _ _ _ _ _ _ l.tables.usage l.tables.setting usage_setting others)) l.holds.usage;
       ceilings = subst (λ rows. HoldsCeilings rows t.ceilings) (sym (kept_of old.schema _ _ _ _ _ _ l.tables.ceiling l.tables.setting ceiling_setting others)) l.holds.ceilings;
     };
+    later = record { rule = (later_kept _ _ l.tables.setting rule_setting others).rule };
   }
 
   pub answers_changed : KeepsOthers old.schema l.at.answer old.trees new.trees → (after : List AnswerRecord) → HoldsAnswers (new.trees l.at.answer) after → HasLedger new (record t { answers = after })
@@ -120,6 +147,7 @@ module _ (old new : Database) (t : Tables) (l : HasLedger old t) (schema : new.s
       usage = subst (λ rows. HoldsUsage rows t.usage) (sym (kept_of old.schema _ _ _ _ _ _ l.tables.usage l.tables.answer usage_answer others)) l.holds.usage;
       ceilings = subst (λ rows. HoldsCeilings rows t.ceilings) (sym (kept_of old.schema _ _ _ _ _ _ l.tables.ceiling l.tables.answer ceiling_answer others)) l.holds.ceilings;
     };
+    later = record { rule = (later_kept _ _ l.tables.answer rule_answer others).rule };
   }
 
   pub transactions_changed : KeepsOthers old.schema l.at.trans old.trees new.trees → (after : List TransactionRecord) → HoldsTransactions (new.trees l.at.trans) after → HasLedger new (record t { transactions = after })
@@ -134,6 +162,7 @@ module _ (old new : Database) (t : Tables) (l : HasLedger old t) (schema : new.s
       usage = subst (λ rows. HoldsUsage rows t.usage) (sym (kept_of old.schema _ _ _ _ _ _ l.tables.usage l.tables.trans usage_trans others)) l.holds.usage;
       ceilings = subst (λ rows. HoldsCeilings rows t.ceilings) (sym (kept_of old.schema _ _ _ _ _ _ l.tables.ceiling l.tables.trans ceiling_trans others)) l.holds.ceilings;
     };
+    later = record { rule = (later_kept _ _ l.tables.trans rule_trans others).rule };
   }
 
   pub usage_changed : KeepsOthers old.schema l.at.usage old.trees new.trees → (after : List UsageRecord) → HoldsUsage (new.trees l.at.usage) after → HasLedger new (record t { usage = after })
@@ -148,6 +177,7 @@ module _ (old new : Database) (t : Tables) (l : HasLedger old t) (schema : new.s
       usage = holds;
       ceilings = subst (λ rows. HoldsCeilings rows t.ceilings) (sym (kept_of old.schema _ _ _ _ _ _ l.tables.ceiling l.tables.usage ceiling_usage others)) l.holds.ceilings;
     };
+    later = record { rule = (later_kept _ _ l.tables.usage rule_usage others).rule };
   }
 
   pub ceilings_changed : KeepsOthers old.schema l.at.ceiling old.trees new.trees → (after : List CeilingRecord) → HoldsCeilings (new.trees l.at.ceiling) after → HasLedger new (record t { ceilings = after })
@@ -162,4 +192,5 @@ module _ (old new : Database) (t : Tables) (l : HasLedger old t) (schema : new.s
       usage = subst (λ rows. HoldsUsage rows t.usage) (sym (kept_of old.schema _ _ _ _ _ _ l.tables.usage l.tables.ceiling usage_ceiling others)) l.holds.usage;
       ceilings = holds;
     };
+    later = record { rule = (later_kept _ _ l.tables.ceiling rule_ceiling others).rule };
   }

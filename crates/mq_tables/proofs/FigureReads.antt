@@ -1,27 +1,26 @@
 -- What the queries for an audit answer of the figures.
-use Rattle.std.proofs.Common.{◌≡◌, pos, List, [], ◌∷◌, ◌++◌, drop, map, filter, true, Ok, Err, Result, refl, sym, ap, subst, subst₂, ◌∙◌}
+use Rattle.std.proofs.Common.{◌≡◌, pos, ℕ, List, [], ◌∷◌, ◌++◌, codes, map, filter, true, None, Ok, Err, Result, refl, sym, ap, subst, subst₂, ◌∙◌}
 use Rattle.std.specs.Prelude.{Vec, IfOk}
 use Rattle.std.specs.declared.alloc.Global.{Global}
-use Rattle.std.specs.List.{list_all}
+use Rattle.sqlite.specs.declared.error.Error.{Error}
+use Rattle.sqlite.specs.Listing.{listing_schema}
+use Rattle.sqlite.specs.Order.{Row}
+use Rattle.sqlite.specs.State.{State, Shown}
+use Rattle.sqlite_schema.specs.Names.{same_name}
+use Rattle.sqlite_tied.specs.Compute.{everything}
 use Rattle.std.specs.List.Sorted.{IsPermutation}
 use Rattle.std.proofs.lemmas.List.Sorted.{IsPermutation-map}
 use Rattle.sqlite_trees.proofs.ListLemmas.{map-map}
-use Rattle.sqlite.specs.Order.{Row}
-use Rattle.sqlite.specs.Term.{eval_all, holds}
-use Rattle.sqlite.specs.declared.types.Value.TheVariants.{Null, Int, Blob}
-use Rattle.sqlite.specs.declared.error.Error.{Error}
-use Rattle.sqlite.specs.State.{State, Shown}
-use Rattle.sqlite.proofs.Callers.{IsPlain, command_of}
+use Rattle.sqlite.specs.declared.types.Value.TheVariants.{Int, Blob}
 use Rattle.mq_rows.specs.declared.audited.LimitFigures.{LimitFigures}
 use Rattle.mq_rows.specs.declared.audited.TransactionFigures.{TransactionFigures}
 use Rattle.mq_rows.specs.declared.audited.UsageFigures.{UsageFigures}
 use Rattle.mq_rows.specs.Audit.{Figures}
 use Rattle.mq_tables.specs.Figures.{HasFigures, WholeTransaction, whole_cells, usage_cells, transaction_cells, limit_cells, IsUsageRead, IsTransactionRead, IsLimitRead, usage_columns, transaction_columns, limit_columns}
-use Rattle.mq_tables.proofs.Firsts as firsts
-use Rattle.mq_tables.proofs.Plain.{any_apart}
-use Rattle.mq_tables.proofs.AllUsageText as usage_query
-use Rattle.mq_tables.proofs.AllTransText as trans_query
-use Rattle.mq_tables.proofs.AllCeilingText as ceiling_query
+use Rattle.mq_tables.specs.Tables.{trans_table, usage_table, ceiling_table}
+use Rattle.mq_tables.proofs.SelectShape.{SelectShape, IsSelect, IsAccepted}
+use Rattle.mq_tables.proofs.Selected.{shows_all}
+use Rattle.mq_tables.proofs.TermShape.{field}
 
 all_pass : {R : Type 0} (rows : List R) → filter (λ _. true) rows ≡ rows
 all_pass [] = refl
@@ -29,21 +28,44 @@ all_pass (r ∷ rows) = ap (λ xs. r ∷ xs) (all_pass rows)
 
 -- usage
 
-tied_usage : (r : Row) → list_all (holds ([] ∷ r ∷ [])) [] ≡ list_all (holds ([] ∷ (Null ∷ drop 1 r) ∷ [])) []
-tied_usage r = refl
+abbrev pub usage_text : List ℕ
+usage_text = codes "SELECT login, day, settled, reserved FROM usage"
 
-shows_usage : (r : Row) → eval_all usage_query.shown_terms ([] ∷ r ∷ []) ≡ eval_all usage_query.shown_terms ([] ∷ (Null ∷ drop 1 r) ∷ [])
-shows_usage [] = refl
-shows_usage (x ∷ r) = refl
+abbrev pub usage_shape : SelectShape
+usage_shape = record {
+  table = usage_table;
+  shown = field (codes "login") 0 ∷ field (codes "day") 1 ∷ field (codes "settled") 2 ∷ field (codes "reserved") 3 ∷ [];
+  tests = [];
+  order = None;
+}
 
-usage_shown : (old new : State) (rows : List Row) → Shown usage_query.select_text [] old new rows → (f : Figures) → HasFigures old.now f → IsPermutation (map usage_cells f.usage) rows
+pub usage_select : IsSelect usage_text usage_shape
+unfolding everything listing_schema same_name
+usage_select = record {
+  parsed = refl;
+  select = _;
+  statement = refl;
+  timeless = refl;
+  unlisted = refl;
+  source = (_, refl, refl, refl, refl, refl, refl);
+  shown = ((_, refl, refl), ((_, refl, refl), ((_, refl, refl), ((_, refl, refl), tt))));
+  filter = tt;
+  ungrouped = (refl, refl, refl);
+  order = (refl, refl);
+  alone = (refl, refl, refl);
+  known = λ t. refl;
+  short = refl;
+}
+
+usage_accepted : IsAccepted usage_shape
+usage_accepted s t low found = rw (low, found)
+
+usage_shown : (old new : State) (rows : List Row) → Shown usage_text [] old new rows → (f : Figures) → HasFigures old.now f → IsPermutation (map usage_cells f.usage) rows
 usage_shown old new rows h f l =
-    let is = usage_query.understood_so old.now.schema l.tables.usage_tree l.tables.usage in
-    let all = firsts.shows_all usage_cells [] usage_query.shown_terms [] tied_usage shows_usage usage_query.select_text usage_query.names old new l.tables.usage_tree rows f.usage (ap command_of is) (subst IsPlain (sym is) (refl, refl))
-    (any_apart usage_query.select_text usage_query.select_parsed usage_query.select_query usage_query.select_unlisted old.now.schema (usage_query.select_compiled l.tables.usage_tree) is) l.tables.usage.stored l.holds_usage h in
+    let all = shows_all usage_cells usage_text usage_shape usage_select usage_accepted refl [] old new l.tables.usage_tree l.tables.usage rows h f.usage refl l.holds_usage in
     subst (λ xs. IsPermutation (map usage_cells xs) rows) (all_pass f.usage) all
 
-pub usage_found : (old new : State) (outcome : Result (Vec Row Global) Error) → IfOk outcome (λ rows. Shown usage_query.select_text [] old new rows.items)
+pub usage_found : (old new : State) (outcome : Result (Vec Row Global) Error) → IfOk outcome (λ rows. Shown usage_text [] old new rows.items)
     → IfOk outcome (λ rows. (f : Figures) → HasFigures old.now f → IsPermutation (map usage_cells f.usage) rows.items)
 usage_found old new (Ok rows) h = usage_shown old new rows.items h
 usage_found old new (Err e) h = tt
@@ -73,23 +95,46 @@ usage_more row x is = λ i. is.login i ∷ is.day i ∷ is.settled i ∷ is.rese
 
 -- trans
 
-tied_transactions : (r : Row) → list_all (holds ([] ∷ r ∷ [])) [] ≡ list_all (holds ([] ∷ (Null ∷ drop 1 r) ∷ [])) []
-tied_transactions r = refl
+abbrev pub transactions_text : List ℕ
+transactions_text = codes "SELECT login, day, moment, held, settled FROM trans"
 
-shows_transactions : (r : Row) → eval_all trans_query.shown_terms ([] ∷ r ∷ []) ≡ eval_all trans_query.shown_terms ([] ∷ (Null ∷ drop 1 r) ∷ [])
-shows_transactions [] = refl
-shows_transactions (x ∷ r) = refl
+abbrev pub transactions_shape : SelectShape
+transactions_shape = record {
+  table = trans_table;
+  shown = field (codes "login") 3 ∷ field (codes "day") 5 ∷ field (codes "moment") 4 ∷ field (codes "held") 6 ∷ field (codes "settled") 7 ∷ [];
+  tests = [];
+  order = None;
+}
 
-transactions_shown : (old new : State) (rows : List Row) → Shown trans_query.select_text [] old new rows → (f : Figures) → HasFigures old.now f → IsPermutation (map transaction_cells f.transactions) rows
+pub transactions_select : IsSelect transactions_text transactions_shape
+unfolding everything listing_schema same_name
+transactions_select = record {
+  parsed = refl;
+  select = _;
+  statement = refl;
+  timeless = refl;
+  unlisted = refl;
+  source = (_, refl, refl, refl, refl, refl, refl);
+  shown = ((_, refl, refl), ((_, refl, refl), ((_, refl, refl), ((_, refl, refl), ((_, refl, refl), tt)))));
+  filter = tt;
+  ungrouped = (refl, refl, refl);
+  order = (refl, refl);
+  alone = (refl, refl, refl);
+  known = λ t. refl;
+  short = refl;
+}
+
+transactions_accepted : IsAccepted transactions_shape
+transactions_accepted s t low found = rw (low, found)
+
+transactions_shown : (old new : State) (rows : List Row) → Shown transactions_text [] old new rows → (f : Figures) → HasFigures old.now f → IsPermutation (map transaction_cells f.transactions) rows
 transactions_shown old new rows h f l =
-    let is = trans_query.understood_so old.now.schema l.tables.trans_tree l.tables.trans in
-    let all = firsts.shows_all whole_cells [] trans_query.shown_terms [] tied_transactions shows_transactions trans_query.select_text trans_query.names old new l.tables.trans_tree rows l.whole (ap command_of is) (subst IsPlain (sym is) (refl, refl))
-    (any_apart trans_query.select_text trans_query.select_parsed trans_query.select_query trans_query.select_unlisted old.now.schema (trans_query.select_compiled l.tables.trans_tree) is) l.tables.trans.stored l.holds_trans h in
+    let all = shows_all whole_cells transactions_text transactions_shape transactions_select transactions_accepted refl [] old new l.tables.trans_tree l.tables.trans rows h l.whole refl l.holds_trans in
     let kept : IsPermutation (map (λ (w : WholeTransaction). transaction_cells w.figures) l.whole) rows = subst (λ ws. IsPermutation (map (λ (w : WholeTransaction). transaction_cells w.figures) ws) rows) (all_pass l.whole) all in
     let same : map (λ (w : WholeTransaction). transaction_cells w.figures) l.whole ≡ map transaction_cells f.transactions = sym (map-map transaction_cells (λ (w : WholeTransaction). w.figures) l.whole) ∙ ap (map transaction_cells) (sym l.transactions) in
     subst (λ xs. IsPermutation xs rows) same kept
 
-pub transactions_found : (old new : State) (outcome : Result (Vec Row Global) Error) → IfOk outcome (λ rows. Shown trans_query.select_text [] old new rows.items)
+pub transactions_found : (old new : State) (outcome : Result (Vec Row Global) Error) → IfOk outcome (λ rows. Shown transactions_text [] old new rows.items)
     → IfOk outcome (λ rows. (f : Figures) → HasFigures old.now f → IsPermutation (map transaction_cells f.transactions) rows.items)
 transactions_found old new (Ok rows) h = transactions_shown old new rows.items h
 transactions_found old new (Err e) h = tt
@@ -119,21 +164,44 @@ transactions_more row x is = λ i. is.login i ∷ is.day i ∷ is.moment i ∷ i
 
 -- ceiling
 
-tied_limits : (r : Row) → list_all (holds ([] ∷ r ∷ [])) [] ≡ list_all (holds ([] ∷ (Null ∷ drop 1 r) ∷ [])) []
-tied_limits r = refl
+abbrev pub limits_text : List ℕ
+limits_text = codes "SELECT login, day, cap FROM ceiling"
 
-shows_limits : (r : Row) → eval_all ceiling_query.shown_terms ([] ∷ r ∷ []) ≡ eval_all ceiling_query.shown_terms ([] ∷ (Null ∷ drop 1 r) ∷ [])
-shows_limits [] = refl
-shows_limits (x ∷ r) = refl
+abbrev pub limits_shape : SelectShape
+limits_shape = record {
+  table = ceiling_table;
+  shown = field (codes "login") 0 ∷ field (codes "day") 1 ∷ field (codes "cap") 2 ∷ [];
+  tests = [];
+  order = None;
+}
 
-limits_shown : (old new : State) (rows : List Row) → Shown ceiling_query.select_text [] old new rows → (f : Figures) → HasFigures old.now f → IsPermutation (map limit_cells f.limits) rows
+pub limits_select : IsSelect limits_text limits_shape
+unfolding everything listing_schema same_name
+limits_select = record {
+  parsed = refl;
+  select = _;
+  statement = refl;
+  timeless = refl;
+  unlisted = refl;
+  source = (_, refl, refl, refl, refl, refl, refl);
+  shown = ((_, refl, refl), ((_, refl, refl), ((_, refl, refl), tt)));
+  filter = tt;
+  ungrouped = (refl, refl, refl);
+  order = (refl, refl);
+  alone = (refl, refl, refl);
+  known = λ t. refl;
+  short = refl;
+}
+
+limits_accepted : IsAccepted limits_shape
+limits_accepted s t low found = rw (low, found)
+
+limits_shown : (old new : State) (rows : List Row) → Shown limits_text [] old new rows → (f : Figures) → HasFigures old.now f → IsPermutation (map limit_cells f.limits) rows
 limits_shown old new rows h f l =
-    let is = ceiling_query.understood_so old.now.schema l.tables.ceiling_tree l.tables.ceiling in
-    let all = firsts.shows_all limit_cells [] ceiling_query.shown_terms [] tied_limits shows_limits ceiling_query.select_text ceiling_query.names old new l.tables.ceiling_tree rows f.limits (ap command_of is) (subst IsPlain (sym is) (refl, refl))
-    (any_apart ceiling_query.select_text ceiling_query.select_parsed ceiling_query.select_query ceiling_query.select_unlisted old.now.schema (ceiling_query.select_compiled l.tables.ceiling_tree) is) l.tables.ceiling.stored l.holds_ceiling h in
+    let all = shows_all limit_cells limits_text limits_shape limits_select limits_accepted refl [] old new l.tables.ceiling_tree l.tables.ceiling rows h f.limits refl l.holds_ceiling in
     subst (λ xs. IsPermutation (map limit_cells xs) rows) (all_pass f.limits) all
 
-pub limits_found : (old new : State) (outcome : Result (Vec Row Global) Error) → IfOk outcome (λ rows. Shown ceiling_query.select_text [] old new rows.items)
+pub limits_found : (old new : State) (outcome : Result (Vec Row Global) Error) → IfOk outcome (λ rows. Shown limits_text [] old new rows.items)
     → IfOk outcome (λ rows. (f : Figures) → HasFigures old.now f → IsPermutation (map limit_cells f.limits) rows.items)
 limits_found old new (Ok rows) h = limits_shown old new rows.items h
 limits_found old new (Err e) h = tt

@@ -1,8 +1,17 @@
 -- Which records a query shows.
-use Rattle.std.proofs.Common.{◌≡◌, inl, inr, List, [], ◌∷◌, map, filter, length, Bool, true, false, cond, arith, refl}
+use Rattle.std.proofs.Common.{◌≡◌, inl, inr, ℕ, pos, List, [], ◌∷◌, map, filter, length, Bool, true, false, Option, Some, None, Ok, Err, Result, cond, arith, refl, sym, ap, subst, ◌∙◌}
+use Rattle.std.specs.Prelude.{IfOk}
 use Rattle.std.specs.List.{AllByRecursion}
+use Rattle.std.specs.List.Sorted.{IsPermutation}
+use Rattle.std.proofs.lemmas.List.Sorted.{length_permutation}
+use Rattle.sqlite.specs.declared.types.Value.TheVariants.{Int, Blob}
+use Rattle.sqlite.specs.declared.error.Error.{Error}
+use Rattle.sqlite.specs.Order.{Row}
 use Rattle.sqlite_rules.specs.Lists.{Has}
 use Rattle.sqlite_rules.proofs.ListLemmas.{has_filtered}
+use Rattle.sqlite_trees.proofs.ListLemmas.{all-permutation}
+use Rattle.mq_rows.specs.Tables.{Tables}
+use Rattle.mq_tables.specs.Records.{IsOneOf, IsFirstBy}
 
 pub empty_mapped : {X Y : Type 0} (f : X → Y) (xs : List X) → length (map f xs) ≡ 0 → xs ≡ []
 empty_mapped f [] e = refl
@@ -25,3 +34,26 @@ module _ {R Y : Type 0} (show : R → Y) where
   -- what is shown is shown of a record that passes
   pub shown_of : (test : R → Bool) (all : List R) → AllByRecursion (λ y. (r : R) × (Has all r × (test r ≡ true)) × (y ≡ show r)) (map show (filter test all))
   shown_of test all = shown_each (λ r. Has all r × (test r ≡ true)) (filter test all) (λ r h. has_filtered test all r h)
+
+-- ---- values
+
+pub int_same : {x y : ℕ} → Int (pos x) ≡ Int (pos y) → x ≡ y
+int_same e = cc
+
+pub blob_same : {x y : List ℕ} → Blob x ≡ Blob y → x ≡ y
+blob_same e = cc
+
+-- ---- the first of the rows that a query by a key shows
+
+module _ {R : Type 0} (test : R → Bool) (show : R → Row) (Shows : Row → R → Type 0) (is_it : (row : Row) (u v : R) → Shows row u → test v ≡ true → row ≡ show v → v ≡ u) where
+  found_first : (all : List R) (rows : List Row) (found : Option R) → IsPermutation (map show (filter test all)) rows → IsFirstBy Shows rows found → IsOneOf test all found
+  found_first all rows None same none = none_of test all (empty_mapped show _ (sym (length_permutation _ _ same) ∙ ap length none))
+  found_first all rows (Some u) same (row, more, is, shown) =
+      let head : (v : R) × (Has all v × (test v ≡ true)) × (row ≡ show v) = (subst (AllByRecursion (λ r. (v : R) × (Has all v × (test v ≡ true)) × (r ≡ show v))) is (all-permutation _ _ _ same (shown_of show test all))).0 in
+      let it = is_it row u head.0 shown head.1.1 head.2 in
+      (subst (Has all) it head.1.0, subst (λ v. test v ≡ true) it head.1.1)
+
+  pub found_after : (of : Tables → List R) (Held : Tables → Type 0) (rows : List Row) (outcome : Result (Option R) Error) → ((t : Tables) → Held t → IsPermutation (map show (filter test (of t))) rows)
+      → IfOk outcome (IsFirstBy Shows rows) → IfOk outcome (λ found. (t : Tables) → Held t → IsOneOf test (of t) found)
+  found_after of Held rows (Ok found) same first = λ t l. found_first (of t) rows found (same t l) first
+  found_after of Held rows (Err e) same first = tt

@@ -1,22 +1,20 @@
 -- What the query for the latest limit answers of the records.
-use Rattle.std.proofs.Common.{◌≡◌, inl, inr, ℕ, pos, ◌<◌, ◌≤◌, ◌<ℤ◌, ◌&&◌, nat_le, suc, List, [], ◌∷◌, true, false, Option, Some, None, Ok, Err, Result, Contains, arith, Ordering, Less, Equal, Greater, refl, sym, ap, subst, ◌∙◌}
-use Rattle.std.specs.Prelude.{Vec, IfOk, drop}
+use Rattle.std.proofs.Common.{◌≡◌, inl, inr, ℕ, pos, ◌<◌, ◌≤◌, ◌<ℤ◌, ◌&&◌, nat_le, suc, List, [], ◌∷◌, codes, true, false, Option, Some, None, Ok, Err, Result, Contains, arith, Ordering, Less, Equal, Greater, refl, sym, ap, subst, ◌∙◌}
+use Rattle.std.specs.Prelude.{Vec, IfOk}
 use Rattle.std.specs.declared.alloc.Global.{Global}
-use Rattle.std.specs.List.{list_all}
+use Rattle.sqlite.specs.declared.error.Error.{Error}
+use Rattle.sqlite.specs.Listing.{listing_schema}
+use Rattle.sqlite.specs.Order.{Row, column}
+use Rattle.sqlite.specs.State.{State, Shown}
+use Rattle.sqlite_schema.specs.Names.{same_name}
+use Rattle.sqlite_tied.specs.Compute.{everything}
 use Rattle.std.specs.Ordering.{is_lt, int_cmp, ordering_then, MatchOrdering}
-use Rattle.std.specs.Cmp.{int_ranks}
-use Rattle.std.specs.Cmp.{unsigned_Decides}
+use Rattle.std.specs.Cmp.{int_ranks, unsigned_Decides}
 use Rattle.std.proofs.Math.Bool.{and-true}
 use Rattle.std.proofs.lemmas.Bool.{and_parts}
 use Rattle.std.proofs.lemmas.Slice.Eq.{slice_eq-Decides}
 use Rattle.sqlite_trees.proofs.ListLemmas.{all_weaker}
 use Rattle.sqlite_value.proofs.OrderLemmas.{value_cmp-Int}
-use Rattle.sqlite.specs.Order.{Row, column}
-use Rattle.sqlite.specs.Term.{holds}
-use Rattle.sqlite.specs.declared.types.Value.TheVariants.{Null, Int}
-use Rattle.sqlite.specs.declared.error.Error.{Error}
-use Rattle.sqlite.specs.State.{State, Shown}
-use Rattle.sqlite.proofs.Callers.{IsPlain, command_of}
 use Rattle.sqlite_rules.specs.Lists.{Has}
 use Rattle.mq_frame.specs.Same.{same_text}
 use Rattle.mq_rows.specs.declared.record.CeilingRecord.{CeilingRecord}
@@ -26,19 +24,54 @@ use Rattle.mq_tables.specs.Governing.{limit_row, IsGoverningShown, IsCeilingShow
 use Rattle.mq_tables.specs.Ledger.{HasLedger}
 use Rattle.mq_tables.specs.Lent.{key_params}
 use Rattle.mq_tables.specs.Records.{ceiling_fields}
+use Rattle.mq_tables.specs.Tables.{ceiling_table}
+use Rattle.mq_tables.proofs.Finds.{int_same}
 use Rattle.mq_tables.proofs.Firsts as firsts
-use Rattle.mq_tables.proofs.Plain.{any_apart}
+use Rattle.mq_tables.proofs.SelectShape.{SelectShape, Sorting, IsSelect, IsAccepted, filter_in, shown_in, order_by}
+use Rattle.mq_tables.proofs.Selected.{pass, shows_first}
+use Rattle.mq_tables.proofs.TermShape.{field, against}
+use Rattle.mq_tables.proofs.TermShape.Relation.{Same, AtMost}
 use Rattle.mq_tables.proofs.Tests.{text_test, until_test}
-use Rattle.mq_tables.proofs.Latest.{select_text, select_parsed, select_query, select_unlisted, key_tests, shown_terms, order_terms, names, select_compiled, understood_so}
 
 pub has_contains : {X : Type 0} (xs : List X) (x : X) → Has xs x → Contains xs x
 has_contains [] x h = absurd h
 has_contains (y ∷ ys) x (inl same) = (0, omega arith, sym same)
 has_contains (y ∷ ys) x (inr more) = let it = has_contains ys x more in (suc it.0, omega (arith, it.1), it.2)
 
-tied : (params r : Row) → list_all (holds (params ∷ r ∷ [])) key_tests ≡ list_all (holds (params ∷ (Null ∷ drop 1 r) ∷ [])) key_tests
-tied params [] = refl
-tied params (x ∷ r) = refl
+abbrev pub latest_text : List ℕ
+latest_text = codes "SELECT day, cap FROM ceiling WHERE login = ?1 AND day <= ?2 ORDER BY day DESC LIMIT 1"
+
+abbrev latest : Sorting
+latest = record { column = field (codes "day") 1; descending = true }
+
+abbrev pub latest_shape : SelectShape
+latest_shape = record {
+  table = ceiling_table;
+  shown = field (codes "day") 1 ∷ field (codes "cap") 2 ∷ [];
+  tests = against (field (codes "login") 0) Same 1 ∷ against (field (codes "day") 1) AtMost 2 ∷ [];
+  order = Some latest;
+}
+
+pub latest_select : IsSelect latest_text latest_shape
+unfolding everything listing_schema same_name
+latest_select = record {
+  parsed = refl;
+  select = _;
+  statement = refl;
+  timeless = refl;
+  unlisted = refl;
+  source = (_, refl, refl, refl, refl, refl, refl);
+  shown = ((_, refl, refl), ((_, refl, refl), tt));
+  filter = (_, _, refl, (_, _, refl, refl, refl), (_, _, refl, refl, refl));
+  ungrouped = (refl, refl, refl);
+  order = (_, _, _, refl, refl, refl, refl, refl, refl, refl);
+  alone = (refl, refl, refl);
+  known = λ t. refl;
+  short = refl;
+}
+
+latest_accepted : IsAccepted latest_shape
+latest_accepted s t low found = rw (low, found)
 
 -- a later day comes first
 not_later : (a b : ℕ) → is_lt (int_cmp (pos a) (pos b)) ≡ false → b ≤ a
@@ -58,20 +91,19 @@ module _ (login : List ℕ) (day : ℕ) where
   abbrev params : Row
   params = key_params login day
 
-  decides : (c : CeilingRecord) → firsts.pass ceiling_fields key_tests shown_terms params c ≡ is_due login day c
+  decides : (c : CeilingRecord) → pass ceiling_fields latest_text latest_shape latest_select latest_accepted refl params c ≡ is_due login day c
   decides c = rw (text_test c.login login, until_test c.day day) (ap (λ b. same_text login c.login && b) (and-true (nat_le c.day day)))
 
-  same_made : (r : Row) → firsts.made ceiling_fields key_tests shown_terms params (tied params) order_terms r ≡ firsts.made ceiling_fields key_tests shown_terms params (tied params) order_terms (Null ∷ drop 1 r)
-  same_made [] = refl
-  same_made (x ∷ r) = refl
+  abbrev IsFirst : ℕ → List CeilingRecord → List Row → Type 0
+  IsFirst = firsts.IsFirstRow ceiling_fields (filter_in latest_shape) (shown_in latest_shape) params (order_by None latest)
 
   abbrev out : CeilingRecord → Row × Row
-  out c = firsts.out ceiling_fields key_tests shown_terms params (tied params) order_terms c
+  out c = firsts.out ceiling_fields (filter_in latest_shape) (shown_in latest_shape) params (order_by None latest) c
 
-  ordered : (t : ℕ) (c other : CeilingRecord) → firsts.before ceiling_fields key_tests shown_terms params (tied params) order_terms t (out other) (out c) ≡ is_lt (int_cmp (pos c.day) (pos other.day))
+  ordered : (t : ℕ) (c other : CeilingRecord) → firsts.before ceiling_fields (filter_in latest_shape) (shown_in latest_shape) params (order_by None latest) t (out other) (out c) ≡ is_lt (int_cmp (pos c.day) (pos other.day))
   ordered t c other = rw (value_cmp-Int (pos c.day) (pos other.day)) (then_nothing (int_cmp (pos c.day) (pos other.day)))
 
-  governing : (t : ℕ) (all : List CeilingRecord) (rows : List Row) → firsts.IsFirstRow ceiling_fields key_tests shown_terms params (tied params) order_terms t all rows → IsGoverningShown login day all rows
+  governing : (t : ℕ) (all : List CeilingRecord) (rows : List Row) → IsFirst t all rows → IsGoverningShown login day all rows
   governing t all [] none = all_weaker _ (λ c. is_due login day c ≡ false) (λ c free. sym (decides c) ∙ free) all none
   governing t all (row ∷ more) (c, it, is) = (
     c,
@@ -83,18 +115,11 @@ module _ (login : List ℕ) (day : ℕ) where
     is,
   )
 
-  pub found_governing : (old new : State) (outcome : Result (Vec Row Global) Error) → IfOk outcome (λ rows. Shown select_text (key_params login day) old new rows.items)
+  pub found_governing : (old new : State) (outcome : Result (Vec Row Global) Error) → IfOk outcome (λ rows. Shown latest_text (key_params login day) old new rows.items)
       → IfOk outcome (λ rows. (t : Tables) → HasLedger old.now t → IsGoverningShown login day t.ceilings rows.items)
   found_governing old new (Ok rows) h = λ t l.
-      let place = l.tables.ceiling in
-      let tree = l.at.ceiling in
-      let is = understood_so old.now.schema tree place in
-      governing tree t.ceilings rows.items (firsts.shows_first ceiling_fields key_tests shown_terms params (tied params) order_terms same_made select_text names old new tree rows.items t.ceilings (ap command_of is) (subst IsPlain (sym is) (refl, refl))
-      (any_apart select_text select_parsed select_query select_unlisted old.now.schema (select_compiled tree) is) place.stored l.holds.ceilings h)
+      governing l.at.ceiling t.ceilings rows.items (shows_first ceiling_fields latest_text latest_shape latest_select latest_accepted refl params old new l.at.ceiling l.tables.ceiling rows.items h t.ceilings latest refl l.holds.ceilings)
   found_governing old new (Err e) h = tt
-
-  int_same : {x y : ℕ} → Int (pos x) ≡ Int (pos y) → x ≡ y
-  int_same e = cc
 
   -- the row shows that limit, whose login is known
   pub limit_is : (row : Row) (u v : CeilingRecord) → IsCeilingShown login row u → login ≡ v.login → row ≡ limit_row v → v ≡ u

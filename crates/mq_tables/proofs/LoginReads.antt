@@ -1,37 +1,72 @@
 -- What the query for the next login answers of the records.
-use Rattle.std.proofs.Common.{◌≡◌, inl, inr, ℕ, zero, suc, Ordering, Less, Equal, Greater, List, [], ◌∷◌, map, true, false, Option, Some, None, Ok, Err, Result, Contains, arith, refl, sym, ap, subst, ◌∙◌}
-use Rattle.std.specs.Prelude.{Vec, IfOk, drop}
+use Rattle.std.proofs.Common.{◌≡◌, inl, inr, ℕ, zero, suc, Ordering, Less, Equal, Greater, List, [], ◌∷◌, codes, map, true, false, Option, Some, None, Ok, Err, Result, Contains, arith, refl, sym, ap, subst, ◌∙◌}
+use Rattle.std.specs.Prelude.{Vec, IfOk}
+use Rattle.std.specs.declared.alloc.Global.{Global}
+use Rattle.sqlite.specs.declared.error.Error.{Error}
+use Rattle.sqlite.specs.Listing.{listing_schema}
+use Rattle.sqlite.specs.Order.{Row, column}
+use Rattle.sqlite.specs.State.{State, Shown}
+use Rattle.sqlite_schema.specs.Names.{same_name}
+use Rattle.sqlite_tied.specs.Compute.{everything}
 use Rattle.std.specs.Ordering.{is_lt, is_ge, nat_cmp, ordering_then, ordering_reverse}
 use Rattle.std.specs.Cmp.{nat_cmp_is}
-use Rattle.std.proofs.lemmas.Cmp.{nat_cmp_total}
 use Rattle.std.specs.Cmp.Lexicographic.{slice_cmp}
-use Rattle.std.specs.declared.alloc.Global.{Global}
-use Rattle.std.specs.List.{list_all}
 use Rattle.std.proofs.Math.Bool.{and-true}
-use Rattle.sqlite.specs.Order.{Row, column}
-use Rattle.sqlite.specs.Term.{holds}
-use Rattle.sqlite.specs.declared.types.Value.TheVariants.{Null, Blob}
-use Rattle.sqlite.specs.declared.error.Error.{Error}
-use Rattle.sqlite.specs.State.{State, Shown}
-use Rattle.sqlite.proofs.Callers.{IsPlain, command_of}
+use Rattle.std.proofs.lemmas.Cmp.{nat_cmp_total}
+use Rattle.sqlite.specs.declared.types.Value.TheVariants.{Blob}
 use Rattle.sqlite_rules.specs.Lists.{Has}
 use Rattle.sqlite_trees.proofs.ListLemmas.{all_weaker}
 use Rattle.sqlite_value.proofs.OrderLemmas.{value_cmp-Blob}
 use Rattle.mq_ledger.specs.Page.{below}
-use Rattle.mq_rows.specs.Tables.{Tables}
 use Rattle.mq_rows.specs.declared.record.UsageRecord.{UsageRecord}
 use Rattle.mq_rows.specs.Listing.{IsNextLogin}
+use Rattle.mq_rows.specs.Tables.{Tables}
 use Rattle.mq_tables.specs.Ledger.{HasLedger}
 use Rattle.mq_tables.specs.Paging.{just_above, IsLoginShown, IsFirstLogin}
 use Rattle.mq_tables.specs.Records.{usage_fields}
+use Rattle.mq_tables.specs.Tables.{usage_table}
+use Rattle.mq_tables.proofs.Finds.{blob_same}
 use Rattle.mq_tables.proofs.Firsts as firsts
-use Rattle.mq_tables.proofs.Plain.{any_apart}
+use Rattle.mq_tables.proofs.SelectShape.{SelectShape, Sorting, IsSelect, IsAccepted, filter_in, shown_in, order_by}
+use Rattle.mq_tables.proofs.Selected.{pass, shows_first}
+use Rattle.mq_tables.proofs.TermShape.{field, against}
+use Rattle.mq_tables.proofs.TermShape.Relation.{AtLeast}
 use Rattle.mq_tables.proofs.Tests.{at_least_test}
-use Rattle.mq_tables.proofs.LoginText.{select_text, select_parsed, select_query, select_unlisted, key_tests, shown_terms, order_terms, names, select_compiled, understood_so}
 
-tied : (params r : Row) → list_all (holds (params ∷ r ∷ [])) key_tests ≡ list_all (holds (params ∷ (Null ∷ drop 1 r) ∷ [])) key_tests
-tied params [] = refl
-tied params (x ∷ r) = refl
+abbrev pub login_text : List ℕ
+login_text = codes "SELECT login FROM usage WHERE login >= ?1 ORDER BY login LIMIT 1"
+
+abbrev by_login : Sorting
+by_login = record { column = field (codes "login") 0; descending = false }
+
+abbrev pub login_shape : SelectShape
+login_shape = record {
+  table = usage_table;
+  shown = field (codes "login") 0 ∷ [];
+  tests = against (field (codes "login") 0) AtLeast 1 ∷ [];
+  order = Some by_login;
+}
+
+pub login_select : IsSelect login_text login_shape
+unfolding everything listing_schema same_name
+login_select = record {
+  parsed = refl;
+  select = _;
+  statement = refl;
+  timeless = refl;
+  unlisted = refl;
+  source = (_, refl, refl, refl, refl, refl, refl);
+  shown = ((_, refl, refl), tt);
+  filter = (_, _, refl, refl, refl);
+  ungrouped = (refl, refl, refl);
+  order = (_, _, _, refl, refl, refl, refl, refl, refl, refl);
+  alone = (refl, refl, refl);
+  known = λ t. refl;
+  short = refl;
+}
+
+login_accepted : IsAccepted login_shape
+login_accepted s t low found = rw (low, found)
 
 then_nothing : (o : Ordering) → is_lt (ordering_then o Equal) ≡ is_lt o
 then_nothing Less = refl
@@ -65,20 +100,19 @@ module _ (after : List ℕ) where
   abbrev params : Row
   params = Blob (just_above after) ∷ []
 
-  decides : (u : UsageRecord) → firsts.pass usage_fields key_tests shown_terms params u ≡ below after u.login
+  decides : (u : UsageRecord) → pass usage_fields login_text login_shape login_select login_accepted refl params u ≡ below after u.login
   decides u = and-true _ ∙ at_least_test u.login (just_above after) ∙ from_just_above u.login after
 
-  same_made : (r : Row) → firsts.made usage_fields key_tests shown_terms params (tied params) order_terms r ≡ firsts.made usage_fields key_tests shown_terms params (tied params) order_terms (Null ∷ drop 1 r)
-  same_made [] = refl
-  same_made (x ∷ r) = refl
+  abbrev IsFirst : ℕ → List UsageRecord → List Row → Type 0
+  IsFirst = firsts.IsFirstRow usage_fields (filter_in login_shape) (shown_in login_shape) params (order_by None by_login)
 
   abbrev out : UsageRecord → Row × Row
-  out u = firsts.out usage_fields key_tests shown_terms params (tied params) order_terms u
+  out u = firsts.out usage_fields (filter_in login_shape) (shown_in login_shape) params (order_by None by_login) u
 
-  ordered : (t : ℕ) (u other : UsageRecord) → firsts.before usage_fields key_tests shown_terms params (tied params) order_terms t (out other) (out u) ≡ below other.login u.login
+  ordered : (t : ℕ) (u other : UsageRecord) → firsts.before usage_fields (filter_in login_shape) (shown_in login_shape) params (order_by None by_login) t (out other) (out u) ≡ below other.login u.login
   ordered t u other = rw (value_cmp-Blob other.login u.login) (then_nothing (slice_cmp nat_cmp other.login u.login))
 
-  next : (t : ℕ) (all : List UsageRecord) (rows : List Row) → firsts.IsFirstRow usage_fields key_tests shown_terms params (tied params) order_terms t all rows → IsLoginShown after all rows
+  next : (t : ℕ) (all : List UsageRecord) (rows : List Row) → IsFirst t all rows → IsLoginShown after all rows
   next t all [] none = all_weaker _ (λ u. below after u.login ≡ false) (λ u free. sym (decides u) ∙ free) all none
   next t all (row ∷ more) (u, it, is) = (
     u.login,
@@ -90,18 +124,11 @@ module _ (after : List ℕ) where
     is,
   )
 
-  pub found_login : (old new : State) (outcome : Result (Vec Row Global) Error) → IfOk outcome (λ rows. Shown select_text params old new rows.items)
+  pub found_login : (old new : State) (outcome : Result (Vec Row Global) Error) → IfOk outcome (λ rows. Shown login_text params old new rows.items)
       → IfOk outcome (λ rows. (t : Tables) → HasLedger old.now t → IsLoginShown after t.usage rows.items)
   found_login old new (Ok rows) h = λ t l.
-      let place = l.tables.usage in
-      let tree = l.at.usage in
-      let is = understood_so old.now.schema tree place in
-      next tree t.usage rows.items (firsts.shows_first usage_fields key_tests shown_terms params (tied params) order_terms same_made select_text names old new tree rows.items t.usage (ap command_of is) (subst IsPlain (sym is) (refl, refl))
-      (any_apart select_text select_parsed select_query select_unlisted old.now.schema (select_compiled tree) is) place.stored l.holds.usage h)
+      next l.at.usage t.usage rows.items (shows_first usage_fields login_text login_shape login_select login_accepted refl params old new l.at.usage l.tables.usage rows.items h t.usage by_login refl l.holds.usage)
   found_login old new (Err e) h = tt
-
-  blob_same : {x y : List ℕ} → Blob x ≡ Blob y → x ≡ y
-  blob_same e = cc
 
   login_so : (all : List UsageRecord) (rows : List Row) (found : Option (List ℕ)) → IsLoginShown after all rows → IsFirstLogin rows found → IsNextLogin after all found
   login_so all [] None shown first = shown

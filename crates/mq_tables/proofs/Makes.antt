@@ -25,14 +25,15 @@ use Rattle.sqlite_tied.specs.Compute.{everything}
 use Rattle.mq_tables.specs.Tables.{setting_table, answer_table, trans_table, usage_table, ceiling_table}
 use Rattle.mq_tables.specs.declared.setting.NewSetting.{NewSetting}
 use Rattle.mq_tables.specs.Written.{Created}
-use Rattle.mq_tables.specs.Making.{Makes, Puts, HasPut, HasCounters, HasAdded, HasStarted, IsMadeOver, setting_row, setting_params, other_tables}
+use Rattle.mq_tables.specs.Making.{Makes, Puts, HasPut, HasCounters, HasAdded, HasStarted, setting_row, setting_params, other_tables}
 use Rattle.mq_tables.proofs.Plain.{parsed_in}
 use Rattle.mq_tables.proofs.Creating.{MakesTable, creates_any, counters_kept}
 use Rattle.mq_tables.proofs.Inserting.{IsInsert, understood_insert, unreferred}
 use Rattle.mq_tables.proofs.Statements.{inserts}
 use Rattle.mq_tables.proofs.Places.{placed, unnamed, all_below}
 use Rattle.mq_tables.proofs.Chains.{adds_both, all_split, all_both}
-use Rattle.mq_tables.proofs.NewLedger.{made_whole}
+use Rattle.mq_ledger.specs.Day.{minutes_in}
+use Rattle.mq_rows.specs.Rows.{version_of}
 
 pub makes : (text : List ℕ) (table : Table) (it : MakesTable text table) (old new : State) (r : Result ℕ Error) → ExecutesInside 0 text [] old new r → OnOk r (Makes table old new)
 makes text table it old new (Err e) h = tt
@@ -59,10 +60,10 @@ adds_four a b c d e p q r s counters =
 -- ---- the row of settings
 
 abbrev pub put_text : List ℕ
-put_text = codes "INSERT INTO setting (id, version, minutes, cap, arrivals) VALUES (1, 1, ?1, ?2, 0)"
+put_text = codes "INSERT INTO setting (id, version, minutes, cap, arrivals) VALUES (1, ?1, ?2, ?3, 0)"
 
 abbrev put_terms : List Term
-put_terms = lit (Int (pos 1)) ∷ lit Null ∷ lit (Int (pos 1)) ∷ col 0 0 ∷ col 0 1 ∷ lit (Int (pos 0)) ∷ []
+put_terms = lit (Int (pos 1)) ∷ lit Null ∷ col 0 0 ∷ col 0 1 ∷ col 0 2 ∷ lit (Int (pos 0)) ∷ []
 
 put_parses : first put_text ≡ Ok (parsed_in (first put_text))
 unfolding everything
@@ -90,10 +91,10 @@ unfolding unary
 cast_null = either _ Null
 
 row_is : (made_with : NewSetting) (tree : ℕ) (rows : List Row) → with_rowid Chosen rows (cast_row (record setting_table { tree = tree }) (eval_all put_terms (setting_params made_with ∷ []))) ≡ setting_row made_with
-row_is made_with tree rows = rw (cast_null, cast_int (pos 1), cast_int made_with.minutes, cast_int (pos made_with.cap), cast_int (pos 0))
+row_is made_with tree rows = rw (cast_null, cast_int (pos 1), cast_int (pos (version_of made_with.zone)), cast_int (minutes_in made_with.zone), cast_int (pos made_with.cap), cast_int (pos 0))
 
 module _ (made_with : NewSetting) (old new : State) (at tree : ℕ) (named : table_named old.now.schema (codes "setting") ≡ Some at) (there : slice_get old.now.schema.tables at ≡ Some (record setting_table { tree = tree })) where
-  put_ran : (count : ℕ) → old.now.trees tree ≡ [] → Executes put_text (setting_params made_with) old new (Ok count) → HasPut tree made_with old new
+  put_ran : (count : ℕ) → old.now.trees tree ≡ [] → Executes put_text (setting_params made_with) old new (Ok count) → HasPut tree (setting_row made_with) old new
   unfolding put_insert
   put_ran count none h =
       let table : Table = record setting_table { tree = tree } in
@@ -103,48 +104,42 @@ module _ (made_with : NewSetting) (old new : State) (at tree : ℕ) (named : tab
       put_terms 6 (ap command_of is) (subst IsPlain (sym is) (refl, refl)) refl count h in
       record {
         schema = done.schema_is;
-        row = done.rows ∙ ap (λ r. put_row r (old.now.trees tree)) (row_is made_with tree (old.now.trees tree)) ∙ ap (put_row (setting_row made_with)) none;
+        row_is = done.rows ∙ ap (λ r. put_row r (old.now.trees tree)) (row_is made_with tree (old.now.trees tree)) ∙ ap (put_row (setting_row made_with)) none;
         others = done.tables;
       }
 
-pub puts : (made_with : NewSetting) (old new : State) (r : Result ℕ Error) → ExecutesInside 0 put_text (setting_params made_with) old new r → OnOk r (Puts made_with old new)
+pub puts : (made_with : NewSetting) (old new : State) (r : Result ℕ Error) → ExecutesInside 0 put_text (setting_params made_with) old new r → OnOk r (Puts setting_table (setting_row made_with) old new)
 puts made_with old new (Err e) h = tt
 puts made_with old new (Ok count) h = (h.1.mode, λ at tree named there none. put_ran made_with old new at tree named there count none h.0)
 
-pub setting_named : same_name (codes "setting") (codes "setting") ≡ true
-unfolding same_name
-setting_named = refl
+-- ---- a table and its row
 
-pub starts : (made_with : NewSetting) (a b c : State) → Makes setting_table a b → Puts made_with b c → HasCounters a → HasStarted made_with a c
-starts made_with a b c p q counters =
+pub starts : (table : Table) (row : Row) → same_name table.name table.name ≡ true → (a b c : State) → Makes table a b → Puts table row b c → HasCounters a → HasStarted table row a c
+starts table row self a b c p q counters =
     let one = p.1 counters in
     let s = a.now.schema in
-    let table : Table = record setting_table { tree = next_tree s } in
-    let place = placed (λ t. same_name t.name (codes "setting")) 0 s.tables table (unnamed s (codes "setting") one.0.free) setting_named in
+    let made : Table = record table { tree = next_tree s } in
+    let place = placed (λ t. same_name t.name table.name) 0 s.tables made (unnamed s table.name one.0.free) self in
     let there : (at : ℕ) → 0 + at ≡ at = λ at. omega arith in
-    let put = q.1 place.at (next_tree s) (ap (λ x. table_named x (codes "setting")) one.0.schema_is ∙ place.found ∙ ap Some (there place.at)) (ap (λ (x : Schema). slice_get x.tables place.at) one.0.schema_is ∙ place.there) one.0.empty in
-    let kept : AllByRecursion (λ t. t.tree ≢ next_tree s → c.now.trees t.tree ≡ b.now.trees t.tree) (created s setting_table).tables =
+    let put = q.1 place.at (next_tree s) (ap (λ x. table_named x table.name) one.0.schema_is ∙ place.found ∙ ap Some (there place.at)) (ap (λ (x : Schema). slice_get x.tables place.at) one.0.schema_is ∙ place.there) one.0.empty in
+    let kept : AllByRecursion (λ t. t.tree ≢ next_tree s → c.now.trees t.tree ≡ b.now.trees t.tree) (created s table).tables =
     subst (λ (x : Schema). AllByRecursion (λ t. t.tree ≢ next_tree s → c.now.trees t.tree ≡ b.now.trees t.tree) x.tables) one.0.schema_is put.others in
-    let before = (all_split (λ t. t.tree ≢ next_tree s → c.now.trees t.tree ≡ b.now.trees t.tree) s.tables (table ∷ []) kept).0 in
+    let before = (all_split (λ t. t.tree ≢ next_tree s → c.now.trees t.tree ≡ b.now.trees t.tree) s.tables (made ∷ []) kept).0 in
     let same : AllByRecursion (λ t. c.now.trees t.tree ≡ b.now.trees t.tree) s.tables = all_both _ _ _ (λ t low apart. apart (λ e. omega (arith, low, e))) s.tables (all_below s) before in
     record {
       free = one.0.free;
       schema = put.schema ∙ one.0.schema_is;
-      setting = put.row;
+      row_is = put.row_is;
       others = all_both _ _ _ (λ t later first. later ∙ first) s.tables same one.0.tables;
       counters = ap lacks_sequence put.schema ∙ one.1;
     }
 
 -- ---- as the functions say it
 
-pub starts_ok : (made_with : NewSetting) (a b c : State) (r : Result ℕ Error) → Makes setting_table a b → OnOk r (Puts made_with b c) → OnOk r (HasCounters a → HasStarted made_with a c)
-starts_ok made_with a b c (Ok count) p q = starts made_with a b c p q
-starts_ok made_with a b c (Err e) p q = tt
+pub starts_ok : (table : Table) (row : Row) → same_name table.name table.name ≡ true → (a b c : State) (r : Result ℕ Error) → Makes table a b → OnOk r (Puts table row b c) → OnOk r (HasCounters a → HasStarted table row a c)
+starts_ok table row self a b c (Ok count) p q = starts table row self a b c p q
+starts_ok table row self a b c (Err e) p q = tt
 
 pub adds_ok : (a b c d e : State) (r : Result ℕ Error) → Makes answer_table a b → Makes trans_table b c → Makes usage_table c d → OnOk r (Makes ceiling_table d e) → OnOk r (HasCounters a → HasAdded other_tables a e)
 adds_ok a b c d e (Ok count) p q r s = adds_four a b c d e p q r s
 adds_ok a b c d e (Err _) p q r s = tt
-
-pub made_ok : (made_with : NewSetting) (a b c : State) (r : Result ℕ Error) → (HasCounters a → HasStarted made_with a b) → OnOk r (HasCounters b → HasAdded other_tables b c) → OnOk r (IsMadeOver made_with a.now c.now)
-made_ok made_with a b c (Ok count) p q = record { made = λ counters. let it = p counters in made_whole made_with a b c it (q it.counters) }
-made_ok made_with a b c (Err e) p q = tt

@@ -1,49 +1,73 @@
 -- What the query for a login's days answers of the records.
-use Rattle.std.proofs.Common.{◌≡◌, ℕ, pos, ◌≤◌, ◌&&◌, nat_le, List, [], ◌∷◌, map, filter, Bool, true, false, true≢false, Option, Some, None, Ok, Err, Result, refl, sym, ap, ap₂, subst, ◌∙◌}
-use Rattle.std.specs.Prelude.{Vec, IfOk, drop}
+use Rattle.std.proofs.Common.{◌≡◌, ℕ, ◌≤◌, ◌&&◌, nat_le, List, [], ◌∷◌, codes, map, filter, Bool, true, false, true≢false, Option, Some, None, Ok, Err, Result, refl, sym, ap, ap₂, subst, ◌∙◌}
+use Rattle.std.specs.Prelude.{Vec, IfOk}
 use Rattle.std.specs.declared.alloc.Global.{Global}
-use Rattle.std.specs.List.{AllByRecursion, list_all}
+use Rattle.sqlite.specs.declared.error.Error.{Error}
+use Rattle.sqlite.specs.Listing.{listing_schema}
+use Rattle.sqlite.specs.Order.{Row, column}
+use Rattle.sqlite.specs.State.{State, Shown}
+use Rattle.sqlite_schema.specs.Names.{same_name}
+use Rattle.sqlite_tied.specs.Compute.{everything}
+use Rattle.std.specs.List.{AllByRecursion}
 use Rattle.std.specs.List.Sorted.{IsPermutation}
 use Rattle.std.specs.Cmp.{unsigned_Decides}
 use Rattle.std.proofs.Math.Bool.{and-true}
 use Rattle.std.proofs.lemmas.Bool.{and_parts}
 use Rattle.std.proofs.lemmas.List.Sorted.{IsPermutation-sym}
 use Rattle.std.proofs.lemmas.Slice.Eq.{slice_eq-Decides}
-use Rattle.sqlite.specs.Order.{Row, column}
-use Rattle.sqlite.specs.Term.{eval_all, holds}
-use Rattle.sqlite.specs.declared.types.Value.TheVariants.{Null, Int}
-use Rattle.sqlite.specs.declared.error.Error.{Error}
-use Rattle.sqlite.specs.State.{State, Shown}
-use Rattle.sqlite.proofs.Callers.{IsPlain, command_of}
 use Rattle.sqlite_rules.specs.Lists.{Has}
 use Rattle.sqlite_rules.proofs.ListLemmas.{all_has}
 use Rattle.sqlite_trees.proofs.ListLemmas.{all-permutation, all_weaker}
 use Rattle.mq_frame.specs.Same.{same_text}
-use Rattle.mq_rows.specs.Tables.{Tables}
-use Rattle.mq_tables.specs.Ledger.{HasLedger}
-use Rattle.mq_tables.specs.Lent.{key_params}
-use Rattle.mq_tables.proofs.Finds.{shown_of}
-use Rattle.mq_tables.proofs.Firsts as firsts
-use Rattle.mq_tables.proofs.Plain.{any_apart}
 use Rattle.mq_rows.specs.declared.record.UsageRecord.{UsageRecord}
 use Rattle.mq_rows.specs.Found.{is_over, IsFirstOver}
+use Rattle.mq_rows.specs.Tables.{Tables}
 use Rattle.mq_tables.specs.declared.over.DayTotals.{DayTotals}
+use Rattle.mq_tables.specs.Ledger.{HasLedger}
+use Rattle.mq_tables.specs.Lent.{key_params}
 use Rattle.mq_tables.specs.Over.{day_row, is_from, is_past, totals_of, IsTotalsShown, IsFirstShown}
 use Rattle.mq_tables.specs.Records.{usage_fields}
-use Rattle.mq_tables.proofs.Tests.{text_test, from_test}
+use Rattle.mq_tables.specs.Tables.{usage_table}
+use Rattle.mq_tables.proofs.Finds.{int_same, shown_of}
+use Rattle.mq_tables.proofs.Firsts as firsts
 use Rattle.mq_tables.proofs.Governing.{has_contains}
-use Rattle.mq_tables.proofs.OverText.{select_text, select_parsed, select_query, select_unlisted, key_tests, shown_terms, names, select_compiled, understood_so}
+use Rattle.mq_tables.proofs.SelectShape.{SelectShape, IsSelect, IsAccepted}
+use Rattle.mq_tables.proofs.TermShape.{field, against}
+use Rattle.mq_tables.proofs.Selected.{pass, shows_all}
+use Rattle.mq_tables.proofs.TermShape.Relation.{Same, AtLeast}
+use Rattle.mq_tables.proofs.Tests.{text_test, from_test}
 
-tied : (params r : Row) → list_all (holds (params ∷ r ∷ [])) key_tests ≡ list_all (holds (params ∷ (Null ∷ drop 1 r) ∷ [])) key_tests
-tied params [] = refl
-tied params (x ∷ r) = refl
+abbrev pub days_text : List ℕ
+days_text = codes "SELECT day, settled, reserved FROM usage WHERE login = ?1 AND day >= ?2"
 
-shows : (params r : Row) → eval_all shown_terms (params ∷ r ∷ []) ≡ eval_all shown_terms (params ∷ (Null ∷ drop 1 r) ∷ [])
-shows params [] = refl
-shows params (x ∷ r) = refl
+abbrev pub days_shape : SelectShape
+days_shape = record {
+  table = usage_table;
+  shown = field (codes "day") 1 ∷ field (codes "settled") 2 ∷ field (codes "reserved") 3 ∷ [];
+  tests = against (field (codes "login") 0) Same 1 ∷ against (field (codes "day") 1) AtLeast 2 ∷ [];
+  order = None;
+}
 
-int_same : {x y : ℕ} → Int (pos x) ≡ Int (pos y) → x ≡ y
-int_same e = cc
+pub days_select : IsSelect days_text days_shape
+unfolding everything listing_schema same_name
+days_select = record {
+  parsed = refl;
+  select = _;
+  statement = refl;
+  timeless = refl;
+  unlisted = refl;
+  source = (_, refl, refl, refl, refl, refl, refl);
+  shown = ((_, refl, refl), ((_, refl, refl), ((_, refl, refl), tt)));
+  filter = (_, _, refl, (_, _, refl, refl, refl), (_, _, refl, refl, refl));
+  ungrouped = (refl, refl, refl);
+  order = (refl, refl);
+  alone = (refl, refl, refl);
+  known = λ t. refl;
+  short = refl;
+}
+
+days_accepted : IsAccepted days_shape
+days_accepted s t low found = rw (low, found)
 
 -- the row of a record shows its numbers
 totals_are : (row : Row) (d : DayTotals) (v : UsageRecord) → IsTotalsShown row d → row ≡ day_row v → d ≡ totals_of v
@@ -54,22 +78,14 @@ totals_are row d v shown is =
     λ i. record { day = day i; settled = settled i; reserved = reserved i }
 
 module _ (login : List ℕ) (from : ℕ) where
-  decides : (u : UsageRecord) → firsts.pass usage_fields key_tests shown_terms (key_params login from) u ≡ is_from login from u
+  decides : (u : UsageRecord) → pass usage_fields days_text days_shape days_select days_accepted refl (key_params login from) u ≡ is_from login from u
   decides u = rw (text_test u.login login, from_test u.day from) (ap (λ b. same_text login u.login && b) (and-true (nat_le from u.day)))
 
-  finds : (old new : State) (rows : List Row) → Shown select_text (key_params login from) old new rows → (t : Tables) → HasLedger old.now t → IsPermutation (map day_row (filter (is_from login from) t.usage)) rows
-  finds old new rows h t l =
-      let params = key_params login from in
-      let place = l.tables.usage in
-      let tree = l.at.usage in
-      let is = understood_so old.now.schema tree place in
-      let all = firsts.shows_all usage_fields key_tests shown_terms params (tied params) (shows params) select_text names old new tree rows t.usage (ap command_of is) (subst IsPlain (sym is) (refl, refl))
-      (any_apart select_text select_parsed select_query select_unlisted old.now.schema (select_compiled tree) is) place.stored l.holds.usage.same h in
-      subst (λ (p : UsageRecord → Bool). IsPermutation (map day_row (filter p t.usage)) rows) (λ i u. decides u i) all
-
-  pub found_all : (old new : State) (outcome : Result (Vec Row Global) Error) → IfOk outcome (λ rows. Shown select_text (key_params login from) old new rows.items)
+  pub found_all : (old new : State) (outcome : Result (Vec Row Global) Error) → IfOk outcome (λ rows. Shown days_text (key_params login from) old new rows.items)
       → IfOk outcome (λ rows. (t : Tables) → HasLedger old.now t → IsPermutation (map day_row (filter (is_from login from) t.usage)) rows.items)
-  found_all old new (Ok rows) h = finds old new rows.items h
+  found_all old new (Ok rows) h = λ t l.
+      subst (λ (p : UsageRecord → Bool). IsPermutation (map day_row (filter p t.usage)) rows.items) (λ i u. decides u i)
+      (shows_all usage_fields days_text days_shape days_select days_accepted refl (key_params login from) old new l.at.usage l.tables.usage rows.items h t.usage refl l.holds.usage.same)
   found_all old new (Err e) h = tt
 
   -- what is said of each row is said of each of the login's days from that one on

@@ -1,46 +1,51 @@
--- The query of a setting writes nothing, whatever the store is.
-use Rattle.std.proofs.Common.{◌≡◌, ◌⊎◌, inl, inr, List, [], IsSome, true≢false, Ok, Err, Result, sym, subst, ◌∙◌}
+-- A query that returns nothing of a write writes nothing, whatever the store is.
+use Rattle.std.proofs.Common.{◌≡◌, ◌⊎◌, inl, inr, ℕ, List, [], IsSome, true≢false, Ok, Err, Result, sym, subst, ◌∙◌}
 use Rattle.std.specs.Prelude.{IsTrue}
 use Rattle.sqlite.specs.Order.{Row}
 use Rattle.sqlite.specs.Tree.{Trees}
 use Rattle.sqlite.specs.declared.error.Error.{Error}
 use Rattle.sqlite.specs.Clock.{timed}
 use Rattle.sqlite.specs.State.{State, HasCleanDisk, Survives, QueriesRow, Shown, ShowsRows, FailsToQuery, FailsToShow, IsNotRun, IsUnchanged, IsRolledBack, CommitsShowing}
-use Rattle.mq_tables.specs.Reading.{setting_text}
+use Rattle.sqlite.specs.Schema.{Schema}
+use Rattle.sqlite.specs.Listing.{understood}
+use Rattle.sqlite_resolve.specs.declared.compiled.Compiled.{Compiled}
 use Rattle.mq_tables.specs.Reading.{unlimited, Spares}
-use Rattle.mq_tables.proofs.Plain.{setting_bare}
+use Rattle.mq_tables.proofs.Plain.{IsBare}
 
-module _ (old new : State) where
-  shown_same : (rows : List Row) → Shown setting_text [] old new rows → IsUnchanged old new
+abbrev pub AlwaysBare : List ℕ → Type 0
+AlwaysBare text = (s : Schema) (c : Compiled) → understood s text ≡ Ok c → IsBare c
+
+module _ (text : List ℕ) (bare : AlwaysBare text) (old new : State) where
+  shown_same : (rows : List Row) → Shown text [] old new rows → IsUnchanged old new
   unfolding Shown
   shown_same rows h =
-      let none = (setting_bare old.now.schema h.0 h.1.is).0 in
-      (subst (ShowsRows old new setting_text h.0 (timed [] h.0.formats h.1.now) rows) none h.2).3
+      let none = (bare old.now.schema h.0 h.1.is).0 in
+      (subst (ShowsRows old new text h.0 (timed [] h.0.formats h.1.now) rows) none h.2).3
 
-  not_run : (e : Error) → IsNotRun old new setting_text [] e → IsUnchanged old new ⊎ IsRolledBack old new
+  not_run : (e : Error) → IsNotRun old new text [] e → IsUnchanged old new ⊎ IsRolledBack old new
   unfolding IsNotRun
   not_run e (inl h) = inl h.1
   not_run e (inr h) = inr h.3
 
-  not_shown : (e : Error) → FailsToQuery setting_text [] old new e → IsUnchanged old new ⊎ IsRolledBack old new
+  not_shown : (e : Error) → FailsToQuery text [] old new e → IsUnchanged old new ⊎ IsRolledBack old new
   unfolding FailsToQuery
   not_shown e (inl h) = not_run e h
   not_shown e (inr h) =
-      let none = (setting_bare old.now.schema h.0 h.1.is).0 in
-      inl (subst (FailsToShow old new setting_text h.0 (timed [] h.0.formats h.1.now) e) none h.2).3
+      let none = (bare old.now.schema h.0 h.1.is).0 in
+      inl (subst (FailsToShow old new text h.0 (timed [] h.0.formats h.1.now) e) none h.2).3
 
-  queried : (answer : Result Row Error) → QueriesRow setting_text [] old new answer → IsUnchanged old new ⊎ IsRolledBack old new
+  queried : (answer : Result Row Error) → QueriesRow text [] old new answer → IsUnchanged old new ⊎ IsRolledBack old new
   unfolding QueriesRow
   queried (Ok row) (inl h) = inl h.1
   queried (Ok row) (inr h) = inl (shown_same h.0 h.1)
   queried (Err e) (inl h) = not_shown e h
   queried (Err e) (inr h) = inl (shown_same [] h.1)
 
-  commits_none : (db : Trees) → CommitsShowing setting_text [] old db → ⊥
+  commits_none : (db : Trees) → CommitsShowing text [] old db → ⊥
   unfolding CommitsShowing
-  commits_none db h = true≢false (sym (subst IsSome (setting_bare old.now.schema h.0 h.1.is).0 h.2))
+  commits_none db h = true≢false (sym (subst IsSome (bare old.now.schema h.0 h.1.is).0 h.2))
 
-  crash : Survives old new (CommitsShowing setting_text [] old) → HasCleanDisk new → (db : Trees) → new.may_leave db → old.may_leave db
+  crash : Survives old new (CommitsShowing text [] old) → HasCleanDisk new → (db : Trees) → new.may_leave db → old.may_leave db
   crash survives clean db may = elim (survives.crash clean db may) [ inl before ↦ before | inr commits ↦ absurd (commits_none db commits) ]
 
   spared : (IsTrue old.is_open → old.now ≡ old.committed) → IsUnchanged old new ⊎ IsRolledBack old new → ((db : Trees) → new.may_leave db → old.may_leave db) → Spares old new
@@ -49,8 +54,14 @@ module _ (old new : State) where
   spared settled (inr h) may =
       record { was_open = h.was_open; now = λ o. (h.undone o).0 ∙ sym (settled (h.was_open o)); committed = λ o. (h.undone o).1; crash = may }
 
-pub spares : (old new : State) (answer : Result Row Error) → (IsTrue old.is_open → old.now ≡ old.committed) → QueriesRow setting_text [] (unlimited old) new answer
-    → Survives (unlimited old) new (CommitsShowing setting_text [] (unlimited old)) → HasCleanDisk new → Spares old new
-spares old new answer settled h survives clean =
-    let it = spared (unlimited old) new settled (queried (unlimited old) new answer h) (crash (unlimited old) new survives clean) in
+pub spares : (text : List ℕ) → AlwaysBare text → (old new : State) (answer : Result Row Error) → (IsTrue old.is_open → old.now ≡ old.committed) → QueriesRow text [] (unlimited old) new answer
+    → Survives (unlimited old) new (CommitsShowing text [] (unlimited old)) → HasCleanDisk new → Spares old new
+spares text bare old new answer settled h survives clean =
+    let it = spared text bare (unlimited old) new settled (queried text bare (unlimited old) new answer h) (crash text bare (unlimited old) new survives clean) in
     record { was_open = it.was_open; now = it.now; committed = it.committed; crash = it.crash }
+
+-- a connection that answers is open
+pub answers_open : (text : List ℕ) → AlwaysBare text → (old new : State) (row : Row) → QueriesRow text [] old new (Ok row) → IsTrue new.is_open
+unfolding QueriesRow
+answers_open text bare old new row (inl h) = h.1.0.is_open
+answers_open text bare old new row (inr h) = (shown_same text bare old new h.0 h.1).0.is_open

@@ -1,67 +1,41 @@
 -- The INSERT of what a login has on a day, over any schema that has the table at some place.
-use Rattle.std.proofs.Common.{append-nil, ◌≡◌, ℕ, ◌+◌, pos, List, [], ◌∷◌, drop, IsTrue, Ok, Err, Result, OnOk, codes, refl, sym, ap, subst}
+use Rattle.std.proofs.Common.{append-nil, ◌≡◌, ℕ, pos, List, [], ◌∷◌, drop, IsTrue, Ok, Err, Result, OnOk, codes, refl}
 use Rattle.sqlite.specs.declared.error.Error.{Error}
 use Rattle.sqlite.specs.declared.types.Value.TheVariants.{Null}
-use Rattle.sqlite.specs.Order.{Row}
-use Rattle.sqlite.specs.Schema.{Schema}
-use Rattle.sqlite.specs.Table.{Table}
-use Rattle.sqlite.specs.Source.TheVariants.{Values}
-use Rattle.sqlite.specs.Term.{Term, lit, col, eval_all}
-use Rattle.sqlite.specs.Cast.{cast_row}
-use Rattle.sqlite.specs.Edit.{with_rowid}
-use Rattle.sqlite.specs.Rowids.TheVariants.{Chosen}
-use Rattle.sqlite.specs.State.{State, Executes, ExecutesInside}
-use Rattle.sqlite_resolve.specs.Compile.{first, small, new_rows}
-use Rattle.sqlite.proofs.Callers.{IsPlain, command_of}
+use Rattle.sqlite.specs.Term.{lit, col}
+use Rattle.sqlite.specs.State.{State, ExecutesInside}
 use Rattle.sqlite_tied.specs.Compute.{everything}
 use Rattle.mq_rows.specs.declared.record.UsageRecord.{UsageRecord}
 use Rattle.mq_rows.specs.declared.plan.Write.TheVariants as write
 use Rattle.mq_tables.specs.Tables.{usage_table}
-use Rattle.mq_tables.specs.Places.{IsUsageIn}
-use Rattle.mq_tables.specs.Records.{HoldsUsage, usage_fields}
-use Rattle.mq_tables.specs.Written.{Inserted}
+use Rattle.mq_tables.specs.Places.{IsTableIn}
+use Rattle.mq_tables.specs.Records.{usage_fields}
 use Rattle.mq_tables.specs.Updates.{WritesUsage}
-use Rattle.mq_tables.proofs.Plain.{parsed_in}
 use Rattle.mq_tables.proofs.Makes.{cast_int, cast_null}
 use Rattle.mq_tables.proofs.Changes.{usage_changed}
-use Rattle.mq_tables.proofs.RowFacts.{holds_put}
-use Rattle.mq_tables.proofs.Inserting.{IsInsert, understood_insert, unreferred}
-use Rattle.mq_tables.proofs.Statements.{inserts}
+use Rattle.mq_tables.proofs.InsertShape.{InsertShape, IsInsertOf, new_row, inserted, holds_inserted}
 
 abbrev pub insert_text : List ℕ
 insert_text = codes "INSERT INTO usage (login, day, settled, reserved) VALUES (?1, ?2, ?3, ?4)"
 
-abbrev terms : List Term
-terms = lit Null ∷ col 0 0 ∷ col 0 1 ∷ col 0 2 ∷ col 0 3 ∷ []
+abbrev shape : InsertShape
+shape = record { table = usage_table; terms = lit Null ∷ col 0 0 ∷ col 0 1 ∷ col 0 2 ∷ col 0 3 ∷ [] }
 
-parses : first insert_text ≡ Ok (parsed_in (first insert_text))
+is_insert : IsInsertOf insert_text shape
 unfolding everything
-parses = refl
+is_insert = record {
+  parsed = refl;
+  insert = record { name = _; columns = _; rows = _; statement = refl; timeless = refl };
+  named = refl;
+  rows = λ s tree. refl;
+  whole = λ params. refl;
+  uncounted = refl;
+  formats = refl;
+  timeless = λ params. append-nil params;
+}
 
-insert_is : IsInsert (parsed_in (first insert_text))
-unfolding everything
-insert_is = record { name = codes "usage"; columns = _; rows = _; statement = refl; timeless = refl }
-
-rows_are : (s : Schema) (tree : ℕ)
-    → new_rows s (record usage_table { tree = tree }) (small (parsed_in (first insert_text)).names + small []) insert_is.columns insert_is.rows ≡ Ok (Values terms 5)
-unfolding everything insert_is
-rows_are s tree = refl
-
-row_is : (u : UsageRecord) (tree : ℕ) (rows : List Row) → drop 1 (with_rowid Chosen rows (cast_row (record usage_table { tree = tree }) (eval_all terms (usage_fields u ∷ [])))) ≡ usage_fields u
-row_is u tree rows = rw (cast_int (pos u.day), cast_int (pos u.settled), cast_int (pos u.reserved), cast_null) refl
-
-module _ (old new : State) (u : UsageRecord) (tree : ℕ) (place : IsUsageIn old.now.schema tree) where
-  abbrev new_row : Row
-  new_row = with_rowid Chosen (old.now.trees tree) (cast_row (record usage_table { tree = tree }) (eval_all terms (usage_fields u ∷ [])))
-
-  inserted : (count : ℕ) → Executes insert_text (usage_fields u) old new (Ok count) → Inserted old.now.schema (record usage_table { tree = tree }) new_row old new
-  unfolding insert_is
-  inserted count h =
-      let table : Table = record usage_table { tree = tree } in
-      let s = old.now.schema in
-      let is = understood_insert insert_text parses insert_is s place.at table (Values terms 5) place.named place.there refl (rows_are s tree) in
-      inserts insert_text (usage_fields u) old new s refl place.at table (record { place = place.there; uncounted = refl; timeless = λ params. append-nil params; unreferred = unreferred s tree })
-      terms 5 (ap command_of is) (subst IsPlain (sym is) (refl, refl)) refl count h
+row_is : (old new : State) (u : UsageRecord) (tree : ℕ) (place : IsTableIn old.now.schema usage_table tree) → drop 1 (new_row insert_text shape is_insert (usage_fields u) old new tree place) ≡ usage_fields u
+row_is old new u tree place = rw (cast_int (pos u.day), cast_int (pos u.settled), cast_int (pos u.reserved), cast_null) refl
 
 pub inserts_usage : (old new : State) (u : UsageRecord) (r : Result ℕ Error) → ExecutesInside 0 insert_text (usage_fields u) old new r → OnOk r (IsTrue new.in_transaction) × OnOk r (WritesUsage (write.Insert u) old new)
 inserts_usage old new u (Err e) h = (tt, tt)
@@ -69,7 +43,7 @@ inserts_usage old new u (Ok count) h = (
   h.1.mode,
   λ t l.
       let tree = l.at.usage in
-      let it = inserted old new u tree l.tables.usage count h.0 in
-      usage_changed old.now new.now t l it.schema_is it.sound it.tables (u ∷ t.usage)
-      (subst (λ rs. HoldsUsage rs (u ∷ t.usage)) (sym it.rows) (holds_put 1 usage_fields (new_row old new u tree l.tables.usage) u (old.now.trees tree) t.usage (row_is u tree (old.now.trees tree)) it.fresh it.keyed l.holds.usage)),
+      let place = l.tables.usage in
+      let it = inserted insert_text shape is_insert (usage_fields u) old new tree place count h.0 in
+      usage_changed old.now new.now t l it.schema_is it.sound it.tables (u ∷ t.usage) (holds_inserted insert_text shape is_insert (usage_fields u) old new tree place usage_fields u t.usage (row_is old new u tree place) l.holds.usage it),
 )

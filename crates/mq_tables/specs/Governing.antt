@@ -4,6 +4,7 @@ use Rattle.sqlite.specs.Order.{Row, column}
 use Rattle.sqlite.specs.declared.types.Value.TheVariants.{Int}
 use Rattle.mq_rows.specs.declared.record.CeilingRecord.{CeilingRecord}
 use Rattle.mq_rows.specs.Found.{IsGoverning}
+use Rattle.mq_tables.specs.Records.{IsFirstBy}
 
 -- what a query for limits shows
 abbrev pub limit_row : CeilingRecord → Row
@@ -23,5 +24,4 @@ pub record IsCeilingShown (l : List ℕ) (row : Row) (c : CeilingRecord) : Type 
 
 -- no row, or what the first shows
 abbrev pub IsFirstCeiling : List ℕ → List Row → Option CeilingRecord → Type 0
-IsFirstCeiling login rows None = rows ≡ []
-IsFirstCeiling login rows (Some c) = (row : Row) × (more : List Row) × (rows ≡ row ∷ more) × IsCeilingShown login row c
+IsFirstCeiling login = IsFirstBy (IsCeilingShown login)

@@ -1,13 +1,16 @@
--- A store that has the five tables, and what they hold.
-use Rattle.std.specs.Prelude.{◌≡◌, ℕ, pos, [], ◌∷◌}
+-- A store that has a ledger's tables, and what they hold.
+use Rattle.std.specs.Prelude.{◌≡◌, ℕ, pos, nat_le, Bool, true, false, List, [], ◌∷◌, None}
 use Rattle.sqlite.specs.Effect.{Database, IsDatabase}
+use Rattle.sqlite.specs.Order.{Row}
 use Rattle.sqlite.specs.Schema.{Schema}
+use Rattle.sqlite.specs.Table.{Table}
 use Rattle.sqlite.specs.Tree.{Trees}
 use Rattle.mq_rows.specs.declared.record.SettingRecord.{SettingRecord}
 use Rattle.mq_rows.specs.Tables.{Tables}
-use Rattle.mq_tables.specs.Places.{IsSettingIn, IsAnswerIn, IsTransIn, IsUsageIn, IsCeilingIn, IsUnreferred}
+use Rattle.mq_tables.specs.Places.{IsTableIn, IsSettingIn, IsAnswerIn, IsTransIn, IsUsageIn, IsCeilingIn, IsUnreferred}
 use Rattle.mq_tables.specs.Records.{HoldsAnswers, HoldsTransactions, HoldsUsage, HoldsCeilings}
-use Rattle.mq_tables.specs.Settings.{SettingRow, setting_fields}
+use Rattle.mq_tables.specs.Settings.{SettingRow, setting_fields, rule_rows}
+use Rattle.mq_tables.specs.Tables.{rule_table}
 
 -- the trees of the five tables
 pub record Places : Type 0 where
@@ -40,10 +43,27 @@ pub record HoldsRows (trees : Trees) (at : Places) (t : Tables) : Type 0 where
   pub usage : HoldsUsage (trees at.usage) t.usage
   pub ceilings : HoldsCeilings (trees at.ceiling) t.ceilings
 
--- The store has the five tables at some places, and they hold these rows. Its trees list its schema, as
--- those of an open store do.
+-- the table is there, at some place, and has these rows
+pub record IsThere (db : Database) (made : Table) (rows : List Row) : Type 0 where
+  pub tree : ℕ
+  pub table : IsTableIn db.schema made tree
+  pub holds : db.trees tree ≡ rows
+
+-- the one from this version of the tables on, and the other before it
+abbrev pub Since : Bool → Type 0 → Type 0 → Type 0
+Since true Now Before = Now
+Since false Now Before = Before
+
+-- what tables of later versions hold: from version 2 on there is one for the rule, and before it no rule
+pub record HasLater (db : Database) (t : Tables) : Type 0 where
+  pub rule :
+      Since (nat_le 2 t.setting.version) (IsThere db rule_table (rule_rows t.setting.rule)) (t.setting.rule ≡ None)
+
+-- The store has the five tables at some places, and those of its version; they hold these rows. Its trees list its
+-- schema, as those of an open store do.
 pub record HasLedger (db : Database) (t : Tables) : Type 0 where
   pub sound : IsDatabase db
   pub at : Places
   pub tables : IsLedgerIn db.schema at
   pub holds : HoldsRows db.trees at t
+  pub later : HasLater db t

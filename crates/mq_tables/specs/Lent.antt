@@ -1,5 +1,5 @@
 -- Parameters of statements, and what is read of the rows of an answer.
-use Rattle.std.specs.Prelude.{◌≡◌, ◌<◌, ◌^◌, ℕ, ℤ, pos, List, [], ◌∷◌, Option, Some, None, not}
+use Rattle.std.specs.Prelude.{◌≡◌, ◌<◌, ◌^◌, ℕ, ℤ, pos, List, [], ◌∷◌, Option, not}
 use Rattle.std.specs.Ordering.{int_eq}
 use Rattle.sqlite.specs.Order.{Row, column}
 use Rattle.sqlite.specs.declared.types.Value.TheVariants.{Int, Blob}
@@ -8,7 +8,7 @@ use Rattle.mq_rows.specs.declared.record.AnswerRecord.{AnswerRecord}
 use Rattle.mq_rows.specs.declared.record.TransactionRecord.{TransactionRecord}
 use Rattle.mq_rows.specs.declared.record.UsageRecord.{UsageRecord}
 use Rattle.mq_rows.specs.declared.record.CeilingRecord.{CeilingRecord}
-use Rattle.mq_tables.specs.Records.{bit}
+use Rattle.mq_tables.specs.Records.{bit, IsFirstBy}
 
 -- the parameters of the INSERT of an answer
 abbrev pub answer_params : AnswerRecord → Row
@@ -35,8 +35,7 @@ pub record IsShownAs (l : List ℕ) (d : ℕ) (row : Row) (u : UsageRecord) : Ty
 
 -- no row, or what the first shows
 abbrev pub IsFirst : List ℕ → ℕ → List Row → Option UsageRecord → Type 0
-IsFirst login day rows None = rows ≡ []
-IsFirst login day rows (Some u) = (row : Row) × (more : List Row) × (rows ≡ row ∷ more) × IsShownAs login day row u
+IsFirst login day = IsFirstBy (IsShownAs login day)
 
 -- the parameters of the UPDATE of a transaction
 abbrev pub standing_params : TransactionRecord → Row
@@ -67,9 +66,7 @@ pub record IsTransactionShown (h : List ℕ) (r x : ℕ) (row : Row) (t : Transa
 
 -- no row, or what the first shows
 abbrev pub IsFirstTransaction : List ℕ → ℕ → ℕ → List Row → Option TransactionRecord → Type 0
-IsFirstTransaction h r x rows None = rows ≡ []
-IsFirstTransaction h r x rows (Some t) =
-    (row : Row) × (more : List Row) × (rows ≡ row ∷ more) × IsTransactionShown h r x row t
+IsFirstTransaction h r x = IsFirstBy (IsTransactionShown h r x)
 
 -- the parameters of the UPDATE of a limit
 abbrev pub cap_params : CeilingRecord → Row
@@ -91,8 +88,7 @@ pub record IsAnswerShown (number : Id) (row : Row) (a : AnswerRecord) : Type 0 w
 
 -- no row, or what the first shows
 abbrev pub IsFirstAnswer : Id → List Row → Option AnswerRecord → Type 0
-IsFirstAnswer number rows None = rows ≡ []
-IsFirstAnswer number rows (Some a) = (row : Row) × (more : List Row) × (rows ≡ row ∷ more) × IsAnswerShown number row a
+IsFirstAnswer number = IsFirstBy (IsAnswerShown number)
 
 -- a whole number from 0 on, of 64 bits with its sign
 abbrev pub IsNaturalAt : Row → ℕ → ℕ → Type 0

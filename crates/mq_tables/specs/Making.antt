@@ -1,8 +1,8 @@
 -- The tables as they are made, over whatever the store holds already.
-use Rattle.std.specs.Prelude.{◌≡◌, ◌≢◌, slice_get, ℕ, pos, List, [], ◌∷◌, IsTrue, Bool, false, ◌&&◌, ◌||◌, Option, Some}
-use Rattle.std.specs.Prelude.{None, ⊤}
+use Rattle.std.specs.Prelude.{◌≡◌, ◌≢◌, slice_get, ℕ, pos, nat_le, List, [], ◌∷◌, IsTrue, Bool, false, ◌&&◌, ◌||◌, Option, Some}
+use Rattle.std.specs.Prelude.{None, ⊤, if◌then◌else◌}
 use Rattle.std.specs.List.{AllByRecursion, list_any}
-use Rattle.sqlite.specs.declared.types.Value.TheVariants.{Int}
+use Rattle.sqlite.specs.declared.types.Value.TheVariants.{Int, Blob}
 use Rattle.sqlite.specs.Order.{Row}
 use Rattle.sqlite.specs.Table.{Table}
 use Rattle.sqlite.specs.Schema.{Schema}
@@ -14,11 +14,14 @@ use Rattle.sqlite_catalog.specs.Change.{is_used}
 use Rattle.sqlite.specs.Effect.{Database, IsDatabase}
 use Rattle.sqlite.specs.State.{State}
 use Rattle.sqlite.specs.Tree.{Trees}
-use Rattle.mq_tables.specs.Tables.{setting_table, answer_table, trans_table, usage_table, ceiling_table}
+use Rattle.mq_ledger.specs.Day.{minutes_in, rule_in}
+use Rattle.mq_ledger.specs.declared.zone.Zone.{Zone}
+use Rattle.mq_rows.specs.Rows.{version_of}
+use Rattle.mq_tables.specs.Tables.{setting_table, answer_table, trans_table, usage_table, ceiling_table, rule_table}
 use Rattle.mq_tables.specs.declared.setting.NewSetting.{NewSetting}
-use Rattle.mq_tables.specs.Settings.{HasSetting, setting_fields, setting_after}
+use Rattle.mq_tables.specs.Settings.{HasSetting, setting_fields, setting_after, rule_fields}
 use Rattle.mq_rows.specs.Tables.{Tables}
-use Rattle.mq_tables.specs.Ledger.{HasLedger}
+use Rattle.mq_tables.specs.Ledger.{HasLater, HasLedger}
 use Rattle.mq_tables.specs.Written.{Created}
 
 -- the schema after each CREATE, in turn
@@ -56,7 +59,13 @@ setting_row made_with = setting_fields (setting_after (pos 0) made_with)
 -- the rows of a new ledger
 abbrev pub new_rows : NewSetting → Tables
 new_rows made_with = record {
-  setting = record { version = 1; minutes = made_with.minutes; cap = made_with.cap; arrivals = 0 };
+  setting = record {
+    version = version_of made_with.zone;
+    minutes = minutes_in made_with.zone;
+    cap = made_with.cap;
+    arrivals = 0;
+    rule = rule_in made_with.zone;
+  };
   answers = [];
   transactions = [];
   usage = [];
@@ -64,40 +73,58 @@ new_rows made_with = record {
 }
 
 abbrev pub setting_params : NewSetting → Row
-setting_params made_with = Int made_with.minutes ∷ Int (pos made_with.cap) ∷ []
+setting_params made_with =
+    Int (pos (version_of made_with.zone)) ∷ Int (minutes_in made_with.zone) ∷ Int (pos made_with.cap) ∷ []
+
+abbrev pub rule_params : List ℕ → Row
+rule_params text = Blob text ∷ []
 
 abbrev pub other_tables : List Table
 other_tables = answer_table ∷ trans_table ∷ usage_table ∷ ceiling_table ∷ []
+
+-- the tables of later versions that tables of this one have
+abbrev pub later_tables : ℕ → List Table
+later_tables version = if nat_le 2 version then rule_table ∷ [] else []
 
 -- What one CREATE leaves, and that the transaction goes on.
 abbrev pub Makes : Table → State → State → Type 0
 Makes table old new =
     IsTrue new.in_transaction × (HasCounters old → Created old.now.schema table old new × HasCounters new)
 
--- the table of settings, whose rows are in this tree, has its row
-pub record HasPut (tree : ℕ) (made_with : NewSetting) (old new : State) : Type 0 where
+-- the table whose rows are in this tree has this row
+pub record HasPut (tree : ℕ) (row : Row) (old new : State) : Type 0 where
   pub schema : new.now.schema ≡ old.now.schema
-  pub row : new.now.trees tree ≡ setting_row made_with ∷ []
+  pub row_is : new.now.trees tree ≡ row ∷ []
   pub others : AllByRecursion (λ t. t.tree ≢ tree → new.now.trees t.tree ≡ old.now.trees t.tree) old.now.schema.tables
 
--- What the INSERT leaves, where the table of settings is at some place and empty.
-abbrev pub Puts : NewSetting → State → State → Type 0
-Puts made_with old new =
+-- What the INSERT of this row leaves, where the table is at some place and empty.
+abbrev pub Puts : Table → Row → State → State → Type 0
+Puts table row old new =
     IsTrue new.in_transaction
-    × ((at tree : ℕ) → table_named old.now.schema setting_table.name ≡ Some at
-    → slice_get old.now.schema.tables at ≡ Some (record setting_table { tree = tree })
-    → old.now.trees tree ≡ [] → HasPut tree made_with old new)
+    × ((at tree : ℕ) → table_named old.now.schema table.name ≡ Some at
+    → slice_get old.now.schema.tables at ≡ Some (record table { tree = tree })
+    → old.now.trees tree ≡ [] → HasPut tree row old new)
 
--- the table of settings is new, and has its row
-pub record HasStarted (made_with : NewSetting) (old new : State) : Type 0 where
-  pub free : is_used old.now.schema setting_table.name ≡ false
-  pub schema : new.now.schema ≡ created old.now.schema setting_table
-  pub setting : new.now.trees (next_tree old.now.schema) ≡ setting_row made_with ∷ []
+-- the table is new, and has this row
+pub record HasStarted (table : Table) (row : Row) (old new : State) : Type 0 where
+  pub free : is_used old.now.schema table.name ≡ false
+  pub schema : new.now.schema ≡ created old.now.schema table
+  pub row_is : new.now.trees (next_tree old.now.schema) ≡ row ∷ []
   pub others : AllByRecursion (λ t. new.now.trees t.tree ≡ old.now.trees t.tree) old.now.schema.tables
   pub counters : lacks_sequence new.now.schema ≡ false
 
-abbrev pub ledger_over : Schema → Schema
-ledger_over s = chain s (setting_table ∷ other_tables)
+-- what is made first: the tables of later versions, with their rows
+abbrev pub HasBegun : Option (List ℕ) → State → State → Type 0
+HasBegun None old new = (new.now ≡ old.now) × (lacks_sequence new.now.schema ≡ false)
+HasBegun (Some text) old new = HasStarted rule_table (rule_fields text) old new
+
+-- the schema with the tables of later versions that a ledger of this zone has
+abbrev pub later_over : Zone → Schema → Schema
+later_over zone s = chain s (later_tables (version_of zone))
+
+-- and with the five behind them
+abbrev pub ledger_over : Zone → Schema → Schema
+ledger_over zone s = chain (later_over zone s) (setting_table ∷ other_tables)
 
 abbrev pub is_ours : List ℕ → Bool
 is_ours name =
@@ -108,14 +135,17 @@ is_ours name =
 abbrev pub AreUnnamed : Schema → Type 0
 AreUnnamed s = AllByRecursion (λ t. AllByRecursion (λ ref. is_ours ref.parent ≡ false) t.references) s.tables
 
--- The five tables stand behind those that were there, and hold the rows of a new ledger. Each table
--- that was there has its rows.
+-- The tables of later versions and then the five stand behind those that were there, and hold the rows of a new
+-- ledger. Each table that was there has its rows.
 pub record IsMade (made_with : NewSetting) (old new : Database) : Type 0 where
   pub sound : IsDatabase new
-  pub schema : new.schema ≡ ledger_over old.schema
-  pub row : new.trees (next_tree old.schema) ≡ setting_row made_with ∷ []
-  pub empty : AllByRecursion (λ n. new.trees n ≡ []) (trees_for (created old.schema setting_table) other_tables)
+  pub schema : new.schema ≡ ledger_over made_with.zone old.schema
+  pub row : new.trees (next_tree (later_over made_with.zone old.schema)) ≡ setting_row made_with ∷ []
+  pub empty :
+      AllByRecursion (λ n. new.trees n ≡ [])
+      (trees_for (created (later_over made_with.zone old.schema) setting_table) other_tables)
   pub setting : HasSetting new (setting_after (pos 0) made_with)
+  pub later : HasLater new (new_rows made_with)
   pub ledger : AreUnnamed old.schema → HasLedger new (new_rows made_with)
   pub others : AllByRecursion (λ t. new.trees t.tree ≡ old.trees t.tree) old.schema.tables
 
@@ -133,7 +163,8 @@ has_table s name = list_any (λ t. same_name t.name name) s.tables || list_any (
 abbrev pub has_ledger_table : Schema → Bool
 has_ledger_table s =
     has_table s setting_table.name || (has_table s answer_table.name
-    || (has_table s trans_table.name || (has_table s usage_table.name || has_table s ceiling_table.name)))
+    || (has_table s trans_table.name || (has_table s usage_table.name
+    || (has_table s ceiling_table.name || has_table s rule_table.name))))
 
 -- the same, where each table with AUTOINCREMENT had the table that counts for it
 pub record IsMadeOver (made_with : NewSetting) (old new : Database) : Type 0 where

@@ -4,6 +4,7 @@ use Rattle.sqlite.specs.Order.{Row, column}
 use Rattle.sqlite.specs.declared.types.Value.TheVariants.{Blob}
 use Rattle.mq_rows.specs.declared.record.UsageRecord.{UsageRecord}
 use Rattle.mq_rows.specs.Listing.{IsNextLogin}
+use Rattle.mq_tables.specs.Records.{IsFirstBy}
 
 -- the least text above that one in byte order
 abbrev pub just_above : List ℕ → List ℕ
@@ -20,6 +21,4 @@ IsLoginShown after all (row ∷ more) = (login : List ℕ) × IsNextLogin after 
 
 -- no row, or what the first shows
 abbrev pub IsFirstLogin : List Row → Option (List ℕ) → Type 0
-IsFirstLogin rows None = rows ≡ []
-IsFirstLogin rows (Some login) =
-    (row : Row) × (more : List Row) × (rows ≡ row ∷ more) × (column row 0 ≡ Blob login)
+IsFirstLogin = IsFirstBy (λ row login. column row 0 ≡ Blob login)

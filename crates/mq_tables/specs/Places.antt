@@ -5,7 +5,7 @@ use Rattle.sqlite.specs.Schema.{Schema}
 use Rattle.sqlite.specs.Table.{Table}
 use Rattle.sqlite_schema.specs.declared.schema.Reference.{Reference}
 use Rattle.sqlite_schema.specs.Names.{table_named, same_name}
-use Rattle.mq_tables.specs.Tables.{setting_table, answer_table, trans_table, usage_table, ceiling_table}
+use Rattle.mq_tables.specs.Tables.{setting_table, answer_table, trans_table, usage_table, ceiling_table, rule_table}
 
 -- the table goes by its name, and its rows are in this tree
 pub record IsTableIn (schema : Schema) (made : Table) (tree : ℕ) : Type 0 where
@@ -29,6 +29,9 @@ IsUsageIn schema tree = IsTableIn schema usage_table tree
 
 abbrev pub IsCeilingIn : Schema → ℕ → Type 0
 IsCeilingIn schema tree = IsTableIn schema ceiling_table tree
+
+abbrev pub IsRuleIn : Schema → ℕ → Type 0
+IsRuleIn schema tree = IsTableIn schema rule_table tree
 
 abbrev pub is_tree : ℕ → Option Table → Bool
 is_tree tree None = false

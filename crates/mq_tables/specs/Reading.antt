@@ -1,4 +1,4 @@
--- What the reading of the settings does to a store, whatever the store is.
+-- What the reading of the settings and of the rule does to a store, whatever the store is.
 use Rattle.std.specs.Prelude.{◌≡◌, ℕ, List, [], None, Option, Result, IsTrue, codes}
 use Rattle.sqlite.specs.Order.{Row}
 use Rattle.sqlite.specs.Tree.{Trees}
@@ -7,15 +7,19 @@ use Rattle.sqlite.specs.State.{State, QueriesRow}
 use Rattle.mq_tables.specs.declared.setting.Setting.{Setting}
 use Rattle.mq_tables.specs.Settings.{reading}
 
--- the one query
+-- the query for the settings
 abbrev pub setting_text : List ℕ
 setting_text = codes "SELECT version, minutes, cap FROM setting WHERE id = 1"
+
+-- the query for the rule
+abbrev pub rule_text : List ℕ
+rule_text = codes "SELECT bytes FROM rule WHERE id = 1"
 
 -- the connection with no limit on steps
 abbrev pub unlimited : State → State
 unlimited s = record s { step_limit = None }
 
--- what is read is what the store answers to the one query
+-- what is read is what the store answers to the query for the settings
 pub record IsRead (old new : State) (r : Result (Option Setting) Error) : Type 0 where
   pub answer : Result Row Error
   pub queried : QueriesRow setting_text [] (unlimited old) new answer
@@ -27,3 +31,7 @@ pub record Spares (old new : State) : Type 0 where
   pub now : IsTrue new.is_open → new.now ≡ old.now
   pub committed : IsTrue new.is_open → new.committed ≡ old.committed
   pub crash : (db : Trees) → new.may_leave db → old.may_leave db
+
+-- what is read is what the store answers to the query for the rule
+abbrev pub IsRuleRead : State → State → Result Row Error → Type 0
+IsRuleRead old new read = QueriesRow rule_text [] (unlimited old) new read

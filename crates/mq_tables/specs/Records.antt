@@ -60,3 +60,8 @@ HoldsCeilings rows all = Holds 1 ceiling_fields rows all
 abbrev pub IsOneOf : {R : Type 0} → (R → Bool) → List R → Option R → Type 0
 IsOneOf test all None = AllByRecursion (λ r. test r ≡ false) all
 IsOneOf test all (Some r) = Has all r × (test r ≡ true)
+
+-- no row, or what the first shows
+abbrev pub IsFirstBy : {R : Type 0} → (Row → R → Type 0) → List Row → Option R → Type 0
+IsFirstBy Shows rows None = rows ≡ []
+IsFirstBy Shows rows (Some r) = (row : Row) × (more : List Row) × (rows ≡ row ∷ more) × Shows row r

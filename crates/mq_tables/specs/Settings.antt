@@ -1,7 +1,7 @@
--- The row of settings, which says what a ledger was made with and how many requests it has applied.
-use Rattle.std.specs.Prelude.{◌≡◌, ◌⊎◌, ℕ, ℤ, pos, [], ◌∷◌, Option, Some, None, Result, Ok, Err}
+-- The row of settings, which says what a ledger was made with and how many requests it has applied, and that of the rule.
+use Rattle.std.specs.Prelude.{◌≡◌, ◌⊎◌, ℕ, ℤ, pos, List, [], ◌∷◌, Option, Some, None, Result, Ok, Err}
 use Rattle.sqlite.specs.declared.types.Value.{Value}
-use Rattle.sqlite.specs.declared.types.Value.TheVariants.{Null, Int}
+use Rattle.sqlite.specs.declared.types.Value.TheVariants.{Null, Int, Blob}
 use Rattle.sqlite.specs.declared.error.Error.{Error}
 use Rattle.sqlite.specs.Order.{Row, column}
 use Rattle.sqlite.specs.Effect.{Database}
@@ -9,7 +9,9 @@ use Rattle.sqlite.specs.State.{store_error}
 use Rattle.sqlite_trees.specs.declared.error.StoreError.{StoreError}
 use Rattle.mq_tables.specs.declared.setting.Setting.{Setting}
 use Rattle.mq_tables.specs.declared.setting.NewSetting.{NewSetting}
-use Rattle.mq_tables.specs.Places.{IsSettingIn}
+use Rattle.mq_ledger.specs.Day.{minutes_in}
+use Rattle.mq_rows.specs.Rows.{version_of}
+use Rattle.mq_tables.specs.Places.{IsSettingIn, IsRuleIn}
 
 pub record SettingRow : Type 0 where
   pub version : ℤ
@@ -24,7 +26,7 @@ setting_fields s = Int (pos 1) ∷ Null ∷ Int s.version ∷ Int s.minutes ∷ 
 -- that of a ledger that has applied so many requests
 abbrev pub setting_after : ℤ → NewSetting → SettingRow
 setting_after arrivals made =
-    record { version = pos 1; minutes = made.minutes; cap = pos made.cap; arrivals = arrivals }
+    record { version = pos (version_of made.zone); minutes = minutes_in made.zone; cap = pos made.cap; arrivals = arrivals }
 
 -- our table of settings is there, at some place, and has this one row
 pub record HasSetting (db : Database) (s : SettingRow) : Type 0 where
@@ -57,3 +59,32 @@ IsStopped (Err e) = (cause : StoreError) × (e ≡ store_error cause)
 -- the row was read, or memory or the disk stopped the reading
 abbrev pub IsOf : SettingRow → Result (Option Setting) Error → Type 0
 IsOf s r = (r ≡ Ok (Some (shown_of s))) ⊎ IsStopped r
+
+-- the row of a rule with this text; its key is 1, which the column of the key keeps as NULL
+abbrev pub rule_fields : List ℕ → Row
+rule_fields text = Int (pos 1) ∷ Null ∷ Blob text ∷ []
+
+-- the rows of the table of rules: that of the rule, where there is one
+abbrev pub rule_rows : Option (List ℕ) → List Row
+rule_rows None = []
+rule_rows (Some text) = rule_fields text ∷ []
+
+-- our table of rules is there, at some place, and has this one row
+pub record HasRule (db : Database) (text : List ℕ) : Type 0 where
+  pub tree : ℕ
+  pub table : IsRuleIn db.schema tree
+  pub row : db.trees tree ≡ rule_fields text ∷ []
+
+-- the bytes of a value
+abbrev pub text_of_value : Value → Option (List ℕ)
+text_of_value (Blob text) = Some text
+text_of_value _ = None
+
+-- the text of the rule that was read
+abbrev pub rule_text_of : Row → Option (List ℕ)
+rule_text_of row = text_of_value (column row 0)
+
+-- the row of the rule was read, or memory or the disk stopped the reading
+abbrev pub IsRuleOf : List ℕ → Result Row Error → Type 0
+IsRuleOf text (Ok row) = row ≡ Blob text ∷ []
+IsRuleOf text (Err e) = (cause : StoreError) × (e ≡ store_error cause)

@@ -106,3 +106,19 @@ ceiling_table = record {
   stamps = record { places = []; terms = []; formats = [] };
   is_counted = false;
 }
+
+abbrev pub rule_table : Table
+rule_table = record {
+  name = codes "rule";
+  tree = 0;
+  columns = keyed (codes "id") ∷ required (codes "bytes") Blob ∷ [];
+  key = Some 0;
+  primary = 0 ∷ [];
+  uniques = [];
+  orders = [];
+  checks = [];
+  references = [];
+  computed = [];
+  stamps = record { places = []; terms = []; formats = [] };
+  is_counted = false;
+}

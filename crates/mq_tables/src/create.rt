@@ -5,11 +5,14 @@ ghost use Rattle.sqlite.specs.State.{HasCleanDisk, KeepsCommit, Survives};
 ghost use Rattle.sqlite.specs.Held.{state};
 ghost use Rattle.sqlite.specs.Tree.{Trees};
 ghost use Rattle.sqlite.specs.Values.{bound};
-ghost use Rattle.mq_tables.specs.Tables.{setting_table, answer_table, trans_table, usage_table, ceiling_table};
-ghost use Rattle.mq_tables.specs.Making.{Makes, Puts, HasCounters, HasStarted, HasAdded, IsMadeOver};
-ghost use Rattle.mq_tables.specs.Making.{AreMadeOver, other_tables, setting_params};
+ghost use Rattle.mq_ledger.specs.Day.{rule_in};
+ghost use Rattle.mq_tables.specs.Settings.{rule_fields};
+ghost use Rattle.mq_tables.specs.Tables.{setting_table, answer_table, trans_table, usage_table, ceiling_table, rule_table};
+ghost use Rattle.mq_tables.specs.Making.{Makes, Puts, HasCounters, HasStarted, HasBegun, HasAdded, IsMadeOver};
+ghost use Rattle.mq_tables.specs.Making.{AreMadeOver, other_tables, setting_row, setting_params, rule_params};
 
 use crate::setting::NewSetting;
+use mq_rows::version_of;
 use sqlite::types::ValueRef;
 use sqlite::{Alter, Connection, Error, Transaction};
 
@@ -100,11 +103,93 @@ fn create_ceiling<S: Alter>(tx: &mut Transaction<'_, S>) -> Result<usize, Error>
     )
 }
 
-fn setting_params(made_with: &NewSetting) -> [ValueRef<'static>; 2]
+fn create_rule<S: Alter>(tx: &mut Transaction<'_, S>) -> Result<usize, Error>
+    requires inside { HasCleanDisk (state S.Store tx.old.conn.now)
+        → IsTrue (state S.Store tx.old.conn.now).in_transaction }
+    ensures same_reference { tx.new.conn.ghost_name ≡ tx.old.conn.ghost_name }
+    ensures made { HasCleanDisk (state S.Store tx.new.conn.now)
+        → OnOk result (Makes rule_table (state S.Store tx.old.conn.now) (state S.Store tx.new.conn.now)) }
+    ensures kept { HasCleanDisk (state S.Store tx.new.conn.now)
+        → KeepsCommit (state S.Store tx.old.conn.now) (state S.Store tx.new.conn.now) }
+    ensures survives { Survives (state S.Store tx.old.conn.now) (state S.Store tx.new.conn.now) (λ _. ⊥) }
+{
+    tx.execute(
+        "CREATE TABLE rule (id INTEGER PRIMARY KEY, bytes BLOB NOT NULL) STRICT",
+        &[],
+    )
+}
+
+fn rule_params(rule: &[u8]) -> [ValueRef<'_>; 1]
+    ensures { bound result ≡ rule_params rule.now }
+{
+    [ValueRef::Blob(rule)]
+}
+
+fn put_rule<S: Alter>(tx: &mut Transaction<'_, S>, rule: &[u8]) -> Result<usize, Error>
+    requires inside { HasCleanDisk (state S.Store tx.old.conn.now)
+        → IsTrue (state S.Store tx.old.conn.now).in_transaction }
+    ensures same_reference { tx.new.conn.ghost_name ≡ tx.old.conn.ghost_name }
+    ensures put { HasCleanDisk (state S.Store tx.new.conn.now)
+        → OnOk result (Puts rule_table (rule_fields rule.now) (state S.Store tx.old.conn.now)
+        (state S.Store tx.new.conn.now)) }
+    ensures kept { HasCleanDisk (state S.Store tx.new.conn.now)
+        → KeepsCommit (state S.Store tx.old.conn.now) (state S.Store tx.new.conn.now) }
+    ensures survives { Survives (state S.Store tx.old.conn.now) (state S.Store tx.new.conn.now) (λ _. ⊥) }
+{
+    tx.execute(
+        "INSERT INTO rule (id, bytes) VALUES (1, ?1)",
+        &rule_params(rule),
+    )
+}
+
+fn begin_rule<S: Alter>(tx: &mut Transaction<'_, S>, rule: &[u8]) -> Result<usize, Error>
+    requires inside { HasCleanDisk (state S.Store tx.old.conn.now)
+        → IsTrue (state S.Store tx.old.conn.now).in_transaction }
+    ensures same_reference { tx.new.conn.ghost_name ≡ tx.old.conn.ghost_name }
+    ensures inside { HasCleanDisk (state S.Store tx.new.conn.now)
+        → OnOk result (IsTrue (state S.Store tx.new.conn.now).in_transaction) }
+    ensures started { HasCleanDisk (state S.Store tx.new.conn.now)
+        → OnOk result (HasCounters (state S.Store tx.old.conn.now)
+        → HasStarted rule_table (rule_fields rule.now) (state S.Store tx.old.conn.now)
+        (state S.Store tx.new.conn.now)) }
+    ensures kept { HasCleanDisk (state S.Store tx.new.conn.now)
+        → KeepsCommit (state S.Store tx.old.conn.now) (state S.Store tx.new.conn.now) }
+    ensures survives { Survives (state S.Store tx.old.conn.now) (state S.Store tx.new.conn.now) (λ _. ⊥) }
+{
+    create_rule(tx)?;
+    put_rule(tx, rule)
+}
+
+/// Makes the tables that only later versions have, before the five: a ledger with an offset has none.
+fn begin_later<S: Alter>(tx: &mut Transaction<'_, S>, made_with: &NewSetting) -> Result<(), Error>
+    requires inside { HasCleanDisk (state S.Store tx.old.conn.now)
+        → IsTrue (state S.Store tx.old.conn.now).in_transaction }
+    ensures same_reference { tx.new.conn.ghost_name ≡ tx.old.conn.ghost_name }
+    ensures inside { HasCleanDisk (state S.Store tx.new.conn.now)
+        → OnOk result (IsTrue (state S.Store tx.new.conn.now).in_transaction) }
+    ensures begun { HasCleanDisk (state S.Store tx.new.conn.now)
+        → OnOk result (HasCounters (state S.Store tx.old.conn.now)
+        → HasBegun (rule_in made_with.now.zone) (state S.Store tx.old.conn.now)
+        (state S.Store tx.new.conn.now)) }
+    ensures kept { HasCleanDisk (state S.Store tx.new.conn.now)
+        → KeepsCommit (state S.Store tx.old.conn.now) (state S.Store tx.new.conn.now) }
+    ensures survives { Survives (state S.Store tx.old.conn.now) (state S.Store tx.new.conn.now) (λ _. ⊥) }
+{
+    match made_with.zone.rule() {
+        Some(rule) => {
+            begin_rule(tx, rule)?;
+            Ok(())
+        }
+        None => Ok(()),
+    }
+}
+
+fn setting_params(made_with: &NewSetting) -> [ValueRef<'static>; 3]
     ensures { bound result ≡ setting_params made_with.now }
 {
     [
-        ValueRef::Int(i64::from(made_with.minutes)),
+        ValueRef::Int(i64::from(version_of(&made_with.zone))),
+        ValueRef::Int(i64::from(made_with.zone.minutes())),
         ValueRef::Int(i64::from(made_with.cap)),
     ]
 }
@@ -117,13 +202,14 @@ fn put_setting<S: Alter>(
         → IsTrue (state S.Store tx.old.conn.now).in_transaction }
     ensures same_reference { tx.new.conn.ghost_name ≡ tx.old.conn.ghost_name }
     ensures put { HasCleanDisk (state S.Store tx.new.conn.now)
-        → OnOk result (Puts made_with.now (state S.Store tx.old.conn.now) (state S.Store tx.new.conn.now)) }
+        → OnOk result (Puts setting_table (setting_row made_with.now) (state S.Store tx.old.conn.now)
+        (state S.Store tx.new.conn.now)) }
     ensures kept { HasCleanDisk (state S.Store tx.new.conn.now)
         → KeepsCommit (state S.Store tx.old.conn.now) (state S.Store tx.new.conn.now) }
     ensures survives { Survives (state S.Store tx.old.conn.now) (state S.Store tx.new.conn.now) (λ _. ⊥) }
 {
     tx.execute(
-        "INSERT INTO setting (id, version, minutes, cap, arrivals) VALUES (1, 1, ?1, ?2, 0)",
+        "INSERT INTO setting (id, version, minutes, cap, arrivals) VALUES (1, ?1, ?2, ?3, 0)",
         &setting_params(made_with),
     )
 }
@@ -139,7 +225,8 @@ fn begin_setting<S: Alter>(
         → OnOk result (IsTrue (state S.Store tx.new.conn.now).in_transaction) }
     ensures started { HasCleanDisk (state S.Store tx.new.conn.now)
         → OnOk result (HasCounters (state S.Store tx.old.conn.now)
-        → HasStarted made_with.now (state S.Store tx.old.conn.now) (state S.Store tx.new.conn.now)) }
+        → HasStarted setting_table (setting_row made_with.now) (state S.Store tx.old.conn.now)
+        (state S.Store tx.new.conn.now)) }
     ensures kept { HasCleanDisk (state S.Store tx.new.conn.now)
         → KeepsCommit (state S.Store tx.old.conn.now) (state S.Store tx.new.conn.now) }
     ensures survives { Survives (state S.Store tx.old.conn.now) (state S.Store tx.new.conn.now) (λ _. ⊥) }
@@ -183,11 +270,13 @@ fn make_tables<S: Alter>(
         → KeepsCommit (state S.Store tx.old.conn.now) (state S.Store tx.new.conn.now) }
     ensures survives { Survives (state S.Store tx.old.conn.now) (state S.Store tx.new.conn.now) (λ _. ⊥) }
 {
+    begin_later(tx, made_with)?;
     begin_setting(tx, made_with)?;
     create_others(tx)
 }
 
-/// Makes the five tables of a ledger that has applied nothing, in one transaction, or leaves all as it was.
+/// Makes the tables of a ledger that has applied nothing, in one transaction, or leaves all as it was: first
+/// those that only later versions have, then the five.
 ///
 /// An error is the store's.
 pub fn make_ledger<S: Alter>(conn: &mut Connection<S>, made_with: &NewSetting) -> Result<(), Error>
@@ -200,7 +289,7 @@ pub fn make_ledger<S: Alter>(conn: &mut Connection<S>, made_with: &NewSetting) -
     ensures err { HasCleanDisk (state S.Store conn.new) → IsTrue (state S.Store conn.new).is_open
         → OnErr result ((state S.Store conn.new).now ≡ (state S.Store conn.old).now) }
 
-    // What an open after a crash may find: all five tables, or none of them.
+    // What an open after a crash may find: all of the tables, or none of them.
     ensures crash_ok { HasCleanDisk (state S.Store conn.new) → OnOk result ((db : Trees)
         → (state S.Store conn.new).may_leave db → db ≡ (state S.Store conn.new).now.trees) }
     ensures crash_err { HasCleanDisk (state S.Store conn.new) → OnErr result ((db : Trees)

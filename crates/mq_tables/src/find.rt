@@ -143,7 +143,7 @@ pub fn find<S: Alter>(
             at,
             login,
             ..
-        } => find_for_reserve(tx, id, *txn, login, zone.day(*at)),
+        } => find_for_reserve(tx, id, *txn, login, zone.day_at(*at)),
         Request::Settle {
             id,
             txn,
@@ -152,7 +152,7 @@ pub fn find<S: Alter>(
             ..
         }
         | Request::Release { id, txn, at, login } => {
-            find_named(tx, id, *txn, login, zone.day(*at))
+            find_named(tx, id, *txn, login, zone.day_at(*at))
         }
         Request::Limit {
             from_day,

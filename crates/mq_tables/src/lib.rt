@@ -1,4 +1,4 @@
-//! The five tables of a quota ledger: how they are made, and statements on them over any schema.
+//! The tables of a quota ledger: how they are made, and statements on them over any schema.
 #![tactic(auto)]
 
 pub mod answer;
@@ -10,6 +10,7 @@ pub mod laws;
 pub mod names;
 pub mod over;
 pub mod page;
+pub mod rule;
 pub mod setting;
 pub mod transaction;
 pub mod usage;

@@ -14,29 +14,31 @@ ghost use Rattle.mq_tables.specs.Reading.{IsRead, Spares};
 ghost use Rattle.mq_tables.specs.Settings.{SettingRow, HasSetting, IsOf, setting_of};
 ghost use Rattle.mq_tables.specs.Updates.{CountsArrivals};
 
+use mq_ledger::Zone;
 use sqlite::types::ValueRef;
 use sqlite::{Alter, Connection, Error, Row, Transaction};
 
-/// What a ledger is made with: minutes east of UTC, and the limit of a login that has none.
-#[derive(Clone, Copy, Debug, PartialEq, Eq)]
+/// What a ledger is made with: the zone that its days go by, and the limit of a login that has none.
+#[derive(Clone, Copy, Debug)]
 pub struct NewSetting {
-    pub minutes: i32,
+    pub zone: Zone,
+    /// Recipients a day, 0 to 1,000,000.
     pub cap: u32,
 }
 
 /// What the row says of the ledger that it was made for.
 #[derive(Clone, Copy, Debug, PartialEq, Eq)]
 pub struct Setting {
-    /// Which tables these are: 1.
+    /// Which tables these are: 1 of a ledger with an offset, 2 of one with a zone rule.
     pub version: i64,
-    /// Minutes east of UTC.
+    /// Minutes east of UTC, and 0 with a rule.
     pub minutes: i64,
     /// The limit of a login that has none.
     pub cap: i64,
 }
 
 /// A value of the row, where it has one there.
-fn value_at(row: &Row, at: usize) -> ValueRef<'_>
+pub(crate) fn value_at(row: &Row, at: usize) -> ValueRef<'_>
     ensures { owned result ≡ column row.now at }
 {
     match row.get_ref(at) {
@@ -72,6 +74,8 @@ pub fn read_setting<S: Alter>(connection: &mut Connection<S>) -> Result<Option<S
         → IsRead (state S.Store connection.old) (state S.Store connection.new) result }
     ensures spares { HasCleanDisk (state S.Store connection.new)
         → Spares (state S.Store connection.old) (state S.Store connection.new) }
+    ensures open { HasCleanDisk (state S.Store connection.new)
+        → OnOk result (IsTrue (state S.Store connection.new).is_open) }
 
     // Where our table is there, at any place.
     ensures row { HasCleanDisk (state S.Store connection.new) → (s : SettingRow)

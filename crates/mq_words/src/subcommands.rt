@@ -168,6 +168,15 @@ const WEST: CommandOption = CommandOption {
     default: Some("0"),
 };
 
+const RULE: CommandOption = CommandOption {
+    name: "rule",
+    value: "RULE",
+    help: "Zone rule of the days, such as CET-1CEST,M3.5.0,M10.5.0/3",
+    takes: Takes::Text,
+    is_required: false,
+    default: None,
+};
+
 /// The subcommands, in the order in which people need them.
 pub const SUBCOMMANDS: [Subcommand; 6] = [
     Subcommand {
@@ -198,6 +207,6 @@ pub const SUBCOMMANDS: [Subcommand; 6] = [
     Subcommand {
         name: "replay",
         about: "Answer frames in hexadecimal from standard input over a new ledger",
-        options: &[DEFAULT, EAST, WEST, SQL],
+        options: &[DEFAULT, EAST, WEST, RULE, SQL],
     },
 ];

@@ -147,7 +147,7 @@ fn run_of(found: &ArgMatches<'_>) -> Option<u64>
     }
 }
 
-fn replay_of(found: &ArgMatches<'_>) -> ReplayArguments
+fn replay_of<'a>(found: &ArgMatches<'a>) -> ReplayArguments<'a>
     ensures { IsReplayArguments result }
 {
     let default = found
@@ -158,7 +158,9 @@ fn replay_of(found: &ArgMatches<'_>) -> ReplayArguments
     let west = found.get_one::<u32>("west").unwrap_or(0).min(1439);
     ReplayArguments {
         default,
-        offset: east as i32 - west as i32,
+        east,
+        west,
+        rule: found.get_str("rule"),
         sql: found.get_flag("sql"),
     }
 }

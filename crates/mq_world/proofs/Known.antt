@@ -12,7 +12,8 @@ use Rattle.mq_frame.specs.declared.message.Request.{Request}
 use Rattle.mq_frame.specs.declared.message.Reply.{Reply}
 use Rattle.mq_ledger.specs.declared.entry.Entry.{Entry}
 use Rattle.mq_ledger.specs.Answer.{reply, with_arrival, history_of}
-use Rattle.mq_ledger.specs.Day.{IsOffset, IsDayRule, day_of}
+use Rattle.mq_ledger.specs.declared.zone.Zone.{Zone}
+use Rattle.mq_ledger.specs.Day.{IsZone, IsDayRule, day_of}
 use Rattle.mq_ledger.specs.History.{requests, Transaction, same_transaction, named, closed, held, settled_in, reserved, settled, used}
 use Rattle.mq_ledger.specs.Limits.{cap}
 use Rattle.mq_ledger.specs.Sums.{held_on, settled_on, AreDistinct}
@@ -42,7 +43,7 @@ pub record OfClients : Type 0 where
 pub record OfLedgers : Type 0 where
   pub arrival : (day : ℕ → ℕ) (default : ℕ) (H : List Entry) (r : Request) → IsLegal day default H → history_of day default (requests H ++ r ∷ []) ≡ with_arrival day default H r
   pub legal : (day : ℕ → ℕ) (default : ℕ) (A : List Request) → All IsRequest A → IsLegal day default (history_of day default A)
-  pub days : (minutes : ℤ) → IsOffset minutes → IsDayRule (day_of minutes)
+  pub days : (zone : Zone) → IsZone zone → IsDayRule (day_of zone)
   pub range : (day : ℕ → ℕ) (default : ℕ) (H : List Entry) (r : Request) → IsAmount default → IsDayRule day → IsLegal day default H → IsRequest r → IsReply (reply day default H r)
   pub stored : (day : ℕ → ℕ) (default : ℕ) (H : List Entry) → IsLegal day default H → All (λ e. RepliesSuit e.request e.reply) H
   pub suits : (day : ℕ → ℕ) (default : ℕ) (H : List Entry) (r : Request) → IsLegal day default H → RepliesSuit r (reply day default H r)

@@ -48,7 +48,7 @@ impl PlainLedger {
         if let Some(refused) = refusal(&self.entries, id, txn, at, login)? {
             return Ok(refused);
         }
-        let day = self.zone.day(at);
+        let day = self.zone.day_at(at);
         let used = used(&self.entries, self.zone, login, day);
         let cap = cap(&self.entries, self.default, login, day);
         granted_or_full(id, used, cap, count)

@@ -1,7 +1,7 @@
 //! The first day on which a login has used more than a limit would allow.
 ghost use Rattle.std.specs.Prelude.{◌≡◌, ◌<◌, ◌^◌, ℕ, All, IfSome};
 ghost use Rattle.mq_frame.specs.Range.{IsRequest, IsDay};
-ghost use Rattle.mq_ledger.specs.Day.{IsOffset, day_of};
+ghost use Rattle.mq_ledger.specs.Day.{day_of};
 ghost use Rattle.mq_ledger.specs.History.{used};
 ghost use Rattle.mq_ledger.specs.Over.{day_from, days_from, lesser, least, over};
 
@@ -36,7 +36,7 @@ fn day_from(entry: &Entry, zone: Zone, login: &Login, from: u32) -> Option<u32>
             if *login != *other {
                 return None;
             }
-            let day = zone.day(*at);
+            let day = zone.day_at(*at);
             if from <= day { Some(day) } else { None }
         }
         _ => None,

@@ -29,7 +29,7 @@ fn login_on(entry: &Entry, zone: Zone, day: u32) -> Option<&Login>
 {
     match (&entry.request, &entry.reply) {
         (Request::Reserve { at, login, .. }, Reply::Granted { .. }) => {
-            if zone.day(*at) == day {
+            if zone.day_at(*at) == day {
                 Some(login)
             } else {
                 None

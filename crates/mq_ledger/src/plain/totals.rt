@@ -25,7 +25,7 @@ fn concerns(request: &Request, zone: Zone, login: &Login, day: u32) -> bool
             login: other,
             at,
             ..
-        } => *login == *other && zone.day(*at) == day,
+        } => *login == *other && zone.day_at(*at) == day,
         _ => false,
     }
 }

@@ -14,6 +14,7 @@ pub enum Key {
     Store,
     Default,
     Offset,
+    Rule,
     Timeout,
     Log,
 }
@@ -31,6 +32,7 @@ impl Key {
             Key::Store => "store",
             Key::Default => "default",
             Key::Offset => "offset",
+            Key::Rule => "rule",
             Key::Timeout => "timeout",
             Key::Log => "log",
         }

@@ -1,17 +1,20 @@
 //! The value of one key of a table of settings.
-ghost use Rattle.std.specs.Prelude.{◌≡◌, ◌≤ℤ◌, pos, negsuc, Ok, Err, None, Some, ◌≢◌, IfOk, IfErr, ok_or};
-ghost use Rattle.toml.specs.View.{table_view};
-ghost use Rattle.mq_settings.specs.Settings.{IsTextAt, IsHostAt, IsAddressAt, count_at, count_in, offset_in, offset_at};
-ghost use Rattle.mq_settings.specs.Settings.{level_named, level_at, IsPlaceAt};
+ghost use Rattle.std.specs.Prelude.{◌≡◌, Ok, Err, None, Some, ◌≢◌, IfOk, IfErr, ok_or};
+ghost use Rattle.mq_ledger.specs.Day.{ByRule, IsRule};
+ghost use Rattle.toml.specs.Data.{as_integer};
+ghost use Rattle.toml.specs.View.{view, table_view};
+ghost use Rattle.mq_settings.specs.Settings.{IsTextAt, IsHostAt, IsAddressAt, count_at, count_in, IsZoneByRule, IsZoneAt};
+ghost use Rattle.mq_settings.specs.Settings.{level_named, level_at, zone_by_offset, IsPlaceAt};
 
 use crate::settings::fault::SettingsFault;
 use crate::settings::key::Key;
 use crate::settings::table::value_at;
 use log::LevelFilter;
 use mq_frame::{Host, is_host};
+use mq_ledger::{RuleFault, Zone};
 use std::alloc::Global;
 use std::net::SocketAddr;
-use toml::Table;
+use toml::{Table, Value};
 
 /// A text that has to be there.
 fn read_text<'a>(table: &'a Table, key: Key) -> Result<&'a str, SettingsFault>
@@ -76,23 +79,58 @@ pub fn read_count(
     }
 }
 
-/// Minutes east of UTC, within a day.
-fn offset_in(found: Option<i64>) -> Result<i32, SettingsFault>
-    ensures { result ≡ offset_in found }
+/// The zone of minutes east of UTC, within a day.
+fn zone_of_minutes(minutes: i32) -> Result<Zone, SettingsFault>
+    ensures { result ≡ zone_by_offset (Some minutes) }
+{
+    match Zone::of_offset(minutes) {
+        Ok(zone) => Ok(zone),
+        Err(_) => Err(SettingsFault::Bad(Key::Offset)),
+    }
+}
+
+fn zone_by_offset(found: Option<i64>) -> Result<Zone, SettingsFault>
+    ensures { result ≡ zone_by_offset found }
 {
     match found.map(i32::try_from) {
-        Some(Ok(minutes)) if minutes >= -1439 && minutes <= 1439 => Ok(minutes),
+        Some(Ok(minutes)) => zone_of_minutes(minutes),
         _ => Err(SettingsFault::Bad(Key::Offset)),
     }
 }
 
-/// Minutes east of UTC, which have to be there.
-pub fn read_offset(table: &Table) -> Result<i32, SettingsFault>
-    ensures { result ≡ offset_at (table_view table.now) }
+/// The zone of a rule's text.
+fn zone_of_text(text: &str) -> Result<Zone, SettingsFault>
+    ensures ok { IfOk result (λ zone. (zone ≡ ByRule text.now) × IsRule text.now) }
+    ensures err { IfErr result (λ e. (e ≡ SettingsFault.Bad Key.Rule) × ¬ IsRule text.now) }
 {
-    match value_at(table, Key::Offset) {
-        None => Err(SettingsFault::Missing(Key::Offset)),
-        Some(value) => offset_in(value.as_integer()),
+    match Zone::of_rule(text) {
+        Ok(zone) => Ok(zone),
+        Err(RuleFault::Rule) => Err(SettingsFault::Bad(Key::Rule)),
+        Err(RuleFault::Memory) => Err(SettingsFault::Memory),
+    }
+}
+
+fn zone_by_rule(value: &Value) -> Result<Zone, SettingsFault>
+    ensures { IsZoneByRule (Some (view value.now)) result }
+{
+    match value.as_str() {
+        Some(text) => zone_of_text(text),
+        None => Err(SettingsFault::Bad(Key::Rule)),
+    }
+}
+
+/// What the days go by: an offset or a rule, of which one has to be there, and not both.
+pub fn read_zone(table: &Table) -> Result<Zone, SettingsFault>
+    ensures { IsZoneAt (table_view table.now) result }
+{
+    match (value_at(table, Key::Offset), value_at(table, Key::Rule)) {
+        (None, None) => Err(SettingsFault::Missing(Key::Offset)),
+        (None, Some(rule)) => zone_by_rule(rule),
+        (Some(offset), None) => zone_by_offset(offset.as_integer()),
+        (Some(offset), Some(_)) => match zone_by_offset(offset.as_integer()) {
+            Ok(_) => Err(SettingsFault::Bad(Key::Rule)),
+            Err(fault) => Err(fault),
+        },
     }
 }
 

@@ -1,11 +1,11 @@
 use Rattle.std.proofs.lemmas.List.Elements.{All-from_recursion}
 use Rattle.mq_frame.specs.Range.{IsReply}
-use Rattle.mq_ledger.proofs.Clocks.{offset_days}
+use Rattle.mq_ledger.proofs.Clocks.{zone_days}
 use Rattle.mq_ledger.proofs.Ranges.{reply_range, legal_replies}
 use Rattle.mq_ledger.proofs.laws.replies_in_range.Goals as goal
 
 pub returns-clause-days : goal.returns-clause-days
-returns-clause-days c = offset_days
+returns-clause-days c = zone_days
 
 pub returns-clause-replies : goal.returns-clause-replies
 returns-clause-replies c = reply_range

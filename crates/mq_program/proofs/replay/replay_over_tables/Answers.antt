@@ -1,8 +1,9 @@
-use Rattle.std.proofs.Common.{◌≡◌, ℕ, ℤ, List, refl, sym, ap, ap₂, subst₂, ◌∙◌}
+use Rattle.std.proofs.Common.{◌≡◌, ℕ, List, refl, sym, ap, ap₂, subst₂, ◌∙◌}
 use Rattle.sqlite.specs.Held.{state}
 use Rattle.sqlite.specs.Steps.{over_memory}
 use Rattle.sqlite.proofs.Callers.{memory_is_clean}
 use Rattle.mq_frame.specs.declared.message.Request.{Request}
+use Rattle.mq_ledger.specs.declared.zone.Zone.{Zone}
 use Rattle.mq_ledger.specs.Answer.{build}
 use Rattle.mq_ledger.specs.Day.{day_of}
 use Rattle.mq_ledger.specs.Legal.{Book}
@@ -10,7 +11,7 @@ use Rattle.mq_store.specs.Soundness.{book_in, HasKept, IsSound}
 use Rattle.mq_command.specs.Replay.{empty_book}
 use Rattle.mq_program.proofs.replay.replay_over_tables.Goals as goal
 
-abbrev made_of : ℤ → ℕ → List Request → Book
+abbrev made_of : Zone → ℕ → List Request → Book
 made_of zone default rs = record { zone = zone; default = default; history = build (day_of zone) default rs }
 
 pub returns-in-Ok : goal.returns-in-Ok

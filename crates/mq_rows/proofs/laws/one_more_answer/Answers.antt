@@ -9,11 +9,11 @@ use Rattle.mq_frame.specs.Range.{IsRequest, IsReply}
 use Rattle.mq_ledger.specs.declared.entry.Entry.{Entry}
 use Rattle.mq_ledger.specs.Answer.{answer, appended, reply, stored, with_arrival}
 use Rattle.mq_ledger.specs.Arrivals.{id_of}
-use Rattle.mq_ledger.specs.Day.{day_of}
+use Rattle.mq_ledger.specs.Day.{minutes_in, rule_in, day_of}
 use Rattle.mq_ledger.specs.History.{requests}
 use Rattle.mq_ledger.specs.Legal.{Book, IsLegal}
 use Rattle.mq_rows.specs.declared.record.SettingRecord.{SettingRecord}
-use Rattle.mq_rows.specs.Rows.{setting_row, answer_row, answer_rows}
+use Rattle.mq_rows.specs.Rows.{IsSetting, answer_row, answer_rows}
 use Rattle.mq_rows.specs.Plan.{decided, written}
 use Rattle.mq_rows.specs.Written.{LeadTo}
 use Rattle.mq_rows.proofs.Trans.{Entries, entry}
@@ -35,8 +35,11 @@ arrival_new day default H r id h none = rw (h, none) refl
 longer : (H : List Entry) (e : Entry) → length (H ++ e ∷ []) ≡ length H + 1
 longer H e = omega (arith, length-append H (e ∷ []))
 
-counted_setting : (b : Book) (s : SettingRecord) (e : Entry) → s ≡ setting_row b → record s { arrivals = s.arrivals + 1 } ≡ setting_row (record b { history = b.history ++ e ∷ [] })
-counted_setting b s e h = ap (λ (x : SettingRecord). record x { arrivals = x.arrivals + 1 }) h ∙ (λ i. record { version = 1; minutes = b.zone; cap = b.default; arrivals = sym (longer b.history e) i })
+counted_setting : (b : Book) (s : SettingRecord) (e : Entry) → IsSetting b s → IsSetting (record b { history = b.history ++ e ∷ [] }) (record s { arrivals = s.arrivals + 1 })
+counted_setting b s e h = record {
+  row = ap (λ (x : SettingRecord). record x { arrivals = x.arrivals + 1 }) h.row ∙ (λ i. record { version = s.version; minutes = minutes_in b.zone; cap = b.default; arrivals = sym (longer b.history e) i; rule = rule_in b.zone });
+  version = h.version;
+}
 
 pub returns-clause-reply : goal.returns-clause-reply
 returns-clause-reply c = λ b t r id f legal rows h none found.
@@ -49,7 +52,7 @@ returns-clause-rows c = λ b t r id f legal rows h none found.
     let a : Reply = answer day b.default b.history r in
     let b' : Book = record b { history = appended day b.default b.history r } in
     let same : decided b.default r f ≡ a = c.reply_follows.ensures day b.default b.history t r f legal.legal rows.transactions rows.usage rows.ceilings found (numbered r id h) in
-    let arrivals : t.setting.arrivals ≡ length b.history = ap (λ (s : SettingRecord). s.arrivals) rows.setting in
+    let arrivals : t.setting.arrivals ≡ length b.history = ap (λ (s : SettingRecord). s.arrivals) rows.setting.row in
     let answers : t.answers ++ answer_row (t.setting.arrivals + 1) (entry r a) ∷ [] ≡ answer_rows (b.history ++ entry r a ∷ []) =
     (λ i. rows.answers i ++ answer_row (arrivals i + 1) (entry r a) ∷ []) ∙ sym (c.answers_follow.ensures.row b.history (entry r a)) in
     let lead : LeadTo b' t (written day t.setting.arrivals r f a) = record {

@@ -1,14 +1,16 @@
 use Rattle.std.proofs.Common.{◌≡◌, ℕ, refl, ◌∙◌, ap, sym, subst, arith}
-use Rattle.std.specs.Prelude.{Some}
+use Rattle.std.specs.Prelude.{Some, true}
 use Rattle.mq_frame.specs.declared.message.Request.{Request}
 use Rattle.mq_frame.specs.Range.{IsRequest}
 use Rattle.mq_frame.specs.Reading.{request_at}
 use Rattle.mq_frame.specs.Spelling.{request_body}
 use Rattle.mq_ledger.specs.Answer.{build}
-use Rattle.mq_ledger.specs.Day.{day_of}
+use Rattle.mq_ledger.specs.Day.{ByOffset, ByRule, day_of}
+use Rattle.mq_ledger.specs.declared.zone.Zone.{Zone}
 use Rattle.mq_ledger.specs.History.{requests}
 use Rattle.mq_ledger.specs.Legal.{Book, IsLegalBook}
 use Rattle.mq_rows.specs.Meaning.{requests_in, meaning, AreSound}
+use Rattle.mq_rows.specs.Rows.{version_of, is_version}
 use Rattle.mq_rows.specs.Tables.{Tables, AreRows}
 use Rattle.mq_rows.proofs.Numbered.{spelled_requests}
 use Rattle.mq_rows.proofs.laws.rows_mean_their_history.Goals as goal
@@ -25,6 +27,10 @@ sound read b t legal rows =
     let e = sym (means read b t legal rows) in
     record { legal = subst IsLegalBook e legal; rows = subst (λ (x : Book). AreRows x t) e rows }
 
+own_version : (zone : Zone) → is_version zone (version_of zone) ≡ true
+own_version (ByOffset minutes) = refl
+own_version (ByRule text) = refl
+
 pub returns-clause-meaning : goal.returns-clause-meaning
 returns-clause-meaning c = means (λ r h. c.bodies_are_read_back.ensures.spelled_request (request_body r) r (c.one_spelling.ensures.request r h))
 
@@ -34,5 +40,5 @@ returns-clause-sound c = sound (λ r h. c.bodies_are_read_back.ensures.spelled_r
 pub returns-clause-new : goal.returns-clause-new
 returns-clause-new c = λ zone default offset amount. record {
   legal = record { zone = offset; default = amount; legal = record { range = λ k d h. absurd (omega arith); distinct = refl; built = refl } };
-  rows = record { setting = refl; answers = refl; transactions = λ t. refl; usage = λ l d. refl; ceilings = λ l d. refl };
+  rows = record { setting = record { row = refl; version = own_version zone }; answers = refl; transactions = λ t. refl; usage = λ l d. refl; ceilings = λ l d. refl };
 }

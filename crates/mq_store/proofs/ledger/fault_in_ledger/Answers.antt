@@ -14,10 +14,10 @@ returns-in-Ok-Sound-clause-found g c clean =
     (Ok c.in-Ok-Sound.field-0) None (rw c.in-Ok-Sound.field-0-is refl) (c.fault_in_store.new.connection, c.in_default.ensures.judged sure) (c.in_default.ensures.spares sure) (c.in-Ok-Sound.ensures.open clean) (c.in-Ok-Sound.ensures.audited clean)
 
 pub returns-in-Ok-Sound-clause-exact : goal.returns-in-Ok-Sound-clause-exact
-returns-in-Ok-Sound-clause-exact g c clean s has =
+returns-in-Ok-Sound-clause-exact g c clean s rule has =
     let sure : HasCleanDisk (state g.S.Store c.fault_in_store.new.connection) = c.audit_store.ensures.clean clean in
-    audited_behind c.args.zone c.args.default (state g.S.Store c.args.connection.now) (state g.S.Store c.fault_in_store.new.connection) (IsOf c.args.zone c.args.default s)
-    (Ok c.in-Ok-Sound.field-0) None (rw c.in-Ok-Sound.field-0-is refl) (c.in_default.ensures.exact sure s has) (c.in_default.ensures.spares sure) (c.in-Ok-Sound.ensures.open clean) (c.in-Ok-Sound.ensures.audited clean)
+    audited_behind c.args.zone c.args.default (state g.S.Store c.args.connection.now) (state g.S.Store c.fault_in_store.new.connection) (IsOf c.args.zone c.args.default s rule)
+    (Ok c.in-Ok-Sound.field-0) None (rw c.in-Ok-Sound.field-0-is refl) (c.in_default.ensures.exact sure s rule has) (c.in_default.ensures.spares sure) (c.in-Ok-Sound.ensures.open clean) (c.in-Ok-Sound.ensures.audited clean)
 
 pub returns-in-Ok-Wrong-clause-found : goal.returns-in-Ok-Wrong-clause-found
 returns-in-Ok-Wrong-clause-found g c clean =
@@ -28,12 +28,12 @@ returns-in-Ok-Wrong-clause-found g c clean =
     (Ok c.in-Ok-Wrong.field-0) (Some (Damaged c.in-Ok-Wrong.login c.in-Ok-Wrong.day)) (sym (ap (λ a. audit_fault (Ok a)) c.in-Ok-Wrong.field-0-is)) (c.fault_in_store.new.connection, c.in_default.ensures.judged sure) (c.in_default.ensures.spares sure) (c.in-Ok-Wrong.ensures.open clean) (c.in-Ok-Wrong.ensures.audited clean))
 
 pub returns-in-Ok-Wrong-clause-exact : goal.returns-in-Ok-Wrong-clause-exact
-returns-in-Ok-Wrong-clause-exact g c clean s has =
+returns-in-Ok-Wrong-clause-exact g c clean s rule has =
     let sure : HasCleanDisk (state g.S.Store c.fault_in_store.new.connection) = c.audit_store.ensures.clean clean in
     let fits : FitsSigned w64 c.in-Ok-Wrong.day = search rules in
     let exact : to_z w64 (of_z w64 c.in-Ok-Wrong.day) ≡ c.in-Ok-Wrong.day = omega (arith, ints) in
-    rw exact (audited_behind c.args.zone c.args.default (state g.S.Store c.args.connection.now) (state g.S.Store c.fault_in_store.new.connection) (IsOf c.args.zone c.args.default s)
-    (Ok c.in-Ok-Wrong.field-0) (Some (Damaged c.in-Ok-Wrong.login c.in-Ok-Wrong.day)) (sym (ap (λ a. audit_fault (Ok a)) c.in-Ok-Wrong.field-0-is)) (c.in_default.ensures.exact sure s has) (c.in_default.ensures.spares sure) (c.in-Ok-Wrong.ensures.open clean) (c.in-Ok-Wrong.ensures.audited clean))
+    rw exact (audited_behind c.args.zone c.args.default (state g.S.Store c.args.connection.now) (state g.S.Store c.fault_in_store.new.connection) (IsOf c.args.zone c.args.default s rule)
+    (Ok c.in-Ok-Wrong.field-0) (Some (Damaged c.in-Ok-Wrong.login c.in-Ok-Wrong.day)) (sym (ap (λ a. audit_fault (Ok a)) c.in-Ok-Wrong.field-0-is)) (c.in_default.ensures.exact sure s rule has) (c.in_default.ensures.spares sure) (c.in-Ok-Wrong.ensures.open clean) (c.in-Ok-Wrong.ensures.audited clean))
 
 pub returns-in-Err-clause-found : goal.returns-in-Err-clause-found
 returns-in-Err-clause-found g c clean =
@@ -42,7 +42,7 @@ returns-in-Err-clause-found g c clean =
     (Err c.in-Err.refused.fault) _ (ap Some c.open_fault.ensures) (c.fault_in_store.new.connection, c.in_default.ensures.judged sure) (c.in_default.ensures.spares sure) tt tt
 
 pub returns-in-Err-clause-exact : goal.returns-in-Err-clause-exact
-returns-in-Err-clause-exact g c clean s has =
+returns-in-Err-clause-exact g c clean s rule has =
     let sure : HasCleanDisk (state g.S.Store c.fault_in_store.new.connection) = c.audit_store.ensures.clean clean in
-    audited_behind c.args.zone c.args.default (state g.S.Store c.args.connection.now) (state g.S.Store c.fault_in_store.new.connection) (IsOf c.args.zone c.args.default s)
-    (Err c.in-Err.refused.fault) _ (ap Some c.open_fault.ensures) (c.in_default.ensures.exact sure s has) (c.in_default.ensures.spares sure) tt tt
+    audited_behind c.args.zone c.args.default (state g.S.Store c.args.connection.now) (state g.S.Store c.fault_in_store.new.connection) (IsOf c.args.zone c.args.default s rule)
+    (Err c.in-Err.refused.fault) _ (ap Some c.open_fault.ensures) (c.in_default.ensures.exact sure s rule has) (c.in_default.ensures.spares sure) tt tt

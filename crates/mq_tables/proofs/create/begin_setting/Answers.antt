@@ -2,7 +2,10 @@ use Rattle.std.proofs.Common.{arith}
 use Rattle.sqlite.specs.State.{HasCleanDisk}
 use Rattle.sqlite.specs.Held.{state}
 use Rattle.mq_tables.proofs.Chain.{survives_both, keeps_both}
+use Rattle.mq_tables.specs.Tables.{setting_table}
+use Rattle.mq_tables.specs.Making.{setting_row}
 use Rattle.mq_tables.proofs.Makes.{starts_ok}
+use Rattle.mq_tables.proofs.NewLedger.{setting_named}
 use Rattle.mq_tables.proofs.create.begin_setting.Goals as goal
 
 pub returns-clause-kept : goal.returns-clause-kept
@@ -22,5 +25,5 @@ returns-clause-survives g c =
 pub returns-clause-started : goal.returns-clause-started
 returns-clause-started g c clean =
     let mid : HasCleanDisk (state g.S.Store c.create_setting.new.tx.conn.now) = omega (arith, c.put_setting.ensures.survives.clean) in
-    starts_ok c.args.made_with.now (state g.S.Store c.args.tx.now.conn.now) (state g.S.Store c.create_setting.new.tx.conn.now) (state g.S.Store c.put_setting.new.tx.conn.now) c.put_setting.result
+    starts_ok setting_table (setting_row c.args.made_with.now) setting_named (state g.S.Store c.args.tx.now.conn.now) (state g.S.Store c.create_setting.new.tx.conn.now) (state g.S.Store c.put_setting.new.tx.conn.now) c.put_setting.result
     (c.in_ok-create_setting.ensures.made mid) (c.put_setting.ensures.put clean)

@@ -1,20 +1,16 @@
 use Rattle.sqlite.specs.Held.{state}
 use Rattle.mq_tables.specs.Lent.{key_params}
-use Rattle.mq_tables.proofs.Plain.{any_bare}
-use Rattle.mq_tables.proofs.Queries.{asked_same, asked_keeps}
-use Rattle.mq_tables.proofs.OverText.{select_text, select_parsed, select_query, select_unlisted}
-use Rattle.mq_tables.proofs.OverReads.{found_all}
+use Rattle.mq_tables.proofs.Selected.{shown_same, shown_keeps}
+use Rattle.mq_tables.proofs.OverReads.{days_text, days_shape, days_select, found_all}
 use Rattle.mq_tables.proofs.over.rows_from.Goals as goal
 
 pub returns-clause-same : goal.returns-clause-same
 returns-clause-same g c clean =
-    let old = state g.S.Store c.args.tx.now.conn.now in
-    asked_same select_text (key_params c.args.login.now c.args.from_day) old (state g.S.Store c.query_all.new.self.conn.now) (any_bare select_text select_parsed select_query select_unlisted old.now.schema) c.query_all.result (rw c.key_params.ensures at (c.query_all.ensures.ok clean))
+    shown_same days_text days_shape days_select (key_params c.args.login.now c.args.from_day) (state g.S.Store c.args.tx.now.conn.now) (state g.S.Store c.query_all.new.self.conn.now) c.query_all.result (rw c.key_params.ensures at (c.query_all.ensures.ok clean))
 
 pub returns-clause-kept : goal.returns-clause-kept
 returns-clause-kept g c clean =
-    let old = state g.S.Store c.args.tx.now.conn.now in
-    asked_keeps select_text (key_params c.args.login.now c.args.from_day) old (state g.S.Store c.query_all.new.self.conn.now) (any_bare select_text select_parsed select_query select_unlisted old.now.schema) c.query_all.result (rw c.key_params.ensures at (c.query_all.ensures.ok clean))
+    shown_keeps days_text days_shape days_select (key_params c.args.login.now c.args.from_day) (state g.S.Store c.args.tx.now.conn.now) (state g.S.Store c.query_all.new.self.conn.now) c.query_all.result (rw c.key_params.ensures at (c.query_all.ensures.ok clean))
     (rw c.key_params.ensures at (c.query_all.ensures.err clean))
 
 pub returns-clause-found : goal.returns-clause-found

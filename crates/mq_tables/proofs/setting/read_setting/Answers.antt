@@ -1,7 +1,9 @@
 use Rattle.std.proofs.Common.{IsTrue, Ok, Err, refl, ap}
 use Rattle.sqlite.specs.Held.{state}
 use Rattle.mq_tables.proofs.Opens.{of_setting}
-use Rattle.mq_tables.proofs.Spared.{spares}
+use Rattle.mq_tables.specs.Reading.{setting_text}
+use Rattle.mq_tables.proofs.Plain.{setting_bare}
+use Rattle.mq_tables.proofs.Spared.{spares, answers_open}
 use Rattle.mq_tables.proofs.setting.read_setting.Goals as goal
 
 pub returns-in-Ok-clause-autocommit : goal.returns-in-Ok-clause-autocommit
@@ -16,8 +18,11 @@ returns-in-Ok-clause-read g c clean = record { answer = Ok c.in-Ok.row; queried 
 pub returns-in-Ok-clause-spares : goal.returns-in-Ok-clause-spares
 returns-in-Ok-clause-spares g c clean =
     let autocommit : IsTrue c.is_autocommit-settled.result = rw (c.is_autocommit-settled.ensures.value, c.set_step_limit.ensures, c.requires.autocommit) in
-    spares (state g.S.Store c.args.connection.now) (state g.S.Store c.query_row.new.self) (Ok c.in-Ok.row) (rw c.set_step_limit.ensures at (c.is_autocommit-settled.ensures.settled autocommit))
+    spares setting_text setting_bare (state g.S.Store c.args.connection.now) (state g.S.Store c.query_row.new.self) (Ok c.in-Ok.row) (rw c.set_step_limit.ensures at (c.is_autocommit-settled.ensures.settled autocommit))
     (rw c.set_step_limit.ensures at (c.in-Ok.ensures.row clean)) (rw c.set_step_limit.ensures at c.in-Ok.ensures.survives) clean
+
+pub returns-in-Ok-clause-open : goal.returns-in-Ok-clause-open
+returns-in-Ok-clause-open g c clean = answers_open setting_text setting_bare (state g.S.Store c.set_step_limit.new.self) (state g.S.Store c.query_row.new.self) c.in-Ok.row (c.in-Ok.ensures.row clean)
 
 pub returns-in-Ok-clause-row : goal.returns-in-Ok-clause-row
 returns-in-Ok-clause-row g c clean =
@@ -36,7 +41,7 @@ returns-in-Err-clause-read g c clean = record { answer = Err c.in-Err.error; que
 pub returns-in-Err-clause-spares : goal.returns-in-Err-clause-spares
 returns-in-Err-clause-spares g c clean =
     let autocommit : IsTrue c.is_autocommit-settled.result = rw (c.is_autocommit-settled.ensures.value, c.set_step_limit.ensures, c.requires.autocommit) in
-    spares (state g.S.Store c.args.connection.now) (state g.S.Store c.query_row.new.self) (Err c.in-Err.error) (rw c.set_step_limit.ensures at (c.is_autocommit-settled.ensures.settled autocommit))
+    spares setting_text setting_bare (state g.S.Store c.args.connection.now) (state g.S.Store c.query_row.new.self) (Err c.in-Err.error) (rw c.set_step_limit.ensures at (c.is_autocommit-settled.ensures.settled autocommit))
     (rw c.set_step_limit.ensures at (c.in-Err.ensures.row clean)) (rw c.set_step_limit.ensures at c.in-Err.ensures.survives) clean
 
 pub returns-in-Err-clause-row : goal.returns-in-Err-clause-row

@@ -1,19 +1,16 @@
 use Rattle.sqlite.specs.Held.{state}
 use Rattle.mq_tables.specs.Lent.{transaction_key}
-use Rattle.mq_tables.proofs.Plain.{any_bare}
-use Rattle.mq_tables.proofs.Queries.{asked_same, asked_keeps}
-use Rattle.mq_tables.proofs.TransactionReads.{select_text, select_parsed, select_query, select_unlisted, found_all}
+use Rattle.mq_tables.proofs.Selected.{shown_same, shown_keeps}
+use Rattle.mq_tables.proofs.TransactionReads.{transaction_text, transaction_shape, transaction_select, found_all}
 use Rattle.mq_tables.proofs.transaction.transaction_rows.Goals as goal
 
 pub returns-clause-same : goal.returns-clause-same
 returns-clause-same g c clean =
-    let old = state g.S.Store c.args.tx.now.conn.now in
-    asked_same select_text (transaction_key c.args.host.now c.args.run c.args.txn) old (state g.S.Store c.query_all.new.self.conn.now) (any_bare select_text select_parsed select_query select_unlisted old.now.schema) c.query_all.result (rw c.key_params.ensures at (c.query_all.ensures.ok clean))
+    shown_same transaction_text transaction_shape transaction_select (transaction_key c.args.host.now c.args.run c.args.txn) (state g.S.Store c.args.tx.now.conn.now) (state g.S.Store c.query_all.new.self.conn.now) c.query_all.result (rw c.key_params.ensures at (c.query_all.ensures.ok clean))
 
 pub returns-clause-kept : goal.returns-clause-kept
 returns-clause-kept g c clean =
-    let old = state g.S.Store c.args.tx.now.conn.now in
-    asked_keeps select_text (transaction_key c.args.host.now c.args.run c.args.txn) old (state g.S.Store c.query_all.new.self.conn.now) (any_bare select_text select_parsed select_query select_unlisted old.now.schema) c.query_all.result (rw c.key_params.ensures at (c.query_all.ensures.ok clean))
+    shown_keeps transaction_text transaction_shape transaction_select (transaction_key c.args.host.now c.args.run c.args.txn) (state g.S.Store c.args.tx.now.conn.now) (state g.S.Store c.query_all.new.self.conn.now) c.query_all.result (rw c.key_params.ensures at (c.query_all.ensures.ok clean))
     (rw c.key_params.ensures at (c.query_all.ensures.err clean))
 
 pub returns-clause-found : goal.returns-clause-found

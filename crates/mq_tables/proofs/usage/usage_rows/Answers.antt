@@ -1,22 +1,18 @@
 use Rattle.sqlite.specs.Held.{state}
 use Rattle.mq_tables.specs.Lent.{key_params}
-use Rattle.mq_tables.proofs.Plain.{any_bare}
-use Rattle.mq_tables.proofs.Queries.{asked_same, asked_keeps}
-use Rattle.mq_tables.proofs.ByKey.{usage_text, usage_parsed, usage_query}
-use Rattle.mq_tables.proofs.UsageReads.{usage_unlisted, found_all}
+use Rattle.mq_tables.proofs.Selected.{shown_same, shown_keeps}
+use Rattle.mq_tables.proofs.UsageReads.{usage_text, usage_shape, usage_select, found_all}
 use Rattle.mq_tables.proofs.usage.usage_rows.Goals as goal
 
 pub returns-clause-same : goal.returns-clause-same
 returns-clause-same g c clean =
-    let old = state g.S.Store c.args.tx.now.conn.now in
-    asked_same usage_text (key_params c.args.login.now c.args.day) old (state g.S.Store c.query_all.new.self.conn.now) (any_bare usage_text usage_parsed usage_query usage_unlisted old.now.schema) c.query_all.result (rw c.key_params.ensures at (c.query_all.ensures.ok clean))
+    shown_same usage_text usage_shape usage_select (key_params c.args.login.now c.args.day) (state g.S.Store c.args.tx.now.conn.now) (state g.S.Store c.query_all.new.self.conn.now) c.query_all.result (rw c.key_params.ensures at (c.query_all.ensures.ok clean))
 
 pub returns-clause-kept : goal.returns-clause-kept
 returns-clause-kept g c clean =
-    let old = state g.S.Store c.args.tx.now.conn.now in
-    asked_keeps usage_text (key_params c.args.login.now c.args.day) old (state g.S.Store c.query_all.new.self.conn.now) (any_bare usage_text usage_parsed usage_query usage_unlisted old.now.schema) c.query_all.result (rw c.key_params.ensures at (c.query_all.ensures.ok clean))
+    shown_keeps usage_text usage_shape usage_select (key_params c.args.login.now c.args.day) (state g.S.Store c.args.tx.now.conn.now) (state g.S.Store c.query_all.new.self.conn.now) c.query_all.result (rw c.key_params.ensures at (c.query_all.ensures.ok clean))
     (rw c.key_params.ensures at (c.query_all.ensures.err clean))
 
 pub returns-clause-found : goal.returns-clause-found
 returns-clause-found g c clean =
-    found_all (state g.S.Store c.args.tx.now.conn.now) (state g.S.Store c.query_all.new.self.conn.now) c.args.login.now c.args.day c.query_all.result (rw c.key_params.ensures at (c.query_all.ensures.ok clean))
+    found_all c.args.login.now c.args.day (state g.S.Store c.args.tx.now.conn.now) (state g.S.Store c.query_all.new.self.conn.now) c.query_all.result (rw c.key_params.ensures at (c.query_all.ensures.ok clean))

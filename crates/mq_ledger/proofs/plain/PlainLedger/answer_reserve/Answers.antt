@@ -9,11 +9,11 @@ use Rattle.mq_ledger.proofs.Books.{book_used, open_answer}
 use Rattle.mq_ledger.proofs.plain.PlainLedger.answer_reserve.Goals as goal
 
 pub used-used-requires-clause-fits : goal.used-used-requires-clause-fits
-used-used-requires-clause-fits c = rw c.deref-2.ensures.value (omega (arith, book_used _ c.self.invariant c.args.login.now c.day-day.result))
+used-used-requires-clause-fits c = rw c.deref-2.ensures.value (omega (arith, book_used _ c.self.invariant c.args.login.now c.day_at-day.result))
 
 pub granted_or_full-requires : goal.granted_or_full-requires
 granted_or_full-requires c =
-    let fits = book_used _ c.self.invariant c.args.login.now c.day-day.result in
+    let fits = book_used _ c.self.invariant c.args.login.now c.day_at-day.result in
     let used = rw c.deref-2.ensures.value at c.used-used.ensures in
     omega (arith, fits, used, c.requires)
 
@@ -28,6 +28,6 @@ returns c = elim (option_cases c.in_ok-refused.field-0) [
   | inl none ↦ IfOk-weaker c.granted_or_full.result _ _ (λ r told. told ∙ (rw (← c.self.view_is)
       (answered _ c.args.id.now c.args.txn c.args.at c.args.login.now c.args.count c.used-used.result c.cap-cap.result _ _
       (rw (none, c.deref.ensures.value) at c.in_ok-refused.ensures)
-      (rw (c.deref-2.ensures.value, c.day-day.ensures.value) at c.used-used.ensures)
-      (rw (c.deref-3.ensures.value, c.day-day.ensures.value) at c.cap-cap.ensures)))) c.granted_or_full.ensures
+      (rw (c.deref-2.ensures.value, c.day_at-day.ensures.value) at c.used-used.ensures)
+      (rw (c.deref-3.ensures.value, c.day_at-day.ensures.value) at c.cap-cap.ensures)))) c.granted_or_full.ensures
 ]

@@ -4,7 +4,7 @@ use Rattle.mq_store.proofs.ledger.SqlLedger.open.Goals as goal
 
 pub returns-in-None-clause-rows : goal.returns-in-None-clause-rows
 returns-in-None-clause-rows g c kept =
-    opens_book c.args.zone c.args.default (state g.S.Store c.args.connection) (state g.S.Store c.fault_in_ledger.new.connection) c.tables_mean_their_book.ensures (λ s has. (c.in-None.ensures.exact kept.clean s has).0) (c.in-None.ensures.spares kept.clean) kept
+    opens_book c.args.zone c.args.default (state g.S.Store c.args.connection) (state g.S.Store c.fault_in_ledger.new.connection) c.tables_mean_their_book.ensures (λ s rule has. (c.in-None.ensures.exact kept.clean s rule has).0) (c.in-None.ensures.spares kept.clean) kept
 
 pub returns-in-None-clause-sound : goal.returns-in-None-clause-sound
 returns-in-None-clause-sound g c kept =

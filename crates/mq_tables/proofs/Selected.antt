@@ -1,0 +1,107 @@
+-- What a SELECT of this shape answers of the records: all that pass, or the first of them in the order.
+use Rattle.std.proofs.Common.{◌≡◌, ◌⊎◌, ℕ, ◌+◌, ◌-◌, suc, ◌&&◌, List, [], ◌∷◌, drop, map, filter, reverse, Bool, Some, None, Result, arith, refl, sym, ap, ap₂, subst}
+use Rattle.std.specs.Prelude.{Vec, IfOk, IfErr, OnOk}
+use Rattle.std.specs.declared.alloc.Global.{Global}
+use Rattle.std.specs.List.{AllByRecursion, list_all}
+use Rattle.std.specs.List.Sorted.{IsPermutation}
+use Rattle.std.proofs.lemmas.List.Sorted.{IsPermutation-trans, IsPermutation-sym}
+use Rattle.sqlite.specs.declared.types.Value.TheVariants.{Null}
+use Rattle.sqlite.specs.declared.error.Error.{Error}
+use Rattle.sqlite.specs.Order.{Row, column}
+use Rattle.sqlite.specs.Term.{Term, eval_all, holds}
+use Rattle.sqlite.specs.Command.TheVariants.{Select}
+use Rattle.sqlite.specs.Listing.{understood}
+use Rattle.sqlite.specs.State.{State, Shown, IsUnchanged, KeepsCommit, FailsToQuery, IsTooLate}
+use Rattle.sqlite.proofs.Callers.{command_of}
+use Rattle.sqlite_sql.specs.Ops.{binary, is_true}
+use Rattle.sqlite_sql.specs.declared.ops.BinaryOp.TheVariants.{Compare}
+use Rattle.sqlite_resolve.specs.Terms.{conjuncts}
+use Rattle.sqlite_value.specs.declared.keys.Collation.TheVariants.{Binary}
+use Rattle.mq_tables.specs.Places.{IsTableIn}
+use Rattle.mq_tables.specs.Records.{Holds}
+use Rattle.mq_tables.specs.Written.{chosen}
+use Rattle.mq_tables.proofs.Chains.{all_joined}
+use Rattle.mq_tables.proofs.Queries.{asked_same, asked_keeps, selects, of_records}
+use Rattle.mq_tables.proofs.Firsts as firsts
+use Rattle.mq_tables.proofs.TermShape.{Field, Test, compare_of, shown_term, test_term, all_of, filter_of}
+use Rattle.mq_tables.proofs.SelectShape.{SelectShape, Sorting, IsSelect, IsAccepted, filter_in, shown_in, order_by, paged, names_in, bare, command_is, plain, apart}
+
+-- ---- a column that is no key is the same in a row without its rowid
+
+same_column : (r : Row) (k : ℕ) → column r (k + 1) ≡ column (Null ∷ drop 1 r) (k + 1)
+same_column r k = let next : k + 1 ≡ suc k = omega arith in rw next (go r)
+  where
+    go : (row : Row) → column row (suc k) ≡ column (Null ∷ drop 1 row) (suc k)
+    go [] = refl
+    go (x ∷ row) = refl
+
+module _ (params r : Row) where
+  abbrev full : List Row
+  full = params ∷ r ∷ []
+
+  abbrev cut : List Row
+  cut = params ∷ (Null ∷ drop 1 r) ∷ []
+
+  same_shown : (fs : List Field) → eval_all (map (shown_term None) fs) full ≡ eval_all (map (shown_term None) fs) cut
+  same_shown [] = refl
+  same_shown (f ∷ fs) = ap₂ (λ x xs. x ∷ xs) (same_column r f.at) (same_shown fs)
+
+  one_same : (t : Test) → holds full (test_term None t) ≡ holds cut (test_term None t)
+  one_same t = ap (λ v. is_true (binary (Compare (compare_of t.by) Binary) v (column params (t.parameter - 1)))) (same_column r t.column.at)
+
+  each_same : (t : Test) (more : List Test) → AllByRecursion (λ x. holds full x ≡ holds cut x) (conjuncts (all_of None t more))
+  each_same t [] = (one_same t, tt)
+  each_same t (u ∷ more) = all_joined _ (conjuncts (all_of None u more)) (test_term None t ∷ []) (each_same u more) (one_same t, tt)
+
+  all_same : (xs : List Term) → AllByRecursion (λ x. holds full x ≡ holds cut x) xs → list_all (holds full) xs ≡ list_all (holds cut) xs
+  all_same [] h = refl
+  all_same (x ∷ xs) h = ap₂ (λ a b. a && b) h.0 (all_same xs h.1)
+
+  pub same_tests : (ts : List Test) → list_all (holds full) (filter_of None ts) ≡ list_all (holds cut) (filter_of None ts)
+  same_tests [] = refl
+  same_tests (t ∷ more) = all_same (filter_of None (t ∷ more)) (each_same t more)
+
+module _ (text : List ℕ) (shape : SelectShape) (it : IsSelect text shape) where
+  pub shown_same : (params : Row) (old new : State) (outcome : Result (Vec Row Global) Error) → IfOk outcome (λ rows. Shown text params old new rows.items) → OnOk outcome (IsUnchanged old new)
+  shown_same params old new outcome = asked_same text params old new (bare text shape it old.now.schema) outcome
+
+  pub shown_keeps : (params : Row) (old new : State) (outcome : Result (Vec Row Global) Error) → IfOk outcome (λ rows. Shown text params old new rows.items)
+      → IfErr outcome (λ e. FailsToQuery text params old new e ⊎ IsTooLate text params old new e) → KeepsCommit old new
+  shown_keeps params old new outcome = asked_keeps text params old new (bare text shape it old.now.schema) outcome
+
+-- ---- all that pass, in any order, or the first of them
+
+module _ (text : List ℕ) (shape : SelectShape) (it : IsSelect text shape) (accepted : IsAccepted shape) (params : Row) (old new : State) (t : ℕ) (place : IsTableIn old.now.schema shape.table t) (rows : List Row) (h : Shown text params old new rows) where
+  pub shows_rows : shape.order ≡ None → IsPermutation (chosen (filter_in shape) (shown_in shape) params (old.now.trees t)) rows
+  shows_rows unordered =
+      selects text params old new old.now.schema refl t (filter_in shape) (shown_in shape) (names_in shape t)
+      (subst (λ by. command_of (understood old.now.schema text) ≡ Select (record { lets = []; body = paged t shape.table.key (filter_in shape) (shown_in shape) by }) (names_in shape t)) unordered (command_is text shape it accepted old.now.schema t place))
+      (plain text shape it accepted old.now.schema t place) (apart text shape it accepted old.now.schema t place) (rw place.stored refl) rows h
+
+module _ {R : Type 0} (fields : R → Row) (text : List ℕ) (shape : SelectShape) (it : IsSelect text shape) (accepted : IsAccepted shape) (keyless : shape.table.key ≡ None) (params : Row) where
+  tied : (r : Row) → list_all (holds (params ∷ r ∷ [])) (filter_in shape) ≡ list_all (holds (params ∷ (Null ∷ drop 1 r) ∷ [])) (filter_in shape)
+  tied r = subst (λ k. list_all (holds (params ∷ r ∷ [])) (filter_of k (reverse shape.tests)) ≡ list_all (holds (params ∷ (Null ∷ drop 1 r) ∷ [])) (filter_of k (reverse shape.tests))) (sym keyless) (same_tests params r (reverse shape.tests))
+
+  shows : (r : Row) → eval_all (shown_in shape) (params ∷ r ∷ []) ≡ eval_all (shown_in shape) (params ∷ (Null ∷ drop 1 r) ∷ [])
+  shows r = subst (λ k. eval_all (map (shown_term k) shape.shown) (params ∷ r ∷ []) ≡ eval_all (map (shown_term k) shape.shown) (params ∷ (Null ∷ drop 1 r) ∷ [])) (sym keyless) (same_shown params r shape.shown)
+
+  -- whether a record passes, and what is shown of it
+  abbrev pub pass : R → Bool
+  pass = firsts.pass fields (filter_in shape) (shown_in shape) params
+
+  abbrev pub show : R → Row
+  show = firsts.show fields (filter_in shape) (shown_in shape) params
+
+  module _ (old new : State) (t : ℕ) (place : IsTableIn old.now.schema shape.table t) (rows : List Row) (h : Shown text params old new rows) (all : List R) where
+    pub shows_all : shape.order ≡ None → IsPermutation (map (drop 1) (old.now.trees t)) (map fields all) → IsPermutation (map show (filter pass all)) rows
+    shows_all unordered held =
+        IsPermutation-trans _ _ _ (IsPermutation-sym _ _ (of_records fields (filter_in shape) (shown_in shape) params tied shows (old.now.trees t) all held)) (shows_rows text shape it accepted params old new t place rows h unordered)
+
+    pub shows_first : (by : Sorting) → shape.order ≡ Some by → Holds 1 fields (old.now.trees t) all → firsts.IsFirstRow fields (filter_in shape) (shown_in shape) params (order_by shape.table.key by) t all rows
+    shows_first by ordered held =
+        firsts.shows_first fields (filter_in shape) (shown_in shape) params (order_by shape.table.key by) tied (λ r. ap₂ (λ a b. (a, b)) (sorted r) (shows r)) text (names_in shape t) old new t rows all
+        (subst (λ o. command_of (understood old.now.schema text) ≡ Select (record { lets = []; body = paged t shape.table.key (filter_in shape) (shown_in shape) o }) (names_in shape t)) ordered (command_is text shape it accepted old.now.schema t place))
+        (plain text shape it accepted old.now.schema t place) (apart text shape it accepted old.now.schema t place) place.stored held h
+      where
+        sorted : (r : Row) → eval_all (shown_term shape.table.key by.column ∷ []) (params ∷ r ∷ []) ≡ eval_all (shown_term shape.table.key by.column ∷ []) (params ∷ (Null ∷ drop 1 r) ∷ [])
+        sorted r = subst (λ k. eval_all (shown_term k by.column ∷ []) (params ∷ r ∷ []) ≡ eval_all (shown_term k by.column ∷ []) (params ∷ (Null ∷ drop 1 r) ∷ [])) (sym keyless) (same_shown params r (by.column ∷ []))

@@ -1,0 +1,173 @@
+-- An UPDATE of some columns by a conjunction of tests, over any schema that has the table at some place, where one row alone passes.
+use Rattle.std.proofs.Common.{append-nil, ◌≡◌, ◌≤◌, ℕ, ℤ, ◌+◌, ◌-◌, ◌^◌, nat_le, List, [], ◌∷◌, ◌++◌, ◌==◌, find, drop, map, reverse, length, Bool, true, false, Some, None, Ok, Err, arith, append_assoc, refl, sym, ap, ap₂, subst, ◌∙◌}
+use Rattle.std.specs.List.{AllByRecursion, list_all}
+use Rattle.std.specs.List.Sorted.{IsPermutation}
+use Rattle.std.proofs.lemmas.Bool.{and_parts, not-true, leb-true, lt-ltb}
+use Rattle.sqlite_ast.specs.declared.Expr.{Expr, out-Expr}
+use Rattle.sqlite_ast.specs.declared.Expr.TheOpen.{Expr-F}
+use Rattle.sqlite.specs.Schema.{Schema}
+use Rattle.sqlite.specs.Table.{Table}
+use Rattle.sqlite.specs.Order.{Row}
+use Rattle.sqlite.specs.declared.types.Value.TheVariants.{Null, Int}
+use Rattle.sqlite.specs.Term.{Term, col, eval_all, holds}
+use Rattle.sqlite.specs.Tree.{Trees, put_row, rowid, without_rowid}
+use Rattle.sqlite.specs.Edit.{Edit, edit_of, edited, left_by, id_in, are_fresh}
+use Rattle.sqlite.specs.Rowids.TheVariants.{Given}
+use Rattle.sqlite.specs.Rows.{stamped}
+use Rattle.sqlite.specs.Command.TheVariants.{Update}
+use Rattle.sqlite_rules.specs.Calls.{ids_of}
+use Rattle.sqlite.specs.State.{Executes}
+use Rattle.sqlite.specs.State as state
+use Rattle.sqlite_schema.specs.Names.{table_named}
+use Rattle.sqlite_draft.specs.declared.join.Step.TheVariants.{Inner}
+use Rattle.sqlite_resolve.specs.Lowering.{Checked, and_then, max_budget, nothing}
+use Rattle.sqlite_resolve.specs.Scope.{Name, Context}
+use Rattle.sqlite_resolve.specs.Write.{over, sets_from, places_from, with_place, row, simple, updated}
+use Rattle.sqlite_resolve.specs.Compile.{first}
+use Rattle.sqlite_typing.specs.Types.{accepts_program}
+use Rattle.sqlite.specs.Listing.{understood}
+use Rattle.sqlite.proofs.Callers.{IsPlain, command_of, one_permutation}
+use Rattle.mq_tables.specs.Places.{IsTableIn, IsUnreferred}
+use Rattle.mq_tables.specs.Records.{Holds}
+use Rattle.mq_tables.specs.Written.{plain_query, chosen as chosen_rows, Updated}
+use Rattle.mq_tables.specs.Updates.{HasSet}
+use Rattle.mq_tables.proofs.Plain.{parsed_in}
+use Rattle.mq_tables.proofs.RowFacts.{only, keyed_row, holds_set}
+use Rattle.mq_tables.proofs.Selecting.{parameter_lowered}
+use Rattle.mq_tables.proofs.Selected.{same_tests}
+use Rattle.mq_tables.proofs.Statements.{updates}
+use Rattle.mq_tables.proofs.TermShape.{Test, is_field, filter_of, IsFilter, state_of, depth_of, nodes_of, spent_on, last_after, filter_lowered}
+use Rattle.mq_tables.proofs.Updating.{IsUpdate, set_next, updated_is, understood_update, nothing_acts}
+
+-- The columns are set to the parameters from 1 on, and `row` is the new row as the query has it: the rowid, and then all fields from the rowid on.
+pub record UpdateShape : Type 0 where
+  pub table : Table
+  pub sets : List Name
+  pub places : List ℕ
+  pub tests : List Test
+  pub row : List Term
+
+abbrev pub in_tree : UpdateShape → ℕ → Table
+in_tree shape t = record shape.table { tree = t }
+
+abbrev pub tests_in : UpdateShape → List Term
+tests_in shape = filter_of shape.table.key (reverse shape.tests)
+
+-- each column is set to a parameter, which count on
+abbrev pub AreSet : List (Name × Expr) → List Name → ℕ → Type 0
+AreSet [] [] n = Unit {0}
+AreSet [] (name ∷ names) n = ⊥
+AreSet (set ∷ more) [] n = ⊥
+AreSet (set ∷ more) (name ∷ names) n = (set.0 ≡ name) × (out-Expr set.1 ≡ Expr-F.Parameter n) × AreSet more names (n + 1)
+
+abbrev pub values_from : ℕ → List Name → List Term
+values_from n [] = []
+values_from n (name ∷ names) = col 0 (n - 1) ∷ values_from (n + 1) names
+
+pub record IsUpdateOf (text : List ℕ) (shape : UpdateShape) : Type 0 where
+  pub parsed : first text ≡ Ok (parsed_in (first text))
+  pub update : IsUpdate (parsed_in (first text))
+  pub named : update.name ≡ shape.table.name
+  pub sets : AreSet update.assignments shape.sets 1
+  pub placed : (t : ℕ) → places_from (in_tree shape t) [] shape.sets ≡ Ok shape.places
+  pub laid : (t : ℕ) → row (in_tree shape t) None shape.places (col 1 0 ∷ []) (values_from 1 shape.sets) ≡ Ok shape.row
+  pub filter : IsFilter update.test (reverse shape.tests)
+  pub known : (t : ℕ) → list_all (λ (u : Test). is_field (in_tree shape t) u.column) (reverse shape.tests) ≡ true
+  pub short : nat_le (length shape.sets + nodes_of (reverse shape.tests) + depth_of (reverse shape.tests)) 600 ≡ true
+  pub keyless : shape.table.key ≡ None
+  pub uncounted : shape.table.is_counted ≡ false
+  pub timeless : (params : Row) → stamped shape.table params ≡ params
+
+-- the types of the terms
+abbrev pub IsAccepted : UpdateShape → Type 0
+IsAccepted shape = (s : Schema) (t : ℕ) → nat_le (2 ^ 31) t ≡ false → find (λ (x : Table). x.tree == t) s.tables ≡ Some (in_tree shape t) → accepts_program s [] (plain_query t (tests_in shape) shape.row) [] ≡ true
+
+-- ---- what it means
+
+module _ (cx : Context) (table : Table) where
+  sets_lowered : (names : List Name) (sets : List (Name × Expr)) (n : ℕ) → AreSet sets names n → (done all : List ℕ) (terms : List Term) (budget : ℕ) → places_from table done names ≡ Ok all → length names + 2 ≤ budget
+      → sets_from cx table (done, terms) sets (state_of budget nothing) ≡ Ok ((all, terms ++ values_from n names), state_of (budget - length names) nothing)
+  sets_lowered [] [] n are done all terms budget placed enough =
+      let same : done ≡ all = cc in
+      let left : budget ≡ budget - 0 = omega arith in
+      λ i. Ok ((same i, sym (append-nil terms) i), state_of (left i) nothing)
+  sets_lowered [] (set ∷ sets) n are done all terms budget placed enough = absurd are
+  sets_lowered (name ∷ names) [] n are done all terms budget placed enough = absurd are
+  sets_lowered (name ∷ names) (set ∷ sets) n (is, value, more) done all terms budget placed enough =
+      go (with_place table done name) refl placed (λ longer placed'. sets_lowered names sets (n + 1) more longer all (terms ++ col 0 (n - 1) ∷ []) (budget - 1) placed' (omega (arith, enough)))
+    where
+      go : (found : Checked (List ℕ)) → with_place table done name ≡ found → and_then found (λ longer. places_from table longer names) ≡ Ok all
+          → ((longer : List ℕ) → places_from table longer names ≡ Ok all → sets_from cx table (longer, terms ++ col 0 (n - 1) ∷ []) sets (state_of (budget - 1) nothing) ≡ Ok ((all, (terms ++ col 0 (n - 1) ∷ []) ++ values_from (n + 1) names), state_of (budget - 1 - length names) nothing))
+          → sets_from cx table (done, terms) (set ∷ sets) (state_of budget nothing) ≡ Ok ((all, terms ++ values_from n (name ∷ names)), state_of (budget - length (name ∷ names)) nothing)
+      go (Err e) at placed' deeper = absurd (cc)
+      go (Ok longer) at placed' deeper =
+          let here : with_place table done set.0 ≡ Ok longer = rw is at in
+          let one = parameter_lowered cx 699 set.1 n value (state_of budget nothing) (lt-ltb 1 budget (omega (arith, enough))) refl in
+          let left : budget - 1 - length names ≡ budget - length (name ∷ names) = omega arith in
+          set_next cx table (done, terms) set.0 set.1 sets longer (col 0 (n - 1)) (state_of budget nothing) (state_of (budget - 1) nothing) _ here one (deeper longer placed')
+          ∙ ap₂ (λ xs b. Ok ((all, xs), state_of b nothing)) (append_assoc terms (col 0 (n - 1) ∷ []) (values_from (n + 1) names)) left
+
+module _ (text : List ℕ) (shape : UpdateShape) (it : IsUpdateOf text shape) (accepted : IsAccepted shape) (s : Schema) (t : ℕ) (place : IsTableIn s shape.table t) where
+  short : length shape.sets + nodes_of (reverse shape.tests) + depth_of (reverse shape.tests) ≤ 600
+  short = leb-true _ 600 it.short
+
+  abbrev left : ℕ
+  left = max_budget - length shape.sets
+
+  abbrev last : ℕ
+  last = left - spent_on (reverse shape.tests)
+
+  updated_so : updated s place.at (in_tree shape t) it.update.assignments it.update.test ≡ Ok (simple (Inner t ∷ []) (tests_in shape) shape.row)
+  updated_so =
+      let cx = over s place.at shape.table.name in
+      let sets = sets_lowered cx (in_tree shape t) shape.sets it.update.assignments 1 it.sets [] shape.places [] max_budget (it.placed t) (omega (arith, short)) in
+      let tested = filter_lowered cx place.at shape.table.name [] (in_tree shape t) refl place.there (reverse shape.tests) (it.known t) it.update.test it.filter left nothing (omega (arith, short)) (omega (arith, short)) in
+      updated_is s place.at (in_tree shape t) it.update.assignments it.update.test shape.places (values_from 1 shape.sets) shape.row (tests_in shape) (state_of left nothing) (state_of last (last_after (reverse shape.tests) nothing)) sets (it.laid t) tested
+
+  pub means_update : (command_of (understood s text) ≡ Update place.at (record { lets = []; body = plain_query t (tests_in shape) shape.row })) × IsPlain (understood s text)
+  means_update =
+      let name : table_named s it.update.name ≡ Some place.at = rw it.named place.named in
+      let is = understood_update text it.parsed it.update s place.at (in_tree shape t) (simple (Inner t ∷ []) (tests_in shape) shape.row) name place.there updated_so (accepted s t place.stored place.found) in
+      (ap command_of is, subst IsPlain (sym is) (refl, refl))
+
+-- ---- what it leaves of the records
+
+module _ {R : Type 0} (fields : R → Row) (same : R → R → Bool) (set : R → R → R) (params : R → Row) (text : List ℕ) (shape : UpdateShape) (it : IsUpdateOf text shape) (accepted : IsAccepted shape) (r : R) where
+  -- whether a row of these fields passes
+  abbrev pub test : Row → Bool
+  test c = list_all (holds (params r ∷ (Null ∷ c) ∷ [])) (tests_in shape)
+
+  abbrev pass : Row → Bool
+  pass c = list_all (holds (params r ∷ c ∷ [])) (tests_in shape)
+
+  tied : (c : Row) → pass c ≡ test (drop 1 c)
+  tied c = subst (λ k. list_all (holds (params r ∷ c ∷ [])) (filter_of k (reverse shape.tests)) ≡ list_all (holds (params r ∷ (Null ∷ drop 1 c) ∷ [])) (filter_of k (reverse shape.tests))) (sym it.keyless) (same_tests (params r) c (reverse shape.tests))
+
+  module _ (decides : (was : R) → test (fields was) ≡ same r was)
+      (edits : (db : Trees) (t : ℕ) (was : R) (id : ℤ) (hits : List Row) → hits ≡ eval_all shape.row (params r ∷ (Int id ∷ fields was) ∷ []) ∷ []
+      → edit_of db (in_tree shape t) (ids_of hits) Given 1 hits ≡ record { table = in_tree shape t; gone = id ∷ []; news = (Int id ∷ fields (set r was)) ∷ [] })
+      (old new : state.State) (t : ℕ) (place : IsTableIn old.now.schema shape.table t) where
+    sets_row : Updated old.now.schema (in_tree shape t) (tests_in shape) shape.row (params r) old new → (was : R) (rest : List R) → Holds 1 fields (old.now.trees t) (was ∷ rest) → same r was ≡ true → AllByRecursion (λ v. same r v ≡ false) rest
+        → Holds 1 fields (new.now.trees t) (set r was ∷ rest)
+    sets_row made was rest held hit apart =
+        let db = old.now.trees in
+        let hit' = decides was ∙ hit in
+        let apart' = subst (λ (f : R → Bool). AllByRecursion (λ v. f v ≡ false) rest) (λ i v. sym (decides v) i) apart in
+        let row = only fields pass test tied (db t) was rest held hit' apart' in
+        let id = id_in (rowid row.0) in
+        let shape' : row.0 ≡ Int id ∷ fields was = keyed_row fields pass test tied (db t) was rest held hit' apart' in
+        let seen : chosen_rows (tests_in shape) shape.row (params r) (db t) ≡ eval_all shape.row (params r ∷ (Int id ∷ fields was) ∷ []) ∷ [] =
+        ap (map (λ c. eval_all shape.row (params r ∷ c ∷ []))) (row.1 ∙ ap (λ c. c ∷ []) shape') in
+        let hits = one_permutation _ made.hits (subst (λ xs. IsPermutation xs made.hits) seen made.found) in
+        let edit = edits db t was id made.hits hits in
+        let rows : new.now.trees t ≡ put_row (Int id ∷ fields (set r was)) (without_rowid id (db t)) = made.rows ∙ ap (edited db) edit in
+        let fresh' : are_fresh (without_rowid id (db t)) ((Int id ∷ fields (set r was)) ∷ []) ≡ true = subst (λ (e : Edit). are_fresh (left_by db e) e.news ≡ true) edit made.fresh in
+        subst (λ rs. Holds 1 fields rs (set r was ∷ rest)) (sym rows) (holds_set fields pass test tied (db t) was rest held hit' apart' (set r was) (not-true _ (and_parts _ _ fresh').0))
+
+    pub set_so : IsUnreferred old.now.schema t → (count : ℕ) → Executes text (params r) old new (Ok count) → HasSet (Holds 1 fields) same set r t old.now new.now
+    set_so apart count h =
+        let means = means_update text shape it accepted old.now.schema t place in
+        let made = updates text (params r) old new old.now.schema refl place.at (in_tree shape t)
+        (record { place = place.there; uncounted = it.uncounted; timeless = it.timeless; unreferred = nothing_acts old.now.schema t apart [] })
+        (nothing_acts old.now.schema t apart) (record { lets = []; body = plain_query t (tests_in shape) shape.row }) (tests_in shape) shape.row means.0 (refl, refl) means.1 (rw place.stored) count h in
+        record { sound = made.sound; schema = made.schema_is; rows = sets_row made; others = made.tables }

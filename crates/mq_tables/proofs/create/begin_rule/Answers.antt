@@ -1,0 +1,29 @@
+use Rattle.std.proofs.Common.{arith}
+use Rattle.sqlite.specs.State.{HasCleanDisk}
+use Rattle.sqlite.specs.Held.{state}
+use Rattle.mq_tables.proofs.Chain.{survives_both, keeps_both}
+use Rattle.mq_tables.specs.Tables.{rule_table}
+use Rattle.mq_tables.specs.Settings.{rule_fields}
+use Rattle.mq_tables.proofs.Makes.{starts_ok}
+use Rattle.mq_tables.proofs.Later.{rule_named}
+use Rattle.mq_tables.proofs.create.begin_rule.Goals as goal
+
+pub returns-clause-kept : goal.returns-clause-kept
+returns-clause-kept g c =
+    let s0 = state g.S.Store c.args.tx.now.conn.now in
+    let s1 = state g.S.Store c.create_rule.new.tx.conn.now in
+    let s2 = state g.S.Store c.put_rule.new.tx.conn.now in
+    keeps_both s0 s1 s2 c.put_rule.ensures.survives c.create_rule.ensures.kept c.put_rule.ensures.kept
+
+pub returns-clause-survives : goal.returns-clause-survives
+returns-clause-survives g c =
+    let s0 = state g.S.Store c.args.tx.now.conn.now in
+    let s1 = state g.S.Store c.create_rule.new.tx.conn.now in
+    let s2 = state g.S.Store c.put_rule.new.tx.conn.now in
+    survives_both s0 s1 s2 c.create_rule.ensures.survives c.put_rule.ensures.survives
+
+pub returns-clause-started : goal.returns-clause-started
+returns-clause-started g c clean =
+    let mid : HasCleanDisk (state g.S.Store c.create_rule.new.tx.conn.now) = omega (arith, c.put_rule.ensures.survives.clean) in
+    starts_ok rule_table (rule_fields c.args.rule.now) rule_named (state g.S.Store c.args.tx.now.conn.now) (state g.S.Store c.create_rule.new.tx.conn.now) (state g.S.Store c.put_rule.new.tx.conn.now) c.put_rule.result
+    (c.in_ok-create_rule.ensures.made mid) (c.put_rule.ensures.put clean)
