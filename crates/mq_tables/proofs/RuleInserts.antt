@@ -56,6 +56,7 @@ module _ (text : List ℕ) (old new : State) (at tree : ℕ) (named : table_name
       let done = inserts insert_text (rule_params text) old new s refl at table (record { place = there; uncounted = refl; timeless = λ params. append-nil params; unreferred = unreferred s tree })
       terms 3 (ap command_of is) (subst IsPlain (sym is) (refl, refl)) refl count h in
       record {
+        sound = done.sound;
         schema = done.schema_is;
         row_is = done.rows ∙ ap (λ r. put_row r (old.now.trees tree)) (row_is text tree (old.now.trees tree)) ∙ ap (put_row (rule_fields text)) none;
         others = done.tables;
