@@ -1,7 +1,10 @@
+pub mod Advance
 pub mod Cutting
 pub mod Deliveries
 pub mod Exits
 pub mod Heads
+pub mod Living
 pub mod Running
-pub mod Turns
+pub mod Stepping
 pub mod Telling
+pub mod Turns

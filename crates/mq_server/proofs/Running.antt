@@ -50,8 +50,11 @@ start b t wire legal = record {
   };
 }
 
-pub start_empty : (b : Book) (t : Option (List Told)) (wire : Wire) (held : List ℕ) → held ≡ [] → IsLegalBook b → SoFar b t t wire wire held 0 b.history
-start_empty b t wire held e legal = let P : List ℕ → Type 0 = λ q. SoFar b t t wire wire q 0 b.history in subst P (sym e) (start b t wire legal)
+pub start_empty : (b : Book) (t : Option (List Told)) (wire : Wire) (held : List ℕ) (count : ℕ) → held ≡ [] → count ≡ 0 → IsLegalBook b → SoFar b t t wire wire held count b.history
+start_empty b t wire held count e f legal =
+    let P : List ℕ → Type 0 = λ q. SoFar b t t wire wire q count b.history in
+    let Q : ℕ → Type 0 = λ n. SoFar b t t wire wire [] n b.history in
+    subst P (sym e) (subst Q (sym f) (start b t wire legal))
 
 -- ---- the bytes asked
 
@@ -64,7 +67,7 @@ zip_push [] (q ∷ requests) body r all e = absurd all
 zip_push (x ∷ bodies) [] body r all e = absurd all
 zip_push (x ∷ bodies) (q ∷ requests) body r all e = (all.0, zip_push bodies requests body r all.1 e)
 
-asks_push : (bytes held body after : List ℕ) (ds : List Delivery) (d : Delivery) → Asks bytes (asked ds) held → next held ≡ Whole body after → SpellsRequest body d.request → Asks bytes (asked (ds ++ d ∷ [])) after
+pub asks_push : (bytes held body after : List ℕ) (ds : List Delivery) (d : Delivery) → Asks bytes (asked ds) held → next held ≡ Whole body after → SpellsRequest body d.request → Asks bytes (asked (ds ++ d ∷ [])) after
 asks_push bytes held body after ds d a e s =
     let same : asked ds ++ d.request ∷ [] ≡ asked (ds ++ d ∷ []) = sym (map-append (λ (x : Delivery). x.request) ds (d ∷ [])) in
     let P : List Request → Type 0 = λ rs. Asks bytes rs after in

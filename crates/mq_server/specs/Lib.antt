@@ -2,5 +2,8 @@ pub mod Connection
 pub mod Connections
 pub mod Delivery
 pub mod Exits
+pub mod Held
+pub mod Life
+pub mod State
 pub mod Steps
 pub mod Text

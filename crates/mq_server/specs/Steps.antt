@@ -1,12 +1,11 @@
 -- What the parts of serving do: one reads a piece, one puts a request to the ledger, one writes a frame.
-use Rattle.std.specs.Prelude.{◌≡◌, ℕ, ◌<◌, List, [], ◌∷◌, ◌++◌, length, Bool, true, false, Option, Some, None, Result}
+use Rattle.std.specs.Prelude.{◌≡◌, ◌⊎◌, ℕ, ◌<◌, List, [], ◌∷◌, length, true, Option, Some, None, Result}
 use Rattle.std.specs.Prelude.{Ok, Err}
-use Rattle.std.specs.Io.KnownBytes.{Keeps, IsAtEnd}
+use Rattle.std.specs.Io.KnownBytes.{IsAtEnd}
 use Rattle.mq_frame.specs.declared.message.Request.{Request}
 use Rattle.mq_frame.specs.declared.message.Reply.{Reply}
 use Rattle.mq_frame.specs.Spelling.{SpellsRequest}
 use Rattle.mq_frame.specs.Feed.{Front, Nothing}
-use Rattle.mq_frame.specs.Flow.{AppendsFront}
 use Rattle.mq_ledger.specs.declared.entry.Entry.{Entry}
 use Rattle.mq_ledger.specs.declared.ledger.Told.{Told}
 use Rattle.mq_ledger.specs.Legal.{Book}
@@ -16,20 +15,15 @@ use Rattle.mq_server.specs.declared.connection.Served.TheVariants.{InputEnd, Cut
 use Rattle.mq_server.specs.declared.fault.ServeFault.{ServeFault}
 use Rattle.mq_server.specs.declared.fault.ServeFault.TheVariants.{Read, Write, Memory, Store}
 use Rattle.mq_server.specs.Delivery.{Delivery, answer_to, history_after, call, failed_call}
+use Rattle.mq_server.specs.Held.{State, received, with_closed}
 use Rattle.mq_server.specs.Text.{SpellsNone}
 
--- the bytes weren't sent: a front of them went out, or a growth was refused and nothing did
-abbrev pub IsUnsent : Option (List ℕ) → Option (List ℕ) → List ℕ → ServeFault → Type 0
-IsUnsent old new bytes Write = AppendsFront old new bytes
-IsUnsent old new bytes Memory = Keeps old new
-IsUnsent old new bytes Read = ⊥
-IsUnsent old new bytes Store = ⊥
-
--- a read gave the piece, and the bytes that weren't taken yet grow by it; or it was the end; or the read failed; or
--- the piece had no room
-abbrev pub Refills : List ℕ → List ℕ → List ℕ → Option (List ℕ) → Result Bool ServeFault → Type 0
-Refills old new piece left (Ok true) = (0 < length piece) × (new ≡ old ++ piece)
-Refills old new piece left (Ok false) = (piece ≡ []) × IsAtEnd left × (new ≡ old)
+-- a read gave the piece, which the connection then holds too; or it was the end, and the connection is closed; or the
+-- read failed; or the piece had no room
+abbrev pub Refills : State → State → List ℕ → Option (List ℕ) → Result (Unit {0}) ServeFault → Type 0
+Refills old new piece left (Ok done) =
+    ((0 < length piece) × (new ≡ received old piece))
+    ⊎ ((piece ≡ []) × IsAtEnd left × (new ≡ with_closed old true))
 Refills old new piece left (Err Read) = (piece ≡ []) × (new ≡ old)
 Refills old new piece left (Err Memory) = (0 < length piece) × (new ≡ old)
 Refills old new piece left (Err Write) = ⊥

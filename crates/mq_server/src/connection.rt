@@ -1,19 +1,18 @@
-//! One connection: each whole frame is answered before the next read.
-ghost use Rattle.std.specs.Prelude.{◌≡◌, ◌≢◌, true, false, List, Err};
-ghost use Rattle.mq_ledger.specs.Told.{Tells};
-ghost use Rattle.mq_server.specs.Connection.{Serves, calls_of};
-ghost use Rattle.mq_server.specs.Delivery.{Delivery, history_after, answer_to};
-ghost use Rattle.mq_server.specs.Steps.{end_at};
-ghost use Rattle.mq_frame.specs.Feed.{front};
-ghost use Rattle.mq_frame.specs.Flow.{IsFlushed};
+//! A connection without its socket: bytes come in as they come, whole frames are answered, and the replies wait until
+//! they are taken.
+ghost use Rattle.std.specs.Prelude.{◌≡◌, ◌≤◌, length, take, drop, true, false, None, Some, List, OnOk, OnErr, ℕ};
+ghost use Rattle.mq_server.specs.Held.{fresh, received, with_closed, with_replies};
+ghost use Rattle.mq_server.specs.Life.{AreAnswered, Counts, Exchange, Life, Lives, unborn, with_bytes, with_exchanges, with_taken};
+ghost use Rattle.mq_server.specs.State.{Goes, Steps};
+ghost use Rattle.mq_server.specs.Text.{IsPartial, next};
+ghost use Rattle.mq_server.specs.declared.connection.Progress.TheVariants.{Ended};
 
-use crate::answer::answer_body;
 use crate::fault::ServeFault;
-use crate::input::refill;
-use crate::output::{refuse, send};
-use mq_frame::{FrameFeed, REQUEST_LIMIT, Sink, Source};
+use crate::step::step;
+use mq_frame::{FrameFeed, Memory, REQUEST_LIMIT};
 use mq_ledger::Ledger;
 use std::alloc::Global;
+use std::marker::Model;
 
 /// How a connection ended.
 #[derive(Clone, Copy, Debug, PartialEq, Eq)]
@@ -31,75 +30,167 @@ pub enum Served {
 /// The most frames that are answered on a connection.
 pub const ENOUGH: u32 = 10_000;
 
-/// How a connection ends whose input ended.
-fn input_end(feed: &FrameFeed) -> Served
-    ensures { result ≡ end_at (front feed.now.limit feed.now.rest) }
-{
-    match feed.finish() {
-        Ok(()) => Served::InputEnd,
-        Err(_) => Served::CutFrame,
-    }
+/// What a connection has come to.
+#[derive(Clone, Copy, Debug, PartialEq, Eq)]
+pub enum Progress {
+    /// As many frames were answered as were asked for; more may be there.
+    Answered,
+    /// No whole frame is there, and more may come.
+    Waits,
+    /// It has ended, and answers nothing more. Its last replies may wait still.
+    Ended(Result<Served, ServeFault>),
 }
 
-/// Serves one connection to its end.
+/// A connection of the quota server, without its socket.
 ///
-/// Each whole frame is answered, and its answer flushed, before the next read. The body of a
-/// request goes to the ledger, and the ledger's reply is written; `Retry` where the ledger had no
-/// memory for it. A body that is no request, an empty one and one above 512 bytes is answered by
-/// `Bad`, which ends the connection; so does the 10,000th answer.
-///
-/// After `Read`, `Memory` and `Store` the answers to all frames before went out, and nothing else;
-/// after `Write` a part of the next answer too. The ledger has each request that it answered: where
-/// an answer had no room, or could not be written, the request is in the ledger all the same.
-pub fn serve<S: Source, W: Sink, L: Ledger>(
-    alloc: Global,
-    input: &mut S,
-    output: &mut W,
-    ledger: &mut L,
-) -> Result<Served, ServeFault>
-    // Of any ledger, sound or not.
-    ensures read { result ≡ Err ServeFault.Read → S.has_failed input.new ≡ true }
-    ensures source_works { S.has_failed input.old ≡ false →
-        result ≢ Err ServeFault.Read → S.has_failed input.new ≡ false }
-    ensures write { result ≡ Err ServeFault.Write → W.has_failed output.new ≡ true }
-    ensures sink_works { W.has_failed output.old ≡ false →
-        result ≢ Err ServeFault.Write → W.has_failed output.new ≡ false }
-    // What was written is handed on at every end but a failed write, and so wherever a read fails.
-    ensures flushed { IsFlushed (W.has_flushed output.old) →
-        result ≢ Err ServeFault.Write → IsFlushed (W.has_flushed output.new) }
-    ensures same_zone { (L.book ledger.new).zone ≡ (L.book ledger.old).zone }
-    ensures same_default { (L.book ledger.new).default ≡ (L.book ledger.old).default }
-    ensures kept { L.has_kept ledger.new → L.has_kept ledger.old }
+/// What came is given to `receive`, and `close` says that nothing more comes. `answer` answers whole frames through a
+/// ledger. The replies wait in `replies` until `take_replies` says how many bytes of them went out.
+#[derive(Drop)]
+pub struct Connection {
+    feed: FrameFeed,
+    answered: u32,
+    replies: Vec<u8>,
+    is_closed: bool,
+    end: Option<Result<Served, ServeFault>>,
+}
 
-    // Of a sound one that has kept its premise.
-    ensures sound { L.has_kept ledger.new → L.is_sound ledger.old → L.is_sound ledger.new }
-    ensures serves { L.has_kept ledger.new → L.is_sound ledger.old → (came : List Delivery)
-        × (s : Serves (answer_to (L.book ledger.old)) came
-        (record { remaining = S.remaining input.old; contents = W.contents output.old })
-        (record { remaining = S.remaining input.new; contents = W.contents output.new }) result)
-        × ((L.book ledger.new).history ≡ history_after (L.book ledger.old) came)
-        × Tells (L.told ledger.old) (L.told ledger.new) (calls_of s) }
-{
-    let mut feed = FrameFeed::new(alloc, REQUEST_LIMIT);
-    let mut answered = 0;
-    'frames: loop {
-        match feed.next_body() {
-            Err(_) => return refuse(alloc, output),
-            Ok(None) => {
-                if !refill(input, &mut feed)? {
-                    return Ok(input_end(&feed));
+impl Model for Connection {
+    ghost use Rattle.std.specs.Prelude.{◌≡◌};
+    ghost use Rattle.mq_frame.specs.declared.feed.TheConstants.{REQUEST_LIMIT as request_limit};
+    ghost use Rattle.mq_server.specs.Held.{State};
+    ghost use Rattle.mq_server.specs.State.{IsCount};
+
+    ghost Value = { State };
+
+    ghost view = { λ c. record {
+      rest = c.feed.rest;
+      answered = c.answered;
+      replies = c.replies.items;
+      is_closed = c.is_closed;
+      end = c.end;
+    } };
+
+    ghost invariant = { λ c. (c.feed.limit ≡ request_limit) × IsCount c.end c.answered };
+}
+
+impl Connection {
+    /// A connection on which nothing came yet.
+    pub fn new(alloc: Global) -> Connection
+        ensures fresh { result ≡ fresh }
+        ensures lives { Lives unborn result }
+    {
+        Connection {
+            feed: FrameFeed::new(alloc, REQUEST_LIMIT),
+            answered: 0,
+            replies: Vec::new(alloc),
+            is_closed: false,
+            end: None,
+        }
+    }
+
+    /// These bytes came. After an `Err` the connection is as before.
+    pub fn receive(&mut self, piece: &[u8]) -> Result<(), Memory>
+        ensures ok { OnOk result (self.new ≡ received self.old piece.now) }
+        ensures err { OnErr result (self.new ≡ self.old) }
+        ensures lives { (l : Life) → Lives l self.old → self.old.end ≡ None →
+            OnOk result (Lives (with_bytes l piece.now) self.new) }
+    {
+        self.feed.feed(piece)
+    }
+
+    /// Nothing more comes.
+    pub fn close(&mut self)
+        ensures closed { self.new ≡ with_closed self.old true }
+        ensures lives { (l : Life) → Lives l self.old → Lives l self.new }
+    {
+        self.is_closed = true;
+    }
+
+    /// The replies that weren't taken yet.
+    pub fn replies(&self) -> &[u8]
+        ensures { result.now ≡ self.now.replies }
+    {
+        &self.replies
+    }
+
+    /// So many bytes of the replies went out.
+    pub fn take_replies(&mut self, count: usize)
+        requires { count ≤ length self.old.replies }
+        ensures taken { self.new ≡ with_replies self.old (drop count self.old.replies) }
+        ensures lives { (l : Life) → Lives l self.old → Lives (with_taken l (take count self.old.replies)) self.new }
+    {
+        drop(self.replies.drain(..count));
+    }
+
+    /// Answers the next frame, where a whole one is there. Nothing follows an end.
+    pub(crate) fn answer_next<L: Ledger>(&mut self, alloc: Global, ledger: &mut L) -> Progress
+        // Of any ledger, sound or not.
+        ensures goes { self.old.end ≡ None → Goes self.old result self.new }
+        ensures over { (r : _) → self.old.end ≡ Some r →
+            (result ≡ Ended r) × (self.new ≡ self.old) × (ledger.new ≡ ledger.old) }
+        ensures same_zone { (L.book ledger.new).zone ≡ (L.book ledger.old).zone }
+        ensures same_default { (L.book ledger.new).default ≡ (L.book ledger.old).default }
+        ensures kept { L.has_kept ledger.new → L.has_kept ledger.old }
+
+        // Of a sound one that has kept its premise.
+        ensures sound { L.has_kept ledger.new → L.is_sound ledger.old → L.is_sound ledger.new }
+        ensures steps { L.has_kept ledger.new → L.is_sound ledger.old → self.old.end ≡ None →
+            Steps (L.book ledger.old) (L.told ledger.old) self.old.is_closed self.old.rest self.old.replies result
+            self.new.rest self.new.replies (L.book ledger.new).history (L.told ledger.new) }
+    {
+        if let Some(end) = self.end {
+            return Progress::Ended(end);
+        }
+        match step(
+            alloc,
+            &mut self.feed,
+            self.is_closed,
+            &mut self.replies,
+            ledger,
+        ) {
+            Progress::Answered => {
+                self.answered += 1;
+                if self.answered == ENOUGH {
+                    self.end = Some(Ok(Served::Enough));
+                    return Progress::Ended(Ok(Served::Enough));
                 }
+                Progress::Answered
             }
-            Ok(Some(body)) => {
-                match answer_body(alloc, body, ledger)? {
-                    None => return refuse(alloc, output),
-                    Some(reply) => send(alloc, &reply, output)?,
-                }
-                answered += 1;
-                if answered == ENOUGH {
-                    return Ok(Served::Enough);
-                }
+            Progress::Waits => Progress::Waits,
+            Progress::Ended(end) => {
+                self.end = Some(end);
+                Progress::Ended(end)
             }
         }
+    }
+
+    /// Answers the next whole frames, at most so many.
+    ///
+    /// The body of a request goes to the ledger, and the ledger's reply is held; `Retry` where the ledger had no memory
+    /// for it. A body that is no request, an empty one and one above 512 bytes is answered by `Bad`, which ends the
+    /// connection; so does the 10,000th answer. `Memory` and `Store` end it too, and the replies to the frames before
+    /// are held still.
+    pub fn answer<L: Ledger>(&mut self, alloc: Global, most: u32, ledger: &mut L) -> Progress
+        // Of any ledger, sound or not.
+        ensures ended { (r : _) → result ≡ Ended r → self.new.end ≡ Some r }
+        ensures waits { result ≡ Progress.Waits →
+            (self.new.end ≡ None) × (self.new.is_closed ≡ false) × IsPartial (next self.new.rest) }
+        ensures same_zone { (L.book ledger.new).zone ≡ (L.book ledger.old).zone }
+        ensures same_default { (L.book ledger.new).default ≡ (L.book ledger.old).default }
+        ensures kept { L.has_kept ledger.new → L.has_kept ledger.old }
+
+        // Of a sound one that has kept its premise.
+        ensures sound { L.has_kept ledger.new → L.is_sound ledger.old → L.is_sound ledger.new }
+        ensures lives { L.has_kept ledger.new → L.is_sound ledger.old → (xs : List Exchange)
+            × Counts result most (length xs) × AreAnswered (L.book ledger.old) xs (L.book ledger.new).history
+            × ((l : Life) → Lives l self.old → (rest : List ℕ) × Lives (with_exchanges l xs rest) self.new) }
+    {
+        for _frame in 0..most {
+            match self.answer_next(alloc, ledger) {
+                Progress::Answered => {}
+                other => return other,
+            }
+        }
+        Progress::Answered
     }
 }

@@ -8,8 +8,9 @@ ghost use Rattle.mq_server.specs.declared.connections.ConnectionEnd.{ConnectionE
 ghost use Rattle.mq_server.specs.Connections.{wires, result_of, AreServed, AreStopped, calls_until, DevicesAgree};
 ghost use Rattle.mq_server.specs.Delivery.{Delivery, answer_to, history_after, calls};
 
-use crate::connection::{Served, serve};
+use crate::connection::Served;
 use crate::fault::ServeFault;
+use crate::serving::serve;
 use mq_frame::{Sink, Source};
 use mq_ledger::Ledger;
 use std::alloc::Global;

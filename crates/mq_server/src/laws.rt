@@ -1,8 +1,9 @@
 //! Laws of what is served. Each is the contract of a function that does nothing.
-ghost use Rattle.std.specs.Prelude.{◌≡◌, ◌⊎◌, ℕ, List, ◌++◌, length, map, Option, Some, Ok};
+ghost use Rattle.std.specs.Prelude.{◌≡◌, ◌⊎◌, ℕ, List, ◌++◌, length, map, Option, None, Some, Ok};
 ghost use Rattle.std.specs.Io.KnownBytes.{Appends};
 ghost use Rattle.mq_frame.specs.declared.message.Reply.{Reply};
 ghost use Rattle.mq_ledger.specs.Answer.{replies_after};
+ghost use Rattle.mq_ledger.specs.declared.entry.Entry.{Entry};
 ghost use Rattle.mq_ledger.specs.Day.{day_of};
 ghost use Rattle.mq_ledger.specs.History.{requests};
 ghost use Rattle.mq_ledger.specs.Legal.{Book, IsLegalBook};
@@ -12,8 +13,10 @@ ghost use Rattle.mq_server.specs.declared.connection.Served.{Served};
 ghost use Rattle.mq_server.specs.declared.connection.Served.TheVariants.{BadFrame, Enough};
 ghost use Rattle.mq_server.specs.Connection.{Wire, Serves};
 ghost use Rattle.mq_server.specs.Connections.{wires, AreServed, AreServedWhole, AppendEach};
-ghost use Rattle.mq_server.specs.Delivery.{Delivery, HasGrown, arrivals, answer_to, taken_answers};
-ghost use Rattle.mq_server.specs.Text.{IsServed, LosesAlike, served};
+ghost use Rattle.mq_server.specs.Delivery.{Delivery, HasGrown, arrivals, asked, answer_to, taken_answers};
+ghost use Rattle.mq_server.specs.Held.{State};
+ghost use Rattle.mq_server.specs.Life.{AreAnswered, Life, Lives, deliveries, replies_of};
+ghost use Rattle.mq_server.specs.Text.{Asks, IsServed, LosesAlike, farewell, frames_of, served};
 
 use mq_frame::laws::{frames_stay, one_spelling};
 
@@ -43,6 +46,24 @@ pub fn any_cutting()
     frames_stay();
     one_spelling();
 }
+
+/// What a connection was given and gave is what is served for all the bytes that came on it.
+pub fn a_life_is_served()
+    // At an end the replies that were taken and those that wait are all that is served for these bytes.
+    ensures ended { (l : Life) (c : State) (e : Served) → Lives l c → c.end ≡ Some (Ok e) →
+        IsServed l.bytes (deliveries l.exchanges) e
+        × (l.taken ++ c.replies ≡ frames_of (replies_of l.exchanges ++ farewell e)) }
+
+    // Before it they are the replies to all requests that came whole and were answered.
+    ensures going { (l : Life) (c : State) → Lives l c → c.end ≡ None →
+        Asks l.bytes (asked (deliveries l.exchanges)) c.rest
+        × (l.taken ++ c.replies ≡ frames_of (replies_of l.exchanges)) }
+
+    // Where nothing else came to the ledger in between, it is what `serve` writes.
+    ensures alone { (b : Book) (l : Life) (c : State) (e : Served) (history : List Entry) → Lives l c →
+        c.end ≡ Some (Ok e) → AreAnswered b l.exchanges history →
+        l.taken ++ c.replies ≡ served (answer_to b) (deliveries l.exchanges) e }
+{}
 
 /// What is served on several connections in turn depends on the bytes of their inputs and on the
 /// ledger alone.

@@ -1,5 +1,5 @@
-//! The engine of the quota server: one connection, or several in turn, over any source, sink and
-//! ledger.
+//! The engine of the quota server: one connection without its socket, and one or several in turn over any source, sink
+//! and ledger.
 //!
 //! `docs/FRAMES.md` has the format of requests and replies.
 #![tactic(auto)]
@@ -11,8 +11,11 @@ mod fault;
 mod input;
 pub mod laws;
 mod output;
+mod serving;
+mod step;
 
-pub use connection::{ENOUGH, Served, serve};
+pub use connection::{Connection, ENOUGH, Progress, Served};
 pub use connections::{ConnectionEnd, serve_all};
 pub use fault::ServeFault;
 pub use input::PIECE;
+pub use serving::serve;

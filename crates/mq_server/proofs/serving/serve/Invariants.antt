@@ -1,7 +1,9 @@
-use Rattle.std.proofs.Common.{◌≡◌, ◌+◌, ◌-◌, ◌*◌, ◌<◌, length, false}
+use Rattle.std.proofs.Common.{◌≡◌, ◌+◌, ◌-◌, ◌*◌, ◌<◌, length, [], true, false, None, Bool}
+use Rattle.std.specs.Prelude.{if◌then◌else◌}
+use Rattle.std.specs.Io.KnownBytes.{IsAtEnd}
 use Rattle.mq_frame.specs.Flow.{IsFlushed}
 use Rattle.mq_server.proofs.Running.{SoFar}
-use Rattle.mq_server.proofs.connection.serve.Given as goal
+use Rattle.mq_server.proofs.serving.serve.Given as goal
 
 abbrev pub invariant-frames : goal.invariant-frames
 invariant-frames g l =
@@ -9,9 +11,11 @@ invariant-frames g l =
     let kept = g.L.Ledger.has_kept in
     let sound = g.L.Ledger.is_sound in
     record {
-      limit : l.feed.limit ≡ 512;
-      under : l.answered < 10000;
-      ahead : length l.feed.rest < 4610;
+      going : l.connection.end ≡ None;
+      none : l.connection.replies ≡ [];
+      under : l.connection.answered < 10000;
+      ahead : length l.connection.rest < 4610;
+      closed : l.connection.is_closed ≡ true → IsAtEnd (g.S.Source.remaining l.input);
       source_works : g.S.Source.has_failed l.fn.input ≡ false → g.S.Source.has_failed l.input ≡ false;
       sink_works : g.W.Sink.has_failed l.fn.output ≡ false → g.W.Sink.has_failed l.output ≡ false;
       flushed : IsFlushed (g.W.Sink.has_flushed l.fn.output) → IsFlushed (g.W.Sink.has_flushed l.output);
@@ -22,8 +26,9 @@ invariant-frames g l =
       so_far : kept l.ledger → sound l.fn.ledger → SoFar (book l.fn.ledger) (g.L.Ledger.told l.fn.ledger) (g.L.Ledger.told l.ledger)
           (record { remaining = g.S.Source.remaining l.fn.input; contents = g.W.Sink.contents l.fn.output })
           (record { remaining = g.S.Source.remaining l.input; contents = g.W.Sink.contents l.output })
-          l.feed.rest l.answered (book l.ledger).history;
+          l.connection.rest l.connection.answered (book l.ledger).history;
     }
 
 abbrev pub decreases-frames : goal.decreases-frames
-decreases-frames g l = (10000 - l.answered) * 1000 + (514 - length l.feed.rest)
+decreases-frames g l =
+    (10000 - l.connection.answered) * 2000 + (514 - length l.connection.rest) + (if l.connection.is_closed then 0 else 1)

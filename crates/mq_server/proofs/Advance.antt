@@ -1,0 +1,274 @@
+-- How the life of a connection goes on as it answers.
+use Rattle.std.proofs.Common.{◌≡◌, ℕ, suc, ◌+◌, ◌<◌, ◌≤◌, List, [], ◌∷◌, ◌++◌, length, map, refl, sym, ap, subst, ◌∙◌, append-nil, append_assoc, length-append, arith, inl, inr, Option, Some, None, Result, Ok, Err, Bool, false}
+use Rattle.std.proofs.lemmas.List.{map-append}
+use Rattle.mq_frame.specs.declared.message.Reply.{Reply}
+use Rattle.mq_frame.specs.declared.message.Reply.TheVariants.{Bad}
+use Rattle.mq_frame.specs.Feed.{Whole}
+use Rattle.mq_frame.specs.Spelling.{SpellsRequest, frame, reply_body}
+use Rattle.mq_ledger.specs.declared.entry.Entry.{Entry}
+use Rattle.mq_ledger.specs.declared.ledger.Told.{Told}
+use Rattle.mq_ledger.specs.Legal.{Book, IsLegalBook}
+use Rattle.mq_server.specs.declared.connection.Progress.{Progress}
+use Rattle.mq_server.specs.declared.connection.Progress.TheVariants.{Answered, Waits, Ended}
+use Rattle.mq_server.specs.declared.connection.Served.{Served}
+use Rattle.mq_server.specs.declared.connection.Served.TheVariants.{InputEnd, Enough, BadFrame, CutFrame}
+use Rattle.mq_server.specs.declared.fault.ServeFault.{ServeFault}
+use Rattle.mq_server.specs.declared.fault.ServeFault.TheVariants.{Read, Write, Memory, Store}
+use Rattle.mq_server.specs.Delivery.{Delivery, asked, answers, answers_after, answer_to, history_after}
+use Rattle.mq_server.specs.Held.{State}
+use Rattle.mq_server.specs.Life.{AreAnswered, Counts, Exchange, HasReplies, Life, Lives, deliveries, replies_of, with_exchanges}
+use Rattle.mq_server.specs.State.{Goes, Steps}
+use Rattle.mq_server.specs.Text.{Asks, IsBad, IsPartial, frames_of, next}
+use Rattle.mq_server.proofs.Deliveries.{Follows, answer_more, history_more, history_none}
+use Rattle.mq_server.proofs.Living.{as_end, living}
+use Rattle.mq_server.proofs.Running.{asks_push, frames_of_push}
+
+-- some exchanges came with a ledger of that book, which then has this history, and each life goes on by them
+abbrev pub Advances : Book → State → State → (ℕ → Type 0) → List Entry → Type 0
+Advances k c now P history = (xs : List Exchange) × P (length xs) × AreAnswered k xs history
+    × ((l : Life) → Lives l c → (rest : List ℕ) × Lives (with_exchanges l xs rest) now)
+
+-- ---- no exchange
+
+same_life : (l : Life) → l ≡ with_exchanges l [] l.rest
+same_life l = λ i. record { bytes = l.bytes; exchanges = sym (append-nil l.exchanges) i; rest = l.rest; taken = l.taken }
+
+none_more : (l : Life) (c : State) → Lives l c → Lives (with_exchanges l [] l.rest) c
+none_more l c lives = let P : Life → Type 0 = λ q. Lives q c in subst P (same_life l) lives
+
+quiet : (k : Book) (history : List Entry) → IsLegalBook k → history ≡ k.history → AreAnswered k [] history
+quiet k history legal same = record { replies = refl; after = same ∙ sym (history_none k legal) }
+
+-- the same of another count
+counted_so : (k : Book) (c now : State) (P Q : ℕ → Type 0) (history : List Entry) → ((n : ℕ) → P n → Q n) → Advances k c now P history → Advances k c now Q history
+counted_so k c now P Q history f (xs, p, answered, lives) = (xs, f (length xs) p, answered, lives)
+
+pub advance_none : (k : Book) (c now : State) (P : ℕ → Type 0) (history : List Entry) → P 0 → IsLegalBook k → history ≡ k.history → ((l : Life) → Lives l c → Lives l now) → Advances k c now P history
+advance_none k c now P history p legal same f = ([], p, quiet k history legal same, λ l lives. (l.rest, none_more l now (f l lives)))
+
+pub advance_still : (k : Book) (c now : State) (P : ℕ → Type 0) (history : List Entry) → P 0 → IsLegalBook k → history ≡ k.history → now ≡ c → Advances k c now P history
+advance_still k c now P history p legal same is = advance_none k c now P history p legal same (λ l lives. let P : State → Type 0 = λ q. Lives l q in subst P (sym is) lives)
+
+-- ---- an exchange
+
+abbrev exchange : Delivery → Reply → Exchange
+exchange d r = record { delivery = d; answer = r }
+
+one : (k : Book) (d : Delivery) (r : Reply) (history : List Entry) → r ≡ answer_to k [] d → history ≡ history_after k (d ∷ []) → AreAnswered k (exchange d r ∷ []) history
+one k d r history a h = record { replies = ap (λ (q : Reply). q ∷ []) a; after = h }
+
+deliveries_push : (xs : List Exchange) (d : Delivery) (r : Reply) → deliveries (xs ++ exchange d r ∷ []) ≡ deliveries xs ++ d ∷ []
+deliveries_push xs d r = map-append (λ (x : Exchange). x.delivery) xs (exchange d r ∷ [])
+
+replies_push : (xs : List Exchange) (d : Delivery) (r : Reply) → replies_of (xs ++ exchange d r ∷ []) ≡ replies_of xs ++ r ∷ []
+replies_push xs d r = map-append (λ (x : Exchange). x.answer) xs (exchange d r ∷ [])
+
+asks_one : (l : Life) (c : State) (body rest : List ℕ) (d : Delivery) (r : Reply) → Asks l.bytes (asked (deliveries l.exchanges)) l.rest → c.rest ≡ l.rest → next c.rest ≡ Whole body rest → SpellsRequest body d.request
+    → Asks l.bytes (asked (deliveries (l.exchanges ++ exchange d r ∷ []))) rest
+asks_one l c body rest d r asks same stands spelled =
+    let P : List Delivery → Type 0 = λ q. Asks l.bytes (asked q) rest in
+    subst P (sym (deliveries_push l.exchanges d r)) (asks_push l.bytes l.rest body rest (deliveries l.exchanges) d asks (ap next (sym same) ∙ stands) spelled)
+
+text_one : (l : Life) (replies replies' : List ℕ) (d : Delivery) (r : Reply) → l.taken ++ replies ≡ frames_of (replies_of l.exchanges) → replies' ≡ replies ++ frame (reply_body r)
+    → l.taken ++ replies' ≡ frames_of (replies_of (l.exchanges ++ exchange d r ∷ []))
+text_one l replies replies' d r text added =
+    ap (λ (q : List ℕ). l.taken ++ q) added ∙ sym (append_assoc l.taken replies (frame (reply_body r))) ∙ ap (λ (q : List ℕ). q ++ frame (reply_body r)) text
+    ∙ sym (frames_of_push (replies_of l.exchanges) r) ∙ ap frames_of (sym (replies_push l.exchanges d r))
+
+count_one : (l : Life) (d : Delivery) (r : Reply) (n : ℕ) → length l.exchanges ≡ n → length (l.exchanges ++ exchange d r ∷ []) ≡ suc n
+count_one l d r n e = omega (arith, length-append l.exchanges (exchange d r ∷ []), e)
+
+-- ---- one attempt
+
+abbrev Extended : State → State → List Exchange → Type 0
+Extended c now xs = (l : Life) → Lives l c → (rest : List ℕ) × Lives (with_exchanges l xs rest) now
+
+answered_one : (c now : State) (body : List ℕ) (d : Delivery) (r : Reply) → c.end ≡ None → Goes c Answered now → next c.rest ≡ Whole body now.rest → SpellsRequest body d.request
+    → now.replies ≡ c.replies ++ frame (reply_body r) → Extended c now (exchange d r ∷ [])
+answered_one c now body d r going (end, count, few, closed, less) stands spelled added = λ l lives.
+    let (text, counted, under, same) = living l (l.taken ++ c.replies) c c.end going lives.replies in (
+      now.rest,
+      record {
+        asks = asks_one l c body now.rest d r lives.asks same stands spelled;
+        replies = as_end (with_exchanges l (exchange d r ∷ []) now.rest) (l.taken ++ now.replies) now now.end None end
+            (text_one l c.replies now.replies d r text added, count_one l d r c.answered counted ∙ sym count, few, refl);
+      },
+    )
+
+enough_one : (c now : State) (body : List ℕ) (d : Delivery) (r : Reply) → c.end ≡ None → Goes c (Ended (Ok Enough)) now → next c.rest ≡ Whole body now.rest → SpellsRequest body d.request
+    → now.replies ≡ c.replies ++ frame (reply_body r) → Extended c now (exchange d r ∷ [])
+enough_one c now body d r going (end, (count, all), closed, less) stands spelled added = λ l lives.
+    let (text, counted, under, same) = living l (l.taken ++ c.replies) c c.end going lives.replies in (
+      now.rest,
+      record {
+        asks = asks_one l c body now.rest d r lives.asks same stands spelled;
+        replies = as_end (with_exchanges l (exchange d r ∷ []) now.rest) (l.taken ++ now.replies) now now.end (Some (Ok Enough)) end
+            (text_one l c.replies now.replies d r text added ∙ ap frames_of (sym (append-nil (replies_of (l.exchanges ++ exchange d r ∷ [])))), count_one l d r c.answered counted ∙ sym count ∙ all, tt);
+      },
+    )
+
+unheard_one : (c now : State) (body : List ℕ) (d : Delivery) (r : Reply) → c.end ≡ None → now.end ≡ Some (Err Memory) → next c.rest ≡ Whole body now.rest → SpellsRequest body d.request
+    → now.replies ≡ c.replies → Extended c now (exchange d r ∷ [])
+unheard_one c now body d r going end stands spelled kept = λ l lives.
+    let (text, counted, under, same) = living l (l.taken ++ c.replies) c c.end going lives.replies in (
+      now.rest,
+      record {
+        asks = asks_one l c body now.rest d r lives.asks same stands spelled;
+        replies = as_end (with_exchanges l (exchange d r ∷ []) now.rest) (l.taken ++ now.replies) now now.end (Some (Err Memory)) end
+            (l.exchanges, Some (exchange d r), refl, omega (arith, counted, under), tt, ap (λ (q : List ℕ). l.taken ++ q) kept ∙ text);
+      },
+    )
+
+abbrev at_most_one : ℕ → Type 0
+at_most_one n = n ≤ 1
+
+pub ends_lives : (k : Book) (t u : Option (List Told)) (c now : State) (end : Result Served ServeFault) (history : List Entry) → IsLegalBook k → c.end ≡ None → Goes c (Ended end) now
+    → Steps k t c.is_closed c.rest c.replies (Ended end) now.rest now.replies history u → Advances k c now at_most_one history
+ends_lives k t u c now (Ok InputEnd) history legal going (end, last, closed, less) (over, nothing, kept, (same, told)) =
+    advance_none k c now at_most_one history (omega arith) legal same (λ l lives.
+    let (text, counted, under, rest) = living l (l.taken ++ c.replies) c c.end going lives.replies in
+    record {
+      asks = lives.asks;
+      replies = as_end l (l.taken ++ now.replies) now now.end (Some (Ok InputEnd)) end
+          (ap (λ (q : List ℕ). l.taken ++ q) kept ∙ text ∙ ap frames_of (sym (append-nil (replies_of l.exchanges))), (omega (arith, counted, under), ap next (sym rest) ∙ nothing, refl), closed ∙ over);
+    })
+ends_lives k t u c now (Ok CutFrame) history legal going (end, last, closed, less) (over, cut, kept, (same, told)) =
+    advance_none k c now at_most_one history (omega arith) legal same (λ l lives.
+    let (text, counted, under, rest) = living l (l.taken ++ c.replies) c c.end going lives.replies in
+    record {
+      asks = lives.asks;
+      replies = as_end l (l.taken ++ now.replies) now now.end (Some (Ok CutFrame)) end
+          (ap (λ (q : List ℕ). l.taken ++ q) kept ∙ text ∙ ap frames_of (sym (append-nil (replies_of l.exchanges))), (omega (arith, counted, under), ap next (sym rest) ∙ cut, refl), closed ∙ over);
+    })
+ends_lives k t u c now (Ok BadFrame) history legal going (end, last, closed, less) (bad, added, (same, told)) =
+    advance_none k c now at_most_one history (omega arith) legal same (λ l lives.
+    let (text, counted, under, rest) = living l (l.taken ++ c.replies) c c.end going lives.replies in
+    let P : List ℕ → Type 0 = λ q. IsBad (next q) in
+    record {
+      asks = lives.asks;
+      replies = as_end l (l.taken ++ now.replies) now now.end (Some (Ok BadFrame)) end
+          (ap (λ (q : List ℕ). l.taken ++ q) added ∙ sym (append_assoc l.taken c.replies (frame (reply_body Bad))) ∙ ap (λ (q : List ℕ). q ++ frame (reply_body Bad)) text ∙ sym (frames_of_push (replies_of l.exchanges) Bad), (omega (arith, counted, under), subst P rest bad), tt);
+    })
+ends_lives k t u c now (Ok Enough) history legal going goes (body, reply, stands, added, (d, spelled, a, h, told)) =
+    (exchange d reply ∷ [], omega arith, one k d reply history a h, enough_one c now body d reply going goes stands spelled added)
+ends_lives k t u c now (Err Memory) history legal going (end, last, closed, less) (kept, inl (some, (same, told))) =
+    advance_none k c now at_most_one history (omega arith) legal same (λ l lives.
+    let (text, counted, under, rest) = living l (l.taken ++ c.replies) c c.end going lives.replies in
+    record {
+      asks = lives.asks;
+      replies = as_end l (l.taken ++ now.replies) now now.end (Some (Err Memory)) end
+          (l.exchanges, None, sym (append-nil l.exchanges), omega (arith, counted, under), (λ is. some (ap next rest ∙ is)), ap (λ (q : List ℕ). l.taken ++ q) kept ∙ text);
+    })
+ends_lives k t u c now (Err Memory) history legal going (end, last, closed, less) (kept, inr (body, reply, stands, (d, spelled, a, h, told))) =
+    (exchange d reply ∷ [], omega arith, one k d reply history a h, unheard_one c now body d reply going end stands spelled kept)
+ends_lives k t u c now (Err Store) history legal going (end, last, closed, less) (kept, (body, after, stands, (request, spelled, same, told))) =
+    advance_none k c now at_most_one history (omega arith) legal same (λ l lives.
+    let (text, counted, under, rest) = living l (l.taken ++ c.replies) c c.end going lives.replies in
+    record {
+      asks = lives.asks;
+      replies = as_end l (l.taken ++ now.replies) now now.end (Some (Err Store)) end
+          (ap (λ (q : List ℕ). l.taken ++ q) kept ∙ text, omega (arith, counted, under), (request, body, after, ap next (sym rest) ∙ stands, spelled));
+    })
+ends_lives k t u c now (Err Read) history legal going goes steps = absurd steps
+ends_lives k t u c now (Err Write) history legal going goes steps = absurd steps
+
+ended_waits : (end : Result Served ServeFault) → Ended end ≡ Waits → ⊥
+ended_waits end e = cc
+
+ended_answered : (end : Result Served ServeFault) → Ended end ≡ Answered → ⊥
+ended_answered end e = cc
+
+waits_answered : Waits ≡ Answered → ⊥
+waits_answered e = cc
+
+pub step_lives : (k : Book) (t u : Option (List Told)) (c now : State) (progress : Progress) (history : List Entry) → IsLegalBook k → c.end ≡ None → Goes c progress now
+    → Steps k t c.is_closed c.rest c.replies progress now.rest now.replies history u → Advances k c now (Counts progress 1) history
+step_lives k t u c now Answered history legal going goes (body, reply, stands, added, (d, spelled, a, h, told)) =
+    (exchange d reply ∷ [], record { within = omega arith; all = λ is. refl }, one k d reply history a h, answered_one c now body d reply going goes stands spelled added)
+step_lives k t u c now Waits history legal going (is, closed, partial) (same, told) =
+    advance_still k c now (Counts Waits 1) history (record { within = omega arith; all = λ e. absurd (waits_answered e) }) legal same is
+step_lives k t u c now (Ended end) history legal going goes steps =
+    counted_so k c now at_most_one (Counts (Ended end) 1) history (λ n few. record { within = few; all = λ e. absurd (ended_answered end e) }) (ends_lives k t u c now end history legal going goes steps)
+
+-- ---- one attempt after others
+
+answers_split : (answer : List Delivery → Delivery → Reply) (earlier xs ys : List Delivery) → answers_after answer earlier (xs ++ ys) ≡ answers_after answer earlier xs ++ answers_after answer (earlier ++ xs) ys
+answers_split answer earlier [] ys = ap (λ (q : List Delivery). answers_after answer q ys) (sym (append-nil earlier))
+answers_split answer earlier (x ∷ xs) ys =
+    ap (λ (q : List Reply). answer earlier x ∷ q) (answers_split answer (earlier ++ x ∷ []) xs ys
+    ∙ ap (λ (q : List Delivery). answers_after answer (earlier ++ x ∷ []) xs ++ answers_after answer q ys) (append_assoc earlier (x ∷ []) xs))
+
+answers_follow : (b k : Book) (seen earlier ds : List Delivery) → Follows b k seen → answers_after (answer_to k) earlier ds ≡ answers_after (answer_to b) (seen ++ earlier) ds
+answers_follow b k seen earlier [] f = refl
+answers_follow b k seen earlier (d ∷ ds) f =
+    ap (λ (q : Reply). q ∷ answers_after (answer_to k) (earlier ++ d ∷ []) ds) (answer_more b k seen earlier d f)
+    ∙ ap (λ (q : List Reply). answer_to b (seen ++ earlier) d ∷ q) (answers_follow b k seen (earlier ++ d ∷ []) ds f
+    ∙ ap (λ (q : List Delivery). answers_after (answer_to b) q ds) (sym (append_assoc seen earlier (d ∷ []))))
+
+answers_more : (b k : Book) (xs ys : List Delivery) → Follows b k xs → answers (answer_to b) (xs ++ ys) ≡ answers (answer_to b) xs ++ answers (answer_to k) ys
+answers_more b k xs ys f =
+    answers_split (answer_to b) [] xs ys
+    ∙ ap (λ (q : List Reply). answers (answer_to b) xs ++ q) (ap (λ (q : List Delivery). answers_after (answer_to b) q ys) (sym (append-nil xs)) ∙ sym (answers_follow b k xs [] ys f))
+
+pub answered_both : (b k : Book) (xs ys : List Exchange) (history : List Entry) → IsLegalBook k → k.zone ≡ b.zone → k.default ≡ b.default → AreAnswered b xs k.history → AreAnswered k ys history → AreAnswered b (xs ++ ys) history
+answered_both b k xs ys history legal zone default before more =
+    let f : Follows b k (deliveries xs) = record { zone = zone; default = default; legal = legal; history = before.after } in
+    let all : deliveries (xs ++ ys) ≡ deliveries xs ++ deliveries ys = map-append (λ (x : Exchange). x.delivery) xs ys in
+    record {
+      replies = map-append (λ (x : Exchange). x.answer) xs ys ∙ ap (λ (q : List Reply). q ++ replies_of ys) before.replies
+          ∙ ap (λ (q : List Reply). answers (answer_to b) (deliveries xs) ++ q) more.replies ∙ sym (answers_more b k (deliveries xs) (deliveries ys) f)
+          ∙ ap (answers (answer_to b)) (sym all);
+      after = more.after ∙ history_more b k (deliveries xs) (deliveries ys) f ∙ ap (history_after b) (sym all);
+    }
+
+more_exchanges : (l : Life) (xs ys : List Exchange) (rest rest' : List ℕ) → with_exchanges (with_exchanges l xs rest) ys rest' ≡ with_exchanges l (xs ++ ys) rest'
+more_exchanges l xs ys rest rest' = λ i. record { bytes = l.bytes; exchanges = append_assoc l.exchanges xs ys i; rest = rest'; taken = l.taken }
+
+pub advance_both : (b k : Book) (c mid now : State) (P Q R : ℕ → Type 0) (history : List Entry) → IsLegalBook k → k.zone ≡ b.zone → k.default ≡ b.default → ((n m : ℕ) → P n → Q m → R (n + m))
+    → Advances b c mid P k.history → Advances k mid now Q history → Advances b c now R history
+advance_both b k c mid now P Q R history legal zone default count (xs, p, before, f) (ys, q, more, g) = (
+  xs ++ ys,
+  (let S : ℕ → Type 0 = λ n. R n in subst S (sym (length-append xs ys)) (count (length xs) (length ys) p q)),
+  answered_both b k xs ys history legal zone default before more,
+  λ l lives.
+      let (rest, mid_lives) = f l lives in
+      let (rest', lives') = g (with_exchanges l xs rest) mid_lives in
+      let S : Life → Type 0 = λ q. Lives q now in
+      (rest', subst S (more_exchanges l xs ys rest rest') lives'),
+)
+
+-- ---- an attempt on a connection that may have ended
+
+-- it ended before, and nothing changed
+abbrev pub IsOver : State → State → Progress → {L : Type 0} → L → L → Type 0
+IsOver c now progress before after = (r : Result Served ServeFault) → c.end ≡ Some r → (progress ≡ Ended r) × (now ≡ c) × (after ≡ before)
+
+same_ended : (x r : Result Served ServeFault) → Ended x ≡ Ended r → Some x ≡ Some r
+same_ended x r e = cc
+
+pub ended_by : {L : Type 0} (c now : State) (before after : L) (progress : Progress) (r : Result Served ServeFault) (end : Option (Result Served ServeFault)) → c.end ≡ end → (c.end ≡ None → Goes c progress now) → IsOver c now progress before after
+    → progress ≡ Ended r → now.end ≡ Some r
+ended_by c now before after progress r None e goes over is =
+    let P : Progress → Type 0 = λ p. Goes c p now in
+    let g : Goes c (Ended r) now = subst P is (goes e) in g.0
+ended_by c now before after progress r (Some x) e goes over is =
+    let o = over x e in
+    let same : Ended x ≡ Ended r = sym o.0 ∙ is in
+    ap (λ (q : State). q.end) o.1 ∙ e ∙ same_ended x r same
+
+pub advance_any : {L : Type 0} (book : L → Book) (told : L → Option (List Told)) (c now : State) (before after : L) (progress : Progress) (end : Option (Result Served ServeFault)) → c.end ≡ end → IsLegalBook (book before)
+    → (c.end ≡ None → Goes c progress now) → IsOver c now progress before after
+    → (c.end ≡ None → Steps (book before) (told before) c.is_closed c.rest c.replies progress now.rest now.replies (book after).history (told after)) → Advances (book before) c now (Counts progress 1) (book after).history
+advance_any book told c now before after progress None e legal goes over steps = step_lives (book before) (told before) (told after) c now progress (book after).history legal e (goes e) (steps e)
+advance_any book told c now before after progress (Some r) e legal goes over steps =
+    let o = over r e in
+    advance_still (book before) c now (Counts progress 1) (book after).history (record { within = omega arith; all = λ is. absurd (ended_answered r (sym o.0 ∙ is)) }) legal (ap (λ q. (book q).history) o.2) o.1
+
+pub waits_by : {L : Type 0} (c now : State) (before after : L) (progress : Progress) (end : Option (Result Served ServeFault)) → c.end ≡ end → (c.end ≡ None → Goes c progress now) → IsOver c now progress before after
+    → progress ≡ Waits → (now.end ≡ None) × (now.is_closed ≡ false) × IsPartial (next now.rest)
+waits_by c now before after progress None e goes over is =
+    let P : Progress → Type 0 = λ p. Goes c p now in
+    let (still, closed, partial) = subst P is (goes e) in
+    let Q : List ℕ → Type 0 = λ q. IsPartial (next q) in
+    (ap (λ (q : State). q.end) still ∙ e, ap (λ (q : State). q.is_closed) still ∙ closed, subst Q (sym (ap (λ (q : State). q.rest) still)) partial)
+waits_by c now before after progress (Some x) e goes over is = absurd (ended_waits x (sym (over x e).0 ∙ is))

@@ -1,0 +1,32 @@
+-- What a connection holds between two calls.
+use Rattle.std.specs.Prelude.{ℕ, List, [], ◌++◌, Bool, false, Option, None, Result}
+use Rattle.mq_server.specs.declared.connection.Served.{Served}
+use Rattle.mq_server.specs.declared.fault.ServeFault.{ServeFault}
+
+-- a connection: the bytes that came and weren't answered yet, how many frames were answered, the replies that weren't
+-- taken yet, whether its input has ended, and how it ended, where it did
+pub record State : Type 0 where
+  pub rest : List ℕ
+  pub answered : ℕ
+  pub replies : List ℕ
+  pub is_closed : Bool
+  pub end : Option (Result Served ServeFault)
+
+-- one on which nothing came yet
+abbrev pub fresh : State
+fresh = record { rest = []; answered = 0; replies = []; is_closed = false; end = None }
+
+-- more bytes came
+abbrev pub received : State → List ℕ → State
+received c piece =
+    record { rest = c.rest ++ piece; answered = c.answered; replies = c.replies; is_closed = c.is_closed; end = c.end }
+
+-- other replies wait
+abbrev pub with_replies : State → List ℕ → State
+with_replies c replies =
+    record { rest = c.rest; answered = c.answered; replies = replies; is_closed = c.is_closed; end = c.end }
+
+-- its input has or hasn't ended
+abbrev pub with_closed : State → Bool → State
+with_closed c closed =
+    record { rest = c.rest; answered = c.answered; replies = c.replies; is_closed = closed; end = c.end }

@@ -1,0 +1,78 @@
+//! One step of a connection: what stands at the front of what came is answered.
+ghost use Rattle.std.specs.Prelude.{◌≡◌, ◌++◌, ℕ, List, OnOk, OnErr, Ok, Err};
+ghost use Rattle.mq_frame.specs.Feed.{front};
+ghost use Rattle.mq_frame.specs.Range.{IsReply};
+ghost use Rattle.mq_frame.specs.Spelling.{frame, reply_body};
+ghost use Rattle.mq_frame.specs.declared.feed.TheConstants.{REQUEST_LIMIT as request_limit};
+ghost use Rattle.mq_server.specs.State.{IsAdded, IsRefused, Moves, Steps};
+ghost use Rattle.mq_server.specs.Steps.{end_at};
+
+use crate::answer::answer_body;
+use crate::connection::{Progress, Served};
+use crate::fault::ServeFault;
+use mq_frame::{FrameFeed, Reply, encode_reply};
+use mq_ledger::Ledger;
+use std::alloc::Global;
+
+/// How a connection ends whose input ended.
+fn input_end(feed: &FrameFeed) -> Served
+    ensures { result ≡ end_at (front feed.now.limit feed.now.rest) }
+{
+    match feed.finish() {
+        Ok(()) => Served::InputEnd,
+        Err(_) => Served::CutFrame,
+    }
+}
+
+/// Answers what is no request, which ends the connection.
+fn refuse(alloc: Global, replies: &mut Vec<u8>) -> Result<Served, ServeFault>
+    ensures { IsRefused replies.old.items result replies.new.items }
+{
+    encode_reply(alloc, &Reply::Bad, replies)?;
+    Ok(Served::BadFrame)
+}
+
+/// Adds a reply to those that wait.
+fn add(alloc: Global, reply: &Reply, replies: &mut Vec<u8>) -> Progress
+    requires { IsReply reply.now }
+    ensures { IsAdded replies.old.items (frame (reply_body reply.now)) result replies.new.items }
+{
+    match encode_reply(alloc, reply, replies) {
+        Ok(()) => Progress::Answered,
+        Err(_) => Progress::Ended(Err(ServeFault::Memory)),
+    }
+}
+
+/// Answers the frame at the front of what came, where a whole one is there. `is_closed` says that nothing more comes.
+pub fn step<L: Ledger>(
+    alloc: Global,
+    feed: &mut FrameFeed,
+    is_closed: bool,
+    replies: &mut Vec<u8>,
+    ledger: &mut L,
+) -> Progress
+    requires { feed.old.limit ≡ request_limit }
+    // Of any ledger, sound or not.
+    ensures limit { feed.new.limit ≡ request_limit }
+    ensures moves { Moves is_closed feed.old.rest replies.old.items result feed.new.rest replies.new.items }
+    ensures same_zone { (L.book ledger.new).zone ≡ (L.book ledger.old).zone }
+    ensures same_default { (L.book ledger.new).default ≡ (L.book ledger.old).default }
+    ensures kept { L.has_kept ledger.new → L.has_kept ledger.old }
+
+    // Of a sound one that has kept its premise.
+    ensures sound { L.has_kept ledger.new → L.is_sound ledger.old → L.is_sound ledger.new }
+    ensures steps { L.has_kept ledger.new → L.is_sound ledger.old →
+        Steps (L.book ledger.old) (L.told ledger.old) is_closed feed.old.rest replies.old.items result
+        feed.new.rest replies.new.items (L.book ledger.new).history (L.told ledger.new) }
+{
+    match feed.next_body() {
+        Err(_) => Progress::Ended(refuse(alloc, replies)),
+        Ok(None) if is_closed => Progress::Ended(Ok(input_end(feed))),
+        Ok(None) => Progress::Waits,
+        Ok(Some(body)) => match answer_body(alloc, body, ledger) {
+            Ok(Some(reply)) => add(alloc, &reply, replies),
+            Ok(None) => Progress::Ended(refuse(alloc, replies)),
+            Err(fault) => Progress::Ended(Err(fault)),
+        },
+    }
+}
