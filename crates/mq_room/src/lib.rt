@@ -3,11 +3,13 @@
 #![tactic(auto)]
 
 mod accept;
+mod connections;
 mod fault;
-mod guest;
-mod portion;
-mod room;
+mod open;
 mod serving;
+mod stream;
 
 pub use fault::RoomFault;
+pub use open::{OpenConnection, Turn, take_turns};
 pub use serving::serve_connections;
+pub use stream::Stream;

@@ -3,7 +3,7 @@ ghost use Rattle.std.specs.Prelude.{◌≡◌};
 ghost use Rattle.mq_server.specs.Delivery.{HasGrown};
 
 use crate::fault::RoomFault;
-use crate::room::{EVENTS, Room};
+use crate::connections::{Connections, EVENTS};
 use log::{Log, error};
 use mio::Events;
 use mq_ledger::Ledger;
@@ -36,16 +36,16 @@ pub fn serve_connections<R: Clock + Net, G: Log, L: Ledger>(
 {
     more_deliveries();
     let mut events = Events::with_capacity(alloc, EVENTS)?;
-    let mut room = Room::new(rt, alloc, listener, connections).map_err(|e| no_poll(log, &e))?;
-    serve_room(rt, log, alloc, &mut room, &mut events, timeout, ledger)
+    let mut open = Connections::new(rt, alloc, listener, connections).map_err(|e| no_poll(log, &e))?;
+    serve_rounds(rt, log, alloc, &mut open, &mut events, timeout, ledger)
 }
 
-/// Serves the connections of a room, round by round, until all were accepted and have ended.
-fn serve_room<C: Clock, G: Log, L: Ledger>(
+/// Serves connections, round by round, until all were accepted and have ended.
+fn serve_rounds<C: Clock, G: Log, L: Ledger>(
     clock: &C,
     log: &G,
     alloc: Global,
-    room: &mut Room<'_>,
+    open: &mut Connections<'_>,
     events: &mut Events,
     timeout: Duration,
     ledger: &mut L,
@@ -59,14 +59,14 @@ fn serve_room<C: Clock, G: Log, L: Ledger>(
 {
     more_deliveries();
     for _round in 0..u64::MAX {
-        room.admit(clock, log, timeout)?;
+        open.accept(clock, log, timeout)?;
         // The last connection may just have been given up for want of memory: then nothing more comes.
-        if room.is_over() {
+        if open.is_over() {
             break;
         }
-        let now = room.wait(clock, events).map_err(|e| no_poll(log, &e))?;
-        room.attend(clock, log, alloc, events, timeout, ledger)?;
-        room.dismiss_late(log, now);
+        let now = open.wait(clock, events).map_err(|e| no_poll(log, &e))?;
+        open.serve(clock, log, alloc, events, timeout, ledger)?;
+        open.expire(log, now);
     }
     Ok(())
 }

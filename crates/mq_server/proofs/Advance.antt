@@ -36,7 +36,7 @@ same_life l = λ i. record { bytes = l.bytes; exchanges = sym (append-nil l.exch
 none_more : (l : Life) (c : State) → Lives l c → Lives (with_exchanges l [] l.rest) c
 none_more l c lives = let P : Life → Type 0 = λ q. Lives q c in subst P (same_life l) lives
 
-quiet : (k : Book) (history : List Entry) → IsLegalBook k → history ≡ k.history → AreAnswered k [] history
+pub quiet : (k : Book) (history : List Entry) → IsLegalBook k → history ≡ k.history → AreAnswered k [] history
 quiet k history legal same = record { replies = refl; after = same ∙ sym (history_none k legal) }
 
 -- the same of another count

@@ -1,5 +1,5 @@
 //! Laws of what is served. Each is the contract of a function that does nothing.
-ghost use Rattle.std.specs.Prelude.{◌≡◌, ◌⊎◌, ℕ, List, ◌++◌, length, map, Option, None, Some, Ok};
+ghost use Rattle.std.specs.Prelude.{◌≡◌, ◌⊎◌, ℕ, List, [], ◌++◌, length, map, Option, None, Some, Ok};
 ghost use Rattle.std.specs.Io.KnownBytes.{Appends};
 ghost use Rattle.mq_frame.specs.declared.message.Reply.{Reply};
 ghost use Rattle.mq_ledger.specs.Answer.{replies_after};
@@ -15,7 +15,7 @@ ghost use Rattle.mq_server.specs.Connection.{Wire, Serves};
 ghost use Rattle.mq_server.specs.Connections.{wires, AreServed, AreServedWhole, AppendEach};
 ghost use Rattle.mq_server.specs.Delivery.{Delivery, HasGrown, arrivals, asked, answer_to, taken_answers};
 ghost use Rattle.mq_server.specs.Held.{State};
-ghost use Rattle.mq_server.specs.Life.{AreAnswered, Life, Lives, deliveries, replies_of};
+ghost use Rattle.mq_server.specs.Life.{AreAnswered, Exchange, Life, Lives, deliveries, replies_of};
 ghost use Rattle.mq_server.specs.Text.{Asks, IsServed, LosesAlike, farewell, frames_of, served};
 
 use mq_frame::laws::{frames_stay, one_spelling};
@@ -98,4 +98,12 @@ pub fn more_deliveries()
     ensures none { (b : Book) → IsLegalBook b → HasGrown b b }
     ensures more { (b k c : Book) → IsLegalBook k → k.zone ≡ b.zone → k.default ≡ b.default →
         HasGrown b k → HasGrown k c → HasGrown b c }
+{}
+
+/// Exchanges with a ledger that others came to before are exchanges behind those.
+pub fn more_exchanges()
+    ensures none { (b : Book) → IsLegalBook b → AreAnswered b [] b.history }
+    ensures more { (b k : Book) (xs ys : List Exchange) (history : List Entry) → IsLegalBook k →
+        k.zone ≡ b.zone → k.default ≡ b.default → AreAnswered b xs k.history → AreAnswered k ys history →
+        AreAnswered b (xs ++ ys) history }
 {}

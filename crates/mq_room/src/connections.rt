@@ -1,10 +1,10 @@
-//! The connections that are open, and the system's word on which of them something came.
+//! The connections that are open, and what the system tells of them.
 ghost use Rattle.std.specs.Prelude.{◌≡◌};
 ghost use Rattle.mq_server.specs.Delivery.{HasGrown};
 
 use crate::accept::Acceptor;
 use crate::fault::RoomFault;
-use crate::guest::{Guest, Turn, take_turns};
+use crate::open::{OpenConnection, Turn, take_turns};
 use log::{Log, error, warn};
 use mio::unix::SourceFd;
 use mio::{Events, Interest, Poll, Token};
@@ -14,7 +14,7 @@ use mq_server::{ServeFault, Served};
 use std::alloc::Global;
 use std::collections::BTreeMap;
 use std::io;
-use std::net::{Net, SocketAddr, TcpListener};
+use std::net::{Net, SocketAddr, TcpListener, TcpStream};
 use std::os::fd::AsRawFd;
 use std::rt::Clock;
 use std::time::{Duration, Instant};
@@ -26,39 +26,39 @@ const PLACES: usize = 900;
 pub const EVENTS: usize = 1_024;
 
 /// The most connections that are accepted before others have their turns.
-const ARRIVALS: usize = 64;
+const ACCEPTED: usize = 64;
 
 /// Under which the system tells of the listener; a connection has a number above it.
 const LISTENER: Token = Token(0);
 
 /// The listener and the connections that are open.
 #[derive(Drop)]
-pub struct Room<'a> {
+pub struct Connections<'a> {
     poll: Poll,
     acceptor: Acceptor<'a>,
-    guests: BTreeMap<usize, Guest>,
+    open: BTreeMap<usize, OpenConnection<TcpStream>>,
     alloc: Global,
     /// The number of the connection that was accepted last.
     last: usize,
 }
 
-impl<'a> Room<'a> {
-    /// A room with no connection, which accepts so many.
+impl<'a> Connections<'a> {
+    /// None is open yet; so many are accepted.
     pub fn new(
         net: &impl Net,
         alloc: Global,
         listener: &'a TcpListener,
         connections: u32,
-    ) -> io::Result<Room<'a>> {
+    ) -> io::Result<Connections<'a>> {
         listener.set_nonblocking(true)?;
         let poll = Poll::new(net)?;
         let descriptor = listener.as_raw_fd();
         poll.registry()
             .register(&mut SourceFd(&descriptor), LISTENER, Interest::READABLE)?;
-        Ok(Room {
+        Ok(Connections {
             poll,
             acceptor: Acceptor::new(listener, connections),
-            guests: BTreeMap::new(alloc),
+            open: BTreeMap::new(alloc),
             alloc,
             last: 0,
         })
@@ -66,15 +66,15 @@ impl<'a> Room<'a> {
 
     /// Whether all connections were accepted, and have ended.
     pub fn is_over(&self) -> bool {
-        self.acceptor.is_done() && self.guests.is_empty()
+        self.acceptor.is_done() && self.open.is_empty()
     }
 
     /// Waits until something comes, or until a connection is late, or a pause is over, and tells when that was.
     pub fn wait(&mut self, clock: &impl Clock, events: &mut Events) -> io::Result<Instant> {
         let now = Instant::now(clock)?;
         let mut wait = self.acceptor.wait_at(now);
-        for guest in self.guests.values() {
-            let left = guest.until.duration_since(now);
+        for open in self.open.values() {
+            let left = open.until.duration_since(now);
             wait = match wait {
                 Some(wait) if wait <= left => Some(wait),
                 _ => Some(left),
@@ -85,18 +85,21 @@ impl<'a> Room<'a> {
     }
 
     /// Accepts the connections that have come. Where no place is left, the one that would be late first goes.
-    pub fn admit<C: Clock, G: Log>(
+    pub fn accept<C: Clock, G: Log>(
         &mut self,
         clock: &C,
         log: &G,
         timeout: Duration,
     ) -> Result<(), RoomFault> {
-        for _arrival in 0..ARRIVALS {
+        for _connection in 0..ACCEPTED {
             let Some((stream, peer)) = self.acceptor.next(clock, log)? else {
                 return Ok(());
             };
-            match Guest::new(clock, self.alloc, stream, peer, timeout) {
-                Ok(guest) => self.seat(log, guest),
+            let opened = stream
+                .set_nonblocking(true)
+                .and_then(|()| OpenConnection::new(clock, self.alloc, stream, peer, timeout));
+            match opened {
+                Ok(open) => self.open(log, open),
                 Err(cause) => warn!(log; "connection of {peer}: {cause}"),
             }
         }
@@ -104,7 +107,7 @@ impl<'a> Room<'a> {
     }
 
     /// Gives each connection of which something came its turns.
-    pub fn attend<C: Clock, G: Log, L: Ledger>(
+    pub fn serve<C: Clock, G: Log, L: Ledger>(
         &mut self,
         clock: &C,
         log: &G,
@@ -127,13 +130,13 @@ impl<'a> Room<'a> {
                 self.acceptor.arrived();
                 continue;
             }
-            self.attend_one(clock, log, alloc, token, timeout, ledger)?;
+            self.serve_one(clock, log, alloc, token, timeout, ledger)?;
         }
         Ok(())
     }
 
     /// Gives a connection its turns, and lets it go where it ended.
-    fn attend_one<C: Clock, G: Log, L: Ledger>(
+    fn serve_one<C: Clock, G: Log, L: Ledger>(
         &mut self,
         clock: &C,
         log: &G,
@@ -150,18 +153,18 @@ impl<'a> Room<'a> {
             HasGrown (L.book ledger.old) (L.book ledger.new) }
     {
         more_deliveries();
-        let Some(guest) = self.guests.get_mut(&token.0) else {
+        let Some(open) = self.open.get_mut(&token.0) else {
             return Ok(());
         };
-        let peer = guest.peer;
-        match take_turns(clock, alloc, guest, timeout, ledger) {
+        let peer = open.peer;
+        match take_turns(clock, alloc, open, timeout, ledger) {
             Turn::Waits => Ok(()),
             Turn::Answered => {
                 self.tell_again(log, token);
                 Ok(())
             }
             Turn::Ended(ended) => {
-                let _ = self.guests.remove(&token.0);
+                let _ = self.open.remove(&token.0);
                 end_of(log, &peer, ended)
             }
         }
@@ -169,49 +172,49 @@ impl<'a> Room<'a> {
 
     /// Has the system tell again of a connection that may have more.
     fn tell_again<G: Log>(&mut self, log: &G, token: Token) {
-        let Some(guest) = self.guests.get(&token.0) else {
+        let Some(open) = self.open.get(&token.0) else {
             return;
         };
-        let peer = guest.peer;
-        let descriptor = guest.stream.as_raw_fd();
+        let peer = open.peer;
+        let descriptor = open.stream.as_raw_fd();
         let told = self
             .poll
             .registry()
             .reregister(&mut SourceFd(&descriptor), token, both_ways());
         if let Err(cause) = told {
             warn!(log; "connection of {peer}: {cause}");
-            let _ = self.guests.remove(&token.0);
+            let _ = self.open.remove(&token.0);
         }
     }
 
     /// Ends the connections that were late at that moment.
-    pub fn dismiss_late<G: Log>(&mut self, log: &G, now: Instant) {
-        self.guests.retain(|_number, guest| {
-            let is_late = guest.until.duration_since(now).is_zero();
+    pub fn expire<G: Log>(&mut self, log: &G, now: Instant) {
+        self.open.retain(|_number, open| {
+            let is_late = open.until.duration_since(now).is_zero();
             if is_late {
-                guest.pass_over();
-                let peer = guest.peer;
-                warn!(log; "connection of {peer}: {}", guest.late_fault());
+                open.pass_over();
+                let peer = open.peer;
+                warn!(log; "connection of {peer}: {}", open.late_fault());
             }
             !is_late
         });
     }
 
     /// Gives a connection a place. One that can't have it is dropped.
-    fn seat<G: Log>(&mut self, log: &G, guest: Guest) {
-        if self.guests.len() >= PLACES {
-            self.send_away(log);
+    fn open<G: Log>(&mut self, log: &G, open: OpenConnection<TcpStream>) {
+        if self.open.len() >= PLACES {
+            self.make_place(log);
         }
         self.last = self.last.wrapping_add(1);
-        let peer = guest.peer;
-        let descriptor = guest.stream.as_raw_fd();
+        let peer = open.peer;
+        let descriptor = open.stream.as_raw_fd();
         let registered = self
             .poll
             .registry()
             .register(&mut SourceFd(&descriptor), Token(self.last), both_ways());
         match registered {
             Ok(()) => {
-                if self.guests.insert(self.last, guest).is_err() {
+                if self.open.insert(self.last, open).is_err() {
                     warn!(log; "connection of {peer}: {}", ServeFault::Memory);
                 }
             }
@@ -220,17 +223,17 @@ impl<'a> Room<'a> {
     }
 
     /// Ends the connection that would be late first.
-    fn send_away<G: Log>(&mut self, log: &G) {
+    fn make_place<G: Log>(&mut self, log: &G) {
         let mut first: Option<(usize, Instant)> = None;
-        for (number, guest) in &self.guests {
+        for (number, open) in &self.open {
             first = match first {
-                Some((_, until)) if until <= guest.until => first,
-                _ => Some((*number, guest.until)),
+                Some((_, until)) if until <= open.until => first,
+                _ => Some((*number, open.until)),
             };
         }
         if let Some((number, _)) = first {
-            if let Some(guest) = self.guests.remove(&number) {
-                let peer = guest.peer;
+            if let Some(open) = self.open.remove(&number) {
+                let peer = open.peer;
                 warn!(log; "connection of {peer}: too many connections");
             }
         }
