@@ -211,6 +211,11 @@ def send_no_more(peer):
         pass
 
 
+def read_to_end(peer):
+    """All that a peer sends until it sends no more; a reset is an error."""
+    return b"".join(iter(lambda: peer.recv(65_536), b""))
+
+
 def read_all(peer):
     whole = b""
     while True:

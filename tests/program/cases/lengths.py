@@ -14,7 +14,7 @@ from books import Books
 from cases.edges import answers
 from cases.filters import AUTH, BEGIN, COMMIT, CONFIG, GRANTED, PROCEED, RCPT, REGISTRATION, RESERVE, SETTLE, SETTLED, answer
 from cases.many_numbers import ALICE, Filter
-from ends import LONG, Script, Server, fault, send_no_more, toml, without_log
+from ends import LONG, Script, Server, fault, read_to_end, send_no_more, toml, without_log
 
 LONGEST_LINE = 65_536
 LONGEST_SETTINGS = 65_536
@@ -175,9 +175,7 @@ def pieces_to_a_server(world, checks):
                     if size > 500:
                         time.sleep(0.001)
                 send_no_more(peer)
-                came = b""
-                while piece := peer.recv(65_536):
-                    came += piece
+                came = read_to_end(peer)
             checks.equal(f"a connection in pieces of {size:,} bytes", came, wanted)
         asked = wire.usage() + wire.page()
         for size in (4_000, 4_095, 4_096, 4_097):

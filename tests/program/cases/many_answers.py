@@ -4,7 +4,7 @@ import threading
 
 import wire
 from books import Books
-from ends import SECONDS, Server, ledger_settings, send_no_more
+from ends import SECONDS, Server, ledger_settings, read_to_end, send_no_more
 from rows import same_rows
 
 MANY = 70_000
@@ -43,11 +43,9 @@ def ask(server, sent):
 
         sending = threading.Thread(target=send, daemon=True)
         sending.start()
-        came = []
-        while piece := peer.recv(65_536):
-            came.append(piece)
+        came = read_to_end(peer)
         sending.join()
-    return b"".join(came)
+    return came
 
 
 def outcome(server, sent):
@@ -128,6 +126,6 @@ def asked_from(address, port):
         with socket.create_connection(("127.0.0.1", port), timeout=SECONDS, source_address=(address, 0)) as peer:
             peer.sendall(wire.usage())
             send_no_more(peer)
-            return b"".join(iter(lambda: peer.recv(65_536), b""))
+            return read_to_end(peer)
     except OSError as error:
         return repr(error)

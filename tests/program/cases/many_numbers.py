@@ -6,7 +6,7 @@ import threading
 import wire
 from books import Books
 from cases.filters import AUTH, BEGIN, COMMIT, CONFIG, PROCEED, RCPT, REGISTRATION, SERVICE, answer
-from ends import LONG, SECONDS, Script, toml
+from ends import LONG, SECONDS, Script, read_to_end, toml
 
 MANY = 70_000
 DEFAULT = 1_000_000
@@ -102,8 +102,5 @@ def serve_one(listener, heard, reply):
     peer, _ = listener.accept()
     with peer:
         peer.settimeout(SECONDS)
-        came = b""
-        while piece := peer.recv(65_536):
-            came += piece
-        heard.append(came)
+        heard.append(read_to_end(peer))
         peer.sendall(reply)

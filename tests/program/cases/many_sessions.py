@@ -7,7 +7,7 @@ from books import Books
 from cases.edges import answers
 from cases.filters import AUTH, BEGIN, CONFIG, PROCEED, RCPT, REGISTRATION, SERVICE, answer
 from cases.many_numbers import MOMENT, Filter
-from ends import SECONDS, Script, Server
+from ends import SECONDS, Script, Server, read_to_end
 
 SESSION = b"7641df9771b4ed00"
 # A client has places for so many transactions, open or with closings that wait.
@@ -134,9 +134,7 @@ def serve(listener, heard, books, count):
             return
         with peer:
             peer.settimeout(SECONDS)
-            came = b""
-            while piece := peer.recv(65_536):
-                came += piece
+            came = read_to_end(peer)
             heard.append(came)
             peer.sendall(books.serve(came))
 
