@@ -160,7 +160,7 @@ class Zone:
             self.zone, self.times = east - west, Times()
             self.words, self.settings = ["--east", str(east), "--west", str(west)], {"offset": self.zone}
         else:
-            self.zone = zones.random_rule(dice)
+            self.zone = zones.random_rule_of_ends(dice) if dice.random() < 0.2 else zones.random_rule(dice)
             self.times = TimesOfRule(dice, self.zone)
             self.words, self.settings = ["--rule", self.zone], {"offset": None, "rule": self.zone}
 

@@ -7,7 +7,7 @@ import sqlite3
 from ends import apart
 from replaying import TWO_AND_A_SETTLE
 from serving import served, settings
-from storing import SOUND
+from storing import BY_RULE, SOUND
 from sweeping import CUT, OUT_OF_MEMORY, RETRY, RIGHT, Run, sweep
 from wire import RETRY as RETRY_FRAME
 from wire import frame, number, text, usage
@@ -18,21 +18,26 @@ SETTLED_ONE = frame(b"\x8b" + text(b"u") + b"".join(map(number, (1, 1, 0, 3))))
 
 
 def run(refusals, checks):
-    made, wrong, empty = (f"{refusals.folder}/{name}" for name in ("made", "wrong", "empty"))
-    for folder in (made, wrong, empty):
+    made, wrong, empty, by_rule = (f"{refusals.folder}/{name}" for name in ("made", "wrong", "empty", "by-rule"))
+    for folder in (made, wrong, empty, by_rule):
         os.mkdir(folder)
     served(refusals, made, TWO_AND_A_SETTLE, ["--create"])
+    served(refusals, by_rule, TWO_AND_A_SETTLE, ["--create"], **BY_RULE)
     make_wrong(made, wrong)
     open(f"{empty}/ledger", "wb").close()
     name = "a store taken apart and opened"
     sweep(refusals, checks, f"{name}, audit", audited(refusals, made, SOUND))
     sweep(refusals, checks, f"{name}, server", opened(refusals, made))
+    sweep(refusals, checks, f"{name}, server by a rule", opened(refusals, by_rule, **BY_RULE), every=9)
     # up to its end an audit with another answer allocates as the first one does
+    sweep(refusals, checks, f"{name}, audit by a rule", audited(refusals, by_rule, SOUND, **BY_RULE), every=9)
     for what, source, more, why in [
         ("another offset", made, {"offset": 60}, "store has another zone"),
         ("another default", made, {"default": 4}, "store has another default"),
         ("wrong books", wrong, {}, "store is damaged: login u day 1"),
         ("an empty file", empty, {}, "store is not this ledger"),
+        ("a rule, opened with an offset", by_rule, {}, "store has another zone"),
+        ("an offset, opened with a rule", made, BY_RULE, "store has another zone"),
     ]:
         sweep(refusals, checks, f"{name}, audit, {what}", audited(refusals, source, refused(why), **more), every=9)
     sweep(refusals, checks, f"{name}, server --create", made_again(refusals, made), every=9)
@@ -99,11 +104,11 @@ def audited(refusals, source, wanted, **more):
     return one
 
 
-def opened(refusals, source):
+def opened(refusals, source, **zone):
     """Servers over copies of the file, asked for what is used, which writes no row."""
     def one(number, folder):
         copied(source, folder)
-        came = served(refusals, folder, [usage()], number=number)
+        came = served(refusals, folder, [usage()], number=number, **zone)
         ending = ending_of(came)
         return Run(ending or "fault", came.told, change(folder, source) if ending else str(came))
     return one

@@ -5,12 +5,17 @@ from wire import reserve, settle, usage
 
 ONE = [reserve(1)]
 TWO_AND_A_SETTLE = [reserve(1), reserve(2), settle(3), usage(), settle(4)]
+# by this rule the moment of these requests is on day 1, as it is at UTC
+RULE = "CET-1CEST,M3.5.0,M10.5.0/3"
+BY_RULE = ["--rule", RULE]
 
 
 def run(refusals, checks):
-    for what, requests in [("one reserve", ONE), ("reserve twice, settle once", TWO_AND_A_SETTLE)]:
+    for what, requests, zone in [
+        ("one reserve", ONE, []), ("reserve twice, settle once", TWO_AND_A_SETTLE, []), ("one reserve by a rule", ONE, BY_RULE)
+    ]:
         for words in ([], ["--sql"]):
-            sweep(refusals, checks, ", ".join([what, *words]), replayed(refusals, requests, words))
+            sweep(refusals, checks, ", ".join([what, *words]), replayed(refusals, requests, [*zone, *words]))
 
 
 def replayed(refusals, requests, words):

@@ -38,17 +38,18 @@ def settings(refusals, folder, port=1, **more):
     return refusals.new_file(toml(whole), folder)
 
 
-def served(refusals, folder, requests, words=(), number=None):
-    """A server over the ledger in this folder that is asked on one connection; once more where another program took its port."""
+def served(refusals, folder, requests, words=(), number=None, **more):
+    """A server over the ledger in this folder that is asked on one connection; once more where another program took its port. `more` are
+    settings."""
     for _ in range(3):
-        came = served_at(refusals, refusals.port(), folder, requests, words, number)
+        came = served_at(refusals, refusals.port(), folder, requests, words, number, more)
         if came.text != "mailquota: listen failed\n":
             break
     return came
 
 
-def served_at(refusals, port, folder, requests, words, number):
-    words = ["server", "--config", settings(refusals, folder, port), "--connections", "1", *words]
+def served_at(refusals, port, folder, requests, words, number, more):
+    words = ["server", "--config", settings(refusals, folder, port, **more), "--connections", "1", *words]
     told = f"{folder}/told"
     environment = None if number is None else refusals.environment(number, told)
     process = subprocess.Popen(

@@ -1,7 +1,9 @@
 """Days by a zone rule: replayed over a list and over tables, served over a file that is opened again, and refused.
 
-What is expected is what the C library says of the rule, given to it as TZ.
+What is expected is what the C library says of the rule, given to it as TZ, and where a rule changes at the end of a year what
+docs/LEDGER.md says.
 """
+import random
 import sqlite3
 
 import zones
@@ -22,6 +24,7 @@ BAD_RULE = (2, b"", "mailquota: bad rule\n")
 ANOTHER_ZONE, NOT_OURS = "store has another zone", "store is not this ledger"
 SEEDS = {"list": 60, "tables": 60, "file": 15}
 RULES_TRIED = 60
+RULES_OF_ENDS = 40
 
 
 def run(world, checks):
@@ -32,6 +35,7 @@ def run(world, checks):
     refused(world, checks)
     tables_of_other_versions(world, checks)
     random_rules(world, checks)
+    rules_of_ends(world, checks)
     random_ledgers(world, checks)
 
 
@@ -156,6 +160,23 @@ def random_rules(world, checks):
         moments += len(found)
         replayed(world, checks, f"rule {seed}, {rule}, {len(found)} moments", rule, found)
     print(f"    {RULES_TRIED} rules, {moments} moments, each over a list and tables", flush=True)
+
+
+def rules_of_ends(world, checks):
+    """The same of rules that change in the first and the last days of a year, and of changes that would leave it."""
+    differing, moments = [], 0
+    for seed in range(RULES_TRIED):
+        dice = zones.dice_of(seed)
+        rule = zones.random_rule(dice)
+        differing += [(rule, at) for at in zones.moments_of(dice, rule) if zones.ahead(rule, at) != zones.ahead(zones.YearByYear(rule), at)]
+    checks.equal(f"{RULES_TRIED} rules of other days: where the C library and the reader of years differ", differing, [])
+    for seed in range(RULES_OF_ENDS):
+        dice = random.Random(f"ends {seed}")
+        rule = zones.random_rule_of_ends(dice)
+        found = zones.moments_of(dice, rule)
+        moments += len(found)
+        replayed(world, checks, f"rule of ends {seed}, {rule}, {len(found)} moments", rule, found)
+    print(f"    {RULES_OF_ENDS} rules of ends, {moments} moments, each over a list and tables", flush=True)
 
 
 def random_ledgers(world, checks):
