@@ -10,6 +10,12 @@ import re
 import source
 
 
+# What parts the ways through a function: leaving early, and a branch.
+WAY = re.compile(r"\b(?:return|break|continue|if)\b|\?|=>")
+# A way that is always taken, where an edit can't change the old one.
+ALWAYS = re.compile(r"let wrong = true; if wrong \{ return [^;}]*; \}")
+
+
 class BadEdit(Exception):
     """Why an edit can't be tried."""
 
@@ -45,6 +51,9 @@ class Edit:
         self.touched = self.wanted | changed
         # it changes what lies in no function, as a constant, and so may spoil any
         self.is_outside = not all(places)
+        # (a law does nothing when it is called)
+        pairs = [it for it in self.pairs if it[0].startswith("src/") and it[0] != "src/laws.rt"]
+        self.adds_a_way = ways_in(*(new for _, _, new in pairs)) > ways_in(*(old for _, old, _ in pairs))
         if not self.wanted:
             raise BadEdit("what it changes lies in no function: name one by a line 'function: module::Type::name'")
 
@@ -67,6 +76,11 @@ class Edit:
                 places.append(functions_between(path, texts[path], at, at + len(old)))
             texts[path] = texts[path].replace(old, new)
         return texts
+
+
+def ways_in(*texts):
+    """Returns how many words of these texts part the ways through a function."""
+    return sum(len(WAY.findall(source.blanked(ALWAYS.sub("", it)))) for it in texts)
 
 
 def functions_between(path, text, begins, ends):

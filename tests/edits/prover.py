@@ -143,6 +143,10 @@ class Crate:
             self.lengths = source.lengths(self.folder)
         return 1e9 if function.startswith("laws::") else self.lengths.get(function, 1e9)
 
+    def is_generic(self, function):
+        """Returns whether a function of the crate, or its type's functions, are over types."""
+        return function in source.generic(self.folder)
+
     def memory(self):
         """Returns the bytes that a check may take: for its lines, its proofs, the lines below it and the kit's libraries."""
         of_kit = {it for name in (self.name, *self.below) for it in self.rows[name] if it not in self.rows}
@@ -165,6 +169,8 @@ class Crate:
                     self.write(f"{room}/{path}", source.without_bodies(path, text, lambda it: source.overlap({it}, kept)))
                 self.write(f"{room}/proofs/Taken.antt", HOLE)
                 self.write(f"{room}/proofs/Lib.antt", "mod Taken\n", "a")
+            if "proofs/Second.antt" in texts:
+                self.write(f"{room}/proofs/Lib.antt", "mod Second\n", "a")
             for it in stated:
                 self.leave_open(it, room)
             words = [f"{KIT}/bin/rattle", "check", *self.words(), "--jobs", "1", "--allow-holes", "--short-goals"]
@@ -187,6 +193,11 @@ class Crate:
 
 
 ERROR = re.compile(r"(?:\./)?(\S+?):\d+:\d+: error: (?:(`[^`]*`): )?(.*)")
+# A goal that is left open, and a declaration of a proof file that isn't taken.
+OPEN = re.compile(r"note: src/\S+: it is not proved .*\(`([^`]+)`\)")
+UNTAKEN = re.compile(r"(?:\./)?(\S+?):\d+:\d+: (?:error: )?`([^`]*)`(?::| is not admitted| was not admitted)")
+# What an error says of an answer to a goal that the function has no more.
+RENAMED = re.compile(r"`goal\.[^`]+`: module `[^`]+` has no `")
 # What an error says of a text that can't be read, where one that is read and false says something else.
 UNREAD = re.compile(r"is not in scope|has no field|is no name|operand is missing|expected the end|cannot continue")
 # What an error in a proof file says where it names what an edit took away, or cites such a place.
@@ -196,21 +207,26 @@ VERDICT = re.compile(r"(fn|impl|struct|enum|trait) (\S+): (.*)")
 
 class Told:
     """What a check said: whether it came to its end, which functions it told of, which of them it refused for themselves, with
-    the line, and which of these only because a proof file names what isn't there."""
+    the line, and which of these only because a proof file names what isn't there; of each function the goals that were left open or
+    whose answer was refused, and whether an answer is to a goal that there isn't."""
 
     def __init__(self, ran, crate):
         lines = ran.said.rstrip("\n").split("\n")
         self.ended = ran.status in (0, 1) and bool(re.match(r"only=\d+ (holes|proved)=\d+\Z", lines[-1]))
         self.unread = next((it for it in lines if self.is_unread(it)), "")
         self.functions, self.refused, self.by_names = set(), {}, set()
-        wrong, goals = {}, 0
+        # the names of the declarations of each folder of proofs/ that weren't taken, and of them those to goals that there aren't
+        self.untaken, self.renamed, self.open = {}, {}, {}
+        wrong, goals, open_ = {}, 0, set()
         for line in lines:
             error, verdict = ERROR.match(line), VERDICT.match(line)
+            self.read_untaken(line)
             if error and error[1].startswith("proofs/"):
                 wrong.setdefault(os.path.dirname(error[1])[len("proofs/"):], []).append(bool(NAMES.search(error[3])))
             elif re.match(r"note: src/\S+: it is not proved", line):
                 # (such notes stand above the line of their function)
                 goals += 1
+                open_ |= {it[1] for it in [OPEN.match(line)] if it}
             elif verdict:
                 name = verdict[2][len(crate) + 2:] if verdict[2].startswith(crate + "::") else verdict[2]
                 self.functions.add(name)
@@ -219,7 +235,23 @@ class Told:
                     errors = wrong.get(name.replace("::", "/"), [])
                     if errors and all(errors) and not goals and "`search` did not prove" not in line:
                         self.by_names.add(name)
-                goals = 0
+                self.open[name] = open_
+                goals, open_ = 0, set()
+
+    def read_untaken(self, line):
+        untaken = UNTAKEN.match(line)
+        if untaken and untaken[1].startswith("proofs/"):
+            folder = os.path.dirname(untaken[1])[len("proofs/"):]
+            kind = self.renamed if RENAMED.search(line) else self.untaken
+            kind.setdefault(folder, set()).add(untaken[2])
+
+    def goals(self, function):
+        """Returns the goals of a function that were left open or whose answer was refused."""
+        return self.open.get(function, set()) | self.untaken.get(function.replace("::", "/"), set())
+
+    def lost_an_answer(self, function):
+        """Returns whether the proof file answers a goal that the function has no more."""
+        return function.replace("::", "/") in self.renamed
 
     @staticmethod
     def is_unread(line):

@@ -8,11 +8,16 @@ that a round doesn't edit have holes for proofs there, and no bodies: they are t
 All this rests on the prover's words, so nothing else is believed of a round: an edit counts only where its functions were proved
 as they stand, in the same run; edits whose functions aren't told of are tried without the others and at last alone; an unedited
 function that is refused is a failure, and one of them is asked for in each round. Nothing is kept from a check for another.
+
+A refused goal may be true and only without an answer. So an edit that adds a way out of a function, or takes a goal from its answer, is
+looked at once more (second.py): it fails where its goals are true, and where that can't be told it fails unless a case is named that
+refuses its body.
 """
 from collections import namedtuple
 
 from edit import BadEdit, Edit, edits_in
 from prover import Told, is_part
+from second import FALSE, TRUE, Look
 from source import overlap
 
 # What is to be said of an edit or a crate, and whether it is as it must be.
@@ -24,9 +29,11 @@ class Killed(Exception):
 
 
 class Rounds:
-    def __init__(self, crate, place, proved):
-        """The edits of the crate that lie in the folder. `proved` are the functions that were proved as they stand."""
+    def __init__(self, crate, place, proved, cases=None, looks_at_all=False):
+        """The edits of the crate that lie in the folder. `proved` are the functions that were proved as they stand, and `cases` says of
+        edits by name which case refuses their bodies, where one is wanted of edits that add a way out."""
         self.crate, self.name, self.results, self.seconds, self.count = crate, crate.name, [], 0.0, 0
+        self.cases, self.needs_cases, self.looks_at_all = cases or {}, cases is not None, looks_at_all
         self.edits, self.proved = [], sorted(proved)
         good, bad = edits_in(place)
         for name in good:
@@ -54,29 +61,29 @@ class Rounds:
         touched = set().union(*(it.touched for it in edits))
         return [it for it in self.proved if "+" not in it and "::fn::" not in it and not overlap({it}, touched)]
 
-    def check(self, edits, only):
-        """Checks functions over texts with these edits, with the others by their contracts and without their bodies."""
+    def check(self, edits, only, more=None):
+        """Checks functions over texts with these edits and more, with the others by their contracts and without their bodies."""
         self.count += 1
         # (what an edit outside functions spoils isn't known)
         by_contract = [] if any(it.is_outside for it in edits) else [it for it in self.unedited(edits) if it not in only]
         kept = set(only).union(*(it.touched for it in edits))
-        ran = self.crate.check(self.composed(edits), only, by_contract, kept)
+        ran = self.crate.check(self.composed(edits, more), only, by_contract, kept)
         self.seconds += ran.seconds
         if ran.status == -9:
             raise Killed
         return ran
 
-    def composed(self, edits):
+    def composed(self, edits, more=None):
         texts = {}
         for it in edits:
             texts = it.apply(self.crate.folder, texts)
-        return texts
+        return {**texts, **(more or {})}
 
-    def planned(self):
+    def planned(self, edits):
         """Returns the edits in rounds, in each of which none changes what another is to spoil and they can stand beside one another.
         An edit outside functions may spoil any, and is alone."""
         rounds = []
-        for edit in self.edits:
+        for edit in edits:
             for it in [] if edit.is_outside else rounds:
                 if it[0].is_outside or any(overlap(edit.wanted, other.touched) or overlap(edit.touched, other.wanted) for other in it):
                     continue
@@ -92,9 +99,11 @@ class Rounds:
 
     def run(self):
         """Tries all edits, and leaves what is to be said of them in results."""
-        self.results, self.bad = list(self.unread), []
-        for it in self.planned():
+        self.results, self.bad, self.doubted = list(self.unread), [], {}
+        for it in self.planned(self.edits):
             self.try_round(it)
+        for it in self.planned([edit for edit in self.edits if edit in self.doubted]):
+            self.look_again(it)
 
     def try_round(self, edits):
         # (the shortest, which costs least, and no law: what spoils a definition may spoil each of them)
@@ -129,8 +138,12 @@ class Rounds:
         for edit in edits:
             own = [it for it in told.refused if any(is_part(it, wanted) for wanted in edit.wanted)]
             real = [it for it in own if it not in told.by_names]
-            if real:
-                self.say(True, edit.name, f"refused, as it must be: {told.refused[real[0]][:200]}")
+            case = self.cases.get(edit.name) if edit.adds_a_way else None
+            if real and not case and (edit.adds_a_way or self.looks_at_all or any(told.lost_an_answer(it) for it in real)):
+                self.doubted[edit] = {it: told.goals(it) for it in real}
+            elif real:
+                by_case = f", and {case} refuses the body" if case else ""
+                self.say(True, edit.name, f"refused, as it must be{by_case}: {told.refused[real[0]][:200]}")
             elif len(edits) > 1:
                 again.append(edit)
             elif own:
@@ -139,6 +152,29 @@ class Rounds:
             else:
                 self.say(False, edit.name, f"NOT REFUSED: no goal of {' or '.join(sorted(edit.wanted))} was refused")
         return again
+
+    def look_again(self, edits):
+        """Says of edits that were refused whether their goals are false."""
+        looks = {edit: [Look(self.crate, name, goals) for name, goals in self.doubted[edit].items() if goals] for edit in edits}
+        texts = {path: text for some in looks.values() for it in some for path, text in it.texts().items()}
+        told = Told(self.check(edits, sorted(set().union(*(it.wanted for it in edits))), texts), self.crate.name)
+        for edit in edits:
+            found = [it.told(told.untaken) for it in looks[edit]]
+            goals = ", ".join(f"`{goal}`" for goal in sorted(set().union(*self.doubted[edit].values())))[:200]
+            if FALSE in found:
+                self.say(True, edit.name, f"refused, as it must be, and of {goals} one can't hold there")
+            elif found and all(it == TRUE for it in found) and all(self.doubted[edit].values()):
+                self.say(False, edit.name, f"NOT REFUSED: {goals} is true, and only without an answer")
+            else:
+                self.say_untold(edit, goals)
+
+    def say_untold(self, edit, goals):
+        """Says of an edit that it may be refused for want of an answer alone."""
+        if not edit.adds_a_way:
+            self.say(True, edit.name, f"refused, as it must be, on a way that the old text has too: {goals}")
+        else:
+            self.say(not self.needs_cases, edit.name, f"refused, and it isn't told whether {goals} is false on the way out that it adds: "
+                     "a case that refuses the body is to be named in docs/GATE.md")
 
     def sifted(self, edits, ran):
         """Returns the edits of a round that came to no end without those of which it can be told that they can't be tried."""

@@ -6,6 +6,7 @@ usage: run.py gate [CRATE ..]        rt ci over a copy of the tree without its m
                                      as each compiler built it. With names: these crates and those below
        run.py must-fail [CRATE ..]   the gate's edits alone, over libraries that `rt lib` builds where they stand
        run.py further [CRATE ..]     the same for the edits of tests/edits/CRATE, which the gate leaves out
+       run.py look [CRATE ..]        the gate's edits, each looked at once more, where the gate does so with a few
 
 The last line is 'N passed, M failed', whatever happens, and the status 1 where anything failed.
 """
@@ -42,6 +43,7 @@ MOST_OF_A_CHECK = 5e9
 SIGNALS = (signal.SIGTERM, signal.SIGINT, signal.SIGHUP)
 COUNTS = re.compile(r"(\d+) passed, (\d+) failed\Z")
 REFUSED = re.compile(r"rt: (\w+)(: its tests are)? NOT PROVED")
+CASE = re.compile(r"\| `(\w+)`: `(\w+)` \|.*\| (`(\w+)`: [^|]*[^|\s]) \|$")
 PROVED = re.compile(r"fn (\w+)::(\S+): proved\Z")
 # So many lines of what rt ci says of a crate that it refuses are told again, and of the cases that failed.
 SAID = 12
@@ -156,12 +158,12 @@ def run_ci(tree, sum_):
     return {it[1] for it in map(REFUSED.match, lines) if it and not it[2]}, proved_in(lines)
 
 
-def try_edits(crates, place_of, proved, sum_, others=()):
+def try_edits(crates, place_of, proved, sum_, others=(), cases=None, looks_at_all=False):
     """Tries the edits of each crate in rounds, some crates side by side, and other tasks beside them. What was killed is tried
-    once more, alone."""
+    once more, alone. `cases` says by crate and edit which case refuses a body."""
     tasks = [*others]
     for crate in crates:
-        rounds = Rounds(crate, place_of(crate.name), proved[crate.name])
+        rounds = Rounds(crate, place_of(crate.name), proved[crate.name], cases.get(crate.name, {}) if cases is not None else None, looks_at_all)
         missing = [it for it in crate.below if not os.path.isdir(crate.rlib(it))]
         if missing and (rounds.edits or rounds.results):
             sum_.fail(crate.name, f"its edits were not tried, since its library {missing[0]} is not proved")
@@ -190,6 +192,21 @@ def is_done(rounds, call, sum_):
     return True
 
 
+def cases_in(tree, sum_):
+    """Returns by crate and edit which case refuses a body, as docs/GATE.md says it in rows `crate`: `edit` | .. | `group`: case."""
+    found = collections.defaultdict(dict)
+    with open(f"{tree}/docs/GATE.md", encoding="utf-8") as lines:
+        rows = [it for it in map(CASE.match, lines) if it]
+    for crate, edit, case, group in (it.groups() for it in rows):
+        found[crate][f"{edit}.edit"] = case
+        places = f"tests/program/cases/{group}.py", f"crates/{group}"
+        if not os.path.isfile(f"{TOP}/crates/{crate}/must-fail/{edit}.edit"):
+            sum_.fail("docs/GATE.md", f"it names a case of an edit that isn't there: {crate}/{edit}")
+        elif not any(os.path.exists(f"{TOP}/{it}") for it in places):
+            sum_.fail("docs/GATE.md", f"it names a case of {crate}/{edit} in {group}, which isn't there")
+    return found
+
+
 def gate(names, sum_):
     rows = rows_of(TOP)
     wanted = {*names}.union(*(below(it, rows) for it in names)) or {*rows}
@@ -204,10 +221,11 @@ def gate(names, sum_):
             sum_.fail(it, "its edits were not tried, since it is not proved")
         own = OwnTest()
         crates = [Crate(tree, it) for it in rows_of(tree) if it not in refused]
-        try_edits(crates, lambda it: f"{edits}/{it}", proved, sum_, [Task(own, 0, 1e9, own.run)])
+        try_edits(crates, lambda it: f"{edits}/{it}", proved, sum_, [Task(own, 0, 1e9, own.run)], cases_in(TOP, sum_))
         # (last, with nothing beside them: they wait for what others do)
         if "mailquota" in rows_of(tree):
             run_cases(tree, sum_)
+        run_near_the_end(tree, sum_)
     whole = resource.getrusage(resource.RUSAGE_CHILDREN)
     print("\n".join(minutes.table(sum_.seconds, whole.ru_utime + whole.ru_stime)), flush=True)
 
@@ -222,13 +240,21 @@ def run_cases(tree, sum_):
         sum_.fail("tests/program", "over one build it tried more cases than over the other")
 
 
+def run_near_the_end(tree, sum_):
+    """Runs the tests of tests/near_the_end whose crates are there."""
+    place = f"{tree}/tests/near_the_end"
+    names = [it for it in rows_of(tree) if os.path.isdir(f"{place}/{it}")]
+    if names:
+        add_cases("tests/near_the_end", run([sys.executable, f"{place}/run.py", *names], tree, LONGEST_CASES), sum_)
+
+
 def add_cases(name, ran, sum_):
     """Adds what a run of the cases counted, tells those that failed, and returns how many it tried."""
     lines = ran.said.rstrip("\n").split("\n")
     counts = COUNTS.match(lines[-1])
     passed, failed = map(int, counts.groups()) if counts else (0, 0)
     sum_.passed += passed
-    sum_.seconds["tests/program", "test"] += ran.seconds
+    sum_.seconds[name.partition(" over ")[0], "test"] += ran.seconds
     print(f"== {name}: {passed} passed, {failed} failed, {ran.seconds:.0f} s", flush=True)
     if ran.status != 0 or failed or not passed:
         print("\n".join([it for it in lines if it.startswith("NOT ")][:SAID]) or "\n".join(lines[-SAID:]), flush=True)
@@ -236,7 +262,7 @@ def add_cases(name, ran, sum_):
     return passed + failed
 
 
-def alone(names, place_of, sum_):
+def alone(names, place_of, sum_, cases=None, looks_at_all=False):
     """Tries edits over the libraries where they stand."""
     rows = rows_of(TOP)
     for it in {*names} - {*rows}:
@@ -249,7 +275,7 @@ def alone(names, place_of, sum_):
     proved = collections.defaultdict(set)
     for name in names:
         proved.update(proved_in(run([RT, "check"], f"{TOP}/crates/{name}", LONGEST_CI).said.split("\n")))
-    try_edits([Crate(TOP, it) for it in names], place_of, proved, sum_)
+    try_edits([Crate(TOP, it) for it in names], place_of, proved, sum_, cases=cases, looks_at_all=looks_at_all)
 
 
 def further():
@@ -274,7 +300,9 @@ def main(words):
         elif verb == "further":
             alone(names or further(), lambda it: f"{HERE}/{it}", sum_)
         elif verb == "must-fail":
-            alone(names, lambda it: f"{TOP}/crates/{it}/must-fail", sum_)
+            alone(names, lambda it: f"{TOP}/crates/{it}/must-fail", sum_, cases_in(TOP, sum_))
+        elif verb == "look":
+            alone(names, lambda it: f"{TOP}/crates/{it}/must-fail", sum_, looks_at_all=True)
         else:
             print(__doc__)
             sum_.fail("run.py", "it was called wrongly")

@@ -140,6 +140,18 @@ def texts_in(folder):
     return found
 
 
+def generic(folder):
+    """Returns the functions of the crate that are over types, or whose impl is, by the name that the prover prints."""
+    found = set()
+    for path, text in texts_in(folder).items():
+        plain = blanked(text)
+        for it in functions(text):
+            heads = [plain[it.begins:it.body]] + re.findall(r"\b(?:impl|trait)\b[^{};]*", plain[:it.begins])[-1:] * (len(it.names) > 1)
+            if any(re.search(r"\b(?:fn\s+\w+|impl|trait\s+\w+)\s*<(?!\s*'\w+\s*>)", head) for head in heads):
+                found.add("::".join((*module_of(path), *it.names)))
+    return found
+
+
 def lengths(folder):
     """Returns how many characters each function of the crate has, by the name that the prover prints."""
     return {"::".join((*module_of(path), *it.names)): it.ends - it.begins
