@@ -6,7 +6,7 @@ the whole list.
 from ledger import NotInGrammar, decode, frame, id_bytes, number, text
 from zones import day_of, minutes_in
 
-RESERVE, SETTLE, RELEASE, LIMIT, USAGE = range(1, 6)
+RESERVE, SETTLE, RELEASE, LIMIT, USAGE, LIST, RETIRE = range(1, 8)
 ROWS_OF_A_PAGE = 100
 LONGEST_REQUEST = 512
 MOST_FRAMES = 10_000
@@ -24,6 +24,8 @@ class Books:
         # settled and reserved
         self.usage = {}
         self.limits = {}
+        # the least run of a host that isn't retired, where one is
+        self.floors = {}
 
     def day(self, at):
         return day_of(self.zone, at)
@@ -40,17 +42,41 @@ class Books:
         request = decode(body)
         if request["kind"] == USAGE:
             return b"\x8b" + text(request["login"]) + number(request["day"]) + self.row(request["login"], request["day"])
-        if request["kind"] > USAGE:
+        if request["kind"] == LIST:
             return self.page(request["day"], request["after"])
+        if self.is_retired(request["id"]):
+            return b"\x90" + id_bytes(request["id"])
         place = self.places.get(request["id"])
         if place is not None:
             _, known, reply = self.answers[place]
             return reply if known == body else b"\x8a" + id_bytes(request["id"])
-        kind, fields = self.limit(request) if request["kind"] == LIMIT else self.recipients(request)
+        kind, fields = self.answer(request)
         reply = bytes([kind]) + id_bytes(request["id"]) + b"".join(map(number, fields))
         self.places[request["id"]] = len(self.answers)
         self.answers.append((request["id"], body, reply))
         return reply
+
+    def answer(self, request):
+        """The kind and the fields behind the id."""
+        if request["kind"] == RETIRE:
+            return self.retire(request)
+        return self.limit(request) if request["kind"] == LIMIT else self.recipients(request)
+
+    def is_retired(self, name):
+        """Whether the run of a number or of a transaction is below its host's floor."""
+        return name[1] < self.floors.get(name[0], 0)
+
+    def retire(self, request):
+        """What the open transactions of the runs that are given up hold is settled."""
+        host, run, _ = request["id"]
+        self.floors[host] = run
+        for name, state in self.transactions.items():
+            if self.is_retired(name) and not state[5]:
+                held = state[3]
+                if held:
+                    self.add((state[0], state[2]), held, -held)
+                state[3:] = [0, held, 1]
+        return 0x8f, []
 
     def limit(self, request):
         login, start, cap = request["login"], request["from_day"], request["cap"]
@@ -115,12 +141,17 @@ class Books:
         return b"".join(written)
 
     def rows(self):
-        """The rows of the tables, each table's in order, without the version: with a rule there is a sixth one."""
-        rule = {} if isinstance(self.zone, int) else {"rule": [(1, self.zone.encode())]}
-        return rule | {
+        """The rows of the tables, each table's in order, without the version."""
+        return {
             "setting": [(1, minutes_in(self.zone), self.default, len(self.answers))],
-            "answer": [(n, *number_of, body, reply) for n, (number_of, body, reply) in enumerate(self.answers, 1)],
+            # the replies of retired runs are given up
+            "answer": [
+                (n, *number_of, body, b"" if self.is_retired(number_of) else reply)
+                for n, (number_of, body, reply) in enumerate(self.answers, 1)
+            ],
             "trans": sorted((*name, *state) for name, state in self.transactions.items()),
             "usage": sorted((*key, *sums) for key, sums in self.usage.items()),
             "ceiling": sorted((login, start, cap) for login, caps in self.limits.items() for start, cap in caps.items()),
+            "rule": [] if isinstance(self.zone, int) else [(1, self.zone.encode())],
+            "retired": sorted(self.floors.items()),
         }

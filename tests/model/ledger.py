@@ -6,6 +6,7 @@ shortcuts with the program.
 
 from zones import day_of
 
+RETIRE = 7
 HOST_BYTES = frozenset(b"abcdefghijklmnopqrstuvwxyzABCDEFGHIJKLMNOPQRSTUVWXYZ0123456789.-")
 
 
@@ -48,9 +49,9 @@ class Reader:
 def decode(body):
     """The request that the body spells, as a dictionary."""
     fields = Reader(body)
-    kind = fields.number(1, 1, 6)
+    kind = fields.number(1, 1, RETIRE)
     request = {"kind": kind}
-    if kind <= 4:
+    if kind <= 4 or kind == RETIRE:
         request["id"] = fields.id()
     if kind <= 3:
         request["txn"] = fields.number(4, 1, 4_294_967_295)
@@ -65,7 +66,7 @@ def decode(body):
     elif kind == 5:
         request["login"] = fields.text(1, 255)
         request["day"] = fields.number(4, 0, 376_200)
-    else:
+    elif kind == 6:
         request["day"] = fields.number(4, 0, 376_200)
         request["after"] = fields.text(0, 255)
     fields.end()
@@ -101,22 +102,41 @@ class Ledger:
         host, run, _ = request["id"]
         return (host, run, request["txn"])
 
+    def floor(self, host):
+        """Runs of the host below this one are retired."""
+        return max((r["id"][1] for r, _, _ in self.entries if r["kind"] == RETIRE and r["id"][0] == host), default=0)
+
+    def is_retired(self, id):
+        host, run, _ = id
+        return run < self.floor(host)
+
     def of(self, transaction):
         return [e for e in self.entries if e[0]["kind"] <= 3 and self.transaction(e[0]) == transaction]
 
-    def closed(self, transaction):
+    def is_ended(self, transaction):
+        """Whether a settle or a release closed it."""
         return any(kind in (0x83, 0x84) for _, kind, _ in self.of(transaction))
+
+    def closed(self, transaction):
+        return self.is_ended(transaction) or self.is_retired(transaction)
 
     def held(self, transaction):
         if self.closed(transaction):
             return 0
         return sum(r["count"] for r, kind, _ in self.of(transaction) if kind == 0x81)
 
+    def counts_as_settled(self, request, kind):
+        """A settle's count does, and that of a granted reserve whose transaction a retire alone closed."""
+        if kind == 0x81:
+            transaction = self.transaction(request)
+            return self.is_retired(transaction) and not self.is_ended(transaction)
+        return kind == 0x83
+
     def settled(self, login, day):
         return sum(
             r["count"]
             for r, kind, _ in self.entries
-            if kind == 0x83 and r["login"] == login and self.day(r["at"]) == day
+            if kind in (0x81, 0x83) and r["login"] == login and self.day(r["at"]) == day and self.counts_as_settled(r, kind)
         )
 
     def reserved(self, login, day):
@@ -145,6 +165,8 @@ class Ledger:
 
     def answer(self, r):
         """The kind and the fields behind the id of the answer to a numbered request."""
+        if r["kind"] == RETIRE:
+            return 0x8f, b""
         if r["kind"] == 4:
             days = {self.day(e["at"]) for e, _, _ in self.entries if e["kind"] <= 3}
             for day in sorted(days):
@@ -187,6 +209,8 @@ class Ledger:
             page = sorted(logins)[:100]
             rows = b"".join(text(login) + self.row(login, r["day"]) for login in page)
             return b"\x8c" + number(r["day"]) + bytes([len(page)]) + rows
+        if self.is_retired(r["id"]):
+            return b"\x90" + id_bytes(r["id"])
         for stored, _, reply in self.entries:
             if stored["id"] == r["id"]:
                 return reply if stored == r else b"\x8a" + id_bytes(r["id"])

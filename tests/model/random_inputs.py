@@ -29,8 +29,8 @@ from ends import Server, World  # noqa: E402
 ANY_USAGE = frame(b"\x05" + text(b"u") + number(1))
 
 
-def id_of(dice):
-    return text(dice.choice([b"a", b"b", b"mx1.example.org"])) + dice.choice([1, 2]).to_bytes(8, "big")
+def id_of(dice, runs=(1, 2)):
+    return text(dice.choice([b"a", b"b", b"mx1.example.org"])) + dice.choice(runs).to_bytes(8, "big")
 
 
 class Times:
@@ -63,7 +63,7 @@ def transaction_of(dice, times):
 
 def body(dice, sequence, times):
     """A body that spells a request."""
-    kind = dice.choices([1, 2, 3, 4, 5, 6], [10, 5, 3, 3, 2, 1])[0]
+    kind = dice.choices([1, 2, 3, 4, 5, 6, 7], [20, 10, 6, 6, 4, 2, 1])[0]
     login = dice.choice([b"u", b"u", b"v", b"\xff\x00", b"uu"])
     seq = number(dice.randint(1, 4) if dice.random() < 0.1 else sequence)
     if kind <= 3:
@@ -75,7 +75,9 @@ def body(dice, sequence, times):
         return b"\x04" + id_of(dice) + seq + day + number(dice.choice([0, 1, 2, 5, 9, 1_000_000])) + text(login)
     if kind == 5:
         return b"\x05" + text(login) + number(dice.choice(times.days))
-    return b"\x06" + number(dice.choice(times.days)) + text(dice.choice([b"", b"u", b"t"]))
+    if kind == 6:
+        return b"\x06" + number(dice.choice(times.days)) + text(dice.choice([b"", b"u", b"t"]))
+    return b"\x07" + id_of(dice, runs=(1, 2, 2, 3)) + seq
 
 
 def spoil(dice, stream):
@@ -88,7 +90,7 @@ def spoil(dice, stream):
         return stream[:place] + bytes([dice.randrange(256)]) + stream[place + 1 :]
     if way == 2:
         return stream[:place] + bytes([dice.randrange(256)]) + stream[place:]
-    return stream + dice.choice([b"\x00", b"\x00\x00", b"\x02\x01", b"\x00\x01\x07"])
+    return stream + dice.choice([b"\x00", b"\x00\x00", b"\x02\x01", b"\x00\x01\x07", b"\x00\x01\x08"])
 
 
 def connections_of(dice, times=None):

@@ -11,18 +11,28 @@ COLUMNS = {
     "usage": "login, day, settled, reserved",
     "ceiling": "login, day, cap",
     "rule": "id, bytes",
+    "retired": "host, run",
 }
-KEYS = {"setting": "id", "answer": "n", "trans": "host, run, txn", "usage": "login, day", "ceiling": "login, day", "rule": "id"}
+KEYS = {
+    "setting": "id", "answer": "n", "trans": "host, run, txn", "usage": "login, day", "ceiling": "login, day", "rule": "id", "retired": "host",
+}
 
 
 def rows_in(path, tables=("setting", "answer", "trans", "usage", "ceiling")):
-    """The rows of these tables, each table's in the order of its key. A copy is read, so that the file stays as it is."""
+    """The rows of these tables, each table's in the order of its key."""
+    return answers_of(path, {table: f"SELECT {COLUMNS[table]} FROM {table} ORDER BY {KEYS[table]}" for table in tables})
+
+
+def answers_of(path, queries):
+    """What a file answers these queries. A copy is read, so that the file stays as it is."""
     copy = f"{path}.read"
     for end in ("", "-wal"):
         if os.path.exists(path + end):
             shutil.copy(path + end, copy + end)
+        elif os.path.exists(copy + end):
+            os.remove(copy + end)
     database = sqlite3.connect(copy)
-    found = {table: database.execute(f"SELECT {COLUMNS[table]} FROM {table} ORDER BY {KEYS[table]}").fetchall() for table in tables}
+    found = {name: database.execute(query).fetchall() for name, query in queries.items()}
     database.close()
     return found
 

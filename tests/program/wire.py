@@ -37,6 +37,10 @@ def limit(sequence, from_day, cap, login=b"u", **sender):
     return frame(b"\x04" + identity(sequence, **sender) + number(from_day) + number(cap) + text(login))
 
 
+def retire(sequence, **sender):
+    return frame(b"\x07" + identity(sequence, **sender))
+
+
 def usage(login=b"u", day=1):
     return frame(b"\x05" + text(login) + number(day))
 
@@ -59,6 +63,14 @@ def settled(sequence, count, **sender):
 
 def released(sequence, held, **sender):
     return frame(b"\x84" + identity(sequence, **sender) + number(held))
+
+
+def retired(sequence, **sender):
+    return frame(b"\x8f" + identity(sequence, **sender))
+
+
+def old(sequence, **sender):
+    return frame(b"\x90" + identity(sequence, **sender))
 
 
 def row(login, in_settled, in_reserved, cap):

@@ -5,7 +5,7 @@ import subprocess
 import sys
 import time
 
-from host import command, log_of, session, session_at, start_server, start_smtpd, stop
+from host import PROGRAM, ROOT, command, log_of, session, session_at, start_server, start_smtpd, stop
 
 ROWS = []
 # what u03's report says once the server was started again: it had sent to 2
@@ -203,10 +203,37 @@ def as_in_contrib():
         note("contrib: u01, recipients 1 to 3", " ".join(recipient(smtp, number)[:3] for number in (1, 2, 3)), "250 250 550")
         text, _ = command("report", "--server", f"{address}:7025", "--day", day())
         note("contrib: report", " ".join(text.split()), "0 2 2 u01")
-        smtp.quit()
+        smtpd = a_restart_retires(smtpd, address, host)
     finally:
         stop(smtpd)
         stop(server)
+
+
+def a_restart_retires(smtpd, address, host):
+    """smtpd is killed while a message is open, and started again as contrib's unit does it; the smtpd that runs then."""
+    def report():
+        return " ".join(command("report", "--server", f"{address}:7025", "--day", day())[0].split())
+
+    smtpd.kill()
+    smtpd.wait(timeout=10)
+    while subprocess.run(["pgrep", "-f", "mailquota filter"], capture_output=True).stdout:
+        time.sleep(0.05)
+    note("contrib: report behind a SIGKILL of smtpd", report(), "0 2 2 u01")
+    unit = (ROOT / "usr/local/share/examples/mailquota/smtpd-restart.conf").read_text()
+    [before_start] = [line for line in unit.splitlines() if line.startswith("ExecStartPre=-")]
+    words = before_start.removeprefix("ExecStartPre=-").split()
+    note("contrib: the program before each start of smtpd", words[0], PROGRAM)
+    note("contrib: what it prints", command(*words[1:])[0], "retired")
+    note("contrib: report then", report(), "2 0 2 u01")
+    smtpd = start_smtpd("/etc/mail/smtpd.conf", host, ports=(587,))
+    words = ["--server", f"{address}:7025", "--host", "admin", "--login", "u01", "--from", day(), "--cap", "3"]
+    note("contrib: limit of u01 set to 3", command("limit", *words)[0], "set")
+    smtp = session_at(587, "u01", host)
+    smtp.mail("a@quota.test")
+    note("contrib: u01 through the next filter, recipients 3 and 4", " ".join(recipient(smtp, number)[:3] for number in (3, 4)), "250 550")
+    note("contrib: report then", report(), "2 1 3 u01")
+    smtp.quit()
+    return smtpd
 
 
 def over(store):

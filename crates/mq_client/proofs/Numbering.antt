@@ -8,7 +8,7 @@ use Rattle.std.proofs.lemmas.Bool.{eq-eqb, eqb-true, ne_eqb}
 use Rattle.mq_frame.specs.Same.{same_text}
 use Rattle.mq_frame.specs.declared.message.Id.{Id}
 use Rattle.mq_frame.specs.declared.message.Request.{Request}
-use Rattle.mq_frame.specs.declared.message.Request.TheVariants.{Reserve, Settle, Release, Limit, Usage, List as ListRequest}
+use Rattle.mq_frame.specs.declared.message.Request.TheVariants.{Reserve, Settle, Release, Limit, Usage, List as ListRequest, Retire}
 use Rattle.mq_client.specs.Exchanges.{Exchange, decisions}
 use Rattle.mq_client.specs.Past.{Source, Action, Ask, Close, Drain, Step, Standing, Never, Live, Closed, View, view, after, after_close, held_by, held_for, opened, let_through, answer_of, id_of, reserve_of, is_commit, closing_of, is_other, refuses}
 use Rattle.mq_client.specs.Reading.{live_in, numbers_in, takes_number}
@@ -213,6 +213,7 @@ settles s P (Release id txn at login) i = tt
 settles s P (Limit id from_day cap login) i = tt
 settles s P (Usage login day) i = tt
 settles s P (ListRequest day after) i = tt
+settles s P (Retire id) i = tt
 
 -- each settle that was sent asks for what was let through
 pub all_settle : (s : Source) (n : ℕ) (P : List Step) → AreUnderway s n P → AllByRecursion (λ x. SettlesWhatWasLet P x.request) (exchanges_in P)

@@ -9,7 +9,7 @@ use Rattle.std.proofs.lemmas.List.Elements.{filter-append}
 use Rattle.mq_frame.specs.Same.{same_text, same_id, same_request}
 use Rattle.mq_frame.specs.declared.message.Id.{Id}
 use Rattle.mq_frame.specs.declared.message.Request.{Request}
-use Rattle.mq_frame.specs.declared.message.Request.TheVariants.{Reserve, Settle, Release, Limit, Usage, List as ListRequest}
+use Rattle.mq_frame.specs.declared.message.Request.TheVariants.{Reserve, Settle, Release, Limit, Usage, List as ListRequest, Retire}
 use Rattle.mq_client.specs.Exchanges.{Exchange, decisions}
 use Rattle.mq_client.specs.Turns.{queue_of, ComeInTurn, AreUnderway}
 use Rattle.mq_client.specs.Past.{Source, Action, Ask, Close, Drain, Step, View, view, after, after_close, held_by, held_for, reserve_of, closing_of}
@@ -29,6 +29,7 @@ seq_of (Release id txn at login) = id.seq
 seq_of (Limit id from_day cap login) = id.seq
 seq_of (Usage login day) = 0
 seq_of (ListRequest day after) = 0
+seq_of (Retire id) = id.seq
 
 abbrev IsClosing : Request → Type 0
 IsClosing (Settle id txn at login count) = Unit {0}
@@ -51,6 +52,7 @@ request_itself (Reserve id txn at login count) c = absurd c
 request_itself (Limit id from_day cap login) c = absurd c
 request_itself (Usage login day) c = absurd c
 request_itself (ListRequest day after) c = absurd c
+request_itself (Retire id) c = absurd c
 
 first_false : (a b : Bool) → a ≡ false → (a && b) ≡ false
 first_false true b e = let no : ⊥ = cc in absurd no
@@ -80,10 +82,13 @@ other_request (Usage login day) (Settle b txn' at' login' count') c h = refl
 other_request (Usage login day) (Release b txn' at' login') c h = refl
 other_request (ListRequest day after) (Settle b txn' at' login' count') c h = refl
 other_request (ListRequest day after) (Release b txn' at' login') c h = refl
+other_request (Retire a) (Settle b txn' at' login' count') c h = refl
+other_request (Retire a) (Release b txn' at' login') c h = refl
 other_request r (Reserve b txn' at' login' count') c h = absurd c
 other_request r (Limit b from_day cap login) c h = absurd c
 other_request r (Usage login day) c h = absurd c
 other_request r (ListRequest day after) c h = absurd c
+other_request r (Retire b) c h = absurd c
 
 -- a reserve is no closing
 reserve_other : (s : Source) (n txn at : ℕ) (login : List ℕ) (q : Request) → IsClosing q → same_request (reserve_of s n txn at login) q ≡ false
@@ -93,6 +98,7 @@ reserve_other s n txn at login (Reserve id txn' at' login' count) c = absurd c
 reserve_other s n txn at login (Limit id from_day cap login') c = absurd c
 reserve_other s n txn at login (Usage login' day) c = absurd c
 reserve_other s n txn at login (ListRequest day after) c = absurd c
+reserve_other s n txn at login (Retire id) c = absurd c
 
 closing_at : (s : Source) (n txn at count : ℕ) (login : List ℕ) (b : Bool) → let q = (if b then Settle (record { host = s.host; run = s.run; seq = n }) txn at login count else Release (record { host = s.host; run = s.run; seq = n }) txn at login) in IsClosing q × (seq_of q ≡ n)
 closing_at s n txn at count login true = (tt, refl)

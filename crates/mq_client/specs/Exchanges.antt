@@ -7,7 +7,7 @@ use Rattle.mq_frame.specs.declared.message.Request.{Request}
 use Rattle.mq_frame.specs.declared.message.Request.TheVariants.{Reserve, Settle, Release}
 use Rattle.mq_frame.specs.declared.message.Reply.{Reply}
 use Rattle.mq_frame.specs.declared.message.Reply.TheVariants.{Granted, Full, Settled, Released, Closed, Mismatch}
-use Rattle.mq_frame.specs.declared.message.Reply.TheVariants.{TooMany, Conflict}
+use Rattle.mq_frame.specs.declared.message.Reply.TheVariants.{TooMany, Conflict, Old}
 use Rattle.mq_frame.specs.Spelling.{SpellsReply, request_body, frame}
 use Rattle.mq_link.specs.declared.link.Outcome.{Outcome}
 use Rattle.mq_link.specs.declared.link.Outcome.TheVariants.{Answered, Faulted}
@@ -26,6 +26,7 @@ answers_reserve id (Full other used cap) = same_id id other
 answers_reserve id (Closed other) = same_id id other
 answers_reserve id (Mismatch other) = same_id id other
 answers_reserve id (Conflict other) = same_id id other
+answers_reserve id (Old other) = same_id id other
 answers_reserve id _ = false
 
 -- the kinds that answer a settle or a release, with its id
@@ -36,6 +37,7 @@ answers_closing id (Closed other) = same_id id other
 answers_closing id (Mismatch other) = same_id id other
 answers_closing id (TooMany other held) = same_id id other
 answers_closing id (Conflict other) = same_id id other
+answers_closing id (Old other) = same_id id other
 answers_closing id _ = false
 
 -- whether the reply decides the request

@@ -6,7 +6,7 @@ use Rattle.std.specs.Option.{option_map, option_or}
 use Rattle.mq_frame.specs.declared.message.Id.{Id}
 use Rattle.mq_frame.specs.declared.message.Request.{Request}
 use Rattle.mq_frame.specs.declared.message.Request.TheVariants.{Reserve, Settle, Release, Limit, Usage}
-use Rattle.mq_frame.specs.declared.message.Request.TheVariants.{List as ListRequest}
+use Rattle.mq_frame.specs.declared.message.Request.TheVariants.{List as ListRequest, Retire}
 use Rattle.mq_client.specs.Exchanges.{Exchange}
 use Rattle.mq_client.specs.Past.{Source, Action, Ask, Close, Drain, Step, Standing, Never, Live, Closed, View, view}
 use Rattle.mq_client.specs.Past.{id_of, reserve_of, closing_of}
@@ -22,6 +22,7 @@ id_in (Release id txn at login) = Some id
 id_in (Limit id from_day cap login) = Some id
 id_in (Usage login day) = None
 id_in (ListRequest day after) = None
+id_in (Retire id) = Some id
 
 -- the transaction that a request names
 abbrev pub txn_in : Request → Option ℕ

@@ -17,6 +17,7 @@ Says (reply.Closed id) v = v ≡ verdict.Closed
 Says (reply.Mismatch id) v = v ≡ verdict.Mismatch
 Says (reply.TooMany id held) v = v ≡ verdict.TooMany held
 Says (reply.Conflict id) v = v ≡ verdict.Conflict
+Says (reply.Old id) v = v ≡ verdict.Old
 Says _ v = ⊥
 
 -- a verdict is kept where a reply decided, and says what that says

@@ -23,6 +23,8 @@ pub enum Verdict {
     /// The server holds this many only.
     TooMany(u32),
     Conflict,
+    /// The run is retired.
+    Old,
 }
 
 /// Whether a reply carries this id.
@@ -43,6 +45,7 @@ fn reserve_verdict(id: &Id, reply: ReplyParts<'_>) -> Option<Verdict>
         ReplyParts::Closed { id } => (id, Verdict::Closed),
         ReplyParts::Mismatch { id } => (id, Verdict::Mismatch),
         ReplyParts::Conflict { id } => (id, Verdict::Conflict),
+        ReplyParts::Old { id } => (id, Verdict::Old),
         _ => return None,
     };
     if is_id(id, other) {
@@ -64,6 +67,7 @@ fn closing_verdict(id: &Id, reply: ReplyParts<'_>) -> Option<Verdict>
         ReplyParts::Mismatch { id } => (id, Verdict::Mismatch),
         ReplyParts::TooMany { id, held } => (id, Verdict::TooMany(held)),
         ReplyParts::Conflict { id } => (id, Verdict::Conflict),
+        ReplyParts::Old { id } => (id, Verdict::Old),
         _ => return None,
     };
     if is_id(id, other) {

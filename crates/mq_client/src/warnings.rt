@@ -45,7 +45,7 @@ impl fmt::Display for LimitReached<'_> {
 pub fn is_refusal(verdict: Verdict) -> bool {
     matches!(
         verdict,
-        Verdict::Closed | Verdict::Mismatch | Verdict::TooMany(_) | Verdict::Conflict
+        Verdict::Closed | Verdict::Mismatch | Verdict::TooMany(_) | Verdict::Conflict | Verdict::Old
     )
 }
 
@@ -73,6 +73,7 @@ impl fmt::Display for Refused<'_> {
             Verdict::Mismatch => "the transaction has another login or moment",
             Verdict::TooMany(held) => return write_too_many(f, self.request, held),
             Verdict::Conflict => "the number was used by another request",
+            Verdict::Old => "the run is retired",
             _ => return Ok(()),
         };
         write!(f, "{}: {why}", Named(self.request))

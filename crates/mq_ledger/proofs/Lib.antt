@@ -4,6 +4,7 @@ pub mod Clocks
 pub mod Entries
 pub mod Europe
 pub mod Firsts
+pub mod Floors
 pub mod Freeing
 pub mod Governing
 pub mod Keeping

@@ -5,10 +5,11 @@ use Rattle.std.proofs.lemmas.Bool.Decides.{nat_tests}
 use Rattle.std.proofs.lemmas.List.Elements.{filter-append}
 use Rattle.std.proofs.lemmas.List.Sums.{fold_push}
 use Rattle.mq_ledger.specs.declared.entry.Entry.{Entry}
-use Rattle.mq_ledger.specs.Limits.{from_of, cap_of, limits, later, latest, last_cap, cap, governs}
+use Rattle.mq_ledger.specs.Arrivals.{greater}
+use Rattle.mq_ledger.specs.Limits.{from_of, cap_of, limits, latest, last_cap, cap, governs}
 
-latest_push : (es : List Entry) (e : Entry) → latest (es ++ e ∷ []) ≡ later (latest es) (from_of e.request)
-latest_push es e = fold_push (λ m x. later m (from_of x.request)) 0 es e
+latest_push : (es : List Entry) (e : Entry) → latest (es ++ e ∷ []) ≡ greater (latest es) (from_of e.request)
+latest_push es e = fold_push (λ m x. greater m (from_of x.request)) 0 es e
 
 last_cap_push : (default : ℕ) (es : List Entry) (e : Entry) → last_cap default (es ++ e ∷ []) ≡ cap_of e.request
 last_cap_push default es e = fold_push (λ _ x. cap_of x.request) default es e

@@ -1,5 +1,5 @@
 -- The limit of a login on a day.
-use Rattle.std.specs.Prelude.{ℕ, List, filter, fold, Bool, false, ◌==◌, ◌&&◌, nat_lt, nat_le, if◌then◌else◌, Option}
+use Rattle.std.specs.Prelude.{ℕ, List, filter, fold, Bool, false, ◌==◌, ◌&&◌, nat_le, if◌then◌else◌, Option}
 use Rattle.std.specs.Prelude.{Some, None}
 use Rattle.mq_frame.specs.declared.message.Request.{Request}
 use Rattle.mq_frame.specs.declared.message.Request.TheVariants.{Limit}
@@ -7,6 +7,7 @@ use Rattle.mq_frame.specs.declared.message.Reply.{Reply}
 use Rattle.mq_frame.specs.declared.message.Reply.TheVariants.{LimitSet}
 use Rattle.mq_frame.specs.Same.{same_text}
 use Rattle.mq_ledger.specs.declared.entry.Entry.{Entry}
+use Rattle.mq_ledger.specs.Arrivals.{greater}
 
 -- a limit of the login that was set
 abbrev pub sets : List ℕ → Request → Reply → Bool
@@ -31,13 +32,9 @@ governs l d e = sets l e.request e.reply && nat_le (from_of e.request) d
 abbrev pub limits : List Entry → List ℕ → ℕ → List Entry
 limits H l d = filter (governs l d) H
 
--- the later of two days
-abbrev pub later : ℕ → ℕ → ℕ
-later a b = if nat_lt a b then b else a
-
 -- the greatest from-day of limits
 abbrev pub latest : List Entry → ℕ
-latest es = fold (λ m e. later m (from_of e.request)) 0 es
+latest es = fold (λ m e. greater m (from_of e.request)) 0 es
 
 -- the cap of the last of limits, or the default where there is none
 abbrev pub last_cap : ℕ → List Entry → ℕ

@@ -75,7 +75,8 @@ pub trait Ledger {
     /// Replies to a request.
     ///
     /// A number that comes again gets its stored reply, or `Conflict` where the request differs; so
-    /// a request may be sent until its reply comes.
+    /// a request may be sent until its reply comes. Once its run is retired it gets `Old`, and the
+    /// history stays as it is.
     fn apply(&mut self, request: &Request) -> Result<Reply, LedgerFault>
         requires { IsRequest request.now }
 

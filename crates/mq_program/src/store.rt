@@ -1,11 +1,11 @@
 //! The store of the server's ledger: opened, or made.
-ghost use Rattle.std.specs.Prelude.{◌≡◌, false, IsTrue, None, IfOk};
+ghost use Rattle.std.specs.Prelude.{◌≡◌, false, IsTrue, IfOk};
 ghost use Rattle.sqlite.specs.Held.{state};
 ghost use Rattle.sqlite.specs.State.{HasCleanDisk};
 ghost use Rattle.sqlite.specs.Steps.{over_memory};
 ghost use Rattle.mq_frame.specs.Range.{IsAmount};
 ghost use Rattle.mq_tables.specs.Making.{IsMadeOver};
-ghost use Rattle.mq_store.specs.Opening.{IsOpening, made_with};
+ghost use Rattle.mq_store.specs.Opening.{IsFound, Opens, made_with};
 ghost use Rattle.mq_store.specs.Soundness.{IsNew};
 
 use crate::fault::ProgramFault;
@@ -103,7 +103,8 @@ pub fn ledger_over<S: Alter + Drop>(
     ensures made { IsTrue create → IfOk result (λ ledger. HasCleanDisk (state S.Store ledger.connection)
         → IsMadeOver (made_with zone default) (state S.Store connection).now (state S.Store ledger.connection).now) }
     ensures opened { create ≡ false → IfOk result (λ ledger. HasCleanDisk (state S.Store ledger.connection)
-        → IsOpening S.Store zone default connection ledger.connection None) }
+        → Opens (IsFound S.Store zone default connection ledger.connection)
+        (state S.Store connection) (state S.Store ledger.connection)) }
 {
     if create {
         return Ok(SqlLedger::create(alloc, connection, zone, default)?);

@@ -1,5 +1,5 @@
 -- What tables mean as a ledger: a function of the tables alone.
-use Rattle.std.specs.Prelude.{ℕ, ℤ, List}
+use Rattle.std.specs.Prelude.{ℕ, List}
 use Rattle.std.specs.List.{filter_map}
 use Rattle.mq_frame.specs.Reading.{request_at}
 use Rattle.mq_frame.specs.declared.message.Request.{Request}

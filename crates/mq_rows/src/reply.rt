@@ -5,9 +5,10 @@ ghost use Rattle.mq_frame.specs.declared.message.Reply.{Reply as AnyReply};
 ghost use Rattle.mq_frame.specs.Range.{IsId, IsCount, IsAmount, IsRequest, IsReply};
 ghost use Rattle.mq_ledger.specs.Answer.{granted_or_full, settled_or_too_many};
 ghost use Rattle.mq_rows.specs.Plan.{agrees_with, is_closed, held_by, reserved_by, used_by, cap_by, if_row_open};
-ghost use Rattle.mq_rows.specs.Plan.{set_or_over_by, decided, moves, fits, fits_if_open, is_day_over, may_be_found};
+ghost use Rattle.mq_rows.specs.Plan.{set_or_over_by, decided, moves, fits_held, fits, fits_if_open, is_day_over, may_be_found};
 
 use crate::plan::Found;
+use crate::record::UsageRecord;
 use mq_frame::format::{AMOUNT_LIMIT, LAST_DAY};
 use mq_frame::{Id, Login, Reply, Request};
 use mq_ledger::LedgerFault;
@@ -21,6 +22,40 @@ fn amount(reserved: u32, settled: u32) -> Option<u32>
     match reserved.checked_add(settled) {
         Some(sum) if sum <= AMOUNT_LIMIT => Some(sum),
         _ => None,
+    }
+}
+
+/// What the login has reserved on the day.
+fn reserved(usage: &Option<UsageRecord>) -> u32
+    ensures { result ≡ reserved_by usage.now }
+{
+    match usage {
+        None => 0,
+        Some(row) => row.reserved,
+    }
+}
+
+/// What the login has used on the day, where that is in range.
+fn used(usage: &Option<UsageRecord>) -> Option<u32>
+    ensures { MatchOption result (1000000 < used_by usage.now)
+        (λ n. (n ≡ used_by usage.now) × (n ≤ 1000000)) }
+{
+    match usage {
+        None => Some(0),
+        Some(row) => amount(row.reserved, row.settled),
+    }
+}
+
+/// What the login has used on the day, where a legal history may have its row and a transaction that
+/// holds so many of it.
+pub(crate) fn fitting(held: u32, usage: &Option<UsageRecord>) -> Result<u32, LedgerFault>
+    ensures ok { IfOk result (λ n. (n ≡ used_by usage.now) × (n ≤ 1000000)
+        × (fits_held held usage.now ≡ true)) }
+    ensures err { IfErr result (λ _. fits_held held usage.now ≡ false) }
+{
+    match used(usage) {
+        Some(used) if held <= reserved(usage) => Ok(used),
+        _ => Err(LedgerFault::Store),
     }
 }
 
@@ -54,27 +89,6 @@ impl Found {
         }
     }
 
-    /// What the login has reserved on the day.
-    fn reserved(&self) -> u32
-        ensures { result ≡ reserved_by self.now.usage }
-    {
-        match &self.usage {
-            None => 0,
-            Some(row) => row.reserved,
-        }
-    }
-
-    /// What the login has used on the day, where that is in range.
-    fn used(&self) -> Option<u32>
-        ensures { MatchOption result (1000000 < used_by self.now.usage)
-            (λ n. (n ≡ used_by self.now.usage) × (n ≤ 1000000)) }
-    {
-        match &self.usage {
-            None => Some(0),
-            Some(row) => amount(row.reserved, row.settled),
-        }
-    }
-
     /// The limit that governs, or the default.
     fn cap(&self, default: u32) -> u32
         ensures { result ≡ cap_by default self.now.governing }
@@ -91,10 +105,7 @@ impl Found {
             × (fits self.now.transaction self.now.usage ≡ true)) }
         ensures err { IfErr result (λ _. fits self.now.transaction self.now.usage ≡ false) }
     {
-        match self.used() {
-            Some(used) if self.held() <= self.reserved() => Ok(used),
-            _ => Err(LedgerFault::Store),
-        }
+        fitting(self.held(), &self.usage)
     }
 
     /// Whether the transaction is open to a request of that moment and login.
@@ -264,6 +275,7 @@ impl Found {
             Request::Release { id, at, login, .. } => self.release_reply(id, *at, login),
             Request::Limit { id, .. } => self.limit_reply(id),
             Request::Usage { .. } | Request::List { .. } => Ok(Reply::Bad),
+            Request::Retire { id } => Ok(Reply::Retired { id: id.clone()? }),
         }
     }
 }

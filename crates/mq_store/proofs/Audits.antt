@@ -18,7 +18,6 @@ use Rattle.mq_tables.specs.Figures.{HasFigures, WholeTransaction, whole_cells, u
 use Rattle.mq_tables.specs.Ledger.{HasLedger}
 use Rattle.mq_tables.specs.Records.{bit}
 use Rattle.mq_store.specs.Auditing.{IsAuditIn, IsAuditOf, IsRightAnswer}
-use Rattle.mq_store.specs.Taking.{HasBook}
 
 abbrev whole_of : TransactionRecord → WholeTransaction
 whole_of t = record { host = t.host; run = pos t.run; txn = pos t.txn; figures = transaction_figures t; closed = pos (bit t.closed) }
@@ -46,11 +45,10 @@ right_by zone default f (Wrong login day) right is =
     let so = subst (λ q. is_right (day_of zone) default f q ≡ true) there.2 (one_of_all (λ q. is_right (day_of zone) default f q ≡ true) (pairs f) right there.0 _ there.1) in
     absurd (cc (so, is.wrong))
 
-pub book_is_right : (b : Book) (db : Database) (a : Audit)
-    → ((c : Book) (t : Tables) (f : Figures) → IsLegalBook c → AreRows c t → IsPermutation (figures t).usage f.usage → IsPermutation (figures t).transactions f.transactions → IsPermutation (figures t).limits f.limits
+pub book_is_right : (b : Book) (t : Tables) (db : Database) (a : Audit)
+    → ((c : Book) (u : Tables) (f : Figures) → IsLegalBook c → AreRows c u → IsPermutation (figures u).usage f.usage → IsPermutation (figures u).transactions f.transactions → IsPermutation (figures u).limits f.limits
     → AllByRecursion (λ p. is_right (day_of c.zone) c.default f p ≡ true) (pairs f))
-    → HasBook b db → IsAuditIn b.zone b.default db a → IsRightAnswer a
-book_is_right b db a law has audited =
-    let t : Tables = has.has.tables in
-    let it : IsAuditOf b.zone b.default (figures t) a = audited.of_all (figures t) (has_figures db t has.has.holds) in
-    right_by b.zone b.default it.read a (law b t it.read has.legal has.has.rows it.same.usage it.same.transactions it.same.limits) it.audited
+    → IsLegalBook b → HasLedger db t → AreRows b t → IsAuditIn b.zone b.default db a → IsRightAnswer a
+book_is_right b t db a law legal holds rows audited =
+    let it : IsAuditOf b.zone b.default (figures t) a = audited.of_all (figures t) (has_figures db t holds) in
+    right_by b.zone b.default it.read a (law b t it.read legal rows it.same.usage it.same.transactions it.same.limits) it.audited

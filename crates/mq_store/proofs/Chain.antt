@@ -17,6 +17,12 @@ survives_three a b c d one two three = survives_both a c d (survives_both a b c 
 pub keeps_three : (a b c d : State) → Survives b c (λ _. ⊥) → Survives c d (λ _. ⊥) → (HasCleanDisk b → KeepsCommit a b) → (HasCleanDisk c → KeepsCommit b c) → (HasCleanDisk d → KeepsCommit c d) → HasCleanDisk d → KeepsCommit a d
 keeps_three a b c d later last one two three = keeps_both a c d last (keeps_both a b c later one two) three
 
+pub survives_four : (a b c d e : State) → Survives a b (λ _. ⊥) → Survives b c (λ _. ⊥) → Survives c d (λ _. ⊥) → Survives d e (λ _. ⊥) → Survives a e (λ _. ⊥)
+survives_four a b c d e one two three four = survives_both a d e (survives_three a b c d one two three) four
+
+pub keeps_four : (a b c d e : State) → Survives b c (λ _. ⊥) → Survives c d (λ _. ⊥) → Survives d e (λ _. ⊥) → (HasCleanDisk b → KeepsCommit a b) → (HasCleanDisk c → KeepsCommit b c) → (HasCleanDisk d → KeepsCommit c d) → (HasCleanDisk e → KeepsCommit d e) → HasCleanDisk e → KeepsCommit a e
+keeps_four a b c d e two' three' four' one two three four = keeps_both a d e four' (keeps_three a b c d two' three' one two three) four
+
 pub stays_both : (a b c : State) → Stays a b → Stays b c → Stays a c
 stays_both a b c one two = record { now = two.now ∙ one.now; inside = two.inside ∙ one.inside }
 

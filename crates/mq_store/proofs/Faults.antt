@@ -1,31 +1,82 @@
 -- The fault of what was read of our rows.
-use Rattle.std.proofs.Common.{◌≡◌, inl, inr, ℕ, List, Option, Some, None, Result, Ok, Err, refl, ap, sym, subst, ◌∙◌}
+use Rattle.std.proofs.Common.{◌≡◌, ◌⊎◌, inl, inr, ℕ, Bool, true, false, List, Option, Some, None, Result, Ok, Err, refl, ap, sym, subst, ◌∙◌}
+use Rattle.std.specs.Prelude.{Vec, OnOk, IsTrue}
+use Rattle.std.specs.declared.alloc.Global.{Global}
+use Rattle.sqlite_trees.specs.declared.store.Store.{Ghosts}
+use Rattle.sqlite.specs.Effect.{Database}
+use Rattle.sqlite.specs.Held.{Held, state}
 use Rattle.sqlite.specs.Order.{Row}
-use Rattle.sqlite.specs.State.{store_error}
+use Rattle.sqlite.specs.Schema.{Schema}
+use Rattle.sqlite.specs.State.{State}
 use Rattle.sqlite.specs.declared.error.Error.{Error}
-use Rattle.sqlite_trees.specs.declared.error.StoreError.{StoreError}
 use Rattle.sqlite_trees.specs.declared.error.StoreError.TheVariants.{OutOfMemory, Io, Corrupt, Full, Broken, Unstorable}
 use Rattle.mq_ledger.specs.declared.zone.Zone.{Zone}
 use Rattle.mq_tables.specs.declared.setting.Setting.{Setting}
+use Rattle.mq_tables.specs.Floors.{AreFloorsOf}
+use Rattle.mq_tables.specs.Ledger.{HasRule}
+use Rattle.mq_tables.specs.Making.{has_later_table}
 use Rattle.mq_tables.specs.Settings.{SettingRow, IsRuleOf, shown_of}
 use Rattle.mq_tables.specs.Settings as settings
-use Rattle.mq_tables.specs.Reading.{Spares}
-use Rattle.sqlite.specs.State.{State}
-use Rattle.mq_store.specs.Opening.{fault_of, fault_in, fault_by_rule, IsOf}
+use Rattle.mq_tables.specs.Reading.{IsRuleRead, AreFloorsRead, Spares}
+use Rattle.mq_store.specs.declared.fault.OpenFault.{OpenFault}
+use Rattle.mq_store.specs.declared.fault.OpenFault.TheVariants.{NotOurs, Memory, Store}
+use Rattle.mq_store.specs.Opening.{fault_of, fault_in, fault_by_rule, fault_by_any_rule, fault_by_floors, if_none, known_version, IsJudgedCurrent, IsRuled, IsFaultOf, IsStopped, IsOf}
 
 -- memory or the disk stopped the reading
-pub of_store : (zone : Zone) (default : ℕ) (s : SettingRow) (rule : Option (List ℕ)) (e : Error) (cause : StoreError) → e ≡ store_error cause → IsOf zone default s rule (Some (fault_of e))
-of_store zone default s rule e OutOfMemory is = rw is (inr (inl refl))
-of_store zone default s rule e Io is = rw is (inr (inr refl))
-of_store zone default s rule e Corrupt is = rw is (inr (inr refl))
-of_store zone default s rule e Full is = rw is (inr (inr refl))
-of_store zone default s rule e Broken is = rw is (inr (inr refl))
-of_store zone default s rule e Unstorable is = rw is (inr (inr refl))
+pub of_store : (zone : Zone) (default : ℕ) (s : SettingRow) (rule : Option (List ℕ)) (e : Error) → settings.IsStop e → IsFaultOf zone default s rule (Some (fault_of e))
+of_store zone default s rule e (OutOfMemory, is) = rw is (inr (inl refl))
+of_store zone default s rule e (Io, is) = rw is (inr (inr refl))
+of_store zone default s rule e (Corrupt, is) = rw is (inr (inr refl))
+of_store zone default s rule e (Full, is) = rw is (inr (inr refl))
+of_store zone default s rule e (Broken, is) = rw is (inr (inr refl))
+of_store zone default s rule e (Unstorable, is) = rw is (inr (inr refl))
 
--- the settings were read, and then the row of the rule
-pub of_rule : (zone : Zone) (default : ℕ) (s : SettingRow) (setting : Setting) (text : List ℕ) (read : Result Row Error) → shown_of s ≡ setting → IsRuleOf text read → IsOf zone default s (Some text) (fault_by_rule zone default setting read)
-of_rule zone default s setting text (Ok row) shown is = inl (ap (λ r. fault_by_rule zone default setting (Ok r)) is ∙ ap (λ x. fault_in zone default x (Some text)) (sym shown))
-of_rule zone default s setting text (Err e) shown stopped = of_store zone default s (Some text) e stopped.0 stopped.1
+module _ (zone : Zone) (default : ℕ) (s : SettingRow) (setting : Setting) (shown : shown_of s ≡ setting) where
+  -- the settings were read, and then the row of the rule, which there is
+  pub of_rule : (text : List ℕ) (read : Result Row Error) → IsRuleOf (Some text) read → IsFaultOf zone default s (Some text) (fault_by_rule zone default setting read)
+  of_rule text (Ok row) is = inl (ap (λ r. fault_by_rule zone default setting (Ok r)) is ∙ ap (λ x. fault_in zone default x (Some text)) (sym shown))
+  of_rule text (Err e) stopped = of_store zone default s (Some text) e stopped
+
+  pub of_ruled : (db : Database) (rule : Option (List ℕ)) (read : Result Row Error) → IsRuled db rule → ((known : Option (List ℕ)) → HasRule db known → IsRuleOf known read) → IsFaultOf zone default s rule (fault_by_rule zone default setting read)
+  of_ruled db None read has is = absurd has
+  of_ruled db (Some text) read has is = of_rule text read (is (Some text) has)
+
+  -- the same where there may be none
+  stopped_any : (rule : Option (List ℕ)) (e : Error) → settings.IsStop e → IsFaultOf zone default s rule (fault_by_any_rule zone default setting (Err e))
+  stopped_any rule e (OutOfMemory, is) = rw is (inr (inl refl))
+  stopped_any rule e (Io, is) = rw is (inr (inr refl))
+  stopped_any rule e (Corrupt, is) = rw is (inr (inr refl))
+  stopped_any rule e (Full, is) = rw is (inr (inr refl))
+  stopped_any rule e (Broken, is) = rw is (inr (inr refl))
+  stopped_any rule e (Unstorable, is) = rw is (inr (inr refl))
+
+  pub of_any_rule : (rule : Option (List ℕ)) (read : Result Row Error) → IsRuleOf rule read → IsFaultOf zone default s rule (fault_by_any_rule zone default setting read)
+  of_any_rule None (Ok row) is = absurd is
+  of_any_rule None (Err e) (inl is) = rw is (inl (ap (λ x. fault_in zone default x None) (sym shown)))
+  of_any_rule None (Err e) (inr stopped) = stopped_any None e stopped
+  of_any_rule (Some text) (Ok row) is = of_rule text (Ok row) is
+  of_any_rule (Some text) (Err e) stopped = stopped_any (Some text) e stopped
+
+-- a fault that was found in the floors stopped the reading
+pub of_floors : (zone : Zone) (default : ℕ) (s : SettingRow) (rule : Option (List ℕ)) (read : Result (Vec Row Global) Error) (f : OpenFault) → AreFloorsOf read → fault_by_floors read ≡ Some f → IsFaultOf zone default s rule (Some f)
+of_floors zone default s rule (Ok rows) f are is = absurd (let none : fault_by_floors (Ok rows) ≡ None = rw are refl in let both : ◌≡◌ {A = Option OpenFault} None (Some f) = sym none ∙ is in cc)
+of_floors zone default s rule (Err e) f stopped is = subst (IsFaultOf zone default s rule) is (of_store zone default s rule e stopped)
+
+-- what was judged behind the floors
+module _ {S : Type 0} (g : Ghosts S) (zone : Zone) (default : ℕ) (s : Setting) where
+  pub judged_some : (old new : Held S) (floors : Result (Vec Row Global) Error) (f : OpenFault) → AreFloorsRead (state g old) (state g new) floors → fault_by_floors floors ≡ Some f → IsJudgedCurrent g zone default s old new (Some f)
+  judged_some old new floors f read is = record { floors = floors; between = new; are_read = read; judged = rw is (refl, refl) }
+
+  pub judged_none : (old mid new : Held S) (floors : Result (Vec Row Global) Error) (rule : Result Row Error) (fault : Option OpenFault) → AreFloorsRead (state g old) (state g mid) floors → fault_by_floors floors ≡ None → IsRuleRead (state g mid) (state g new) rule
+      → fault ≡ fault_by_any_rule zone default s rule → IsJudgedCurrent g zone default s old new fault
+  judged_none old mid new floors rule fault read is rule_read judged = record { floors = floors; between = mid; are_read = read; judged = rw is (rule, rule_read, judged) }
+
+pub floors_open : (read : Result (Vec Row Global) Error) {Open : Type 0} → fault_by_floors read ≡ None → OnOk read Open → Open
+floors_open (Ok rows) is is_open = is_open
+floors_open (Err e) is is_open = absurd cc
+
+pub has_rule_behind : (a b : State) (rule : Option (List ℕ)) → Spares a b → IsTrue b.is_open → HasRule a.now rule → HasRule b.now rule
+has_rule_behind a b rule spares is_open has = subst (λ db. HasRule db rule) (sym (spares.now is_open)) has
 
 -- what was read of the settings
 
@@ -37,9 +88,36 @@ pub read_none : (s : SettingRow) (found : Option Setting) → settings.IsOf s (O
 read_none s found (inl is) none = absurd cc
 read_none s found (inr stopped) none = absurd stopped
 
-pub read_err : (zone : Zone) (default : ℕ) (s : SettingRow) (rule : Option (List ℕ)) (e : Error) → settings.IsOf s (Err e) → IsOf zone default s rule (Some (fault_of e))
-read_err zone default s rule e (inl is) = absurd cc
-read_err zone default s rule e (inr stopped) = of_store zone default s rule e stopped.0 stopped.1
+stopped_so : (f : OpenFault) → (Some f ≡ Some Memory) ⊎ (Some f ≡ Some Store) → IsStopped (Err f)
+stopped_so f (inl is) = inl (let same : f ≡ Memory = cc in ap Err same)
+stopped_so f (inr is) = inr (let same : f ≡ Store = cc in ap Err same)
+
+stops : (e : Error) → settings.IsStop e → IsStopped (Err (fault_of e))
+stops e (OutOfMemory, is) = rw is (inl refl)
+stops e (Io, is) = rw is (inr refl)
+stops e (Corrupt, is) = rw is (inr refl)
+stops e (Full, is) = rw is (inr refl)
+stops e (Broken, is) = rw is (inr refl)
+stops e (Unstorable, is) = rw is (inr refl)
+
+pub read_err : (zone : Zone) (default : ℕ) (schema : Schema) (s : SettingRow) (rule : Option (List ℕ)) (e : Error) → settings.IsOf s (Err e) → IsOf zone default schema s rule (Err (fault_of e))
+read_err zone default schema s rule e (inl is) = absurd cc
+read_err zone default schema s rule e (inr stopped) = inr (stops e stopped)
+
+-- ---- by the version
+
+pub of_known : (zone : Zone) (default : ℕ) (schema : Schema) (s : SettingRow) (rule : Option (List ℕ)) (version : ℕ) (fault : Option OpenFault) → known_version s.version ≡ Some version → has_later_table version schema ≡ false → IsFaultOf zone default s rule fault
+    → IsOf zone default schema s rule (if_none version fault)
+of_known zone default schema s rule version fault known free (inl is) = inl (ap (if_none version) is ∙ rw (known, free) refl)
+of_known zone default schema s rule version (Some f) known free (inr stopped) = inr (stopped_so f stopped)
+of_known zone default schema s rule version None known free (inr (inl stopped)) = absurd cc
+of_known zone default schema s rule version None known free (inr (inr stopped)) = absurd cc
+
+pub of_later : (zone : Zone) (default : ℕ) (schema : Schema) (s : SettingRow) (rule : Option (List ℕ)) (version : ℕ) → known_version s.version ≡ Some version → has_later_table version schema ≡ true → IsOf zone default schema s rule (Err NotOurs)
+of_later zone default schema s rule version known taken = inl (rw (known, taken) refl)
+
+pub of_unknown : (zone : Zone) (default : ℕ) (schema : Schema) (s : SettingRow) (rule : Option (List ℕ)) → known_version s.version ≡ None → IsOf zone default schema s rule (Err NotOurs)
+of_unknown zone default schema s rule unknown = inl (rw unknown refl)
 
 -- one reading behind another
 pub spares_both : (a b c : State) → Spares a b → Spares b c → Spares a c

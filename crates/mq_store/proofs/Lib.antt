@@ -1,5 +1,6 @@
 pub mod Chain
 pub mod Crashes
+pub mod Versions
 pub mod Faults
 pub mod Firsts
 pub mod Keyed
@@ -8,4 +9,7 @@ pub mod Writing
 pub mod Audits
 pub mod Figured
 pub mod Openings
+pub mod Opened
 pub mod Recovery
+pub mod Closings
+pub mod Clearings

@@ -1,14 +1,19 @@
--- What is found behind the settings of a store.
-use Rattle.std.proofs.Common.{◌≡◌, inr, refl, sym, subst}
-use Rattle.std.specs.Prelude.{ℕ, Option, Some, None, Result, Ok, Err, IsTrue, IfOk, OnOk}
+-- What is found of a store, one check behind another, and what becomes of it.
+use Rattle.std.proofs.Common.{◌≡◌, ◌⊎◌, inl, inr, true, false, nat_le, refl, ap, sym, subst, ◌∙◌}
+use Rattle.std.specs.Prelude.{ℕ, Bool, Option, Some, None, Result, Ok, Err, IsTrue, IfOk, OnOk, IfErr}
+use Rattle.sqlite.specs.Effect.{Database}
 use Rattle.sqlite.specs.State.{State}
+use Rattle.sqlite.specs.Tree.{Trees}
 use Rattle.mq_ledger.specs.declared.ledger.LedgerFault.{LedgerFault}
 use Rattle.mq_ledger.specs.declared.zone.Zone.{Zone}
 use Rattle.mq_rows.specs.declared.audited.Audit.{Audit}
+use Rattle.mq_tables.specs.Ledger.{Since}
+use Rattle.mq_tables.specs.Migrating.{IsMigrated, AreMigrated}
 use Rattle.mq_tables.specs.Reading.{Spares}
 use Rattle.mq_store.specs.declared.fault.OpenFault.{OpenFault}
 use Rattle.mq_store.specs.Auditing.{IsAuditIn}
-use Rattle.mq_store.specs.Opening.{audit_fault, IsChecked, IsInTurn}
+use Rattle.mq_store.specs.Opening.{audit_fault, if_none, IsChecked, IsInTurn, IsBroughtUp, IsLeftOlder, Opens, Refuses}
+use Rattle.mq_store.proofs.Faults.{spares_both}
 
 -- an audit behind a reading that wrote nothing is one of the rows before it
 checked : (zone : Zone) (default : ℕ) (old mid : State) (found : Result Audit LedgerFault) → Spares old mid → OnOk found (IsTrue mid.is_open) → IfOk found (IsAuditIn zone default mid.now)
@@ -16,12 +21,43 @@ checked : (zone : Zone) (default : ℕ) (old mid : State) (found : Result Audit 
 checked zone default old mid (Ok a) spares is_open is_audit = record { found = Ok a; is_audit = subst (λ db. IsAuditIn zone default db a) (spares.now is_open) is_audit; fault_is = refl }
 checked zone default old mid (Err e) spares is_open is_audit = record { found = Err e; is_audit = tt; fault_is = refl }
 
-in_turn : (First Second : Option OpenFault → Type 0) (fault : Option OpenFault) → First None → Second fault → IsInTurn First Second fault
-in_turn First Second None first second = (first, second)
-in_turn First Second (Some f) first second = inr (first, second)
+in_turn : (First : Result ℕ OpenFault → Type 0) (Second : Option OpenFault → Type 0) (version : ℕ) (fault : Option OpenFault) → First (Ok version) → Second fault → IsInTurn First Second (if_none version fault)
+in_turn First Second version None first second = (first, second)
+in_turn First Second version (Some f) first second = inr (version, first, second)
 
 -- the settings are this ledger's, and behind them the audit found this
-pub audited_behind : (zone : Zone) (default : ℕ) (old mid : State) (First : Option OpenFault → Type 0) (found : Result Audit LedgerFault) (fault : Option OpenFault) → fault ≡ audit_fault found → First None → Spares old mid
-    → OnOk found (IsTrue mid.is_open) → IfOk found (IsAuditIn zone default mid.now) → IsInTurn First (IsChecked zone default old.now) fault
-audited_behind zone default old mid First found fault is first spares is_open is_audit =
-    in_turn First (IsChecked zone default old.now) fault first (subst (IsChecked zone default old.now) (sym is) (checked zone default old mid found spares is_open is_audit))
+pub audited_behind : (zone : Zone) (default : ℕ) (old mid : State) (First : Result ℕ OpenFault → Type 0) (version : ℕ) (found : Result Audit LedgerFault) (r : Result ℕ OpenFault) → r ≡ if_none version (audit_fault found) → First (Ok version)
+    → Spares old mid → OnOk found (IsTrue mid.is_open) → IfOk found (IsAuditIn zone default mid.now) → IsInTurn First (IsChecked zone default old.now) r
+audited_behind zone default old mid First version found r is first spares is_open is_audit =
+    subst (IsInTurn First (IsChecked zone default old.now)) (sym is) (in_turn First (IsChecked zone default old.now) version (audit_fault found) first (checked zone default old mid found spares is_open is_audit))
+
+-- what becomes of a store behind a reading that wrote nothing becomes of it before that
+module _ (version : ℕ) (a b c : State) (spares : Spares a b) where
+  pub up_behind : (nat_le 3 version ≡ false → IsTrue b.is_open) → IsBroughtUp version b c → IsBroughtUp version a c
+  up_behind is_open up = go (nat_le 3 version) is_open up
+    where
+      go : (is : Bool) → (is ≡ false → IsTrue b.is_open) → Since is (Spares b c) (IsMigrated (nat_le 2 version) b.now c.now × ((db : Trees) → c.may_leave db → db ≡ c.now.trees))
+          → Since is (Spares a c) (IsMigrated (nat_le 2 version) a.now c.now × ((db : Trees) → c.may_leave db → db ≡ c.now.trees))
+      go true is_open up = spares_both a b c spares up
+      go false is_open up = (subst (λ (db : Database). IsMigrated (nat_le 2 version) db c.now) (spares.now (is_open refl)) up.0, up.1)
+
+  pub left_behind : (f : OpenFault) → (IsTrue c.is_open → IsTrue b.is_open) → IsLeftOlder version b c f → IsLeftOlder version a c f
+  left_behind f was_open left = record {
+    older = left.older;
+    fault = left.fault;
+    now = λ o. left.now o ∙ spares.now (was_open o);
+    crash = λ db may. elim (left.crash db may) [
+      | inl was ↦ inl (spares.crash db was)
+      | inr made ↦ inr (spares.was_open made.0, subst (λ (x : Database). AreMigrated (nat_le 2 version) x db) (spares.now made.0) made.1)
+    ];
+  }
+
+-- the ledger was found, and then brought up or not
+module _ {X : Type 0} (Found : Result ℕ OpenFault → Type 0) (version : ℕ) (a b c : State) (found : Found (Ok version)) (spares : Spares a b) where
+  pub opens_behind : (r : Result X OpenFault) → OnOk r (nat_le 3 version ≡ false → IsTrue b.is_open) → OnOk r (IsBroughtUp version b c) → OnOk r (Opens Found a c)
+  opens_behind (Ok x) is_open up = (version, found, up_behind version a b c spares is_open up)
+  opens_behind (Err f) is_open up = tt
+
+  pub refuses_behind : (r : Result X OpenFault) → (IsTrue c.is_open → IsTrue b.is_open) → IfErr r (IsLeftOlder version b c) → IfErr r (Refuses Found a c)
+  refuses_behind (Ok x) was_open left = tt
+  refuses_behind (Err f) was_open left = inr (version, found, left_behind version a b c spares f was_open left)

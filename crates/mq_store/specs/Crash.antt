@@ -1,5 +1,5 @@
--- What an open may find where a crash comes behind a request.
-use Rattle.std.specs.Prelude.{◌≡◌, ◌⊎◌, ℕ, List, true, false}
+-- What an open may find where a crash comes behind a request, or behind another open.
+use Rattle.std.specs.Prelude.{◌≡◌, ◌⊎◌, ℕ, nat_le, List, true, false}
 use Rattle.sqlite.specs.Effect.{Database, IsDatabase}
 use Rattle.sqlite.specs.State.{State}
 use Rattle.sqlite.specs.Tree.{Trees}
@@ -9,6 +9,9 @@ use Rattle.mq_ledger.specs.declared.entry.Entry.{Entry}
 use Rattle.mq_ledger.specs.declared.zone.Zone.{Zone}
 use Rattle.mq_ledger.specs.Arrivals.{is_first}
 use Rattle.mq_ledger.specs.History.{requests}
+use Rattle.mq_ledger.specs.Legal.{Book}
+use Rattle.mq_tables.specs.Ledger.{Since}
+use Rattle.mq_store.specs.Soundness.{HasStored}
 use Rattle.mq_store.specs.Taking.{HasBook, book_of, book_after, Applies}
 
 -- These trees are what the whole call leaves that gives this reply: where the rows were those of a legal
@@ -56,3 +59,11 @@ abbrev pub FindsEither : Zone → ℕ → Request → State → State → Type 0
 FindsEither zone default r old new =
     (H : List Entry) → HasBook (book_of zone default H) old.now
     → FindsOnly new (λ db. old.may_leave db.trees ⊎ HasBook (book_after zone default H r) db)
+
+-- behind an open of a ledger of an older version: its rows in the current version; of the current version: what could be
+-- found before
+abbrev pub FindsOpened : State → State → Type 0
+FindsOpened old new =
+    (b : Book) (has : HasStored b old.now)
+    → Since (nat_le 3 has.tables.setting.version) ((db : Trees) → new.may_leave db → old.may_leave db)
+    (FindsOnly new (HasBook b))

@@ -1,16 +1,20 @@
 -- What `open` answers to what the store answers.
-use Rattle.std.specs.Prelude.{◌≡◌, ◌⊎◌, ℕ, ℤ, pos, List, Bool, true, false, ◌&&◌, ◌||◌, bytes_eq, if◌then◌else◌, Option}
-use Rattle.std.specs.Prelude.{Some, None, Result, Ok, Err, IfOk}
+use Rattle.std.specs.Prelude.{◌≡◌, ◌⊎◌, ℕ, ℤ, pos, nat_le, List, Bool, true, false, ◌&&◌, bytes_eq, if◌then◌else◌}
+use Rattle.std.specs.Prelude.{Option, Some, None, Result, Ok, Err, Vec, IsTrue, IfOk}
+use Rattle.std.specs.declared.alloc.Global.{Global}
 use Rattle.std.specs.Ordering.{int_eq}
 use Rattle.sqlite_trees.specs.declared.store.Store.{Ghosts}
 use Rattle.sqlite.specs.Effect.{Database}
 use Rattle.sqlite.specs.Held.{Held, state}
 use Rattle.sqlite.specs.Order.{Row}
+use Rattle.sqlite.specs.Schema.{Schema}
+use Rattle.sqlite.specs.State.{State}
+use Rattle.sqlite.specs.Tree.{Trees}
 use Rattle.sqlite.specs.declared.error.ErrorCode.{ErrorCode}
 use Rattle.sqlite.specs.declared.error.ErrorCode.TheVariants.{OutOfMemory, SystemIoFailure, DatabaseCorrupt, DiskFull}
 use Rattle.sqlite.specs.declared.error.ErrorCode.TheVariants.{Closed, TooBig}
 use Rattle.sqlite.specs.declared.error.Error.{Error}
-use Rattle.sqlite.specs.declared.error.Error.TheVariants.{SqliteFailure}
+use Rattle.sqlite.specs.declared.error.Error.TheVariants.{SqliteFailure, QueryReturnedNoRows}
 use Rattle.mq_ledger.specs.declared.zone.Zone.{Zone}
 use Rattle.mq_ledger.specs.Day.{minutes_in, rule_in}
 use Rattle.mq_ledger.specs.declared.ledger.LedgerFault.{LedgerFault}
@@ -19,8 +23,13 @@ use Rattle.mq_rows.specs.declared.audited.Audit.{Audit}
 use Rattle.mq_rows.specs.declared.audited.Audit.TheVariants.{Sound, Wrong}
 use Rattle.mq_tables.specs.declared.setting.Setting.{Setting}
 use Rattle.mq_tables.specs.declared.setting.NewSetting.{NewSetting}
-use Rattle.mq_tables.specs.Reading.{IsRead, IsRuleRead}
-use Rattle.mq_tables.specs.Settings.{SettingRow, HasSetting, HasRule, shown_of, rule_text_of}
+use Rattle.mq_rows.specs.declared.record.RetiredRecord.{RetiredRecord}
+use Rattle.mq_tables.specs.Floors.{are_floors}
+use Rattle.mq_tables.specs.Ledger.{HasRule, HasFloors, Since}
+use Rattle.mq_tables.specs.Making.{has_later_table}
+use Rattle.mq_tables.specs.Migrating.{IsMigrated, AreMigrated}
+use Rattle.mq_tables.specs.Reading.{IsRead, IsRuleRead, AreFloorsRead, Spares}
+use Rattle.mq_tables.specs.Settings.{SettingRow, HasSetting, shown_of, rule_text_of}
 use Rattle.mq_store.specs.declared.fault.OpenFault.{OpenFault}
 use Rattle.mq_store.specs.declared.fault.OpenFault.TheVariants.{NotOurs, ZoneDiffers, DefaultDiffers, Damaged}
 use Rattle.mq_store.specs.declared.fault.OpenFault.TheVariants.{Memory, Store}
@@ -50,13 +59,10 @@ abbrev pub fault_of : Error → OpenFault
 fault_of (SqliteFailure c) = fault_of_code c
 fault_of _ = NotOurs
 
--- whether there are ledgers whose tables have this version
-abbrev pub is_known : ℤ → Bool
-is_known version = int_eq version (pos 1) || int_eq version (pos 2)
-
--- whether tables of this version have one for the rule
-abbrev pub has_rule_table : ℤ → Bool
-has_rule_table version = int_eq version (pos 2)
+-- the version, where a ledger's tables may have it
+abbrev pub known_version : ℤ → Option ℕ
+known_version v =
+    if int_eq v (pos 1) then Some 1 else (if int_eq v (pos 2) then Some 2 else (if int_eq v (pos 3) then Some 3 else None))
 
 -- neither has a rule, or the rules have the same bytes
 abbrev pub same_rule : Option (List ℕ) → Option (List ℕ) → Bool
@@ -65,12 +71,10 @@ same_rule (Some text) (Some other) = bytes_eq text other
 same_rule None (Some other) = false
 same_rule (Some text) None = false
 
--- version, zone and default, checked in this order, where the zone is the same or isn't
+-- zone and default, checked in this order, where the zone is the same or isn't
 abbrev pub fault_where : Bool → ℕ → Setting → Option OpenFault
 fault_where is_zone default s =
-    if is_known s.version
-    then (if is_zone then (if int_eq s.cap (pos default) then None else Some DefaultDiffers) else Some ZoneDiffers)
-    else Some NotOurs
+    if is_zone then (if int_eq s.cap (pos default) then None else Some DefaultDiffers) else Some ZoneDiffers
 
 -- the same where the store keeps this rule, or none
 abbrev pub fault_in : Zone → ℕ → Setting → Option (List ℕ) → Option OpenFault
@@ -82,50 +86,134 @@ abbrev pub fault_by_text : Zone → ℕ → Setting → Option (List ℕ) → Op
 fault_by_text zone default s None = Some NotOurs
 fault_by_text zone default s (Some text) = fault_in zone default s (Some text)
 
--- the same by what is read of the rule
+-- the same by what is read of the rule, which there must be
 abbrev pub fault_by_rule : Zone → ℕ → Setting → Result Row Error → Option OpenFault
 fault_by_rule zone default s (Ok row) = fault_by_text zone default s (rule_text_of row)
 fault_by_rule zone default s (Err e) = Some (fault_of e)
 
--- the fault is that of these settings; where their version has a table for the rule, it is read behind them
-abbrev pub IsJudgedBy : {S : Type 0} (g : Ghosts S) → Bool → Zone → ℕ → Setting → Held S → Held S → Option OpenFault
-    → Type 0
-IsJudgedBy g true zone default s old new fault =
+-- the same where there may be none
+abbrev pub fault_by_any_rule : Zone → ℕ → Setting → Result Row Error → Option OpenFault
+fault_by_any_rule zone default s (Err QueryReturnedNoRows) = fault_in zone default s None
+fault_by_any_rule zone default s read = fault_by_rule zone default s read
+
+-- what is read of the floors isn't floors
+abbrev pub fault_by_floors : Result (Vec Row Global) Error → Option OpenFault
+fault_by_floors (Ok rows) = if are_floors rows.items then None else Some NotOurs
+fault_by_floors (Err e) = Some (fault_of e)
+
+-- the version, where nothing is found against it
+abbrev pub if_none : ℕ → Option OpenFault → Result ℕ OpenFault
+if_none version None = Ok version
+if_none version (Some f) = Err f
+
+-- What is read behind the settings, by their version.
+
+-- the rule is read, unless there is a fault already
+abbrev pub IsJudgedBehind : {S : Type 0} (g : Ghosts S) → Option OpenFault → Zone → ℕ → Setting → Held S → Held S
+    → Option OpenFault → Type 0
+IsJudgedBehind g (Some f) zone default s old new fault = (new ≡ old) × (fault ≡ Some f)
+IsJudgedBehind g None zone default s old new fault =
+    (rule : Result Row Error) × IsRuleRead (state g old) (state g new) rule
+    × (fault ≡ fault_by_any_rule zone default s rule)
+
+-- version 3: the floors are read, and behind them the rule
+pub record IsJudgedCurrent {S : Type 0} (g : Ghosts S) (zone : Zone) (default : ℕ) (s : Setting) (old new : Held S)
+    (fault : Option OpenFault) : Type 0 where
+  pub floors : Result (Vec Row Global) Error
+  pub between : Held S
+  pub are_read : AreFloorsRead (state g old) (state g between) floors
+  pub judged : IsJudgedBehind g (fault_by_floors floors) zone default s between new fault
+
+-- version 2: the rule is read
+abbrev pub IsJudgedRuled : {S : Type 0} (g : Ghosts S) → Zone → ℕ → Setting → Held S → Held S → Option OpenFault → Type 0
+IsJudgedRuled g zone default s old new fault =
     (rule : Result Row Error) × IsRuleRead (state g old) (state g new) rule
     × (fault ≡ fault_by_rule zone default s rule)
-IsJudgedBy g false zone default s old new fault = (new ≡ old) × (fault ≡ fault_in zone default s None)
 
--- the fault is that of what was read of the settings
+-- version 1: nothing is read
+abbrev pub IsJudgedPlain : {S : Type 0} → Zone → ℕ → Setting → Held S → Held S → Option OpenFault → Type 0
+IsJudgedPlain zone default s old new fault = (new ≡ old) × (fault ≡ fault_in zone default s None)
+
+abbrev pub IsJudgedBy : {S : Type 0} (g : Ghosts S) → ℕ → Zone → ℕ → Setting → Held S → Held S → Option OpenFault
+    → Type 0
+IsJudgedBy g version zone default s old new fault =
+    Since (nat_le 3 version) (IsJudgedCurrent g zone default s old new fault)
+    (Since (nat_le 2 version) (IsJudgedRuled g zone default s old new fault) (IsJudgedPlain zone default s old new fault))
+
+-- so it is, unless a table has a name of a later version
+abbrev pub IsJudgedUnless : {S : Type 0} (g : Ghosts S) → Bool → ℕ → Zone → ℕ → Setting → Held S → Held S
+    → Result ℕ OpenFault → Type 0
+IsJudgedUnless g true version zone default s old new r = (new ≡ old) × (r ≡ Err NotOurs)
+IsJudgedUnless g false version zone default s old new r =
+    (fault : Option OpenFault) × IsJudgedBy g version zone default s old new fault × (r ≡ if_none version fault)
+
+-- so it is of a version that is known
+abbrev pub IsJudgedAs : {S : Type 0} (g : Ghosts S) → Option ℕ → Zone → ℕ → Setting → Held S → Held S
+    → Result ℕ OpenFault → Type 0
+IsJudgedAs g None zone default s old new r = (new ≡ old) × (r ≡ Err NotOurs)
+IsJudgedAs g (Some version) zone default s old new r =
+    IsJudgedUnless g (has_later_table version (state g old).now.schema) version zone default s old new r
+
+-- so it is by what was read of the settings
 abbrev pub IsJudgedAfter : {S : Type 0} (g : Ghosts S) → Zone → ℕ → Result (Option Setting) Error → Held S → Held S
-    → Option OpenFault → Type 0
-IsJudgedAfter g zone default (Ok (Some s)) old new fault =
-    IsJudgedBy g (has_rule_table s.version) zone default s old new fault
-IsJudgedAfter g zone default (Ok None) old new fault = (new ≡ old) × (fault ≡ Some NotOurs)
-IsJudgedAfter g zone default (Err e) old new fault = (new ≡ old) × (fault ≡ Some (fault_of e))
+    → Result ℕ OpenFault → Type 0
+IsJudgedAfter g zone default (Ok (Some s)) old new r = IsJudgedAs g (known_version s.version) zone default s old new r
+IsJudgedAfter g zone default (Ok None) old new r = (new ≡ old) × (r ≡ Err NotOurs)
+IsJudgedAfter g zone default (Err e) old new r = (new ≡ old) × (r ≡ Err (fault_of e))
 
--- the settings are read, and behind them the rule where there is a table for it; the fault is that of what was read
+-- the settings are read, and behind them what their version has; the answer is the version, or why it isn't this ledger
 pub record IsJudged {S : Type 0} (g : Ghosts S) (zone : Zone) (default : ℕ) (old new : Held S)
-    (fault : Option OpenFault) : Type 0 where
+    (r : Result ℕ OpenFault) : Type 0 where
   pub read : Result (Option Setting) Error
   pub between : Held S
   pub is_read : IsRead (state g old) (state g between) read
-  pub judged : IsJudgedAfter g zone default read between new fault
+  pub judged : IsJudgedAfter g zone default read between new r
 
--- the store holds this of a rule: where there is a table for it, its row; else there is none
-abbrev pub HoldsRule : Bool → Database → Option (List ℕ) → Type 0
-HoldsRule true db (Some text) = HasRule db text
-HoldsRule true db None = ⊥
-HoldsRule false db rule = rule ≡ None
+-- What the rows decide where the tables are ours.
 
--- our table of settings is there, at some place, with this row, and so is that of the rule where its version has one
+-- the table of the rule has a row
+abbrev pub IsRuled : Database → Option (List ℕ) → Type 0
+IsRuled db None = ⊥
+IsRuled db (Some text) = HasRule db (Some text)
+
+-- the tables of rule and floors are there
+abbrev pub HasCurrent : Database → Option (List ℕ) → Type 0
+HasCurrent db rule = HasRule db rule × ((floors : List RetiredRecord) × HasFloors db floors)
+
+-- the tables of this version are there, with this rule or with none
+abbrev pub HoldsVersion : ℕ → Database → Option (List ℕ) → Type 0
+HoldsVersion version db rule =
+    Since (nat_le 3 version) (HasCurrent db rule) (Since (nat_le 2 version) (IsRuled db rule) (rule ≡ None))
+
+abbrev pub HoldsKnown : Option ℕ → Database → Option (List ℕ) → Type 0
+HoldsKnown None db rule = rule ≡ None
+HoldsKnown (Some version) db rule = HoldsVersion version db rule
+
+-- our table of settings is there, at some place, with this row, and so are those for rule and floors where its version
+-- has them
 pub record HasSettings (db : Database) (s : SettingRow) (rule : Option (List ℕ)) : Type 0 where
   pub setting : HasSetting db s
-  pub rule_is : HoldsRule (has_rule_table s.version) db rule
+  pub later : HoldsKnown (known_version s.version) db rule
 
 -- the fault is that of these rows, or memory or the disk stopped the reading
-abbrev pub IsOf : Zone → ℕ → SettingRow → Option (List ℕ) → Option OpenFault → Type 0
-IsOf zone default s rule fault =
+abbrev pub IsFaultOf : Zone → ℕ → SettingRow → Option (List ℕ) → Option OpenFault → Type 0
+IsFaultOf zone default s rule fault =
     (fault ≡ fault_in zone default (shown_of s) rule) ⊎ ((fault ≡ Some Memory) ⊎ (fault ≡ Some Store))
+
+-- the version, or why it isn't this ledger
+abbrev pub judged_as : Option ℕ → Zone → ℕ → Schema → Setting → Option (List ℕ) → Result ℕ OpenFault
+judged_as None zone default schema s rule = Err NotOurs
+judged_as (Some version) zone default schema s rule =
+    if has_later_table version schema then Err NotOurs else if_none version (fault_in zone default s rule)
+
+-- memory or the disk stopped the reading
+abbrev pub IsStopped : Result ℕ OpenFault → Type 0
+IsStopped r = (r ≡ Err Memory) ⊎ (r ≡ Err Store)
+
+-- the answer is that of these rows, or memory or the disk stopped the reading
+abbrev pub IsOf : Zone → ℕ → Schema → SettingRow → Option (List ℕ) → Result ℕ OpenFault → Type 0
+IsOf zone default schema s rule r =
+    (r ≡ judged_as (known_version s.version) zone default schema (shown_of s) rule) ⊎ IsStopped r
 
 -- What an audit finds behind the settings.
 
@@ -146,25 +234,49 @@ pub record IsChecked (zone : Zone) (default : ℕ) (db : Database) (fault : Opti
   pub is_audit : IfOk found (IsAuditIn zone default db)
   pub fault_is : fault ≡ audit_fault found
 
--- What `open` answers is what the first of two checks finds; where it finds nothing, what the second does.
-abbrev pub IsInTurn : (Option OpenFault → Type 0) → (Option OpenFault → Type 0) → Option OpenFault → Type 0
-IsInTurn First Second None = First None × Second None
-IsInTurn First Second (Some f) = First (Some f) ⊎ (First None × Second (Some f))
+-- The first of two checks finds a version, and the second nothing; or the first that finds a fault tells it.
+abbrev pub IsInTurn : (Result ℕ OpenFault → Type 0) → (Option OpenFault → Type 0) → Result ℕ OpenFault → Type 0
+IsInTurn First Second (Ok version) = First (Ok version) × Second None
+IsInTurn First Second (Err f) = First (Err f) ⊎ ((version : ℕ) × First (Ok version) × Second (Some f))
 
 -- the settings are judged so: by an answer that was the last, or by one behind which the connection went on
-abbrev pub IsSettled : {S : Type 0} (g : Ghosts S) → Zone → ℕ → Held S → Held S → Option OpenFault → Type 0
-IsSettled {S} g zone default old new None =
-    (read : Held S) × IsJudged g zone default old read None
-IsSettled g zone default old new (Some f) = IsJudged g zone default old new (Some f)
+abbrev pub IsSettled : {S : Type 0} (g : Ghosts S) → Zone → ℕ → Held S → Held S → Result ℕ OpenFault → Type 0
+IsSettled {S} g zone default old new (Ok version) = (read : Held S) × IsJudged g zone default old read (Ok version)
+IsSettled g zone default old new (Err f) = IsJudged g zone default old new (Err f)
 
--- first what the store answers to the queries for settings and rule, then an audit of its rows
-abbrev pub IsOpening : {S : Type 0} (g : Ghosts S) → Zone → ℕ → Held S → Held S → Option OpenFault → Type 0
-IsOpening g zone default old new =
+-- first what the store answers to the queries for settings, floors and rule, then an audit of its rows
+abbrev pub IsFound : {S : Type 0} (g : Ghosts S) → Zone → ℕ → Held S → Held S → Result ℕ OpenFault → Type 0
+IsFound g zone default old new =
     IsInTurn (IsSettled g zone default old new) (IsChecked zone default (state g old).now)
 
 -- first the rows of settings and rule, then an audit of the rows
-abbrev pub IsOpeningOf : Zone → ℕ → Database → SettingRow → Option (List ℕ) → Option OpenFault → Type 0
-IsOpeningOf zone default db s rule = IsInTurn (IsOf zone default s rule) (IsChecked zone default db)
+abbrev pub IsFoundOf : Zone → ℕ → Database → SettingRow → Option (List ℕ) → Result ℕ OpenFault → Type 0
+IsFoundOf zone default db s rule = IsInTurn (IsOf zone default db.schema s rule) (IsChecked zone default db)
+
+-- What becomes of a store that is found to be this ledger.
+
+-- a ledger of the current version is left as it is; an older one is given that version, and a crash leaves it so
+abbrev pub IsBroughtUp : ℕ → State → State → Type 0
+IsBroughtUp version old new =
+    Since (nat_le 3 version) (Spares old new)
+    (IsMigrated (nat_le 2 version) old.now new.now × ((db : Trees) → new.may_leave db → db ≡ new.now.trees))
+
+-- an older one wasn't given the current version: a crash leaves what it left before, or it has that version
+pub record IsLeftOlder (version : ℕ) (old new : State) (f : OpenFault) : Type 0 where
+  pub older : nat_le 3 version ≡ false
+  pub fault : (f ≡ Memory) ⊎ (f ≡ Store)
+  pub now : IsTrue new.is_open → new.now ≡ old.now
+  pub crash : (db : Trees) → new.may_leave db
+      → old.may_leave db ⊎ (IsTrue old.is_open × AreMigrated (nat_le 2 version) old.now db)
+
+-- this version was found, and the ledger brought up to the current one
+abbrev pub Opens : (Result ℕ OpenFault → Type 0) → State → State → Type 0
+Opens Found old new = (version : ℕ) × Found (Ok version) × IsBroughtUp version old new
+
+-- this fault was found, and nothing written; or an older version was found, and not brought up
+abbrev pub Refuses : (Result ℕ OpenFault → Type 0) → State → State → OpenFault → Type 0
+Refuses Found old new f =
+    (Found (Err f) × Spares old new) ⊎ ((version : ℕ) × Found (Ok version) × IsLeftOlder version old new f)
 
 -- Of a request or an audit.
 

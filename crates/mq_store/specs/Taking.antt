@@ -1,5 +1,5 @@
 -- What a request does to the tables of a ledger.
-use Rattle.std.specs.Prelude.{◌≡◌, ℕ, List, [], ◌∷◌, ◌++◌, Bool, true, false, Option, Some, None, is_some}
+use Rattle.std.specs.Prelude.{◌≡◌, ℕ, List, [], ◌∷◌, ◌++◌, Bool, true, false, Option, Some, None}
 use Rattle.sqlite.specs.Effect.{Database}
 use Rattle.sqlite.specs.State.{State}
 use Rattle.mq_frame.specs.declared.message.Id.{Id}
@@ -7,25 +7,26 @@ use Rattle.mq_frame.specs.declared.message.Request.{Request}
 use Rattle.mq_frame.specs.declared.message.Reply.{Reply}
 use Rattle.mq_ledger.specs.declared.entry.Entry.{Entry}
 use Rattle.mq_ledger.specs.declared.zone.Zone.{Zone}
-use Rattle.mq_ledger.specs.Answer.{appended, history_of, reply, stored}
+use Rattle.mq_ledger.specs.Answer.{appended, history_of, known_by, reply}
 use Rattle.mq_ledger.specs.Arrivals.{is_first}
 use Rattle.mq_ledger.specs.Day.{day_of}
 use Rattle.mq_ledger.specs.History.{requests}
 use Rattle.mq_ledger.specs.Legal.{Book, IsLegalBook}
 use Rattle.mq_rows.specs.declared.plan.Plan.{Plan}
-use Rattle.mq_rows.specs.Plan.{Leads, same_key, set_transaction, same_day, set_usage, same_from, set_ceiling}
+use Rattle.mq_rows.specs.Plan.{Leads, same_from, set_ceiling, same_host, set_run}
 use Rattle.mq_rows.specs.Rows.{IsSetting, answer_rows}
-use Rattle.mq_rows.specs.Tables.{Tables, AreTransactions, AreUsage, AreCeilings, AreRows}
-use Rattle.mq_rows.specs.Written.{LeadTo}
-use Rattle.mq_tables.specs.Ledger.{HasLedger}
+use Rattle.mq_rows.specs.Tables.{Tables, AreCeilings, AreRetired, AreRows}
+use Rattle.mq_rows.specs.Written.{MovesLead, LeadTo}
+use Rattle.mq_tables.specs.Ledger.{HasLedger, IsCurrent}
 use Rattle.mq_store.specs.declared.take.Taken.{Taken}
 use Rattle.mq_store.specs.declared.take.Taken.TheVariants.{Read, Written}
 
--- the tables are the rows of this book
+-- the tables are the rows of this book, in the version that a ledger has once it is opened
 pub record HasRows (b : Book) (db : Database) : Type 0 where
   pub tables : Tables
   pub holds : HasLedger db tables
   pub rows : AreRows b tables
+  pub current : IsCurrent tables
 
 -- they are, and the book is legal
 pub record HasBook (b : Book) (db : Database) : Type 0 where
@@ -44,12 +45,12 @@ pub record Stays (old new : State) : Type 0 where
 
 -- The settings and the answers are those of the book, and the planned writes lead to its other rows.
 pub record RowsLead (b : Book) (t : Tables) (p : Plan) : Type 0 where
+  pub current : IsCurrent t
   pub setting : IsSetting b t.setting
   pub answers : t.answers ≡ answer_rows b.history
-  pub transactions :
-      Leads same_key set_transaction p.transaction t.transactions (AreTransactions (day_of b.zone) b.history)
-  pub usage : Leads same_day set_usage p.usage t.usage (AreUsage (day_of b.zone) b.history)
+  pub moves : MovesLead b p t.transactions t.usage
   pub ceilings : Leads same_from set_ceiling p.ceiling t.ceilings (AreCeilings b.history)
+  pub retired : Leads same_host set_run p.retired t.retired (AreRetired b.history)
 
 -- where the planned writes of those rows lead to a book, the tables are its rows
 abbrev pub MovesRows : Plan → Database → Database → Type 0
@@ -57,14 +58,14 @@ MovesRows p old new = (b : Book) (t : Tables) → HasLedger old t → RowsLead b
 
 -- where the plan leads to a book, the tables are its rows
 abbrev pub WritesPlan : Plan → Database → Database → Type 0
-WritesPlan p old new = (b : Book) (t : Tables) → HasLedger old t → LeadTo b t p → HasRows b new
+WritesPlan p old new = (b : Book) (t : Tables) → HasLedger old t → IsCurrent t → LeadTo b t p → HasRows b new
 
 -- What is replied and written, whatever the history is of which the tables are the rows.
 
--- the number is new, or the reply is the ledger's
+-- the number is new, or it is known and the reply is the ledger's: its run is below the floor, or it is stored
 abbrev pub IsKnown : Zone → ℕ → List Entry → Request → Id → Option Reply → Type 0
-IsKnown zone default H r id None = stored H id ≡ None
-IsKnown zone default H r id (Some a) = (is_some (stored H id) ≡ true) × (a ≡ reply (day_of zone) default H r)
+IsKnown zone default H r id None = known_by H (Some id) ≡ false
+IsKnown zone default H r id (Some a) = (known_by H (Some id) ≡ true) × (a ≡ reply (day_of zone) default H r)
 
 -- the plan's reply is the ledger's, and its writes lead to the history with the request
 abbrev pub IsPlannedOver : Zone → ℕ → List Entry → Request → Tables → Plan → Type 0
@@ -75,7 +76,7 @@ IsPlannedOver zone default H r t p =
 -- so it is where the number is new
 abbrev pub IsPlanned : Zone → ℕ → Request → Id → Database → Plan → Type 0
 IsPlanned zone default r id db p =
-    (H : List Entry) (b : HasBook (book_of zone default H) db) → stored H id ≡ None
+    (H : List Entry) (b : HasBook (book_of zone default H) db) → known_by H (Some id) ≡ false
     → IsPlannedOver zone default H r b.has.tables p
 
 -- the book whose history is that of one more arrival
@@ -90,7 +91,7 @@ AppliesOver zone default H r a new =
 -- so it is where the number is new
 abbrev pub AppliesNew : Zone → ℕ → Request → Id → Reply → Database → Database → Type 0
 AppliesNew zone default r id a old new =
-    (H : List Entry) → HasBook (book_of zone default H) old → stored H id ≡ None
+    (H : List Entry) → HasBook (book_of zone default H) old → known_by H (Some id) ≡ false
     → AppliesOver zone default H r a new
 
 -- so it is for any request

@@ -1,11 +1,13 @@
 ghost use Rattle.std.specs.Prelude.{◌≡◌, ◌&&◌, Some, None};
 ghost use Rattle.std.specs.Ordering.{int_eq};
 ghost use Rattle.mq_ledger.specs.Day.{minutes_in, rule_in};
-ghost use Rattle.mq_store.specs.Opening.{fault_of, fault_of_code, fault_in, fault_where, fault_by_rule, is_known};
-ghost use Rattle.mq_store.specs.Opening.{same_rule, ledger_fault, open_fault};
+ghost use Rattle.mq_store.specs.Opening.{fault_of, fault_of_code, fault_in, fault_where, fault_by_rule};
+ghost use Rattle.mq_store.specs.Opening.{fault_by_any_rule, fault_by_floors, known_version, same_rule, create_fault};
+ghost use Rattle.mq_store.specs.Opening.{ledger_fault, open_fault};
 
 use mq_frame::{Escaped, Login};
 use mq_ledger::{LedgerFault, Zone};
+use mq_tables::floor::are_floors;
 use mq_tables::rule::rule_of;
 use mq_tables::setting::Setting;
 use sqlite::{Alter, Connection, Error, ErrorCode, Row};
@@ -16,8 +18,9 @@ use thiserror::Error as Described;
 /// the first that applies is told.
 #[derive(Debug, Drop, PartialEq, Described)]
 pub enum OpenFault {
-    /// To make: a table of one of the ledger's names is there. To open: the row of settings, or that of the
-    /// rule where its version has one, can't be read, or isn't there, or the version is another.
+    /// To make: a table of one of the ledger's names is there. To open: the row of settings can't be read or
+    /// isn't there, or its version is none of a ledger's; what its version has for rule and floors can't be read,
+    /// or isn't there; or a table has a name that only a later version has.
     #[error("store is not this ledger")]
     NotOurs,
     /// It was made with another zone: with another offset, with another rule, or with one in place of
@@ -69,10 +72,16 @@ pub(crate) fn fault_of(error: &Error) -> OpenFault
     }
 }
 
-fn is_known(version: i64) -> bool
-    ensures { result ≡ is_known version }
+/// The version, where a ledger's tables may have it.
+pub(crate) fn known_version(version: i64) -> Option<u32>
+    ensures { result ≡ known_version version }
 {
-    version == 1 || version == 2
+    match version {
+        1 => Some(1),
+        2 => Some(2),
+        3 => Some(3),
+        _ => None,
+    }
 }
 
 fn has_no_rule(zone: &Zone) -> bool
@@ -109,9 +118,6 @@ fn is_zone_with_rule(zone: &Zone, setting: &Setting, text: &[u8]) -> bool
 fn fault_where(is_zone: bool, default: u32, setting: &Setting) -> Option<OpenFault>
     ensures { result ≡ fault_where is_zone default setting.now }
 {
-    if !is_known(setting.version) {
-        return Some(OpenFault::NotOurs);
-    }
     if !is_zone {
         return Some(OpenFault::ZoneDiffers);
     }
@@ -135,7 +141,7 @@ fn fault_with_rule(zone: Zone, default: u32, setting: &Setting, text: &[u8]) -> 
     fault_where(is_zone_with_rule(&zone, setting, text), default, setting)
 }
 
-/// The same where the rule reads so.
+/// The same where the rule, which there must be, reads so.
 pub(crate) fn fault_by_rule(
     zone: Zone,
     default: u32,
@@ -153,6 +159,32 @@ pub(crate) fn fault_by_rule(
     }
 }
 
+/// The same where there may be no rule.
+pub(crate) fn fault_by_any_rule(
+    zone: Zone,
+    default: u32,
+    setting: &Setting,
+    rule: &Result<Row, Error>,
+) -> Option<OpenFault>
+    ensures { result ≡ fault_by_any_rule zone default setting.now rule.now }
+{
+    match rule {
+        Err(Error::QueryReturnedNoRows) => fault_without_rule(zone, default, setting),
+        _ => fault_by_rule(zone, default, setting, rule),
+    }
+}
+
+/// Why a ledger isn't opened where its floors read so.
+pub(crate) fn fault_by_floors(floors: &Result<Vec<Row>, Error>) -> Option<OpenFault>
+    ensures { result ≡ fault_by_floors floors.now }
+{
+    match floors {
+        Ok(rows) if are_floors(rows.as_slice()) => None,
+        Ok(_) => Some(OpenFault::NotOurs),
+        Err(error) => Some(fault_of(error)),
+    }
+}
+
 /// Why a ledger isn't opened where its audit is stopped so.
 pub(crate) fn open_fault(fault: LedgerFault) -> OpenFault
     ensures { result ≡ open_fault fault }
@@ -160,6 +192,16 @@ pub(crate) fn open_fault(fault: LedgerFault) -> OpenFault
     match fault {
         LedgerFault::Memory => OpenFault::Memory,
         LedgerFault::Store => OpenFault::Store,
+    }
+}
+
+/// What a refusal to make tables is answered by.
+pub(crate) fn create_fault(error: &Error) -> OpenFault
+    ensures { result ≡ create_fault error.now }
+{
+    match error {
+        Error::SqliteFailure(ErrorCode::OutOfMemory) => OpenFault::Memory,
+        _ => OpenFault::Store,
     }
 }
 

@@ -1,17 +1,18 @@
 //! Laws that lead from what was read and written to the ledger's history. Each function does
 //! nothing: its contract is the law.
-ghost use Rattle.std.specs.Prelude.{◌≡◌, ◌≤◌, ◌⊎◌, ◌+◌, ℕ, List, [], ◌∷◌, ◌++◌, true, false, Option, Some, None, is_some};
+ghost use Rattle.std.specs.Prelude.{◌≡◌, ◌≤◌, ◌⊎◌, ◌+◌, ℕ, List, [], ◌∷◌, ◌++◌, true, false, Option, Some, None};
 ghost use Rattle.sqlite.specs.Effect.{Database};
 ghost use Rattle.mq_frame.specs.declared.message.Id.{Id};
 ghost use Rattle.mq_frame.specs.declared.message.Request.{Request as AnyRequest};
 ghost use Rattle.mq_frame.specs.declared.message.Reply.{Reply as AnyReply};
+ghost use Rattle.mq_frame.specs.declared.message.Reply.TheVariants.{Old};
 ghost use Rattle.mq_frame.specs.declared.usage.UsageRow.{UsageRow as AnyUsageRow};
 ghost use Rattle.mq_frame.specs.Range.{IsRequest};
 ghost use Rattle.mq_frame.specs.Same.{same_id};
 ghost use Rattle.mq_ledger.specs.declared.entry.Entry.{Entry as AnyEntry};
 ghost use Rattle.mq_ledger.specs.declared.zone.Zone.{Zone as AnyZone};
-ghost use Rattle.mq_ledger.specs.Answer.{appended, reply, stored};
-ghost use Rattle.mq_ledger.specs.Arrivals.{id_of, is_first};
+ghost use Rattle.mq_ledger.specs.Answer.{appended, known_by, reply};
+ghost use Rattle.mq_ledger.specs.Arrivals.{id_of, floor, is_below, is_first};
 ghost use Rattle.mq_ledger.specs.Day.{day_of};
 ghost use Rattle.mq_ledger.specs.History.{requests};
 ghost use Rattle.mq_ledger.specs.Page.{row};
@@ -20,14 +21,16 @@ ghost use Rattle.mq_rows.specs.declared.audited.Audit.{Audit as AnyAudit};
 ghost use Rattle.mq_rows.specs.declared.record.AnswerRecord.{AnswerRecord};
 ghost use Rattle.mq_rows.specs.declared.record.UsageRecord.{UsageRecord};
 ghost use Rattle.mq_rows.specs.declared.record.CeilingRecord.{CeilingRecord};
+ghost use Rattle.mq_rows.specs.declared.record.RetiredRecord.{RetiredRecord};
 ghost use Rattle.mq_rows.specs.declared.plan.Found.{Found};
 ghost use Rattle.mq_rows.specs.Found.{IsFound, IsGoverning};
-ghost use Rattle.mq_rows.specs.Plan.{planned};
+ghost use Rattle.mq_rows.specs.Plan.{floor_by, planned};
 ghost use Rattle.mq_rows.specs.Listing.{IsNext, page_row_by, usage_reply_by};
-ghost use Rattle.mq_rows.specs.Rows.{is_usage};
+ghost use Rattle.mq_rows.specs.Rows.{is_usage, is_host};
 ghost use Rattle.mq_rows.specs.Repeat.{IsRepeatOf};
 ghost use Rattle.mq_rows.specs.Tables.{Tables, AreRows};
 ghost use Rattle.mq_tables.specs.Finding.{AreKeyed};
+ghost use Rattle.mq_tables.specs.Ledger.{HasLedger};
 ghost use Rattle.mq_tables.specs.Records.{IsOneOf};
 ghost use Rattle.mq_store.specs.Paging.{IsNextRow, IsPageOf, IsBegunIn};
 ghost use Rattle.mq_store.specs.Auditing.{IsAuditIn, IsRightAnswer};
@@ -36,22 +39,38 @@ ghost use Rattle.mq_store.specs.Taking.{HasRows, HasBook, book_of, book_after, I
 
 use mq_ledger::laws::replies_in_range;
 use mq_rows::laws::{
-    histories_are_right, nothing_is_added, one_more_answer, pages_go_by_login,
+    floors_are_found, histories_are_right, nothing_is_added, one_more_answer, pages_go_by_login,
     repeats_are_answered, rows_by_key, rows_mean_their_history, usage_is_answered,
 };
 
-/// A number without a row is new, and by a row the reply is the ledger's.
+/// The row of a host has its floor, which is 0 where it has none.
+pub(crate) fn floors_are_known()
+    ensures { (zone : AnyZone) (default : ℕ) (H : List AnyEntry) (db : Database)
+        (b : HasBook (book_of zone default H) db) (h : List ℕ) (found : Option RetiredRecord) →
+        IsOneOf (is_host h) b.has.tables.retired found → floor_by found ≡ floor (requests H) h }
+{
+    rows_by_key();
+    floors_are_found();
+}
+
+/// A number whose run is below the floor is old. Of any other one without a row is new, and by a row
+/// the reply is the ledger's.
 pub(crate) fn numbers_are_known()
+    ensures old { (zone : AnyZone) (default : ℕ) (H : List AnyEntry) (r : AnyRequest) (id : Id) →
+        id_of r ≡ Some id → is_below (requests H) id ≡ true →
+        IsKnown zone default H r id (Some (Old id)) }
     ensures new { (zone : AnyZone) (default : ℕ) (H : List AnyEntry) (r : AnyRequest) (id : Id)
         (db : Database) (b : HasBook (book_of zone default H) db) → IsRequest r → id_of r ≡ Some id →
+        is_below (requests H) id ≡ false →
         IsOneOf (λ a. same_id id a.id) b.has.tables.answers None →
         IsKnown zone default H r id None }
     ensures known { (zone : AnyZone) (default : ℕ) (H : List AnyEntry) (r : AnyRequest) (id : Id)
         (db : Database) (b : HasBook (book_of zone default H) db) (row : AnswerRecord) (a : AnyReply) →
-        IsRequest r → id_of r ≡ Some id →
+        IsRequest r → id_of r ≡ Some id → is_below (requests H) id ≡ false →
         IsOneOf (λ a. same_id id a.id) b.has.tables.answers (Some row) →
         IsRepeatOf row id r a → IsKnown zone default H r id (Some a) }
 {
+    floors_are_found();
     repeats_are_answered();
     replies_in_range();
 }
@@ -60,8 +79,8 @@ pub(crate) fn numbers_are_known()
 pub(crate) fn new_numbers_are_planned()
     ensures { (zone : AnyZone) (default : ℕ) (H : List AnyEntry) (r : AnyRequest) (id : Id)
         (t : Tables) (f : Found) → IsLegalBook (book_of zone default H) →
-        AreRows (book_of zone default H) t → id_of r ≡ Some id → stored H id ≡ None →
-        (AreKeyed t → IsFound (day_of zone) t r f) →
+        AreRows (book_of zone default H) t → IsRequest r → id_of r ≡ Some id →
+        known_by H (Some id) ≡ false → (AreKeyed t → IsFound (day_of zone) t r f) →
         IsPlannedOver zone default H r t (planned (day_of zone) default t.setting.arrivals r f) }
 {
     one_more_answer();
@@ -72,10 +91,10 @@ pub(crate) fn new_numbers_are_planned()
 pub(crate) fn arrivals_are_applied()
     ensures new { (zone : AnyZone) (default : ℕ) (H : List AnyEntry) (r : AnyRequest) (id : Id)
         (db : Database) → IsLegalBook (book_of zone default H) → IsRequest r → id_of r ≡ Some id →
-        stored H id ≡ None → HasRows (book_of zone default (appended (day_of zone) default H r)) db →
+        known_by H (Some id) ≡ false → HasRows (book_of zone default (appended (day_of zone) default H r)) db →
         HasBook (book_after zone default H r) db }
     ensures known { (zone : AnyZone) (default : ℕ) (H : List AnyEntry) (r : AnyRequest) (id : Id)
-        (db : Database) → id_of r ≡ Some id → is_some (stored H id) ≡ true →
+        (db : Database) → known_by H (id_of r) ≡ true →
         HasBook (book_of zone default H) db →
         HasBook (book_after zone default H r) db }
     ensures unnumbered { (zone : AnyZone) (default : ℕ) (H : List AnyEntry) (r : AnyRequest)
@@ -86,7 +105,7 @@ pub(crate) fn arrivals_are_applied()
     nothing_is_added();
 }
 
-/// A request that isn't the first of its number leaves the history as it is.
+/// A request that isn't the first of its number, or whose run is below the floor, leaves the history as it is.
 pub(crate) fn later_arrivals_add_nothing()
     ensures { (zone : AnyZone) (default : ℕ) (H : List AnyEntry) (r : AnyRequest) (db : Database) →
         is_first (requests H) r ≡ false → HasBook (book_of zone default H) db →
@@ -124,17 +143,18 @@ pub(crate) fn reads_are_answered()
     pages_go_by_login();
 }
 
-/// A book whose rows the tables are is what they mean.
+/// A book whose rows the tables are, in whatever version, is what they mean.
 pub(crate) fn tables_mean_their_book()
-    ensures { (b : Book) (db : Database) → HasBook b db → book_in b.zone b.default db ≡ b }
+    ensures { (b : Book) (t : Tables) (db : Database) → IsLegalBook b → HasLedger db t → AreRows b t →
+        book_in b.zone b.default db ≡ b }
 {
     rows_mean_their_history();
 }
 
 /// An audit of the rows of a legal history finds each pair right.
 pub(crate) fn books_are_right()
-    ensures { (b : Book) (db : Database) (a : AnyAudit) →
-        HasBook b db → IsAuditIn b.zone b.default db a → IsRightAnswer a }
+    ensures { (b : Book) (t : Tables) (db : Database) (a : AnyAudit) → IsLegalBook b → HasLedger db t →
+        AreRows b t → IsAuditIn b.zone b.default db a → IsRightAnswer a }
 {
     histories_are_right();
 }

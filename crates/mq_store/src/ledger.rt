@@ -1,4 +1,4 @@
-ghost use Rattle.std.specs.Prelude.{◌≡◌, ◌⊎◌, ℕ, Option, true, List, [], ◌∷◌, ◌++◌, false, None, Some, IsTrue, IfOk, IfErr, OnOk, OnErr};
+ghost use Rattle.std.specs.Prelude.{◌≡◌, ◌⊎◌, ℕ, Option, true, Bool, List, [], ◌∷◌, ◌++◌, false, IsTrue, IfOk, IfErr, OnOk, OnErr};
 ghost use Rattle.sqlite.specs.Held.{state};
 ghost use Rattle.sqlite.specs.State.{HasCleanDisk};
 ghost use Rattle.sqlite.specs.Tree.{Trees};
@@ -7,37 +7,36 @@ ghost use Rattle.mq_ledger.specs.Answer.{build, reply};
 ghost use Rattle.mq_ledger.specs.Arrivals.{first};
 ghost use Rattle.mq_ledger.specs.Day.{IsZone, day_of};
 ghost use Rattle.mq_ledger.specs.History.{requests};
-ghost use Rattle.mq_tables.specs.Making.{has_ledger_table, AreUnnamed, HasCounters, IsMadeOver, AreMadeOver};
-ghost use Rattle.mq_tables.specs.Reading.{Spares};
-ghost use Rattle.mq_tables.specs.Settings.{SettingRow, HasRule, shown_of};
-ghost use Rattle.mq_store.specs.Auditing.{IsAuditIn, IsRightAnswer};
-ghost use Rattle.mq_store.specs.Crash.{LeavesNew, LeavesOld, AreApplied, FindsOnly, FindsNew, FindsEither};
-ghost use Rattle.mq_store.specs.Opening.{made_with, create_fault, has_rule_table, IsJudged, IsJudgedBy, IsOf, IsChecked};
-ghost use Rattle.mq_store.specs.Opening.{HoldsRule, HasSettings, IsOpening, IsOpeningOf};
+ghost use Rattle.mq_ledger.specs.Legal.{Book};
 ghost use Rattle.mq_ledger.specs.declared.entry.Entry.{Entry as AnyEntry};
-ghost use Rattle.mq_store.specs.Soundness.{book_in, HasKept, IsSound, IsNew, MeansBook, IsOpened};
+ghost use Rattle.mq_tables.specs.Making.{has_ledger_table, AreUnnamed, HasCounters, IsMadeOver, AreMadeOver};
+ghost use Rattle.mq_tables.specs.Migrating.{AreMigrated};
+ghost use Rattle.mq_tables.specs.Reading.{Spares};
+ghost use Rattle.mq_tables.specs.Settings.{SettingRow};
+ghost use Rattle.mq_store.specs.Auditing.{IsAuditIn, IsRightAnswer};
+ghost use Rattle.mq_store.specs.Crash.{LeavesNew, LeavesOld, AreApplied, FindsOnly, FindsNew, FindsEither, FindsOpened};
+ghost use Rattle.mq_store.specs.Opening.{made_with, HasSettings, IsFound, IsFoundOf, Opens, Refuses};
+ghost use Rattle.mq_store.specs.Soundness.{book_in, HasKept, HasStored, IsSound, IsNew, MeansBook, IsOpened};
 ghost use Rattle.mq_store.specs.Taking.{HasBook, book_of};
 ghost use Rattle.mq_store.specs.declared.fault.OpenFault.TheVariants.{NotOurs, Memory, Store};
 
 use crate::apply::apply;
 use crate::auditing::audit_store;
-use crate::fault::{
-    OpenFault, OpenRefused, fault_by_rule, fault_of, fault_without_rule, open_fault,
-};
+use crate::fault::{OpenFault, OpenRefused, create_fault};
 use crate::laws::{books_are_right, later_arrivals_add_nothing, tables_mean_their_book};
+use crate::opening::open_store;
 use mq_frame::{Reply, Request};
 use mq_ledger::{Ledger, LedgerFault, Zone};
 use mq_rows::Audit;
 use mq_tables::create::make_ledger;
 use mq_tables::laws::trees_have_one_schema;
 use mq_tables::names::has_ledger_table;
-use mq_tables::rule::read_rule;
-use mq_tables::setting::{NewSetting, Setting, read_setting};
-use sqlite::{Alter, Connection, Error, ErrorCode};
+use mq_tables::setting::NewSetting;
+use sqlite::{Alter, Connection};
 use std::alloc::Global;
 use std::marker::Model;
 
-/// A ledger in five or six tables of a store, which may hold others too.
+/// A ledger in seven tables of a store, which may hold others too.
 #[derive(Drop)]
 pub struct SqlLedger<S: Alter> {
     alloc: Global,
@@ -58,111 +57,6 @@ impl<S: Alter> Model for SqlLedger<S> {
     ghost invariant = { λ l. IsReady (record { connection = l.connection; zone = l.zone; default = l.default }) };
 }
 
-/// The version of tables that have one for the rule.
-const RULED: i64 = 2;
-
-/// Why the store isn't opened where its settings are so, and their version has a table for the rule.
-fn fault_where_ruled<S: Alter>(
-    connection: &mut Connection<S>,
-    zone: Zone,
-    default: u32,
-    setting: &Setting,
-) -> Option<OpenFault>
-    requires autocommit { connection.old.in_transaction ≡ false }
-    ensures autocommit { connection.new.in_transaction ≡ false }
-    ensures unlimited { connection.new.step_limit ≡ None }
-    ensures judged { HasCleanDisk (state S.Store connection.new)
-        → IsJudgedBy S.Store true zone default setting.now connection.old connection.new result }
-    ensures exact { HasCleanDisk (state S.Store connection.new) → (s : SettingRow) (text : List ℕ)
-        → shown_of s ≡ setting.now → HasRule (state S.Store connection.old).now text
-        → IsOf zone default s (Some text) result }
-    ensures clean { HasCleanDisk (state S.Store connection.new) → HasCleanDisk (state S.Store connection.old) }
-    ensures spares { HasCleanDisk (state S.Store connection.new)
-        → Spares (state S.Store connection.old) (state S.Store connection.new) }
-{
-    let rule = read_rule(connection);
-    fault_by_rule(zone, default, setting, &rule)
-}
-
-/// Why the store isn't opened where its settings are so, if it isn't.
-fn fault_by_setting<S: Alter>(
-    connection: &mut Connection<S>,
-    zone: Zone,
-    default: u32,
-    setting: &Setting,
-) -> Option<OpenFault>
-    requires autocommit { connection.old.in_transaction ≡ false }
-    requires unlimited { connection.old.step_limit ≡ None }
-    ensures autocommit { connection.new.in_transaction ≡ false }
-    ensures unlimited { connection.new.step_limit ≡ None }
-    ensures judged { HasCleanDisk (state S.Store connection.new)
-        → IsJudgedBy S.Store (has_rule_table setting.now.version) zone default setting.now connection.old
-        connection.new result }
-    ensures exact { HasCleanDisk (state S.Store connection.new) → (s : SettingRow) (rule : Option (List ℕ))
-        → shown_of s ≡ setting.now → HoldsRule (has_rule_table s.version) (state S.Store connection.old).now rule
-        → IsOf zone default s rule result }
-    ensures clean { HasCleanDisk (state S.Store connection.new) → HasCleanDisk (state S.Store connection.old) }
-    ensures spares { HasCleanDisk (state S.Store connection.new)
-        → Spares (state S.Store connection.old) (state S.Store connection.new) }
-{
-    if setting.version == RULED {
-        fault_where_ruled(connection, zone, default, setting)
-    } else {
-        fault_without_rule(zone, default, setting)
-    }
-}
-
-/// Why the store isn't opened by its settings, if it isn't.
-fn fault_in_store<S: Alter>(
-    connection: &mut Connection<S>,
-    zone: Zone,
-    default: u32,
-) -> Option<OpenFault>
-    requires autocommit { connection.old.in_transaction ≡ false }
-    ensures autocommit { connection.new.in_transaction ≡ false }
-    ensures unlimited { connection.new.step_limit ≡ None }
-    ensures judged { HasCleanDisk (state S.Store connection.new)
-        → IsJudged S.Store zone default connection.old connection.new result }
-    ensures exact { HasCleanDisk (state S.Store connection.new) → (s : SettingRow) (rule : Option (List ℕ))
-        → HasSettings (state S.Store connection.old).now s rule → IsOf zone default s rule result }
-    ensures spares { HasCleanDisk (state S.Store connection.new)
-        → Spares (state S.Store connection.old) (state S.Store connection.new) }
-{
-    match read_setting(connection) {
-        Ok(Some(setting)) => fault_by_setting(connection, zone, default, &setting),
-        Ok(None) => Some(OpenFault::NotOurs),
-        Err(error) => Some(fault_of(&error)),
-    }
-}
-
-/// Why the store isn't opened, if it isn't: by its settings, and behind them by an audit of its rows.
-fn fault_in_ledger<S: Alter>(
-    alloc: Global,
-    connection: &mut Connection<S>,
-    zone: Zone,
-    default: u32,
-) -> Option<OpenFault>
-    requires autocommit { connection.old.in_transaction ≡ false }
-    ensures autocommit { connection.new.in_transaction ≡ false }
-    ensures unlimited { connection.new.step_limit ≡ None }
-    ensures found { HasCleanDisk (state S.Store connection.new)
-        → IsOpening S.Store zone default connection.old connection.new result }
-    ensures exact { HasCleanDisk (state S.Store connection.new) → (s : SettingRow) (rule : Option (List ℕ))
-        → HasSettings (state S.Store connection.old).now s rule
-        → IsOpeningOf zone default (state S.Store connection.old).now s rule result }
-    ensures spares { HasCleanDisk (state S.Store connection.new)
-        → Spares (state S.Store connection.old) (state S.Store connection.new) }
-{
-    if let Some(fault) = fault_in_store(connection, zone, default) {
-        return Some(fault);
-    }
-    match audit_store(alloc, connection, zone, default) {
-        Ok(Audit::Sound { .. }) => None,
-        Ok(Audit::Wrong { login, day }) => Some(OpenFault::Damaged { login, day }),
-        Err(refused) => Some(open_fault(refused.fault)),
-    }
-}
-
 /// What the tables are made with.
 fn new_setting(zone: Zone, default: u32) -> NewSetting
     ensures value { result ≡ made_with zone default }
@@ -173,23 +67,13 @@ fn new_setting(zone: Zone, default: u32) -> NewSetting
     NewSetting { zone, cap: default }
 }
 
-/// What a refusal to make the tables is answered by.
-fn create_fault(error: &Error) -> OpenFault
-    ensures { result ≡ create_fault error.now }
-{
-    match error {
-        Error::SqliteFailure(ErrorCode::OutOfMemory) => OpenFault::Memory,
-        _ => OpenFault::Store,
-    }
-}
-
 impl<S: Alter> SqlLedger<S> {
     /// Makes the tables of a ledger that has applied nothing, in one transaction, over whatever the
     /// store holds. The default is the limit of a login that has none for a day: 0 to 1,000,000.
     ///
-    /// A ledger by a zone rule has a sixth table. Refused, the store has the tables that it had. `NotOurs`
-    /// comes exactly where a table of one of the six names is there, whatever the zone; its other faults
-    /// are `Memory` and `Store`. A connection within a transaction is `Store`.
+    /// Refused, the store has the tables that it had. `NotOurs` comes exactly where a table of one of the
+    /// seven names is there; its other faults are `Memory` and `Store`. A connection within a transaction
+    /// is `Store`.
     pub fn create(
         alloc: Global,
         connection: Connection<S>,
@@ -269,12 +153,14 @@ impl<S: Alter> SqlLedger<S> {
         }
     }
 
-    /// Opens the ledger that a store holds. It writes nothing. The default is 0 to 1,000,000.
+    /// Opens the ledger that a store holds, of any version. One of an older version is given the current
+    /// one, in one transaction; else nothing is written. The default is 0 to 1,000,000.
     ///
     /// The faults for content come in this order: `NotOurs`, `ZoneDiffers`, `DefaultDiffers`, and
     /// behind these the tables are audited as by [`SqlLedger::audit`], which reads all rows of three of
     /// them into memory: `Damaged` with the least pair that isn't right. `Memory` and `Store` come
-    /// wherever they stop the reading. A connection within a transaction is `Store`.
+    /// wherever they stop the reading, or the writing of the current version. A connection within a
+    /// transaction is `Store`. Refused, the store has the rows that it had.
     ///
     /// So where zone and default agree, a store that a ledger left is refused by `Memory` and `Store`
     /// alone.
@@ -287,31 +173,36 @@ impl<S: Alter> SqlLedger<S> {
         requires in_range { IsAmount default }
         ensures lent { IfOk result (λ l. (l.zone ≡ zone) × (l.default ≡ default)) }
 
-        // Over any store: what the store answers to the queries for settings and rule decides, and behind them
-        // the audit.
+        // Over any store: what the store answers to the queries for settings, floors and rule decides, and
+        // behind them the audit. Then a ledger of an older version is given the current one.
         ensures ok { IfOk result (λ l. HasCleanDisk (state S.Store l.connection)
-            → IsOpening S.Store zone default connection l.connection None) }
+            → Opens (IsFound S.Store zone default connection l.connection)
+            (state S.Store connection) (state S.Store l.connection)) }
         ensures err { IfErr result (λ e. HasCleanDisk (state S.Store e.connection)
             → connection.in_transaction ≡ false
-            → IsOpening S.Store zone default connection e.connection (Some e.fault)) }
+            → Refuses (IsFound S.Store zone default connection e.connection)
+            (state S.Store connection) (state S.Store e.connection) e.fault) }
 
-        // Over a store with our table of settings and, in a version that has one, that of the rule, wherever
-        // they stand: their rows decide, and behind them the audit.
+        // Over a store with our table of settings and, in a version that has them, those of floors and rule,
+        // wherever they stand: their rows decide, and behind them the audit.
         ensures exact_ok { IfOk result (λ l. HasCleanDisk (state S.Store l.connection)
             → (s : SettingRow) (rule : Option (List ℕ)) → HasSettings (state S.Store connection).now s rule
-            → IsOpeningOf zone default (state S.Store connection).now s rule None) }
+            → Opens (IsFoundOf zone default (state S.Store connection).now s rule)
+            (state S.Store connection) (state S.Store l.connection)) }
         ensures exact_err { IfErr result (λ e. HasCleanDisk (state S.Store e.connection)
             → connection.in_transaction ≡ false
             → (s : SettingRow) (rule : Option (List ℕ)) → HasSettings (state S.Store connection).now s rule
-            → IsOpeningOf zone default (state S.Store connection).now s rule (Some e.fault)) }
+            → Refuses (IsFoundOf zone default (state S.Store connection).now s rule)
+            (state S.Store connection) (state S.Store e.connection) e.fault) }
 
-        // Over the rows of a legal history, whatever the store did before: it is of this zone and default,
-        // and the ledger is sound and means it. Where a legal history of this zone and default has these
-        // rows, only memory and the store stand in the way.
+        // Over the rows of a legal history, in whatever version, whatever the store did before: it is of this
+        // zone and default, and the ledger is sound and means it. Where a legal history of this zone and
+        // default has these rows, only memory and the store stand in the way.
         ensures rows { IfOk result (λ l. HasKept (state S.Store l.connection)
             → MeansBook zone default (state S.Store connection).now (state S.Store l.connection)) }
         ensures rows_err { IfErr result (λ e. HasCleanDisk (state S.Store e.connection) → (H : List AnyEntry)
-            → HasBook (book_of zone default H) (state S.Store connection).now → (e.fault ≡ Memory) ⊎ (e.fault ≡ Store)) }
+            → HasStored (book_of zone default H) (state S.Store connection).now
+            → (e.fault ≡ Memory) ⊎ (e.fault ≡ Store)) }
         ensures sound { IfOk result (λ l. HasKept (state S.Store l.connection)
             → IsOpened zone default (state S.Store connection) (state S.Store l.connection)) }
 
@@ -322,11 +213,25 @@ impl<S: Alter> SqlLedger<S> {
         ensures within { IfErr result (λ e. IsTrue connection.in_transaction
             → (e.fault ≡ Store) × (e.connection ≡ connection)) }
 
-        // Nothing is written.
-        ensures spares_ok { IfOk result (λ l. HasCleanDisk (state S.Store l.connection)
-            → Spares (state S.Store connection) (state S.Store l.connection)) }
+        // Refused, it leaves the rows as they are; where the fault is of content, it has written nothing.
+        ensures same_err { IfErr result (λ e. HasCleanDisk (state S.Store e.connection)
+            → IsTrue (state S.Store e.connection).is_open
+            → (state S.Store e.connection).now ≡ (state S.Store connection).now) }
         ensures spares_err { IfErr result (λ e. HasCleanDisk (state S.Store e.connection)
-            → Spares (state S.Store connection) (state S.Store e.connection)) }
+            → Spares (state S.Store connection) (state S.Store e.connection)
+            ⊎ ((e.fault ≡ Memory) ⊎ (e.fault ≡ Store))) }
+
+        // What an open after a crash may find: behind a refusal what could be found before, or the ledger of the
+        // current version; of an older ledger that is opened, that one alone.
+        ensures crash_err { IfErr result (λ e. HasCleanDisk (state S.Store e.connection) → (db : Trees)
+            → (state S.Store e.connection).may_leave db → (state S.Store connection).may_leave db
+            ⊎ ((has_rule_table : Bool) × AreMigrated has_rule_table (state S.Store connection).now db)) }
+        ensures found_ok { IfOk result (λ l. HasKept (state S.Store l.connection)
+            → FindsOpened (state S.Store connection) (state S.Store l.connection)) }
+        ensures found_err { IfErr result (λ e. HasCleanDisk (state S.Store e.connection) → (b : Book)
+            → HasStored b (state S.Store connection).now
+            → FindsOnly (state S.Store e.connection)
+            (λ db. (state S.Store connection).may_leave db.trees ⊎ HasBook b db)) }
     {
         let mut connection = connection;
         if !connection.is_autocommit() {
@@ -335,14 +240,15 @@ impl<S: Alter> SqlLedger<S> {
         }
         books_are_right();
         tables_mean_their_book();
-        match fault_in_ledger(alloc, &mut connection, zone, default) {
-            None => Ok(SqlLedger {
+        trees_have_one_schema();
+        match open_store(alloc, &mut connection, zone, default) {
+            Ok(()) => Ok(SqlLedger {
                 alloc,
                 connection,
                 zone,
                 default,
             }),
-            Some(fault) => Err(OpenRefused { fault, connection }),
+            Err(fault) => Err(OpenRefused { fault, connection }),
         }
     }
 
@@ -425,7 +331,10 @@ impl<S: Alter> Ledger for SqlLedger<S> {
     }
 
     /// Replies to a request. What it writes is committed before the reply is given: each numbered
-    /// request that is new is one transaction of the store, and any other writes no row.
+    /// request that is new is one transaction of the store, and any other writes no row: one whose run
+    /// was given up is answered `Old`. A retire settles what the open transactions of the runs that it
+    /// gives up hold, and clears the replies of these runs, in its transaction. It has the places of
+    /// these answers and the rows of these transactions in memory.
     ///
     /// The fault is `Memory`, or `Store` where a statement was refused for another cause, where the
     /// tables are the rows of no legal history, or where 4,611,686,018,427,387,904 answers are

@@ -4,10 +4,12 @@
 mod apply;
 mod auditing;
 mod fault;
+mod giving_up;
 mod laws;
 mod ledger;
 mod listing;
 mod memory;
+mod opening;
 mod take;
 mod write;
 

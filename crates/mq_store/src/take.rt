@@ -5,12 +5,15 @@ ghost use Rattle.sqlite.specs.Held.{state};
 ghost use Rattle.sqlite.specs.State.{HasCleanDisk, KeepsCommit, Survives};
 ghost use Rattle.mq_frame.specs.Range.{IsRequest, IsReply};
 ghost use Rattle.mq_ledger.specs.declared.entry.Entry.{Entry as AnyEntry};
-ghost use Rattle.mq_ledger.specs.Arrivals.{id_of};
+ghost use Rattle.mq_ledger.specs.Arrivals.{id_of, is_below};
+ghost use Rattle.mq_ledger.specs.History.{requests};
 ghost use Rattle.mq_rows.specs.Storable.{IsStorablePlan};
 ghost use Rattle.mq_store.specs.Taking.{HasBook, book_of, Stays, IsKnown, IsPlanned, AppliesNew, IsTaken, reply_in};
 
 use crate::fault::Refused;
-use crate::laws::{arrivals_are_applied, new_numbers_are_planned, numbers_are_known};
+use crate::laws::{
+    arrivals_are_applied, floors_are_known, new_numbers_are_planned, numbers_are_known,
+};
 use crate::listing::{reply_to_list, reply_to_usage};
 use crate::write::write_plan;
 use mq_frame::{Id, Reply, Request};
@@ -18,6 +21,7 @@ use mq_ledger::Zone;
 use mq_rows::{Plan, decide, stored_reply};
 use mq_tables::answer::find_answer;
 use mq_tables::find::find;
+use mq_tables::floor::find_floor;
 use mq_tables::setting::read_arrivals;
 use sqlite::{Alter, Transaction};
 use std::alloc::Global;
@@ -30,7 +34,29 @@ pub(crate) enum Taken {
     Written(Reply),
 }
 
-/// The reply to a request whose number has a row, if it has one.
+/// Whether the run of that number is below the floor of its host.
+#[tactic(auto, using(crate::proofs::Chain::calls))]
+fn is_retired<S: Alter>(tx: &mut Transaction<'_, S>, id: &Id) -> Result<bool, Refused>
+    ensures same_reference { tx.new.conn.ghost_name ≡ tx.old.conn.ghost_name }
+    ensures stays { HasCleanDisk (state S.Store tx.new.conn.now)
+        → OnOk result (Stays (state S.Store tx.old.conn.now) (state S.Store tx.new.conn.now)) }
+    ensures below { HasCleanDisk (state S.Store tx.new.conn.now)
+        → IfOk result (λ retired. (zone : Zone) (default : ℕ) (H : List AnyEntry)
+        → HasBook (book_of zone default H) (state S.Store tx.old.conn.now).now
+        → retired ≡ is_below (requests H) id.now) }
+    ensures kept { HasCleanDisk (state S.Store tx.new.conn.now)
+        → KeepsCommit (state S.Store tx.old.conn.now) (state S.Store tx.new.conn.now) }
+    ensures survives { Survives (state S.Store tx.old.conn.now) (state S.Store tx.new.conn.now) (λ _. ⊥) }
+{
+    floors_are_known();
+    match find_floor(tx, &id.host)? {
+        Some(floor) => Ok(id.run < floor.run),
+        None => Ok(false),
+    }
+}
+
+/// The reply to a request whose number is known, if it is: `Old` where its run is below the floor, and
+/// else what its row keeps.
 #[tactic(auto, using(crate::proofs::Chain::calls))]
 fn known_reply<S: Alter>(
     alloc: Global,
@@ -53,6 +79,10 @@ fn known_reply<S: Alter>(
     ensures survives { Survives (state S.Store tx.old.conn.now) (state S.Store tx.new.conn.now) (λ _. ⊥) }
 {
     numbers_are_known();
+    let retired = is_retired(tx, id)?;
+    if retired {
+        return Ok(Some(Reply::Old { id: id.clone()? }));
+    }
     match find_answer(tx, id)? {
         Some(row) => Ok(Some(stored_reply(alloc, &row, id, request)?)),
         None => Ok(None),
@@ -115,7 +145,7 @@ fn take_new<S: Alter>(
 {
     arrivals_are_applied();
     let plan = plan(alloc, tx, zone, default, id, request)?;
-    write_plan(tx, &plan)?;
+    write_plan(alloc, tx, &plan)?;
     Ok(plan.reply)
 }
 
@@ -181,7 +211,8 @@ pub(crate) fn take<S: Alter>(
         Request::Reserve { id, .. }
         | Request::Settle { id, .. }
         | Request::Release { id, .. }
-        | Request::Limit { id, .. } => take_numbered(alloc, tx, zone, default, id, request),
+        | Request::Limit { id, .. }
+        | Request::Retire { id } => take_numbered(alloc, tx, zone, default, id, request),
         Request::Usage { login, day } => {
             let reply = reply_to_usage(tx, default, login, *day)?;
             Ok(Taken::Read(reply))

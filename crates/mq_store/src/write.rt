@@ -3,21 +3,25 @@
 ghost use Rattle.std.specs.Prelude.{◌≡◌, IsTrue, OnOk};
 ghost use Rattle.sqlite.specs.Held.{state};
 ghost use Rattle.sqlite.specs.State.{HasCleanDisk, KeepsCommit, Survives};
-ghost use Rattle.mq_rows.specs.Storable.{AreStorable, IsStorablePlan};
+ghost use Rattle.mq_rows.specs.Storable.{AreStorable, IsStorableRun, IsStorablePlan};
 ghost use Rattle.mq_store.specs.Taking.{MovesRows, WritesPlan};
 
+use crate::giving_up::give_up;
 use mq_rows::Plan;
 use mq_tables::answer::append_answer;
 use mq_tables::ceiling::write_ceiling;
+use mq_tables::floor::write_floor;
 use mq_tables::setting::set_arrivals;
 use mq_tables::transaction::write_transaction;
 use mq_tables::usage::write_usage;
 use sqlite::{Alter, Error, Transaction};
+use std::alloc::Global;
 
-/// What becomes of the transactions, of what logins have used, and of the limits.
+/// What becomes of the transactions, of what logins have used, of the limits and of the floors.
 #[tactic(auto, using(crate::proofs::Chain::calls))]
 fn write_rows<S: Alter>(tx: &mut Transaction<'_, S>, plan: &Plan) -> Result<usize, Error>
     requires storable { AreStorable plan.now.transaction }
+    requires floor { IsStorableRun plan.now.retired }
     requires inside { HasCleanDisk (state S.Store tx.old.conn.now)
         → IsTrue (state S.Store tx.old.conn.now).in_transaction }
     ensures same_reference { tx.new.conn.ghost_name ≡ tx.old.conn.ghost_name }
@@ -31,12 +35,17 @@ fn write_rows<S: Alter>(tx: &mut Transaction<'_, S>, plan: &Plan) -> Result<usiz
 {
     write_transaction(tx, &plan.transaction)?;
     write_usage(tx, &plan.usage)?;
-    write_ceiling(tx, &plan.ceiling)
+    write_ceiling(tx, &plan.ceiling)?;
+    write_floor(tx, &plan.retired)
 }
 
 /// All that the plan writes.
 #[tactic(auto, using(crate::proofs::Chain::calls))]
-pub(crate) fn write_plan<S: Alter>(tx: &mut Transaction<'_, S>, plan: &Plan) -> Result<usize, Error>
+pub(crate) fn write_plan<S: Alter>(
+    alloc: Global,
+    tx: &mut Transaction<'_, S>,
+    plan: &Plan,
+) -> Result<usize, Error>
     requires storable { IsStorablePlan plan.now }
     requires inside { HasCleanDisk (state S.Store tx.old.conn.now)
         → IsTrue (state S.Store tx.old.conn.now).in_transaction }
@@ -49,6 +58,7 @@ pub(crate) fn write_plan<S: Alter>(tx: &mut Transaction<'_, S>, plan: &Plan) -> 
         → KeepsCommit (state S.Store tx.old.conn.now) (state S.Store tx.new.conn.now) }
     ensures survives { Survives (state S.Store tx.old.conn.now) (state S.Store tx.new.conn.now) (λ _. ⊥) }
 {
+    give_up(alloc, tx, &plan.given_up)?;
     append_answer(tx, &plan.answer)?;
     set_arrivals(tx, plan.arrivals)?;
     write_rows(tx, plan)

@@ -2,6 +2,7 @@
 
 mod audits;
 mod lists;
+mod older;
 mod steps;
 mod stops;
 mod worked;
@@ -43,6 +44,16 @@ const STORES: &[Case] = &[
         &[
             Step::Run(
                 "CREATE TABLE setting (id INTEGER PRIMARY KEY, version INTEGER, minutes INTEGER, cap INTEGER); \
+            INSERT INTO setting VALUES (1, 4, 60, 3)",
+            ),
+            Step::Open(60, 3, Outcome::NotOurs),
+        ],
+    ),
+    (
+        "this version without its other tables",
+        &[
+            Step::Run(
+                "CREATE TABLE setting (id INTEGER PRIMARY KEY, version INTEGER, minutes INTEGER, cap INTEGER); \
             INSERT INTO setting VALUES (1, 3, 60, 3)",
             ),
             Step::Open(60, 3, Outcome::NotOurs),
@@ -72,7 +83,7 @@ const STORES: &[Case] = &[
         "no table, of another zone",
         &[Step::Open(0, 3, Outcome::NotOurs)],
     ),
-    // A table of one of the six names is there, in either case.
+    // A table of one of the seven names is there, in either case.
     (
         "setting is taken",
         &[
@@ -116,6 +127,14 @@ const STORES: &[Case] = &[
             Step::MakeBy(EUROPE, Outcome::NotOurs),
         ],
     ),
+    (
+        "retired is taken",
+        &[
+            Step::Run("CREATE TABLE retired (a TEXT)"),
+            Step::Make(Outcome::NotOurs),
+            Step::MakeBy(EUROPE, Outcome::NotOurs),
+        ],
+    ),
     // A ledger by a zone rule, taken apart and opened.
     (
         "by a rule",
@@ -128,7 +147,7 @@ const STORES: &[Case] = &[
             Step::OpenBy(EUROPE, 3, Outcome::Ready),
             Step::GoesByRule(EUROPE),
             Step::MakeBy(EUROPE, Outcome::NotOurs),
-            Step::Counts("SELECT version FROM setting", 2),
+            Step::Counts("SELECT version FROM setting", 3),
             Step::Counts("SELECT minutes FROM setting", 0),
             Step::Counts("SELECT count(*) FROM rule WHERE id = 1", 1),
         ],
@@ -138,7 +157,8 @@ const STORES: &[Case] = &[
         &[
             Step::Make(Outcome::Ready),
             Step::OpenBy(EUROPE, 3, Outcome::ZoneDiffers),
-            Step::Counts("SELECT version FROM setting", 1),
+            Step::Counts("SELECT version FROM setting", 3),
+            Step::Counts("SELECT count(*) FROM rule", 0),
         ],
     ),
     (
@@ -153,8 +173,9 @@ const STORES: &[Case] = &[
         &[
             Step::MakeBy(EUROPE, Outcome::Ready),
             Step::Run("DELETE FROM rule"),
-            Step::OpenBy(EUROPE, 3, Outcome::NotOurs),
-            Step::Open(0, 3, Outcome::NotOurs),
+            Step::OpenBy(EUROPE, 3, Outcome::ZoneDiffers),
+            Step::Open(60, 3, Outcome::ZoneDiffers),
+            Step::Open(0, 3, Outcome::Ready),
         ],
     ),
     (
@@ -170,7 +191,7 @@ const STORES: &[Case] = &[
         &[
             Step::MakeBy(EUROPE, Outcome::Ready),
             Step::Run("UPDATE rule SET id = 2"),
-            Step::OpenBy(EUROPE, 3, Outcome::NotOurs),
+            Step::OpenBy(EUROPE, 3, Outcome::ZoneDiffers),
         ],
     ),
     (
@@ -185,11 +206,27 @@ const STORES: &[Case] = &[
         ],
     ),
     (
-        "a rule and a version after it",
+        "a rule and a version after this one",
         &[
             Step::MakeBy(EUROPE, Outcome::Ready),
-            Step::Run("UPDATE setting SET version = 3"),
+            Step::Run("UPDATE setting SET version = 4"),
             Step::OpenBy(EUROPE, 3, Outcome::NotOurs),
+        ],
+    ),
+    (
+        "a rule, floors and the version before there were any",
+        &[
+            Step::MakeBy(EUROPE, Outcome::Ready),
+            Step::Run("UPDATE setting SET version = 2"),
+            Step::OpenBy(EUROPE, 3, Outcome::NotOurs),
+        ],
+    ),
+    (
+        "floors without their table",
+        &[
+            Step::Make(Outcome::Ready),
+            Step::Run("DROP TABLE retired"),
+            Step::Open(60, 3, Outcome::NotOurs),
         ],
     ),
     // A ledger made behind another table is taken apart and opened.

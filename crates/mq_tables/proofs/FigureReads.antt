@@ -22,7 +22,7 @@ use Rattle.mq_tables.proofs.SelectShape.{SelectShape, IsSelect, IsAccepted}
 use Rattle.mq_tables.proofs.Selected.{shows_all}
 use Rattle.mq_tables.proofs.TermShape.{field}
 
-all_pass : {R : Type 0} (rows : List R) → filter (λ _. true) rows ≡ rows
+pub all_pass : {R : Type 0} (rows : List R) → filter (λ _. true) rows ≡ rows
 all_pass [] = refl
 all_pass (r ∷ rows) = ap (λ xs. r ∷ xs) (all_pass rows)
 

@@ -1,6 +1,7 @@
 -- A query that returns nothing of a write writes nothing, whatever the store is.
 use Rattle.std.proofs.Common.{◌≡◌, ◌⊎◌, inl, inr, ℕ, List, [], IsSome, true≢false, Ok, Err, Result, sym, subst, ◌∙◌}
-use Rattle.std.specs.Prelude.{IsTrue}
+use Rattle.std.specs.Prelude.{IsTrue, IfOk, IfErr, Vec}
+use Rattle.std.specs.declared.alloc.Global.{Global}
 use Rattle.sqlite.specs.Order.{Row}
 use Rattle.sqlite.specs.Tree.{Trees}
 use Rattle.sqlite.specs.declared.error.Error.{Error}
@@ -60,8 +61,21 @@ spares text bare old new answer settled h survives clean =
     let it = spared text bare (unlimited old) new settled (queried text bare (unlimited old) new answer h) (crash text bare (unlimited old) new survives clean) in
     record { was_open = it.was_open; now = it.now; committed = it.committed; crash = it.crash }
 
+-- the same of all rows of the answer
+pub spares_all : (text : List ℕ) → AlwaysBare text → (old new : State) (answer : Result (Vec Row Global) Error) → (IsTrue old.is_open → old.now ≡ old.committed) → IfOk answer (λ rows. Shown text [] (unlimited old) new rows.items)
+    → IfErr answer (FailsToQuery text [] (unlimited old) new) → Survives (unlimited old) new (CommitsShowing text [] (unlimited old)) → HasCleanDisk new → Spares old new
+spares_all text bare old new (Ok rows) settled shown failed survives clean =
+    let it = spared text bare (unlimited old) new settled (inl (shown_same text bare (unlimited old) new rows.items shown)) (crash text bare (unlimited old) new survives clean) in
+    record { was_open = it.was_open; now = it.now; committed = it.committed; crash = it.crash }
+spares_all text bare old new (Err e) settled shown failed survives clean =
+    let it = spared text bare (unlimited old) new settled (not_shown text bare (unlimited old) new e failed) (crash text bare (unlimited old) new survives clean) in
+    record { was_open = it.was_open; now = it.now; committed = it.committed; crash = it.crash }
+
 -- a connection that answers is open
 pub answers_open : (text : List ℕ) → AlwaysBare text → (old new : State) (row : Row) → QueriesRow text [] old new (Ok row) → IsTrue new.is_open
 unfolding QueriesRow
 answers_open text bare old new row (inl h) = h.1.0.is_open
 answers_open text bare old new row (inr h) = (shown_same text bare old new h.0 h.1).0.is_open
+
+pub shows_open : (text : List ℕ) → AlwaysBare text → (old new : State) (rows : List Row) → Shown text [] old new rows → IsTrue new.is_open
+shows_open text bare old new rows h = (shown_same text bare old new rows h).0.is_open

@@ -15,3 +15,6 @@ pub mod Over
 pub mod Paging
 pub mod Finding
 pub mod Figures
+pub mod Floors
+pub mod Retiring
+pub mod Migrating

@@ -3,6 +3,7 @@ use Rattle.std.specs.Prelude.{◌≡◌, ◌⊎◌, ℕ, ℤ, pos, List, [], ◌
 use Rattle.sqlite.specs.declared.types.Value.{Value}
 use Rattle.sqlite.specs.declared.types.Value.TheVariants.{Null, Int, Blob}
 use Rattle.sqlite.specs.declared.error.Error.{Error}
+use Rattle.sqlite.specs.declared.error.Error.TheVariants.{QueryReturnedNoRows}
 use Rattle.sqlite.specs.Order.{Row, column}
 use Rattle.sqlite.specs.Effect.{Database}
 use Rattle.sqlite.specs.State.{store_error}
@@ -10,8 +11,8 @@ use Rattle.sqlite_trees.specs.declared.error.StoreError.{StoreError}
 use Rattle.mq_tables.specs.declared.setting.Setting.{Setting}
 use Rattle.mq_tables.specs.declared.setting.NewSetting.{NewSetting}
 use Rattle.mq_ledger.specs.Day.{minutes_in}
-use Rattle.mq_rows.specs.Rows.{version_of}
-use Rattle.mq_tables.specs.Places.{IsSettingIn, IsRuleIn}
+use Rattle.mq_rows.specs.declared.setting.TheConstants.{VERSION}
+use Rattle.mq_tables.specs.Places.{IsSettingIn}
 
 pub record SettingRow : Type 0 where
   pub version : ℤ
@@ -26,7 +27,7 @@ setting_fields s = Int (pos 1) ∷ Null ∷ Int s.version ∷ Int s.minutes ∷ 
 -- that of a ledger that has applied so many requests
 abbrev pub setting_after : ℤ → NewSetting → SettingRow
 setting_after arrivals made =
-    record { version = pos (version_of made.zone); minutes = minutes_in made.zone; cap = pos made.cap; arrivals = arrivals }
+    record { version = pos VERSION; minutes = minutes_in made.zone; cap = pos made.cap; arrivals = arrivals }
 
 -- our table of settings is there, at some place, and has this one row
 pub record HasSetting (db : Database) (s : SettingRow) : Type 0 where
@@ -51,10 +52,14 @@ reading (Err e) = Err e
 abbrev pub shown_of : SettingRow → Setting
 shown_of s = record { version = s.version; minutes = s.minutes; cap = s.cap }
 
--- memory or the disk stopped the reading
+-- memory or the disk stopped a reading
+abbrev pub IsStop : Error → Type 0
+IsStop e = (cause : StoreError) × (e ≡ store_error cause)
+
+-- so it was
 abbrev pub IsStopped : Result (Option Setting) Error → Type 0
 IsStopped (Ok found) = ⊥
-IsStopped (Err e) = (cause : StoreError) × (e ≡ store_error cause)
+IsStopped (Err e) = IsStop e
 
 -- the row was read, or memory or the disk stopped the reading
 abbrev pub IsOf : SettingRow → Result (Option Setting) Error → Type 0
@@ -69,12 +74,6 @@ abbrev pub rule_rows : Option (List ℕ) → List Row
 rule_rows None = []
 rule_rows (Some text) = rule_fields text ∷ []
 
--- our table of rules is there, at some place, and has this one row
-pub record HasRule (db : Database) (text : List ℕ) : Type 0 where
-  pub tree : ℕ
-  pub table : IsRuleIn db.schema tree
-  pub row : db.trees tree ≡ rule_fields text ∷ []
-
 -- the bytes of a value
 abbrev pub text_of_value : Value → Option (List ℕ)
 text_of_value (Blob text) = Some text
@@ -84,7 +83,9 @@ text_of_value _ = None
 abbrev pub rule_text_of : Row → Option (List ℕ)
 rule_text_of row = text_of_value (column row 0)
 
--- the row of the rule was read, or memory or the disk stopped the reading
-abbrev pub IsRuleOf : List ℕ → Result Row Error → Type 0
-IsRuleOf text (Ok row) = row ≡ Blob text ∷ []
-IsRuleOf text (Err e) = (cause : StoreError) × (e ≡ store_error cause)
+-- the row of the rule was read, or found to be absent, or the reading was stopped
+abbrev pub IsRuleOf : Option (List ℕ) → Result Row Error → Type 0
+IsRuleOf (Some text) (Ok row) = row ≡ Blob text ∷ []
+IsRuleOf (Some text) (Err e) = IsStop e
+IsRuleOf None (Ok row) = ⊥
+IsRuleOf None (Err e) = (e ≡ QueryReturnedNoRows) ⊎ IsStop e

@@ -3,7 +3,7 @@
 ghost use Rattle.std.specs.Prelude.{◌≡◌};
 ghost use Rattle.std.specs.List.{list_any};
 ghost use Rattle.sqlite_schema.specs.Names.{same_name};
-ghost use Rattle.mq_tables.specs.Making.{is_owner, is_aside, has_table, has_ledger_table};
+ghost use Rattle.mq_tables.specs.Making.{is_owner, is_aside, has_table, has_ledger_table, has_later_table};
 
 use sqlite_schema::names::same_name;
 use sqlite_schema::schema::{Schema, Table, View};
@@ -37,7 +37,7 @@ fn has_table(schema: &Schema, name: &[u8]) -> bool
     any_named(schema.tables.as_slice(), name) || any_aside(schema.views.as_slice(), name)
 }
 
-/// Whether a table of one of the ledger's six names is there.
+/// Whether a table of one of the ledger's seven names is there.
 pub fn has_ledger_table(schema: &Schema) -> bool
     ensures { result ≡ has_ledger_table schema.now }
 {
@@ -47,4 +47,12 @@ pub fn has_ledger_table(schema: &Schema) -> bool
         || has_table(schema, b"usage")
         || has_table(schema, b"ceiling")
         || has_table(schema, b"rule")
+        || has_table(schema, b"retired")
+}
+
+/// Whether a table is there of a name that only versions of the tables after this one have.
+pub fn has_later_table(schema: &Schema, version: u32) -> bool
+    ensures { result ≡ has_later_table version schema.now }
+{
+    (version < 2 && has_table(schema, b"rule")) || (version < 3 && has_table(schema, b"retired"))
 }

@@ -1,10 +1,11 @@
-//! The table `rule` of version 2, which has one row: the text of the ledger's zone rule.
+//! The table `rule`, which has one row where the ledger goes by a zone rule: its text.
 
-ghost use Rattle.std.specs.Prelude.{◌≡◌, None, List, ℕ, false, option_map};
+ghost use Rattle.std.specs.Prelude.{◌≡◌, None, Option, List, ℕ, false, option_map};
 ghost use Rattle.sqlite.specs.Held.{state};
 ghost use Rattle.sqlite.specs.State.{HasCleanDisk};
+ghost use Rattle.mq_tables.specs.Ledger.{HasRule};
 ghost use Rattle.mq_tables.specs.Reading.{IsRuleRead, Spares};
-ghost use Rattle.mq_tables.specs.Settings.{HasRule, IsRuleOf, rule_text_of};
+ghost use Rattle.mq_tables.specs.Settings.{IsRuleOf, rule_text_of};
 
 use crate::setting::value_at;
 use sqlite::types::ValueRef;
@@ -27,8 +28,8 @@ pub fn read_rule<S: Alter>(connection: &mut Connection<S>) -> Result<Row, Error>
     ensures clean { HasCleanDisk (state S.Store connection.new) → HasCleanDisk (state S.Store connection.old) }
 
     // Where our table is there, at any place.
-    ensures row { HasCleanDisk (state S.Store connection.new) → (text : List ℕ)
-        → HasRule (state S.Store connection.old).now text → IsRuleOf text result }
+    ensures row { HasCleanDisk (state S.Store connection.new) → (rule : Option (List ℕ))
+        → HasRule (state S.Store connection.old).now rule → IsRuleOf rule result }
 {
     connection.set_step_limit(None);
     let _settled = connection.is_autocommit();

@@ -29,7 +29,7 @@ pub struct NewSetting {
 /// What the row says of the ledger that it was made for.
 #[derive(Clone, Copy, Debug, PartialEq, Eq)]
 pub struct Setting {
-    /// Which tables these are: 1 of a ledger with an offset, 2 of one with a zone rule.
+    /// Which tables these are: 3, or of an older ledger 1 with an offset, and 2 with a zone rule.
     pub version: i64,
     /// Minutes east of UTC, and 0 with a rule.
     pub minutes: i64,
@@ -93,7 +93,7 @@ pub fn read_setting<S: Alter>(connection: &mut Connection<S>) -> Result<Option<S
 }
 
 /// A whole number of the row from 0 on, which is below 2 to the 63rd.
-pub(crate) fn natural_at(row: &Row, at: usize) -> Result<u64, Error>
+pub fn natural_at(row: &Row, at: usize) -> Result<u64, Error>
     ensures { IfOk result (IsNaturalAt row.now at) }
 {
     let value: i64 = row.get(at)?;

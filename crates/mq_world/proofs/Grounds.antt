@@ -3,7 +3,7 @@ use Rattle.std.proofs.Common.{◌≡◌, ℕ, ◌+◌, ◌≤◌, List, [], ◌�
 use Rattle.std.specs.Prelude.{sum_by, ◌&&◌, ◌==◌, nat_le}
 use Rattle.std.proofs.lemmas.Bool.Decides.{nat_tests}
 use Rattle.mq_frame.specs.declared.message.Request.{Request}
-use Rattle.mq_frame.specs.declared.message.Request.TheVariants.{Reserve, Settle, Release, Limit, Usage, List as ListRequest}
+use Rattle.mq_frame.specs.declared.message.Request.TheVariants.{Reserve, Settle, Release, Limit, Usage, List as ListRequest, Retire}
 use Rattle.mq_frame.specs.declared.message.Reply.{Reply}
 use Rattle.mq_frame.specs.declared.message.Reply.TheVariants as reply
 use Rattle.mq_ledger.specs.declared.entry.Entry.{Entry}
@@ -51,6 +51,7 @@ seq_of (Release id txn at login) = id.seq
 seq_of (Limit id from_day cap login) = id.seq
 seq_of (Usage login day) = 0
 seq_of (ListRequest day after) = 0
+seq_of (Retire id) = id.seq
 
 abbrev pub one_upto : Transaction → ℕ → Entry → ℕ
 one_upto t n e = if is_of t e.request && nat_le (seq_of e.request) n then granted e.request e.reply else 0

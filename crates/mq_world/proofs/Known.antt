@@ -1,6 +1,6 @@
 -- What the crates below say of frames, clients, trackers and ledgers.
-use Rattle.std.proofs.Common.{◌≡◌, ℕ, ◌≤◌, true, false, List, [], ◌∷◌, ◌++◌, None, Some}
-use Rattle.std.specs.Prelude.{◌↔◌, ℤ, All, sum_by}
+use Rattle.std.proofs.Common.{◌≡◌, ℕ, ◌+◌, ◌≤◌, true, false, List, [], ◌∷◌, ◌++◌, None, Some}
+use Rattle.std.specs.Prelude.{◌↔◌, All, sum_by}
 use Rattle.std.specs.List.{AllByRecursion}
 use Rattle.mq_line.specs.Grammar.{Meaning}
 use Rattle.mq_track.specs.Laws.{AreNumbered}
@@ -14,7 +14,7 @@ use Rattle.mq_ledger.specs.declared.entry.Entry.{Entry}
 use Rattle.mq_ledger.specs.Answer.{reply, with_arrival, history_of}
 use Rattle.mq_ledger.specs.declared.zone.Zone.{Zone}
 use Rattle.mq_ledger.specs.Day.{IsZone, IsDayRule, day_of}
-use Rattle.mq_ledger.specs.History.{requests, Transaction, same_transaction, named, closed, held, settled_in, reserved, settled, used}
+use Rattle.mq_ledger.specs.History.{requests, Transaction, same_transaction, named, ended, granted_in, held, settled_in, reserved, settled, used}
 use Rattle.mq_ledger.specs.Limits.{cap}
 use Rattle.mq_ledger.specs.Sums.{held_on, settled_on, AreDistinct}
 use Rattle.mq_ledger.specs.Legal.{IsLegal}
@@ -49,7 +49,8 @@ pub record OfLedgers : Type 0 where
   pub suits : (day : ℕ → ℕ) (default : ℕ) (H : List Entry) (r : Request) → IsLegal day default H → RepliesSuit r (reply day default H r)
   pub same : (t u : Transaction) → same_transaction t u ≡ true → t ≡ u
   pub itself : (t : Transaction) → same_transaction t t ≡ true
-  pub unheard : (H : List Entry) (t : Transaction) → named H t ≡ None → (closed H t ≡ false) × (held H t ≡ 0) × (settled_in H t ≡ 0)
+  pub unheard : (H : List Entry) (t : Transaction) → named H t ≡ None → (ended H t ≡ false) × (held H t ≡ 0) × (settled_in H t ≡ 0)
+  pub kept : (H : List Entry) (t : Transaction) → ended H t ≡ false → held H t + settled_in H t ≡ granted_in H t
 
 pub record Known : Type 0 where
   pub frames : OfFrames

@@ -5,7 +5,7 @@ use Rattle.mq_frame.specs.Range.{IsHost, IsRun, IsRequest, IsReply}
 use Rattle.mq_frame.specs.Spelling.{request_body, reply_body, frame}
 use Rattle.mq_frame.specs.declared.message.Id.{Id}
 use Rattle.mq_frame.specs.declared.message.Request.{Request}
-use Rattle.mq_frame.specs.declared.message.Request.TheVariants.{Reserve, Settle, Release, Limit, Usage, List as ListRequest}
+use Rattle.mq_frame.specs.declared.message.Request.TheVariants.{Reserve, Settle, Release, Limit, Usage, List as ListRequest, Retire}
 use Rattle.mq_frame.specs.declared.message.Reply.{Reply}
 use Rattle.mq_frame.specs.declared.message.Reply.TheVariants as reply
 use Rattle.mq_ledger.specs.declared.entry.Entry.{Entry}
@@ -34,7 +34,7 @@ abbrev pub count_of : Request → ℕ
 count_of (Settle id txn at login count) = count
 count_of _ = 0
 
--- the entry that a reply is of
+-- the entry that a reply is of: Granted is that of an entry, and Old of none
 pub record Wrote (H : List Entry) (a : Reply) : Type 0 where
   pub entry : Entry
   pub among : In entry H
@@ -49,7 +49,7 @@ pub record Holds (s : Source) (tries : ℕ) (P : List Step) (H : List Entry) (se
   pub asks : AreAsked P
   pub sends : (q : Request) → In (frame (request_body q)) sent → IsRequest q → IsOwn s q → IsNumbered s P q
   pub taken : (e : Entry) → In e H → IsOwn s e.request → IsNumbered s P e.request
-  pub wrote : (a : Reply) (q : Request) → In (frame (reply_body a)) written → IsReply a → IsOwn s q → decides q a ≡ true → Wrote H a
+  pub wrote : (a : Reply) (q : Request) → In (frame (reply_body a)) written → IsReply a → IsOwn s q → decides q a ≡ true → is_grant a ≡ true → Wrote H a
   pub ground : IsGrounded s H P
   pub settled : (e : Entry) → In e H → IsOwn s e.request → is_settle e.request ≡ true → counted e.request e.reply ≡ count_of e.request
 
@@ -80,6 +80,8 @@ reply_id (reply.Closed id) = Some id
 reply_id (reply.Mismatch id) = Some id
 reply_id (reply.TooMany id held) = Some id
 reply_id (reply.Conflict id) = Some id
+reply_id (reply.Retired id) = Some id
+reply_id (reply.Old id) = Some id
 reply_id _ = None
 
 reserve_answered : OfFrames → (id : Id) (a : Reply) → answers_reserve id a ≡ true → Some id ≡ reply_id a
@@ -88,6 +90,7 @@ reserve_answered F id (reply.Full i used cap) h = ap Some ((F.same_ids id i).0 h
 reserve_answered F id (reply.Closed i) h = ap Some ((F.same_ids id i).0 h)
 reserve_answered F id (reply.Mismatch i) h = ap Some ((F.same_ids id i).0 h)
 reserve_answered F id (reply.Conflict i) h = ap Some ((F.same_ids id i).0 h)
+reserve_answered F id (reply.Old i) h = ap Some ((F.same_ids id i).0 h)
 reserve_answered F id a h = absurd (clash false h refl)
 
 closing_answered : OfFrames → (id : Id) (a : Reply) → answers_closing id a ≡ true → Some id ≡ reply_id a
@@ -97,6 +100,7 @@ closing_answered F id (reply.Closed i) h = ap Some ((F.same_ids id i).0 h)
 closing_answered F id (reply.Mismatch i) h = ap Some ((F.same_ids id i).0 h)
 closing_answered F id (reply.TooMany i held) h = ap Some ((F.same_ids id i).0 h)
 closing_answered F id (reply.Conflict i) h = ap Some ((F.same_ids id i).0 h)
+closing_answered F id (reply.Old i) h = ap Some ((F.same_ids id i).0 h)
 closing_answered F id a h = absurd (clash false h refl)
 
 -- a reply that decides a request has its number
@@ -113,20 +117,27 @@ suited_id (Reserve id txn at login count) (reply.Full j used cap) i h e = ap Som
 suited_id (Reserve id txn at login count) (reply.Closed j) i h e = ap Some (sym h) ∙ e
 suited_id (Reserve id txn at login count) (reply.Mismatch j) i h e = ap Some (sym h) ∙ e
 suited_id (Reserve id txn at login count) (reply.Conflict j) i h e = ap Some (sym h) ∙ e
+suited_id (Reserve id txn at login count) (reply.Old j) i h e = ap Some (sym h) ∙ e
 suited_id (Settle id txn at login count) (reply.Settled j n) i h e = ap Some (sym h.0) ∙ e
 suited_id (Settle id txn at login count) (reply.TooMany j held) i h e = ap Some (sym h) ∙ e
 suited_id (Settle id txn at login count) (reply.Closed j) i h e = ap Some (sym h) ∙ e
 suited_id (Settle id txn at login count) (reply.Mismatch j) i h e = ap Some (sym h) ∙ e
 suited_id (Settle id txn at login count) (reply.Conflict j) i h e = ap Some (sym h) ∙ e
+suited_id (Settle id txn at login count) (reply.Old j) i h e = ap Some (sym h) ∙ e
 suited_id (Release id txn at login) (reply.Released j held) i h e = ap Some (sym h) ∙ e
 suited_id (Release id txn at login) (reply.Closed j) i h e = ap Some (sym h) ∙ e
 suited_id (Release id txn at login) (reply.Mismatch j) i h e = ap Some (sym h) ∙ e
 suited_id (Release id txn at login) (reply.Conflict j) i h e = ap Some (sym h) ∙ e
+suited_id (Release id txn at login) (reply.Old j) i h e = ap Some (sym h) ∙ e
 suited_id (Limit id from c login) (reply.LimitSet j) i h e = ap Some (sym h) ∙ e
 suited_id (Limit id from c login) (reply.Over j day used) i h e = ap Some (sym h) ∙ e
 suited_id (Limit id from c login) (reply.Conflict j) i h e = ap Some (sym h) ∙ e
+suited_id (Limit id from c login) (reply.Old j) i h e = ap Some (sym h) ∙ e
 suited_id (Usage login day) (reply.Usage l d x y z) i h e = absurd (none_some i e)
 suited_id (ListRequest day after) (reply.List d rows) i h e = absurd (none_some i e)
+suited_id (Retire id) (reply.Retired j) i h e = ap Some (sym h) ∙ e
+suited_id (Retire id) (reply.Conflict j) i h e = ap Some (sym h) ∙ e
+suited_id (Retire id) (reply.Old j) i h e = ap Some (sym h) ∙ e
 suited_id r a i h e = absurd h
 
 -- so the request that it replies to has the number of the one that it decides
@@ -222,7 +233,7 @@ heard F C s tries P H sent written txn at login g x suits h may dec e =
     let came = may k.0 d.0 d.1 in
     let number : IsNumbered s Q x.request = (C.sent s tries Q h.underway).0 in
     let own : IsOwn s x.request = numbered_own s Q x.request number in
-    let w = h.wrote k.0 x.request came.0 came.1 own d.1 in
+    let w = h.wrote k.0 x.request came.0 came.1 own d.1 k.2 in
     let R : Reply → Type 0 = λ a. RepliesSuit w.entry.request a in
     let fits : RepliesSuit w.entry.request k.0 = subst R w.is (suits w.entry w.among) in
     let same = same_id_by F s x.request w.entry.request k.0 own d.1 fits in
@@ -274,7 +285,7 @@ others_send s tries P H sent written bytes others h = record {
   settled = h.settled;
 }
 
-pub writes_on : (s : Source) (tries : ℕ) (P : List Step) (H : List Entry) (sent written : List (List ℕ)) (bytes : List ℕ) → ((a : Reply) (q : Request) → bytes ≡ frame (reply_body a) → IsReply a → IsOwn s q → decides q a ≡ true → Wrote H a)
+pub writes_on : (s : Source) (tries : ℕ) (P : List Step) (H : List Entry) (sent written : List (List ℕ)) (bytes : List ℕ) → ((a : Reply) (q : Request) → bytes ≡ frame (reply_body a) → IsReply a → IsOwn s q → decides q a ≡ true → is_grant a ≡ true → Wrote H a)
     → Holds s tries P H sent written → Holds s tries P H sent (bytes ∷ written)
 writes_on s tries P H sent written bytes known h = record {
   host = h.host;
@@ -284,7 +295,7 @@ writes_on s tries P H sent written bytes known h = record {
   asks = h.asks;
   sends = h.sends;
   taken = h.taken;
-  wrote = λ a q i r own d. elim i [ inl e ↦ known a q e r own d | inr j ↦ h.wrote a q j r own d ];
+  wrote = λ a q i r own d g. elim i [ inl e ↦ known a q e r own d g | inr j ↦ h.wrote a q j r own d g ];
   ground = h.ground;
   settled = h.settled;
 }

@@ -7,12 +7,12 @@ use Rattle.mq_frame.specs.Same.{same_text}
 use Rattle.mq_frame.specs.Spelling.{request_body, reply_body, frame}
 use Rattle.mq_frame.specs.declared.message.Id.{Id}
 use Rattle.mq_frame.specs.declared.message.Request.{Request}
-use Rattle.mq_frame.specs.declared.message.Request.TheVariants.{Reserve, Settle, Release, Limit, Usage, List as ListRequest}
+use Rattle.mq_frame.specs.declared.message.Request.TheVariants.{Reserve, Settle, Release, Limit, Usage, List as ListRequest, Retire}
 use Rattle.mq_frame.specs.declared.message.Reply.{Reply}
 use Rattle.mq_frame.specs.declared.message.Reply.TheVariants as reply
 use Rattle.mq_ledger.specs.declared.entry.Entry.{Entry}
-use Rattle.mq_ledger.specs.Arrivals.{has_id, is_id, id_of as ledger_id}
-use Rattle.mq_ledger.specs.History.{Transaction, transaction, same_transaction, is_of, is_at, closes, closed, named, agrees, granted_in, counted}
+use Rattle.mq_ledger.specs.Arrivals.{has_id, is_id, is_below, id_of as ledger_id}
+use Rattle.mq_ledger.specs.History.{Transaction, transaction, same_transaction, is_of, is_at, closes, ended, named, agrees, granted_in, counted, requests}
 use Rattle.mq_ledger.specs.Answer.{answer, appended, stored}
 use Rattle.mq_ledger.specs.Suits.{Suits as RepliesSuit}
 use Rattle.mq_client.specs.Past.{Source, Step, Standing, Never, Live, Closed, view, id_of, reserve_of, closing_of, is_commit}
@@ -48,6 +48,7 @@ of_source_own L s t (Release id txn at login) mine = let o = of_own L s t id txn
 of_source_own L s t (Limit id from c login) mine = absurd (clash false mine refl)
 of_source_own L s t (Usage login day) mine = absurd (clash false mine refl)
 of_source_own L s t (ListRequest day after) mine = absurd (clash false mine refl)
+of_source_own L s t (Retire id) mine = absurd (clash false mine refl)
 
 -- a number under which a request suits its transaction
 pub record SuitsUnder (s : Source) (t : ℕ) (st : Standing) (q : Request) : Type 0 where
@@ -87,11 +88,13 @@ closes_closing (Usage login day) (reply.Settled i n) h c = absurd h
 closes_closing (Usage login day) (reply.Released i n) h c = absurd h
 closes_closing (ListRequest day after) (reply.Settled i n) h c = absurd h
 closes_closing (ListRequest day after) (reply.Released i n) h c = absurd h
+closes_closing (Retire id) (reply.Settled i n) h c = absurd h
+closes_closing (Retire id) (reply.Released i n) h c = absurd h
 closes_closing r a h c = absurd (clash false c refl)
 
--- a transaction none of whose entries asks for its close isn't closed
-pub not_closed : (H : List Entry) (t : Transaction) → AllSuit H → ((e : Entry) → In e H → is_of t e.request ≡ true → is_closing e.request ≡ false) → closed H t ≡ false
-not_closed H t suits none = elim (either (closed H t)) [
+-- a transaction none of whose entries asks for its close wasn't settled or released
+pub not_ended : (H : List Entry) (t : Transaction) → AllSuit H → ((e : Entry) → In e H → is_of t e.request ≡ true → is_closing e.request ≡ false) → ended H t ≡ false
+not_ended H t suits none = elim (either (ended H t)) [
   | inr f ↦ f
   | inl y ↦ (let f = any_found (λ e. is_of t e.request && closes e.reply) H y in
       let mine = first_so (is_of t f.0.request) (closes f.0.reply) f.1.so in
@@ -127,10 +130,10 @@ agrees_if at login (Some e) h = h e refl
 
 -- ---- a settle that comes for the first time is settled
 
--- its answer, where nothing of its transaction was closed and enough is held
-settle_answer : (day : ℕ → ℕ) (default : ℕ) (H : List Entry) (id : Id) (txn at : ℕ) (login : List ℕ) (count : ℕ) → agrees at login (named H (transaction id txn)) ≡ true → closed H (transaction id txn) ≡ false → count ≤ granted_in H (transaction id txn)
+-- its answer, where its run isn't given up, its transaction wasn't settled or released, and enough was granted
+settle_answer : (day : ℕ → ℕ) (default : ℕ) (H : List Entry) (id : Id) (txn at : ℕ) (login : List ℕ) (count : ℕ) → agrees at login (named H (transaction id txn)) ≡ true → is_below (requests H) id ≡ false → ended H (transaction id txn) ≡ false → count ≤ granted_in H (transaction id txn)
     → counted (Settle id txn at login count) (answer day default H (Settle id txn at login count)) ≡ count
-settle_answer day default H id txn at login count a c le = let enough : nat_lt (granted_in H (transaction id txn)) count ≡ false = grind (arith, nat_tests, le) in rw (a, c, enough) refl
+settle_answer day default H id txn at login count a b c le = let enough : nat_lt (granted_in H (transaction id txn)) count ≡ false = grind (arith, nat_tests, le) in rw (a, b, c, enough) refl
 
 closing_id : (s : Source) (n t : ℕ) (end : CloseEnd) (h : Held) → ledger_id (closing_of s n t end h) ≡ Some (id_of s n)
 closing_id s n t end h = by_kind (is_commit end && nat_le 1 h.granted)
@@ -154,16 +157,17 @@ still_reserves F s t end seq h H new e i u = by_suits u.suits
         absurd (clash (has_id (id_of s seq) e.request) (has_its_id F (id_of s seq) e.request is) (not_found (λ x. has_id (id_of s seq) x.request) H new e i))
 
 settled_now : (day : ℕ → ℕ) (default : ℕ) → OfFrames → OfClients → OfLedgers → (s : Source) (tries : ℕ) (P : List Step) (H : List Entry) (sent written : List (List ℕ)) → AllSuit H → Holds s tries P H sent written → (t : ℕ) (end : CloseEnd) (seq : ℕ) (h : Held)
-    → (view s P).standing t ≡ Closed end seq h → stored H (id_of s seq) ≡ None
+    → (view s P).standing t ≡ Closed end seq h → is_below (requests H) (id_of s seq) ≡ false → stored H (id_of s seq) ≡ None
     → counted (Settle (id_of s seq) t h.at h.login h.granted) (answer day default H (Settle (id_of s seq) t h.at h.login h.granted)) ≡ h.granted
-settled_now day default F C L s tries P H sent written suits holds t end seq h ended new =
+settled_now day default F C L s tries P H sent written suits holds t end seq h is_ended up new =
     let S : Standing → Type 0 = λ st. (e : Entry) → In e H → is_of (of_source s t) e.request ≡ true → SuitsUnder s t st e.request in
-    let each : (e : Entry) → In e H → is_of (of_source s t) e.request ≡ true → SuitsUnder s t (Closed end seq h) e.request = subst S ended (entry_suits C L s tries P H sent written holds t) in
+    let each : (e : Entry) → In e H → is_of (of_source s t) e.request ≡ true → SuitsUnder s t (Closed end seq h) e.request = subst S is_ended (entry_suits C L s tries P H sent written holds t) in
     let G : Standing → Type 0 = λ st. let_at st ≤ granted_in H (of_source s t) in
-    let enough : h.granted ≤ granted_in H (of_source s t) = subst G ended (was_granted L.itself s H P holds.ground t) in
+    let enough : h.granted ≤ granted_in H (of_source s t) = subst G is_ended (was_granted L.itself s H P holds.ground t) in
     settle_answer day default H (id_of s seq) t h.at h.login h.granted
     (agrees_if h.at h.login (named H (of_source s t)) (λ e f. (let k = found (λ x. is_of (of_source s t) x.request) H e f in let u = each e k.among k.so in ended_at s u.number t end seq h e.request u.suits)))
-    (not_closed H (of_source s t) suits (λ e i mine. still_reserves F s t end seq h H new e i (each e i mine)))
+    up
+    (not_ended H (of_source s t) suits (λ e i mine. still_reserves F s t end seq h H new e i (each e i mine)))
     enough
 
 abbrev kind_of : Source → ℕ → ℕ → Held → Bool → Request
@@ -181,14 +185,15 @@ closing_settles : (day : ℕ → ℕ) (default : ℕ) (s : Source) (H : List Ent
 closing_settles day default s H n t end h y e = kind_settles day default s H n t h (is_commit end && nat_le 1 h.granted) y e
 
 settled_by : (day : ℕ → ℕ) (default : ℕ) → OfFrames → OfClients → OfLedgers → (s : Source) (tries : ℕ) (P : List Step) (H : List Entry) (sent written : List (List ℕ)) → AllSuit H → Holds s tries P H sent written → (t n : ℕ) (st : Standing) (q : Request)
-    → (view s P).standing t ≡ st → Suits s n t st q → is_settle q ≡ true → stored H (id_of s n) ≡ None → counted q (answer day default H q) ≡ count_of q
-settled_by day default F C L s tries P H sent written suits holds t n Never q is h y new = absurd h
-settled_by day default F C L s tries P H sent written suits holds t n (Live k) q is h y new = absurd (clash (is_settle q) y (reserve_settle s n t k q h))
-settled_by day default F C L s tries P H sent written suits holds t n (Closed end seq k) q is (inl r) y new = absurd (clash (is_settle q) y (reserve_settle s n t k q r))
-settled_by day default F C L s tries P H sent written suits holds t n (Closed end seq k) q is (inr p) y new =
+    → (view s P).standing t ≡ st → Suits s n t st q → is_settle q ≡ true → is_below (requests H) (id_of s n) ≡ false → stored H (id_of s n) ≡ None → counted q (answer day default H q) ≡ count_of q
+settled_by day default F C L s tries P H sent written suits holds t n Never q is h y up new = absurd h
+settled_by day default F C L s tries P H sent written suits holds t n (Live k) q is h y up new = absurd (clash (is_settle q) y (reserve_settle s n t k q h))
+settled_by day default F C L s tries P H sent written suits holds t n (Closed end seq k) q is (inl r) y up new = absurd (clash (is_settle q) y (reserve_settle s n t k q r))
+settled_by day default F C L s tries P H sent written suits holds t n (Closed end seq k) q is (inr p) y up new =
+    let U : ℕ → Type 0 = λ m. is_below (requests H) (id_of s m) ≡ false in
     let N : ℕ → Type 0 = λ m. stored H (id_of s m) ≡ None in
     let same : q ≡ closing_of s seq t end k = p.1 ∙ ap (λ m. closing_of s m t end k) p.0 in
-    let now = settled_now day default F C L s tries P H sent written suits holds t end seq k is (subst N p.0 new) in
+    let now = settled_now day default F C L s tries P H sent written suits holds t end seq k is (subst U p.0 up) (subst N p.0 new) in
     let A : Request → Type 0 = λ r. counted r (answer day default H r) ≡ count_of r in
     subst A (sym same) (closing_settles day default s H seq t end k (ap is_settle (sym same) ∙ y) now)
 
@@ -200,26 +205,29 @@ ledger_number (Release id txn at login) = refl
 ledger_number (Limit id from c login) = refl
 ledger_number (Usage login day) = refl
 ledger_number (ListRequest day after) = refl
+ledger_number (Retire id) = refl
 
 new_settled : (day : ℕ → ℕ) (default : ℕ) → OfFrames → OfClients → OfLedgers → (s : Source) (tries : ℕ) (P : List Step) (H : List Entry) (sent written : List (List ℕ)) → AllSuit H → Holds s tries P H sent written → (id : Id) (q : Request)
-    → IsNumbered s P q → is_settle q ≡ true → ledger_id q ≡ Some id → stored H id ≡ None → counted q (answer day default H q) ≡ count_of q
-new_settled day default F C L s tries P H sent written suits holds id (Settle i txn at login count) n y is new =
+    → IsNumbered s P q → is_settle q ≡ true → ledger_id q ≡ Some id → is_below (requests H) id ≡ false → stored H id ≡ None → counted q (answer day default H q) ≡ count_of q
+new_settled day default F C L s tries P H sent written suits holds id (Settle i txn at login count) n y is up new =
     let u = numbered_suits C s tries P H sent written holds txn (Settle i txn at login count) n refl in
     let same : id ≡ id_of s u.number = some_is id (id_of s u.number) (sym is ∙ u.id) in
+    let U : Id → Type 0 = λ j. is_below (requests H) j ≡ false in
     let N : Id → Type 0 = λ j. stored H j ≡ None in
-    settled_by day default F C L s tries P H sent written suits holds txn u.number ((view s P).standing txn) (Settle i txn at login count) refl u.suits y (subst N same new)
-new_settled day default F C L s tries P H sent written suits holds id (Reserve i txn at login count) n y is new = absurd (clash false y refl)
-new_settled day default F C L s tries P H sent written suits holds id (Release i txn at login) n y is new = absurd (clash false y refl)
-new_settled day default F C L s tries P H sent written suits holds id (Limit i from c login) n y is new = absurd (clash false y refl)
-new_settled day default F C L s tries P H sent written suits holds id (Usage login d) n y is new = absurd (clash false y refl)
-new_settled day default F C L s tries P H sent written suits holds id (ListRequest d after) n y is new = absurd (clash false y refl)
+    settled_by day default F C L s tries P H sent written suits holds txn u.number ((view s P).standing txn) (Settle i txn at login count) refl u.suits y (subst U same up) (subst N same new)
+new_settled day default F C L s tries P H sent written suits holds id (Reserve i txn at login count) n y is up new = absurd (clash false y refl)
+new_settled day default F C L s tries P H sent written suits holds id (Release i txn at login) n y is up new = absurd (clash false y refl)
+new_settled day default F C L s tries P H sent written suits holds id (Limit i from c login) n y is up new = absurd (clash false y refl)
+new_settled day default F C L s tries P H sent written suits holds id (Usage login d) n y is up new = absurd (clash false y refl)
+new_settled day default F C L s tries P H sent written suits holds id (ListRequest d after) n y is up new = absurd (clash false y refl)
+new_settled day default F C L s tries P H sent written suits holds id (Retire i) n y is up new = absurd (clash false y refl)
 
 -- ---- a new request
 
 pub takes_new : (day : ℕ → ℕ) (default : ℕ) → OfFrames → OfClients → OfLedgers → (s : Source) (tries : ℕ) (P : List Step) (H : List Entry) (sent written : List (List ℕ)) (id : Id) (q : Request)
-    → In (frame (request_body q)) sent → IsRequest q → ledger_id q ≡ Some id → stored H id ≡ None → IsReply (answer day default H q) → AllSuit H → Holds s tries P H sent written
+    → In (frame (request_body q)) sent → IsRequest q → ledger_id q ≡ Some id → is_below (requests H) id ≡ false → stored H id ≡ None → IsReply (answer day default H q) → AllSuit H → Holds s tries P H sent written
     → Holds s tries P (appended day default H q) sent (frame (reply_body (answer day default H q)) ∷ written)
-takes_new day default F C L s tries P H sent written id q was range is new fits suits h =
+takes_new day default F C L s tries P H sent written id q was range is up new fits suits h =
     let a : Reply = answer day default H q in
     let e : Entry = entry q a in
     record {
@@ -233,15 +241,15 @@ takes_new day default F C L s tries P H sent written id q was range is new fits 
         | inl j ↦ h.taken x j own
         | inr same ↦ (let r : q ≡ x.request = ap (λ (y : Entry). y.request) same in subst (IsNumbered s P) r (h.sends q was range (subst (IsOwn s) (sym r) own)))
       ];
-      wrote = λ b r i k own d. elim i [
+      wrote = λ b r i k own d g. elim i [
         | inl same ↦ record { entry = e; among = in_last H e; is = F.one_reply a b fits k same }
-        | inr j ↦ (let o = h.wrote b r j k own d in record { entry = o.entry; among = in_front H (e ∷ []) o.entry o.among; is = o.is })
+        | inr j ↦ (let o = h.wrote b r j k own d g in record { entry = o.entry; among = in_front H (e ∷ []) o.entry o.among; is = o.is })
       ];
       ground = ground_stays s H (e ∷ []) P h.ground;
       settled = λ x i own y. elim (in_push H e x i) [
         | inl j ↦ h.settled x j own y
         | inr same ↦ (let r : q ≡ x.request = ap (λ (z : Entry). z.request) same in
             let A : Entry → Type 0 = λ z. counted z.request z.reply ≡ count_of z.request in
-            subst A same (new_settled day default F C L s tries P H sent written suits h id q (h.sends q was range (subst (IsOwn s) (sym r) own)) (ap is_settle r ∙ y) is new))
+            subst A same (new_settled day default F C L s tries P H sent written suits h id q (h.sends q was range (subst (IsOwn s) (sym r) own)) (ap is_settle r ∙ y) is up new))
       ];
     }

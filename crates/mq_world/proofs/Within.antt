@@ -7,7 +7,7 @@ use Rattle.mq_frame.specs.declared.message.Request.{Request}
 use Rattle.mq_frame.specs.declared.message.Request.TheVariants.{Settle, Release}
 use Rattle.mq_frame.specs.declared.message.Reply.{Reply}
 use Rattle.mq_ledger.specs.declared.entry.Entry.{Entry}
-use Rattle.mq_ledger.specs.History.{Transaction, is_of, counted, closed, granted_in, held, settled_in, named}
+use Rattle.mq_ledger.specs.History.{Transaction, is_of, counted, counted_in, granted_in, held, settled_in, named}
 use Rattle.mq_ledger.specs.Sums.{is_for, names_for, held_on, settled_on}
 use Rattle.mq_client.specs.Exchanges.{Exchange, decisions}
 use Rattle.mq_client.specs.Past.{Source, Action, Ask, Close, Drain, Step, Standing, Never, Live, Closed, View, view, after, after_ask, after_close, answer_of, answer_by, let_through, opened, held_by, id_of, reserve_of, closing_of, refuses}
@@ -24,7 +24,7 @@ use Rattle.mq_world.proofs.Known.{OfLedgers}
 use Rattle.mq_world.proofs.Ranges.{unless}
 use Rattle.mq_world.proofs.Grounds.{of_source, let_at}
 use Rattle.mq_world.proofs.Runs.{is_settle, count_of, Holds, AllSuit, failing, so_far, step}
-use Rattle.mq_world.proofs.Takes.{SuitsUnder, of_source_own, is_closing, not_closed, reserve_closes, reserve_settle}
+use Rattle.mq_world.proofs.Takes.{SuitsUnder, of_source_own, is_closing, not_ended, reserve_closes, reserve_settle}
 
 -- ---- an exchange on its way lets nothing through
 
@@ -93,10 +93,9 @@ counts_so_far s tries (Some q) P u back t = counts_past s tries q P u back t
 abbrev settles_it : Transaction → Entry → Bool
 settles_it t e = is_of t e.request && is_settle e.request
 
--- where all of its entries are reserves it is held
-held_each : (H : List Entry) (t : Transaction) (n : ℕ) → AllSuit H → n ≤ granted_in H t → ((e : Entry) → In e H → is_of t e.request ≡ true → is_closing e.request ≡ false) → n ≤ held H t + settled_in H t
-held_each H t n suits enough each = (let shut : closed H t ≡ false = not_closed H t suits each in
-    let have : n ≤ held H t = rw shut enough in omega (arith, have))
+-- where all of its entries are reserves it is held, or settled by a retire
+held_each : OfLedgers → (H : List Entry) (t : Transaction) (n : ℕ) → AllSuit H → n ≤ granted_in H t → ((e : Entry) → In e H → is_of t e.request ≡ true → is_closing e.request ≡ false) → n ≤ held H t + settled_in H t
+held_each L H t n suits enough each = (let kept = L.kept H t (not_ended H t suits each) in omega (arith, kept, enough))
 
 closing_count : (s : Source) (n t : ℕ) (k : Held) → is_settle (closing_of s n t ending.Commit k) ≡ true → count_of (closing_of s n t ending.Commit k) ≡ k.granted
 closing_count s n t k y = by_kind (nat_le 1 k.granted) y
@@ -117,8 +116,8 @@ settled_each s tries P H sent written L h t seq k e i mine y u = by_suits u.suit
     by_suits (inr p) =
         let count : count_of e.request ≡ k.granted = ap count_of p.1 ∙ closing_count s u.number t k (sym (ap is_settle p.1) ∙ y) in
         let all = h.settled e i (of_source_own L s t e.request mine).0 y in
-        let part : (if is_of (of_source s t) e.request then counted e.request e.reply else 0) ≤ settled_in H (of_source s t) = sum_has (λ x. if is_of (of_source s t) x.request then counted x.request x.reply else 0) e H i in
-        let own : counted e.request e.reply ≤ settled_in H (of_source s t) = rw mine at part in
+        let part : (if is_of (of_source s t) e.request then counted e.request e.reply else 0) ≤ counted_in H (of_source s t) = sum_has (λ x. if is_of (of_source s t) x.request then counted x.request x.reply else 0) e H i in
+        let own : counted e.request e.reply ≤ counted_in H (of_source s t) = rw mine at part in
         omega (arith, count, all, own)
 
 -- no settle of it has come: its entries are reserves
@@ -136,7 +135,7 @@ pub standing_each : (s : Source) (tries : ℕ) (P : List Step) (H : List Entry) 
     → ((e : Entry) → In e H → is_of (of_source s t) e.request ≡ true → SuitsUnder s t st e.request) → let_by st ≤ held H (of_source s t) + settled_in H (of_source s t)
 standing_each s tries P H sent written L suits h t Never enough each = omega arith
 standing_each s tries P H sent written L suits h t (Live k) enough each =
-    held_each H (of_source s t) k.granted suits enough (λ e i mine. (let u = each e i mine in reserve_closes s u.number t k e.request u.suits))
+    held_each L H (of_source s t) k.granted suits enough (λ e i mine. (let u = each e i mine in reserve_closes s u.number t k e.request u.suits))
 standing_each s tries P H sent written L suits h t (Closed ending.Drop seq k) enough each = omega arith
 standing_each s tries P H sent written L suits h t (Closed ending.Commit seq k) enough each = elim (zero_or_more k.granted) [
   | inl z ↦ omega (arith, z)
@@ -145,7 +144,7 @@ standing_each s tries P H sent written L suits h t (Closed ending.Commit seq k) 
         let mine = first_so (is_of (of_source s t) f.0.request) (is_settle f.0.request) f.1.so in
         let settles = second_so (is_of (of_source s t) f.0.request) (is_settle f.0.request) f.1.so in
         let a = settled_each s tries P H sent written L h t seq k f.0 f.1.among mine settles (each f.0 f.1.among mine) in omega (arith, a))
-    | inr m ↦ held_each H (of_source s t) k.granted suits enough (λ e i mine. unsettled s t seq k e some mine (not_any (settles_it (of_source s t)) H m e i) (each e i mine))
+    | inr m ↦ held_each L H (of_source s t) k.granted suits enough (λ e i mine. unsettled s t seq k e some mine (not_any (settles_it (of_source s t)) H m e i) (each e i mine))
   ]
 ]
 

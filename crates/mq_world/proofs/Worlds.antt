@@ -1,6 +1,6 @@
 -- Every state of the world.
 use Rattle.std.proofs.Common.{◌≡◌, ℕ, ◌≤◌, List, [], ◌∷◌, ◌++◌, Bool, true, false, refl, ◌∙◌, ap, sym, subst, inl, inr, Option, None, Some, if◌then◌else◌}
-use Rattle.std.specs.Prelude.{◌==◌, is_some}
+use Rattle.std.specs.Prelude.{◌==◌, ◌||◌, is_some}
 use Rattle.std.specs.List.{AllByRecursion}
 use Rattle.std.proofs.lemmas.List.Elements.{recursion_from_All, All-from_recursion}
 use Rattle.mq_track.specs.Sessions.{begin_count}
@@ -13,21 +13,20 @@ use Rattle.mq_frame.specs.declared.message.Reply.{Reply}
 use Rattle.mq_frame.specs.declared.message.Reply.TheVariants as reply
 use Rattle.mq_ledger.specs.declared.entry.Entry.{Entry}
 use Rattle.mq_ledger.specs.Answer.{answer, appended, stored, reply_to, reply_by, with_arrival_by}
-use Rattle.mq_ledger.specs.Arrivals.{has_id, is_id, id_of as ledger_id}
+use Rattle.mq_ledger.specs.Arrivals.{has_id, is_below, id_of as ledger_id}
 use Rattle.mq_ledger.specs.Day.{day_of}
 use Rattle.mq_ledger.specs.History.{requests}
 use Rattle.mq_ledger.specs.Legal.{Book, IsLegalBook}
 use Rattle.mq_ledger.specs.Suits.{Suits as RepliesSuit}
-use Rattle.mq_client.specs.Exchanges.{decides}
 use Rattle.mq_client.specs.Past.{Source, Drain, Step, id_of, IsPlayed}
 use Rattle.mq_client.specs.Numbered.{id_in}
 use Rattle.mq_client.specs.Filter.{actions, actions_of}
 use Rattle.mq_world.specs.World.{Site, Run, World, fresh, same_source, put, book_after}
 use Rattle.mq_world.specs.Law.{earlier}
 use Rattle.mq_world.proofs.Basics.{either, clash, none_some, first_so, second_so, both_so, text_is, text_itself, number_is, number_itself, In, all_at, all_push, found}
-use Rattle.mq_world.proofs.Known.{OfLedgers, Known}
-use Rattle.mq_world.proofs.Numbers.{IsOwn, one_request}
-use Rattle.mq_world.proofs.Runs.{Wrote, Holds, AllSuit, so_far, writes_on, same_id_by, own_by}
+use Rattle.mq_world.proofs.Known.{OfFrames, OfLedgers, Known}
+use Rattle.mq_world.proofs.Grounds.{is_grant}
+use Rattle.mq_world.proofs.Runs.{Wrote, Holds, AllSuit, so_far, writes_on, same_id_by}
 use Rattle.mq_world.proofs.Takes.{ledger_number, takes_new}
 
 -- what a run read
@@ -80,48 +79,43 @@ put_sound site w s r sent h y read own other = record {
 
 -- ---- the ledger
 
-same_reply : (day : ℕ → ℕ) (default : ℕ) → Known → (s : Source) (tries : ℕ) (P : List Step) (H : List Entry) (sent written : List (List ℕ)) (id : Id) (q : Request) (e : Entry) (b : Bool) → same_request q e.request ≡ b → ledger_id q ≡ Some id → stored H id ≡ Some e
-    → In (frame (request_body q)) sent → IsRequest q → Holds s tries P H sent written
-    → RepliesSuit q (if b then e.reply else reply.Conflict id) → IsReply (if b then e.reply else reply.Conflict id)
-    → (a : Reply) (p : Request) → frame (reply_body (if b then e.reply else reply.Conflict id)) ≡ frame (reply_body a) → IsReply a → IsOwn s p → decides p a ≡ true → Wrote H a
-same_reply day default K s tries P H sent written id q e true same number there was range h suits fits a p f k own d =
-    let i = found (λ x. has_id id x.request) H e there in
-    record { entry = e; among = i.among; is = K.frames.one_reply e.reply a fits k f }
-same_reply day default K s tries P H sent written id q e false same number there was range h suits fits a p f k own d =
-    let i = found (λ x. has_id id x.request) H e there in
-    let is : reply.Conflict id ≡ a = K.frames.one_reply (reply.Conflict id) a fits k f in
-    let R : Reply → Type 0 = λ x. RepliesSuit q x in
-    let id_same : id_in q ≡ id_in p = same_id_by K.frames s p q a own d (subst R is suits) in
-    let q_own : IsOwn s q = own_by s p q own id_same in
-    let entry_id : id_in e.request ≡ Some id = entry_number e.request i.so in
-    let q_id : id_in q ≡ Some id = sym (ledger_number q) ∙ number in
-    let e_own : IsOwn s e.request = own_by s q e.request q_own (entry_id ∙ sym q_id) in
-    let one : q ≡ e.request = one_request s P q e.request (h.sends q was range q_own) (h.taken e i.among e_own) (q_id ∙ sym entry_id) in
-    absurd (clash (same_request q e.request) ((K.frames.same q e.request).1 one) same)
-  where
-    by_number : (r : Request) (o : Option Id) → is_id id o ≡ true → o ≡ Some id
-    by_number r None t = absurd (clash false t refl)
-    by_number r (Some j) t = ap Some (sym ((K.frames.same_ids id j).0 t))
+-- no reply but Granted is one
+conflict_not : (id : Id) (a : Reply) → reply.Conflict id ≡ a → is_grant a ≡ true → ⊥
+conflict_not id a e g = clash (is_grant a) g (ap is_grant (sym e))
 
-    entry_number : (r : Request) → has_id id r ≡ true → id_in r ≡ Some id
-    entry_number r t = sym (ledger_number r) ∙ by_number r (ledger_id r) t
+old_not : (id : Id) (a : Reply) → reply.Old id ≡ a → is_grant a ≡ true → ⊥
+old_not id a e g = clash (is_grant a) g (ap is_grant (sym e))
 
-takes_by : (day : ℕ → ℕ) (default : ℕ) → Known → (s : Source) (tries : ℕ) (P : List Step) (H : List Entry) (sent written : List (List ℕ)) (id : Id) (q : Request) (m : Option Entry) → ledger_id q ≡ Some id → stored H id ≡ m
-    → In (frame (request_body q)) sent → IsRequest q → AllSuit H → RepliesSuit q (reply_by day default H q id m) → IsReply (reply_by day default H q id m) → Holds s tries P H sent written
+-- a request whose number is stored gets the stored reply, or Conflict
+same_reply : OfFrames → (H : List Entry) (id : Id) (e : Entry) (b : Bool) → stored H id ≡ Some e → IsReply (if b then e.reply else reply.Conflict id)
+    → (a : Reply) → frame (reply_body (if b then e.reply else reply.Conflict id)) ≡ frame (reply_body a) → IsReply a → is_grant a ≡ true → Wrote H a
+same_reply F H id e true there fits a f k g = let i = found (λ x. has_id id x.request) H e there in record { entry = e; among = i.among; is = F.one_reply e.reply a fits k f }
+same_reply F H id e false there fits a f k g = absurd (conflict_not id a (F.one_reply (reply.Conflict id) a fits k f) g)
+
+takes_by : (day : ℕ → ℕ) (default : ℕ) → Known → (s : Source) (tries : ℕ) (P : List Step) (H : List Entry) (sent written : List (List ℕ)) (id : Id) (q : Request) (m : Option Entry) → ledger_id q ≡ Some id → is_below (requests H) id ≡ false → stored H id ≡ m
+    → In (frame (request_body q)) sent → IsRequest q → AllSuit H → IsReply (reply_by day default H q id m) → Holds s tries P H sent written
     → Holds s tries P (if is_some m then H else appended day default H q) sent (frame (reply_body (reply_by day default H q id m)) ∷ written)
-takes_by day default K s tries P H sent written id q None number there was range suits fit fits h =
-    takes_new day default K.frames K.clients K.ledgers s tries P H sent written id q was range number there fits suits h
-takes_by day default K s tries P H sent written id q (Some e) number there was range suits fit fits h =
+takes_by day default K s tries P H sent written id q None number up there was range suits fits h =
+    takes_new day default K.frames K.clients K.ledgers s tries P H sent written id q was range number up there fits suits h
+takes_by day default K s tries P H sent written id q (Some e) number up there was range suits fits h =
     writes_on s tries P H sent written (frame (reply_body (reply_by day default H q id (Some e))))
-    (same_reply day default K s tries P H sent written id q e (same_request q e.request) refl number there was range h fit fits) h
+    (λ a p f k own d g. same_reply K.frames H id e (same_request q e.request) there fits a f k g) h
+
+-- a request of a retired run gets Old, and any other is taken
+takes_if : (day : ℕ → ℕ) (default : ℕ) → Known → (s : Source) (tries : ℕ) (P : List Step) (H : List Entry) (sent written : List (List ℕ)) (id : Id) (q : Request) (b : Bool) → ledger_id q ≡ Some id → is_below (requests H) id ≡ b
+    → In (frame (request_body q)) sent → IsRequest q → AllSuit H → IsReply (if b then reply.Old id else reply_by day default H q id (stored H id)) → Holds s tries P H sent written
+    → Holds s tries P (if b || is_some (stored H id) then H else appended day default H q) sent (frame (reply_body (if b then reply.Old id else reply_by day default H q id (stored H id))) ∷ written)
+takes_if day default K s tries P H sent written id q true number up was range suits fits h =
+    writes_on s tries P H sent written (frame (reply_body (reply.Old id))) (λ a p f k own d g. absurd (old_not id a (K.frames.one_reply (reply.Old id) a fits k f) g)) h
+takes_if day default K s tries P H sent written id q false number up was range suits fits h = takes_by day default K s tries P H sent written id q (stored H id) number up refl was range suits fits h
 
 pub takes_any : (day : ℕ → ℕ) (default : ℕ) → Known → (s : Source) (tries : ℕ) (P : List Step) (H : List Entry) (sent written : List (List ℕ)) (q : Request) (o : Option Id) → ledger_id q ≡ o
     → In (frame (request_body q)) sent → IsRequest q → AllSuit H → RepliesSuit q (reply_to day default H q o) → IsReply (reply_to day default H q o) → Holds s tries P H sent written
     → Holds s tries P (with_arrival_by day default H q o) sent (frame (reply_body (reply_to day default H q o)) ∷ written)
-takes_any day default K s tries P H sent written q (Some id) number was range suits fit fits h = takes_by day default K s tries P H sent written id q (stored H id) number refl was range suits fit fits h
+takes_any day default K s tries P H sent written q (Some id) number was range suits fit fits h = takes_if day default K s tries P H sent written id q (is_below (requests H) id) number refl was range suits fits h
 takes_any day default K s tries P H sent written q None number was range suits fit fits h =
     writes_on s tries P H sent written (frame (reply_body (answer day default H q)))
-    (λ a p f k own d. (let is : answer day default H q ≡ a = K.frames.one_reply (answer day default H q) a fits k f in
+    (λ a p f k own d g. (let is : answer day default H q ≡ a = K.frames.one_reply (answer day default H q) a fits k f in
     let R : Reply → Type 0 = λ x. RepliesSuit q x in
     let id_same : id_in q ≡ id_in p = same_id_by K.frames s p q a own d (subst R is fit) in
     absurd (none_some (id_of s own.number) (sym number ∙ ledger_number q ∙ id_same ∙ own.id)))) h

@@ -1,18 +1,21 @@
 -- What has happened on the way from a start to a world, and that worlds are reached in which it has.
-use Rattle.std.specs.Prelude.{◌≡◌, ℕ, List, [], ◌∷◌, count_by, is_some, slice_get, true, false, Option, None, Some}
+use Rattle.std.specs.Prelude.{◌≡◌, ℕ, List, [], ◌∷◌, ◌++◌, count_by, is_some, slice_get, true, false, Option, None, Some}
 use Rattle.std.specs.List.{list_any}
 use Rattle.mq_frame.specs.Same.{same_text, same_request}
 use Rattle.mq_frame.specs.Spelling.{reply_body, frame}
+use Rattle.mq_frame.specs.declared.message.Id.{Id}
 use Rattle.mq_frame.specs.declared.message.Request.{Request}
+use Rattle.mq_frame.specs.declared.message.Request.TheVariants.{Retire}
 use Rattle.mq_frame.specs.declared.message.Reply.{Reply}
-use Rattle.mq_ledger.specs.History.{Transaction, requests}
+use Rattle.mq_frame.specs.declared.message.Reply.TheVariants.{Old}
+use Rattle.mq_ledger.specs.History.{Transaction, requests, held, settled_in}
 use Rattle.mq_ledger.specs.Legal.{Book}
 use Rattle.mq_client.specs.Exchanges.{Exchange, decides, request_frame}
-use Rattle.mq_client.specs.Past.{Source, Step}
+use Rattle.mq_client.specs.Past.{Source, Step, view}
 use Rattle.mq_client.specs.Numbered.{exchanges_in}
 use Rattle.mq_link.specs.declared.link.LinkFault.{LinkFault}
 use Rattle.mq_link.specs.declared.link.Outcome.TheVariants.{Answered, Faulted}
-use Rattle.mq_world.specs.World.{Site, World, IsStart, Next, Reaches, with_run, after_exchange, same_source}
+use Rattle.mq_world.specs.World.{Site, World, IsStart, Next, Reaches, with_run, after_exchange, same_source, source_of}
 use Rattle.mq_world.specs.Law.{run_of, standing_of, let_by}
 
 -- ---- reaching
@@ -105,3 +108,22 @@ pub record HasStopped (site : Site) (start w : World) : Type 0 where
   pub is_run : site.is_run run ≡ true
   pub on_way : is_some (w.runs run).on_way ≡ true
   pub is_stopped : (w.runs run).is_stopped ≡ true
+
+-- A run held what one of its transactions had let through, and someone else retired the run: that is settled. The run
+-- closed the transaction then, and its closing got Old, so that it waits no longer. What was let through counts still.
+pub record WasRetired (site : Site) (start w : World) : Type 0 where
+  pub transaction : Transaction
+  pub is_run : site.is_run (run_of transaction) ≡ true
+  pub before : World
+  pub reached : Reaches site start before
+  pub held_before : held before.ledger.history transaction ≡ 1
+  pub by : Id
+  pub is_other : site.is_run (source_of by) ≡ false
+  pub later : Reaches site before w
+  pub retired : requests w.ledger.history ≡ requests before.ledger.history ++ Retire by ∷ []
+  pub settled : settled_in w.ledger.history transaction ≡ 1
+  pub closing : Request
+  pub id : Id
+  pub came : newest (w.runs (run_of transaction)).past ≡ Some (brought closing (Old id) (Some (Old id)))
+  pub none_waits : (view (run_of transaction) (w.runs (run_of transaction)).past).waiting ≡ []
+  pub is_one : let_by (standing_of w transaction) ≡ 1

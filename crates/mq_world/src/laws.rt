@@ -22,7 +22,7 @@ ghost use Rattle.mq_client.specs.declared.filter.Ended.{Ended};
 ghost use Rattle.mq_world.specs.World.{Site, World, IsStart, Reaches, Next, with_run, with_sent, with_on_way, after_stop};
 ghost use Rattle.mq_world.specs.World.{MayCome};
 ghost use Rattle.mq_world.specs.Happening.{unused, IsReachable, HasLetOneThrough, WasAnsweredAgain, WasTakenTwice};
-ghost use Rattle.mq_world.specs.Happening.{CameLate, HasStopped};
+ghost use Rattle.mq_world.specs.Happening.{CameLate, HasStopped, WasRetired};
 ghost use Rattle.mq_world.specs.Running.{ran, step_of, unsent, amid, frames_of, AllMayCome, GoesOn, IsNew, lines_at, IsOrOneMore};
 ghost use Rattle.mq_world.specs.Law.{standing_of, let_by, let_together, IsPastOf};
 
@@ -37,8 +37,8 @@ use mq_ledger::laws::{
 };
 use mq_track::laws::open_numbers_differ;
 
-/// Whatever is lost, repeated or delayed, over all hosts and runs: what was let through in live and
-/// committed transactions never passes the limit of its login and day.
+/// Whatever is lost, repeated, delayed or retired, over all hosts and runs: what was let through in live
+/// and committed transactions never passes the limit of its login and day.
 pub fn never_past_the_limit()
     // What one transaction let through is held or settled in the ledger.
     ensures one { (site : Site) (start w : World) → IsStart site start → Reaches site start w →
@@ -131,6 +131,7 @@ pub fn what_may_happen()
     ensures taken_twice { (b : Book) → IsLegalBook (unused b) → 1 ≤ b.default → IsReachable b WasTakenTwice }
     ensures late { (b : Book) → IsLegalBook (unused b) → 1 ≤ b.default → IsReachable b CameLate }
     ensures stopped { (b : Book) → IsLegalBook (unused b) → IsReachable b HasStopped }
+    ensures retired { (b : Book) → IsLegalBook (unused b) → 1 ≤ b.default → IsReachable b WasRetired }
 {
     one_spelling();
 }

@@ -112,6 +112,8 @@ def wrong_books(world, checks):
         ("INSERT INTO trans VALUES (x'62', 1, 1, x'75', 86400, 1, 9223372036854775807, 9223372036854775807, 0)", 1),
         ("INSERT INTO ceiling VALUES (x'75', 0, 0)", 1),
         ("INSERT INTO usage VALUES (x'75', 2, 0, 1)", 2),
+        ("INSERT INTO usage VALUES (x'75', 20001, 0, 1)", 20_001),
+        ("INSERT INTO usage VALUES (x'75', 376200, 0, 1)", 376_200),
     ]):
         path = edited(world, source, f"audit-wrong{place}", statement)
         by_both(world, checks, statement, path, f"store is damaged: login u day {day}")

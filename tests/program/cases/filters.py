@@ -264,6 +264,7 @@ def faults(world, checks):
         ("a time without a point", ready + AUTH.replace(b".006099", b""), REGISTRATION, "line refused: time"),
         ("an empty session", ready + AUTH.replace(b"7641df9771b4ed00", b""), REGISTRATION, "line refused: empty field"),
         ("an auth without a result", ready + AUTH.replace(b"pass|alice", b"a|b"), REGISTRATION, "report refused: auth"),
+        ("an auth with its result in the middle", ready + AUTH.replace(b"pass|alice", b"a|pass|b"), REGISTRATION, "report refused: auth"),
         ("a begin without a message", ready + BEGIN.replace(b"|4c56d3a1", b""), REGISTRATION, "report refused: message"),
         ("65,537 bytes without an end", ready + b"x" * 65_537, REGISTRATION, "line too long"),
     ]

@@ -24,7 +24,7 @@ def run(_world, checks):
         kinds |= {kind for _, kind, _ in model.entries}
     checks.equal(f"{SEEDS} seeds with {answered} entries: those whose replies differ", answers, [])
     checks.equal(f"{SEEDS} seeds: those whose rows differ", sums, [])
-    checks.equal("the kinds of replies among them", sorted(kinds), [0x81, 0x82, 0x83, 0x84, 0x85, 0x86, 0x87, 0x88, 0x89])
+    checks.equal("the kinds of replies among them", sorted(kinds), [*range(0x81, 0x8a), 0x8f])
 
 
 def sums_of(model):
@@ -40,13 +40,16 @@ def sums_of(model):
     }
     caps = {(request["login"], request["from_day"]): request["cap"] for request, kind, _ in model.entries if kind == 0x85}
     usage = {key: (model.settled(*key), model.reserved(*key)) for key in granted}
-    return [(request, reply) for request, _, reply in model.entries], transactions, usage, caps
+    floors = {request["id"][0]: model.floor(request["id"][0]) for request, kind, _ in model.entries if kind == 0x8f}
+    replies = [(request, b"" if model.is_retired(request["id"]) else reply) for request, _, reply in model.entries]
+    return replies, transactions, usage, caps, floors
 
 
 def settled_of(model, transaction):
-    return sum(request["count"] for request, kind, _ in model.of(transaction) if kind == 0x83)
+    return sum(request["count"] for request, kind, _ in model.of(transaction) if model.counts_as_settled(request, kind))
 
 
 def sums_in(books):
     caps = {(login, start): cap for login, starts in books.limits.items() for start, cap in starts.items()}
-    return [(decode(body), reply) for _, body, reply in books.answers], books.transactions, books.usage, caps
+    replies = [(decode(body), reply) for *_, body, reply in books.rows()["answer"]]
+    return replies, books.transactions, books.usage, caps, books.floors

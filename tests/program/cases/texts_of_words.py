@@ -10,6 +10,7 @@ Commands:
   server  Serve the ledger to filters
   filter  Answer smtpd on standard input and output
   limit   Set the limit of a login from a day on
+  retire  Give up a host's earlier runs: settle what they hold, forget their replies
   report  Print what logins used on a day
   audit   Check the books of the ledger in a file
   replay  Answer frames in hexadecimal from standard input over a new ledger
@@ -60,6 +61,16 @@ Options:
       --from <DAY>        Day number from which on the limit governs
       --cap <N>           Recipients a day
       --run <N>           Number of the run; the clock's milliseconds where it isn't given
+  -h, --help              Print help
+"""),
+    (["retire", "--help"], """Give up a host's earlier runs: settle what they hold, forget their replies
+
+Usage: mailquota retire [OPTIONS] --server <ADDRESS> --host <HOST>
+
+Options:
+      --server <ADDRESS>  Numeric address and port of the quota server
+      --host <HOST>       Host whose earlier runs are given up
+      --run <N>           Run below which they are given up, no filter's own; the clock's milliseconds where it isn't given
   -h, --help              Print help
 """),
     (["report", "--help"], """Print what logins used on a day
@@ -127,6 +138,13 @@ For more information, try '--help'.
   --server <ADDRESS>
 
 Usage: mailquota limit --server <ADDRESS> --host <HOST> --login <LOGIN> --from <DAY> --cap <N>
+
+For more information, try '--help'.
+"""),
+    (["retire", "--host=mx1"], """error: the following required arguments were not provided:
+  --server <ADDRESS>
+
+Usage: mailquota retire --server <ADDRESS> --host <HOST>
 
 For more information, try '--help'.
 """),

@@ -6,7 +6,7 @@ import time
 from cases.filters import INPUT, PROCEED, REGISTRATION, answer
 from cases.texts_of_words import FAULTS, HELPS
 from ends import Script, Server, loopback_of_6, toml, wait_until
-from wire import frame, granted, identity, limit, number, page, page_reply, reserve, text, usage
+from wire import frame, granted, identity, limit, number, page, page_reply, reserve, retire, retired, text, usage
 
 MORE = "\n\nFor more information, try '--help'.\n"
 NO_FILE = "No such file or directory (os error 2)"
@@ -82,6 +82,7 @@ NUMBERS = [
     (ASKED + ["--cap=1"], "from", "DAY", 0, 376_200, BAD_ADDRESS),
     (ASKED + ["--from=1"], "cap", "N", 0, 1_000_000, BAD_ADDRESS),
     (ASKED + ["--from=1", "--cap=1"], "run", "N", 1, MOST_RUN, BAD_ADDRESS),
+    (["retire", "--server=a", "--host=h"], "run", "N", 1, MOST_RUN, BAD_ADDRESS),
     (["report", "--server=a"], "day", "DAY", 0, 376_200, BAD_ADDRESS),
 ]
 
@@ -208,6 +209,12 @@ def words_of_questions(world, checks):
     with Script([page_reply([], day=2)]) as script:
         came = world.run("report", "--day=2", f"--server={script.address}")
     checks.equal("report without a login: what it prints, and its frame", (came, script.heard), ((0, b"", ""), [page(day=2)]))
+    start = milliseconds()
+    with Script([lambda heard: retired(1, host=b"mx1", run=run_in(heard, 3))]) as script:
+        came = world.run("retire", f"--server={script.address}", "--host=mx1")
+    checks.equal("retire without a run: what it prints", came, (0, b"retired\n", ""))
+    run = asked_of_the_clock(checks, "retire without a run", start, script.heard[0])
+    checks.equal("retire without a run: its frame", script.heard, [retire(1, host=b"mx1", run=run)])
     checks.equal("report of an empty login", world.run("report", "--day=2", "--server=a", "--login="), BAD_LOGIN)
     checks.equal("report without a login, of a bad address", world.run("report", "--day=2", "--server=a"), BAD_ADDRESS)
 

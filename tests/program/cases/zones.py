@@ -94,7 +94,7 @@ def a_file(world, checks):
             server.status()
     same_rows(checks, "a file by a rule", path, books)
     with sqlite3.connect(path) as database:
-        checks.equal("a file by a rule: its version", database.execute("SELECT version FROM setting").fetchall(), [(2,)])
+        checks.equal("a file by a rule: its version", database.execute("SELECT version FROM setting").fetchall(), [(3,)])
     database.close()
     came = world.run("audit", "--config", ledger_settings(world, path, offset=None, rule=CENTRAL_EUROPE))
     checks.equal("a file by a rule: audit", came, (0, b"sound days=7 transactions=8\n", ""))
@@ -139,13 +139,13 @@ def tables_of_other_versions(world, checks):
     alone = edited(world, world.new_file(""), "zone-alone", table)
     for zone in ({}, by_rule):
         by_both(world, checks, f"a table of the name rule alone, {'a rule' if zone else 'an offset'}", alone, NOT_OURS, "--create", **zone)
-    for place, (what, statement) in enumerate([
-        ("a version that there isn't", "UPDATE setting SET version = 9"),
-        ("no row of the rule", "DELETE FROM rule"),
-        ("a rule of another number", "UPDATE rule SET id = 2"),
-        ("no table of the rule", "DROP TABLE rule"),
+    for place, (what, statement, wanted) in enumerate([
+        ("a version that there isn't", "UPDATE setting SET version = 9", NOT_OURS),
+        ("no row of the rule", "DELETE FROM rule", ANOTHER_ZONE),
+        ("a rule of another number", "UPDATE rule SET id = 2", ANOTHER_ZONE),
+        ("no table of the rule", "DROP TABLE rule", NOT_OURS),
     ]):
-        by_both(world, checks, f"a ledger by a rule, {what}", edited(world, rule, f"zone-other{place}", statement), NOT_OURS, **by_rule)
+        by_both(world, checks, f"a ledger by a rule, {what}", edited(world, rule, f"zone-other{place}", statement), wanted, **by_rule)
     other = edited(world, rule, "zone-other-rule", "UPDATE rule SET bytes = x'55544330'")
     by_both(world, checks, "a ledger by a rule, another rule in its row", other, ANOTHER_ZONE, **by_rule)
 

@@ -5,6 +5,7 @@ mod devices;
 mod faults;
 mod flushing;
 mod long;
+mod retires;
 mod rows;
 mod script;
 mod sittings;

@@ -56,6 +56,9 @@ pub const LOGINS: [&[u8]; 2] = [b"alice", b"bob"];
 /// The days of their transactions.
 pub const DAYS: [u32; 2] = [1, 2];
 
+/// How the body of the reply to a request of a retired run begins.
+const OLD: u8 = 0x90;
+
 /// A link to a ledger, with every frame that was ever sent and every reply body that was ever written.
 #[derive(Drop)]
 pub struct Lossy<L> {
@@ -68,6 +71,8 @@ pub struct Lossy<L> {
     pub let_through: [u32; 4],
     /// How many frames came to the ledger.
     pub arrivals: u64,
+    /// How many of them were of a retired run.
+    pub retired: u64,
     /// At some moment more was let through than was settled and reserved, or this was above a limit.
     passed: bool,
     /// A frame had no reply, a request was out of range, or there was no memory.
@@ -84,6 +89,7 @@ impl<L: Ledger + Drop> Lossy<L> {
             written: Vec::new(alloc),
             let_through: [0; 4],
             arrivals: 0,
+            retired: 0,
             passed: false,
             failed: false,
         }
@@ -110,6 +116,9 @@ impl<L: Ledger + Drop> Lossy<L> {
     /// Looks at the ledger behind an arrival, and keeps what it replied.
     fn note(&mut self, body: &[u8]) {
         self.passed |= !self.is_covered();
+        if body.first() == Some(&OLD) {
+            self.retired = self.retired.saturating_add(1);
+        }
         self.failed |= keep(self.alloc, &mut self.written, body).is_none();
     }
 

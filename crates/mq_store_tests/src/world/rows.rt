@@ -124,7 +124,7 @@ fn check_answer<L: Ledger + Drop>(
     lines: &[u8],
     answer: &[u8],
 ) -> Verdict {
-    match run(alloc, link, host, lines) {
+    match run(alloc, link, host, 1, lines) {
         Some(text) => wanted(text.as_slice().ends_with(answer), "another answer"),
         None => Err("no answer"),
     }

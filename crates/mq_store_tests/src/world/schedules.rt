@@ -17,6 +17,13 @@ const HOSTS: [&[u8]; 4] = [b"mx1", b"mx2", b"mx3", b"mx4"];
 /// The first and the last second of two days.
 const MOMENTS: [u64; 4] = [86_400, 172_799, 172_800, 259_199];
 
+/// The runs that the hosts begin at: an early one, one that a clock gives, and the last ones. The runs of a host are odd, so that an
+/// even one is that of someone else.
+const RUNS: [u64; 4] = [3, 1_795_674_158_001, LAST_RUN - 2, LAST_RUN];
+
+/// The last run.
+const LAST_RUN: u64 = 281_474_976_710_655;
+
 /// How many steps a schedule has.
 const STEPS: u32 = 60;
 
@@ -106,11 +113,11 @@ fn ask_of<L: Ledger + Drop>(
 }
 
 impl Sender {
-    fn new(alloc: Global, name: &'static [u8]) -> Option<Sender> {
+    fn new(alloc: Global, name: &'static [u8], run: u64) -> Option<Sender> {
         Some(Sender {
             name,
-            run: 1,
-            client: client_of(alloc, name, 1, 2)?,
+            run,
+            client: client_of(alloc, name, run, 2)?,
             begun: 0,
             open: Vec::new(alloc),
         })
@@ -158,9 +165,12 @@ impl Sender {
         close(link, &mut self.client, Closing { txn: open.txn, end })
     }
 
-    /// The run stops, and another begins.
+    /// The run stops, and another begins; behind the last one there is none.
     fn restart(&mut self, alloc: Global, tries: u32) -> Option<()> {
-        self.run = self.run.saturating_add(1);
+        if LAST_RUN <= self.run {
+            return Some(());
+        }
+        self.run = self.run.saturating_add(2);
         self.client = client_of(alloc, self.name, self.run, tries)?;
         self.begun = 0;
         self.open.clear();
@@ -235,6 +245,34 @@ fn send_of_others<L: Ledger + Drop>(alloc: Global, link: &mut Lossy<L>) -> Optio
     Some(())
 }
 
+/// A number of someone else on the host of a filter, whose run stands in front of the filter's or behind it.
+fn id_beside(alloc: Global, dice: &mut Dice, sender: &Sender) -> Option<Id> {
+    let run = if dice.below(2) == 0 || LAST_RUN <= sender.run {
+        sender.run.saturating_sub(1)
+    } else {
+        sender.run.saturating_add(1)
+    };
+    match Host::from_slice(alloc, sender.name) {
+        Ok(host) => Some(Id {
+            host,
+            run,
+            seq: dice.from_one(3),
+        }),
+        Err(_) => None,
+    }
+}
+
+/// Someone who isn't a filter retires the earlier runs of a host, or also the one that goes on.
+fn retire_of_others<L: Ledger + Drop>(
+    alloc: Global,
+    link: &mut Lossy<L>,
+    sender: &Sender,
+) -> Option<()> {
+    let id = id_beside(alloc, &mut link.dice, sender)?;
+    link.send_request(&Request::Retire { id });
+    Some(())
+}
+
 /// One step of a schedule; nothing where there is no memory.
 fn step<L: Ledger + Drop>(
     alloc: Global,
@@ -243,7 +281,7 @@ fn step<L: Ledger + Drop>(
 ) -> Option<()> {
     let place = link.dice.place(senders.len());
     let sender = senders.get_mut(place)?;
-    match link.dice.below(40) {
+    match link.dice.below(41) {
         0..=5 => sender.begin(&mut link.dice),
         6..=23 => sender.ask(link),
         24..=30 => sender.close(link),
@@ -259,6 +297,7 @@ fn step<L: Ledger + Drop>(
             link.take_one();
             Some(())
         }
+        37 => retire_of_others(alloc, link, sender),
         _ => send_of_others(alloc, link),
     }
 }
@@ -268,14 +307,15 @@ fn step<L: Ledger + Drop>(
 struct Tally {
     steps: u64,
     arrivals: u64,
+    retired: u64,
     let_through: u64,
 }
 
-/// The first hosts, so many.
-fn senders_of(alloc: Global, count: usize) -> Option<Vec<Sender>> {
+/// The first hosts, so many, from this run on.
+fn senders_of(alloc: Global, count: usize, run: u64) -> Option<Vec<Sender>> {
     let mut senders = Vec::new(alloc);
     for name in HOSTS.iter().take(count) {
-        senders.push(Sender::new(alloc, name)?).ok()?;
+        senders.push(Sender::new(alloc, name, run)?).ok()?;
     }
     Some(senders)
 }
@@ -298,9 +338,14 @@ fn check_steps<L: Ledger + Drop>(
     Ok(())
 }
 
-/// A schedule of so many hosts over a link.
-fn check_link<L: Ledger + Drop>(alloc: Global, link: &mut Lossy<L>, count: usize) -> Verdict {
-    match senders_of(alloc, count) {
+/// A schedule of so many hosts from this run on over a link.
+fn check_link<L: Ledger + Drop>(
+    alloc: Global,
+    link: &mut Lossy<L>,
+    count: usize,
+    run: u64,
+) -> Verdict {
+    match senders_of(alloc, count, run) {
         Some(senders) => {
             let mut senders = senders;
             check_steps(alloc, link, senders.as_mut_slice())
@@ -309,7 +354,7 @@ fn check_link<L: Ledger + Drop>(alloc: Global, link: &mut Lossy<L>, count: usize
     }
 }
 
-/// A schedule of two to four hosts over a new ledger.
+/// A schedule of two to four hosts over a new ledger, from one of the runs on.
 fn check_schedule<L: Ledger + Drop>(
     alloc: Global,
     ledger: L,
@@ -317,8 +362,9 @@ fn check_schedule<L: Ledger + Drop>(
     tally: &mut Tally,
 ) -> Verdict {
     let mut link = Lossy::new(alloc, ledger, seed);
-    let verdict = check_link(alloc, &mut link, 2 + (seed % 3) as usize);
-    tally.add(link.arrivals, link.let_through);
+    let run = RUNS[(seed / 3 % 4) as usize];
+    let verdict = check_link(alloc, &mut link, 2 + (seed % 3) as usize, run);
+    tally.add(link.arrivals, link.retired, link.let_through);
     verdict
 }
 
@@ -334,14 +380,16 @@ impl Tally {
         Tally {
             steps: 0,
             arrivals: 0,
+            retired: 0,
             let_through: 0,
         }
     }
 
     /// One more schedule has ended.
-    fn add(&mut self, arrivals: u64, let_through: [u32; 4]) {
+    fn add(&mut self, arrivals: u64, retired: u64, let_through: [u32; 4]) {
         self.steps = self.steps.saturating_add(STEPS as u64);
         self.arrivals = self.arrivals.saturating_add(arrivals);
+        self.retired = self.retired.saturating_add(retired);
         for count in let_through {
             self.let_through = self.let_through.saturating_add(count as u64);
         }
@@ -356,6 +404,7 @@ fn schedules_over_a_list(rt: HostRuntime) -> Result<(), Fail> {
         told(rt.alloc(), seed, verdict)?;
     }
     println!(rt; "20,000 schedules over a list: {tally:?}")?;
+    wanted(tally.retired > 0, "no run was retired")?;
     Ok(wanted(tally.let_through > 0, "nobody was let through")?)
 }
 
@@ -369,5 +418,6 @@ fn schedules_over_tables(rt: HostRuntime) -> Result<(), Fail> {
         told(rt.alloc(), seed, verdict)?;
     }
     println!(rt; "2,000 schedules over tables: {tabled:?}")?;
+    wanted(tabled.retired > 0, "no run was retired")?;
     Ok(wanted(tabled.let_through > 0, "nobody was let through")?)
 }

@@ -171,9 +171,15 @@ fn written_for<K: Link>(
     }
 }
 
-/// What the filter of a host writes for these lines, as `written_for`.
-pub fn run<K: Link>(alloc: Global, link: &mut K, name: &[u8], lines: &[u8]) -> Option<Vec<u8>> {
-    match client_of(alloc, name, 1, 3) {
+/// What the filter of a host's run writes for these lines, as `written_for`.
+pub fn run<K: Link>(
+    alloc: Global,
+    link: &mut K,
+    name: &[u8],
+    run: u64,
+    lines: &[u8],
+) -> Option<Vec<u8>> {
+    match client_of(alloc, name, run, 3) {
         Some(client) => {
             let mut client = client;
             written_for(alloc, link, &mut client, lines)

@@ -9,6 +9,12 @@ use mq_link::Link;
 use std::alloc::Global;
 use std::test::*;
 
+/// A run that a clock gives.
+const CLOCKS_RUN: u64 = 1_795_674_158_000;
+
+/// The last run.
+const LAST_RUN: u64 = 281_474_976_710_655;
+
 /// The end of a line that lets a recipient through.
 const PROCEED: &[u8] = b"|proceed\n";
 
@@ -23,9 +29,9 @@ fn proceeds(text: &[u8]) -> u32 {
     count
 }
 
-/// How many recipients the filter lets through over a link.
-fn let_through<K: Link>(alloc: Global, link: &mut K) -> Option<u32> {
-    match run(alloc, link, b"mx1", COMMITTED) {
+/// How many recipients the filter of this run lets through over a link.
+fn let_through<K: Link>(alloc: Global, link: &mut K, of_run: u64) -> Option<u32> {
+    match run(alloc, link, b"mx1", of_run, COMMITTED) {
         Some(text) => Some(proceeds(text.as_slice())),
         None => None,
     }
@@ -46,8 +52,8 @@ fn check_covered<L: Ledger + Drop>(
 
 /// Runs a committed recipient over a link: what was let through is settled or reserved, and that is
 /// within the limit, before the late frames come and after it.
-fn check_link<L: Ledger + Drop>(alloc: Global, link: &mut Scripted<L>) -> Verdict {
-    let Some(count) = let_through(alloc, link) else {
+fn check_link<L: Ledger + Drop>(alloc: Global, link: &mut Scripted<L>, run: u64) -> Verdict {
+    let Some(count) = let_through(alloc, link, run) else {
         return Err("no answer");
     };
     check_covered(alloc, link, count)?;
@@ -56,14 +62,14 @@ fn check_link<L: Ledger + Drop>(alloc: Global, link: &mut Scripted<L>) -> Verdic
 }
 
 /// The same by a script.
-fn check_script<L: Ledger + Drop>(alloc: Global, ledger: L, script: Script) -> Verdict {
+fn check_script<L: Ledger + Drop>(alloc: Global, ledger: L, script: Script, run: u64) -> Verdict {
     let mut link = Scripted::new(alloc, ledger, script);
-    check_link(alloc, &mut link)
+    check_link(alloc, &mut link, run)
 }
 
-/// The same over tables.
+/// The same over tables, of the last run.
 fn check_over_tables(alloc: Global, script: Script) -> Verdict {
-    check_script(alloc, tables(alloc, 3)?, script)
+    check_script(alloc, tables(alloc, 3)?, script, LAST_RUN)
 }
 
 /// The script of so many letters with that number: its letters in base 4.
@@ -90,7 +96,7 @@ fn scripts_over_a_list(rt: HostRuntime) -> Result<(), Fail> {
     for (length, count) in COUNTS {
         for number in 0..*count {
             let script = script_of(*length, number);
-            let verdict = check_script(rt.alloc(), plain(rt.alloc(), 3), script);
+            let verdict = check_script(rt.alloc(), plain(rt.alloc(), 3), script, CLOCKS_RUN);
             told(rt.alloc(), number, verdict)?;
         }
     }

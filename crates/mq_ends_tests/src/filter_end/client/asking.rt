@@ -316,6 +316,14 @@ const DECIDING: &[Case<'static>] = &[
         ]),
         ..DECIDED
     },
+    Case {
+        replies: &[
+            GRANTED,
+            Reply::Body("90 036d7831 0000000000000001 00000002"),
+        ],
+        log: Some(&["settle 2 of transaction 7 (host mx1, login u): the run is retired"]),
+        ..DECIDED
+    },
 ];
 
 /// A full client is told once in a session.

@@ -98,6 +98,32 @@ const OTHER_REPLIES: &[Row<'static>] = &[
         ..NO_GRANT
     },
     Row {
+        name: "a retired run",
+        replies: &[
+            Reply::Body("90 036d7831 0000000000000001 00000001"),
+            Reply::Body("90 036d7831 0000000000000001 00000002"),
+        ],
+        lines: &[CONFIG, AUTH, BEGIN, RECIPIENT, COMMIT],
+        text: REFUSES,
+        sent: Sent::Frames(&[RESERVE, RELEASE]),
+        held: 0,
+        log: Some(&[
+            "reserve 1 of transaction 1 (host mx1, login alice): the run is retired",
+            "release 2 of transaction 1 (host mx1, login alice): the run is retired",
+        ]),
+        ..PLAIN
+    },
+    Row {
+        name: "another run is retired",
+        replies: &[Reply::Body("90 036d7831 0000000000000002 00000001")],
+        ..UNDECIDED
+    },
+    Row {
+        name: "a reply to a retire",
+        replies: &[Reply::Body("8f 036d7831 0000000000000001 00000001")],
+        ..UNDECIDED
+    },
+    Row {
         name: "the server is down",
         replies: &[],
         lines: &[CONFIG, AUTH, BEGIN, RECIPIENT, COMMIT],

@@ -113,6 +113,14 @@ const FRAMES: &[(&str, &str)] = &[
         "0006 8c 00000001 00",
         "List { day: 1, rows: UsageRows { rows: [] } }",
     ),
+    (
+        "000f 8f 0161 0000000000000002 00000001",
+        "Retired { id: Id { host: [97], run: 2, seq: 1 } }",
+    ),
+    (
+        "000f 90 0161 0000000000000001 00000001",
+        "Old { id: Id { host: [97], run: 1, seq: 1 } }",
+    ),
     ("0001 8d", "Retry"),
     ("0001 8e", "Bad"),
 ];

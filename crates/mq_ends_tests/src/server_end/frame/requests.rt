@@ -95,6 +95,10 @@ const FRAMES: &[(&str, &str)] = &[
     ("0007 05 0175 00000001", "Usage { login: [117], day: 1 }"),
     ("0006 06 00000001 00", "List { day: 1, after: [] }"),
     ("0007 06 00000001 0175", "List { day: 1, after: [117] }"),
+    (
+        "000f 07 0161 0000000000000002 00000001",
+        "Retire { id: Id { host: [97], run: 2, seq: 1 } }",
+    ),
 ];
 
 #[test]
@@ -117,6 +121,7 @@ const BODIES: &[(&str, Option<DecodeFault>)] = &[
         None,
     ),
     ("06 00000000 00", None),
+    ("07 0161 0000ffffffffffff ffffffff", None),
     ("05 0175 0005bd89", Some(DecodeFault::Bad)),
     (
         "04 0161 0000000000000001 00000001 00000001 000f4241 0175",
@@ -144,6 +149,13 @@ const BODIES: &[(&str, Option<DecodeFault>)] = &[
         Some(DecodeFault::Bad),
     ),
     ("07", Some(DecodeFault::Bad)),
+    ("07 0161 0001000000000000 00000001", Some(DecodeFault::Bad)),
+    ("07 0161 0000000000000001 00000000", Some(DecodeFault::Bad)),
+    (
+        "07 0161 0000000000000001 00000001 00",
+        Some(DecodeFault::Bad),
+    ),
+    ("08", Some(DecodeFault::Bad)),
     ("", Some(DecodeFault::Bad)),
     ("05 0175 00000001 00", Some(DecodeFault::Bad)),
     (

@@ -2,19 +2,22 @@ use Rattle.std.proofs.Common.{List, sym, subst}
 use Rattle.mq_ledger.specs.declared.entry.Entry.{Entry}
 use Rattle.mq_ledger.specs.Day.{day_of}
 use Rattle.mq_store.specs.Taking.{HasBook, book_of}
+use Rattle.mq_store.proofs.Firsts.{not_below, not_stored}
 use Rattle.mq_store.proofs.laws.arrivals_are_applied.Goals as goal
 
 pub returns-clause-new : goal.returns-clause-new
-returns-clause-new c = λ zone default H r id db legal in_range h none rows.
+returns-clause-new c = λ zone default H r id db legal in_range h new rows.
     let day = day_of zone in
-    subst (λ (K : List Entry). HasBook (book_of zone default K) db) (sym (c.one_more_answer.ensures.history day default H r id legal.legal h none)) (record {
-      legal = record { zone = legal.zone; default = legal.default; legal = c.one_more_answer.ensures.legal day default H r id legal.legal in_range h none };
+    let above = not_below H id new in
+    let none = not_stored H id new in
+    subst (λ (K : List Entry). HasBook (book_of zone default K) db) (sym (c.one_more_answer.ensures.history day default H r id legal.legal h above none)) (record {
+      legal = record { zone = legal.zone; default = legal.default; legal = c.one_more_answer.ensures.legal day default H r id legal.legal in_range h above none };
       has = rows;
     })
 
 pub returns-clause-known : goal.returns-clause-known
-returns-clause-known c = λ zone default H r id db h there b.
-    subst (λ (K : List Entry). HasBook (book_of zone default K) db) (sym (c.nothing_is_added.ensures.stored (day_of zone) default H r id b.legal.legal h there)) b
+returns-clause-known c = λ zone default H r id db there b.
+    subst (λ (K : List Entry). HasBook (book_of zone default K) db) (sym (c.nothing_is_added.ensures.known (day_of zone) default H r b.legal.legal there)) b
 
 pub returns-clause-unnumbered : goal.returns-clause-unnumbered
 returns-clause-unnumbered c = λ zone default H r db h b.

@@ -1,9 +1,26 @@
+use Rattle.std.proofs.Common.{◌≡◌, arith, rules, false, sym, subst, ◌∙◌}
+use Rattle.sqlite.specs.Effect.{Database}
+use Rattle.sqlite.specs.Held.{state}
+use Rattle.sqlite.specs.State.{HasCleanDisk}
+use Rattle.mq_ledger.specs.Arrivals.{is_below}
+use Rattle.mq_ledger.specs.History.{requests}
+use Rattle.mq_tables.specs.Ledger.{HasLedger}
 use Rattle.mq_store.proofs.take.known_reply.Goals as goal
 
 pub returns-in-None-clause-known : goal.returns-in-None-clause-known
 returns-in-None-clause-known g c clean = λ zone default H b.
-    c.numbers_are_known.ensures.new zone default H c.args.request.now c.args.id.now _ b c.requires.in_range c.requires.number (rw c.in-None.is at (c.in_ok-row.ensures.found clean b.has.tables b.has.holds))
+    let mid : HasCleanDisk (state g.S.Store c.is_retired.new.tx.conn.now) = omega (arith, c.find_answer.ensures.survives.clean) in
+    let stays = c.in_ok-retired.ensures.stays mid in
+    let unretired : c.in_ok-retired.retired ≡ false = search rules in
+    let above : is_below (requests H) c.args.id.now ≡ false = sym (c.in_ok-retired.ensures.below mid zone default H b) ∙ unretired in
+    let holds = subst (λ (db : Database). HasLedger db b.has.tables) (sym stays.now) b.has.holds in
+    c.numbers_are_known.ensures.new zone default H c.args.request.now c.args.id.now _ b c.requires.in_range c.requires.number above (rw c.in-None.is at (c.in_ok-row.ensures.found clean b.has.tables holds))
 
 pub returns-in_ok-stored_reply-in-Some-clause-known : goal.returns-in_ok-stored_reply-in-Some-clause-known
 returns-in_ok-stored_reply-in-Some-clause-known g c clean = λ zone default H b.
-    c.numbers_are_known.ensures.known zone default H c.args.request.now c.args.id.now _ b c.in-Some.row c.in_ok-stored_reply-in-Some.field-0 c.requires.in_range c.requires.number (rw c.in-Some.is at (c.in_ok-row.ensures.found clean b.has.tables b.has.holds)) c.in_ok-stored_reply-in-Some.ensures.reply
+    let mid : HasCleanDisk (state g.S.Store c.is_retired.new.tx.conn.now) = omega (arith, c.find_answer.ensures.survives.clean) in
+    let stays = c.in_ok-retired.ensures.stays mid in
+    let unretired : c.in_ok-retired.retired ≡ false = search rules in
+    let above : is_below (requests H) c.args.id.now ≡ false = sym (c.in_ok-retired.ensures.below mid zone default H b) ∙ unretired in
+    let holds = subst (λ (db : Database). HasLedger db b.has.tables) (sym stays.now) b.has.holds in
+    c.numbers_are_known.ensures.known zone default H c.args.request.now c.args.id.now _ b c.in-Some.row c.in_ok-stored_reply-in-Some.field-0 c.requires.in_range c.requires.number above (rw c.in-Some.is at (c.in_ok-row.ensures.found clean b.has.tables holds)) c.in_ok-stored_reply-in-Some.ensures.reply

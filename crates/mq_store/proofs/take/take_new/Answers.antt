@@ -14,7 +14,7 @@ returns-clause-applied g c clean = λ H b none.
     let stays = c.in_ok-plan.ensures.stays mid in
     let holds = subst (λ db. HasLedger db b.has.tables) (sym stays.now) b.has.holds in
     let planned = c.in_ok-plan.ensures.planned mid H b none in
-    let rows = c.in_ok-write_plan.ensures.written clean (book_of c.args.zone c.args.default (appended (day_of c.args.zone) c.args.default H c.args.request.now)) b.has.tables holds planned.1 in (
+    let rows = c.in_ok-write_plan.ensures.written clean (book_of c.args.zone c.args.default (appended (day_of c.args.zone) c.args.default H c.args.request.now)) b.has.tables holds b.has.current planned.1 in (
       planned.0,
       c.arrivals_are_applied.ensures.new c.args.zone c.args.default H c.args.request.now c.args.id.now _ b.legal c.requires.in_range c.requires.number none rows,
     )

@@ -1,9 +1,10 @@
 use Rattle.std.proofs.Common.{arith, sym, subst, ap, ◌∙◌}
-use Rattle.std.specs.Prelude.{not, is_some}
+use Rattle.std.specs.Prelude.{not}
 use Rattle.sqlite.specs.Held.{state}
 use Rattle.sqlite.specs.State.{HasCleanDisk}
+use Rattle.mq_ledger.specs.Answer.{known_by}
 use Rattle.mq_store.specs.Taking.{HasBook, book_of}
-use Rattle.mq_store.proofs.Firsts.{first_if_unstored}
+use Rattle.mq_store.proofs.Firsts.{first_if_unknown}
 use Rattle.mq_store.proofs.take.take_numbered.Goals as goal
 
 pub returns-in-Some-clause-taken : goal.returns-in-Some-clause-taken
@@ -11,12 +12,12 @@ returns-in-Some-clause-taken g c clean =
     let stays = c.in_ok-known.ensures.stays clean in (
       (λ H b. let known = rw c.in-Some.is at (c.in_ok-known.ensures.known clean c.args.zone c.args.default H b) in (
         known.1,
-        c.arrivals_are_applied.ensures.known c.args.zone c.args.default H c.args.request.now c.args.id.now _ c.requires.number known.0
+        c.arrivals_are_applied.ensures.known c.args.zone c.args.default H c.args.request.now c.args.id.now _ (ap (known_by H) c.requires.number ∙ known.0)
             (subst (HasBook (book_of c.args.zone c.args.default H)) (sym stays.now) b),
       )),
       stays.now,
       (λ H b. let known = rw c.in-Some.is at (c.in_ok-known.ensures.known clean c.args.zone c.args.default H b) in
-          first_if_unstored H c.args.request.now c.args.id.now c.requires.number ∙ ap not known.0),
+          first_if_unknown H c.args.request.now c.args.id.now b.legal.legal.distinct c.requires.number ∙ ap not known.0),
     )
 
 pub returns-in_ok-new-in-None-clause-taken : goal.returns-in_ok-new-in-None-clause-taken
@@ -26,5 +27,5 @@ returns-in_ok-new-in-None-clause-taken g c clean =
       (λ H b. let new = rw c.in-None.is at (c.in_ok-known.ensures.known mid c.args.zone c.args.default H b) in
           c.in_ok-new-in-None.ensures.applied clean H (subst (HasBook (book_of c.args.zone c.args.default H)) (sym stays.now) b) new),
       (λ H b. let new = rw c.in-None.is at (c.in_ok-known.ensures.known mid c.args.zone c.args.default H b) in
-          first_if_unstored H c.args.request.now c.args.id.now c.requires.number ∙ ap (λ e. not (is_some e)) new),
+          first_if_unknown H c.args.request.now c.args.id.now b.legal.legal.distinct c.requires.number ∙ ap not new),
     )

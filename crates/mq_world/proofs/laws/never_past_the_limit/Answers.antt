@@ -53,7 +53,7 @@ holds_fresh site w z s y = record {
   asks = tt;
   sends = λ q i range own. absurd (not_own site s q y (all_at (IsFrameOfOthers site) w.sent (frame (request_body q)) z.sent i (request_body q) q refl (record { bytes = refl; in_range = range })) own);
   taken = λ e i own. absurd (not_own site s e.request y (all_at (λ x. IsOfOthers site x.request) w.ledger.history e z.entries i) own);
-  wrote = λ a q i range own d. absurd (not_own site s q y (all_at (IsReplyToOthers site) w.written (frame (reply_body a)) z.written i (reply_body a) a q refl (record { bytes = refl; in_range = range }) d) own);
+  wrote = λ a q i range own d g. absurd (not_own site s q y (all_at (IsReplyToOthers site) w.written (frame (reply_body a)) z.written i (reply_body a) a q refl (record { bytes = refl; in_range = range }) d) own);
   ground = tt;
   settled = λ e i own settle. absurd (not_own site s e.request y (all_at (λ x. IsOfOthers site x.request) w.ledger.history e z.entries i) own);
 }
@@ -373,6 +373,7 @@ returns c =
         same = c.open_transactions.ensures.same;
         itself = c.open_transactions.ensures.itself;
         unheard = c.open_transactions.ensures.unheard;
+        kept = c.open_transactions.ensures.kept;
       };
       tracks = c.open_numbers_differ.ensures.numbered;
     } in

@@ -1,5 +1,5 @@
 -- A world of two runs, step by step.
-use Rattle.std.proofs.Common.{◌≡◌, ℕ, ◌≤◌, List, [], ◌∷◌, Bool, true, false, refl, ap, sym, subst, inl, inr, arith, None, Some, if◌then◌else◌}
+use Rattle.std.proofs.Common.{◌≡◌, ℕ, ◌≤◌, List, [], ◌∷◌, ◌++◌, Bool, true, false, refl, ap, sym, subst, inl, inr, arith, None, Some, if◌then◌else◌}
 use Rattle.std.specs.Prelude.{codes, nat_lt, ◌||◌, ◌⊎◌, count_by}
 use Rattle.mq_frame.specs.Same.{same_text}
 use Rattle.std.proofs.lemmas.Bool.Decides.{nat_tests}
@@ -7,15 +7,22 @@ use Rattle.std.proofs.lemmas.List.Elements.{All-from_recursion}
 use Rattle.mq_line.specs.Grammar.{Meaning, ReportLine, FilterLine}
 use Rattle.mq_frame.specs.Range.{IsHost, IsHostByte, IsRun, IsId, IsRequest, IsReply}
 use Rattle.mq_frame.specs.Spelling.{request_body, reply_body, SpellsReply, frame}
+use Rattle.mq_frame.specs.declared.message.Id.{Id}
 use Rattle.mq_frame.specs.declared.message.Request.{Request}
+use Rattle.mq_frame.specs.declared.message.Request.TheVariants.{Settle, Retire}
 use Rattle.mq_frame.specs.declared.message.Reply.{Reply}
-use Rattle.mq_frame.specs.declared.message.Reply.TheVariants.{Granted, Full}
+use Rattle.mq_frame.specs.declared.message.Reply.TheVariants.{Granted, Full, Old, Retired}
+use Rattle.mq_ledger.specs.Arrivals.{floor}
+use Rattle.mq_ledger.specs.History.{requests, held, settled_in}
 use Rattle.mq_ledger.specs.Legal.{Book, IsLegalBook}
-use Rattle.mq_client.specs.Exchanges.{Exchange, decides, request_frame}
-use Rattle.mq_client.specs.Past.{Source, id_of, reserve_of}
+use Rattle.mq_client.specs.Exchanges.{Exchange, IsTry, decides, request_frame}
+use Rattle.mq_client.specs.Past.{Source, Ask, IsPlayed, id_of, reserve_of}
+use Rattle.mq_client.specs.Numbered.{id_in}
 use Rattle.mq_link.specs.declared.link.LinkFault.TheVariants.{TimedOut}
-use Rattle.mq_world.specs.World.{Site, World, fresh, IsStart, after_line, with_on_way, after_exchange, after_stop, same_source, with_run, with_sent, after_arrival, reply_from, Next, Reads, Sends, Ends, Takes, Stops, Reaches, AtOnce, Later}
-use Rattle.mq_world.specs.Happening.{unused, times_written, IsReachable, failed, brought, HasLetOneThrough, WasAnsweredAgain, WasTakenTwice, CameLate, HasStopped}
+use Rattle.mq_world.specs.World.{Site, World, fresh, IsStart, after_line, with_on_way, after_exchange, after_stop, same_source, with_run, with_sent, after_arrival, reply_from, Next, Reads, Sends, Ends, Takes, OthersSend, Stops, Reaches, AtOnce, Later, IsOfOthers, IsFrameOfOthers, source_of}
+use Rattle.mq_world.specs.Happening.{unused, times_written, IsReachable, failed, brought, HasLetOneThrough, WasAnsweredAgain, WasTakenTwice, CameLate, HasStopped, WasRetired}
+use Rattle.mq_world.proofs.Basics.{some_is}
+use Rattle.mq_world.proofs.Runs.{step}
 use Rattle.mq_world.proofs.Worlds.{source_is}
 use Rattle.mq_world.proofs.laws.what_may_happen.Goals as goal
 
@@ -44,6 +51,9 @@ begin_line = ReportLine noon (codes "smtp-in") (codes "tx-begin") (codes "s") (c
 abbrev pub recipient_line : Meaning
 recipient_line = FilterLine noon (codes "smtp-in") (codes "rcpt-to") (codes "s") (codes "t") (codes "r")
 
+abbrev pub commit_line : Meaning
+commit_line = ReportLine noon (codes "smtp-in") (codes "tx-commit") (codes "s") (codes "m")
+
 -- ---- what is sent and replied
 
 abbrev pub request : Source → Request
@@ -60,6 +70,19 @@ answered = brought (request here) reply (Some reply)
 
 abbrev pub late : Exchange
 late = brought (request there) reply None
+
+-- the retire of the first run, under a number of another one of its host
+abbrev pub retire_id : Id
+retire_id = record { host = codes "a"; run = 2; seq = 1 }
+
+abbrev pub closing : Request
+closing = Settle (id_of here 2) 1 noon (codes "u") 1
+
+abbrev pub old : Reply
+old = Old (id_of here 2)
+
+abbrev pub refused : Exchange
+refused = brought closing old (Some old)
 
 -- ---- the worlds
 
@@ -102,6 +125,22 @@ asked_there b = sends (asks (granted b) there) there
 abbrev pub came_late : Book → World
 came_late b = ends (asked_there b) there late
 
+-- someone retires the first run, which closes its transaction then
+abbrev pub retires : Book → World
+retires b = with_sent (granted b) (request_frame (Retire retire_id))
+
+abbrev pub retired : Book → World
+retired b = after_arrival (retires b) (Retire retire_id)
+
+abbrev pub closes : Book → World
+closes b = reads (retired b) here commit_line
+
+abbrev pub closed : Book → World
+closed b = with_sent (with_run (closes b) here (with_on_way (Some closing) ((closes b).runs here))) (request_frame closing)
+
+abbrev pub given_up : Book → World
+given_up b = ends (after_arrival (closed b) closing) here refused
+
 -- ---- in range
 
 host_range : (s : Source) → same_source here s ≡ true → IsHost s.host × IsRun s.run
@@ -132,6 +171,15 @@ request_range = (id_range, record { from = omega arith; to = omega arith }, reco
 reply_range : IsReply reply
 reply_range = (id_range, record { from = omega arith; to = omega arith })
 
+retire_range : IsRequest (Retire retire_id)
+retire_range = record { host = (host_range here refl).0; run = record { from = omega arith; to = omega arith }; seq = record { from = omega arith; to = omega arith } }
+
+second_range : IsId (id_of here 2)
+second_range = let h = host_range here refl in record { host = h.0; run = h.1; seq = record { from = omega arith; to = omega arith } }
+
+closing_range : IsRequest closing
+closing_range = (second_range, record { from = omega arith; to = omega arith }, record { from = omega arith; to = omega arith }, record { from = omega arith; to = omega arith }, record { from = omega arith; to = omega arith })
+
 is_start : (b : Book) → IsLegalBook (unused b) → IsStart site (start b)
 is_start b legal = record { hosts = hosts; runs = λ s. refl; ledger = legal; entries = tt; sent = tt; written = tt }
 
@@ -142,10 +190,12 @@ granted_by b t e = rw e refl
 
 -- the first reply, where a limit is at least one
 first_reply : (b : Book) → 1 ≤ b.default → reply_from (unused b) (request here) ≡ reply
+unfolding floor
 first_reply b le = granted_by b (nat_lt b.default 1) (grind (arith, nat_tests, le))
 
 -- it is the one that is stored
 stored_reply : (b : Book) → 1 ≤ b.default → reply_from (taken b).ledger (request here) ≡ reply
+unfolding floor
 stored_reply b le = first_reply b le
 
 -- ---- the steps
@@ -213,6 +263,61 @@ to_late one b le =
 to_stopped : (b : Book) → Reaches site (start b) (with_run (asked b) here (after_stop ((asked b).runs here)))
 to_stopped b = Later (asked b) (with_run (asked b) here (after_stop ((asked b).runs here))) (to_asked b) (Stops here (record { is_run = refl; is_up = refl }))
 
+-- of a request's frame there is one request
+abbrev pub OneRequest : Type 0
+OneRequest = (q r : Request) → IsRequest q → IsRequest r → frame (request_body q) ≡ frame (request_body r) → q ≡ r
+
+retire_of_others : (id : Id) → id_in (Retire retire_id) ≡ Some id → site.is_run (source_of id) ≡ false
+retire_of_others id e = ap (λ (i : Id). site.is_run (source_of i)) (sym (some_is retire_id id e))
+
+frame_of_others : OneRequest → IsFrameOfOthers site (request_frame (Retire retire_id))
+frame_of_others one = λ body q e spells.
+    let F : List ℕ → Type 0 = λ x. frame (request_body (Retire retire_id)) ≡ frame x in
+    let is : Retire retire_id ≡ q = one (Retire retire_id) q retire_range spells.in_range (subst F spells.bytes e) in
+    subst (IsOfOthers site) is retire_of_others
+
+-- the step of the recipient came to its end: its first exchange failed, and the second one decided
+asked_once : IsPlayed here 3 (step (Ask 1 noon (codes "u")) (answered ∷ lost ∷ []) ∷ [])
+asked_once =
+    let first : IsTry (request here) lost None = record { request_is = refl; decision = λ a brings. absurd brings; decided_is = refl } in
+    let second : IsTry (request here) answered (Some reply) = record { request_is = refl; decision = (record { bytes = refl; in_range = reply_range }, refl); decided_is = refl } in
+    ((Some reply, (second, (first, tt), omega arith)), tt)
+
+to_retired : OneRequest → (b : Book) → 1 ≤ b.default → Reaches site (granted b) (retired b)
+to_retired one b le =
+    let sent : Reaches site (granted b) (retires b) = Later (granted b) (retires b) AtOnce (OthersSend (request_frame (Retire retire_id)) (frame_of_others one)) in
+    Later (retires b) (retired b) sent (Takes 0 (request_body (Retire retire_id)) (Retire retire_id) refl (record { bytes = refl; in_range = retire_range }))
+
+to_closed : (b : Book) → Reaches site (retired b) (closed b)
+to_closed b =
+    let read : Reaches site (retired b) (closes b) = Later (retired b) (closes b) AtOnce (Reads here commit_line (record { up = record { is_run = refl; is_up = refl }; before_end = refl; none_on_way = refl; played = asked_once }) refl) in
+    Later (closes b) (closed b) read (Sends here closing (record { is_run = refl; is_up = refl }) refl refl)
+
+-- the ledger knows its run no longer
+old_reply : (b : Book) → reply_from (closed b).ledger closing ≡ old
+unfolding floor
+old_reply b = refl
+
+to_given_up : (b : Book) → Reaches site (closed b) (given_up b)
+to_given_up b =
+    let w = after_arrival (closed b) closing in
+    let taken_old : Reaches site (closed b) w = Later (closed b) w AtOnce (Takes 0 (request_body closing) closing refl (record { bytes = refl; in_range = closing_range })) in
+    Later w (given_up b) taken_old (Ends here refused (record { is_run = refl; is_up = refl }) refl
+    (inr (inr (0, ap (λ a. Some (frame (reply_body a))) (old_reply b))))
+    (record { bytes = refl; in_range = second_range }, refl))
+
+held_one : (b : Book) → 1 ≤ b.default → held (granted b).ledger.history (record { host = codes "a"; run = 1; txn = 1 }) ≡ 1
+unfolding floor
+held_one b le = subst (λ a. held (record { request = request here; reply = a } ∷ []) (record { host = codes "a"; run = 1; txn = 1 }) ≡ 1) (sym (first_reply b le)) refl
+
+settled_one : (b : Book) → 1 ≤ b.default → settled_in (given_up b).ledger.history (record { host = codes "a"; run = 1; txn = 1 }) ≡ 1
+unfolding floor
+settled_one b le = subst (λ a. settled_in (record { request = request here; reply = a } ∷ record { request = Retire retire_id; reply = Retired retire_id } ∷ []) (record { host = codes "a"; run = 1; txn = 1 }) ≡ 1) (sym (first_reply b le)) refl
+
+requests_left : (b : Book) → requests (given_up b).ledger.history ≡ requests (granted b).ledger.history ++ Retire retire_id ∷ []
+unfolding floor
+requests_left b = refl
+
 -- ---- what has happened then
 
 reachable : (b : Book) → IsLegalBook (unused b) → (Happened : Site → (first w : World) → Type 0) → (w : World) → Reaches site (start b) w → Happened site (start b) w → IsReachable b Happened
@@ -224,12 +329,15 @@ lets_through b legal le = reachable b legal HasLetOneThrough (granted b) (to_gra
 
 -- how often frames of it stand in some that are those of this reply
 written_once : (b : Book) → 1 ≤ b.default → times_written reply (taken b) ≡ 1
+unfolding floor
 written_once b le = subst (λ a. count_by (same_text (frame (reply_body reply))) (frame (reply_body a) ∷ []) ≡ 1) (sym (first_reply b le)) refl
 
 written_twice : (b : Book) → 1 ≤ b.default → times_written reply (takes (taken b)) ≡ 2
+unfolding floor
 written_twice b le = subst (λ a. count_by (same_text (frame (reply_body reply))) (frame (reply_body a) ∷ frame (reply_body a) ∷ []) ≡ 2) (sym (first_reply b le)) refl
 
 answers_again : (b : Book) → IsLegalBook (unused b) → 1 ≤ b.default → IsReachable b WasAnsweredAgain
+unfolding floor
 answers_again b legal le = reachable b legal WasAnsweredAgain (granted b) (to_granted b le) (record {
   run = here;
   request = request here;
@@ -246,6 +354,7 @@ answers_again b legal le = reachable b legal WasAnsweredAgain (granted b) (to_gr
 })
 
 takes_twice : (b : Book) → IsLegalBook (unused b) → 1 ≤ b.default → IsReachable b WasTakenTwice
+unfolding floor
 takes_twice b legal le = reachable b legal WasTakenTwice (takes (taken b)) (to_twice b)
     (record { request = request here; reply = reply; decides_it = refl; sent = refl; written = written_twice b le; once = refl })
 
@@ -269,6 +378,27 @@ stops : (b : Book) → IsLegalBook (unused b) → IsReachable b HasStopped
 stops b legal = reachable b legal HasStopped (with_run (asked b) here (after_stop ((asked b).runs here))) (to_stopped b)
     (record { run = here; is_run = refl; on_way = refl; is_stopped = refl })
 
+retires_it : OneRequest → (b : Book) → IsLegalBook (unused b) → 1 ≤ b.default → IsReachable b WasRetired
+retires_it one b legal le =
+    let later = joined (granted b) (closed b) (given_up b) (joined (granted b) (retired b) (closed b) (to_retired one b le) (to_closed b)) (to_given_up b) in
+    reachable b legal WasRetired (given_up b) (joined (start b) (granted b) (given_up b) (to_granted b le) later) (record {
+      transaction = record { host = codes "a"; run = 1; txn = 1 };
+      is_run = refl;
+      before = granted b;
+      reached = to_granted b le;
+      held_before = held_one b le;
+      by = retire_id;
+      is_other = refl;
+      later = later;
+      retired = requests_left b;
+      settled = settled_one b le;
+      closing = closing;
+      id = id_of here 2;
+      came = refl;
+      none_waits = refl;
+      is_one = refl;
+    })
+
 pub returns : goal.returns
 returns c = record {
   let_through = lets_through;
@@ -276,4 +406,5 @@ returns c = record {
   taken_twice = takes_twice;
   late = comes_late c.one_spelling.ensures.one_reply;
   stopped = stops;
+  retired = retires_it c.one_spelling.ensures.one_request_frame;
 }

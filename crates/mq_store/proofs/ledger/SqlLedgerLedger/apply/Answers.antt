@@ -13,7 +13,7 @@ returns-clause-history g c = rw (← c.self.view_is) (λ kept sound.
     let old = state g.S.Store l.connection in
     let H = (book_in l.zone l.default old.now).history in
     let over = (c.in_ok-reply.ensures.applied kept H (book_had l.zone l.default old sound)).1 in
-    ap (λ (b : Book). b.history) (c.tables_mean_their_book.ensures (book_after l.zone l.default H c.args.request.now) _ over))
+    ap (λ (b : Book). b.history) (c.tables_mean_their_book.ensures (book_after l.zone l.default H c.args.request.now) over.has.tables _ over.legal over.has.holds over.has.rows))
 
 pub returns-clause-sound : goal.returns-clause-sound
 returns-clause-sound g c = rw (← c.self.view_is) (λ kept sound.
@@ -22,7 +22,7 @@ returns-clause-sound g c = rw (← c.self.view_is) (λ kept sound.
     let H = (book_in l.zone l.default old.now).history in
     let b : Book = book_after l.zone l.default H c.args.request.now in
     let over = (c.in_ok-reply.ensures.applied kept H (book_had l.zone l.default old sound)).1 in
-    sound_with b (state g.S.Store c.apply.new.connection) kept over (c.tables_mean_their_book.ensures b _ over))
+    sound_with b (state g.S.Store c.apply.new.connection) kept over (c.tables_mean_their_book.ensures b over.has.tables _ over.legal over.has.holds over.has.rows))
 
 pub returns-clause-crash_new : goal.returns-clause-crash_new
 returns-clause-crash_new g c = rw (← c.self.view_is) c.in_ok-reply.ensures.crash_new

@@ -1,0 +1,82 @@
+-- The floor of a host is the greatest run of its retires.
+use Rattle.std.proofs.Common.{◌≡◌, ℕ, ◌≤◌, List, [], ◌∷◌, ◌++◌, refl, ◌∙◌, ap, sym, subst, inl, inr, arith}
+use Rattle.std.specs.Prelude.{◌⊎◌, nat_lt, Contains}
+use Rattle.std.proofs.lemmas.Bool.Decides.{nat_tests}
+use Rattle.std.proofs.lemmas.List.Elements.{Contains-append_left, Contains-push, Contains-push_cases}
+use Rattle.mq_frame.specs.declared.message.Id.{Id}
+use Rattle.mq_frame.specs.declared.message.Request.{Request}
+use Rattle.mq_frame.specs.declared.message.Request.TheVariants.{Reserve, Settle, Release, Limit, Usage, List as ListRequest, Retire}
+use Rattle.mq_frame.specs.Same.{same_text}
+use Rattle.mq_ledger.specs.Arrivals.{raised, greater, floor, IsFloor}
+use Rattle.mq_ledger.proofs.Basics.{either, text_is, text_itself, by_pushes}
+use Rattle.mq_ledger.proofs.Transactions.{floor_push, floor_none}
+
+-- a retire of the host raises the floor to its own run
+raised_own : (h : List ℕ) (id : Id) → id.host ≡ h → raised h (Retire id) ≡ id.run
+raised_own h id own = rw (← own) (rw (text_itself id.host) refl)
+
+-- what a request raises the floor to is nothing, or the run of a retire of the host
+pub record IsRunOf (h : List ℕ) (r : Request) : Type 0 where
+  pub id : Id
+  pub is : r ≡ Retire id
+  pub host : id.host ≡ h
+  pub run : id.run ≡ raised h r
+
+raised_by : (h : List ℕ) (r : Request) → (raised h r ≡ 0) ⊎ IsRunOf h r
+raised_by h (Retire id) = elim (either (same_text h id.host)) [
+  | inl t ↦ (let own : id.host ≡ h = sym (text_is h id.host t) in inr (record { id = id; is = refl; host = own; run = sym (raised_own h id own) }))
+  | inr f ↦ inl (rw f refl)
+]
+raised_by h (Reserve id txn at login count) = inl refl
+raised_by h (Settle id txn at login count) = inl refl
+raised_by h (Release id txn at login) = inl refl
+raised_by h (Limit id from cap login) = inl refl
+raised_by h (Usage login d) = inl refl
+raised_by h (ListRequest d after) = inl refl
+
+first_at_most : (a b : ℕ) → a ≤ greater a b
+first_at_most a b = grind (arith, nat_tests)
+
+second_at_most : (a b : ℕ) → b ≤ greater a b
+second_at_most a b = grind (arith, nat_tests)
+
+greater_is : (a b : ℕ) → (greater a b ≡ a) ⊎ (greater a b ≡ b)
+greater_is a b = elim (either (nat_lt a b)) [ inl t ↦ inr (rw t refl) | inr f ↦ inl (rw f refl) ]
+
+abbrev Reaches : List Request → List ℕ → ℕ → Type 0
+Reaches rs h n = (n ≡ 0) ⊎ ((id : Id) × Contains rs (Retire id) × (id.host ≡ h) × (id.run ≡ n))
+
+one_more : (rs : List Request) (r : Request) (h : List ℕ) (m : ℕ) → IsFloor rs h m → IsFloor (rs ++ r ∷ []) h (greater m (raised h r))
+one_more rs r h m is = record {
+  most = λ id there own. elim (Contains-push_cases rs r (Retire id) there) [
+    | inl before ↦ (let low : id.run ≤ m = is.most id before own in omega (arith, low, first_at_most m (raised h r)))
+    | inr now ↦ (let run : raised h r ≡ id.run = ap (raised h) now ∙ raised_own h id own in omega (arith, run, second_at_most m (raised h r)))
+  ];
+  reached = elim (greater_is m (raised h r)) [
+    | inl stays ↦ subst (Reaches (rs ++ r ∷ []) h) (sym stays) (elim is.reached [
+      | inl none ↦ inl none
+      | inr p ↦ inr (p.0, Contains-append_left rs (r ∷ []) (Retire p.0) p.1, p.2, p.3)
+    ])
+    | inr rises ↦ subst (Reaches (rs ++ r ∷ []) h) (sym rises) (elim (raised_by h r) [
+      | inl none ↦ inl none
+      | inr p ↦ inr (p.id, subst (Contains (rs ++ r ∷ [])) p.is (Contains-push rs r), p.host, p.run)
+    ])
+  ];
+}
+
+nothing_there : {X : Type 0} (x : X) → Contains [] x → ⊥
+nothing_there x there = omega (arith, there.1)
+
+pub greatest : (rs : List Request) (h : List ℕ) → IsFloor rs h (floor rs h)
+greatest rs h = by_pushes (λ rs. IsFloor rs h (floor rs h))
+    (record { most = λ id there own. absurd (nothing_there (Retire id) there); reached = inl (floor_none h) })
+    (λ rs r is. subst (IsFloor (rs ++ r ∷ []) h) (sym (floor_push rs r h)) (one_more rs r h (floor rs h) is)) rs
+
+at_most : (rs : List Request) (h : List ℕ) (m n : ℕ) → IsFloor rs h m → IsFloor rs h n → m ≤ n
+at_most rs h m n is other = elim is.reached [
+  | inl none ↦ omega (arith, none)
+  | inr p ↦ (let low : p.0.run ≤ n = other.most p.0 p.1 p.2 in omega (arith, low, p.3))
+]
+
+pub only_greatest : (rs : List Request) (h : List ℕ) (n : ℕ) → IsFloor rs h n → n ≡ floor rs h
+only_greatest rs h n is = omega (arith, at_most rs h n (floor rs h) is (greatest rs h), at_most rs h (floor rs h) n (greatest rs h) is)

@@ -1,0 +1,262 @@
+-- What becomes of a store that holds the rows of a history, in whatever version, where it is opened.
+use Rattle.std.proofs.Common.{◌≡◌, ◌⊎◌, inl, inr, ℕ, ℤ, pos, length, ◌==◌, nat_le, true≢false, Option, Ok, Err, Result, List, Bool, true, false, Some, None, refl, sym, ap, ap₂, subst, ◌∙◌}
+use Rattle.std.proofs.lemmas.Bool.{eqb-true}
+use Rattle.std.proofs.lemmas.Slice.Eq.{bytes_eq-Decides}
+use Rattle.std.specs.Prelude.{◌&&◌, ◌||◌, if◌then◌else◌, IfOk, IsTrue}
+use Rattle.std.specs.Ordering.{int_eq}
+use Rattle.std.specs.Cmp.{signed_Decides}
+use Rattle.sqlite.specs.Effect.{Database, IsDatabase}
+use Rattle.sqlite.specs.Schema.{Schema}
+use Rattle.sqlite.specs.State.{State}
+use Rattle.sqlite.specs.Tree.{Trees}
+use Rattle.mq_ledger.specs.declared.entry.Entry.{Entry}
+use Rattle.mq_ledger.specs.declared.ledger.LedgerFault.{LedgerFault}
+use Rattle.mq_ledger.specs.declared.ledger.LedgerFault.TheVariants as ledger
+use Rattle.mq_ledger.specs.declared.zone.Zone.{Zone}
+use Rattle.mq_ledger.specs.Day.{ByOffset, ByRule, minutes_in, rule_in}
+use Rattle.mq_ledger.specs.Legal.{Book, IsLegalBook}
+use Rattle.mq_rows.specs.declared.audited.Audit.{Audit}
+use Rattle.mq_rows.specs.declared.audited.Audit.TheVariants.{Sound, Wrong}
+use Rattle.mq_rows.specs.declared.record.SettingRecord.{SettingRecord}
+use Rattle.mq_rows.specs.Rows.{IsSetting, is_version, older_version, setting_row}
+use Rattle.mq_rows.specs.Tables.{Tables, AreRows}
+use Rattle.mq_tables.specs.Ledger.{HasLedger, HasRule, HasNoFloors, HasFloors, Since, setting_in}
+use Rattle.mq_tables.specs.Making.{has_later_table}
+use Rattle.mq_tables.specs.Migrating.{IsMigrated, AreMigrated, migrated}
+use Rattle.mq_tables.specs.Reading.{Spares}
+use Rattle.mq_tables.specs.Settings.{SettingRow, HasSetting, shown_of}
+use Rattle.mq_store.specs.declared.fault.OpenFault.{OpenFault}
+use Rattle.mq_store.specs.declared.fault.OpenFault.TheVariants.{ZoneDiffers, DefaultDiffers, NotOurs, Memory, Store}
+use Rattle.mq_store.specs.Auditing.{IsAuditIn, IsRightAnswer}
+use Rattle.mq_store.specs.Crash.{FindsOnly, FindsOpened}
+use Rattle.mq_store.specs.Opening.{fault_in, same_rule, audit_fault, known_version, judged_as, if_none, HasCurrent, HoldsKnown, HasSettings, IsStopped, IsOf, IsFoundOf, IsBroughtUp, IsLeftOlder, Opens, Refuses}
+use Rattle.mq_store.specs.Taking.{HasBook, book_of}
+use Rattle.mq_store.specs.Soundness.{book_in, HasKept, HasStored, HasRoom, IsSound, MeansBook, IsOpened}
+use Rattle.mq_store.proofs.Sound.{sound_with}
+use Rattle.mq_store.proofs.Versions.{since_then, not_since}
+
+-- ---- the version
+
+versions : (z : Zone) (v : ℕ) → is_version z v ≡ true → (v ≡ 3) ⊎ (v ≡ older_version z)
+versions z v h = go (v == 3) (v == older_version z) refl refl h
+  where
+    go : (a b : Bool) → (v == 3) ≡ a → (v == older_version z) ≡ b → (a || b) ≡ true → (v ≡ 3) ⊎ (v ≡ older_version z)
+    go true b p q e = inl (eqb-true v 3 p)
+    go false true p q e = inr (eqb-true v (older_version z) q)
+    go false false p q e = absurd cc
+
+older_is : (z : Zone) → nat_le 3 (older_version z) ≡ false
+older_is (ByOffset minutes) = refl
+older_is (ByRule text) = refl
+
+known_older : (z : Zone) → known_version (pos (older_version z)) ≡ Some (older_version z)
+known_older (ByOffset minutes) = refl
+known_older (ByRule text) = refl
+
+known_is : (z : Zone) (v : ℕ) → is_version z v ≡ true → known_version (pos v) ≡ Some v
+known_is z v h = elim (versions z v h) [
+  | inl current ↦ subst (λ k. known_version (pos k) ≡ Some k) (sym current) refl
+  | inr older ↦ subst (λ k. known_version (pos k) ≡ Some k) (sym older) (known_older z)
+]
+
+-- ---- the row of settings agrees
+
+same_number : (a b : ℤ) → int_eq a b ≡ true → a ≡ b
+same_number a b hit = (signed_Decides a b).0 hit
+
+-- the zone whose minutes and rule these are is that one
+same_zone : (zone z : Zone) → int_eq (minutes_in z) (minutes_in zone) ≡ true → same_rule (rule_in zone) (rule_in z) ≡ true → z ≡ zone
+same_zone (ByOffset minutes) (ByOffset other) p q = ap ByOffset (same_number other minutes p)
+same_zone (ByRule text) (ByRule other) p q = ap ByRule (sym ((bytes_eq-Decides text other).0 q))
+same_zone (ByOffset minutes) (ByRule other) p q = absurd (true≢false (sym q))
+same_zone (ByRule text) (ByOffset other) p q = absurd (true≢false (sym q))
+
+-- the fault of the settings of a history
+abbrev fault_of_book : Zone → ℕ → Book → Option OpenFault
+fault_of_book zone default b =
+    if int_eq (minutes_in b.zone) (minutes_in zone) && same_rule (rule_in zone) (rule_in b.zone)
+    then (if int_eq (pos b.default) (pos default) then None else Some DefaultDiffers)
+    else Some ZoneDiffers
+
+agrees : (zone : Zone) (default : ℕ) (b : Book) → fault_of_book zone default b ≡ None → (b.zone ≡ zone) × (b.default ≡ default)
+agrees zone default b e = go (int_eq (minutes_in b.zone) (minutes_in zone)) (same_rule (rule_in zone) (rule_in b.zone)) (int_eq (pos b.default) (pos default)) refl refl refl e
+  where
+    go : (a r d : Bool) → int_eq (minutes_in b.zone) (minutes_in zone) ≡ a → same_rule (rule_in zone) (rule_in b.zone) ≡ r → int_eq (pos b.default) (pos default) ≡ d
+        → (if a && r then (if d then None else Some DefaultDiffers) else Some ZoneDiffers) ≡ None → (b.zone ≡ zone) × (b.default ≡ default)
+    go true true true p q o e = (same_zone zone b.zone p q, (let is : pos b.default ≡ pos default = same_number (pos b.default) (pos default) o in cc))
+    go true true false p q o e = absurd cc
+    go true false d p q o e = absurd cc
+    go false r d p q o e = absurd cc
+
+same_as_itself : (zone : Zone) → same_rule (rule_in zone) (rule_in zone) ≡ true
+same_as_itself (ByOffset minutes) = refl
+same_as_itself (ByRule text) = (bytes_eq-Decides text text).1 refl
+
+no_fault : (zone : Zone) (default : ℕ) (H : List Entry) → fault_of_book zone default (book_of zone default H) ≡ None
+no_fault zone default H = rw ((signed_Decides (minutes_in zone) (minutes_in zone)).1 refl, same_as_itself zone, (signed_Decides (pos default) (pos default)).1 refl) refl
+
+-- ---- the tables of a version
+
+module _ (b : Book) (db : Database) (has : HasStored b db) where
+  abbrev t : Tables
+  t = has.tables
+
+  abbrev v : ℕ
+  v = has.tables.setting.version
+
+  rule_is : t.setting.rule ≡ rule_in b.zone
+  rule_is = ap (λ (s : SettingRecord). s.rule) has.rows.setting.row
+
+  current_held : v ≡ 3 → HasCurrent db t.setting.rule
+  current_held e = (since_then _ _ (nat_le 2 v) (ap (nat_le 2) e) has.holds.later.rule, (t.retired, since_then _ _ (nat_le 3 v) (ap (nat_le 3) e) has.holds.later.retired))
+
+  older_held : (z : Zone) (rule : Option (List ℕ)) → rule ≡ rule_in z → Since (nat_le 2 (older_version z)) (HasRule db rule) (rule ≡ None) → HoldsKnown (Some (older_version z)) db (rule_in z)
+  older_held (ByOffset minutes) rule is h = refl
+  older_held (ByRule text) rule is h = subst (HasRule db) is h
+
+  later_held : HoldsKnown (known_version (pos v)) db (rule_in b.zone)
+  later_held = rw (known_is b.zone v has.rows.setting.version) (elim (versions b.zone v has.rows.setting.version) [
+    | inl current ↦ subst (λ k. HoldsKnown (Some k) db (rule_in b.zone)) (sym current) (subst (HasCurrent db) rule_is (current_held current))
+    | inr older ↦ subst (λ k. HoldsKnown (Some k) db (rule_in b.zone)) (sym older) (older_held b.zone t.setting.rule rule_is (subst (λ k. Since (nat_le 2 k) (HasRule db t.setting.rule) (t.setting.rule ≡ None)) older has.holds.later.rule))
+  ])
+
+  settings_had : HasSettings db (setting_in t.setting) (rule_in b.zone)
+  settings_had = record { setting = record { tree = has.holds.at.setting; table = has.holds.tables.setting; row = has.holds.holds.setting }; later = later_held }
+
+  fault_is : (zone : Zone) (default : ℕ) → fault_in zone default (shown_of (setting_in t.setting)) (rule_in b.zone) ≡ fault_of_book zone default b
+  fault_is zone default = rw has.rows.setting.row refl
+
+  -- no name of a later version is taken
+  free : has_later_table v db.schema ≡ false
+  free = elim (versions b.zone v has.rows.setting.version) [
+    | inl current ↦ subst (λ k. has_later_table k db.schema ≡ false) (sym current) refl
+    | inr older ↦ (not_since _ _ (nat_le 3 v) (ap (nat_le 3) older ∙ older_is b.zone) has.room).free
+  ]
+
+  judged_is : (zone : Zone) (default : ℕ) → judged_as (known_version (pos v)) zone default db.schema (shown_of (setting_in t.setting)) (rule_in b.zone) ≡ if_none v (fault_of_book zone default b)
+  judged_is zone default = rw (known_is b.zone v has.rows.setting.version, free) (ap (if_none v) (fault_is zone default))
+
+  found_none : (version n : ℕ) (fault : Option OpenFault) → Ok version ≡ if_none n fault → (version ≡ n) × (fault ≡ None)
+  found_none version n None e = ((let same : ◌≡◌ {A = Result ℕ OpenFault} (Ok version) (Ok n) = e in cc), refl)
+  found_none version n (Some f) e = absurd cc
+
+  -- what was found is the version, and the zone and the default are the book's
+  found_as : (zone : Zone) (default version : ℕ) → IsOf zone default db.schema (setting_in t.setting) (rule_in b.zone) (Ok version) → (version ≡ v) × (b.zone ≡ zone) × (b.default ≡ default)
+  found_as zone default version (inl e) = let it = found_none version v (fault_of_book zone default b) (e ∙ judged_is zone default) in let same = agrees zone default b it.1 in (it.0, same.0, same.1)
+  found_as zone default version (inr (inl e)) = absurd cc
+  found_as zone default version (inr (inr e)) = absurd cc
+
+  -- ---- it is of the current version behind
+
+  rows_again : AreRows b (migrated t)
+  rows_again = record {
+    setting = record { row = ap (λ (s : SettingRecord). record s { version = 3 }) has.rows.setting.row; version = refl };
+    answers = has.rows.answers;
+    transactions = has.rows.transactions;
+    usage = has.rows.usage;
+    ceilings = has.rows.ceilings;
+    retired = has.rows.retired;
+  }
+
+  migrated_book : (new : Database) → nat_le 3 v ≡ false → IsMigrated (nat_le 2 v) db new → HasBook b new
+  migrated_book new older it =
+      let made = it.made (not_since _ _ (nat_le 3 v) older has.room).counters t has.holds refl older in
+      record { legal = has.legal; has = record { tables = migrated t; holds = made.ledger; rows = rows_again; current = refl } }
+
+  kept_book : (new : Database) → v ≡ 3 → new ≡ db → HasBook b new
+  kept_book new current same = record { legal = has.legal; has = record { tables = t; holds = subst (λ x. HasLedger x t) (sym same) has.holds; rows = has.rows; current = current } }
+
+module _ (b : Book) (old new : State) (has : HasStored b old.now) where
+  abbrev v' : ℕ
+  v' = has.tables.setting.version
+
+  brought_book : IsTrue new.is_open → IsBroughtUp v' old new → HasBook b new.now
+  brought_book is_open up = elim (versions b.zone v' has.rows.setting.version) [
+    | inl current ↦ kept_book b old.now has new.now current ((since_then _ _ (nat_le 3 v') (ap (nat_le 3) current) up).now is_open)
+    | inr older ↦ (let below = ap (nat_le 3) older ∙ older_is b.zone in migrated_book b old.now has new.now below (not_since _ _ (nat_le 3 v') below up).0)
+  ]
+
+abbrev pub Means : Type 0
+Means = (b : Book) (t : Tables) (db : Database) → IsLegalBook b → HasLedger db t → AreRows b t → book_in b.zone b.default db ≡ b
+
+module _ (zone : Zone) (default : ℕ) (old new : State) (exact : (s : SettingRow) (rule : Option (List ℕ)) → HasSettings old.now s rule → Opens (IsFoundOf zone default old.now s rule) old new) where
+  -- the version that was found is that of the rows
+  found_of : (b : Book) (has : HasStored b old.now) → (b.zone ≡ zone) × (b.default ≡ default) × IsBroughtUp has.tables.setting.version old new
+  found_of b has =
+      let it = exact _ _ (settings_had b old.now has) in
+      let of = found_as b old.now has zone default it.0 it.1.0 in
+      (of.1, of.2, subst (λ k. IsBroughtUp k old new) of.0 it.2)
+
+  pub opens_book : Means → HasKept new → MeansBook zone default old.now new
+  opens_book meaning kept b has =
+      let it = found_of b has in
+      let there = brought_book b old new has kept.is_open it.2 in
+      let means : book_in b.zone b.default new.now ≡ b = meaning b there.has.tables new.now there.legal there.has.holds there.has.rows in
+      let zoned : IsSound zone b.default new = subst (λ k. IsSound k b.default new) it.0 (sound_with b new kept there means) in
+      (it.0, it.1, subst (λ k. IsSound zone k new) it.1 zoned, ap₂ (λ k n. book_in k n new.now) (sym it.0) (sym it.1) ∙ means)
+
+  pub finds_opened : ((a b : Database) → IsDatabase a → IsDatabase b → a.trees ≡ b.trees → a ≡ b) → HasKept new → FindsOpened old new
+  finds_opened one kept b has =
+      let it = found_of b has in
+      let there = brought_book b old new has kept.is_open it.2 in
+      go there (nat_le 3 has.tables.setting.version) it.2
+    where
+      go : HasBook b new.now → (is : Bool) → Since is (Spares old new) (IsMigrated (nat_le 2 has.tables.setting.version) old.now new.now × ((db : Trees) → new.may_leave db → db ≡ new.now.trees))
+          → Since is ((db : Trees) → new.may_leave db → old.may_leave db) (FindsOnly new (HasBook b))
+      go there true up = up.crash
+      go there false up = λ db sound left. subst (HasBook b) (one new.now db there.has.holds.sound sound (sym (up.1 db.trees left))) there
+
+pub opens : (zone : Zone) (default : ℕ) (old new : State) → MeansBook zone default old.now new → IsOpened zone default old new
+opens zone default old new means = record { opened = λ z d has. means (book_in z d old.now) has }
+
+-- ---- what refuses such rows
+
+abbrev pub AreRight : Type 0
+AreRight = (b : Book) (t : Tables) (db : Database) (a : Audit) → IsLegalBook b → HasLedger db t → AreRows b t → IsAuditIn b.zone b.default db a → IsRightAnswer a
+
+stopped_audit : (b : Book) (db : Database) (f : OpenFault) (found : Result Audit LedgerFault) → AreRight → HasStored b db → IfOk found (IsAuditIn b.zone b.default db) → Some f ≡ audit_fault found → (f ≡ Memory) ⊎ (f ≡ Store)
+stopped_audit b db f (Ok (Sound days transactions)) right has is_audit is = absurd cc
+stopped_audit b db f (Ok (Wrong login day)) right has is_audit is = absurd (right b has.tables db (Wrong login day) has.legal has.holds has.rows is_audit)
+stopped_audit b db f (Err ledger.Memory) right has is_audit is = inl cc
+stopped_audit b db f (Err ledger.Store) right has is_audit is = inr cc
+
+stopped_so : (f : OpenFault) → IsStopped (Err f) → (f ≡ Memory) ⊎ (f ≡ Store)
+stopped_so f (inl e) = inl (let same : ◌≡◌ {A = Result ℕ OpenFault} (Err f) (Err Memory) = e in cc)
+stopped_so f (inr e) = inr (let same : ◌≡◌ {A = Result ℕ OpenFault} (Err f) (Err Store) = e in cc)
+
+module _ (zone : Zone) (default : ℕ) (old new : State) (f : OpenFault) (exact : (s : SettingRow) (rule : Option (List ℕ)) → HasSettings old.now s rule → Refuses (IsFoundOf zone default old.now s rule) old new f) where
+  pub refuses : AreRight → (H : List Entry) → HasStored (book_of zone default H) old.now → (f ≡ Memory) ⊎ (f ≡ Store)
+  refuses right H has =
+      let b = book_of zone default H in
+      elim (exact _ _ (settings_had b old.now has)) [
+        | inl (inl (inl refused), spares) ↦ absurd (let none : ◌≡◌ {A = Result ℕ OpenFault} (Err f) (Ok has.tables.setting.version) = refused ∙ judged_is b old.now has zone default ∙ ap (if_none has.tables.setting.version) (no_fault zone default H) in cc)
+        | inl (inl (inr stopped), spares) ↦ stopped_so f stopped
+        | inl (inr both, spares) ↦ stopped_audit b old.now f both.2.found right has both.2.is_audit both.2.fault_is
+        | inr left ↦ left.2.fault
+      ]
+
+  pub finds_refused : ((a b : Database) → IsDatabase a → IsDatabase b → a.trees ≡ b.trees → a ≡ b) → (b : Book) → HasStored b old.now → FindsOnly new (λ db. old.may_leave db.trees ⊎ HasBook b db)
+  finds_refused one b has = λ db sound left.
+      elim (exact _ _ (settings_had b old.now has)) [
+        | inl found ↦ inl (found.1.crash db.trees left)
+        | inr (version, found, older) ↦ elim (older.crash db.trees left) [
+          | inl was ↦ inl was
+          | inr (was_open, made) ↦ inr (let is = (found_as b old.now has zone default version found.0).0 in
+              let there = migrated_book b old.now has made.new (ap (nat_le 3) (sym is) ∙ older.older) (subst (λ k. IsMigrated (nat_le 2 k) old.now made.new) is made.made) in
+              subst (HasBook b) (one made.new db there.has.holds.sound sound made.trees_are) there)
+        ]
+      ]
+
+-- what a refusal leaves, whatever the rows are
+module _ (old new : State) (f : OpenFault) (Found : Result ℕ OpenFault → Type 0) where
+  pub same_refused : Refuses Found old new f → IsTrue new.is_open → new.now ≡ old.now
+  same_refused (inl found) is_open = found.1.now is_open
+  same_refused (inr older) is_open = older.2.now is_open
+
+  pub spares_refused : Refuses Found old new f → Spares old new ⊎ ((f ≡ Memory) ⊎ (f ≡ Store))
+  spares_refused (inl found) = inl found.1
+  spares_refused (inr older) = inr older.2.fault
+
+  pub crash_refused : Refuses Found old new f → (db : Trees) → new.may_leave db → old.may_leave db ⊎ ((has_rule_table : Bool) × AreMigrated has_rule_table old.now db)
+  crash_refused (inl found) db may = inl (found.1.crash db may)
+  crash_refused (inr older) db may = elim (older.2.crash db may) [ inl was ↦ inl was | inr made ↦ inr (nat_le 2 older.0, made.1) ]

@@ -1,0 +1,277 @@
+"""Retired runs: what a retire settles and gives up, over a list, tables and a file; files of versions 1 and 2, which an open makes version 3;
+and what a filter and an administrator are told."""
+import sqlite3
+import subprocess
+import time
+
+import wire
+from books import Books
+from cases.audits import SOUND, audit, edited
+from cases.filters import COMMIT, INPUT, MX1, RELEASE, RESERVE, SERVICE, answer, scripted, told
+from cases.rules import CENTRAL_EUROPE
+from ends import SILENCE, Script, Server, fault, ledger_settings, without_log
+from rows import answers_of, rows_in, same_rows
+
+# a number of run 1 of host a, and the retire of the runs below 2
+I = "0161 0000000000000001 %08x"
+J = "0161 0000000000000002 00000001"
+T = "00000001 0000000000015180 0175"
+USAGE = "0007 05 0175 00000001"
+ONE, TWO = f"0021 01 {I % 1} {T} 00000001", f"0021 01 {I % 2} {T} 00000002"
+RETIRE = f"000f 07 {J}"
+OTHER_HOST = "0162 0000000000000001 00000001"
+
+WORKED = [
+    (
+        "a retire settles what was reserved",
+        [ONE, TWO, RETIRE, USAGE, ONE, f"0021 02 {I % 3} {T} 00000001", RETIRE, f"0021 01 0161 0000000000000002 00000002 {T} 00000001", f"000f 07 {I % 9}"],
+        [
+            f"0013 81 {I % 1} 00000001", f"0013 81 {I % 2} 00000003", f"000f 8f {J}", "0013 8b 0175 00000001 00000003 00000000 00000003",
+            f"000f 90 {I % 1}", f"000f 90 {I % 3}", f"000f 8f {J}", "0017 82 0161 0000000000000002 00000002 00000003 00000003", f"000f 90 {I % 9}",
+        ],
+    ),
+    (
+        "a retire reaches one host",
+        [ONE, f"0021 01 {OTHER_HOST} {T} 00000001", RETIRE, f"000f 07 {OTHER_HOST}", USAGE],
+        [
+            f"0013 81 {I % 1} 00000001", f"0013 81 {OTHER_HOST} 00000002", f"000f 8f {J}", f"000f 8a {OTHER_HOST}",
+            "0013 8b 0175 00000001 00000001 00000001 00000003",
+        ],
+    ),
+]
+
+FIVE_TABLES = [
+    "CREATE TABLE setting (id INTEGER PRIMARY KEY, version INTEGER NOT NULL, minutes INTEGER NOT NULL, cap INTEGER NOT NULL, arrivals INTEGER NOT NULL) STRICT",
+    "CREATE TABLE answer (n INTEGER PRIMARY KEY, host BLOB NOT NULL, run INTEGER NOT NULL, seq INTEGER NOT NULL, request BLOB NOT NULL, "
+    "reply BLOB NOT NULL, UNIQUE (host, run, seq)) STRICT",
+    "CREATE TABLE trans (host BLOB NOT NULL, run INTEGER NOT NULL, txn INTEGER NOT NULL, login BLOB NOT NULL, moment INTEGER NOT NULL, "
+    "day INTEGER NOT NULL, held INTEGER NOT NULL, settled INTEGER NOT NULL, closed INTEGER NOT NULL, PRIMARY KEY (host, run, txn)) STRICT",
+    "CREATE TABLE usage (login BLOB NOT NULL, day INTEGER NOT NULL, settled INTEGER NOT NULL, reserved INTEGER NOT NULL, PRIMARY KEY (login, day)) STRICT",
+    "CREATE TABLE ceiling (login BLOB NOT NULL, day INTEGER NOT NULL, cap INTEGER NOT NULL, PRIMARY KEY (login, day)) STRICT",
+]
+RULE_TABLE = "CREATE TABLE rule (id INTEGER PRIMARY KEY, bytes BLOB NOT NULL) STRICT"
+RETIRED_TABLE = "CREATE TABLE retired (host BLOB PRIMARY KEY, run INTEGER NOT NULL) STRICT"
+# two reserves of a transaction of login u on day 1, a settle of 1, and a settle that comes too late
+FOUR = [wire.reserve(1), wire.reserve(2), wire.settle(3), wire.settle(4)]
+NAMES = ["setting", "answer", "trans", "usage", "ceiling", "rule", "retired"]
+KILLS = 60
+ANOTHER_ZONE, NOT_OURS = "store has another zone", "store is not this ledger"
+BY_RULE = {"offset": None, "rule": CENTRAL_EUROPE}
+
+
+def run(world, checks):
+    worked(world, checks)
+    a_file(world, checks)
+    older_files(world, checks)
+    killed_as_it_opens(world, checks)
+    refused(world, checks)
+    a_retired_filter(world, checks)
+    commands(world, checks)
+
+
+def frames_of(texts):
+    return bytes.fromhex("".join(texts))
+
+
+def worked(world, checks):
+    for what, asked, wanted in WORKED:
+        asked, wanted = frames_of(asked), frames_of(wanted)
+        for words in ([], ["--sql"]):
+            came = world.run("replay", "--default", "3", *words, text=asked.hex().encode())
+            checks.equal(" ".join([f"{what}: replay", *words]), came, (0, f"{wanted.hex()}\n".encode(), ""))
+        path = f"{world.folder}/{what.replace(' ', '-')}"
+        with Server(world, words=["--create"], store=path) as server:
+            checks.equal(f"{what}: a server over a file", server.ask(asked), wanted)
+
+
+def a_file(world, checks):
+    """Hosts with several runs, some of them retired again and again, over a file that is killed and opened again."""
+    path, books = f"{world.folder}/retiring", Books(default=50)
+    sent = []
+    for turn in range(1, 6):
+        new = [frame for host in (b"a", b"b", b"c") for frame in of_a_run(host, turn)]
+        new += [wire.retire(900, host=b"a", run=turn), wire.retire(901, host=b"b", run=max(turn - 2, 1)), wire.usage(), wire.page()]
+        with Server(world, words=[] if turn > 1 else ["--create"], store=path, default=50) as server:
+            for what, frames in (("what was asked before", sent), ("what is new", new)):
+                frames = b"".join(frames)
+                checks.equal(f"a file with retires, start {turn}: {what}", server.ask(frames), books.serve(frames))
+            server.process.kill()
+            server.status()
+        sent += new
+        same_rows(checks, f"a file with retires, kill {turn}", path, books)
+        came = audit(world, path, default=50)
+        checks.equal(f"audit behind kill {turn}", came, (0, f"sound days={len(books.usage)} transactions={len(books.transactions)}\n".encode(), ""))
+    checks.equal("the floors", rows_in(path, ["retired"]), {"retired": [(b"a", 5), (b"b", 3)]})
+
+
+def of_a_run(host, run):
+    """Transactions that are left open, settled, released and refused, of two logins on two days."""
+    its = {"host": host, "run": run}
+    return [
+        wire.reserve(1, txn=1, count=2, **its), wire.reserve(2, txn=1, **its), wire.reserve(3, txn=2, login=b"v", at=172_800, **its),
+        wire.reserve(4, txn=3, count=3, **its), wire.settle(5, txn=3, count=2, **its), wire.reserve(6, txn=4, **its), wire.release(7, txn=4, **its),
+        wire.reserve(8, txn=5, count=1_000, **its), wire.release(9, txn=6, **its), wire.reserve(10, txn=2, login=b"w", at=172_800, **its),
+        wire.limit(11, 2, 40 + run, login=b"v", **its),
+    ]
+
+
+def written(world, name, *statements):
+    """A file that these statements made."""
+    path = f"{world.folder}/{name}"
+    database = sqlite3.connect(path)
+    for statement in statements:
+        database.execute(*statement) if isinstance(statement, tuple) else database.execute(statement)
+    database.commit()
+    database.close()
+    return path
+
+
+def of_version(version, books):
+    """What writes the rows of these books, without retires, as tables of version 1, by an offset, or of version 2, by a rule."""
+    rows = books.rows()
+    [(_, minutes, cap, arrivals)] = rows["setting"]
+    yield from FIVE_TABLES
+    yield "INSERT INTO setting VALUES (1, ?, ?, ?, ?)", (version, minutes, cap, arrivals)
+    for table in ("answer", "trans", "usage", "ceiling"):
+        for row in rows[table]:
+            yield f"INSERT INTO {table} VALUES ({', '.join('?' * len(row))})", row
+    if version == 2:
+        yield RULE_TABLE
+        yield "INSERT INTO rule VALUES (1, ?)", (books.zone.encode(),)
+
+
+def version_of(path):
+    found = answers_of(path, {"version": "SELECT version FROM setting", "names": "SELECT name FROM sqlite_schema WHERE type = 'table' ORDER BY name"})
+    return found["version"], [name for name, in found["names"]]
+
+
+OF_VERSION_1 = [(1,)], ["answer", "ceiling", "setting", "trans", "usage"]
+OF_VERSION_2 = [(2,)], ["answer", "ceiling", "rule", "setting", "trans", "usage"]
+OF_VERSION_3 = [(3,)], ["answer", "ceiling", "retired", "rule", "setting", "trans", "usage"]
+
+
+def of_the_four(zone=0):
+    books = Books(zone)
+    books.serve(b"".join(FOUR))
+    return books
+
+
+def older_files(world, checks):
+    """A file of an older version is version 3 once it was opened, with the rows that it had; one that is refused stays as it is."""
+    for version, zone, settings, older in [(1, 0, {}, OF_VERSION_1), (2, CENTRAL_EUROPE, BY_RULE, OF_VERSION_2)]:
+        what, books = f"a file of version {version}", Books(zone)
+        replies = [books.serve(frame) for frame in FOUR]
+        path = written(world, f"version-{version}", *of_version(version, books))
+        for how, other, wanted in [
+            ("with another offset", {"offset": 60}, ANOTHER_ZONE), ("with another default", {**settings, "default": 4}, "store has another default"),
+        ]:
+            came = audit(world, path, **other)
+            checks.equal(f"{what}, opened {how}", (without_log(came), version_of(path)), (fault(wanted), older))
+        with Server(world, store=path, **settings) as server:
+            checks.equal(f"{what}: its replies again", [server.ask(frame) for frame in FOUR], replies)
+            new = wire.reserve(9, txn=8) + wire.retire(1, run=2) + wire.reserve(9, txn=8) + wire.reserve(2, run=2, txn=9) + wire.usage()
+            checks.equal(f"{what}: a retire", server.ask(new), books.serve(new))
+        same_rows(checks, f"{what}, opened", path, books)
+        checks.equal(f"{what}, opened: its version and tables", version_of(path), OF_VERSION_3)
+        checks.equal(f"{what}, opened: audit", audit(world, path, **settings), (0, b"sound days=1 transactions=3\n", ""))
+    path = written(world, "version-1-audited", *of_version(1, of_the_four()))
+    checks.equal("a file of version 1: audit", audit(world, path), SOUND)
+    checks.equal("a file of version 1, audited: its version and tables", version_of(path), OF_VERSION_3)
+    path = written(world, "version-1-damaged", *of_version(1, of_the_four()), "UPDATE usage SET reserved = 9")
+    came = without_log(audit(world, path)), version_of(path)
+    checks.equal("a file of version 1 with wrong books stays as it is", came, (fault("store is damaged: login u day 1"), OF_VERSION_1))
+
+
+def killed_as_it_opens(world, checks):
+    """A file of version 1 whose program is killed at some moment is of version 1 or 3, whole, and opens."""
+    source = written(world, "version-1-source", *of_version(1, of_the_four()))
+    start = time.monotonic()
+    audit(world, edited(world, source, "version-1-timed"))
+    took, found, wrong = time.monotonic() - start, [], []
+    for turn in range(KILLS):
+        path = edited(world, source, f"version-1-killed{turn}")
+        words = [world.program, "audit", "--config", ledger_settings(world, path)]
+        process = subprocess.Popen(words, stdin=subprocess.DEVNULL, stdout=subprocess.DEVNULL, stderr=subprocess.DEVNULL)
+        time.sleep(took * turn / KILLS)
+        process.kill()
+        process.wait()
+        before = version_of(path)
+        found.append(before)
+        if before not in (OF_VERSION_1, OF_VERSION_3) or audit(world, path) != SOUND or version_of(path) != OF_VERSION_3:
+            wrong.append((turn, before))
+    checks.equal(f"{KILLS} kills of a program that opens a file of version 1: files that are of neither, or don't open", wrong, [])
+    checks.holds("what the kills leave", OF_VERSION_1 in found, "some files of version 1", found)
+    print(f"    {KILLS} kills: {found.count(OF_VERSION_1)} files of version 1, {found.count(OF_VERSION_3)} of version 3", flush=True)
+
+
+def refused(world, checks):
+    for name in NAMES:
+        path = written(world, f"only-{name}", f"CREATE TABLE {name} (a INTEGER) STRICT")
+        for zone in ({}, BY_RULE):
+            came = without_log(world.run("server", "--config", ledger_settings(world, path, **zone), "--create"))
+            checks.equal(f"--create beside a table {name}, {'a rule' if zone else 'an offset'}", came, fault(NOT_OURS))
+    first, second = list(of_version(1, of_the_four())), list(of_version(2, of_the_four(CENTRAL_EUROPE)))
+    with Server(world, words=["--create"], store=f"{world.folder}/third") as server:
+        server.ask(wire.reserve(1) + wire.retire(1, run=2))
+    for place, (what, path, zone) in enumerate([
+        ("version 1 with a table rule", written(world, "first-rule", *first, RULE_TABLE), {}),
+        ("version 1 with a table retired", written(world, "first-retired", *first, RETIRED_TABLE), {}),
+        ("version 2 with a table retired", written(world, "second-retired", *second, RETIRED_TABLE), BY_RULE),
+        ("version 2 without a table rule", written(world, "second-rule", *second, "DROP TABLE rule"), BY_RULE),
+        ("version 3 without a table rule", edited(world, f"{world.folder}/third", "third-rule", "DROP TABLE rule"), {}),
+        ("version 3 without a table retired", edited(world, f"{world.folder}/third", "third-retired", "DROP TABLE retired"), {}),
+        ("version 4", edited(world, f"{world.folder}/third", "third-version", "UPDATE setting SET version = 4"), {}),
+    ]):
+        before = version_of(path)
+        came = without_log(audit(world, path, **zone)), version_of(path)
+        checks.equal(f"{place}, {what}: refused, and as it was", came, (fault(NOT_OURS), before))
+
+
+def a_retired_filter(world, checks):
+    """It answers 451 and asks each request once; its closings are removed with a warning."""
+    def is_old(heard):
+        return wire.old(int.from_bytes(heard[15:19], "big"), **MX1)
+
+    errors = scripted(world, checks, "a retired filter", INPUT + COMMIT, [is_old] * 2, results=[answer(SERVICE)], frames=[RESERVE, RELEASE])
+    told(checks, "a retired filter", errors, 2, ["WARN ", "mx1", "alice", "transaction 1"])
+
+
+def commands(world, checks):
+    """`retire` and `limit` by the real server."""
+    def retire(server, run=2, host="a"):
+        return world.run("retire", "--server", server.address, "--host", host, "--run", str(run))
+
+    def limit(server, run):
+        return world.run("limit", "--server", server.address, "--host", "a", "--login", "u", "--from", "1", "--cap", "3", "--run", str(run))
+
+    with Server(world) as server:
+        server.ask(frames_of([ONE, TWO]))
+        checks.equal("retire", retire(server), (0, b"retired\n", ""))
+        checks.equal("retire: what was reserved is settled", world.run("report", "--server", server.address, "--day", "1"), (0, b"      3       0       3 u\n", ""))
+        checks.equal("the same retire again", retire(server), (0, b"retired\n", ""))
+        checks.equal("a retire of a run that is retired", retire(server, run=1), fault("run is retired"))
+        checks.equal("a limit of a run that is retired", limit(server, run=1), fault("run is retired"))
+        checks.equal("a limit under the retire's number", limit(server, run=2), fault("number used with another limit"))
+        checks.equal("a limit of a later run", limit(server, run=3), (0, b"set\n", ""))
+        checks.equal("a retire under that limit's number", retire(server, run=3), fault("number used with another request"))
+        server.ask(wire.reserve(5, txn=1, run=4, login=b"v"))
+        checks.equal("a retire without --run", world.run("retire", "--server", server.address, "--host", "a"), (0, b"retired\n", ""))
+        checks.equal("the filter of a later run, retired by it", server.ask(wire.reserve(6, txn=1, run=4, login=b"v")), wire.old(6, run=4))
+        checks.equal("a filter of another host", server.ask(wire.reserve(6, txn=1, host=b"b", login=b"v")), wire.granted(6, 2, host=b"b"))
+    for what, script, wanted in [
+        ("two lost replies", [b"", SILENCE, wire.retired(1, run=2)], (0, b"retired\n", "")),
+        ("a reply to another host's", [wire.retired(1, run=2, host=b"b")] * 3, fault("quota service unavailable")),
+        ("a reply to a limit", [wire.frame(b"\x85" + wire.identity(1, run=2))] * 3, fault("quota service unavailable")),
+        ("no reply", [b""] * 3, fault("quota service unavailable")),
+    ]:
+        with Script(script) as server:
+            came = without_log(retire(server))
+        checks.equal(f"retire, {what}", (came, server.heard), (wanted, [wire.retire(1, run=2)] * 3))
+    for words, said in [
+        (["--server", "nowhere", "--host", "a_b"], "bad host"), (["--server", "nowhere", "--host", ""], "bad host"),
+        (["--server", "nowhere", "--host", "a"], "bad address"), (["--server", "127.0.0.1", "--host", "a" * 64], "bad address"),
+    ]:
+        checks.equal(f"retire {' '.join(words)}", world.run("retire", *words), (2, b"", f"mailquota: {said}\n"))
+    with open("/dev/full", "wb") as full, Script([wire.retired(1, run=2)]) as server:
+        came = world.run("retire", "--server", server.address, "--host", "a", "--run", "2", output=full)
+        checks.equal("retire to a full device", without_log(came), fault("write failed", came[1]))
