@@ -1,0 +1,65 @@
+-- Entries one after another.
+use Rattle.std.proofs.Common.{◌≡◌, ℕ, suc, ◌+◌, ◌<◌, List, [], ◌∷◌, ◌++◌, length, take, drop, get_or, true, false, refl, ◌∙◌, ap, sym, subst, inl, inr, arith, add-one, drop-cons}
+use Rattle.std.specs.Prelude.{All, Some, Result, Ok, Err, OnErr}
+use Rattle.std.proofs.lemmas.List.{take-append-drop, take_more}
+use Rattle.mq_frame.specs.declared.message.Request.{Request}
+use Rattle.mq_frame.specs.declared.message.Request.TheVariants.{Reserve, Settle, Release, Limit, Usage, List as ListRequest, Retire}
+use Rattle.mq_frame.specs.Range.{IsRequest, IsMoment}
+use Rattle.mq_ledger.specs.declared.entry.Entry.{Entry}
+use Rattle.mq_ledger.specs.History.{Transaction, requests, is_of, named}
+use Rattle.mq_forget.specs.Remembered.{moment_of, stays, remembered}
+use Rattle.mq_ledger.specs.Answer.{history_of}
+use Rattle.mq_ledger.specs.Legal.{IsLegal}
+use Rattle.mq_forget.specs.Carried.{IsFront}
+use Rattle.mq_forget.proofs.Lists.{either}
+
+moment_in_range : (t : Transaction) (r : Request) → is_of t r ≡ true → IsRequest r → IsMoment (moment_of r)
+moment_in_range t (Reserve id txn at login count) h k = k.2
+moment_in_range t (Settle id txn at login count) h k = k.2
+moment_in_range t (Release id txn at login) h k = k.2
+moment_in_range t (Limit id from_day c login) h k = absurd (cc h)
+moment_in_range t (Usage login d) h k = absurd (cc h)
+moment_in_range t (ListRequest d after) h k = absurd (cc h)
+moment_in_range t (Retire id) h k = absurd (cc h)
+
+-- the moment of the entry that names a transaction is in range
+pub named_in_range : (H : List Entry) (t : Transaction) (e : Entry) → All (λ x. IsRequest x.request) H → named H t ≡ Some e → IsMoment (moment_of e.request)
+named_in_range [] t e all h = absurd (cc h)
+named_in_range (x ∷ H) t e all h = elim (either (is_of t x.request)) [
+  | inl mine ↦ (let k : Some x ≡ Some e = rw mine at h in
+      let same : x ≡ e = cc k in
+      subst (λ y. IsMoment (moment_of y.request)) same (moment_in_range t x.request mine (all 0 x (omega arith))))
+  | inr other ↦ (let rest : named H t ≡ Some e = rw other at h in
+      named_in_range H t e (λ k d less. all (suc k) d (omega arith)) rest)
+]
+
+-- the next entry of a whole
+pub at_next : (H : List Entry) (i : ℕ) (d : Entry) → i < length H → take i H ++ get_or H i d ∷ drop (i + 1) H ≡ H
+at_next H i d less = ap (λ xs. take i H ++ xs) (sym (rw (add-one, drop-cons H i d) refl)) ∙ take-append-drop i H
+
+pub front_at : (H : List Entry) (i : ℕ) → IsFront (take i H) H
+front_at H i = record { rest = drop i H; is = take-append-drop i H }
+
+pub next_of : (H : List Entry) (i : ℕ) (e : Entry) → i < length H → e ≡ get_or H i e → take i H ++ e ∷ drop (i + 1) H ≡ H
+next_of H i e less is = ap (λ x. take i H ++ x ∷ drop (i + 1) H) is ∙ at_next H i e less
+
+pub more_of : (H : List Entry) (i : ℕ) (e : Entry) → i < length H → e ≡ get_or H i e → take (i + 1) H ≡ take i H ++ e ∷ []
+more_of H i e less is = take_more H i e less ∙ ap (λ x. take i H ++ x ∷ []) (sym is)
+
+-- The laws at the next entry.
+module _ (day : ℕ → ℕ) (default D : ℕ)
+    (put : (H S : List Entry) (e : Entry) → IsLegal day default (H ++ e ∷ S) → stays day D (H ++ e ∷ S) e ≡ true → history_of day default (requests (remembered day D H) ++ e.request ∷ []) ≡ remembered day D (H ++ e ∷ []))
+    (left : (H S : List Entry) (e : Entry) → IsLegal day default (H ++ e ∷ S) → stays day D (H ++ e ∷ S) e ≡ false → remembered day D (H ++ e ∷ []) ≡ remembered day D H)
+    (H : List Entry) (i : ℕ) (e : Entry) (less : i < length H) (is : e ≡ get_or H i e) (legal : IsLegal day default H) where
+  split : take i H ++ e ∷ drop (i + 1) H ≡ H
+  split = next_of H i e less is
+
+  pub put_next : stays day D H e ≡ true → history_of day default (requests (remembered day D (take i H)) ++ e.request ∷ []) ≡ remembered day D (take (i + 1) H)
+  put_next stay = put (take i H) (drop (i + 1) H) e (subst (IsLegal day default) (sym split) legal) (subst (λ x. stays day D x e ≡ true) (sym split) stay) ∙ ap (remembered day D) (sym (more_of H i e less is))
+
+  pub left_next : stays day D H e ≡ false → remembered day D (take i H) ≡ remembered day D (take (i + 1) H)
+  left_next go = sym (left (take i H) (drop (i + 1) H) e (subst (IsLegal day default) (sym split) legal) (subst (λ x. stays day D x e ≡ false) (sym split) go)) ∙ ap (remembered day D) (sym (more_of H i e less is))
+
+pub on_err : {A E : Type 0} (r : Result A E) (P : Type 0) → P → OnErr r P
+on_err (Ok a) P p = tt
+on_err (Err e) P p = p

@@ -1,0 +1,132 @@
+-- What is remembered of a legal history is legal, entry by entry.
+use Rattle.std.proofs.Common.{◌≡◌, ℕ, ◌+◌, ◌<◌, ◌≤◌, List, [], ◌∷◌, ◌++◌, Bool, true, false, refl, ◌∙◌, ap, sym, subst, inl, inr, arith, append-nil}
+use Rattle.std.specs.Prelude.{◌||◌, nat_le, if◌then◌else◌, Option, Some, None, is_some, All}
+use Rattle.std.specs.List.{AllByRecursion}
+use Rattle.std.proofs.lemmas.List.Elements.{recursion_from_All, All-from_recursion}
+use Rattle.mq_frame.specs.declared.message.Id.{Id}
+use Rattle.mq_frame.specs.declared.message.Request.{Request}
+use Rattle.mq_frame.specs.declared.message.Reply.{Reply}
+use Rattle.mq_frame.specs.Range.{IsRequest}
+use Rattle.mq_ledger.specs.declared.entry.Entry.{Entry}
+use Rattle.mq_ledger.specs.Answer.{answer, appended, stored, known_by, with_arrival, with_arrival_by, history_of}
+use Rattle.mq_ledger.specs.Arrivals.{id_of, has_id, is_below}
+use Rattle.mq_ledger.specs.History.{requests, reserved, settled, used}
+use Rattle.mq_ledger.specs.Legal.{IsLegal}
+use Rattle.mq_ledger.specs.Over.{over, IsLeastOver}
+use Rattle.mq_ledger.specs.Page.{page, IsLoginPage, has_reserve}
+use Rattle.mq_forget.specs.Remembered.{is_about, is_set, stays, remembered}
+use Rattle.mq_forget.specs.Kept.{Keeps}
+use Rattle.mq_forget.proofs.Lists.{either, neither, not_some, find_none, all_push, all_split, all_mapped, by_pushes}
+use Rattle.mq_forget.proofs.Staying.{entry, one_more, alike, same_cap, same_below}
+use Rattle.mq_forget.proofs.Fronts.{Builds}
+use Rattle.mq_forget.proofs.Numbers.{reserved_kept, settled_kept, reserves_kept, reserved_before, settled_before, reserves_before}
+use Rattle.mq_forget.proofs.Answers.{Tells, answer_same, set_same}
+
+-- what is used of a ledger's laws
+pub record Ledgers (day : ℕ → ℕ) (default : ℕ) : Type 0 where
+  pub builds : Builds day default
+  pub more : (H : List Entry) (r : Request) → IsLegal day default H → history_of day default (requests H ++ r ∷ []) ≡ with_arrival day default H r
+  pub least : (H : List Entry) (l : List ℕ) (from c : ℕ) → IsLeastOver day H l from c (over day H l from c)
+  pub only_least : (H : List Entry) (l : List ℕ) (from c : ℕ) (o : Option ℕ) → IsLeastOver day H l from c o → o ≡ over day H l from c
+  pub first : (H : List Entry) (d : ℕ) (after : List ℕ) → IsLoginPage day H d after (page day H d after)
+  pub only_first : (H : List Entry) (d : ℕ) (after : List ℕ) (ls : List (List ℕ)) → IsLoginPage day H d after ls → ls ≡ page day H d after
+
+module _ (day : ℕ → ℕ) (default : ℕ) (laws : Ledgers day default) (D : ℕ) where
+  unused : (H : List Entry) → IsLegal day default H → (l : List ℕ) (d : ℕ) → d < D → used day (remembered day D H) l d ≡ 0
+  unused H legal l d early = omega (arith, reserved_before day default laws.builds D H legal l d early, settled_before day default laws.builds D H legal l d early)
+
+  pub tells : (H : List Entry) → IsLegal day default H → Tells day default D (remembered day D H) H
+  tells H legal =
+      let K : List Entry = remembered day D H in
+      record {
+        reserves = λ l d le. reserved_kept day default laws.builds D H legal l d le;
+        settles = λ l d le. settled_kept day default laws.builds D H legal l d le;
+        lists = λ l d le. reserves_kept day default laws.builds D H legal l d le;
+        unused = unused H legal;
+        alike = λ t at late. alike day D H t at late;
+        caps = λ l d. same_cap day default D H l d;
+        least = λ l from c. laws.least H l from c;
+        only_least = λ l from c o is. laws.only_least K l from c o is;
+        first = λ d after. laws.first K d after;
+        only_first = λ d after ls is. laws.only_first H d after ls is;
+      }
+
+  all_more : (H : List Entry) (r : Request) → All (λ e. IsRequest e.request) H → IsRequest r → All IsRequest (requests H ++ r ∷ [])
+  all_more H r all one = All-from_recursion IsRequest (requests H ++ r ∷ []) (all_push IsRequest (requests H) r (all_mapped IsRequest (λ e. e.request) H (recursion_from_All (λ e. IsRequest e.request) H all)) one)
+
+  -- a number that is new to H is new to what is remembered of it
+  pub new_there : (H : List Entry) (o : Option Id) → known_by H o ≡ false → known_by (remembered day D H) o ≡ false
+  new_there H None new = refl
+  new_there H (Some id) new =
+      let parts = neither (is_below (requests H) id) (is_some (stored H id)) new in
+      let above : is_below (requests (remembered day D H)) id ≡ false = same_below day D H id ∙ parts.0 in
+      let none : stored (remembered day D H) id ≡ None = find_none (λ x. has_id id x.request) (stays day D H) H (not_some (stored H id) parts.1) in
+      rw (above, none) refl
+
+  pub arrival_new : (H : List Entry) (r : Request) (id : Id) → known_by H (Some id) ≡ false → with_arrival_by day default H r (Some id) ≡ appended day default H r
+  arrival_new H r id new = rw new refl
+
+  legal_more : (K : List Entry) (r : Request) (id : Id) → IsLegal day default K → IsRequest r → id_of r ≡ Some id → known_by K (Some id) ≡ false → IsLegal day default (appended day default K r)
+  legal_more K r id legal in_range h new =
+      subst (IsLegal day default) (laws.more K r legal ∙ ap (with_arrival_by day default K r) h ∙ arrival_new K r id new) (laws.builds.legal (requests K ++ r ∷ []) (all_more K r legal.range in_range))
+
+  pub one_kept : (H : List Entry) (e : Entry) → stays day D H e ≡ true → remembered day D (H ++ e ∷ []) ≡ remembered day D H ++ e ∷ []
+  one_kept H e t = one_more day D H e ∙ ap (λ b. remembered day D H ++ (if b then e ∷ [] else [])) t
+
+  one_gone : (H : List Entry) (e : Entry) → stays day D H e ≡ false → remembered day D (H ++ e ∷ []) ≡ remembered day D H
+  one_gone H e f = one_more day D H e ∙ ap (λ b. remembered day D H ++ (if b then e ∷ [] else [])) f ∙ append-nil (remembered day D H)
+
+  -- an entry that stays has the same answer over both
+  stays_same : (H : List Entry) (r : Request) → IsLegal day default H → stays day D H (entry r (answer day default H r)) ≡ true → answer day default (remembered day D H) r ≡ answer day default H r
+  stays_same H r legal stay = elim (either (is_about day D H r)) [
+    | inl late ↦ answer_same day default D (remembered day D H) H (tells H legal) r late
+    | inr early ↦ (let set : is_set r (answer day default H r) ≡ true = rw early at stay in
+        set_same day default D (remembered day D H) H (tells H legal) r set)
+  ]
+
+  appended_legal : (H : List Entry) (r : Request) (id : Id) → IsLegal day default H → IsRequest r → id_of r ≡ Some id → known_by H (Some id) ≡ false → IsLegal day default (remembered day D H)
+      → IsLegal day default (remembered day D (appended day default H r))
+  appended_legal H r id legal in_range h new kept =
+      let K : List Entry = remembered day D H in
+      let e : Entry = entry r (answer day default H r) in
+      elim (either (stays day D H e)) [
+        | inl stay ↦ (let more : IsLegal day default (K ++ entry r (answer day default K r) ∷ []) = legal_more K r id kept in_range h (new_there H (Some id) new) in
+            let there : K ++ entry r (answer day default K r) ∷ [] ≡ remembered day D (H ++ e ∷ []) = ap (λ a. K ++ entry r a ∷ []) (stays_same H r legal stay) ∙ sym (one_kept H e stay) in
+            subst (IsLegal day default) there more)
+        | inr gone ↦ subst (IsLegal day default) (sym (one_gone H e gone)) kept
+      ]
+
+  arrival_legal : (H : List Entry) (r : Request) (o : Option Id) → id_of r ≡ o → IsLegal day default H → IsRequest r → IsLegal day default (remembered day D H)
+      → IsLegal day default (remembered day D (with_arrival_by day default H r o))
+  arrival_legal H r None h legal in_range kept = kept
+  arrival_legal H r (Some id) h legal in_range kept = elim (either (known_by H (Some id))) [
+    | inr new ↦ subst (λ x. IsLegal day default (remembered day D x)) (sym (arrival_new H r id new)) (appended_legal H r id legal in_range h new kept)
+    | inl known ↦ (let same : with_arrival_by day default H r (Some id) ≡ H = rw known refl in
+        subst (λ x. IsLegal day default (remembered day D x)) (sym same) kept)
+  ]
+
+  none_legal : IsLegal day default []
+  none_legal = record { range = λ k d h. absurd (omega arith); distinct = refl; built = refl }
+
+  arrivals_legal : (A : List Request) → AllByRecursion IsRequest A → IsLegal day default (remembered day D (history_of day default A))
+  arrivals_legal A = by_pushes (λ A. AllByRecursion IsRequest A → IsLegal day default (remembered day D (history_of day default A)))
+      (λ _. none_legal)
+      (λ A r before all.
+      let parts = all_split IsRequest A r all in
+      let k = arrival_legal (history_of day default A) r (id_of r) refl (laws.builds.legal A (All-from_recursion IsRequest A parts.0)) parts.1 (before parts.0) in
+      subst (λ x. IsLegal day default (remembered day D x)) (sym (laws.builds.arrived A r)) k)
+      A
+
+  remembered_legal : (H : List Entry) → IsLegal day default H → IsLegal day default (remembered day D H)
+  remembered_legal H legal = subst (λ x. IsLegal day default (remembered day D x)) (laws.builds.again H legal)
+      (arrivals_legal (requests H) (all_mapped IsRequest (λ e. e.request) H (recursion_from_All (λ e. IsRequest e.request) H legal.range)))
+
+  pub keeps : (H : List Entry) → IsLegal day default H → Keeps day default D (remembered day D H) H
+  keeps H legal = record {
+    legal = remembered_legal H legal;
+    reserved = λ l d le. reserved_kept day default laws.builds D H legal l d le;
+    settled = λ l d le. settled_kept day default laws.builds D H legal l d le;
+    reserves = λ l d le. reserves_kept day default laws.builds D H legal l d le;
+    unused = unused H legal;
+    reserves_none = λ l d early. reserves_before day default laws.builds D H legal l d early;
+  }

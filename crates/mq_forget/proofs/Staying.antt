@@ -1,0 +1,287 @@
+-- Which entries stay: a later entry changes nothing of it, and of a transaction all stay or none.
+use Rattle.std.proofs.Common.{◌≡◌, ℕ, ◌≤◌, List, [], ◌∷◌, ◌++◌, Bool, true, false, refl, ◌∙◌, ap, sym, subst, inl, inr, arith, append_assoc}
+use Rattle.std.specs.Prelude.{◌+◌, sum_by, filter, fold, map, ◌&&◌, ◌||◌, ◌==◌, not, nat_le, nat_lt, if◌then◌else◌, Option, Some, None}
+use Rattle.std.specs.List.{list_any}
+use Rattle.std.specs.Option.{option_or}
+use Rattle.std.proofs.lemmas.Bool.Decides.{nat_tests}
+use Rattle.std.proofs.lemmas.List.Elements.{filter-append}
+use Rattle.std.proofs.lemmas.List.Folds.{find-append}
+use Rattle.std.proofs.lemmas.List.Sums.{sum_by-cons}
+use Rattle.mq_frame.specs.declared.message.Id.{Id}
+use Rattle.mq_frame.specs.declared.message.Request.{Request}
+use Rattle.mq_frame.specs.declared.message.Request.TheVariants.{Reserve, Settle, Release, Limit, Usage, List as ListRequest, Retire}
+use Rattle.mq_frame.specs.declared.message.Reply.{Reply}
+use Rattle.mq_frame.specs.declared.message.Reply.TheVariants.{LimitSet}
+use Rattle.mq_frame.specs.Same.{same_text}
+use Rattle.mq_ledger.specs.declared.entry.Entry.{Entry}
+use Rattle.mq_ledger.specs.Arrivals.{raised, greater, floor, is_below}
+use Rattle.mq_ledger.specs.History.{Transaction, requests, transaction, same_transaction, is_of, named, closes, ended, has_retired_run, closed, abandoned, granted, granted_in, counted, counted_in, held, settled_in}
+use Rattle.mq_ledger.specs.Limits.{sets, governs, limits, latest, last_cap, from_of, cap}
+use Rattle.mq_forget.specs.Remembered.{moment_of, day_named, is_about, is_set, stays, remembered}
+use Rattle.mq_forget.specs.Kept.{AreAlike}
+use Rattle.mq_forget.proofs.Lists.{either, option_cases, neither, first_so, second_so, text_is, text_itself, number_is, number_itself, In, filter_same, found_in, find_kept, any_kept, filter_kept, filter_in, sum_kept, fold_kept, fold_mapped, find_lost, find_none}
+
+abbrev pub entry : Request → Reply → Entry
+entry r a = record { request = r; reply = a }
+
+pub transaction_is : (t u : Transaction) → same_transaction t u ≡ true → t ≡ u
+transaction_is t u h =
+    let host : t.host ≡ u.host = text_is _ _ (first_so (same_text t.host u.host) _ h) in
+    let run : t.run ≡ u.run = number_is _ _ (first_so (t.run == u.run) (t.txn == u.txn) (second_so (same_text t.host u.host) _ h)) in
+    let txn : t.txn ≡ u.txn = number_is _ _ (second_so (t.run == u.run) (t.txn == u.txn) (second_so (same_text t.host u.host) _ h)) in
+    λ i. record { host = host i; run = run i; txn = txn i }
+
+pub transaction_itself : (t : Transaction) → same_transaction t t ≡ true
+transaction_itself t = rw (text_itself t.host, number_itself t.run, number_itself t.txn) refl
+
+-- A later entry changes nothing of what stays.
+
+-- an entry's transaction is named
+pub named_in : (H : List Entry) (x : Entry) (t : Transaction) → In x H → is_of t x.request ≡ true → (e : Entry) × (named H t ≡ Some e)
+named_in H x t i mine = found_in (λ e. is_of t e.request) H x i mine
+
+day_before : (day : ℕ → ℕ) (D : ℕ) (H S : List Entry) (t : Transaction) (at : ℕ) (e : Entry) → named H t ≡ Some e → nat_le D (day_named day at (named (H ++ S) t)) ≡ nat_le D (day_named day at (named H t))
+day_before day D H S t at e h =
+    let longer : named (H ++ S) t ≡ option_or (named H t) (named S t) = find-append (λ x. is_of t x.request) H S in
+    let there : option_or (named H t) (named S t) ≡ named H t = rw h refl in
+    ap (λ o. nat_le D (day_named day at o)) (longer ∙ there)
+
+about_before : (day : ℕ → ℕ) (D : ℕ) (H S : List Entry) (r : Request) (a : Reply) → In (entry r a) H → is_about day D (H ++ S) r ≡ is_about day D H r
+about_before day D H S (Reserve id txn at login count) a i = let k = named_in H _ (transaction id txn) i (transaction_itself (transaction id txn)) in day_before day D H S (transaction id txn) at k.0 k.1
+about_before day D H S (Settle id txn at login count) a i = let k = named_in H _ (transaction id txn) i (transaction_itself (transaction id txn)) in day_before day D H S (transaction id txn) at k.0 k.1
+about_before day D H S (Release id txn at login) a i = let k = named_in H _ (transaction id txn) i (transaction_itself (transaction id txn)) in day_before day D H S (transaction id txn) at k.0 k.1
+about_before day D H S (Limit id from_day c login) a i = refl
+about_before day D H S (Usage login d) a i = refl
+about_before day D H S (ListRequest d after) a i = refl
+about_before day D H S (Retire id) a i = refl
+
+pub stays_before : (day : ℕ → ℕ) (D : ℕ) (H S : List Entry) (x : Entry) → In x H → stays day D (H ++ S) x ≡ stays day D H x
+stays_before day D H S x i = ap (λ b. b || is_set x.request x.reply) (about_before day D H S x.request x.reply i)
+
+-- so each front is remembered as in the whole
+pub front : (day : ℕ → ℕ) (D : ℕ) (H S : List Entry) → filter (stays day D (H ++ S)) H ≡ remembered day D H
+front day D H S = filter_same (stays day D (H ++ S)) (stays day D H) H (λ x i. stays_before day D H S x i)
+
+or_itself : (day : ℕ → ℕ) (D at : ℕ) (o : Option Entry) (e : Entry) → moment_of e.request ≡ at → nat_le D (day_named day at (option_or o (Some e))) ≡ nat_le D (day_named day at o)
+or_itself day D at None e h = ap (λ n. nat_le D (day n)) h
+or_itself day D at (Some x) e h = refl
+
+day_itself : (day : ℕ → ℕ) (D : ℕ) (H : List Entry) (t : Transaction) (at : ℕ) (e : Entry) → is_of t e.request ≡ true → moment_of e.request ≡ at → nat_le D (day_named day at (named (H ++ e ∷ []) t)) ≡ nat_le D (day_named day at (named H t))
+day_itself day D H t at e mine same =
+    let longer : named (H ++ e ∷ []) t ≡ option_or (named H t) (named (e ∷ []) t) = find-append (λ x. is_of t x.request) H (e ∷ []) in
+    let one : named (e ∷ []) t ≡ Some e = rw mine refl in
+    ap (λ o. nat_le D (day_named day at o)) (longer ∙ ap (option_or (named H t)) one) ∙ or_itself day D at (named H t) e same
+
+about_itself : (day : ℕ → ℕ) (D : ℕ) (H : List Entry) (r : Request) (a : Reply) → is_about day D (H ++ entry r a ∷ []) r ≡ is_about day D H r
+about_itself day D H (Reserve id txn at login count) a = day_itself day D H (transaction id txn) at (entry (Reserve id txn at login count) a) (transaction_itself (transaction id txn)) refl
+about_itself day D H (Settle id txn at login count) a = day_itself day D H (transaction id txn) at (entry (Settle id txn at login count) a) (transaction_itself (transaction id txn)) refl
+about_itself day D H (Release id txn at login) a = day_itself day D H (transaction id txn) at (entry (Release id txn at login) a) (transaction_itself (transaction id txn)) refl
+about_itself day D H (Limit id from_day c login) a = refl
+about_itself day D H (Usage login d) a = refl
+about_itself day D H (ListRequest d after) a = refl
+about_itself day D H (Retire id) a = refl
+
+pub stays_itself : (day : ℕ → ℕ) (D : ℕ) (H : List Entry) (e : Entry) → stays day D (H ++ e ∷ []) e ≡ stays day D H e
+stays_itself day D H e = ap (λ b. b || is_set e.request e.reply) (about_itself day D H e.request e.reply)
+
+-- one more entry stays, or the rest is as before
+pub one_more : (day : ℕ → ℕ) (D : ℕ) (H : List Entry) (e : Entry) → remembered day D (H ++ e ∷ []) ≡ remembered day D H ++ (if stays day D H e then e ∷ [] else [])
+one_more day D H e =
+    let p : Entry → Bool = stays day D (H ++ e ∷ []) in
+    let front : filter p H ≡ remembered day D H = front day D H (e ∷ []) in
+    let back : (if p e then e ∷ [] else []) ≡ (if stays day D H e then e ∷ [] else []) = ap (λ b. if b then e ∷ [] else []) (stays_itself day D H e) in
+    filter-append p H (e ∷ []) ∙ (λ i. front i ++ back i)
+
+-- All retires stay, and so do the floors.
+
+raises_nothing : (day : ℕ → ℕ) (D : ℕ) (H : List Entry) (h : List ℕ) (r : Request) → is_about day D H r ≡ false → raised h r ≡ 0
+raises_nothing day D H h (Retire id) gone = absurd (cc gone)
+raises_nothing day D H h (Reserve id txn at login count) gone = refl
+raises_nothing day D H h (Settle id txn at login count) gone = refl
+raises_nothing day D H h (Release id txn at login) gone = refl
+raises_nothing day D H h (Limit id from_day c login) gone = refl
+raises_nothing day D H h (Usage login d) gone = refl
+raises_nothing day D H h (ListRequest d after) gone = refl
+
+not_above : (n : ℕ) → greater n 0 ≡ n
+not_above n = (let f : nat_lt n 0 ≡ false = grind (arith, nat_tests) in rw f refl)
+
+pub same_floor : (day : ℕ → ℕ) (D : ℕ) (H : List Entry) (h : List ℕ) → floor (requests (remembered day D H)) h ≡ floor (requests H) h
+unfolding floor
+same_floor day D H h =
+    let raise : ℕ → Request → ℕ = λ n r. greater n (raised h r) in
+    fold_mapped raise (λ (e : Entry). e.request) 0 (remembered day D H)
+    ∙ fold_kept (λ n (e : Entry). greater n (raised h e.request)) (stays day D H) 0 H (λ n e gone.
+    ap (greater n) (raises_nothing day D H h e.request (neither (is_about day D H e.request) (is_set e.request e.reply) gone).0) ∙ not_above n)
+    ∙ sym (fold_mapped raise (λ (e : Entry). e.request) 0 H)
+
+pub same_below : (day : ℕ → ℕ) (D : ℕ) (H : List Entry) (id : Id) → is_below (requests (remembered day D H)) id ≡ is_below (requests H) id
+same_below day D H id = ap (nat_lt id.run) (same_floor day D H id.host)
+
+pub same_retired_run : (day : ℕ → ℕ) (D : ℕ) (H : List Entry) (t : Transaction) → has_retired_run (remembered day D H) t ≡ has_retired_run H t
+same_retired_run day D H t = ap (nat_lt t.run) (same_floor day D H t.host)
+
+-- Of a transaction all entries stay or none.
+
+stays_as : (day : ℕ → ℕ) (D : ℕ) (H : List Entry) (t u : Transaction) (e : Entry) (at : ℕ) (b : Bool) → named H t ≡ Some e → nat_le D (day (moment_of e.request)) ≡ b → same_transaction t u ≡ true → nat_le D (day_named day at (named H u)) ≡ b
+stays_as day D H t u e at b h later same =
+    let here : named H u ≡ Some e = subst (λ v. named H v ≡ Some e) (transaction_is t u same) h in
+    ap (λ o. nat_le D (day_named day at o)) here ∙ later
+
+about_of : (day : ℕ → ℕ) (D : ℕ) (H : List Entry) (t : Transaction) (e : Entry) (b : Bool) → named H t ≡ Some e → nat_le D (day (moment_of e.request)) ≡ b → (r : Request) → is_of t r ≡ true → is_about day D H r ≡ b
+about_of day D H t e b h later (Reserve id txn at login count) mine = stays_as day D H t (transaction id txn) e at b h later mine
+about_of day D H t e b h later (Settle id txn at login count) mine = stays_as day D H t (transaction id txn) e at b h later mine
+about_of day D H t e b h later (Release id txn at login) mine = stays_as day D H t (transaction id txn) e at b h later mine
+about_of day D H t e b h later (Limit id from_day c login) mine = absurd (cc mine)
+about_of day D H t e b h later (Usage login d) mine = absurd (cc mine)
+about_of day D H t e b h later (ListRequest d after) mine = absurd (cc mine)
+about_of day D H t e b h later (Retire id) mine = absurd (cc mine)
+
+not_set : (t : Transaction) (r : Request) (a : Reply) → is_of t r ≡ true → is_set r a ≡ false
+not_set t (Limit id from_day c login) a mine = absurd (cc mine)
+not_set t r a mine = refl
+
+all_stay : (day : ℕ → ℕ) (D : ℕ) (H : List Entry) (t : Transaction) (e : Entry) → named H t ≡ Some e → nat_le D (day (moment_of e.request)) ≡ true → (x : Entry) → is_of t x.request ≡ true → stays day D H x ≡ true
+all_stay day D H t e h later x mine = (let k = about_of day D H t e true h later x.request mine in rw k refl)
+
+none_stays : (day : ℕ → ℕ) (D : ℕ) (H : List Entry) (t : Transaction) (e : Entry) → named H t ≡ Some e → nat_le D (day (moment_of e.request)) ≡ false → (x : Entry) → is_of t x.request ≡ true → stays day D H x ≡ false
+none_stays day D H t e h early x mine = (let k = about_of day D H t e false h early x.request mine in rw (k, not_set t x.request x.reply mine) refl)
+
+nothing_of : (day : ℕ → ℕ) (D : ℕ) (H : List Entry) (t : Transaction) → ((x : Entry) → is_of t x.request ≡ true → stays day D H x ≡ true) → (f : Entry → ℕ) (x : Entry) → stays day D H x ≡ false → (if is_of t x.request then f x else 0) ≡ 0
+nothing_of day D H t all f x gone = elim (either (is_of t x.request)) [
+  | inl mine ↦ absurd (let k = all x mine in cc (k, gone))
+  | inr other ↦ rw other refl
+]
+
+-- what is told of a transaction is what its entries tell and whether its run is given up
+alike_by : (K H : List Entry) (t : Transaction) → named K t ≡ named H t → has_retired_run K t ≡ has_retired_run H t → ended K t ≡ ended H t → granted_in K t ≡ granted_in H t → counted_in K t ≡ counted_in H t → AreAlike K H t
+alike_by K H t name given end sum count =
+    let shut : closed K t ≡ closed H t = (λ i. given i || end i) in
+    let left : abandoned K t ≡ abandoned H t = (λ i. given i && not (end i)) in
+    record {
+      named = name;
+      closed = shut;
+      abandoned = left;
+      held = λ i. if shut i then 0 else sum i;
+      settled = λ i. count i + (if left i then sum i else 0);
+    }
+
+pub later_alike : (day : ℕ → ℕ) (D : ℕ) (H : List Entry) (t : Transaction) (e : Entry) → named H t ≡ Some e → nat_le D (day (moment_of e.request)) ≡ true → AreAlike (remembered day D H) H t
+later_alike day D H t e h later =
+    let all : (x : Entry) → is_of t x.request ≡ true → stays day D H x ≡ true = all_stay day D H t e h later in
+    alike_by (remembered day D H) H t
+    (find_kept (λ x. is_of t x.request) (stays day D H) all H)
+    (same_retired_run day D H t)
+    (any_kept (λ x. is_of t x.request && closes x.reply) (stays day D H) H (λ x _ b. all x (first_so (is_of t x.request) (closes x.reply) b)))
+    (sum_kept (λ x. if is_of t x.request then granted x.request x.reply else 0) (stays day D H) H (λ x _ gone. nothing_of day D H t all (λ y. granted y.request y.reply) x gone))
+    (sum_kept (λ x. if is_of t x.request then counted x.request x.reply else 0) (stays day D H) H (λ x _ gone. nothing_of day D H t all (λ y. counted y.request y.reply) x gone))
+
+pub early_lost : (day : ℕ → ℕ) (D : ℕ) (H : List Entry) (t : Transaction) (e : Entry) → named H t ≡ Some e → nat_le D (day (moment_of e.request)) ≡ false → named (remembered day D H) t ≡ None
+early_lost day D H t e h early = find_lost (λ x. is_of t x.request) (stays day D H) (none_stays day D H t e h early) H
+
+-- a transaction that has no entry has none that stays
+unheard_any : (t : Transaction) (f : Reply → Bool) (H : List Entry) → named H t ≡ None → list_any (λ x. is_of t x.request && f x.reply) H ≡ false
+unheard_any t f [] none = refl
+unheard_any t f (x ∷ H) none = elim (either (is_of t x.request)) [
+  | inl mine ↦ absurd (let k : Some x ≡ None = rw mine at none in cc k)
+  | inr other ↦ (let rest : named H t ≡ None = rw other at none in rw other (unheard_any t f H rest))
+]
+
+unheard_sum : (t : Transaction) (f : Request → Reply → ℕ) (H : List Entry) → named H t ≡ None → sum_by (λ x. if is_of t x.request then f x.request x.reply else 0) H ≡ 0
+unheard_sum t f [] none = refl
+unheard_sum t f (x ∷ H) none = elim (either (is_of t x.request)) [
+  | inl mine ↦ absurd (let k : Some x ≡ None = rw mine at none in cc k)
+  | inr other ↦ (let rest : named H t ≡ None = rw other at none in
+      rw other (omega (arith, sum_by-cons (λ (y : Entry). if is_of t y.request then f y.request y.reply else 0) x H, unheard_sum t f H rest)))
+]
+
+pub unheard_alike : (day : ℕ → ℕ) (D : ℕ) (H : List Entry) (t : Transaction) → named H t ≡ None → AreAlike (remembered day D H) H t
+unheard_alike day D H t none =
+    let K : List Entry = remembered day D H in
+    let none' : named K t ≡ None = find_none (λ x. is_of t x.request) (stays day D H) H none in
+    alike_by K H t (none' ∙ sym none) (same_retired_run day D H t)
+    (unheard_any t closes K none' ∙ sym (unheard_any t closes H none))
+    (unheard_sum t granted K none' ∙ sym (unheard_sum t granted H none))
+    (unheard_sum t counted K none' ∙ sym (unheard_sum t counted H none))
+
+pub alike : (day : ℕ → ℕ) (D : ℕ) (H : List Entry) (t : Transaction) (at : ℕ) → nat_le D (day_named day at (named H t)) ≡ true → AreAlike (remembered day D H) H t
+alike day D H t at later = elim (option_cases (named H t)) [
+  | inl none ↦ unheard_alike day D H t none
+  | inr p ↦ (let later' : nat_le D (day (moment_of p.0.request)) ≡ true = ap (λ o. nat_le D (day_named day at o)) (sym p.1) ∙ later in
+      later_alike day D H t p.0 p.1 later')
+]
+
+-- All limits that were set stay.
+
+set_stays : (day : ℕ → ℕ) (D : ℕ) (H : List Entry) (l : List ℕ) (r : Request) (a : Reply) → sets l r a ≡ true → is_set r a ≡ true
+set_stays day D H l (Limit id from_day c login) (LimitSet id') h = refl
+set_stays day D H l r a h = absurd (cc h)
+
+or_true : (a b : Bool) → b ≡ true → (a || b) ≡ true
+or_true true b h = refl
+or_true false b h = h
+
+pub same_limits : (day : ℕ → ℕ) (D : ℕ) (H : List Entry) (l : List ℕ) (d : ℕ) → limits (remembered day D H) l d ≡ limits H l d
+same_limits day D H l d = filter_kept (governs l d) (stays day D H) (λ x g. or_true (is_about day D H x.request) (is_set x.request x.reply) (set_stays day D H l x.request x.reply (first_so (sets l x.request x.reply) (nat_le (from_of x.request) d) g))) H
+
+pub same_cap : (day : ℕ → ℕ) (default D : ℕ) (H : List Entry) (l : List ℕ) (d : ℕ) → cap default (remembered day D H) l d ≡ cap default H l d
+same_cap day default D H l d = ap (λ es. last_cap default (filter (λ e. from_of e.request == latest es) es)) (same_limits day D H l d)
+
+-- Forgetting again.
+
+later_too : (D E n : ℕ) → D ≤ E → nat_le E n ≡ true → nat_le D n ≡ true
+later_too D E n le k = grind (arith, nat_tests)
+
+about_too : (day : ℕ → ℕ) (D E : ℕ) (H : List Entry) (r : Request) → D ≤ E → is_about day E H r ≡ true → is_about day D H r ≡ true
+about_too day D E H (Reserve id txn at login count) le h = later_too D E _ le h
+about_too day D E H (Settle id txn at login count) le h = later_too D E _ le h
+about_too day D E H (Release id txn at login) le h = later_too D E _ le h
+about_too day D E H (Limit id from_day c login) le h = later_too D E _ le h
+about_too day D E H (Usage login d) le h = later_too D E _ le h
+about_too day D E H (ListRequest d after) le h = later_too D E _ le h
+about_too day D E H (Retire id) le h = refl
+
+stays_too : (day : ℕ → ℕ) (D E : ℕ) (H : List Entry) (x : Entry) → D ≤ E → stays day E H x ≡ true → stays day D H x ≡ true
+stays_too day D E H x le h = elim (either (is_about day E H x.request)) [
+  | inl t ↦ (let k : is_about day D H x.request ≡ true = about_too day D E H x.request le t in rw k refl)
+  | inr f ↦ (let s : is_set x.request x.reply ≡ true = rw f at h in or_true (is_about day D H x.request) (is_set x.request x.reply) s)
+]
+
+-- what is remembered is about the day that it was about
+day_kept : (day : ℕ → ℕ) (D E : ℕ) (H : List Entry) (t : Transaction) (at : ℕ) (x : Entry) → In x H → is_of t x.request ≡ true → nat_le D (day_named day at (named H t)) ≡ true → nat_le E (day_named day at (named (remembered day D H) t)) ≡ nat_le E (day_named day at (named H t))
+day_kept day D E H t at x i mine later =
+    let n = named_in H x t i mine in
+    let later' : nat_le D (day (moment_of n.0.request)) ≡ true = ap (λ o. nat_le D (day_named day at o)) (sym n.1) ∙ later in
+    ap (λ o. nat_le E (day_named day at o)) (later_alike day D H t n.0 n.1 later').named
+
+pub or_or : (a b : Bool) → (a || b) ≡ true → b ≡ false → a ≡ true
+or_or true b h k = refl
+or_or false b h k = absurd (cc (h, k))
+
+about_kept : (day : ℕ → ℕ) (D E : ℕ) (H : List Entry) (r : Request) (a : Reply) → In (entry r a) H → stays day D H (entry r a) ≡ true → is_about day E (remembered day D H) r ≡ is_about day E H r
+about_kept day D E H (Reserve id txn at login count) a i stay = (let me = transaction_itself (transaction id txn) in day_kept day D E H (transaction id txn) at _ i me (or_or _ false stay refl))
+about_kept day D E H (Settle id txn at login count) a i stay = (let me = transaction_itself (transaction id txn) in day_kept day D E H (transaction id txn) at _ i me (or_or _ false stay refl))
+about_kept day D E H (Release id txn at login) a i stay = (let me = transaction_itself (transaction id txn) in day_kept day D E H (transaction id txn) at _ i me (or_or _ false stay refl))
+about_kept day D E H (Limit id from_day c login) a i stay = refl
+about_kept day D E H (Usage login d) a i stay = refl
+about_kept day D E H (ListRequest d after) a i stay = refl
+about_kept day D E H (Retire id) a i stay = refl
+
+pub again : (day : ℕ → ℕ) (D E : ℕ) (H : List Entry) → D ≤ E → remembered day E (remembered day D H) ≡ remembered day E H
+again day D E H le =
+    let K : List Entry = remembered day D H in
+    filter_same (stays day E K) (stays day E H) K (λ x i. (let k = filter_in (stays day D H) H x i in
+    ap (λ b. b || is_set x.request x.reply) (about_kept day D E H x.request x.reply k.0 k.1)))
+    ∙ filter_kept (stays day E H) (stays day D H) (λ x h. stays_too day D E H x le h) H
+
+-- The next entry of a whole.
+
+pub next_stays : (day : ℕ → ℕ) (D : ℕ) (H S : List Entry) (e : Entry) → stays day D (H ++ e ∷ S) e ≡ stays day D H e
+next_stays day D H S e =
+    ap (λ x. stays day D x e) (sym (append_assoc H (e ∷ []) S))
+    ∙ stays_before day D (H ++ e ∷ []) S e (in_last H e)
+    ∙ stays_itself day D H e
+  where
+    in_last : (xs : List Entry) (x : Entry) → In x (xs ++ x ∷ [])
+    in_last [] x = inl refl
+    in_last (y ∷ xs) x = inr (in_last xs x)

@@ -1,0 +1,73 @@
+-- What is remembered of a history where the days before a day are forgotten.
+--
+-- `day` gives the day of a moment. Limits that were set stay, and retires, and each entry that is about D or a later
+-- day: a limit by the day from which it is to hold, all else by the day of its transaction.
+use Rattle.std.specs.Prelude.{◌≡◌, ℕ, List, [], ◌∷◌, filter, Bool, true, false, ◌||◌, nat_le, Option, Some, None}
+use Rattle.mq_frame.specs.declared.message.Id.{Id}
+use Rattle.mq_frame.specs.declared.message.Request.{Request}
+use Rattle.mq_frame.specs.declared.message.Request.TheVariants.{Reserve, Settle, Release, Limit, Usage}
+use Rattle.mq_frame.specs.declared.message.Request.TheVariants.{List as ListRequest, Retire}
+use Rattle.mq_frame.specs.declared.message.Reply.{Reply}
+use Rattle.mq_frame.specs.declared.message.Reply.TheVariants.{LimitSet}
+use Rattle.mq_ledger.specs.declared.entry.Entry.{Entry}
+use Rattle.mq_ledger.specs.Answer.{stored, with_arrival}
+use Rattle.mq_ledger.specs.Arrivals.{id_of, is_below}
+use Rattle.mq_ledger.specs.History.{requests, transaction, named}
+
+-- the moment of a reserve, settle or release
+abbrev pub moment_of : Request → ℕ
+moment_of (Reserve id txn at login count) = at
+moment_of (Settle id txn at login count) = at
+moment_of (Release id txn at login) = at
+moment_of (Limit id from_day cap login) = 0
+moment_of (Usage login day) = 0
+moment_of (ListRequest day after) = 0
+moment_of (Retire id) = 0
+
+-- the day of a transaction: that of the entry that names it, or of the moment where none does
+abbrev pub day_named : (ℕ → ℕ) → ℕ → Option Entry → ℕ
+day_named day at None = day at
+day_named day at (Some e) = day (moment_of e.request)
+
+-- the request is about D or a later day: by its transaction in H, its from-day, or the day that it asks for; a retire
+-- is about all days
+abbrev pub is_about : (ℕ → ℕ) → ℕ → List Entry → Request → Bool
+is_about day D H (Reserve id txn at login count) = nat_le D (day_named day at (named H (transaction id txn)))
+is_about day D H (Settle id txn at login count) = nat_le D (day_named day at (named H (transaction id txn)))
+is_about day D H (Release id txn at login) = nat_le D (day_named day at (named H (transaction id txn)))
+is_about day D H (Limit id from_day cap login) = nat_le D from_day
+is_about day D H (Usage login d) = nat_le D d
+is_about day D H (ListRequest d after) = nat_le D d
+is_about day D H (Retire id) = true
+
+-- a limit that was set
+abbrev pub is_set : Request → Reply → Bool
+is_set (Limit id from_day cap login) (LimitSet id') = true
+is_set _ _ = false
+
+-- the entry of H stays
+abbrev pub stays : (ℕ → ℕ) → ℕ → List Entry → Entry → Bool
+stays day D H e = is_about day D H e.request || is_set e.request e.reply
+
+-- H without the days before D
+abbrev pub remembered : (ℕ → ℕ) → ℕ → List Entry → List Entry
+remembered day D H = filter (stays day D H) H
+
+-- by the entry with the number of the request: it stays; where there is none, the request is about D or a later day
+abbrev pub is_remembered : (ℕ → ℕ) → ℕ → List Entry → Request → Option Entry → Bool
+is_remembered day D H r None = is_about day D H r
+is_remembered day D H r (Some e) = stays day D H e
+
+-- by the number of the request, where it has one: its run is given up, or it is no forgotten one
+abbrev pub is_later_by : (ℕ → ℕ) → ℕ → List Entry → Request → Option Id → Bool
+is_later_by day D H r None = is_about day D H r
+is_later_by day D H r (Some id) = is_below (requests H) id || is_remembered day D H r (stored H id)
+
+-- the request is about D or a later day, and its number isn't that of a forgotten entry; or its run is given up
+abbrev pub is_later : (ℕ → ℕ) → ℕ → List Entry → Request → Bool
+is_later day D H r = is_later_by day D H r (id_of r)
+
+-- each arrival is so, over the history as it comes
+abbrev pub AreLater : (ℕ → ℕ) → ℕ → ℕ → List Entry → List Request → Type 0
+AreLater day default D H [] = Unit {0}
+AreLater day default D H (r ∷ rs) = (is_later day D H r ≡ true) × AreLater day default D (with_arrival day default H r) rs
