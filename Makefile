@@ -58,13 +58,12 @@ install:
 	install -m 755 contrib/one-spelling $(DESTDIR)$(LIBEXECDIR)/one-spelling
 	install -m 644 man/mailquota.8 $(DESTDIR)$(MANDIR)/man8/mailquota.8
 	install -m 644 man/mailquota.toml.5 $(DESTDIR)$(MANDIR)/man5/mailquota.toml.5
-	install -m 644 contrib/filter.toml contrib/server.toml contrib/pf.conf contrib/nftables.conf $(DESTDIR)$(EXAMPLEDIR)
-	install -m 644 contrib/smtpd-restart.conf $(DESTDIR)$(EXAMPLEDIR)
-	for file in smtpd.conf mailquota.service mailquota.rc; do \
+	install -m 644 contrib/filter.toml contrib/server.toml contrib/nftables.conf $(DESTDIR)$(EXAMPLEDIR)
+	for file in smtpd.conf mailquota.service smtpd-restart.conf; do \
 		sed -e 's#/usr/local/libexec/mailquota#$(LIBEXECDIR)#g' -e 's#/usr/local/sbin#$(SBINDIR)#g' contrib/$$file \
 			>$(DESTDIR)$(EXAMPLEDIR)/$$file && chmod 644 $(DESTDIR)$(EXAMPLEDIR)/$$file || exit 1; \
 	done
-	install -m 644 LICENSE NOTICE CHANGELOG $(DESTDIR)$(DOCDIR)
+	install -m 644 LICENSE NOTICE CHANGELOG docs/INSTALL.md docs/OPERATING.md $(DESTDIR)$(DOCDIR)
 
 clean:
 	rm -rf crates/*/out
