@@ -6,7 +6,7 @@ use Rattle.std.proofs.lemmas.Bool.Decides.{Decides-eqb}
 use Rattle.mq_frame.specs.Same.{same_text, same_id, same_request}
 use Rattle.mq_frame.specs.declared.message.Id.{Id}
 use Rattle.mq_frame.specs.declared.message.Request.{Request}
-use Rattle.mq_frame.specs.declared.message.Request.TheVariants.{Reserve, Settle, Release, Limit, Usage, List as ListRequest}
+use Rattle.mq_frame.specs.declared.message.Request.TheVariants.{Reserve, Settle, Release, Limit, Usage, List as ListRequest, Retire}
 use Rattle.mq_frame.proofs.FieldLaws.{first_so, second_so, both_so}
 
 text_is : (a b : List ℕ) → same_text a b ≡ true → a ≡ b
@@ -87,6 +87,9 @@ request_is (ListRequest d l) (ListRequest d' l') h =
     let p0 = number_is d d' (first_so (d == d') (same_text l l') h) in
     let p1 = text_is l l' (second_so (d == d') (same_text l l') h) in
     cc
+request_is (Retire i) (Retire i') h =
+    let p0 = id_is i i' h in
+    cc
 request_is _ _ h = absurd cc
 
 request_alike : (a : Request) → same_request a a ≡ true
@@ -96,6 +99,7 @@ request_alike (Release i t at l) = rw (id_alike i, number_alike t, number_alike 
 request_alike (Limit i d cap l) = rw (id_alike i, number_alike d, number_alike cap, text_alike l) refl
 request_alike (Usage l d) = rw (text_alike l, number_alike d) refl
 request_alike (ListRequest d l) = rw (number_alike d, text_alike l) refl
+request_alike (Retire i) = rw (id_alike i) refl
 
 pub same_from_request : (a b : Request) → a ≡ b → same_request a b ≡ true
 same_from_request a b e = subst (λ (x : Request). same_request a x ≡ true) e (request_alike a)

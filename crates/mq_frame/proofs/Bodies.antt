@@ -8,12 +8,12 @@ use Rattle.std.proofs.lemmas.List.Sums.{AllPass-from_list_all, list_all-from_All
 use Rattle.std.proofs.lemmas.List.Elements.{All-weaker}
 use Rattle.mq_frame.specs.declared.message.Id.{Id}
 use Rattle.mq_frame.specs.declared.message.Request.{Request}
-use Rattle.mq_frame.specs.declared.message.Request.TheVariants.{Reserve, Settle, Release, Limit, Usage, List as ListRequest}
+use Rattle.mq_frame.specs.declared.message.Request.TheVariants.{Reserve, Settle, Release, Limit, Usage, List as ListRequest, Retire}
 use Rattle.mq_frame.specs.declared.message.Reply.{Reply}
-use Rattle.mq_frame.specs.declared.message.Reply.TheVariants.{Granted, Full, Settled, Released, LimitSet, Over, Closed, Mismatch, TooMany, Conflict, Usage as UsageReply, List as ListReply, Retry, Bad}
-use Rattle.mq_frame.specs.declared.format.TheConstants.{RESERVE, SETTLE, RELEASE, LIMIT, USAGE, LIST}
+use Rattle.mq_frame.specs.declared.message.Reply.TheVariants.{Granted, Full, Settled, Released, LimitSet, Over, Closed, Mismatch, TooMany, Conflict, Usage as UsageReply, List as ListReply, Retry, Bad, Retired, Old}
+use Rattle.mq_frame.specs.declared.format.TheConstants.{RESERVE, SETTLE, RELEASE, LIMIT, USAGE, LIST, RETIRE}
 use Rattle.mq_frame.specs.declared.format.TheConstants.{GRANTED, FULL, SETTLED, RELEASED, LIMIT_SET, OVER, CLOSED, MISMATCH, TOO_MANY, CONFLICT}
-use Rattle.mq_frame.specs.declared.format.TheConstants.{USAGE_REPLY, LIST_REPLY, RETRY, BAD}
+use Rattle.mq_frame.specs.declared.format.TheConstants.{USAGE_REPLY, LIST_REPLY, RETRY, BAD, RETIRED, OLD}
 use Rattle.mq_frame.specs.declared.format.TheConstants.{HOST_LIMIT, LOGIN_LIMIT, LAST_RUN, LAST_ORDINAL, FIRST_MOMENT, LAST_MOMENT}
 use Rattle.mq_frame.specs.declared.format.TheConstants.{LAST_DAY, COUNT_LIMIT, AMOUNT_LIMIT, ROW_LIMIT}
 use Rattle.mq_frame.specs.Range.{IsWithin, IsHostByte, IsHost, IsLogin, IsAfter, IsRun, IsOrdinal, IsMoment, IsDay, IsCount, IsAmount, IsId, IsRow, IsPage}
@@ -200,7 +200,10 @@ request_spelled kind bytes r fits e =
               | inl h ↦ spelled_kind SpellsRequest USAGE (pair login day) _ login_and_day_field usage_of (λ x h. record { bytes = refl; in_range = (h.0, h.1) }) kind bytes r fits h.0 h.1
               | inr e6 ↦ elim (kind_or (kind == LIST) _ _ r e6) [
                 | inl h ↦ spelled_kind SpellsRequest LIST (pair day after) _ day_and_after_field list_of (λ x h. record { bytes = refl; in_range = (h.0, h.1) }) kind bytes r fits h.0 h.1
-                | inr e7 ↦ absurd cc
+                | inr e7 ↦ elim (kind_or (kind == RETIRE) _ _ r e7) [
+                  | inl h ↦ spelled_kind SpellsRequest RETIRE id _ id_field Retire (λ x h. record { bytes = refl; in_range = h }) kind bytes r fits h.0 h.1
+                  | inr e8 ↦ absurd cc
+                ]
               ]
             ]
           ]
@@ -230,7 +233,13 @@ numbered_spelled kind bytes r fits e =
                       | inl h ↦ spelled_kind SpellsReply TOO_MANY (pair id amount) _ id_and_amount_field too_many_of (λ x h. record { bytes = refl; in_range = (h.0, h.1) }) kind bytes r fits h.0 h.1
                       | inr e10 ↦ elim (kind_or (kind == CONFLICT) _ _ r e10) [
                         | inl h ↦ spelled_kind SpellsReply CONFLICT id _ id_field Conflict (λ x h. record { bytes = refl; in_range = h }) kind bytes r fits h.0 h.1
-                        | inr e11 ↦ absurd cc
+                        | inr e11 ↦ elim (kind_or (kind == RETIRED) _ _ r e11) [
+                          | inl h ↦ spelled_kind SpellsReply RETIRED id _ id_field Retired (λ x h. record { bytes = refl; in_range = h }) kind bytes r fits h.0 h.1
+                          | inr e12 ↦ elim (kind_or (kind == OLD) _ _ r e12) [
+                            | inl h ↦ spelled_kind SpellsReply OLD id _ id_field Old (λ x h. record { bytes = refl; in_range = h }) kind bytes r fits h.0 h.1
+                            | inr e13 ↦ absurd cc
+                          ]
+                        ]
                       ]
                     ]
                   ]
@@ -283,6 +292,7 @@ request_at_read body (Release i txn at name) h = let g = h.in_range in ap reques
 request_at_read body (Limit i from_day cap name) h = let g = h.in_range in ap request_at h.bytes ∙ read_kind (pair id (pair day (pair amount login))) _ limit_field limit_of (i, (from_day, (cap, name))) (g.0, (g.1, (g.2, g.3)))
 request_at_read body (Usage name d) h = let g = h.in_range in ap request_at h.bytes ∙ read_kind (pair login day) _ login_and_day_field usage_of (name, d) g
 request_at_read body (ListRequest d behind) h = let g = h.in_range in ap request_at h.bytes ∙ read_kind (pair day after) _ day_and_after_field list_of (d, behind) g
+request_at_read body (Retire i) h = let g = h.in_range in ap request_at h.bytes ∙ read_kind id _ id_field Retire i g
 
 pub reply_at_read : (body : List ℕ) (r : Reply) → SpellsReply body r → reply_at body ≡ Some r
 reply_at_read body (Granted i used) h = let g = h.in_range in ap reply_at h.bytes ∙ read_kind (pair id amount) _ id_and_amount_field granted_of (i, used) g
@@ -299,3 +309,5 @@ reply_at_read body (UsageReply name d settled reserved cap) h = let g = h.in_ran
 reply_at_read body (ListReply d rows) h = let g = h.in_range in ap reply_at h.bytes ∙ read_kind (pair day page) _ day_and_page_field list_reply_of (d, rows) g
 reply_at_read body Retry h = ap reply_at h.bytes
 reply_at_read body Bad h = ap reply_at h.bytes
+reply_at_read body (Retired i) h = let g = h.in_range in ap reply_at h.bytes ∙ read_kind id _ id_field Retired i g
+reply_at_read body (Old i) h = let g = h.in_range in ap reply_at h.bytes ∙ read_kind id _ id_field Old i g

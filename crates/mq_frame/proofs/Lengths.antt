@@ -7,9 +7,9 @@ use Rattle.mq_frame.specs.Range.{IsWithin, IsId, IsLogin, IsRow, IsPage, IsReque
 use Rattle.mq_frame.specs.Spelling.{with_length, in_4_bytes, in_8_bytes, id_bytes, transaction_bytes, row_bytes, page_bytes, request_body, reply_body}
 use Rattle.mq_frame.specs.declared.message.Id.{Id}
 use Rattle.mq_frame.specs.declared.message.Request.{Request}
-use Rattle.mq_frame.specs.declared.message.Request.TheVariants.{Reserve, Settle, Release, Limit, Usage, List as ListRequest}
+use Rattle.mq_frame.specs.declared.message.Request.TheVariants.{Reserve, Settle, Release, Limit, Usage, List as ListRequest, Retire}
 use Rattle.mq_frame.specs.declared.message.Reply.{Reply}
-use Rattle.mq_frame.specs.declared.message.Reply.TheVariants.{Granted, Full, Settled, Released, LimitSet, Over, Closed, Mismatch, TooMany, Conflict, Usage as UsageReply, List as ListReply, Retry, Bad}
+use Rattle.mq_frame.specs.declared.message.Reply.TheVariants.{Granted, Full, Settled, Released, LimitSet, Over, Closed, Mismatch, TooMany, Conflict, Usage as UsageReply, List as ListReply, Retry, Bad, Retired, Old}
 use Rattle.mq_frame.specs.declared.usage.UsageRow.{UsageRow}
 
 length_then : (a b : List ℕ) (n m k : ℕ) → length a ≤ n → length b ≤ m → n + m ≤ k → length (a ++ b) ≤ k
@@ -36,6 +36,7 @@ longest_request (Limit i day cap l) h =
     omega (arith, t)
 longest_request (Usage l day) h = let t = length_then (with_length l) (in_4_bytes day) 256 4 260 (length_login 1 l h.0) (omega arith) (omega arith) in omega (arith, t)
 longest_request (ListRequest day l) h = let t = length_then (in_4_bytes day) (with_length l) 4 256 260 (omega arith) (length_login 0 l h.1) (omega arith) in omega (arith, t)
+longest_request (Retire i) h = let t = length_id i h in omega (arith, t)
 
 length_row : (r : UsageRow) → IsRow r → length (row_bytes r) ≤ 268
 length_row r h = length_then (with_length r.login) (in_4_bytes r.settled ++ (in_4_bytes r.reserved ++ in_4_bytes r.cap)) 256 12 268 (length_login 1 r.login h.login) (omega arith) (omega arith)
@@ -69,6 +70,8 @@ longest_reply (UsageReply l day settled reserved cap) h =
 longest_reply (ListReply day rows) h = let t = length_then (in_4_bytes day) (page_bytes rows) 4 26801 26805 (omega arith) (length_page rows h.1) (omega arith) in omega (arith, t)
 longest_reply Retry h = omega arith
 longest_reply Bad h = omega arith
+longest_reply (Retired i) h = id_alone 0x8f i h
+longest_reply (Old i) h = id_alone 0x90 i h
 
 -- no body is empty
 pub some_request : (r : Request) → 1 ≤ length (request_body r)
@@ -78,6 +81,7 @@ some_request (Release i txn at l) = omega arith
 some_request (Limit i day cap l) = omega arith
 some_request (Usage l day) = omega arith
 some_request (ListRequest day l) = omega arith
+some_request (Retire i) = omega arith
 
 pub some_reply : (r : Reply) → 1 ≤ length (reply_body r)
 some_reply (Granted i used) = omega arith
@@ -94,3 +98,5 @@ some_reply (UsageReply l day settled reserved cap) = omega arith
 some_reply (ListReply day rows) = omega arith
 some_reply Retry = omega arith
 some_reply Bad = omega arith
+some_reply (Retired i) = omega arith
+some_reply (Old i) = omega arith

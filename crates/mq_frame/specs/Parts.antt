@@ -10,11 +10,11 @@ use Rattle.mq_frame.specs.declared.reply_parts.ReplyParts.{ReplyParts}
 use Rattle.mq_frame.specs.declared.reply_parts.ReplyParts.TheVariants as reply_parts
 use Rattle.mq_frame.specs.declared.message.Request.{Request}
 use Rattle.mq_frame.specs.declared.message.Request.TheVariants.{Reserve, Settle, Release}
-use Rattle.mq_frame.specs.declared.message.Request.TheVariants.{Limit, Usage, List as ListRequest}
+use Rattle.mq_frame.specs.declared.message.Request.TheVariants.{Limit, Usage, List as ListRequest, Retire}
 use Rattle.mq_frame.specs.declared.message.Reply.{Reply}
 use Rattle.mq_frame.specs.declared.message.Reply.TheVariants.{Granted, Full, Settled, Released, LimitSet, Over, Closed}
 use Rattle.mq_frame.specs.declared.message.Reply.TheVariants.{Mismatch, TooMany, Conflict, Usage as UsageReply}
-use Rattle.mq_frame.specs.declared.message.Reply.TheVariants.{List as ListReply, Retry, Bad}
+use Rattle.mq_frame.specs.declared.message.Reply.TheVariants.{List as ListReply, Retry, Bad, Retired, Old}
 use Rattle.mq_frame.specs.declared.usage.UsageRow.{UsageRow}
 
 abbrev pub row_then : (List ℕ → List UsageRow) → Option (UsageRow × List ℕ) → List UsageRow
@@ -39,6 +39,7 @@ shown_request (request_parts.Release t) = Release (shown_id t.id) t.txn t.at t.l
 shown_request (request_parts.Limit id from_day cap login) = Limit (shown_id id) from_day cap login.now
 shown_request (request_parts.Usage login day) = Usage login.now day
 shown_request (request_parts.List day after) = ListRequest day after.now
+shown_request (request_parts.Retire id) = Retire (shown_id id)
 
 abbrev pub shown_reply : ReplyParts → Reply
 shown_reply (reply_parts.Granted id used) = Granted (shown_id id) used
@@ -55,3 +56,5 @@ shown_reply (reply_parts.Usage login day settled reserved cap) = UsageReply logi
 shown_reply (reply_parts.List day rows) = ListReply day (shown_page rows)
 shown_reply reply_parts.Retry = Retry
 shown_reply reply_parts.Bad = Bad
+shown_reply (reply_parts.Retired id) = Retired (shown_id id)
+shown_reply (reply_parts.Old id) = Old (shown_id id)

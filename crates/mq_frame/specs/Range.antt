@@ -7,11 +7,11 @@ use Rattle.mq_frame.specs.declared.format.TheConstants.{LAST_DAY, COUNT_LIMIT, A
 use Rattle.mq_frame.specs.declared.message.Id.{Id}
 use Rattle.mq_frame.specs.declared.message.Request.{Request}
 use Rattle.mq_frame.specs.declared.message.Request.TheVariants.{Reserve, Settle, Release}
-use Rattle.mq_frame.specs.declared.message.Request.TheVariants.{Limit, Usage, List as ListRequest}
+use Rattle.mq_frame.specs.declared.message.Request.TheVariants.{Limit, Usage, List as ListRequest, Retire}
 use Rattle.mq_frame.specs.declared.message.Reply.{Reply}
 use Rattle.mq_frame.specs.declared.message.Reply.TheVariants.{Granted, Full, Settled, Released, LimitSet, Over, Closed}
 use Rattle.mq_frame.specs.declared.message.Reply.TheVariants.{Mismatch, TooMany, Conflict, Usage as UsageReply}
-use Rattle.mq_frame.specs.declared.message.Reply.TheVariants.{List as ListReply, Retry, Bad}
+use Rattle.mq_frame.specs.declared.message.Reply.TheVariants.{List as ListReply, Retry, Bad, Retired, Old}
 use Rattle.mq_frame.specs.declared.usage.UsageRow.{UsageRow}
 
 -- the number is low, high or between them
@@ -84,6 +84,7 @@ IsRequest (Release id txn at login) = IsId id × IsOrdinal txn × IsMoment at ×
 IsRequest (Limit id from_day cap login) = IsId id × IsDay from_day × IsAmount cap × IsLogin login
 IsRequest (Usage login day) = IsLogin login × IsDay day
 IsRequest (ListRequest day after) = IsDay day × IsAfter after
+IsRequest (Retire id) = IsId id
 
 -- each field of the reply is in range
 abbrev pub IsReply : Reply → Type 0
@@ -102,3 +103,5 @@ IsReply (UsageReply login day settled reserved cap) =
 IsReply (ListReply day rows) = IsDay day × IsPage rows
 IsReply Retry = Unit {0}
 IsReply Bad = Unit {0}
+IsReply (Retired id) = IsId id
+IsReply (Old id) = IsId id

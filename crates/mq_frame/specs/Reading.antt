@@ -3,10 +3,10 @@ use Rattle.std.specs.Prelude.{◌≡◌, ℕ, zero, suc, List, [], ◌∷◌, �
 use Rattle.std.specs.Prelude.{Bool, ◌&&◌, ◌||◌, ◌==◌, nat_le, nat_lt, if◌then◌else◌}
 use Rattle.std.specs.List.{list_all, flat_map}
 use Rattle.std.specs.Int.{Width, w32, w64, byte_len, from_be_bytes, to_be_bytes}
-use Rattle.mq_frame.specs.declared.format.TheConstants.{RESERVE, SETTLE, RELEASE, LIMIT, USAGE, LIST}
+use Rattle.mq_frame.specs.declared.format.TheConstants.{RESERVE, SETTLE, RELEASE, LIMIT, USAGE, LIST, RETIRE}
 use Rattle.mq_frame.specs.declared.format.TheConstants.{GRANTED, FULL, SETTLED, RELEASED, LIMIT_SET, OVER, CLOSED}
 use Rattle.mq_frame.specs.declared.format.TheConstants.{MISMATCH, TOO_MANY, CONFLICT}
-use Rattle.mq_frame.specs.declared.format.TheConstants.{USAGE_REPLY, LIST_REPLY, RETRY, BAD}
+use Rattle.mq_frame.specs.declared.format.TheConstants.{USAGE_REPLY, LIST_REPLY, RETRY, BAD, RETIRED, OLD}
 use Rattle.mq_frame.specs.declared.format.TheConstants.{HOST_LIMIT, LOGIN_LIMIT, LAST_RUN, LAST_ORDINAL, FIRST_MOMENT}
 use Rattle.mq_frame.specs.declared.format.TheConstants.{LAST_MOMENT}
 use Rattle.mq_frame.specs.declared.format.TheConstants.{LAST_DAY, COUNT_LIMIT, AMOUNT_LIMIT, ROW_LIMIT}
@@ -14,11 +14,11 @@ use Rattle.mq_frame.specs.Spelling.{with_length}
 use Rattle.mq_frame.specs.declared.message.Id.{Id}
 use Rattle.mq_frame.specs.declared.message.Request.{Request}
 use Rattle.mq_frame.specs.declared.message.Request.TheVariants.{Reserve, Settle, Release}
-use Rattle.mq_frame.specs.declared.message.Request.TheVariants.{Limit, Usage, List as ListRequest}
+use Rattle.mq_frame.specs.declared.message.Request.TheVariants.{Limit, Usage, List as ListRequest, Retire}
 use Rattle.mq_frame.specs.declared.message.Reply.{Reply}
 use Rattle.mq_frame.specs.declared.message.Reply.TheVariants.{Granted, Full, Settled, Released, LimitSet, Over, Closed}
 use Rattle.mq_frame.specs.declared.message.Reply.TheVariants.{Mismatch, TooMany, Conflict, Usage as UsageReply}
-use Rattle.mq_frame.specs.declared.message.Reply.TheVariants.{List as ListReply, Retry, Bad}
+use Rattle.mq_frame.specs.declared.message.Reply.TheVariants.{List as ListReply, Retry, Bad, Retired, Old}
 use Rattle.mq_frame.specs.declared.usage.UsageRow.{UsageRow}
 
 infixl 10 ◌>>=◌
@@ -228,7 +228,8 @@ request_of_kind kind bytes =
     else (if kind == LIMIT then made_of limit_of (pair id (pair day (pair amount login))) bytes
     else (if kind == USAGE then made_of usage_of (pair login day) bytes
     else (if kind == LIST then made_of list_of (pair day after) bytes
-    else None)))))
+    else (if kind == RETIRE then made_of Retire id bytes
+    else None))))))
 
 abbrev pub request_at : List ℕ → Option Request
 request_at [] = None
@@ -247,7 +248,9 @@ numbered_reply kind bytes =
     else (if kind == MISMATCH then made_of Mismatch id bytes
     else (if kind == TOO_MANY then made_of too_many_of (pair id amount) bytes
     else (if kind == CONFLICT then made_of Conflict id bytes
-    else None)))))))))
+    else (if kind == RETIRED then made_of Retired id bytes
+    else (if kind == OLD then made_of Old id bytes
+    else None)))))))))))
 
 -- the reply of this kind, whose fields are all of the bytes
 abbrev pub reply_of_kind : ℕ → List ℕ → Option Reply

@@ -4,7 +4,7 @@ use Rattle.std.specs.Cmp.Lexicographic.{pointwise}
 use Rattle.mq_frame.specs.declared.message.Id.{Id}
 use Rattle.mq_frame.specs.declared.message.Request.{Request}
 use Rattle.mq_frame.specs.declared.message.Request.TheVariants.{Reserve, Settle, Release}
-use Rattle.mq_frame.specs.declared.message.Request.TheVariants.{Limit, Usage, List as ListRequest}
+use Rattle.mq_frame.specs.declared.message.Request.TheVariants.{Limit, Usage, List as ListRequest, Retire}
 
 -- byte for byte
 abbrev pub same_text : List ℕ → List ℕ → Bool
@@ -25,4 +25,5 @@ same_request (Limit id from_day cap login) (Limit id' from_day' cap' login') =
     same_id id id' && ((from_day == from_day') && ((cap == cap') && same_text login login'))
 same_request (Usage login day) (Usage login' day') = same_text login login' && (day == day')
 same_request (ListRequest day after) (ListRequest day' after') = (day == day') && same_text after after'
+same_request (Retire id) (Retire id') = same_id id id'
 same_request _ _ = false

@@ -2,19 +2,19 @@
 use Rattle.std.specs.Prelude.{◌≡◌, ℕ, List, [], ◌∷◌, ◌++◌, length}
 use Rattle.std.specs.List.{flat_map}
 use Rattle.std.specs.Int.{w16, w32, w64, to_be_bytes}
-use Rattle.mq_frame.specs.declared.format.TheConstants.{RESERVE, SETTLE, RELEASE, LIMIT, USAGE, LIST}
+use Rattle.mq_frame.specs.declared.format.TheConstants.{RESERVE, SETTLE, RELEASE, LIMIT, USAGE, LIST, RETIRE}
 use Rattle.mq_frame.specs.declared.format.TheConstants.{GRANTED, FULL, SETTLED, RELEASED, LIMIT_SET, OVER, CLOSED}
 use Rattle.mq_frame.specs.declared.format.TheConstants.{MISMATCH, TOO_MANY, CONFLICT}
-use Rattle.mq_frame.specs.declared.format.TheConstants.{USAGE_REPLY, LIST_REPLY, RETRY, BAD}
+use Rattle.mq_frame.specs.declared.format.TheConstants.{USAGE_REPLY, LIST_REPLY, RETRY, BAD, RETIRED, OLD}
 use Rattle.mq_frame.specs.Range.{IsRequest, IsReply}
 use Rattle.mq_frame.specs.declared.message.Id.{Id}
 use Rattle.mq_frame.specs.declared.message.Request.{Request}
 use Rattle.mq_frame.specs.declared.message.Request.TheVariants.{Reserve, Settle, Release}
-use Rattle.mq_frame.specs.declared.message.Request.TheVariants.{Limit, Usage, List as ListRequest}
+use Rattle.mq_frame.specs.declared.message.Request.TheVariants.{Limit, Usage, List as ListRequest, Retire}
 use Rattle.mq_frame.specs.declared.message.Reply.{Reply}
 use Rattle.mq_frame.specs.declared.message.Reply.TheVariants.{Granted, Full, Settled, Released, LimitSet, Over, Closed}
 use Rattle.mq_frame.specs.declared.message.Reply.TheVariants.{Mismatch, TooMany, Conflict, Usage as UsageReply}
-use Rattle.mq_frame.specs.declared.message.Reply.TheVariants.{List as ListReply, Retry, Bad}
+use Rattle.mq_frame.specs.declared.message.Reply.TheVariants.{List as ListReply, Retry, Bad, Retired, Old}
 use Rattle.mq_frame.specs.declared.usage.UsageRow.{UsageRow}
 
 -- a number in 2, 4 or 8 bytes, the highest first
@@ -54,6 +54,7 @@ request_body (Limit id from_day cap login) =
     LIMIT ∷ (id_bytes id ++ (in_4_bytes from_day ++ (in_4_bytes cap ++ with_length login)))
 request_body (Usage login day) = USAGE ∷ (with_length login ++ in_4_bytes day)
 request_body (ListRequest day after) = LIST ∷ (in_4_bytes day ++ with_length after)
+request_body (Retire id) = RETIRE ∷ id_bytes id
 
 -- the kind of a reply in one byte, and then its fields
 abbrev pub reply_body : Reply → List ℕ
@@ -73,6 +74,8 @@ reply_body (UsageReply login day settled reserved cap) =
 reply_body (ListReply day rows) = LIST_REPLY ∷ (in_4_bytes day ++ page_bytes rows)
 reply_body Retry = RETRY ∷ []
 reply_body Bad = BAD ∷ []
+reply_body (Retired id) = RETIRED ∷ id_bytes id
+reply_body (Old id) = OLD ∷ id_bytes id
 
 -- the body is the spelling of the request, whose fields are in range
 pub record SpellsRequest (body : List ℕ) (request : Request) : Type 0 where

@@ -140,6 +140,9 @@ fn own_request(alloc: Global, parts: RequestParts<'_>) -> Result<Request, AllocE
             day,
             after: Login::from_slice(alloc, after)?,
         },
+        RequestParts::Retire { id } => Request::Retire {
+            id: own_id(alloc, id)?,
+        },
     })
 }
 
@@ -204,6 +207,12 @@ fn own_reply(alloc: Global, parts: ReplyParts<'_>) -> Result<Reply, AllocError>
         },
         ReplyParts::Retry => Reply::Retry,
         ReplyParts::Bad => Reply::Bad,
+        ReplyParts::Retired { id } => Reply::Retired {
+            id: own_id(alloc, id)?,
+        },
+        ReplyParts::Old { id } => Reply::Old {
+            id: own_id(alloc, id)?,
+        },
     })
 }
 

@@ -10,7 +10,8 @@ ghost use Rattle.mq_frame.specs.Spelling.{row_bytes, page_bytes, request_body, r
 use crate::error::Memory;
 use crate::format::{
     BAD, CLOSED, CONFLICT, FULL, GRANTED, HEAD_BYTES, LIMIT, LIMIT_SET, LIST, LIST_REPLY, MISMATCH,
-    OVER, RELEASE, RELEASED, RESERVE, RETRY, SETTLE, SETTLED, TOO_MANY, USAGE, USAGE_REPLY,
+    OLD, OVER, RELEASE, RELEASED, RESERVE, RETIRE, RETIRED, RETRY, SETTLE, SETTLED, TOO_MANY,
+    USAGE, USAGE_REPLY,
 };
 use crate::message::{Id, Reply, Request};
 use crate::text::{Host, Login};
@@ -163,6 +164,7 @@ fn put_request(out: &mut Vec<u8>, request: &Request) -> Result<(), AllocError>
             put_dated(out, LIST, *day)?;
             put_login(out, after)
         }
+        Request::Retire { id } => put_numbered(out, RETIRE, id, &[]),
     }
 }
 
@@ -234,6 +236,8 @@ fn put_reply(out: &mut Vec<u8>, reply: &Reply) -> Result<(), AllocError>
         }
         Reply::Retry => put_kind(out, RETRY),
         Reply::Bad => put_kind(out, BAD),
+        Reply::Retired { id } => put_numbered(out, RETIRED, id, &[]),
+        Reply::Old { id } => put_numbered(out, OLD, id, &[]),
     }
 }
 

@@ -4,7 +4,7 @@ ghost use Rattle.std.specs.List.{list_all};
 ghost use Rattle.std.specs.Int.{w32, w64};
 ghost use Rattle.mq_frame.specs.Range.{IsHostByte};
 ghost use Rattle.mq_frame.specs.Shown.{shown_id};
-ghost use Rattle.mq_frame.specs.Reading.{Reads, number_at, text_at, is_host_byte};
+ghost use Rattle.mq_frame.specs.Reading.{Reads, number_at, text_at, is_host_byte, whole};
 ghost use Rattle.mq_frame.specs.Reading.{host, login, after, run, ordinal, moment, day, count, amount, id};
 
 use crate::format::{
@@ -152,4 +152,14 @@ pub fn finished(rest: &[u8]) -> Option<()>
     ensures { Reads (λ x. x) result (if length rest.now == 0 then Some tt else None) }
 {
     if rest.is_empty() { Some(()) } else { None }
+}
+
+/// An id that is all of the bytes.
+pub fn id_alone(bytes: &[u8]) -> Option<IdParts<'_>>
+    ensures { Reads shown_id result (whole id bytes.now) }
+{
+    match id_at(bytes) {
+        Some((id, [])) => Some(id),
+        _ => None,
+    }
 }

@@ -16,6 +16,8 @@ pub const USAGE: u8 = 0x05;
 
 pub const LIST: u8 = 0x06;
 
+pub const RETIRE: u8 = 0x07;
+
 // The kinds of replies.
 pub const GRANTED: u8 = 0x81;
 
@@ -44,6 +46,10 @@ pub const LIST_REPLY: u8 = 0x8c;
 pub const RETRY: u8 = 0x8d;
 
 pub const BAD: u8 = 0x8e;
+
+pub const RETIRED: u8 = 0x8f;
+
+pub const OLD: u8 = 0x90;
 
 /// The bytes of the longest name of a host.
 pub const HOST_LIMIT: u8 = 64;

@@ -3,9 +3,9 @@ ghost use Rattle.std.specs.Prelude.{◌≡◌, ◌↔◌, ℕ, ◌+◌, ◌<◌,
 ghost use Rattle.std.specs.Prelude.{Ok, All, ◌⊎◌};
 ghost use Rattle.std.specs.List.{flat_map};
 ghost use Rattle.mq_frame.specs.declared.feed.TheConstants.{REQUEST_LIMIT, REPLY_LIMIT};
-ghost use Rattle.mq_frame.specs.declared.format.TheConstants.{RESERVE, SETTLE, RELEASE, LIMIT, USAGE, LIST};
+ghost use Rattle.mq_frame.specs.declared.format.TheConstants.{RESERVE, SETTLE, RELEASE, LIMIT, USAGE, LIST, RETIRE};
 ghost use Rattle.mq_frame.specs.declared.format.TheConstants.{GRANTED, FULL, SETTLED, RELEASED, LIMIT_SET, OVER};
-ghost use Rattle.mq_frame.specs.declared.format.TheConstants.{CLOSED, MISMATCH, TOO_MANY, CONFLICT, RETRY, BAD};
+ghost use Rattle.mq_frame.specs.declared.format.TheConstants.{CLOSED, MISMATCH, TOO_MANY, CONFLICT, RETRY, BAD, RETIRED, OLD};
 ghost use Rattle.mq_frame.specs.declared.format.TheConstants.{USAGE_REPLY, LIST_REPLY, HEAD_BYTES, HOST_LIMIT};
 ghost use Rattle.mq_frame.specs.declared.format.TheConstants.{LOGIN_LIMIT, LAST_RUN, LAST_ORDINAL, FIRST_MOMENT};
 ghost use Rattle.mq_frame.specs.declared.format.TheConstants.{LAST_MOMENT, LAST_DAY, COUNT_LIMIT, AMOUNT_LIMIT};
@@ -28,6 +28,7 @@ pub fn numbers_of_bodies()
     ensures refusals { CLOSED ∷ MISMATCH ∷ TOO_MANY ∷ CONFLICT ∷ [] ≡ 135 ∷ 136 ∷ 137 ∷ 138 ∷ [] }
     ensures reports { USAGE_REPLY ∷ LIST_REPLY ∷ [] ≡ 139 ∷ 140 ∷ [] }
     ensures bare { RETRY ∷ BAD ∷ [] ≡ 141 ∷ 142 ∷ [] }
+    ensures retiring { RETIRE ∷ RETIRED ∷ OLD ∷ [] ≡ 7 ∷ 143 ∷ 144 ∷ [] }
     ensures head { HEAD_BYTES ≡ 2 }
     ensures longest { (REQUEST_LIMIT ≡ 512) × (REPLY_LIMIT ≡ 65535) }
 {}

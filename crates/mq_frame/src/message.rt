@@ -64,6 +64,11 @@ pub enum Request {
         day: u32,
         after: Login,
     },
+    /// Give up the runs of the number's host below its own run: what their transactions hold is settled, and no
+    /// reply of theirs is kept.
+    Retire {
+        id: Id,
+    },
 }
 
 /// What the quota server answers. Counts are recipients, 0 to 1,000,000.
@@ -134,6 +139,14 @@ pub enum Reply {
     Retry,
     /// What was sent is no request.
     Bad,
+    /// The runs of the host below that of the number are given up.
+    Retired {
+        id: Id,
+    },
+    /// The run of the number was given up.
+    Old {
+        id: Id,
+    },
 }
 
 impl Id {
@@ -233,6 +246,7 @@ impl Clone for Request {
                 day: *day,
                 after: after.clone()?,
             },
+            Request::Retire { id } => Request::Retire { id: id.clone()? },
         })
     }
 }
@@ -291,6 +305,8 @@ impl Clone for Reply {
             },
             Reply::Retry => Reply::Retry,
             Reply::Bad => Reply::Bad,
+            Reply::Retired { id } => Reply::Retired { id: id.clone()? },
+            Reply::Old { id } => Reply::Old { id: id.clone()? },
         })
     }
 }

@@ -129,6 +129,7 @@ pub fn is_request(request: &Request) -> bool
         } => is_id(id) && is_day(*from_day) && is_amount(*cap) && is_login(login.as_slice()),
         Request::Usage { login, day } => is_login(login.as_slice()) && is_day(*day),
         Request::List { day, after } => is_day(*day) && is_after(after),
+        Request::Retire { id } => is_id(id),
     }
 }
 
@@ -162,5 +163,7 @@ pub fn is_reply(reply: &Reply) -> bool
         }
         Reply::List { day, rows } => is_day(*day) && is_page(rows),
         Reply::Retry | Reply::Bad => true,
+        Reply::Retired { id } => is_id(id),
+        Reply::Old { id } => is_id(id),
     }
 }

@@ -3,10 +3,10 @@ ghost use Rattle.mq_frame.specs.Reading.{Reads, whole, pair, id, amount, reply_a
 ghost use Rattle.mq_frame.specs.Shown.{shown_id};
 ghost use Rattle.mq_frame.specs.Parts.{shown_reply};
 
-use crate::fields::{IdParts, amount_at, count_at, day_at, finished, id_at, login_at};
+use crate::fields::{IdParts, amount_at, count_at, day_at, finished, id_alone, id_at, login_at};
 use crate::format::{
-    BAD, CLOSED, CONFLICT, FULL, GRANTED, LIMIT_SET, LIST_REPLY, MISMATCH, OVER, RELEASED, RETRY,
-    SETTLED, TOO_MANY, USAGE_REPLY,
+    BAD, CLOSED, CONFLICT, FULL, GRANTED, LIMIT_SET, LIST_REPLY, MISMATCH, OLD, OVER, RELEASED,
+    RETIRED, RETRY, SETTLED, TOO_MANY, USAGE_REPLY,
 };
 use crate::page::{PageParts, page_at};
 
@@ -64,15 +64,12 @@ pub enum ReplyParts<'a> {
     },
     Retry,
     Bad,
-}
-
-fn id_alone(bytes: &[u8]) -> Option<IdParts<'_>>
-    ensures { Reads shown_id result (whole id bytes.now) }
-{
-    match id_at(bytes) {
-        Some((id, [])) => Some(id),
-        _ => None,
-    }
+    Retired {
+        id: IdParts<'a>,
+    },
+    Old {
+        id: IdParts<'a>,
+    },
 }
 
 fn id_and_amount(bytes: &[u8]) -> Option<(IdParts<'_>, u32)>
@@ -181,6 +178,14 @@ fn numbered_parts(kind: u8, bytes: &[u8]) -> Option<ReplyParts<'_>>
         CONFLICT => {
             let id = id_alone(bytes)?;
             Some(ReplyParts::Conflict { id })
+        }
+        RETIRED => {
+            let id = id_alone(bytes)?;
+            Some(ReplyParts::Retired { id })
+        }
+        OLD => {
+            let id = id_alone(bytes)?;
+            Some(ReplyParts::Old { id })
         }
         _ => None,
     }

@@ -3,9 +3,10 @@ ghost use Rattle.mq_frame.specs.Reading.{Reads, whole, pair, count, transaction,
 ghost use Rattle.mq_frame.specs.Parts.{shown_transaction, shown_request};
 
 use crate::fields::{
-    IdParts, after_at, amount_at, count_at, day_at, id_at, login_at, moment_at, ordinal_at,
+    IdParts, after_at, amount_at, count_at, day_at, id_alone, id_at, login_at, moment_at,
+    ordinal_at,
 };
-use crate::format::{LIMIT, LIST, RELEASE, RESERVE, SETTLE, USAGE};
+use crate::format::{LIMIT, LIST, RELEASE, RESERVE, RETIRE, SETTLE, USAGE};
 
 /// What names a transaction, and its login and moment.
 #[derive(Clone, Copy)]
@@ -43,6 +44,9 @@ pub enum RequestParts<'a> {
     List {
         day: u32,
         after: &'a [u8],
+    },
+    Retire {
+        id: IdParts<'a>,
     },
 }
 
@@ -133,6 +137,10 @@ pub fn request_parts(body: &[u8]) -> Option<RequestParts<'_>>
         LIMIT => limit_at(rest),
         USAGE => usage_at(rest),
         LIST => list_at(rest),
+        RETIRE => {
+            let id = id_alone(rest)?;
+            Some(RequestParts::Retire { id })
+        }
         _ => None,
     }
 }

@@ -1,17 +1,18 @@
 -- What the answers of a ledger with a legal history need.
 use Rattle.std.proofs.Common.{◌≡◌, ℕ, ◌≤◌, List, [], ◌∷◌, ◌++◌, true, false, Some, None, Option, refl, ◌∙◌, ap, sym, subst}
-use Rattle.std.specs.Prelude.{is_some, All}
+use Rattle.std.specs.Prelude.{is_some, ◌||◌, All}
 use Rattle.std.proofs.lemmas.List.Elements.{All-push, All-map}
 use Rattle.mq_frame.specs.declared.message.Id.{Id}
 use Rattle.mq_frame.specs.declared.message.Request.{Request}
 use Rattle.mq_frame.specs.declared.message.Reply.{Reply}
 use Rattle.mq_frame.specs.Range.{IsRequest, IsReply, IsAmount}
 use Rattle.mq_ledger.specs.declared.entry.Entry.{Entry}
-use Rattle.mq_ledger.specs.Answer.{if_open, answer, appended, stored_by, reply, reply_to, reply_by, with_arrival, with_arrival_by, history_of}
-use Rattle.mq_ledger.specs.Arrivals.{id_of}
+use Rattle.mq_ledger.specs.Answer.{if_open, answer, appended, stored, known_by, reply, reply_to, reply_by, with_arrival, with_arrival_by, history_of}
+use Rattle.mq_ledger.specs.Arrivals.{id_of, is_below}
 use Rattle.mq_ledger.specs.Day.{IsZone, day_of}
 use Rattle.mq_ledger.specs.History.{requests, transaction, granted_in, used, IsOpenTo}
 use Rattle.mq_ledger.specs.Legal.{Book, IsLegal, IsLegalBook}
+use Rattle.mq_ledger.proofs.Basics.{neither_first, neither_second}
 use Rattle.mq_ledger.proofs.Clocks.{zone_days}
 use Rattle.mq_ledger.proofs.Numbers.{legal_build, legal_more}
 use Rattle.mq_ledger.proofs.Transactions.{entry}
@@ -32,19 +33,27 @@ open_answer H id txn at login a o = rw (o.agreed, o.open_still) refl
 
 -- Arrivals.
 
-pub reply_fresh : (day : ℕ → ℕ) (default : ℕ) (H : List Entry) (r : Request) (o : Option Id) → id_of r ≡ o → stored_by H o ≡ None → reply day default H r ≡ answer day default H r
-reply_fresh day default H r None e h = ap (reply_to day default H r) e
-reply_fresh day default H r (Some id) e h = ap (reply_to day default H r) e ∙ ap (reply_by day default H r id) h
+-- a number that isn't known is above the floor, and isn't stored
+is_none : (o : Option Entry) → is_some o ≡ false → o ≡ None
+is_none None h = refl
+is_none (Some e) h = cc
 
-pub arrival_of_stored : (day : ℕ → ℕ) (default : ℕ) (H : List Entry) (r : Request) (o : Option Id) → is_some (stored_by H o) ≡ true → with_arrival_by day default H r o ≡ H
-arrival_of_stored day default H r None h = refl
-arrival_of_stored day default H r (Some id) h = rw h refl
+pub reply_fresh : (day : ℕ → ℕ) (default : ℕ) (H : List Entry) (r : Request) (o : Option Id) → id_of r ≡ o → known_by H o ≡ false → reply day default H r ≡ answer day default H r
+reply_fresh day default H r None e h = ap (reply_to day default H r) e
+reply_fresh day default H r (Some id) e h =
+    let above = neither_first (is_below (requests H) id) (is_some (stored H id)) h in
+    let fresh = is_none (stored H id) (neither_second (is_below (requests H) id) (is_some (stored H id)) h) in
+    ap (reply_to day default H r) e ∙ rw above (ap (reply_by day default H r id) fresh)
+
+pub arrival_of_known : (day : ℕ → ℕ) (default : ℕ) (H : List Entry) (r : Request) (o : Option Id) → known_by H o ≡ true → with_arrival_by day default H r o ≡ H
+arrival_of_known day default H r None h = refl
+arrival_of_known day default H r (Some id) h = rw h refl
 
 pub arrival_unnumbered : (day : ℕ → ℕ) (default : ℕ) (H : List Entry) (r : Request) (o : Option Id) → is_some o ≡ false → with_arrival_by day default H r o ≡ H
 arrival_unnumbered day default H r None h = refl
 arrival_unnumbered day default H r (Some id) h = cc
 
-pub arrival_fresh : (day : ℕ → ℕ) (default : ℕ) (H : List Entry) (r : Request) (o : Option Id) → is_some o ≡ true → stored_by H o ≡ None → with_arrival_by day default H r o ≡ appended day default H r
+pub arrival_fresh : (day : ℕ → ℕ) (default : ℕ) (H : List Entry) (r : Request) (o : Option Id) → is_some o ≡ true → known_by H o ≡ false → with_arrival_by day default H r o ≡ appended day default H r
 arrival_fresh day default H r None t h = cc
 arrival_fresh day default H r (Some id) t h = rw h refl
 
@@ -69,9 +78,9 @@ book_reply b r a h range is = subst IsReply (sym is) (reply_range (day_of b.zone
 pub book_history : (b : Book) (r : Request) (K : List Entry) → IsLegalBook b → K ≡ with_arrival (day_of b.zone) b.default b.history r → K ≡ history_of (day_of b.zone) b.default (requests b.history ++ r ∷ [])
 book_history b r K h is = is ∙ sym (legal_more (day_of b.zone) b.default b.history r h.legal)
 
-pub book_appended : (b : Book) (r : Request) (a : Reply) → stored_by b.history (id_of r) ≡ None → is_some (id_of r) ≡ true → a ≡ answer (day_of b.zone) b.default b.history r → b.history ++ entry r a ∷ [] ≡ with_arrival (day_of b.zone) b.default b.history r
+pub book_appended : (b : Book) (r : Request) (a : Reply) → known_by b.history (id_of r) ≡ false → is_some (id_of r) ≡ true → a ≡ answer (day_of b.zone) b.default b.history r → b.history ++ entry r a ∷ [] ≡ with_arrival (day_of b.zone) b.default b.history r
 book_appended b r a fresh numbered is =
     ap (λ x. b.history ++ entry r x ∷ []) is ∙ sym (arrival_fresh (day_of b.zone) b.default b.history r (id_of r) numbered fresh)
 
-pub book_fresh_reply : (b : Book) (r : Request) (a : Reply) → stored_by b.history (id_of r) ≡ None → a ≡ answer (day_of b.zone) b.default b.history r → a ≡ reply (day_of b.zone) b.default b.history r
+pub book_fresh_reply : (b : Book) (r : Request) (a : Reply) → known_by b.history (id_of r) ≡ false → a ≡ answer (day_of b.zone) b.default b.history r → a ≡ reply (day_of b.zone) b.default b.history r
 book_fresh_reply b r a fresh is = is ∙ sym (reply_fresh (day_of b.zone) b.default b.history r (id_of r) refl fresh)

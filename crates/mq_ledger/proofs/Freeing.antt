@@ -1,36 +1,54 @@
 -- What one more entry does to what a login has reserved on a day.
 use Rattle.std.proofs.Common.{◌≡◌, ℕ, ◌+◌, ◌<◌, List, [], ◌∷◌, ◌++◌, Bool, true, false, refl, ◌∙◌, ap, sym, subst, inl, inr, arith}
-use Rattle.std.specs.Prelude.{if◌then◌else◌, sum_by, ◌&&◌, ◌==◌, not, Some, None}
+use Rattle.std.specs.Prelude.{if◌then◌else◌, sum_by, ◌&&◌, ◌||◌, ◌==◌, not, Some, None}
 use Rattle.std.specs.List.{AllByRecursion}
 use Rattle.std.proofs.lemmas.List.Sums.{sum_by_push}
 use Rattle.mq_frame.specs.declared.message.Id.{Id}
 use Rattle.mq_frame.specs.declared.message.Request.{Request}
-use Rattle.mq_frame.specs.declared.message.Request.TheVariants.{Reserve, Settle, Release, Limit, Usage, List as ListRequest}
+use Rattle.mq_frame.specs.declared.message.Request.TheVariants.{Reserve, Settle, Release, Limit, Usage, List as ListRequest, Retire}
 use Rattle.mq_frame.specs.declared.message.Reply.{Reply}
-use Rattle.mq_frame.specs.declared.message.Reply.TheVariants.{Granted, Settled, Released}
+use Rattle.mq_frame.specs.declared.message.Reply.TheVariants.{Granted, Settled, Released, Retired}
 use Rattle.mq_frame.specs.Same.{same_text}
 use Rattle.mq_ledger.specs.declared.entry.Entry.{Entry}
 use Rattle.mq_ledger.specs.Answer.{answer}
-use Rattle.mq_ledger.specs.History.{Transaction, transaction, same_transaction, is_of, is_at, closes, closed, named, agrees, granted, granted_in, held, concerns, is_open, reserved_of, reserved, gained, freed, IsOpenTo}
+use Rattle.mq_ledger.specs.History.{Transaction, transaction, same_transaction, is_of, is_at, closes, ended, given_up, gives_up, closed, abandoned, named, agrees, granted, counted, granted_in, held, concerns, is_open, is_abandoned, reserved_of, reserved, settled_of, settled, is_given_up_by, given_up_on, used, gained, freed, settles, IsOpenTo}
 use Rattle.mq_ledger.specs.Legal.{IsLegal}
 use Rattle.mq_ledger.specs.Suits.{Suits}
-use Rattle.mq_ledger.proofs.Basics.{either, first_so, second_so, zero_or_more, text_is, number_is, always, sums_are, two_sums_are, sum_if}
+use Rattle.mq_ledger.proofs.Basics.{either, first_so, second_so, neither_first, zero_or_more, text_is, number_is, always, sums_are, two_sums_are, sum_if}
+use Rattle.mq_ledger.proofs.Entries.{moves_open_alone}
 use Rattle.mq_ledger.proofs.Ranges.{legal_good}
 use Rattle.mq_ledger.proofs.Suiting.{Opens, answer_suits, answer_opens}
-use Rattle.mq_ledger.proofs.Transactions.{entry, transaction_is, transaction_itself, closed_push, closed_now, open_then, IsUniformAt, IsUniform, held_of, moved}
+use Rattle.mq_ledger.proofs.Transactions.{entry, transaction_is, transaction_itself, ended_push, given_up_push, closed_push, closed_now, open_then, IsUniformAt, IsUniform, held_of, moved}
 
 -- An entry that doesn't close leaves what is reserved.
 
-open_same : (H : List Entry) (e : Entry) → closes e.reply ≡ false → (r : Request) → is_open (H ++ e ∷ []) r ≡ is_open H r
-open_same H e shut (Reserve id txn at login count) = grind (arith, closed_push H e (transaction id txn), shut)
-open_same H e shut (Settle id txn at login count) = refl
-open_same H e shut (Release id txn at login) = refl
-open_same H e shut (Limit id from c login) = refl
-open_same H e shut (Usage login d) = refl
-open_same H e shut (ListRequest d after) = refl
+or_and_nothing : (a b : Bool) → (a || (b && false)) ≡ a
+or_and_nothing true b = refl
+or_and_nothing false true = refl
+or_and_nothing false false = refl
 
-reserved_stays : (day : ℕ → ℕ) (H : List Entry) (e : Entry) (l : List ℕ) (d : ℕ) → closes e.reply ≡ false → sum_by (reserved_of day (H ++ e ∷ []) l d) H ≡ reserved day H l d
-reserved_stays day H e l d shut = sums_are (λ _. Unit {0}) (reserved_of day (H ++ e ∷ []) l d) (reserved_of day H l d) (λ x _. (let same = open_same H e shut x.request in rw same refl)) H (always H)
+or_nothing : (a : Bool) → (a || false) ≡ a
+or_nothing true = refl
+or_nothing false = refl
+
+-- the request gives up no run
+abbrev GivesNone : Request → Type 0
+GivesNone r = (t : Transaction) → gives_up r t ≡ false
+
+closed_same : (H : List Entry) (e : Entry) → closes e.reply ≡ false → GivesNone e.request → (t : Transaction) → closed (H ++ e ∷ []) t ≡ closed H t
+closed_same H e shut stays t = closed_push H e t ∙ rw (stays t, shut) (or_and_nothing (closed H t) (is_of t e.request))
+
+open_same : (H : List Entry) (e : Entry) → closes e.reply ≡ false → GivesNone e.request → (r : Request) → is_open (H ++ e ∷ []) r ≡ is_open H r
+open_same H e shut stays (Reserve id txn at login count) = ap not (closed_same H e shut stays (transaction id txn))
+open_same H e shut stays (Settle id txn at login count) = refl
+open_same H e shut stays (Release id txn at login) = refl
+open_same H e shut stays (Limit id from c login) = refl
+open_same H e shut stays (Usage login d) = refl
+open_same H e shut stays (ListRequest d after) = refl
+open_same H e shut stays (Retire id) = refl
+
+reserved_stays : (day : ℕ → ℕ) (H : List Entry) (e : Entry) (l : List ℕ) (d : ℕ) → closes e.reply ≡ false → GivesNone e.request → sum_by (reserved_of day (H ++ e ∷ []) l d) H ≡ reserved day H l d
+reserved_stays day H e l d shut stays = sums_are (λ _. Unit {0}) (reserved_of day (H ++ e ∷ []) l d) (reserved_of day H l d) (λ x _. (let same = open_same H e shut stays x.request in rw same refl)) H (always H)
 
 -- One that closes a transaction ends what it holds.
 
@@ -41,6 +59,7 @@ of_one t u (Release id txn at login) h g = transaction_is t (transaction id txn)
 of_one t u (Limit id from c login) h g = cc
 of_one t u (Usage login d) h g = cc
 of_one t u (ListRequest d after) h g = cc
+of_one t u (Retire id) h g = cc
 
 pub of_another : (t u : Transaction) (r : Request) → is_of t r ≡ true → same_transaction t u ≡ false → is_of u r ≡ false
 of_another t u r h other = elim (either (is_of u r)) [
@@ -50,13 +69,27 @@ of_another t u r h other = elim (either (is_of u r)) [
       let clash : true ≡ false = sym itself ∙ other in cc)
 ]
 
+-- a request of a transaction gives up no run
+of_gives_none : (t : Transaction) (r : Request) → is_of t r ≡ true → GivesNone r
+of_gives_none t (Reserve id txn at login count) mine = λ u. refl
+of_gives_none t (Settle id txn at login count) mine = λ u. refl
+of_gives_none t (Release id txn at login) mine = λ u. refl
+of_gives_none t (Limit id from c login) mine = λ u. refl
+of_gives_none t (Usage login d) mine = λ u. refl
+of_gives_none t (ListRequest d after) mine = λ u. refl
+of_gives_none t (Retire id) mine = cc
+
+closed_elsewhere : (H : List Entry) (e : Entry) (t u : Transaction) → is_of t e.request ≡ true → is_of u e.request ≡ false → closed (H ++ e ∷ []) u ≡ closed H u
+closed_elsewhere H e t u mine apart = closed_push H e u ∙ rw (of_gives_none t e.request mine u, apart) (or_nothing (closed H u))
+
 open_elsewhere : (H : List Entry) (e : Entry) (t : Transaction) → is_of t e.request ≡ true → (r : Request) → is_of t r ≡ false → is_open (H ++ e ∷ []) r ≡ is_open H r
-open_elsewhere H e t mine (Reserve id txn at login count) other = (let apart = of_another t (transaction id txn) e.request mine other in grind (arith, closed_push H e (transaction id txn), apart))
+open_elsewhere H e t mine (Reserve id txn at login count) other = ap not (closed_elsewhere H e t (transaction id txn) mine (of_another t (transaction id txn) e.request mine other))
 open_elsewhere H e t mine (Settle id txn at login count) other = refl
 open_elsewhere H e t mine (Release id txn at login) other = refl
 open_elsewhere H e t mine (Limit id from c login) other = refl
 open_elsewhere H e t mine (Usage login d) other = refl
 open_elsewhere H e t mine (ListRequest d after) other = refl
+open_elsewhere H e t mine (Retire id) other = refl
 
 concerned_at : (day : ℕ → ℕ) (at at' : ℕ) (login login' l : List ℕ) (d : ℕ) → ((at == at') && same_text login login') ≡ true → (same_text l login' && (day at' == d)) ≡ (same_text l login && (day at == d))
 concerned_at day at at' login login' l d here =
@@ -113,26 +146,60 @@ pub nothing_either_way : (b : Bool) (n : ℕ) → n ≡ 0 → (if b then n else 
 nothing_either_way true n none = none
 nothing_either_way false n none = refl
 
-quiet : (day : ℕ → ℕ) (H : List Entry) (r : Request) (a : Reply) (l : List ℕ) (d : ℕ) → closes a ≡ false → granted r a ≡ 0 → reserved day (H ++ entry r a ∷ []) l d ≡ reserved day H l d
-quiet day H r a l d shut none =
+quiet : (day : ℕ → ℕ) (H : List Entry) (r : Request) (a : Reply) (l : List ℕ) (d : ℕ) → closes a ≡ false → GivesNone r → granted r a ≡ 0 → reserved day (H ++ entry r a ∷ []) l d ≡ reserved day H l d
+quiet day H r a l d shut stays none =
     let own : reserved_of day (H ++ entry r a ∷ []) l d (entry r a) ≡ 0 = nothing_either_way (concerns day l d r && is_open (H ++ entry r a ∷ []) r) (granted r a) none in
-    omega (arith, own, own_part day H (entry r a) l d, reserved_stays day H (entry r a) l d shut)
+    omega (arith, own, own_part day H (entry r a) l d, reserved_stays day H (entry r a) l d shut stays)
 
 closing : (day : ℕ → ℕ) (H : List Entry) (r : Request) (a : Reply) (t : Transaction) (at : ℕ) (login l : List ℕ) (d : ℕ) → IsUniform H → is_of t r ≡ true → closes a ≡ true → granted r a ≡ 0 → IsOpenTo at login H t →
     reserved day (H ++ entry r a ∷ []) l d + (if same_text l login && (day at == d) then held H t else 0) ≡ reserved day H l d
 closing day H r a t at login l d uniform mine shuts none o =
     let own : reserved_of day (H ++ entry r a ∷ []) l d (entry r a) ≡ 0 = nothing_either_way (concerns day l d r && is_open (H ++ entry r a ∷ []) r) (granted r a) none in
-    let ended = reserved_ends day H (entry r a) t at login l d mine shuts o.open_still (uniform t at login o.agreed) in
-    let all : reserved day (H ++ entry r a ∷ []) l d + (if same_text l login && (day at == d) then granted_in H t else 0) ≡ reserved day H l d = omega (arith, own, ended, own_part day H (entry r a) l d) in
+    let gone = reserved_ends day H (entry r a) t at login l d mine shuts o.open_still (uniform t at login o.agreed) in
+    let all : reserved day (H ++ entry r a ∷ []) l d + (if same_text l login && (day at == d) then granted_in H t else 0) ≡ reserved day H l d = omega (arith, own, gone, own_part day H (entry r a) l d) in
     rw o.open_still all
 
 granting : (day : ℕ → ℕ) (H : List Entry) (id id' : Id) (txn at : ℕ) (login : List ℕ) (count n : ℕ) (l : List ℕ) (d : ℕ) → IsOpenTo at login H (transaction id txn) →
     reserved day (H ++ entry (Reserve id txn at login count) (Granted id' n) ∷ []) l d ≡ reserved day H l d + (if same_text l login && (day at == d) then count else 0)
 granting day H id id' txn at login count n l d o =
     let e : Entry = entry (Reserve id txn at login count) (Granted id' n) in
-    let still : closed (H ++ e ∷ []) (transaction id txn) ≡ false = grind (arith, closed_push H e (transaction id txn), o.open_still) in
+    let still : closed (H ++ e ∷ []) (transaction id txn) ≡ false = closed_same H e refl (λ u. refl) (transaction id txn) ∙ o.open_still in
     let own : reserved_of day (H ++ e ∷ []) l d e ≡ (if same_text l login && (day at == d) then count else 0) = rw still (grind arith) in
-    omega (arith, own, own_part day H e l d, reserved_stays day H e l d refl)
+    omega (arith, own, own_part day H e l d, reserved_stays day H e l d refl (λ u. refl))
+
+-- A retire gives up what the runs below its own have reserved.
+
+retire_splits : (c S U : Bool) (a : ℕ) → (if c && not (U || (S || false)) then a else 0) + (if U then (if c && not S then a else 0) else 0) ≡ (if c && not S then a else 0)
+retire_splits true true true a = omega arith
+retire_splits true true false a = omega arith
+retire_splits true false true a = omega arith
+retire_splits true false false a = omega arith
+retire_splits false S true a = omega arith
+retire_splits false S false a = omega arith
+
+and_none : (c : Bool) (a : ℕ) → (if c && false then a else 0) ≡ 0
+and_none true a = refl
+and_none false a = refl
+
+retire_at : (day : ℕ → ℕ) (H : List Entry) (id id' : Id) (l : List ℕ) (d : ℕ) (r : Request) (a : Reply) →
+    reserved_of day (H ++ entry (Retire id) (Retired id') ∷ []) l d (entry r a) + (if is_given_up_by (Retire id) r then reserved_of day H l d (entry r a) else 0) ≡ reserved_of day H l d (entry r a)
+retire_at day H id id' l d (Reserve jd txn at login count) a =
+    let t : Transaction = transaction jd txn in
+    rw (closed_push H (entry (Retire id) (Retired id')) t) (retire_splits (same_text l login && (day at == d)) (closed H t) (gives_up (Retire id) t) (granted (Reserve jd txn at login count) a))
+retire_at day H id id' l d (Settle jd txn at login count) a = omega (arith, and_none (same_text l login && (day at == d)) (granted (Settle jd txn at login count) a))
+retire_at day H id id' l d (Release jd txn at login) a = refl
+retire_at day H id id' l d (Limit jd from c login) a = refl
+retire_at day H id id' l d (Usage login d') a = refl
+retire_at day H id id' l d (ListRequest d' after) a = refl
+retire_at day H id id' l d (Retire jd) a = refl
+
+retiring : (day : ℕ → ℕ) (H : List Entry) (id id' : Id) (l : List ℕ) (d : ℕ) →
+    reserved day (H ++ entry (Retire id) (Retired id') ∷ []) l d + given_up_on day H l d (Retire id) ≡ reserved day H l d
+retiring day H id id' l d =
+    let e : Entry = entry (Retire id) (Retired id') in
+    let own : reserved_of day (H ++ e ∷ []) l d e ≡ 0 = refl in
+    let both = two_sums_are (λ _. Unit {0}) (reserved_of day (H ++ e ∷ []) l d) (λ x. if is_given_up_by (Retire id) x.request then reserved_of day H l d x else 0) (reserved_of day H l d) (λ x _. retire_at day H id id' l d x.request x.reply) H (always H) in
+    omega (arith, own, both, own_part day H e l d)
 
 reserved_entry : (day : ℕ → ℕ) (H : List Entry) (l : List ℕ) (d : ℕ) → IsUniform H → (r : Request) (a : Reply) → Suits r a → Opens H r a → reserved day (H ++ entry r a ∷ []) l d + freed day H l d r a ≡ reserved day H l d + gained day l d r a
 reserved_entry day H l d uniform (Reserve id txn at login count) (Granted id' n) suits o = omega (arith, granting day H id id' txn at login count n l d o)
@@ -151,10 +218,109 @@ reserved_entry day H l d uniform (Usage login d') (Settled id' n) suits o = absu
 reserved_entry day H l d uniform (Usage login d') (Released id' n) suits o = absurd suits
 reserved_entry day H l d uniform (ListRequest d' after) (Settled id' n) suits o = absurd suits
 reserved_entry day H l d uniform (ListRequest d' after) (Released id' n) suits o = absurd suits
+reserved_entry day H l d uniform (Retire id) (Retired id') suits o = omega (arith, retiring day H id id' l d)
+reserved_entry day H l d uniform (Retire id) a suits o = absurd o
 reserved_entry day H l d uniform r a suits o =
     let none : gained day l d r a ≡ 0 = grind arith in
-    omega (arith, none, quiet day H r a l d refl refl)
+    omega (arith, none, quiet day H r a l d refl (λ u. refl) refl)
 
 pub reserved_more : (day : ℕ → ℕ) (default : ℕ) (H : List Entry) (e : Entry) (l : List ℕ) (d : ℕ) → IsLegal day default H → e.reply ≡ answer day default H e.request → reserved day (H ++ e ∷ []) l d + freed day H l d e.request e.reply ≡ reserved day H l d + gained day l d e.request e.reply
 reserved_more day default H e l d legal is =
     reserved_entry day H l d (legal_good day default H legal).uniform e.request e.reply (subst (Suits e.request) (sym is) (answer_suits day default H e.request)) (subst (Opens H e.request) (sym is) (answer_opens day default H e.request))
+
+-- What one more entry does to what a login has settled on a day.
+
+abandoned_same : (H : List Entry) (r : Request) (a : Reply) → Suits r a → Opens H r a → GivesNone r → (t : Transaction) → abandoned (H ++ entry r a ∷ []) t ≡ abandoned H t
+abandoned_same H r a suits o stays t =
+    let u : given_up (H ++ entry r a ∷ []) t ≡ given_up H t = given_up_push H (entry r a) t ∙ rw (stays t) refl in
+    elim (either (given_up H t)) [
+      | inr fresh ↦ rw (u, fresh) refl
+      | inl before ↦ (let q = moves_open_alone H t r a suits o (rw before refl) in
+          let x : ended (H ++ entry r a ∷ []) t ≡ ended H t = ended_push H (entry r a) t ∙ rw q.no_end (or_nothing (ended H t)) in
+          rw (u, x) refl)
+    ]
+
+is_abandoned_same : (H : List Entry) (r : Request) (a : Reply) → Suits r a → Opens H r a → GivesNone r → (q : Request) → is_abandoned (H ++ entry r a ∷ []) q ≡ is_abandoned H q
+is_abandoned_same H r a suits o stays (Reserve id txn at login count) = abandoned_same H r a suits o stays (transaction id txn)
+is_abandoned_same H r a suits o stays (Settle id txn at login count) = refl
+is_abandoned_same H r a suits o stays (Release id txn at login) = refl
+is_abandoned_same H r a suits o stays (Limit id from c login) = refl
+is_abandoned_same H r a suits o stays (Usage login d) = refl
+is_abandoned_same H r a suits o stays (ListRequest d after) = refl
+is_abandoned_same H r a suits o stays (Retire id) = refl
+
+settled_part : (day : ℕ → ℕ) (H : List Entry) (e : Entry) (l : List ℕ) (d : ℕ) → settled day (H ++ e ∷ []) l d ≡ sum_by (settled_of day (H ++ e ∷ []) l d) H + settled_of day (H ++ e ∷ []) l d e
+settled_part day H e l d = sum_by_push (settled_of day (H ++ e ∷ []) l d) H e
+
+settled_stays : (day : ℕ → ℕ) (H : List Entry) (r : Request) (a : Reply) (l : List ℕ) (d : ℕ) → Suits r a → Opens H r a → GivesNone r → sum_by (settled_of day (H ++ entry r a ∷ []) l d) H ≡ settled day H l d
+settled_stays day H r a l d suits o stays = sums_are (λ _. Unit {0}) (settled_of day (H ++ entry r a ∷ []) l d) (settled_of day H l d) (λ x _. (let same = is_abandoned_same H r a suits o stays x.request in rw same refl)) H (always H)
+
+settled_by : (day : ℕ → ℕ) (H : List Entry) (r : Request) (a : Reply) (l : List ℕ) (d n : ℕ) → Suits r a → Opens H r a → GivesNone r → settled_of day (H ++ entry r a ∷ []) l d (entry r a) ≡ n → settled day (H ++ entry r a ∷ []) l d ≡ settled day H l d + n
+settled_by day H r a l d n suits o stays own = omega (arith, own, settled_part day H (entry r a) l d, settled_stays day H r a l d suits o stays)
+
+-- what was granted just now isn't abandoned
+just_granted : (day : ℕ → ℕ) (H : List Entry) (id id' : Id) (txn at : ℕ) (login : List ℕ) (count n : ℕ) (l : List ℕ) (d : ℕ) → IsOpenTo at login H (transaction id txn) →
+    settled_of day (H ++ entry (Reserve id txn at login count) (Granted id' n) ∷ []) l d (entry (Reserve id txn at login count) (Granted id' n)) ≡ 0
+just_granted day H id id' txn at login count n l d o =
+    let e : Entry = entry (Reserve id txn at login count) (Granted id' n) in
+    let still : closed (H ++ e ∷ []) (transaction id txn) ≡ false = closed_same H e refl (λ u. refl) (transaction id txn) ∙ o.open_still in
+    let kept : given_up (H ++ e ∷ []) (transaction id txn) ≡ false = neither_first (given_up (H ++ e ∷ []) (transaction id txn)) (ended (H ++ e ∷ []) (transaction id txn)) still in
+    rw kept (nothing_either_way (same_text l login && (day at == d)) 0 refl)
+
+plus_none : (c b : Bool) (n : ℕ) → (if c then n + (if b then 0 else 0) else 0) ≡ (if c then n else 0)
+plus_none true true n = omega arith
+plus_none true false n = omega arith
+plus_none false b n = refl
+
+retire_moves : (c G X U : Bool) (a k : ℕ) → (if c then k + (if (U || G) && not (X || false) then a else 0) else 0) ≡ (if c then k + (if G && not X then a else 0) else 0) + (if U then (if c && not (G || X) then a else 0) else 0)
+retire_moves true true true true a k = omega arith
+retire_moves true true true false a k = omega arith
+retire_moves true true false true a k = omega arith
+retire_moves true true false false a k = omega arith
+retire_moves true false true true a k = omega arith
+retire_moves true false true false a k = omega arith
+retire_moves true false false true a k = omega arith
+retire_moves true false false false a k = omega arith
+retire_moves false G X true a k = omega arith
+retire_moves false G X false a k = omega arith
+
+retire_settles_at : (day : ℕ → ℕ) (H : List Entry) (id id' : Id) (l : List ℕ) (d : ℕ) (r : Request) (a : Reply) →
+    settled_of day H l d (entry r a) + (if is_given_up_by (Retire id) r then reserved_of day H l d (entry r a) else 0) ≡ settled_of day (H ++ entry (Retire id) (Retired id') ∷ []) l d (entry r a)
+retire_settles_at day H id id' l d (Reserve jd txn at login count) a =
+    let t : Transaction = transaction jd txn in
+    let e : Entry = entry (Retire id) (Retired id') in
+    rw (given_up_push H e t, ended_push H e t) (sym (retire_moves (same_text l login && (day at == d)) (given_up H t) (ended H t) (gives_up (Retire id) t) (granted (Reserve jd txn at login count) a) (counted (Reserve jd txn at login count) a)))
+retire_settles_at day H id id' l d (Settle jd txn at login count) a = omega arith
+retire_settles_at day H id id' l d (Release jd txn at login) a = refl
+retire_settles_at day H id id' l d (Limit jd from c login) a = refl
+retire_settles_at day H id id' l d (Usage login d') a = refl
+retire_settles_at day H id id' l d (ListRequest d' after) a = refl
+retire_settles_at day H id id' l d (Retire jd) a = refl
+
+retire_settles : (day : ℕ → ℕ) (H : List Entry) (id id' : Id) (l : List ℕ) (d : ℕ) →
+    settled day (H ++ entry (Retire id) (Retired id') ∷ []) l d ≡ settled day H l d + given_up_on day H l d (Retire id)
+retire_settles day H id id' l d =
+    let e : Entry = entry (Retire id) (Retired id') in
+    let own : settled_of day (H ++ e ∷ []) l d e ≡ 0 = refl in
+    let both = two_sums_are (λ _. Unit {0}) (settled_of day H l d) (λ x. if is_given_up_by (Retire id) x.request then reserved_of day H l d x else 0) (settled_of day (H ++ e ∷ []) l d) (λ x _. retire_settles_at day H id id' l d x.request x.reply) H (always H) in
+    omega (arith, own, both, settled_part day H e l d)
+
+settled_entry : (day : ℕ → ℕ) (H : List Entry) (l : List ℕ) (d : ℕ) (r : Request) (a : Reply) → Suits r a → Opens H r a → settled day (H ++ entry r a ∷ []) l d ≡ settled day H l d + settles day H l d r a
+settled_entry day H l d (Reserve id txn at login count) (Granted id' n) suits o = settled_by day H _ _ l d 0 suits o (λ u. refl) (just_granted day H id id' txn at login count n l d o)
+settled_entry day H l d (Settle id txn at login count) (Settled id' n) suits o = settled_by day H _ _ l d (if same_text l login && (day at == d) then count else 0) suits o (λ u. refl) (plus_none (same_text l login && (day at == d)) false count)
+settled_entry day H l d (Reserve id txn at login count) (Settled id' n) suits o = absurd suits
+settled_entry day H l d (Release id txn at login) (Settled id' n) suits o = absurd suits
+settled_entry day H l d (Limit id from c login) (Settled id' n) suits o = absurd suits
+settled_entry day H l d (Usage login d') (Settled id' n) suits o = absurd suits
+settled_entry day H l d (ListRequest d' after) (Settled id' n) suits o = absurd suits
+settled_entry day H l d (Retire id) (Retired id') suits o = retire_settles day H id id' l d
+settled_entry day H l d (Retire id) a suits o = absurd o
+settled_entry day H l d r a suits o = settled_by day H r a l d 0 suits o (λ u. refl) (plus_none (concerns day l d r) (is_abandoned (H ++ entry r a ∷ []) r) 0 ∙ nothing_either_way (concerns day l d r) 0 refl)
+
+pub settled_more : (day : ℕ → ℕ) (default : ℕ) (H : List Entry) (e : Entry) (l : List ℕ) (d : ℕ) → e.reply ≡ answer day default H e.request → settled day (H ++ e ∷ []) l d ≡ settled day H l d + settles day H l d e.request e.reply
+settled_more day default H e l d is =
+    settled_entry day H l d e.request e.reply (subst (Suits e.request) (sym is) (answer_suits day default H e.request)) (subst (Opens H e.request) (sym is) (answer_opens day default H e.request))
+
+-- A retire leaves what is used.
+pub retire_leaves_used : (day : ℕ → ℕ) (H : List Entry) (id id' : Id) (l : List ℕ) (d : ℕ) → used day (H ++ entry (Retire id) (Retired id') ∷ []) l d ≡ used day H l d
+retire_leaves_used day H id id' l d = omega (arith, retiring day H id id' l d, retire_settles day H id id' l d)

@@ -1,6 +1,6 @@
 -- Numbers of requests: what one more arrival does, and that a number keeps its reply.
 use Rattle.std.proofs.Common.{◌≡◌, ℕ, List, [], ◌∷◌, ◌++◌, true, false, refl, ◌∙◌, ap, sym, inl, inr, append_assoc, append-nil}
-use Rattle.std.specs.Prelude.{fold, Option, Some, None, is_some}
+use Rattle.std.specs.Prelude.{fold, ◌||◌, nat_lt, Bool, if◌then◌else◌, Option, Some, None, is_some}
 use Rattle.std.specs.List.{AllByRecursion, list_any}
 use Rattle.std.proofs.lemmas.List.{map-append}
 use Rattle.std.proofs.lemmas.List.Elements.{recursion_from_All, All-from_recursion}
@@ -9,17 +9,18 @@ use Rattle.std.proofs.lemmas.List.Sums.{fold_push}
 use Rattle.std.specs.Prelude.{All}
 use Rattle.mq_frame.specs.declared.message.Id.{Id}
 use Rattle.mq_frame.specs.declared.message.Request.{Request}
-use Rattle.mq_frame.specs.declared.message.Request.TheVariants.{Reserve, Settle, Release, Limit, Usage, List as ListRequest}
+use Rattle.mq_frame.specs.declared.message.Request.TheVariants.{Reserve, Settle, Release, Limit, Usage, List as ListRequest, Retire}
 use Rattle.mq_frame.specs.declared.message.Reply.{Reply}
+use Rattle.mq_frame.specs.declared.message.Reply.TheVariants.{Old}
 use Rattle.mq_frame.specs.Range.{IsRequest}
 use Rattle.mq_frame.specs.Same.{same_request}
 use Rattle.mq_ledger.specs.declared.entry.Entry.{Entry}
-use Rattle.mq_ledger.specs.Answer.{answer, appended, build, stored, reply, reply_to, reply_by, with_arrival, with_arrival_by, history_of}
-use Rattle.mq_ledger.specs.Arrivals.{id_of, has_id, kept_with, first}
+use Rattle.mq_ledger.specs.Answer.{answer, appended, build, stored, reply, reply_to, reply_by, known_by, with_arrival, with_arrival_by, history_of}
+use Rattle.mq_ledger.specs.Arrivals.{id_of, has_id, raised, greater, floor, is_below, kept_with, first}
 use Rattle.mq_ledger.specs.History.{requests}
 use Rattle.mq_ledger.specs.Legal.{IsLegal}
-use Rattle.mq_ledger.proofs.Basics.{either, text_itself, number_itself}
-use Rattle.mq_ledger.proofs.Transactions.{entry, id_itself}
+use Rattle.mq_ledger.proofs.Basics.{either, neither_first, neither_second, text_itself, number_itself}
+use Rattle.mq_ledger.proofs.Transactions.{entry, id_itself, floor_push, under_greater}
 
 -- First arrivals.
 
@@ -31,7 +32,7 @@ first_push A r = fold_push step [] A r
 
 first_step : (kept : List Request) (r : Request) (o : Option Id) → id_of r ≡ o → first kept ≡ kept → first (kept_with kept r o) ≡ kept_with kept r o
 first_step kept r None e h = h
-first_step kept r (Some id) e h = elim (either (list_any (has_id id) kept)) [
+first_step kept r (Some id) e h = elim (either (is_below kept id || list_any (has_id id) kept)) [
   | inl t ↦ rw t h
   | inr f ↦ rw f (first_push kept r ∙ ap (λ k. kept_with k r (id_of r)) h ∙ ap (kept_with kept r) e ∙ rw f refl)
 ]
@@ -46,7 +47,7 @@ first_first A = first_steps [] A refl
 
 kept_all : (P : Request → Type 0) (kept : List Request) (r : Request) (o : Option Id) → AllByRecursion P kept → P r → AllByRecursion P (kept_with kept r o)
 kept_all P kept r None all h = all
-kept_all P kept r (Some id) all h = elim (either (list_any (has_id id) kept)) [
+kept_all P kept r (Some id) all h = elim (either (is_below kept id || list_any (has_id id) kept)) [
   | inl t ↦ rw t all
   | inr f ↦ rw f (pushed kept all)
 ] where
@@ -105,10 +106,13 @@ one_more_by : (day : ℕ → ℕ) (default : ℕ) (A : List Request) (r : Reques
 one_more_by day default A r None = refl
 one_more_by day default A r (Some id) =
     let H : List Entry = history_of day default A in
-    let same : list_any (has_id id) (first A) ≡ is_some (stored H id) = ap (list_any (has_id id)) (sym (requests_build day default (first A))) ∙ stored_any H id in
-    elim (either (is_some (stored H id))) [
-      | inl t ↦ (let s : list_any (has_id id) (first A) ≡ true = same ∙ t in rw (s, t) refl)
-      | inr f ↦ (let s : list_any (has_id id) (first A) ≡ false = same ∙ f in rw (s, f) (build_push day default (first A) r))
+    let whole : requests H ≡ first A = requests_build day default (first A) in
+    let known : list_any (has_id id) (first A) ≡ is_some (stored H id) = ap (list_any (has_id id)) (sym whole) ∙ stored_any H id in
+    let below : is_below (first A) id ≡ is_below (requests H) id = ap (λ (rs : List Request). is_below rs id) (sym whole) in
+    let same : (is_below (first A) id || list_any (has_id id) (first A)) ≡ known_by H (Some id) = (λ i. below i || known i) in
+    elim (either (known_by H (Some id))) [
+      | inl t ↦ (let s : (is_below (first A) id || list_any (has_id id) (first A)) ≡ true = same ∙ t in rw (s, t) refl)
+      | inr f ↦ (let s : (is_below (first A) id || list_any (has_id id) (first A)) ≡ false = same ∙ f in rw (s, f) (build_push day default (first A) r))
     ]
 
 pub one_more : (day : ℕ → ℕ) (default : ℕ) (A : List Request) (r : Request) → history_of day default (A ++ r ∷ []) ≡ with_arrival day default (history_of day default A) r
@@ -128,7 +132,7 @@ stored_push H id x e h = find-append (λ e. has_id id e.request) H (e ∷ []) �
 
 stored_with_arrival : (day : ℕ → ℕ) (default : ℕ) (H : List Entry) (r : Request) (o : Option Id) (id : Id) (x : Entry) → stored H id ≡ Some x → stored (with_arrival_by day default H r o) id ≡ Some x
 stored_with_arrival day default H r None id x h = h
-stored_with_arrival day default H r (Some other) id x h = elim (either (is_some (stored H other))) [
+stored_with_arrival day default H r (Some other) id x h = elim (either (known_by H (Some other))) [
   | inl t ↦ rw t h
   | inr f ↦ rw f (stored_push H id x (entry r (answer day default H r)) h)
 ]
@@ -139,14 +143,48 @@ stored_later day default A (r ∷ B) id x h =
     let next : stored (history_of day default (A ++ r ∷ [])) id ≡ Some x = ap (λ (K : List Entry). stored K id) (one_more day default A r) ∙ stored_with_arrival day default (history_of day default A) r (id_of r) id x h in
     ap (λ (C : List Request). stored (history_of day default C) id) (sym (append_assoc A (r ∷ []) B)) ∙ stored_later day default (A ++ r ∷ []) B id x next
 
-reply_stored : (day : ℕ → ℕ) (default : ℕ) (H : List Entry) (r : Request) (id : Id) (x : Entry) → id_of r ≡ Some id → stored H id ≡ Some x → reply day default H r ≡ reply_by day default [] r id (Some x)
-reply_stored day default H r id x e h = ap (reply_to day default H r) e ∙ ap (reply_by day default H r id) h
+-- Floors rise.
 
--- the reply to a request whose number is stored stays the same
-pub stored_reply_stays : (day : ℕ → ℕ) (default : ℕ) (A B : List Request) (r : Request) (id : Id) (x : Entry) → id_of r ≡ Some id → stored (history_of day default A) id ≡ Some x → reply day default (history_of day default (A ++ B)) r ≡ reply day default (history_of day default A) r
-stored_reply_stays day default A B r id x e h =
-    reply_stored day default (history_of day default (A ++ B)) r id x e (stored_later day default A B id x h)
-    ∙ sym (reply_stored day default (history_of day default A) r id x e h)
+floor_rises : (id : Id) (kept : List Request) (r : Request) → is_below kept id ≡ true → is_below (kept ++ r ∷ []) id ≡ true
+floor_rises id kept r h = ap (nat_lt id.run) (floor_push kept r id.host) ∙ under_greater id.run (floor kept id.host) (raised id.host r) ∙ or_so (nat_lt id.run (raised id.host r)) (is_below kept id) h where
+  or_so : (a b : Bool) → b ≡ true → (a || b) ≡ true
+  or_so true b g = refl
+  or_so false b g = g
+
+pub below_step : (id : Id) (kept : List Request) (r : Request) (o : Option Id) → is_below kept id ≡ true → is_below (kept_with kept r o) id ≡ true
+below_step id kept r None h = h
+below_step id kept r (Some other) h = elim (either (is_below kept other || list_any (has_id other) kept)) [ inl t ↦ rw t h | inr f ↦ rw f (floor_rises id kept r h) ]
+
+-- a number that is retired stays so
+pub below_later : (A B : List Request) (id : Id) → is_below (first A) id ≡ true → is_below (first (A ++ B)) id ≡ true
+below_later A [] id h = ap (λ (C : List Request). is_below (first C) id) (append-nil A) ∙ h
+below_later A (r ∷ B) id h =
+    let next : is_below (first (A ++ r ∷ [])) id ≡ true = ap (λ (k : List Request). is_below k id) (first_push A r) ∙ below_step id (first A) r (id_of r) h in
+    ap (λ (C : List Request). is_below (first C) id) (sym (append_assoc A (r ∷ []) B)) ∙ below_later (A ++ r ∷ []) B id next
+
+pub not_below_before : (A B : List Request) (id : Id) → is_below (first (A ++ B)) id ≡ false → is_below (first A) id ≡ false
+not_below_before A B id h = elim (either (is_below (first A) id)) [
+  | inr f ↦ f
+  | inl t ↦ absurd (let clash : true ≡ false = sym (below_later A B id t) ∙ h in cc)
+]
+
+below_of : (day : ℕ → ℕ) (default : ℕ) (A : List Request) (id : Id) (b : Bool) → is_below (first A) id ≡ b → is_below (requests (history_of day default A)) id ≡ b
+below_of day default A id b h = ap (λ (rs : List Request). is_below rs id) (requests_build day default (first A)) ∙ h
+
+-- and gets Old
+pub reply_old : (day : ℕ → ℕ) (default : ℕ) (A B : List Request) (r : Request) (id : Id) → id_of r ≡ Some id → is_below (first A) id ≡ true → reply day default (history_of day default (A ++ B)) r ≡ Old id
+reply_old day default A B r id e h =
+    let below = below_of day default (A ++ B) id true (below_later A B id h) in
+    ap (reply_to day default (history_of day default (A ++ B)) r) e ∙ rw below refl
+
+reply_stored : (day : ℕ → ℕ) (default : ℕ) (H : List Entry) (r : Request) (id : Id) (x : Entry) → id_of r ≡ Some id → is_below (requests H) id ≡ false → stored H id ≡ Some x → reply day default H r ≡ reply_by day default [] r id (Some x)
+reply_stored day default H r id x e above h = ap (reply_to day default H r) e ∙ rw above (ap (reply_by day default H r id) h)
+
+-- the reply to a request whose number is stored stays the same until it is retired
+pub stored_reply_stays : (day : ℕ → ℕ) (default : ℕ) (A B : List Request) (r : Request) (id : Id) (x : Entry) → id_of r ≡ Some id → is_below (first (A ++ B)) id ≡ false → stored (history_of day default A) id ≡ Some x → reply day default (history_of day default (A ++ B)) r ≡ reply day default (history_of day default A) r
+stored_reply_stays day default A B r id x e above h =
+    reply_stored day default (history_of day default (A ++ B)) r id x e (below_of day default (A ++ B) id false above) (stored_later day default A B id x h)
+    ∙ sym (reply_stored day default (history_of day default A) r id x e (below_of day default A id false (not_below_before A B id above)) h)
 
 same_itself : (r : Request) → same_request r r ≡ true
 same_itself (Reserve id txn at login count) = rw (id_itself id, number_itself txn, number_itself at, text_itself login, number_itself count) refl
@@ -155,6 +193,7 @@ same_itself (Release id txn at login) = rw (id_itself id, number_itself txn, num
 same_itself (Limit id from_day c login) = rw (id_itself id, number_itself from_day, number_itself c, text_itself login) refl
 same_itself (Usage login d) = rw (text_itself login, number_itself d) refl
 same_itself (ListRequest d after) = rw (number_itself d, text_itself after) refl
+same_itself (Retire id) = id_itself id
 
 stored_new : (H : List Entry) (r : Request) (a : Reply) (id : Id) → id_of r ≡ Some id → stored H id ≡ None → stored (H ++ entry r a ∷ []) id ≡ Some (entry r a)
 stored_new H r a id e none = find-append (λ x. has_id id x.request) H (entry r a ∷ []) ∙ rw (none, e, id_itself id) refl
@@ -163,27 +202,30 @@ stored_new H r a id e none = find-append (λ x. has_id id x.request) H (entry r 
 record HasArrived (day : ℕ → ℕ) (default : ℕ) (H : List Entry) (r : Request) (id : Id) (K : List Entry) : Type 0 where
   found : Entry
   there : stored K id ≡ Some found
-  same : reply day default K r ≡ reply day default H r
+  same : is_below (requests K) id ≡ false → reply day default K r ≡ reply day default H r
 
-arrival_is_stored : (day : ℕ → ℕ) (default : ℕ) (H : List Entry) (r : Request) (id : Id) → id_of r ≡ Some id → (o : Option Entry) → stored H id ≡ o → HasArrived day default H r id (with_arrival_by day default H r (Some id))
-arrival_is_stored day default H r id e (Some x) h =
-    let P : List Entry → Type 0 = λ K. HasArrived day default H r id K in
-    rw h (record { found = x; there = h; same = refl })
-arrival_is_stored day default H r id e None h =
+arrival_is_stored : (day : ℕ → ℕ) (default : ℕ) (H : List Entry) (r : Request) (id : Id) → id_of r ≡ Some id → is_below (requests H) id ≡ false → (o : Option Entry) → stored H id ≡ o → HasArrived day default H r id (with_arrival_by day default H r (Some id))
+arrival_is_stored day default H r id e above (Some x) h =
+    rw (above, h) (record { found = x; there = h; same = λ _. refl })
+arrival_is_stored day default H r id e above None h =
     let a : Reply = answer day default H r in
     let there : stored (H ++ entry r a ∷ []) id ≡ Some (entry r a) = stored_new H r a id e h in
-    let before : reply day default H r ≡ a = ap (reply_to day default H r) e ∙ ap (reply_by day default H r id) h in
-    let now : reply day default (H ++ entry r a ∷ []) r ≡ a = reply_stored day default (H ++ entry r a ∷ []) r id (entry r a) e there ∙ rw (same_itself r) refl in
-    rw h (record { found = entry r a; there = there; same = now ∙ sym before })
+    let before : reply day default H r ≡ a = ap (reply_to day default H r) e ∙ rw above (ap (reply_by day default H r id) h) in
+    let now : is_below (requests (H ++ entry r a ∷ [])) id ≡ false → reply day default (H ++ entry r a ∷ []) r ≡ a = λ still. reply_stored day default (H ++ entry r a ∷ []) r id (entry r a) e still there ∙ rw (same_itself r) refl in
+    rw (above, h) (record { found = entry r a; there = there; same = λ still. now still ∙ sym before })
 
--- the reply to a numbered request is the same whenever it comes again
-pub reply_stays : (day : ℕ → ℕ) (default : ℕ) (A B : List Request) (r : Request) (id : Id) → id_of r ≡ Some id → reply day default (history_of day default (A ++ r ∷ B)) r ≡ reply day default (history_of day default A) r
-reply_stays day default A B r id e =
+-- the reply to a numbered request is the same whenever it comes again until it is retired
+pub reply_stays : (day : ℕ → ℕ) (default : ℕ) (A B : List Request) (r : Request) (id : Id) → id_of r ≡ Some id → is_below (first (A ++ r ∷ B)) id ≡ false → reply day default (history_of day default (A ++ r ∷ B)) r ≡ reply day default (history_of day default A) r
+reply_stays day default A B r id e above =
     let H : List Entry = history_of day default A in
+    let longer : is_below (first ((A ++ r ∷ []) ++ B)) id ≡ false = ap (λ (C : List Request). is_below (first C) id) (append_assoc A (r ∷ []) B) ∙ above in
+    let still : is_below (first (A ++ r ∷ [])) id ≡ false = not_below_before (A ++ r ∷ []) B id longer in
+    let before : is_below (first A) id ≡ false = not_below_before A (r ∷ []) id still in
     let next : history_of day default (A ++ r ∷ []) ≡ with_arrival_by day default H r (Some id) = one_more day default A r ∙ ap (with_arrival_by day default H r) e in
-    let t = arrival_is_stored day default H r id e (stored H id) refl in
+    let t = arrival_is_stored day default H r id e (below_of day default A id false before) (stored H id) refl in
     let there : stored (history_of day default (A ++ r ∷ [])) id ≡ Some t.found = ap (λ (K : List Entry). stored K id) next ∙ t.there in
+    let above_now : is_below (requests (with_arrival_by day default H r (Some id))) id ≡ false = ap (λ (K : List Entry). is_below (requests K) id) (sym next) ∙ below_of day default (A ++ r ∷ []) id false still in
     ap (λ (C : List Request). reply day default (history_of day default C) r) (sym (append_assoc A (r ∷ []) B))
-    ∙ stored_reply_stays day default (A ++ r ∷ []) B r id t.found e there
+    ∙ stored_reply_stays day default (A ++ r ∷ []) B r id t.found e longer there
     ∙ ap (λ (K : List Entry). reply day default K r) next
-    ∙ t.same
+    ∙ t.same above_now

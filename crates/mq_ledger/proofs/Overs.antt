@@ -1,6 +1,6 @@
 -- The first day with more used is the least of all days.
-use Rattle.std.proofs.Common.{◌≡◌, ℕ, ◌<◌, ◌≤◌, List, [], ◌∷◌, ◌++◌, append-nil, true, Some, None, Option, refl, ◌∙◌, ap, sym, subst, inl, inr, arith}
-use Rattle.std.specs.Prelude.{nat_lt, nat_le, filter, ◌&&◌, ◌==◌, ◌⊎◌, if◌then◌else◌}
+use Rattle.std.proofs.Common.{◌≡◌, ℕ, ◌+◌, false, ◌<◌, ◌≤◌, List, [], ◌∷◌, ◌++◌, append-nil, true, Some, None, Option, refl, ◌∙◌, ap, sym, subst, inl, inr, arith}
+use Rattle.std.specs.Prelude.{nat_lt, nat_le, Bool, filter, ◌&&◌, ◌==◌, ◌⊎◌, if◌then◌else◌}
 use Rattle.std.proofs.lemmas.Bool.Decides.{nat_tests}
 use Rattle.std.proofs.lemmas.List.Elements.{filter_map-append}
 use Rattle.mq_frame.specs.declared.message.Request.{Request}
@@ -9,7 +9,7 @@ use Rattle.mq_frame.specs.declared.message.Reply.{Reply}
 use Rattle.mq_frame.specs.declared.message.Reply.TheVariants.{Granted, Settled}
 use Rattle.mq_frame.specs.Same.{same_text}
 use Rattle.mq_ledger.specs.declared.entry.Entry.{Entry}
-use Rattle.mq_ledger.specs.History.{concerns, granted, counted, is_open, reserved_of, settled_of, reserved, used}
+use Rattle.mq_ledger.specs.History.{concerns, granted, counted, is_open, is_abandoned, reserved_of, settled_of, reserved, used}
 use Rattle.mq_ledger.specs.Over.{day_from, days_from, lesser, least, over, IsLeastOver}
 use Rattle.mq_ledger.proofs.Basics.{either, first_so, second_so, option_cases, some_none, some_is, le_or_lt, zero_or_more, number_is, In, in_filter, filter_in, in_filter_map, filter_map_in, some_part}
 
@@ -71,11 +71,19 @@ of_reserved day H l from d e le some = elim (either (concerns day l d e.request 
       adds_reserved day H l from d e.request e.reply le (first_so (concerns day l d e.request) (is_open H e.request) t) (omega (arith, is, some)))
 ]
 
-of_settled : (day : ℕ → ℕ) (l : List ℕ) (from d : ℕ) (e : Entry) → from ≤ d → 0 < settled_of day l d e → day_from day l from e.request e.reply ≡ Some d
-of_settled day l from d e le some = elim (either (concerns day l d e.request)) [
-  | inr f ↦ (let none : settled_of day l d e ≡ 0 = rw f refl in absurd (omega (arith, none, some)))
-  | inl t ↦ (let is : settled_of day l d e ≡ counted e.request e.reply = rw t refl in
-      adds_settled day l from d e.request e.reply le t (omega (arith, is, some)))
+at_most_if : (b : Bool) (n : ℕ) → (if b then n else 0) ≤ n
+at_most_if true n = omega arith
+at_most_if false n = omega arith
+
+of_settled : (day : ℕ → ℕ) (H : List Entry) (l : List ℕ) (from d : ℕ) (e : Entry) → from ≤ d → 0 < settled_of day H l d e → day_from day l from e.request e.reply ≡ Some d
+of_settled day H l from d e le some = elim (either (concerns day l d e.request)) [
+  | inr f ↦ (let none : settled_of day H l d e ≡ 0 = rw f refl in absurd (omega (arith, none, some)))
+  | inl t ↦ elim (zero_or_more (counted e.request e.reply)) [
+    | inr more ↦ adds_settled day l from d e.request e.reply le t more
+    | inl none ↦ (let is : settled_of day H l d e ≡ counted e.request e.reply + (if is_abandoned H e.request then granted e.request e.reply else 0) = rw t refl in
+        let part = at_most_if (is_abandoned H e.request) (granted e.request e.reply) in
+        adds_reserved day H l from d e.request e.reply le t (omega (arith, is, none, some, part)))
+  ]
 ]
 
 -- a day on which something is used is among the login's days
@@ -83,8 +91,8 @@ pub used_among : (day : ℕ → ℕ) (H : List Entry) (l : List ℕ) (from d : �
 used_among day H l from d le some = elim (zero_or_more (reserved day H l d)) [
   | inr more ↦ (let p = some_part (reserved_of day H l d) H more in
       in_filter_map (λ e. day_from day l from e.request e.reply) H p.at d p.among (of_reserved day H l from d p.at le p.some))
-  | inl none ↦ (let p = some_part (settled_of day l d) H (omega (arith, none, some)) in
-      in_filter_map (λ e. day_from day l from e.request e.reply) H p.at d p.among (of_settled day l from d p.at le p.some))
+  | inl none ↦ (let p = some_part (settled_of day H l d) H (omega (arith, none, some)) in
+      in_filter_map (λ e. day_from day l from e.request e.reply) H p.at d p.among (of_settled day H l from d p.at le p.some))
 ]
 
 day_from_le : (day : ℕ → ℕ) (l login : List ℕ) (from d at : ℕ) → (if same_text l login && nat_le from (day at) then Some (day at) else None) ≡ Some d → from ≤ d

@@ -7,24 +7,24 @@ use Rattle.std.proofs.lemmas.List.Elements.{recursion_from_All, All-from_recursi
 use Rattle.std.proofs.lemmas.List.{length-map}
 use Rattle.mq_frame.specs.declared.message.Id.{Id}
 use Rattle.mq_frame.specs.declared.message.Request.{Request}
-use Rattle.mq_frame.specs.declared.message.Request.TheVariants.{Reserve, Settle, Release, Limit, Usage, List as ListRequest}
+use Rattle.mq_frame.specs.declared.message.Request.TheVariants.{Reserve, Settle, Release, Limit, Usage, List as ListRequest, Retire}
 use Rattle.mq_frame.specs.declared.message.Reply.{Reply}
-use Rattle.mq_frame.specs.declared.message.Reply.TheVariants.{Granted, Full, Settled, Released, Closed, Mismatch, TooMany}
+use Rattle.mq_frame.specs.declared.message.Reply.TheVariants.{Granted, Full, Settled, Released, Closed, Mismatch, TooMany, Old}
 use Rattle.mq_frame.specs.Range.{IsRequest, IsReply, IsId, IsAmount, IsCount, IsDay, IsMoment, IsLogin, IsRow, IsPage as IsRows}
 use Rattle.mq_frame.specs.Same.{same_text, same_request}
 use Rattle.mq_ledger.specs.declared.entry.Entry.{Entry}
 use Rattle.mq_ledger.specs.Answer.{answer, appended, stored, reply, reply_to, reply_by, set_or_over}
-use Rattle.mq_ledger.specs.Arrivals.{id_of, has_id}
+use Rattle.mq_ledger.specs.Arrivals.{id_of, has_id, is_below}
 use Rattle.mq_ledger.specs.Day.{IsDayRule}
-use Rattle.mq_ledger.specs.History.{requests, transaction, Transaction, named, agrees, closed, granted_in, held, used}
+use Rattle.mq_ledger.specs.History.{requests, transaction, Transaction, named, agrees, ended, given_up, closed, granted_in, held, used}
 use Rattle.mq_ledger.specs.Legal.{IsLegal}
 use Rattle.mq_ledger.specs.Limits.{cap, cap_of, from_of, governs, limits, latest, last_cap}
 use Rattle.mq_ledger.specs.Over.{day_from, over}
 use Rattle.mq_ledger.specs.Page.{page, row, login_on}
-use Rattle.mq_ledger.proofs.Basics.{either, some_none, some_is, all_of, all_at, all_push, filter_in, filter_map_in}
+use Rattle.mq_ledger.proofs.Basics.{either, neither_second, some_none, some_is, all_of, all_at, all_push, filter_in, filter_map_in}
 use Rattle.mq_ledger.proofs.Overs.{least_in}
 use Rattle.mq_ledger.proofs.PageFacts.{page_few, in_page}
-use Rattle.mq_ledger.proofs.Transactions.{entry, transaction_itself, held_goes}
+use Rattle.mq_ledger.proofs.Transactions.{entry, transaction_itself, used_is, held_goes}
 use Rattle.mq_ledger.proofs.Within.{StaysWithin, IsGood, good_step, good_build}
 
 abbrev pub AreRequests : List Entry → Type 0
@@ -42,6 +42,7 @@ cap_of_fits (Settle id txn at login count) h = omega arith
 cap_of_fits (Release id txn at login) h = omega arith
 cap_of_fits (Usage login d) h = omega arith
 cap_of_fits (ListRequest d after) h = omega arith
+cap_of_fits (Retire id) h = omega arith
 
 last_cap_fits : (default : ℕ) (es : List Entry) → default ≤ 1000000 → AreRequests es → last_cap default es ≤ 1000000
 last_cap_fits default [] low all = low
@@ -70,8 +71,8 @@ used_fits day default H ranged l d = omega (arith, ranged.good.within l d, cap_f
 pub held_fits : (day : ℕ → ℕ) (default : ℕ) (H : List Entry) → IsRanged day default H → (id : Id) (txn at : ℕ) (login : List ℕ) → agrees at login (named H (transaction id txn)) ≡ true → closed H (transaction id txn) ≡ false → granted_in H (transaction id txn) ≤ 1000000
 held_fits day default H ranged id txn at login ok shut =
     let t : Transaction = transaction id txn in
-    let part = held_goes day H (entry (Release id txn at login) (Released id 0)) t at login (transaction_itself t) refl shut (ranged.good.uniform t at login ok) in
-    omega (arith, part, used_fits day default H ranged login (day at))
+    let part = held_goes day H (entry (Release id txn at login) (Released id 0)) t at login (transaction_itself t) refl (neither_second (given_up H t) (ended H t) shut) (ranged.good.uniform t at login ok) in
+    omega (arith, part, used_is day H login (day at), used_fits day default H ranged login (day at))
 
 -- Answers.
 
@@ -154,6 +155,7 @@ answer_range day default H ranged (Release id txn at login) h = release_range da
 answer_range day default H ranged (Limit id from c login) h = limit_range day default H ranged id from c login h.0 _ refl
 answer_range day default H ranged (Usage login d) h = (let r = row_range day default H ranged d login h.0 in (h.0, h.1, r.settled, r.reserved, r.cap))
 answer_range day default H ranged (ListRequest d after) h = (h.0, page_range day default H ranged d after)
+answer_range day default H ranged (Retire id) h = h
 
 -- Legal histories.
 
@@ -219,6 +221,7 @@ id_range (Release id' txn at login) id h e = subst IsId (some_is _ _ e) h.0
 id_range (Limit id' from_day c login) id h e = subst IsId (some_is _ _ e) h.0
 id_range (Usage login d) id h e = absurd (some_none id (sym e))
 id_range (ListRequest d after) id h e = absurd (some_none id (sym e))
+id_range (Retire id') id h e = subst IsId (some_is _ _ e) h
 
 reply_by_range : (day : ℕ → ℕ) (default : ℕ) (H : List Entry) (r : Request) (id : Id) → IsReply (answer day default H r) → IsId id → AreReplies H → (o : Option Entry) → stored H id ≡ o → IsReply (reply_by day default H r id o)
 reply_by_range day default H r id fresh number all None e = fresh
@@ -229,7 +232,10 @@ reply_by_range day default H r id fresh number all (Some x) e = elim (either (sa
 
 reply_to_range : (day : ℕ → ℕ) (default : ℕ) (H : List Entry) (r : Request) → IsReply (answer day default H r) → IsRequest r → AreReplies H → (o : Option Id) → id_of r ≡ o → IsReply (reply_to day default H r o)
 reply_to_range day default H r fresh h all None e = fresh
-reply_to_range day default H r fresh h all (Some id) e = reply_by_range day default H r id fresh (id_range r id h e) all _ refl
+reply_to_range day default H r fresh h all (Some id) e = elim (either (is_below (requests H) id)) [
+  | inl t ↦ rw t (id_range r id h e)
+  | inr f ↦ rw f (reply_by_range day default H r id fresh (id_range r id h e) all _ refl)
+]
 
 -- over a legal history every reply to a request in range is in range
 pub reply_range : (day : ℕ → ℕ) (default : ℕ) (H : List Entry) (r : Request) → IsAmount default → IsDayRule day → IsLegal day default H → IsRequest r → IsReply (reply day default H r)

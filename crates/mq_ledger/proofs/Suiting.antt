@@ -5,13 +5,13 @@ use Rattle.std.specs.List.{AllByRecursion}
 use Rattle.std.proofs.lemmas.Bool.Decides.{nat_tests}
 use Rattle.mq_frame.specs.declared.message.Id.{Id}
 use Rattle.mq_frame.specs.declared.message.Request.{Request}
-use Rattle.mq_frame.specs.declared.message.Request.TheVariants.{Reserve, Settle, Release, Limit, Usage, List as ListRequest}
+use Rattle.mq_frame.specs.declared.message.Request.TheVariants.{Reserve, Settle, Release, Limit, Usage, List as ListRequest, Retire}
 use Rattle.mq_frame.specs.declared.message.Reply.{Reply}
-use Rattle.mq_frame.specs.declared.message.Reply.TheVariants.{Granted, Full, Settled, Released, LimitSet, Closed, Mismatch, TooMany, Conflict}
+use Rattle.mq_frame.specs.declared.message.Reply.TheVariants.{Granted, Full, Settled, Released, LimitSet, Closed, Mismatch, TooMany, Conflict, Retired, Old}
 use Rattle.mq_frame.specs.Same.{same_request}
 use Rattle.mq_ledger.specs.declared.entry.Entry.{Entry}
 use Rattle.mq_ledger.specs.Answer.{if_open, granted_or_full, settled_or_too_many, set_or_over, answer, appended, stored, reply, reply_to, reply_by}
-use Rattle.mq_ledger.specs.Arrivals.{id_of, has_id}
+use Rattle.mq_ledger.specs.Arrivals.{id_of, has_id, is_below}
 use Rattle.mq_ledger.specs.History.{requests, transaction, named, agrees, closed, held, used, IsOpenTo}
 use Rattle.mq_ledger.specs.Legal.{IsLegal}
 use Rattle.mq_ledger.specs.Limits.{cap}
@@ -54,6 +54,7 @@ answer_suits day default H (Release id txn at login) = suits_if_open H (Release 
 answer_suits day default H (Limit id from c login) = suits_limit day H id from c login (over day H login from c)
 answer_suits day default H (Usage login d) = (refl, refl)
 answer_suits day default H (ListRequest d after) = refl
+answer_suits day default H (Retire id) = refl
 
 abbrev pub AreSuited : List Entry → Type 0
 AreSuited H = AllByRecursion (λ e. Suits e.request e.reply) H
@@ -79,6 +80,16 @@ conflict_suits (Release id' txn at login) id e = sym (some_is _ _ e)
 conflict_suits (Limit id' from c login) id e = sym (some_is _ _ e)
 conflict_suits (Usage login d) id e = absurd (some_none id (sym e))
 conflict_suits (ListRequest d after) id e = absurd (some_none id (sym e))
+conflict_suits (Retire id') id e = sym (some_is _ _ e)
+
+old_suits : (r : Request) (id : Id) → id_of r ≡ Some id → Suits r (Old id)
+old_suits (Reserve id' txn at login count) id e = sym (some_is _ _ e)
+old_suits (Settle id' txn at login count) id e = sym (some_is _ _ e)
+old_suits (Release id' txn at login) id e = sym (some_is _ _ e)
+old_suits (Limit id' from c login) id e = sym (some_is _ _ e)
+old_suits (Usage login d) id e = absurd (some_none id (sym e))
+old_suits (ListRequest d after) id e = absurd (some_none id (sym e))
+old_suits (Retire id') id e = sym (some_is _ _ e)
 
 -- the test of two requests finds equal ones
 abbrev pub FindsSame : Type 0
@@ -93,7 +104,10 @@ reply_by_suits finds day default H r id all e (Some x) h = elim (either (same_re
 
 reply_to_suits : FindsSame → (day : ℕ → ℕ) (default : ℕ) (H : List Entry) (r : Request) → AreSuited H → (o : Option Id) → id_of r ≡ o → Suits r (reply_to day default H r o)
 reply_to_suits finds day default H r all None e = answer_suits day default H r
-reply_to_suits finds day default H r all (Some id) e = reply_by_suits finds day default H r id all e (stored H id) refl
+reply_to_suits finds day default H r all (Some id) e = elim (either (is_below (requests H) id)) [
+  | inl t ↦ rw t (old_suits r id e)
+  | inr f ↦ rw f (reply_by_suits finds day default H r id all e (stored H id) refl)
+]
 
 pub reply_suits : FindsSame → (day : ℕ → ℕ) (default : ℕ) (H : List Entry) (r : Request) → IsLegal day default H → Suits r (reply day default H r)
 reply_suits finds day default H r legal = reply_to_suits finds day default H r (legal_suited day default H legal) (id_of r) refl
@@ -108,6 +122,8 @@ abbrev pub Opens : List Entry → Request → Reply → Type 0
 Opens H (Reserve id txn at login count) (Granted id' n) = IsOpenTo at login H (transaction id txn)
 Opens H (Settle id txn at login count) (Settled id' n) = IsSettledOf H id txn at login count
 Opens H (Release id txn at login) (Released id' n) = IsOpenTo at login H (transaction id txn)
+Opens H (Retire id) (Retired id') = Unit {0}
+Opens H (Retire id) _ = ⊥
 Opens H _ _ = Unit {0}
 
 opens_reserve : (H : List Entry) (id : Id) (txn at : ℕ) (login : List ℕ) (count n limit : ℕ) → (b : Bool) → agrees at login (named H (transaction id txn)) ≡ b → (s : Bool) → closed H (transaction id txn) ≡ s → (f : Bool) →
@@ -148,3 +164,4 @@ answer_opens day default H (Release id txn at login) = opens_release H id txn at
 answer_opens day default H (Limit id from c login) = opens_limit day H id from c login (over day H login from c)
 answer_opens day default H (Usage login d) = tt
 answer_opens day default H (ListRequest d after) = tt
+answer_opens day default H (Retire id) = tt

@@ -4,33 +4,25 @@ use Rattle.std.specs.Prelude.{if◌then◌else◌, sum_by, fold, ◌&&◌, ◌||
 use Rattle.std.specs.List.{AllByRecursion, list_any}
 use Rattle.std.proofs.lemmas.List.Sums.{sum_by-cons}
 use Rattle.mq_frame.specs.declared.message.Request.{Request}
-use Rattle.mq_frame.specs.declared.message.Request.TheVariants.{Reserve, Settle, Release, Limit, Usage, List as ListRequest}
+use Rattle.mq_frame.specs.declared.message.Request.TheVariants.{Reserve, Settle, Release, Limit, Usage, List as ListRequest, Retire}
 use Rattle.mq_frame.specs.declared.message.Reply.{Reply}
 use Rattle.mq_frame.specs.declared.message.Reply.TheVariants.{Granted, Settled}
 use Rattle.mq_frame.specs.Range.{IsAmount}
 use Rattle.mq_frame.specs.Same.{same_text}
 use Rattle.mq_ledger.specs.declared.entry.Entry.{Entry}
 use Rattle.mq_ledger.specs.Answer.{answer, appended}
-use Rattle.mq_ledger.specs.History.{requests, Transaction, transaction, same_transaction, is_of, is_at, closed, named, agrees, granted, counted, granted_in, held, settled_in, concerns, is_open, reserved_of, settled_of, reserved, settled, used}
+use Rattle.mq_ledger.specs.History.{requests, Transaction, transaction, same_transaction, is_of, is_at, ended, given_up, closed, abandoned, named, agrees, granted, counted, granted_in, counted_in, held, settled_in, concerns, is_open, is_abandoned, reserved_of, settled_of, reserved, settled, used}
 use Rattle.mq_ledger.specs.Day.{IsDayRule}
 use Rattle.mq_ledger.specs.Legal.{IsLegal}
 use Rattle.mq_ledger.specs.Limits.{cap}
 use Rattle.mq_ledger.specs.Page.{is_login, login_on, has_reserve}
 use Rattle.mq_ledger.specs.Sums.{is_for, names_for, held_on, settled_on, AreDistinct, HasAllNamed}
-use Rattle.mq_ledger.proofs.Basics.{either, both_so, first_so, second_so, option_cases, some_none, some_is, zero_or_more, text_is, text_itself, number_is, number_itself, In, all_of, all_at, always, sums_le, sums_are, sum_of_none, sum_if, sums_swap, some_part}
-use Rattle.mq_ledger.proofs.Entries.{counted_of, granted_in_push, settled_in_push, open_settled, unheard_held}
+use Rattle.mq_ledger.proofs.Basics.{either, both_so, first_so, second_so, neither_first, neither_second, option_cases, some_none, some_is, zero_or_more, text_is, text_itself, number_is, number_itself, In, all_of, all_at, always, sums_le, sums_are, two_sums_are, sum_of_none, sum_if, sums_swap, some_part}
+use Rattle.mq_ledger.proofs.Entries.{counted_of, granted_in_push, counted_in_push, unended_counted, unheard_held, unheard_settled}
 use Rattle.mq_ledger.proofs.Freeing.{of_another, concerned, nothing_either_way}
 use Rattle.mq_ledger.proofs.Ranges.{legal_good, legal_ranged, used_fits, cap_fits}
 use Rattle.mq_ledger.proofs.Suiting.{Opens, answer_opens}
 use Rattle.mq_ledger.proofs.Transactions.{entry, transaction_is, transaction_itself, moved, held_of, IsUniformAt, IsUniform}
-
-neither_first : (a b : Bool) → (a || b) ≡ false → a ≡ false
-neither_first true b h = cc
-neither_first false b h = refl
-
-neither_second : (a b : Bool) → (a || b) ≡ false → b ≡ false
-neither_second true b h = cc
-neither_second false b h = h
 
 -- Values of entries, told apart by the transaction.
 
@@ -138,6 +130,7 @@ place_of day t (Release id txn at login) mine = record { at = at; login = login;
 place_of day t (Limit id from c login) mine = cc
 place_of day t (Usage login d) mine = cc
 place_of day t (ListRequest d after) mine = cc
+place_of day t (Retire id) mine = cc
 
 -- What a transaction holds on its login's day, by entries.
 
@@ -173,28 +166,54 @@ held_cells day H l d uniform t = elim (option_cases (named H t)) [
       left ∙ sym (held_if H t n) ∙ sym (right ∙ sum_if (n && not (closed H t)) (held_of t) H))
 ]
 
-settled_cell : (day : ℕ → ℕ) (l : List ℕ) (d : ℕ) (t : Transaction) (at : ℕ) (login : List ℕ) (x : Entry) → IsUniformAt t at login x →
-    cell (settled_of day l d) t x ≡ (if same_text l login && (day at == d) then counted_of t x else 0)
-settled_cell day l d t at login x uniform = elim (either (is_of t x.request)) [
-  | inr other ↦ rw other (sym (nothing_either_way (same_text l login && (day at == d)) 0 refl))
-  | inl mine ↦ elim (zero_or_more (counted x.request x.reply)) [
-    | inl none ↦ rw (mine, none) (nothing_either_way (concerns day l d x.request) 0 refl ∙ sym (nothing_either_way (same_text l login && (day at == d)) 0 refl))
-    | inr some ↦ (let c = concerned day at login x.request x.reply (omega (arith, some)) (uniform mine (omega (arith, some))) l d in
-        rw (mine, c) refl)
+-- a granted reserve of the transaction is abandoned with it
+abandoned_mine : (H : List Entry) (t : Transaction) (r : Request) (a : Reply) → is_of t r ≡ true → (if is_abandoned H r then granted r a else 0) ≡ (if abandoned H t then granted r a else 0)
+abandoned_mine H t (Reserve id txn at login count) a mine = (let same = transaction_is t (transaction id txn) mine in ap (λ (u : Transaction). if abandoned H u then granted (Reserve id txn at login count) a else 0) (sym same))
+abandoned_mine H t (Settle id txn at login count) a mine = sym (nothing_either_way (abandoned H t) 0 refl)
+abandoned_mine H t (Release id txn at login) a mine = sym (nothing_either_way (abandoned H t) 0 refl)
+abandoned_mine H t (Limit id from c login) a mine = cc
+abandoned_mine H t (Usage login d) a mine = cc
+abandoned_mine H t (ListRequest d after) a mine = cc
+abandoned_mine H t (Retire id) a mine = cc
+
+nothing_at_all : (c b : Bool) (k g : ℕ) → k ≡ 0 → g ≡ 0 → (if c then k + (if b then g else 0) else 0) ≡ 0
+nothing_at_all true true k g h j = omega (arith, h, j)
+nothing_at_all true false k g h j = omega (arith, h)
+nothing_at_all false b k g h j = refl
+
+settled_cell : (day : ℕ → ℕ) (H : List Entry) (l : List ℕ) (d : ℕ) (t : Transaction) (at : ℕ) (login : List ℕ) (x : Entry) → IsUniformAt t at login x →
+    cell (settled_of day H l d) t x ≡ (if same_text l login && (day at == d) then counted_of t x + (if abandoned H t then held_of t x else 0) else 0)
+settled_cell day H l d t at login x uniform = elim (either (is_of t x.request)) [
+  | inr other ↦ rw other (sym (nothing_at_all (same_text l login && (day at == d)) (abandoned H t) 0 0 refl refl))
+  | inl mine ↦ elim (zero_or_more (moved x.request x.reply)) [
+    | inl none ↦ (let k : counted x.request x.reply ≡ 0 = omega (arith, none) in
+        let g : granted x.request x.reply ≡ 0 = omega (arith, none) in
+        rw mine (nothing_at_all (concerns day l d x.request) (is_abandoned H x.request) (counted x.request x.reply) (granted x.request x.reply) k g
+        ∙ sym (nothing_at_all (same_text l login && (day at == d)) (abandoned H t) (counted x.request x.reply) (granted x.request x.reply) k g)))
+    | inr some ↦ (let c = concerned day at login x.request x.reply some (uniform mine some) l d in
+        rw (mine, c, abandoned_mine H t x.request x.reply mine) refl)
   ]
 ]
 
-settled_cells : (day : ℕ → ℕ) (H : List Entry) (l : List ℕ) (d : ℕ) → IsUniform H → (t : Transaction) → settled_on day H l d t ≡ sum_by (cell (settled_of day l d) t) H
+-- what a transaction settled, by its entries
+settled_sum : (H : List Entry) (t : Transaction) (n : Bool) → sum_by (λ x. if n then counted_of t x + (if abandoned H t then held_of t x else 0) else 0) H ≡ (if n then settled_in H t else 0)
+settled_sum H t n =
+    let part = sum_if (abandoned H t) (held_of t) H in
+    let both = two_sums_are (λ _. Unit {0}) (counted_of t) (λ x. if abandoned H t then held_of t x else 0) (λ x. counted_of t x + (if abandoned H t then held_of t x else 0)) (λ x _. refl) H (always H) in
+    let whole : sum_by (λ x. counted_of t x + (if abandoned H t then held_of t x else 0)) H ≡ settled_in H t = omega (arith, part, both) in
+    sum_if n (λ x. counted_of t x + (if abandoned H t then held_of t x else 0)) H ∙ ap (λ m. if n then m else 0) whole
+
+settled_cells : (day : ℕ → ℕ) (H : List Entry) (l : List ℕ) (d : ℕ) → IsUniform H → (t : Transaction) → settled_on day H l d t ≡ sum_by (cell (settled_of day H l d) t) H
 settled_cells day H l d uniform t = elim (option_cases (named H t)) [
   | inl none ↦ (let left : settled_on day H l d t ≡ 0 = rw none refl in
-      let right = sums_are (IsAnother t) (cell (settled_of day l d) t) (λ _. 0) (λ x other. rw other refl) H (unheard_others H t none) in
+      let right = sums_are (IsAnother t) (cell (settled_of day H l d) t) (λ _. 0) (λ x other. rw other refl) H (unheard_others H t none) in
       left ∙ sym (right ∙ sum_of_none H))
   | inr p ↦ (let place = place_of day t p.0.request (named_mine H t p.0 p.1) in
       let agreed : agrees place.at place.login (named H t) ≡ true = rw p.1 place.here in
       let n : Bool = same_text l place.login && (day place.at == d) in
       let left : settled_on day H l d t ≡ (if n then settled_in H t else 0) = rw (p.1, place.for l d) refl in
-      let right = sums_are (IsUniformAt t place.at place.login) (cell (settled_of day l d) t) (λ x. if n then counted_of t x else 0) (settled_cell day l d t place.at place.login) H (uniform t place.at place.login agreed) in
-      left ∙ sym (right ∙ sum_if n (counted_of t) H))
+      let right = sums_are (IsUniformAt t place.at place.login) (cell (settled_of day H l d) t) (λ x. if n then counted_of t x + (if abandoned H t then held_of t x else 0) else 0) (settled_cell day H l d t place.at place.login) H (uniform t place.at place.login agreed) in
+      left ∙ sym (right ∙ settled_sum H t n))
 ]
 
 -- an entry that grants or settles is of a transaction
@@ -216,8 +235,8 @@ all_count v H ts none_of has = all_of (CountsIn v ts) H (λ x i. (elim (zero_or_
 reserved_none : (day : ℕ → ℕ) (H : List Entry) (l : List ℕ) (d : ℕ) (x : Entry) → moved x.request x.reply ≡ 0 → reserved_of day H l d x ≡ 0
 reserved_none day H l d x none = nothing_either_way (concerns day l d x.request && is_open H x.request) (granted x.request x.reply) (omega (arith, none))
 
-settled_none : (day : ℕ → ℕ) (l : List ℕ) (d : ℕ) (x : Entry) → moved x.request x.reply ≡ 0 → settled_of day l d x ≡ 0
-settled_none day l d x none = nothing_either_way (concerns day l d x.request) (counted x.request x.reply) (omega (arith, none))
+settled_none : (day : ℕ → ℕ) (H : List Entry) (l : List ℕ) (d : ℕ) (x : Entry) → moved x.request x.reply ≡ 0 → settled_of day H l d x ≡ 0
+settled_none day H l d x none = nothing_at_all (concerns day l d x.request) (is_abandoned H x.request) (counted x.request x.reply) (granted x.request x.reply) (omega (arith, none)) (omega (arith, none))
 
 -- The sums.
 
@@ -225,13 +244,13 @@ pub held_at_most : (day : ℕ → ℕ) (default : ℕ) (H : List Entry) (l : Lis
 held_at_most day default H l d ts legal = together_at_most (held_on day H l d) (reserved_of day H l d) H (held_cells day H l d (legal_good day default H legal).uniform) ts
 
 pub settled_at_most : (day : ℕ → ℕ) (default : ℕ) (H : List Entry) (l : List ℕ) (d : ℕ) (ts : List Transaction) → IsLegal day default H → AreDistinct ts → sum_by (settled_on day H l d) ts ≤ settled day H l d
-settled_at_most day default H l d ts legal = together_at_most (settled_on day H l d) (settled_of day l d) H (settled_cells day H l d (legal_good day default H legal).uniform) ts
+settled_at_most day default H l d ts legal = together_at_most (settled_on day H l d) (settled_of day H l d) H (settled_cells day H l d (legal_good day default H legal).uniform) ts
 
 pub held_by_all : (day : ℕ → ℕ) (default : ℕ) (H : List Entry) (l : List ℕ) (d : ℕ) (ts : List Transaction) → IsLegal day default H → AreDistinct ts → HasAllNamed H ts → sum_by (held_on day H l d) ts ≡ reserved day H l d
 held_by_all day default H l d ts legal distinct has = together_all (held_on day H l d) (reserved_of day H l d) H (held_cells day H l d (legal_good day default H legal).uniform) ts distinct (all_count (reserved_of day H l d) H ts (reserved_none day H l d) has)
 
 pub settled_by_all : (day : ℕ → ℕ) (default : ℕ) (H : List Entry) (l : List ℕ) (d : ℕ) (ts : List Transaction) → IsLegal day default H → AreDistinct ts → HasAllNamed H ts → sum_by (settled_on day H l d) ts ≡ settled day H l d
-settled_by_all day default H l d ts legal distinct has = together_all (settled_on day H l d) (settled_of day l d) H (settled_cells day H l d (legal_good day default H legal).uniform) ts distinct (all_count (settled_of day l d) H ts (settled_none day l d) has)
+settled_by_all day default H l d ts legal distinct has = together_all (settled_on day H l d) (settled_of day H l d) H (settled_cells day H l d (legal_good day default H legal).uniform) ts distinct (all_count (settled_of day H l d) H ts (settled_none day H l d) has)
 
 -- One transaction.
 
@@ -247,6 +266,7 @@ for_at day at login t (Release id txn at' login') mine here = same_place day at 
 for_at day at login t (Limit id from c login') mine here = cc
 for_at day at login t (Usage login' d) mine here = cc
 for_at day at login t (ListRequest d after) mine here = cc
+for_at day at login t (Retire id) mine here = cc
 
 named_for : (day : ℕ → ℕ) (H : List Entry) (t : Transaction) (at : ℕ) (login : List ℕ) (y : Entry) → named H t ≡ Some y → agrees at login (named H t) ≡ true → names_for day login (day at) (named H t) ≡ true
 named_for day H t at login y is agreed = (let here : is_at at login y.request ≡ true = rw is at agreed in
@@ -261,15 +281,12 @@ held_is_reserved day default H t at login legal agreed = elim (option_cases (nam
       omega (arith, is, less, held_cells day H login (day at) (legal_good day default H legal).uniform t))
 ]
 
-unheard_settled : (H : List Entry) (t : Transaction) → named H t ≡ None → settled_in H t ≡ 0
-unheard_settled H t none = sums_are (IsAnother t) (counted_of t) (λ _. 0) (λ x other. rw other refl) H (unheard_others H t none) ∙ sum_of_none H
-
 pub settled_is_settled : (day : ℕ → ℕ) (default : ℕ) (H : List Entry) (t : Transaction) (at : ℕ) (login : List ℕ) → IsLegal day default H → agrees at login (named H t) ≡ true → settled_in H t ≤ settled day H login (day at)
 settled_is_settled day default H t at login legal agreed = elim (option_cases (named H t)) [
   | inl none ↦ omega (arith, unheard_settled H t none)
   | inr p ↦ (let here = named_for day H t at login p.0 p.1 agreed in
       let is : settled_on day H login (day at) t ≡ settled_in H t = rw here refl in
-      let less = sums_le (λ _. Unit {0}) (cell (settled_of day login (day at)) t) (settled_of day login (day at)) (λ x _. cell_le (settled_of day login (day at)) t x) H (always H) in
+      let less = sums_le (λ _. Unit {0}) (cell (settled_of day H login (day at)) t) (settled_of day H login (day at)) (λ x _. cell_le (settled_of day H login (day at)) t x) H (always H) in
       omega (arith, is, less, settled_cells day H login (day at) (legal_good day default H legal).uniform t))
 ]
 
@@ -304,17 +321,17 @@ reserved_of_none day H l d x none = elim (zero_or_more (granted x.request x.repl
 pub none_reserved : (day : ℕ → ℕ) (H : List Entry) (l : List ℕ) (d : ℕ) → has_reserve day H d l ≡ false → reserved day H l d ≡ 0
 none_reserved day H l d h = sums_are (HasNone day l d) (reserved_of day H l d) (λ _. 0) (reserved_of_none day H l d) H (all_none day H l d h) ∙ sum_of_none H
 
--- what a transaction settled it was granted
+-- what a transaction was settled with it was granted
 abbrev IsBacked : List Entry → Type 0
-IsBacked H = (t : Transaction) → settled_in H t ≤ granted_in H t
+IsBacked H = (t : Transaction) → counted_in H t ≤ granted_in H t
 
-backed_settle : (H : List Entry) (t u : Transaction) (e : Entry) (count : ℕ) → settled_in H t ≤ granted_in H t → u ≡ t → closed H t ≡ false → count ≤ held H t → counted_of u e ≤ count → settled_in (H ++ e ∷ []) u ≤ granted_in (H ++ e ∷ []) u
+backed_settle : (H : List Entry) (t u : Transaction) (e : Entry) (count : ℕ) → counted_in H t ≤ granted_in H t → u ≡ t → closed H t ≡ false → count ≤ held H t → counted_of u e ≤ count → counted_in (H ++ e ∷ []) u ≤ granted_in (H ++ e ∷ []) u
 backed_settle H t u e count backed same not_shut enough own =
-    let P : Transaction → Type 0 = λ w. settled_in H w ≡ 0 in
-    let zero_settled : settled_in H u ≡ 0 = subst P (sym same) (open_settled H t not_shut) in
+    let P : Transaction → Type 0 = λ w. counted_in H w ≡ 0 in
+    let zero_settled : counted_in H u ≡ 0 = subst P (sym same) (unended_counted H t (neither_second (given_up H t) (ended H t) not_shut)) in
     let Q : Transaction → Type 0 = λ w. count ≤ granted_in H w in
     let have : count ≤ granted_in H u = subst Q (sym same) (rw not_shut at enough) in
-    omega (arith, own, zero_settled, have, settled_in_push H e u, granted_in_push H e u)
+    omega (arith, own, zero_settled, have, counted_in_push H e u, granted_in_push H e u)
 
 backed_push : (H : List Entry) (r : Request) (a : Reply) → Opens H r a → IsBacked H → IsBacked (H ++ entry r a ∷ [])
 backed_push H (Settle id txn at login count) (Settled id' n) o backed = λ u.
@@ -322,11 +339,11 @@ backed_push H (Settle id txn at login count) (Settled id' n) o backed = λ u.
     let t : Transaction = transaction id txn in
     elim (either (same_transaction u t)) [
       | inl same ↦ backed_settle H t u e count (backed t) (transaction_is u t same) o.0.open_still o.1 (rw same (omega arith))
-      | inr apart ↦ (let own : counted_of u e ≡ 0 = rw apart refl in omega (arith, own, backed u, settled_in_push H e u, granted_in_push H e u))
+      | inr apart ↦ (let own : counted_of u e ≡ 0 = rw apart refl in omega (arith, own, backed u, counted_in_push H e u, granted_in_push H e u))
     ]
 backed_push H r a o backed = λ u.
     let own : counted_of u (entry r a) ≡ 0 = nothing_either_way (is_of u r) 0 refl in
-    omega (arith, own, backed u, settled_in_push H (entry r a) u, granted_in_push H (entry r a) u)
+    omega (arith, own, backed u, counted_in_push H (entry r a) u, granted_in_push H (entry r a) u)
 
 backed_all : (day : ℕ → ℕ) (default : ℕ) (H : List Entry) (rs : List Request) → IsBacked H → IsBacked (fold (appended day default) H rs)
 backed_all day default H [] backed = backed
@@ -367,11 +384,16 @@ settled_has day H l d uniform backed all x i some here =
 pub none_settled : (day : ℕ → ℕ) (default : ℕ) (H : List Entry) (l : List ℕ) (d : ℕ) → IsLegal day default H → has_reserve day H d l ≡ false → settled day H l d ≡ 0
 none_settled day default H l d legal h = elim (zero_or_more (settled day H l d)) [
   | inl none ↦ none
-  | inr some ↦ (let part = some_part (settled_of day l d) H some in
+  | inr some ↦ (let part = some_part (settled_of day H l d) H some in
       absurd (elim (either (concerns day l d part.at.request)) [
-        | inr f ↦ (let zero_settled : settled_of day l d part.at ≡ 0 = rw f refl in omega (arith, zero_settled, part.some))
-        | inl t ↦ (let is : settled_of day l d part.at ≡ counted part.at.request part.at.reply = rw t refl in
-            settled_has day H l d (legal_good day default H legal).uniform (legal_backed day default H legal) (all_none day H l d h) part.at part.among (omega (arith, is, part.some)) t)
+        | inr f ↦ (let zero_settled : settled_of day H l d part.at ≡ 0 = rw f refl in omega (arith, zero_settled, part.some))
+        | inl t ↦ elim (zero_or_more (counted part.at.request part.at.reply)) [
+          | inr own ↦ settled_has day H l d (legal_good day default H legal).uniform (legal_backed day default H legal) (all_none day H l d h) part.at part.among own t
+          | inl no_own ↦ elim (zero_or_more (granted part.at.request part.at.reply)) [
+            | inr own ↦ (let clash : true ≡ false = sym t ∙ none_concerns day l d part.at (all_at (HasNone day l d) H part.at (all_none day H l d h) part.among) own in cc)
+            | inl no_grant ↦ (let zero_settled = nothing_at_all (concerns day l d part.at.request) (is_abandoned H part.at.request) (counted part.at.request part.at.reply) (granted part.at.request part.at.reply) no_own no_grant in omega (arith, zero_settled, part.some))
+          ]
+        ]
       ]))
 ]
 

@@ -1,18 +1,22 @@
 -- What one more entry does to the transactions of a history.
 use Rattle.std.proofs.Common.{◌≡◌, ℕ, ◌+◌, ◌<◌, ◌≤◌, List, [], ◌∷◌, ◌++◌, true, false, refl, ◌∙◌, ap, sym, subst, inl, inr, arith}
-use Rattle.std.specs.Prelude.{if◌then◌else◌, sum_by, ◌&&◌, ◌||◌, ◌==◌, not, Some, None}
+use Rattle.std.specs.Prelude.{if◌then◌else◌, sum_by, fold, ◌&&◌, ◌||◌, ◌==◌, not, nat_lt, Bool, Some, None}
 use Rattle.std.specs.Option.{option_or}
 use Rattle.std.specs.List.{AllByRecursion}
+use Rattle.std.proofs.lemmas.Bool.Decides.{nat_tests}
+use Rattle.std.proofs.lemmas.List.{map-append}
 use Rattle.std.proofs.lemmas.List.Folds.{list_any-append, find-append}
+use Rattle.std.proofs.lemmas.List.Sums.{fold_push}
 use Rattle.mq_frame.specs.declared.message.Id.{Id}
 use Rattle.mq_frame.specs.declared.message.Request.{Request}
-use Rattle.mq_frame.specs.declared.message.Request.TheVariants.{Reserve, Settle, Release, Limit, Usage, List as ListRequest}
+use Rattle.mq_frame.specs.declared.message.Request.TheVariants.{Reserve, Settle, Release, Limit, Usage, List as ListRequest, Retire}
 use Rattle.mq_frame.specs.declared.message.Reply.{Reply}
 use Rattle.mq_frame.specs.declared.message.Reply.TheVariants.{Granted, Settled}
 use Rattle.mq_frame.specs.Same.{same_text, same_id}
 use Rattle.mq_ledger.specs.declared.entry.Entry.{Entry}
-use Rattle.mq_ledger.specs.History.{Transaction, transaction, same_transaction, is_of, is_at, closes, closed, named, agrees, granted, granted_in, counted, concerns, is_open, reserved_of, reserved}
-use Rattle.mq_ledger.proofs.Basics.{either, first_so, second_so, both_so, option_cases, zero_or_more, text_is, text_itself, number_is, number_itself, all_push, always, sums_le, two_sums_le}
+use Rattle.mq_ledger.specs.Arrivals.{raised, greater, floor}
+use Rattle.mq_ledger.specs.History.{requests, Transaction, transaction, same_transaction, is_of, is_at, closes, ended, given_up, gives_up, closed, abandoned, named, agrees, granted, granted_in, counted, concerns, is_open, is_abandoned, reserved_of, reserved, settled_of, settled, used}
+use Rattle.mq_ledger.proofs.Basics.{either, first_so, second_so, both_so, option_cases, zero_or_more, text_is, text_itself, number_is, number_itself, all_push, always, sums_le, two_sums_le, two_sums_are}
 
 abbrev pub entry : Request → Reply → Entry
 entry r a = record { request = r; reply = a }
@@ -41,30 +45,120 @@ id_itself a = rw (text_itself a.host, number_itself a.run, number_itself a.seq) 
 
 -- One more entry.
 
-pub closed_push : (H : List Entry) (e : Entry) (t : Transaction) → closed (H ++ e ∷ []) t ≡ (closed H t || (is_of t e.request && closes e.reply))
-closed_push H e t = grind (arith, list_any-append (λ x. is_of t x.request && closes x.reply) H (e ∷ []))
+pub ended_push : (H : List Entry) (e : Entry) (t : Transaction) → ended (H ++ e ∷ []) t ≡ (ended H t || (is_of t e.request && closes e.reply))
+ended_push H e t = grind (arith, list_any-append (λ x. is_of t x.request && closes x.reply) H (e ∷ []))
+
+pub floor_push : (rs : List Request) (r : Request) (h : List ℕ) → floor (rs ++ r ∷ []) h ≡ greater (floor rs h) (raised h r)
+unfolding floor
+floor_push rs r h = fold_push (λ n x. greater n (raised h x)) 0 rs r
+
+pub floor_none : (h : List ℕ) → floor [] h ≡ 0
+unfolding floor
+floor_none h = refl
+
+-- a number is less than the greater of two where it is less than one of them
+pub under_greater : (n a b : ℕ) → nat_lt n (greater a b) ≡ (nat_lt n b || nat_lt n a)
+under_greater n a b = grind (arith, nat_tests)
+
+-- the floor passes a run where the request raises it so far
+under_none : (m : ℕ) → nat_lt m 0 ≡ false
+under_none m = grind (arith, nat_tests)
+
+under_if : (b : Bool) (m n : ℕ) → nat_lt m (if b then n else 0) ≡ (b && nat_lt m n)
+under_if true m n = refl
+under_if false m n = under_none m
+
+under_raised : (t : Transaction) (r : Request) → nat_lt t.run (raised t.host r) ≡ gives_up r t
+under_raised t (Retire id) = under_if (same_text t.host id.host) t.run id.run
+under_raised t (Reserve id txn at login count) = under_none t.run
+under_raised t (Settle id txn at login count) = under_none t.run
+under_raised t (Release id txn at login) = under_none t.run
+under_raised t (Limit id from c login) = under_none t.run
+under_raised t (Usage login d) = under_none t.run
+under_raised t (ListRequest d after) = under_none t.run
+
+pub given_up_push : (H : List Entry) (e : Entry) (t : Transaction) → given_up (H ++ e ∷ []) t ≡ (gives_up e.request t || given_up H t)
+given_up_push H e t =
+    ap (λ (rs : List Request). nat_lt t.run (floor rs t.host)) (map-append (λ (x : Entry). x.request) H (e ∷ []))
+    ∙ ap (nat_lt t.run) (floor_push (requests H) e.request t.host)
+    ∙ under_greater t.run (floor (requests H) t.host) (raised t.host e.request)
+    ∙ ap (λ b. b || given_up H t) (under_raised t e.request)
+
+regroup : (p g n c : Bool) → ((p || g) || (n || c)) ≡ (p || ((g || n) || c))
+regroup true g n c = refl
+regroup false true n c = refl
+regroup false false n c = refl
+
+pub closed_push : (H : List Entry) (e : Entry) (t : Transaction) → closed (H ++ e ∷ []) t ≡ (gives_up e.request t || (closed H t || (is_of t e.request && closes e.reply)))
+closed_push H e t = rw (given_up_push H e t, ended_push H e t) (regroup (gives_up e.request t) (given_up H t) (ended H t) (is_of t e.request && closes e.reply))
 
 pub named_push : (H : List Entry) (e : Entry) (t : Transaction) → named (H ++ e ∷ []) t ≡ option_or (named H t) (if is_of t e.request then Some e else None)
 named_push H e t = find-append (λ x. is_of t x.request) H (e ∷ [])
 
-open_before : (H : List Entry) (e : Entry) (r : Request) → is_open (H ++ e ∷ []) r ≡ true → is_open H r ≡ true
-open_before H e (Reserve id txn at login count) h = grind (arith, closed_push H e (transaction id txn))
-open_before H e (Settle id txn at login count) h = h
-open_before H e (Release id txn at login) h = h
-open_before H e (Limit id from_day c login) h = h
-open_before H e (Usage login d) h = h
-open_before H e (ListRequest d after) h = h
+-- What is used doesn't see a retire: it is what was granted to transactions that were neither settled nor released,
+-- and what was settled by a settle.
 
--- an entry more never reserves more of what stood before
-reserved_of_falls : (day : ℕ → ℕ) (H : List Entry) (e : Entry) (l : List ℕ) (d : ℕ) (x : Entry) → reserved_of day (H ++ e ∷ []) l d x ≤ reserved_of day H l d x
-reserved_of_falls day H e l d x =
-    elim (either (is_open (H ++ e ∷ []) x.request)) [
-      | inl t ↦ (let u = open_before H e x.request t in rw (t, u) (omega arith))
+-- the request is a reserve whose transaction was neither settled nor released in H
+abbrev pub is_unended : List Entry → Request → Bool
+is_unended H (Reserve id txn at login count) = not (ended H (transaction id txn))
+is_unended H _ = false
+
+abbrev pub unended_of : (ℕ → ℕ) → List Entry → List ℕ → ℕ → Entry → ℕ
+unended_of day H l d e = if concerns day l d e.request && is_unended H e.request then granted e.request e.reply else 0
+
+abbrev pub counted_for : (ℕ → ℕ) → List ℕ → ℕ → Entry → ℕ
+counted_for day l d e = if concerns day l d e.request then counted e.request e.reply else 0
+
+abbrev pub unended : (ℕ → ℕ) → List Entry → List ℕ → ℕ → ℕ
+unended day H l d = sum_by (unended_of day H l d) H
+
+abbrev pub counted_on : (ℕ → ℕ) → List Entry → List ℕ → ℕ → ℕ
+counted_on day H l d = sum_by (counted_for day l d) H
+
+split : (c g n : Bool) (a k : ℕ) → (if c && not (g || n) then a else 0) + (if c then k + (if g && not n then a else 0) else 0) ≡ (if c && not n then a else 0) + (if c then k else 0)
+split false g n a k = refl
+split true true true a k = omega arith
+split true true false a k = omega arith
+split true false true a k = omega arith
+split true false false a k = omega arith
+
+used_by : (day : ℕ → ℕ) (H : List Entry) (l : List ℕ) (d : ℕ) (r : Request) (a : Reply) → reserved_of day H l d (entry r a) + settled_of day H l d (entry r a) ≡ unended_of day H l d (entry r a) + counted_for day l d (entry r a)
+used_by day H l d (Reserve id txn at login count) a =
+    let t : Transaction = transaction id txn in
+    split (same_text l login && (day at == d)) (given_up H t) (ended H t) (granted (Reserve id txn at login count) a) (counted (Reserve id txn at login count) a)
+used_by day H l d (Settle id txn at login count) a = split (same_text l login && (day at == d)) false true (granted (Settle id txn at login count) a) (counted (Settle id txn at login count) a)
+used_by day H l d (Release id txn at login) a = refl
+used_by day H l d (Limit id from c login) a = refl
+used_by day H l d (Usage login d') a = refl
+used_by day H l d (ListRequest d' after) a = refl
+used_by day H l d (Retire id) a = refl
+
+pub used_is : (day : ℕ → ℕ) (H : List Entry) (l : List ℕ) (d : ℕ) → used day H l d ≡ unended day H l d + counted_on day H l d
+used_is day H l d =
+    let each : (x : Entry) → Unit {0} → reserved_of day H l d x + settled_of day H l d x ≡ unended_of day H l d x + counted_for day l d x = λ x _. used_by day H l d x.request x.reply in
+    let left = two_sums_are (λ _. Unit {0}) (reserved_of day H l d) (settled_of day H l d) (λ x. unended_of day H l d x + counted_for day l d x) each H (always H) in
+    let right = two_sums_are (λ _. Unit {0}) (unended_of day H l d) (counted_for day l d) (λ x. unended_of day H l d x + counted_for day l d x) (λ x _. refl) H (always H) in
+    left ∙ sym right
+
+unended_before : (H : List Entry) (e : Entry) (r : Request) → is_unended (H ++ e ∷ []) r ≡ true → is_unended H r ≡ true
+unended_before H e (Reserve id txn at login count) h = grind (arith, ended_push H e (transaction id txn))
+unended_before H e (Settle id txn at login count) h = h
+unended_before H e (Release id txn at login) h = h
+unended_before H e (Limit id from_day c login) h = h
+unended_before H e (Usage login d) h = h
+unended_before H e (ListRequest d after) h = h
+unended_before H e (Retire id) h = h
+
+-- an entry more never leaves more of what stood before
+unended_of_falls : (day : ℕ → ℕ) (H : List Entry) (e : Entry) (l : List ℕ) (d : ℕ) (x : Entry) → unended_of day (H ++ e ∷ []) l d x ≤ unended_of day H l d x
+unended_of_falls day H e l d x =
+    elim (either (is_unended (H ++ e ∷ []) x.request)) [
+      | inl t ↦ (let u = unended_before H e x.request t in rw (t, u) (omega arith))
       | inr f ↦ grind (arith, f)
     ]
 
-pub reserved_falls : (day : ℕ → ℕ) (H : List Entry) (e : Entry) (l : List ℕ) (d : ℕ) → sum_by (reserved_of day (H ++ e ∷ []) l d) H ≤ reserved day H l d
-reserved_falls day H e l d = sums_le (λ _. Unit {0}) (reserved_of day (H ++ e ∷ []) l d) (reserved_of day H l d) (λ x _. reserved_of_falls day H e l d x) H (always H)
+pub unended_falls : (day : ℕ → ℕ) (H : List Entry) (e : Entry) (l : List ℕ) (d : ℕ) → sum_by (unended_of day (H ++ e ∷ []) l d) H ≤ unended day H l d
+unended_falls day H e l d = sums_le (λ _. Unit {0}) (unended_of day (H ++ e ∷ []) l d) (unended_of day H l d) (λ x _. unended_of_falls day H e l d x) H (always H)
 
 -- Each granted reserve and each settled settle has its transaction's login and moment.
 
@@ -91,6 +185,7 @@ one_place a b l m (Release id txn at login) h g = both_at a b at l m login h g
 one_place a b l m (Limit id from c login) h g = cc
 one_place a b l m (Usage login d) h g = cc
 one_place a b l m (ListRequest d after) h g = cc
+one_place a b l m (Retire id) h g = cc
 
 -- what a granted reserve and a settled settle were checked for
 abbrev pub IsAgreed : List Entry → Request → Reply → Type 0
@@ -121,15 +216,27 @@ uniform_push H e agreed h = λ t at login ok.
           all_push (IsUniformAt t at login) H e (h t at login (rw p.1 here)) (λ mine some. new_is_uniform H t at login p.0 p.1 here e.request e.reply agreed mine some))
     ]
 
--- What a transaction holds was reserved, and is so no more once it is closed.
+-- What a transaction was granted was used by it, and is so no more once it is settled or released.
 
 record Goes (day : ℕ → ℕ) (H : List Entry) (e : Entry) (at : ℕ) (login : List ℕ) (r : Request) : Type 0 where
   concerns : concerns day login (day at) r ≡ true
-  before : is_open H r ≡ true
-  after : is_open (H ++ e ∷ []) r ≡ false
+  before : is_unended H r ≡ true
+  after : is_unended (H ++ e ∷ []) r ≡ false
+
+ended_now : (H : List Entry) (e : Entry) (t u : Transaction) → t ≡ u → is_of t e.request ≡ true → closes e.reply ≡ true → not (ended (H ++ e ∷ []) u) ≡ false
+ended_now H e t u same mine closing = let P : Transaction → Type 0 = λ v. not (ended (H ++ e ∷ []) v) ≡ false in subst P same (grind (arith, ended_push H e t, mine, closing))
+
+unended_then : (H : List Entry) (t u : Transaction) → t ≡ u → ended H t ≡ false → not (ended H u) ≡ true
+unended_then H t u same f = let P : Transaction → Type 0 = λ v. not (ended H v) ≡ true in subst P same (ap not f)
+
+or_true : (a b : Bool) → b ≡ true → (a || b) ≡ true
+or_true true b h = refl
+or_true false b h = h
 
 pub closed_now : (H : List Entry) (e : Entry) (t u : Transaction) → t ≡ u → is_of t e.request ≡ true → closes e.reply ≡ true → not (closed (H ++ e ∷ []) u) ≡ false
-closed_now H e t u same mine closing = let P : Transaction → Type 0 = λ v. not (closed (H ++ e ∷ []) v) ≡ false in subst P same (grind (arith, closed_push H e t, mine, closing))
+closed_now H e t u same mine closing =
+    let shut : closed (H ++ e ∷ []) t ≡ true = or_true (given_up (H ++ e ∷ []) t) (ended (H ++ e ∷ []) t) (ended_push H e t ∙ or_true (ended H t) (is_of t e.request && closes e.reply) (both_so (is_of t e.request) (closes e.reply) mine closing)) in
+    let P : Transaction → Type 0 = λ v. not (closed (H ++ e ∷ []) v) ≡ false in subst P same (ap not shut)
 
 pub open_then : (H : List Entry) (t u : Transaction) → t ≡ u → closed H t ≡ false → not (closed H u) ≡ true
 open_then H t u same f = let P : Transaction → Type 0 = λ v. not (closed H v) ≡ true in subst P same (ap not f)
@@ -137,30 +244,30 @@ open_then H t u same f = let P : Transaction → Type 0 = λ v. not (closed H v)
 same_day : (day : ℕ → ℕ) (a b : ℕ) → (a == b) ≡ true → (day b == day a) ≡ true
 same_day day a b h = let e = number_is a b h in rw e (number_itself (day b))
 
-goes : (day : ℕ → ℕ) (H : List Entry) (e : Entry) (t : Transaction) (at : ℕ) (login : List ℕ) → is_of t e.request ≡ true → closes e.reply ≡ true → closed H t ≡ false → (r : Request) (a : Reply) → is_of t r ≡ true → 0 < granted r a → is_at at login r ≡ true → Goes day H e at login r
+goes : (day : ℕ → ℕ) (H : List Entry) (e : Entry) (t : Transaction) (at : ℕ) (login : List ℕ) → is_of t e.request ≡ true → closes e.reply ≡ true → ended H t ≡ false → (r : Request) (a : Reply) → is_of t r ≡ true → 0 < granted r a → is_at at login r ≡ true → Goes day H e at login r
 goes day H e t at login mine closing shut (Reserve id txn at' login' count) (Granted id' n) of some here = record {
   concerns = both_so (same_text login login') (day at' == day at) (second_so (at == at') (same_text login login') here) (same_day day at at' (first_so (at == at') (same_text login login') here));
-  before = open_then H t (transaction id txn) (transaction_is t (transaction id txn) of) shut;
-  after = closed_now H e t (transaction id txn) (transaction_is t (transaction id txn) of) mine closing;
+  before = unended_then H t (transaction id txn) (transaction_is t (transaction id txn) of) shut;
+  after = ended_now H e t (transaction id txn) (transaction_is t (transaction id txn) of) mine closing;
 }
 goes day H e t at login mine closing shut r a of some here = absurd (omega arith)
 
 abbrev pub held_of : Transaction → Entry → ℕ
 held_of t x = if is_of t x.request then granted x.request x.reply else 0
 
-held_goes_at : (day : ℕ → ℕ) (H : List Entry) (e : Entry) (t : Transaction) (at : ℕ) (login : List ℕ) → is_of t e.request ≡ true → closes e.reply ≡ true → closed H t ≡ false → (x : Entry) → IsUniformAt t at login x →
-    reserved_of day (H ++ e ∷ []) login (day at) x + held_of t x ≤ reserved_of day H login (day at) x
+held_goes_at : (day : ℕ → ℕ) (H : List Entry) (e : Entry) (t : Transaction) (at : ℕ) (login : List ℕ) → is_of t e.request ≡ true → closes e.reply ≡ true → ended H t ≡ false → (x : Entry) → IsUniformAt t at login x →
+    unended_of day (H ++ e ∷ []) login (day at) x + held_of t x ≤ unended_of day H login (day at) x
 held_goes_at day H e t at login mine closing shut x uniform =
     elim (either (is_of t x.request)) [
-      | inr f ↦ (let falls = reserved_of_falls day H e login (day at) x in rw f (omega (arith, falls)))
+      | inr f ↦ (let falls = unended_of_falls day H e login (day at) x in rw f (omega (arith, falls)))
       | inl of ↦ elim (zero_or_more (granted x.request x.reply)) [
         | inl none ↦ grind (arith, none)
         | inr some ↦ (let g = goes day H e t at login mine closing shut x.request x.reply of some (uniform of (omega (arith, some))) in rw (of, g.concerns, g.after, g.before) (omega arith))
       ]
     ]
 
--- what is held of a transaction that the entry closes was reserved for its login and day
-pub held_goes : (day : ℕ → ℕ) (H : List Entry) (e : Entry) (t : Transaction) (at : ℕ) (login : List ℕ) → is_of t e.request ≡ true → closes e.reply ≡ true → closed H t ≡ false → AllByRecursion (IsUniformAt t at login) H →
-    sum_by (reserved_of day (H ++ e ∷ []) login (day at)) H + granted_in H t ≤ reserved day H login (day at)
+-- what was granted to a transaction that the entry settles or releases was used on its login and day
+pub held_goes : (day : ℕ → ℕ) (H : List Entry) (e : Entry) (t : Transaction) (at : ℕ) (login : List ℕ) → is_of t e.request ≡ true → closes e.reply ≡ true → ended H t ≡ false → AllByRecursion (IsUniformAt t at login) H →
+    sum_by (unended_of day (H ++ e ∷ []) login (day at)) H + granted_in H t ≤ unended day H login (day at)
 held_goes day H e t at login mine closing shut uniform =
-    two_sums_le (IsUniformAt t at login) (reserved_of day (H ++ e ∷ []) login (day at)) (held_of t) (reserved_of day H login (day at)) (held_goes_at day H e t at login mine closing shut) H uniform
+    two_sums_le (IsUniformAt t at login) (unended_of day (H ++ e ∷ []) login (day at)) (held_of t) (unended_of day H login (day at)) (held_goes_at day H e t at login mine closing shut) H uniform

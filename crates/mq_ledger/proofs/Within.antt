@@ -6,37 +6,37 @@ use Rattle.std.proofs.lemmas.Bool.Decides.{nat_tests}
 use Rattle.std.proofs.lemmas.List.Sums.{sum_by_push}
 use Rattle.mq_frame.specs.declared.message.Id.{Id}
 use Rattle.mq_frame.specs.declared.message.Request.{Request}
-use Rattle.mq_frame.specs.declared.message.Request.TheVariants.{Reserve, Settle, Release, Limit, Usage, List as ListRequest}
+use Rattle.mq_frame.specs.declared.message.Request.TheVariants.{Reserve, Settle, Release, Limit, Usage, List as ListRequest, Retire}
 use Rattle.mq_frame.specs.declared.message.Reply.{Reply}
 use Rattle.mq_frame.specs.declared.message.Reply.TheVariants.{Granted, Full, Settled, Released, LimitSet, Closed, Mismatch, TooMany}
 use Rattle.mq_frame.specs.Same.{same_text}
 use Rattle.mq_ledger.specs.declared.entry.Entry.{Entry}
 use Rattle.mq_ledger.specs.Answer.{set_or_over, appended, build}
-use Rattle.mq_ledger.specs.History.{Transaction, transaction, closed, named, agrees, granted, granted_in, counted, held, reserved_of, settled_of, reserved, settled, used}
+use Rattle.mq_ledger.specs.History.{Transaction, transaction, ended, given_up, closed, named, agrees, granted, granted_in, counted, held, used}
 use Rattle.mq_ledger.specs.Limits.{governs, latest, limits, cap}
 use Rattle.mq_ledger.specs.Over.{over}
-use Rattle.mq_ledger.proofs.Basics.{either, first_so, second_so, le_or_lt, text_is, number_is}
+use Rattle.mq_ledger.proofs.Basics.{either, first_so, second_so, neither_second, le_or_lt, text_is, number_is}
 use Rattle.mq_ledger.proofs.LimitFacts.{cap_push_other, cap_push_newer, cap_push_older}
 use Rattle.mq_ledger.proofs.Overs.{over_least}
-use Rattle.mq_ledger.proofs.Transactions.{entry, transaction_itself, reserved_falls, IsUniformAt, IsUniform, IsAgreed, uniform_push, held_goes}
+use Rattle.mq_ledger.proofs.Transactions.{entry, transaction_itself, unended_of, counted_for, unended, counted_on, used_is, unended_falls, IsUniformAt, IsUniform, IsAgreed, uniform_push, held_goes}
 
 -- The law, entry by entry.
 
 unfoldable pub StaysWithin : (ℕ → ℕ) → ℕ → List Entry → Type 0
 StaysWithin day default H = (l : List ℕ) (d : ℕ) → used day H l d ≤ cap default H l d
 
-settled_push : (day : ℕ → ℕ) (H : List Entry) (e : Entry) (l : List ℕ) (d : ℕ) → settled day (H ++ e ∷ []) l d ≡ settled day H l d + settled_of day l d e
-settled_push day H e l d = sum_by_push (settled_of day l d) H e
+counted_push : (day : ℕ → ℕ) (H : List Entry) (e : Entry) (l : List ℕ) (d : ℕ) → counted_on day (H ++ e ∷ []) l d ≡ counted_on day H l d + counted_for day l d e
+counted_push day H e l d = sum_by_push (counted_for day l d) H e
 
-reserved_push : (day : ℕ → ℕ) (H : List Entry) (e : Entry) (l : List ℕ) (d : ℕ) → reserved day (H ++ e ∷ []) l d ≡ sum_by (reserved_of day (H ++ e ∷ []) l d) H + reserved_of day (H ++ e ∷ []) l d e
-reserved_push day H e l d = sum_by_push (reserved_of day (H ++ e ∷ []) l d) H e
+unended_push : (day : ℕ → ℕ) (H : List Entry) (e : Entry) (l : List ℕ) (d : ℕ) → unended day (H ++ e ∷ []) l d ≡ sum_by (unended_of day (H ++ e ∷ []) l d) H + unended_of day (H ++ e ∷ []) l d e
+unended_push day H e l d = sum_by_push (unended_of day (H ++ e ∷ []) l d) H e
 
 -- an entry that neither grants nor settles uses no more
 used_quiet : (day : ℕ → ℕ) (H : List Entry) (e : Entry) → granted e.request e.reply ≡ 0 → counted e.request e.reply ≡ 0 → (l : List ℕ) (d : ℕ) → used day (H ++ e ∷ []) l d ≤ used day H l d
 used_quiet day H e g s l d =
-    let none : reserved_of day (H ++ e ∷ []) l d e ≡ 0 = grind (arith, g) in
-    let zero : settled_of day l d e ≡ 0 = grind (arith, s) in
-    omega (arith, none, zero, settled_push day H e l d, reserved_push day H e l d, reserved_falls day H e l d)
+    let none : unended_of day (H ++ e ∷ []) l d e ≡ 0 = grind (arith, g) in
+    let zero : counted_for day l d e ≡ 0 = grind (arith, s) in
+    omega (arith, none, zero, used_is day H l d, used_is day (H ++ e ∷ []) l d, counted_push day H e l d, unended_push day H e l d, unended_falls day H e l d)
 
 within_quiet : (day : ℕ → ℕ) (default : ℕ) (H : List Entry) (e : Entry) → granted e.request e.reply ≡ 0 → counted e.request e.reply ≡ 0 → ((l : List ℕ) (d : ℕ) → governs l d e ≡ false) → StaysWithin day default H → StaysWithin day default (H ++ e ∷ [])
 unfolding StaysWithin
@@ -59,29 +59,29 @@ unfolding StaysWithin
 within_granted day default H id id' txn at login count n room h = λ l d.
     let e : Entry = entry (Reserve id txn at login count) (Granted id' n) in
     let same : cap default (H ++ e ∷ []) l d ≡ cap default H l d = cap_push_other default H l d e refl in
-    let own : reserved_of day (H ++ e ∷ []) l d e ≤ (if same_text l login && (day at == d) then count else 0) = at_most_there (same_text l login && (day at == d)) count (not (closed (H ++ e ∷ []) (transaction id txn))) in
-    let zero : settled_of day l d e ≡ 0 = grind arith in
-    let more : used day (H ++ e ∷ []) l d ≤ used day H l d + (if same_text l login && (day at == d) then count else 0) = omega (arith, own, zero, settled_push day H e l d, reserved_push day H e l d, reserved_falls day H e l d) in
+    let own : unended_of day (H ++ e ∷ []) l d e ≤ (if same_text l login && (day at == d) then count else 0) = at_most_there (same_text l login && (day at == d)) count (not (ended (H ++ e ∷ []) (transaction id txn))) in
+    let zero : counted_for day l d e ≡ 0 = grind arith in
+    let more : used day (H ++ e ∷ []) l d ≤ used day H l d + (if same_text l login && (day at == d) then count else 0) = omega (arith, own, zero, used_is day H l d, used_is day (H ++ e ∷ []) l d, counted_push day H e l d, unended_push day H e l d, unended_falls day H e l d) in
     elim (there_or_not day login l at d) [
       | inl f ↦ (let less : used day (H ++ e ∷ []) l d ≤ used day H l d + 0 = rw f at more in omega (arith, less, same, h l d))
       | inr p ↦ (let room' : used day H l d + count ≤ cap default H l d = (let P : List ℕ → ℕ → Type 0 = λ m k. used day H m k + count ≤ cap default H m k in subst (λ m. P m d) (sym p.0) (subst (λ k. P login k) (sym p.1) room)) in
           let part : (if same_text l login && (day at == d) then count else 0) ≤ count = grind arith in omega (arith, more, same, room', part))
     ]
 
--- a settled settle counts no more than what it takes from what was reserved
-within_settled : (day : ℕ → ℕ) (default : ℕ) (H : List Entry) (id id' : Id) (txn at : ℕ) (login : List ℕ) (count n : ℕ) → AllByRecursion (IsUniformAt (transaction id txn) at login) H → closed H (transaction id txn) ≡ false → count ≤ granted_in H (transaction id txn) → StaysWithin day default H → StaysWithin day default (H ++ entry (Settle id txn at login count) (Settled id' n) ∷ [])
+-- a settled settle counts no more than what it takes from what was granted
+within_settled : (day : ℕ → ℕ) (default : ℕ) (H : List Entry) (id id' : Id) (txn at : ℕ) (login : List ℕ) (count n : ℕ) → AllByRecursion (IsUniformAt (transaction id txn) at login) H → ended H (transaction id txn) ≡ false → count ≤ granted_in H (transaction id txn) → StaysWithin day default H → StaysWithin day default (H ++ entry (Settle id txn at login count) (Settled id' n) ∷ [])
 unfolding StaysWithin
 within_settled day default H id id' txn at login count n uniform shut enough h = λ l d.
     let e : Entry = entry (Settle id txn at login count) (Settled id' n) in
     let t : Transaction = transaction id txn in
     let same : cap default (H ++ e ∷ []) l d ≡ cap default H l d = cap_push_other default H l d e refl in
-    let zero : reserved_of day (H ++ e ∷ []) l d e ≡ 0 = grind arith in
+    let zero : unended_of day (H ++ e ∷ []) l d e ≡ 0 = grind arith in
     elim (there_or_not day login l at d) [
-      | inl f ↦ (let none : settled_of day l d e ≡ 0 = grind (arith, f) in omega (arith, none, zero, same, h l d, settled_push day H e l d, reserved_push day H e l d, reserved_falls day H e l d))
+      | inl f ↦ (let none : counted_for day l d e ≡ 0 = grind (arith, f) in omega (arith, none, zero, same, h l d, used_is day H l d, used_is day (H ++ e ∷ []) l d, counted_push day H e l d, unended_push day H e l d, unended_falls day H e l d))
       | inr p ↦ (let gone = held_goes day H e t at login (transaction_itself t) refl shut uniform in
-          let gone' : sum_by (reserved_of day (H ++ e ∷ []) l d) H + granted_in H t ≤ reserved day H l d = (let P : List ℕ → ℕ → Type 0 = λ m k. sum_by (reserved_of day (H ++ e ∷ []) m k) H + granted_in H t ≤ reserved day H m k in subst (λ m. P m d) (sym p.0) (subst (λ k. P login k) (sym p.1) gone)) in
-          let part : settled_of day l d e ≤ count = grind arith in
-          omega (arith, part, zero, same, gone', h l d, settled_push day H e l d, reserved_push day H e l d))
+          let gone' : sum_by (unended_of day (H ++ e ∷ []) l d) H + granted_in H t ≤ unended day H l d = (let P : List ℕ → ℕ → Type 0 = λ m k. sum_by (unended_of day (H ++ e ∷ []) m k) H + granted_in H t ≤ unended day H m k in subst (λ m. P m d) (sym p.0) (subst (λ k. P login k) (sym p.1) gone)) in
+          let part : counted_for day l d e ≤ count = grind arith in
+          omega (arith, part, zero, same, gone', h l d, used_is day H l d, used_is day (H ++ e ∷ []) l d, counted_push day H e l d, unended_push day H e l d))
     ]
 
 -- a limit is set only where no day that it will govern has more used
@@ -136,7 +136,7 @@ good_settle day default H id txn at login count good true eb false es false ef =
     let have : held H t ≡ granted_in H t = rw es refl in
     let enough : count ≤ held H t = grind (arith, nat_tests, ef) in
     record {
-      within = within_settled day default H id id txn at login count count (good.uniform t at login eb) es (omega (arith, have, enough)) good.within;
+      within = within_settled day default H id id txn at login count count (good.uniform t at login eb) (neither_second (given_up H t) (ended H t) es) (omega (arith, have, enough)) good.within;
       uniform = uniform_push H (entry (Settle id txn at login count) (Settled id count)) eb good.uniform;
     }
 
@@ -161,6 +161,7 @@ good_step day default H (Release id txn at login) good = good_release day defaul
 good_step day default H (Limit id from c login) good = good_limit day default H id from c login good _ refl
 good_step day default H (Usage login d) good = good_quiet day default H _ _ refl refl (λ l d. refl) tt good
 good_step day default H (ListRequest d after) good = good_quiet day default H _ _ refl refl (λ l d. refl) tt good
+good_step day default H (Retire id) good = good_quiet day default H _ _ refl refl (λ l d. refl) tt good
 
 good_steps : (day : ℕ → ℕ) (default : ℕ) (H : List Entry) (rs : List Request) → IsGood day default H → IsGood day default (fold (appended day default) H rs)
 good_steps day default H [] good = good

@@ -1,20 +1,20 @@
 -- What a ledger answers, and the history that its answers make.
 --
 -- `day` gives the day of a moment, and `default` the limit of a login that has none.
-use Rattle.std.specs.Prelude.{ℕ, ◌+◌, List, [], ◌∷◌, ◌++◌, map, find, fold, not, nat_lt, if◌then◌else◌, Option, Some}
-use Rattle.std.specs.Prelude.{None, is_some}
+use Rattle.std.specs.Prelude.{ℕ, ◌+◌, List, [], ◌∷◌, ◌++◌, map, find, fold, Bool, false, not, ◌||◌, nat_lt, if◌then◌else◌}
+use Rattle.std.specs.Prelude.{Option, Some, None, is_some}
 use Rattle.mq_frame.specs.declared.message.Id.{Id}
 use Rattle.mq_frame.specs.declared.message.Request.{Request}
 use Rattle.mq_frame.specs.declared.message.Request.TheVariants.{Reserve, Settle, Release, Limit, Usage}
-use Rattle.mq_frame.specs.declared.message.Request.TheVariants.{List as ListRequest}
+use Rattle.mq_frame.specs.declared.message.Request.TheVariants.{List as ListRequest, Retire}
 use Rattle.mq_frame.specs.declared.message.Reply.{Reply}
 use Rattle.mq_frame.specs.declared.message.Reply.TheVariants.{Granted, Full, Settled, Released, LimitSet, Over, Closed}
 use Rattle.mq_frame.specs.declared.message.Reply.TheVariants.{Mismatch, TooMany, Conflict, Usage as UsageReply}
-use Rattle.mq_frame.specs.declared.message.Reply.TheVariants.{List as ListReply}
+use Rattle.mq_frame.specs.declared.message.Reply.TheVariants.{List as ListReply, Retired, Old}
 use Rattle.mq_frame.specs.Same.{same_request}
 use Rattle.mq_ledger.specs.declared.entry.Entry.{Entry}
-use Rattle.mq_ledger.specs.Arrivals.{id_of, has_id, first}
-use Rattle.mq_ledger.specs.History.{transaction, named, agrees, closed, held, settled, reserved, used}
+use Rattle.mq_ledger.specs.Arrivals.{id_of, has_id, is_below, first}
+use Rattle.mq_ledger.specs.History.{requests, transaction, named, agrees, closed, held, settled, reserved, used}
 use Rattle.mq_ledger.specs.Limits.{cap}
 use Rattle.mq_ledger.specs.Over.{over}
 use Rattle.mq_ledger.specs.Page.{page, row}
@@ -53,6 +53,7 @@ answer day default H (Usage login d) =
     UsageReply login d (settled day H login d) (reserved day H login d) (cap default H login d)
 answer day default H (ListRequest d after) =
     ListReply d (map (row day default H d) (page day H d after))
+answer day default H (Retire id) = Retired id
 
 -- H and the request with its answer
 abbrev pub appended : (ℕ → ℕ) → ℕ → List Entry → Request → List Entry
@@ -77,19 +78,27 @@ abbrev pub reply_by : (ℕ → ℕ) → ℕ → List Entry → Request → Id �
 reply_by day default H r id None = answer day default H r
 reply_by day default H r id (Some e) = if same_request r e.request then e.reply else Conflict id
 
--- the same, by the number of the request
+-- the same, by the number of the request: Old where its run is below the floor
 abbrev pub reply_to : (ℕ → ℕ) → ℕ → List Entry → Request → Option Id → Reply
 reply_to day default H r None = answer day default H r
-reply_to day default H r (Some id) = reply_by day default H r id (stored H id)
+reply_to day default H r (Some id) =
+    if is_below (requests H) id then Old id else reply_by day default H r id (stored H id)
 
 -- the reply to a request, over a history
 abbrev pub reply : (ℕ → ℕ) → ℕ → List Entry → Request → Reply
 reply day default H r = reply_to day default H r (id_of r)
 
--- H after an arrival: a request whose number isn't in H stands behind it, with its answer
+-- an arrival of that number isn't answered anew: its run is below the floor, or it is stored
+abbrev pub known_by : List Entry → Option Id → Bool
+known_by H None = false
+known_by H (Some id) = is_below (requests H) id || is_some (stored H id)
+
+-- H after an arrival: a request whose run isn't below the floor and whose number isn't in H stands behind it, with
+-- its answer
 abbrev pub with_arrival_by : (ℕ → ℕ) → ℕ → List Entry → Request → Option Id → List Entry
 with_arrival_by day default H r None = H
-with_arrival_by day default H r (Some id) = if is_some (stored H id) then H else appended day default H r
+with_arrival_by day default H r (Some id) =
+    if is_below (requests H) id || is_some (stored H id) then H else appended day default H r
 
 -- the same, by the number of the request
 abbrev pub with_arrival : (ℕ → ℕ) → ℕ → List Entry → Request → List Entry

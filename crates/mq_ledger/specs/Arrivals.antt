@@ -1,11 +1,12 @@
--- Numbered requests, and the first arrival of each number.
-use Rattle.std.specs.Prelude.{List, [], ◌∷◌, ◌++◌, fold, Bool, false, not, if◌then◌else◌, Option, Some, None}
+-- Numbered requests, the floors of hosts, and the first arrival of each number that isn't below them.
+use Rattle.std.specs.Prelude.{ℕ, List, [], ◌∷◌, ◌++◌, fold, Bool, false, not, ◌||◌, nat_lt, if◌then◌else◌}
+use Rattle.std.specs.Prelude.{Option, Some, None}
 use Rattle.std.specs.List.{list_any}
 use Rattle.mq_frame.specs.declared.message.Id.{Id}
 use Rattle.mq_frame.specs.declared.message.Request.{Request}
 use Rattle.mq_frame.specs.declared.message.Request.TheVariants.{Reserve, Settle, Release, Limit, Usage}
-use Rattle.mq_frame.specs.declared.message.Request.TheVariants.{List as ListRequest}
-use Rattle.mq_frame.specs.Same.{same_id}
+use Rattle.mq_frame.specs.declared.message.Request.TheVariants.{List as ListRequest, Retire}
+use Rattle.mq_frame.specs.Same.{same_text, same_id}
 
 -- the number of a request: usage and list have none
 abbrev pub id_of : Request → Option Id
@@ -15,6 +16,7 @@ id_of (Release id txn at login) = Some id
 id_of (Limit id from_day cap login) = Some id
 id_of (Usage login day) = None
 id_of (ListRequest day after) = None
+id_of (Retire id) = Some id
 
 -- the number is there and is that one
 abbrev pub is_id : Id → Option Id → Bool
@@ -25,20 +27,38 @@ is_id id (Some other) = same_id id other
 abbrev pub has_id : Id → Request → Bool
 has_id id r = is_id id (id_of r)
 
--- those kept, with the request behind them where it is numbered and none of them has its number
+-- the run to which a request raises the floor of a host: a retire of that host its own run
+abbrev pub raised : List ℕ → Request → ℕ
+raised h (Retire id) = if same_text h id.host then id.run else 0
+raised h _ = 0
+
+abbrev pub greater : ℕ → ℕ → ℕ
+greater a b = if nat_lt a b then b else a
+
+-- the floor of a host: the greatest run of its retires, 0 where there is none
+unfoldable pub floor : List Request → List ℕ → ℕ
+floor rs h = fold (λ n r. greater n (raised h r)) 0 rs
+
+-- the run of the number is below the floor of its host: it is retired
+abbrev pub is_below : List Request → Id → Bool
+is_below rs id = nat_lt id.run (floor rs id.host)
+
+-- those kept, with the request behind them where it is numbered, its run isn't below the floor that they give its
+-- host, and none of them has its number
 abbrev pub kept_with : List Request → Request → Option Id → List Request
 kept_with kept r None = kept
-kept_with kept r (Some id) = if list_any (has_id id) kept then kept else kept ++ r ∷ []
+kept_with kept r (Some id) = if is_below kept id || list_any (has_id id) kept then kept else kept ++ r ∷ []
 
--- the numbered requests, without each whose number an earlier one has
+-- the numbered requests, without each whose run is below the floor by those kept before it, or whose number one of
+-- them has
 abbrev pub first : List Request → List Request
 first arrivals = fold (λ kept r. kept_with kept r (id_of r)) [] arrivals
 
--- by the number of an arrival: it is there, and no earlier arrival has it
+-- by the number of an arrival: it is there, its run isn't below the floor, and no earlier arrival has it
 abbrev pub is_first_by : List Request → Option Id → Bool
 is_first_by earlier None = false
-is_first_by earlier (Some id) = not (list_any (has_id id) earlier)
+is_first_by earlier (Some id) = not (is_below (first earlier) id || list_any (has_id id) earlier)
 
--- an arrival is numbered, and no earlier one has its number
+-- an arrival is numbered, its run isn't retired, and no earlier one has its number
 abbrev pub is_first : List Request → Request → Bool
 is_first earlier r = is_first_by earlier (id_of r)

@@ -2,17 +2,18 @@
 --
 -- A history is a list of entries, oldest first: numbered requests, each with its reply. `day` gives
 -- the day of a moment.
-use Rattle.std.specs.Prelude.{◌≡◌, ℕ, ◌+◌, List, map, find, sum_by, Bool, true, false, ◌==◌, ◌&&◌, not, if◌then◌else◌}
-use Rattle.std.specs.Prelude.{Option, Some, None}
+use Rattle.std.specs.Prelude.{◌≡◌, ℕ, ◌+◌, List, map, find, sum_by, Bool, true, false, ◌==◌, ◌&&◌, ◌||◌, not, nat_lt}
+use Rattle.std.specs.Prelude.{if◌then◌else◌, Option, Some, None}
 use Rattle.std.specs.List.{list_any}
 use Rattle.mq_frame.specs.declared.message.Id.{Id}
 use Rattle.mq_frame.specs.declared.message.Request.{Request}
 use Rattle.mq_frame.specs.declared.message.Request.TheVariants.{Reserve, Settle, Release, Limit, Usage}
-use Rattle.mq_frame.specs.declared.message.Request.TheVariants.{List as ListRequest}
+use Rattle.mq_frame.specs.declared.message.Request.TheVariants.{List as ListRequest, Retire}
 use Rattle.mq_frame.specs.declared.message.Reply.{Reply}
-use Rattle.mq_frame.specs.declared.message.Reply.TheVariants.{Granted, Settled, Released}
+use Rattle.mq_frame.specs.declared.message.Reply.TheVariants.{Granted, Settled, Released, Retired}
 use Rattle.mq_frame.specs.Same.{same_text}
 use Rattle.mq_ledger.specs.declared.entry.Entry.{Entry}
+use Rattle.mq_ledger.specs.Arrivals.{floor}
 
 -- the requests of a history
 abbrev pub requests : List Entry → List Request
@@ -40,6 +41,7 @@ is_of t (Release id txn at login) = same_transaction t (transaction id txn)
 is_of t (Limit id from_day cap login) = false
 is_of t (Usage login day) = false
 is_of t (ListRequest day after) = false
+is_of t (Retire id) = false
 
 -- the request is a reserve, settle or release of that moment and login
 abbrev pub is_at : ℕ → List ℕ → Request → Bool
@@ -49,6 +51,7 @@ is_at at login (Release id txn at' login') = (at == at') && same_text login logi
 is_at at login (Limit id from_day cap login') = false
 is_at at login (Usage login' day) = false
 is_at at login (ListRequest day after) = false
+is_at at login (Retire id) = false
 
 -- the first entry of the transaction, whatever its reply: it gives the login and the moment
 abbrev pub named : List Entry → Transaction → Option Entry
@@ -66,8 +69,25 @@ closes (Released id held) = true
 closes _ = false
 
 -- an entry of the transaction was replied Settled or Released
+abbrev pub ended : List Entry → Transaction → Bool
+ended H t = list_any (λ e. is_of t e.request && closes e.reply) H
+
+-- its run is below the floor of its host
+abbrev pub given_up : List Entry → Transaction → Bool
+given_up H t = nat_lt t.run (floor (requests H) t.host)
+
+-- the request is a retire that gives up the run of the transaction
+abbrev pub gives_up : Request → Transaction → Bool
+gives_up (Retire id) t = same_text t.host id.host && nat_lt t.run id.run
+gives_up _ t = false
+
+-- its run is given up, or it was settled or released
 abbrev pub closed : List Entry → Transaction → Bool
-closed H t = list_any (λ e. is_of t e.request && closes e.reply) H
+closed H t = given_up H t || ended H t
+
+-- a retire alone closed it
+abbrev pub abandoned : List Entry → Transaction → Bool
+abandoned H t = given_up H t && not (ended H t)
 
 -- the transaction is open to requests of that moment and login
 pub record IsOpenTo (at : ℕ) (login : List ℕ) (H : List Entry) (t : Transaction) : Type 0 where
@@ -93,8 +113,12 @@ abbrev pub held : List Entry → Transaction → ℕ
 held H t = if closed H t then 0 else granted_in H t
 
 -- the sum of counts of the transaction's settled settles
+abbrev pub counted_in : List Entry → Transaction → ℕ
+counted_in H t = sum_by (λ e. if is_of t e.request then counted e.request e.reply else 0) H
+
+-- the same, and what it was granted where a retire alone closed it
 abbrev pub settled_in : List Entry → Transaction → ℕ
-settled_in H t = sum_by (λ e. if is_of t e.request then counted e.request e.reply else 0) H
+settled_in H t = counted_in H t + (if abandoned H t then granted_in H t else 0)
 
 -- the request is a reserve or settle of that login and day
 abbrev pub concerns : (ℕ → ℕ) → List ℕ → ℕ → Request → Bool
@@ -111,17 +135,26 @@ is_open H _ = false
 abbrev pub reserved_of : (ℕ → ℕ) → List Entry → List ℕ → ℕ → Entry → ℕ
 reserved_of day H l d e = if concerns day l d e.request && is_open H e.request then granted e.request e.reply else 0
 
--- what the entry settles of that login and day
-abbrev pub settled_of : (ℕ → ℕ) → List ℕ → ℕ → Entry → ℕ
-settled_of day l d e = if concerns day l d e.request then counted e.request e.reply else 0
+-- the request is a reserve whose transaction a retire alone closed in H
+abbrev pub is_abandoned : List Entry → Request → Bool
+is_abandoned H (Reserve id txn at login count) = abandoned H (transaction id txn)
+is_abandoned H _ = false
+
+-- what the entry settles of that login and day, as H stands
+abbrev pub settled_of : (ℕ → ℕ) → List Entry → List ℕ → ℕ → Entry → ℕ
+settled_of day H l d e =
+    if concerns day l d e.request
+    then counted e.request e.reply + (if is_abandoned H e.request then granted e.request e.reply else 0)
+    else 0
 
 -- the sum of counts of the granted reserves of that login and day whose transactions aren't closed in H
 abbrev pub reserved : (ℕ → ℕ) → List Entry → List ℕ → ℕ → ℕ
 reserved day H l d = sum_by (reserved_of day H l d) H
 
--- the sum of counts of the settled settles of that login and day
+-- the sum of counts of the settled settles of that login and day, and of the granted reserves whose transactions a
+-- retire alone closed in H
 abbrev pub settled : (ℕ → ℕ) → List Entry → List ℕ → ℕ → ℕ
-settled day H l d = sum_by (settled_of day l d) H
+settled day H l d = sum_by (settled_of day H l d) H
 
 -- what the login has used on that day
 abbrev pub used : (ℕ → ℕ) → List Entry → List ℕ → ℕ → ℕ
@@ -131,11 +164,28 @@ used day H l d = reserved day H l d + settled day H l d
 abbrev pub gained : (ℕ → ℕ) → List ℕ → ℕ → Request → Reply → ℕ
 gained day l d r a = if concerns day l d r then granted r a else 0
 
+-- the request is a reserve of a run that the other gives up
+abbrev pub is_given_up_by : Request → Request → Bool
+is_given_up_by r (Reserve id txn at login count) = gives_up r (transaction id txn)
+is_given_up_by r _ = false
+
+-- what of that login and day is reserved by the runs that a request gives up
+abbrev pub given_up_on : (ℕ → ℕ) → List Entry → List ℕ → ℕ → Request → ℕ
+given_up_on day H l d r = sum_by (λ e. if is_given_up_by r e.request then reserved_of day H l d e else 0) H
+
 -- what an entry behind H ends of what the login has reserved on that day: what its transaction holds, where it
--- closes it
+-- closes it; of a retire what the runs that it gives up have reserved
 abbrev pub freed : (ℕ → ℕ) → List Entry → List ℕ → ℕ → Request → Reply → ℕ
 freed day H l d (Settle id txn at login count) (Settled id' count') =
     if same_text l login && (day at == d) then held H (transaction id txn) else 0
 freed day H l d (Release id txn at login) (Released id' n) =
     if same_text l login && (day at == d) then held H (transaction id txn) else 0
+freed day H l d (Retire id) (Retired id') = given_up_on day H l d (Retire id)
 freed day H l d _ _ = 0
+
+-- what an entry behind H settles of that login and day
+abbrev pub settles : (ℕ → ℕ) → List Entry → List ℕ → ℕ → Request → Reply → ℕ
+settles day H l d (Settle id txn at login count) (Settled id' count') =
+    if same_text l login && (day at == d) then count else 0
+settles day H l d (Retire id) (Retired id') = given_up_on day H l d (Retire id)
+settles day H l d _ _ = 0

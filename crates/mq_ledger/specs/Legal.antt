@@ -8,7 +8,8 @@ use Rattle.mq_ledger.specs.Arrivals.{first}
 use Rattle.mq_ledger.specs.Day.{IsZone, day_of}
 use Rattle.mq_ledger.specs.History.{requests}
 
--- the requests are in range, each is numbered and no number comes twice, and each has its answer
+-- the requests are in range, each is numbered, no number comes twice and none is below the floor by those before it,
+-- and each has its answer
 pub record IsLegal (day : ℕ → ℕ) (default : ℕ) (H : List Entry) : Type 0 where
   pub range : All (λ e. IsRequest e.request) H
   pub distinct : first (requests H) ≡ requests H

@@ -2,11 +2,11 @@
 use Rattle.std.specs.Prelude.{◌≡◌}
 use Rattle.mq_frame.specs.declared.message.Request.{Request}
 use Rattle.mq_frame.specs.declared.message.Request.TheVariants.{Reserve, Settle, Release, Limit, Usage}
-use Rattle.mq_frame.specs.declared.message.Request.TheVariants.{List as ListRequest}
+use Rattle.mq_frame.specs.declared.message.Request.TheVariants.{List as ListRequest, Retire}
 use Rattle.mq_frame.specs.declared.message.Reply.{Reply}
 use Rattle.mq_frame.specs.declared.message.Reply.TheVariants.{Granted, Full, Settled, Released, LimitSet, Over, Closed}
 use Rattle.mq_frame.specs.declared.message.Reply.TheVariants.{Mismatch, TooMany, Conflict, Usage as UsageReply}
-use Rattle.mq_frame.specs.declared.message.Reply.TheVariants.{List as ListReply}
+use Rattle.mq_frame.specs.declared.message.Reply.TheVariants.{List as ListReply, Retired, Old}
 
 -- The reply is one to such a request, and has its number: Granted and Full come to reserves alone, Settled and TooMany
 -- to settles, Released to releases; Settled has the settle's count.
@@ -16,18 +16,25 @@ Suits (Reserve id txn at login count) (Full id' used cap) = id' ≡ id
 Suits (Reserve id txn at login count) (Closed id') = id' ≡ id
 Suits (Reserve id txn at login count) (Mismatch id') = id' ≡ id
 Suits (Reserve id txn at login count) (Conflict id') = id' ≡ id
+Suits (Reserve id txn at login count) (Old id') = id' ≡ id
 Suits (Settle id txn at login count) (Settled id' count') = (id' ≡ id) × (count' ≡ count)
 Suits (Settle id txn at login count) (TooMany id' held) = id' ≡ id
 Suits (Settle id txn at login count) (Closed id') = id' ≡ id
 Suits (Settle id txn at login count) (Mismatch id') = id' ≡ id
 Suits (Settle id txn at login count) (Conflict id') = id' ≡ id
+Suits (Settle id txn at login count) (Old id') = id' ≡ id
 Suits (Release id txn at login) (Released id' held) = id' ≡ id
 Suits (Release id txn at login) (Closed id') = id' ≡ id
 Suits (Release id txn at login) (Mismatch id') = id' ≡ id
 Suits (Release id txn at login) (Conflict id') = id' ≡ id
+Suits (Release id txn at login) (Old id') = id' ≡ id
 Suits (Limit id from_day cap login) (LimitSet id') = id' ≡ id
 Suits (Limit id from_day cap login) (Over id' day used) = id' ≡ id
 Suits (Limit id from_day cap login) (Conflict id') = id' ≡ id
+Suits (Limit id from_day cap login) (Old id') = id' ≡ id
 Suits (Usage login day) (UsageReply login' day' settled reserved cap) = (login' ≡ login) × (day' ≡ day)
 Suits (ListRequest day after) (ListReply day' rows) = day' ≡ day
+Suits (Retire id) (Retired id') = id' ≡ id
+Suits (Retire id) (Conflict id') = id' ≡ id
+Suits (Retire id) (Old id') = id' ≡ id
 Suits _ _ = ⊥

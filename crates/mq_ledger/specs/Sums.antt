@@ -4,7 +4,7 @@ use Rattle.std.specs.Prelude.{is_some}
 use Rattle.std.specs.List.{list_any}
 use Rattle.mq_frame.specs.declared.message.Request.{Request}
 use Rattle.mq_frame.specs.declared.message.Request.TheVariants.{Reserve, Settle, Release, Limit, Usage}
-use Rattle.mq_frame.specs.declared.message.Request.TheVariants.{List as ListRequest}
+use Rattle.mq_frame.specs.declared.message.Request.TheVariants.{List as ListRequest, Retire}
 use Rattle.mq_frame.specs.Same.{same_text}
 use Rattle.mq_ledger.specs.declared.entry.Entry.{Entry}
 use Rattle.mq_ledger.specs.History.{Transaction, same_transaction, named, held, settled_in}
@@ -17,6 +17,7 @@ is_for day l d (Release id txn at login) = same_text l login && (day at == d)
 is_for day l d (Limit id from_day cap login) = false
 is_for day l d (Usage login day') = false
 is_for day l d (ListRequest day' after) = false
+is_for day l d (Retire id) = false
 
 -- the entry that names a transaction gives it that login and day
 abbrev pub names_for : (ℕ → ℕ) → List ℕ → ℕ → Option Entry → Bool

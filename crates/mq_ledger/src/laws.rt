@@ -9,16 +9,17 @@ ghost use Rattle.std.specs.Prelude.{false, ◌&&◌, ◌||◌, find, nat_le, if�
 ghost use Rattle.std.specs.Option.{option_or};
 ghost use Rattle.mq_frame.specs.declared.message.Id.{Id};
 ghost use Rattle.mq_frame.specs.declared.message.Request.{Request as AnyRequest};
+ghost use Rattle.mq_frame.specs.declared.message.Reply.TheVariants.{Old, Retired};
 ghost use Rattle.mq_frame.specs.Range.{IsRequest, IsReply, IsAmount, IsMoment};
 ghost use Rattle.mq_ledger.specs.declared.entry.Entry.{Entry as AnyEntry};
 ghost use Rattle.mq_ledger.specs.Answer.{answer, stored, reply, with_arrival, history_of};
-ghost use Rattle.mq_ledger.specs.Arrivals.{id_of, has_id, first, is_first};
+ghost use Rattle.mq_ledger.specs.Arrivals.{id_of, has_id, raised, greater, floor, is_below, first, is_first};
 ghost use Rattle.mq_ledger.specs.Day.{ByOffset, ByRule, IsOffset, IsZone, IsDayRule, clock, limited, day_of};
 ghost use Rattle.mq_ledger.specs.Day.{central_europe};
 ghost use Rattle.mq_ledger.specs.declared.zone.Zone.{Zone as AnyZone};
-ghost use Rattle.mq_ledger.specs.History.{requests, Transaction, same_transaction, is_of, named, agrees, closes};
-ghost use Rattle.mq_ledger.specs.History.{closed, granted, counted, held, settled_in, settled_of, reserved, settled};
-ghost use Rattle.mq_ledger.specs.History.{used, gained, freed};
+ghost use Rattle.mq_ledger.specs.History.{requests, Transaction, transaction, same_transaction, is_of, named, agrees, closes};
+ghost use Rattle.mq_ledger.specs.History.{ended, gives_up, closed, granted, granted_in, counted, held, settled_in, reserved, settled};
+ghost use Rattle.mq_ledger.specs.History.{used, gained, freed, settles};
 ghost use Rattle.mq_ledger.specs.Legal.{IsLegal};
 ghost use Rattle.mq_ledger.specs.Limits.{from_of, cap_of, governs, limits, latest, cap, sets_from, set_cap};
 ghost use Rattle.mq_ledger.specs.Over.{over, IsLeastOver};
@@ -40,14 +41,16 @@ pub fn built_is_legal()
         IsLegal day default (history_of day default A) }
 {}
 
-/// The first arrivals, in the order in which they came, are the numbered ones before which no arrival
-/// has their number.
+/// The first arrivals, in the order in which they came, are the numbered ones whose run isn't below the
+/// floor then and before which no arrival has their number. A number that is retired stays so.
 pub fn first_arrivals()
     ensures none { first [] ≡ [] }
     ensures one_more { (A : List AnyRequest) (r : AnyRequest) →
         first (A ++ r ∷ []) ≡ first A ++ (if is_first A r then r ∷ [] else []) }
-    ensures each { (A : List AnyRequest) (id : Id) →
+    ensures each { (A : List AnyRequest) (id : Id) → is_below (first A) id ≡ false →
         find (has_id id) (first A) ≡ find (has_id id) A }
+    ensures retired { (A B : List AnyRequest) (id : Id) → is_below (first A) id ≡ true →
+        is_below (first (A ++ B)) id ≡ true }
 {}
 
 /// What one more arrival does to a history.
@@ -61,20 +64,34 @@ pub fn one_more_arrival()
         IsLegal day default H → history_of day default (requests H) ≡ H }
 {}
 
-/// A number keeps its entry, and with it the reply to each request that comes under it.
+/// What one more entry does to the floor of a host, and to the numbers below it, in any history.
+pub fn one_more_floor()
+    ensures floor { (H : List AnyEntry) (e : AnyEntry) (h : List ℕ) →
+        floor (requests (H ++ e ∷ [])) h ≡ greater (floor (requests H) h) (raised h e.request) }
+    ensures below { (H : List AnyEntry) (e : AnyEntry) (id : Id) (txn : ℕ) →
+        is_below (requests (H ++ e ∷ [])) id
+        ≡ (gives_up e.request (transaction id txn) || is_below (requests H) id) }
+    ensures none { (h : List ℕ) → floor [] h ≡ 0 }
+{}
+
+/// A number keeps its entry, and until it is retired the reply to each request that comes under it; from
+/// then on each gets Old.
 pub fn number_keeps_its_reply()
     ensures entry { (day : ℕ → ℕ) (default : ℕ) (A B : List AnyRequest) (id : Id) (e : AnyEntry) →
         stored (history_of day default A) id ≡ Some e →
         stored (history_of day default (A ++ B)) id ≡ Some e }
     ensures stored { (day : ℕ → ℕ) (default : ℕ) (A B : List AnyRequest) (r : AnyRequest)
-        (id : Id) (e : AnyEntry) → id_of r ≡ Some id →
+        (id : Id) (e : AnyEntry) → id_of r ≡ Some id → is_below (first (A ++ B)) id ≡ false →
         stored (history_of day default A) id ≡ Some e →
         reply day default (history_of day default (A ++ B)) r
         ≡ reply day default (history_of day default A) r }
     ensures repeated { (day : ℕ → ℕ) (default : ℕ) (A B : List AnyRequest) (r : AnyRequest)
-        (id : Id) → id_of r ≡ Some id →
+        (id : Id) → id_of r ≡ Some id → is_below (first (A ++ r ∷ B)) id ≡ false →
         reply day default (history_of day default (A ++ r ∷ B)) r
         ≡ reply day default (history_of day default A) r }
+    ensures retired { (day : ℕ → ℕ) (default : ℕ) (A B : List AnyRequest) (r : AnyRequest) (id : Id) →
+        id_of r ≡ Some id → is_below (first A) id ≡ true →
+        reply day default (history_of day default (A ++ B)) r ≡ Old id }
 {}
 
 /// The days of a zone are in range, and so are all replies to requests in range.
@@ -134,41 +151,52 @@ pub fn page_is_first()
         (ls : List (List ℕ)) → IsLoginPage day H d after ls → ls ≡ page day H d after }
 {}
 
-/// What one more entry does to a transaction, in any history.
+/// What one more entry does to a transaction, in any history; to what it settled the entry of an answer.
 pub fn one_more_of_a_transaction()
     ensures named { (H : List AnyEntry) (e : AnyEntry) (t : Transaction) →
         named (H ++ e ∷ []) t ≡ option_or (named H t) (if is_of t e.request then Some e else None) }
     ensures closed { (H : List AnyEntry) (e : AnyEntry) (t : Transaction) →
-        closed (H ++ e ∷ []) t ≡ (closed H t || (is_of t e.request && closes e.reply)) }
+        closed (H ++ e ∷ []) t
+        ≡ (gives_up e.request t || (closed H t || (is_of t e.request && closes e.reply))) }
     ensures held { (H : List AnyEntry) (e : AnyEntry) (t : Transaction) →
-        held (H ++ e ∷ []) t ≡ (if closed H t || (is_of t e.request && closes e.reply) then 0
+        held (H ++ e ∷ []) t
+        ≡ (if gives_up e.request t || (closed H t || (is_of t e.request && closes e.reply)) then 0
         else held H t + (if is_of t e.request then granted e.request e.reply else 0)) }
-    ensures settled { (H : List AnyEntry) (e : AnyEntry) (t : Transaction) →
-        settled_in (H ++ e ∷ []) t
-        ≡ settled_in H t + (if is_of t e.request then counted e.request e.reply else 0) }
+    ensures settled { (day : ℕ → ℕ) (default : ℕ) (H : List AnyEntry) (e : AnyEntry) (t : Transaction) →
+        e.reply ≡ answer day default H e.request → settled_in (H ++ e ∷ []) t
+        ≡ settled_in H t + (if is_of t e.request then counted e.request e.reply else 0)
+        + (if gives_up e.request t then held H t else 0) }
 {}
 
-/// A transaction with no entry holds and settled nothing, and one that isn't closed settled nothing.
+/// A transaction with no entry wasn't settled or released, and holds and settled nothing; one that isn't closed settled
+/// nothing; what one was granted that wasn't settled or released it holds or settled.
 /// Host, run and number say which transaction it is.
 pub fn open_transactions()
     ensures unheard { (H : List AnyEntry) (t : Transaction) → named H t ≡ None →
-        (closed H t ≡ false) × (held H t ≡ 0) × (settled_in H t ≡ 0) }
+        (ended H t ≡ false) × (held H t ≡ 0) × (settled_in H t ≡ 0) }
     ensures open { (H : List AnyEntry) (t : Transaction) →
         closed H t ≡ false → settled_in H t ≡ 0 }
+    ensures kept { (H : List AnyEntry) (t : Transaction) →
+        ended H t ≡ false → held H t + settled_in H t ≡ granted_in H t }
     ensures same { (t u : Transaction) → same_transaction t u ≡ true → t ≡ u }
     ensures itself { (t : Transaction) → same_transaction t t ≡ true }
 {}
 
 /// What one more entry does to a login and day: in a legal history the entry of an answer, in any
-/// history any entry to what is settled, and to which logins have a granted reserve.
+/// history that of an answer to what is settled, any entry to which logins have a granted reserve, and a
+/// retire to what is used: nothing.
 pub fn one_more_on_a_day()
     ensures reserved { (day : ℕ → ℕ) (default : ℕ) (H : List AnyEntry) (e : AnyEntry)
         (l : List ℕ) (d : ℕ) →
         IsLegal day default H → e.reply ≡ answer day default H e.request →
         reserved day (H ++ e ∷ []) l d + freed day H l d e.request e.reply
         ≡ reserved day H l d + gained day l d e.request e.reply }
-    ensures settled { (day : ℕ → ℕ) (H : List AnyEntry) (e : AnyEntry) (l : List ℕ) (d : ℕ) →
-        settled day (H ++ e ∷ []) l d ≡ settled day H l d + settled_of day l d e }
+    ensures settled { (day : ℕ → ℕ) (default : ℕ) (H : List AnyEntry) (e : AnyEntry) (l : List ℕ) (d : ℕ) →
+        e.reply ≡ answer day default H e.request →
+        settled day (H ++ e ∷ []) l d ≡ settled day H l d + settles day H l d e.request e.reply }
+    ensures retired { (day : ℕ → ℕ) (H : List AnyEntry) (id same : Id) (l : List ℕ) (d : ℕ) →
+        used day (H ++ record { request = AnyRequest.Retire id; reply = Retired same } ∷ []) l d
+        ≡ used day H l d }
     ensures has_reserve { (day : ℕ → ℕ) (H : List AnyEntry) (e : AnyEntry)
         (l : List ℕ) (d : ℕ) →
         has_reserve day (H ++ e ∷ []) d l

@@ -1,8 +1,8 @@
 //! A ledger that keeps the list of its entries.
-ghost use Rattle.std.specs.Prelude.{◌≡◌, ℕ, [], ◌∷◌, ◌++◌, true, None, is_some, IfOk, OnOk, OnErr, IfErr};
+ghost use Rattle.std.specs.Prelude.{◌≡◌, ℕ, [], ◌∷◌, ◌++◌, true, false, IfOk, OnOk, OnErr, IfErr};
 ghost use Rattle.std.specs.Option.{MatchOption};
 ghost use Rattle.mq_frame.specs.Range.{IsRequest, IsReply, IsAmount};
-ghost use Rattle.mq_ledger.specs.Answer.{build, stored_by, reply};
+ghost use Rattle.mq_ledger.specs.Answer.{build, known_by, reply};
 ghost use Rattle.mq_ledger.specs.Arrivals.{id_of, first};
 ghost use Rattle.mq_ledger.specs.Day.{day_of};
 ghost use Rattle.mq_ledger.specs.History.{requests};
@@ -18,7 +18,7 @@ mod totals;
 
 use crate::entry::Entry;
 use crate::ledger::{Ledger, LedgerFault};
-use crate::plain::entries::{id_of, stored};
+use crate::plain::entries::{id_of, is_below, stored};
 use crate::zone::Zone;
 use mq_frame::{Reply, Request};
 use std::alloc::{AllocError, Global};
@@ -68,16 +68,19 @@ impl PlainLedger {
     }
 }
 
-/// The reply to a request whose number is among the entries.
-fn stored_reply(entries: &[Entry], request: &Request) -> Result<Option<Reply>, AllocError>
-    ensures { let e = stored_by entries.now (id_of request.now) in IfOk result (λ known. MatchOption known
-        (e ≡ None)
-        (λ r. (is_some e ≡ true)
+/// The reply to a request whose run is below the floor, or whose number is among the entries.
+fn known_reply(entries: &[Entry], request: &Request) -> Result<Option<Reply>, AllocError>
+    ensures { let known_so = known_by entries.now (id_of request.now) in IfOk result (λ known. MatchOption known
+        (known_so ≡ false)
+        (λ r. (known_so ≡ true)
         × ((day : ℕ → ℕ) (default : ℕ) → r ≡ reply day default entries.now request.now))) }
 {
     let Some(id) = id_of(request) else {
         return Ok(None);
     };
+    if is_below(entries, &id.host, id.run) {
+        return Ok(Some(Reply::Old { id: id.clone()? }));
+    }
     match stored(entries, id) {
         None => Ok(None),
         Some(entry) => {
@@ -138,7 +141,7 @@ impl Ledger for PlainLedger {
         ensures memory { IfErr result (λ fault. fault ≡ LedgerFault.Memory) }
         ensures sound { IsLegalBook self.new }
     {
-        if let Some(reply) = stored_reply(&self.entries, request)? {
+        if let Some(reply) = known_reply(&self.entries, request)? {
             return Ok(reply);
         }
         let reply = self.answer(request)?;

@@ -3,19 +3,20 @@ use Rattle.std.proofs.Common.{◌≡◌, ℕ, ◌+◌, ◌-◌, ◌≤◌, List,
 use Rattle.std.specs.Prelude.{◌&&◌, ◌||◌, ◌==◌, nat_lt, if◌then◌else◌, Option, Some, None}
 use Rattle.mq_frame.specs.declared.message.Id.{Id}
 use Rattle.mq_frame.specs.declared.message.Request.{Request}
-use Rattle.mq_frame.specs.declared.message.Request.TheVariants.{Reserve, Settle, Release, Limit, Usage, List as ListRequest}
+use Rattle.mq_frame.specs.declared.message.Request.TheVariants.{Reserve, Settle, Release, Limit, Usage, List as ListRequest, Retire}
 use Rattle.mq_frame.specs.declared.message.Reply.{Reply}
-use Rattle.mq_frame.specs.declared.message.Reply.TheVariants.{Granted, Full, Settled, Released, LimitSet, Over, Closed, Mismatch, TooMany, Conflict, Usage as UsageReply, List as ListReply}
+use Rattle.mq_frame.specs.declared.message.Reply.TheVariants.{Granted, Full, Settled, Released, LimitSet, Over, Closed, Mismatch, TooMany, Conflict, Usage as UsageReply, List as ListReply, Retired, Old}
 use Rattle.mq_frame.specs.Same.{same_text}
 use Rattle.mq_ledger.specs.declared.entry.Entry.{Entry}
 use Rattle.mq_ledger.specs.Answer.{answer, if_open, settled_or_too_many}
-use Rattle.mq_ledger.specs.History.{transaction, named, agrees, closed, concerns, granted, counted, gained, freed as ended, settled_of, held, reserved, settled}
+use Rattle.mq_ledger.specs.History.{transaction, named, agrees, closed, concerns, granted, counted, gained, freed as ended, settles, held, reserved, settled}
 use Rattle.mq_ledger.specs.Page.{is_login, login_on, has_reserve}
 use Rattle.mq_ledger.specs.Suits.{Suits}
 use Rattle.mq_rows.specs.declared.record.UsageRecord.{UsageRecord}
 use Rattle.mq_rows.specs.declared.plan.Write.TheVariants.{Keep, Update}
 use Rattle.mq_rows.specs.Rows.{usage_row, is_usage}
 use Rattle.mq_rows.specs.Listing.{settled_by}
+use Rattle.mq_rows.specs.Retiring.{retires}
 use Rattle.mq_rows.specs.Tables.{those, AreUsage}
 use Rattle.mq_rows.specs.Plan.{reserved_more, freed, usage_write, Updates, Leads, same_day, set_usage}
 use Rattle.mq_rows.proofs.Lists.{either, text_is, text_itself, number_is, number_itself, insert, update}
@@ -24,7 +25,7 @@ use Rattle.mq_rows.proofs.Trans.{entry}
 -- What the ledger's laws say of one more answer and of what logins have used.
 pub record Uses (day : ℕ → ℕ) (default : ℕ) (H : List Entry) : Type 0 where
   pub reserves_more : (e : Entry) (l : List ℕ) (d : ℕ) → e.reply ≡ answer day default H e.request → reserved day (H ++ e ∷ []) l d + ended day H l d e.request e.reply ≡ reserved day H l d + gained day l d e.request e.reply
-  pub settled_more : (e : Entry) (l : List ℕ) (d : ℕ) → settled day (H ++ e ∷ []) l d ≡ settled day H l d + settled_of day l d e
+  pub settled_more : (e : Entry) (l : List ℕ) (d : ℕ) → e.reply ≡ answer day default H e.request → settled day (H ++ e ∷ []) l d ≡ settled day H l d + settles day H l d e.request e.reply
   pub reserve_more : (e : Entry) (l : List ℕ) (d : ℕ) → has_reserve day (H ++ e ∷ []) d l ≡ (has_reserve day H d l || is_login l (login_on day d e.request e.reply))
   pub held_is_reserved : (id : Id) (txn at : ℕ) (login : List ℕ) → agrees at login (named H (transaction id txn)) ≡ true → held H (transaction id txn) ≤ reserved day H login (day at)
   pub none : (l : List ℕ) (d : ℕ) → has_reserve day H d l ≡ false → (reserved day H l d ≡ 0) × (settled day H l d ≡ 0)
@@ -116,10 +117,10 @@ released_agreed H id txn at login id' n is = elim (either (agrees at login (name
 
 module _ (day : ℕ → ℕ) (default : ℕ) (H : List Entry) (us : Uses day default H) where
   -- a login and day that the entry neither gives nor takes anything
-  stays : (e : Entry) (l : List ℕ) (d : ℕ) → e.reply ≡ answer day default H e.request → gained day l d e.request e.reply ≡ 0 → ended day H l d e.request e.reply ≡ 0 → settled_of day l d e ≡ 0 → is_login l (login_on day d e.request e.reply) ≡ false → usage_row day (H ++ e ∷ []) l d ≡ usage_row day H l d
+  stays : (e : Entry) (l : List ℕ) (d : ℕ) → e.reply ≡ answer day default H e.request → gained day l d e.request e.reply ≡ 0 → ended day H l d e.request e.reply ≡ 0 → settles day H l d e.request e.reply ≡ 0 → is_login l (login_on day d e.request e.reply) ≡ false → usage_row day (H ++ e ∷ []) l d ≡ usage_row day H l d
   stays e l d a g f s n =
       let r : reserved day (H ++ e ∷ []) l d ≡ reserved day H l d = omega (arith, us.reserves_more e l d a) in
-      let t : settled day (H ++ e ∷ []) l d ≡ settled day H l d = omega (arith, us.settled_more e l d) in
+      let t : settled day (H ++ e ∷ []) l d ≡ settled day H l d = omega (arith, us.settled_more e l d a) in
       let b : has_reserve day (H ++ e ∷ []) d l ≡ has_reserve day H d l = us.reserve_more e l d ∙ (rw n (or_false (has_reserve day H d l))) in
       row_if_same l d _ _ _ _ _ _ b t r
 
@@ -159,15 +160,14 @@ module _ (day : ℕ → ℕ) (default : ℕ) (H : List Entry) (us : Uses day def
     ]
 
     grant_others : grant.reply ≡ answer day default H grant.request → (k : Key) → (same_text k.0 login && (day at == k.1)) ≡ false → row_at day (H ++ grant ∷ []) k ≡ row_at day H k
-    grant_others a k f = stays grant k.0 k.1 a (rw f refl) refl (rw f refl) (no_login k f)
+    grant_others a k f = stays grant k.0 k.1 a (rw f refl) refl refl (no_login k f)
 
     grant_own : grant.reply ≡ answer day default H grant.request → usage_row day (H ++ grant ∷ []) login (day at) ≡ Some (record { login = login; day = day at; settled = settled day H login (day at); reserved = reserved day H login (day at) + count })
     grant_own a =
         let mine : (same_text login login && (day at == day at)) ≡ true = rw (text_itself login, number_itself (day at)) refl in
         let g : gained day login (day at) (Reserve id txn at login count) (Granted id' n) ≡ count = rw mine refl in
-        let so : settled_of day login (day at) grant ≡ 0 = rw mine refl in
         let r : reserved day (H ++ grant ∷ []) login (day at) ≡ reserved day H login (day at) + count = omega (arith, us.reserves_more grant login (day at) a) in
-        let t : settled day (H ++ grant ∷ []) login (day at) ≡ settled day H login (day at) = omega (arith, us.settled_more grant login (day at)) in
+        let t : settled day (H ++ grant ∷ []) login (day at) ≡ settled day H login (day at) = omega (arith, us.settled_more grant login (day at) a) in
         let i : is_login login (login_on day (day at) (Reserve id txn at login count) (Granted id' n)) ≡ true = rw (number_itself (day at)) (text_itself login) in
         let b : has_reserve day (H ++ grant ∷ []) (day at) login ≡ true = us.reserve_more grant login (day at) ∙ (rw i (or_true (has_reserve day H (day at) login))) in
         row_if_same login (day at) true _ _ _ _ _ b t r
@@ -203,8 +203,8 @@ module _ (day : ℕ → ℕ) (default : ℕ) (H : List Entry) (us : Uses day def
     pub gains : (l : List ℕ) (d : ℕ) → gained day l d e.request e.reply ≡ 0
     pub ends : ended day H login (day at) e.request e.reply ≡ h
     pub ends_here : (k : Key) → (same_text k.0 login && (day at == k.1)) ≡ false → ended day H k.0 k.1 e.request e.reply ≡ 0
-    pub settles : settled_of day login (day at) e ≡ count
-    pub settles_here : (k : Key) → (same_text k.0 login && (day at == k.1)) ≡ false → settled_of day k.0 k.1 e ≡ 0
+    pub settles_so : settles day H login (day at) e.request e.reply ≡ count
+    pub settles_here : (k : Key) → (same_text k.0 login && (day at == k.1)) ≡ false → settles day H k.0 k.1 e.request e.reply ≡ 0
     pub no_reserve : (l : List ℕ) (d : ℕ) → is_login l (login_on day d e.request e.reply) ≡ false
     pub reserved_before : h ≤ reserved day H login (day at)
     pub part : count ≤ h
@@ -221,7 +221,7 @@ module _ (day : ℕ → ℕ) (default : ℕ) (H : List Entry) (us : Uses day def
           let d : day at ≡ k.1 = number_is (day at) k.1 b.1 in
           let f : ended day H k.0 k.1 e.request e.reply ≡ 0 = rw (l, ← d) (c.ends ∙ z) in
           let n : count ≡ 0 = omega (arith, c.part) in
-          let s : settled_of day k.0 k.1 e ≡ 0 = rw (l, ← d) (c.settles ∙ n) in
+          let s : settles day H k.0 k.1 e.request e.reply ≡ 0 = rw (l, ← d) (c.settles_so ∙ n) in
           stays e k.0 k.1 c.reply (c.gains k.0 k.1) f s (c.no_reserve k.0 k.1))
     ]
 
@@ -231,7 +231,7 @@ module _ (day : ℕ → ℕ) (default : ℕ) (H : List Entry) (us : Uses day def
     close_own : (u : UsageRecord) → Numbers login (day at) u → usage_row day (H ++ e ∷ []) login (day at) ≡ Some (closed_row count h u)
     close_own u x =
         let r : reserved day (H ++ e ∷ []) login (day at) ≡ reserved day H login (day at) - h = omega (arith, us.reserves_more e login (day at) c.reply, c.gains login (day at), c.ends) in
-        let s : settled day (H ++ e ∷ []) login (day at) ≡ settled day H login (day at) + count = us.settled_more e login (day at) ∙ ap (λ (n : ℕ). settled day H login (day at) + n) c.settles in
+        let s : settled day (H ++ e ∷ []) login (day at) ≡ settled day H login (day at) + count = us.settled_more e login (day at) c.reply ∙ ap (λ (n : ℕ). settled day H login (day at) + n) c.settles_so in
         let b : has_reserve day (H ++ e ∷ []) (day at) login ≡ true = us.reserve_more e login (day at) ∙ (rw (x.there) refl) in
         row_if_same login (day at) true _ _ _ _ _ b s r ∙ ap (λ (w : UsageRecord). Some (closed_row count h w)) (sym x.row)
 
@@ -253,10 +253,10 @@ module _ (day : ℕ → ℕ) (default : ℕ) (H : List Entry) (us : Uses day def
     ]
 
   -- An answer that moves nothing.
-  quiet : (r : Request) (a : Reply) → a ≡ answer day default H r → granted r a ≡ 0 → counted r a ≡ 0 → ((l : List ℕ) (d : ℕ) → ended day H l d r a ≡ 0) → ((l : List ℕ) (d : ℕ) → is_login l (login_on day d r a) ≡ false)
+  quiet : (r : Request) (a : Reply) → a ≡ answer day default H r → granted r a ≡ 0 → ((l : List ℕ) (d : ℕ) → settles day H l d r a ≡ 0) → ((l : List ℕ) (d : ℕ) → ended day H l d r a ≡ 0) → ((l : List ℕ) (d : ℕ) → is_login l (login_on day d r a) ≡ false)
       → (rows : List UsageRecord) → AreUsage day H rows → AreUsage day (H ++ entry r a ∷ []) rows
   quiet r a is g s f n rows are = λ l d.
-      are l d ∙ ap those (sym (stays (entry r a) l d is (if_zero (concerns day l d r) (granted r a) g) (f l d) (if_zero (concerns day l d r) (counted r a) s) (n l d)))
+      are l d ∙ ap those (sym (stays (entry r a) l d is (if_zero (concerns day l d r) (granted r a) g) (f l d) (s l d) (n l d)))
 
   -- the row that was found of the request's login and day
   abbrev pub IsUsageFound : Request → Option UsageRecord → Type 0
@@ -272,14 +272,15 @@ module _ (day : ℕ → ℕ) (default : ℕ) (H : List Entry) (us : Uses day def
   IsHeld (Release id txn at login) h = h ≡ held H (transaction id txn)
   IsHeld _ h = Unit {0}
 
-  pub usage_leads : (r : Request) (a : Reply) → Suits r a → a ≡ answer day default H r → (h : ℕ) → IsHeld r h → (o : Option UsageRecord) → IsUsageFound r o → (rows : List UsageRecord) → AreUsage day H rows
+  pub usage_leads : (r : Request) (a : Reply) → retires r ≡ false → Suits r a → a ≡ answer day default H r → (h : ℕ) → IsHeld r h → (o : Option UsageRecord) → IsUsageFound r o → (rows : List UsageRecord) → AreUsage day H rows
       → Leads same_day set_usage (usage_write day r a h o) rows (AreUsage day (H ++ entry r a ∷ []))
-  usage_leads (Reserve id txn at login count) (Granted id' n) suits is h held_is o found rows are = granted_leads id txn at login count id' n rows o is are found
-  usage_leads (Reserve id txn at login count) (Full id' n c) suits is h held_is o found rows are = quiet (Reserve id txn at login count) (Full id' n c) is refl refl (λ l d. refl) (λ l d. refl) rows are
-  usage_leads (Reserve id txn at login count) (Closed id') suits is h held_is o found rows are = quiet (Reserve id txn at login count) (Closed id') is refl refl (λ l d. refl) (λ l d. refl) rows are
-  usage_leads (Reserve id txn at login count) (Mismatch id') suits is h held_is o found rows are = quiet (Reserve id txn at login count) (Mismatch id') is refl refl (λ l d. refl) (λ l d. refl) rows are
-  usage_leads (Reserve id txn at login count) (Conflict id') suits is h held_is o found rows are = quiet (Reserve id txn at login count) (Conflict id') is refl refl (λ l d. refl) (λ l d. refl) rows are
-  usage_leads (Settle id txn at login count) (Settled id' n) suits is h held_is o found rows are =
+  usage_leads (Reserve id txn at login count) (Granted id' n) plain suits is h held_is o found rows are = granted_leads id txn at login count id' n rows o is are found
+  usage_leads (Reserve id txn at login count) (Full id' n c) plain suits is h held_is o found rows are = quiet (Reserve id txn at login count) (Full id' n c) is refl (λ l d. refl) (λ l d. refl) (λ l d. refl) rows are
+  usage_leads (Reserve id txn at login count) (Closed id') plain suits is h held_is o found rows are = quiet (Reserve id txn at login count) (Closed id') is refl (λ l d. refl) (λ l d. refl) (λ l d. refl) rows are
+  usage_leads (Reserve id txn at login count) (Mismatch id') plain suits is h held_is o found rows are = quiet (Reserve id txn at login count) (Mismatch id') is refl (λ l d. refl) (λ l d. refl) (λ l d. refl) rows are
+  usage_leads (Reserve id txn at login count) (Conflict id') plain suits is h held_is o found rows are = quiet (Reserve id txn at login count) (Conflict id') is refl (λ l d. refl) (λ l d. refl) (λ l d. refl) rows are
+  usage_leads (Reserve id txn at login count) (Old id') plain suits is h held_is o found rows are = quiet (Reserve id txn at login count) (Old id') is refl (λ l d. refl) (λ l d. refl) (λ l d. refl) rows are
+  usage_leads (Settle id txn at login count) (Settled id' n) plain suits is h held_is o found rows are =
       let s = settled_so H id txn at login count id' n is in
       let p : count ≤ h = omega (arith, s.part) in
       let before : h ≤ reserved day H login (day at) = rw held_is (us.held_is_reserved id txn at login s.agreed) in
@@ -289,18 +290,19 @@ module _ (day : ℕ → ℕ) (default : ℕ) (H : List Entry) (us : Uses day def
         gains = λ l d. if_zero (concerns day l d (Settle id txn at login count)) 0 refl;
         ends = rw mine (sym held_is);
         ends_here = λ k f. rw f refl;
-        settles = rw mine refl;
+        settles_so = rw mine refl;
         settles_here = λ k f. rw f refl;
         no_reserve = λ l d. refl;
         reserved_before = before;
         part = p;
       } in
       closing_leads (entry (Settle id txn at login count) (Settled id' n)) at login h count c rows o are found
-  usage_leads (Settle id txn at login count) (TooMany id' n) suits is h held_is o found rows are = quiet (Settle id txn at login count) (TooMany id' n) is refl refl (λ l d. refl) (λ l d. refl) rows are
-  usage_leads (Settle id txn at login count) (Closed id') suits is h held_is o found rows are = quiet (Settle id txn at login count) (Closed id') is refl refl (λ l d. refl) (λ l d. refl) rows are
-  usage_leads (Settle id txn at login count) (Mismatch id') suits is h held_is o found rows are = quiet (Settle id txn at login count) (Mismatch id') is refl refl (λ l d. refl) (λ l d. refl) rows are
-  usage_leads (Settle id txn at login count) (Conflict id') suits is h held_is o found rows are = quiet (Settle id txn at login count) (Conflict id') is refl refl (λ l d. refl) (λ l d. refl) rows are
-  usage_leads (Release id txn at login) (Released id' n) suits is h held_is o found rows are =
+  usage_leads (Settle id txn at login count) (TooMany id' n) plain suits is h held_is o found rows are = quiet (Settle id txn at login count) (TooMany id' n) is refl (λ l d. refl) (λ l d. refl) (λ l d. refl) rows are
+  usage_leads (Settle id txn at login count) (Closed id') plain suits is h held_is o found rows are = quiet (Settle id txn at login count) (Closed id') is refl (λ l d. refl) (λ l d. refl) (λ l d. refl) rows are
+  usage_leads (Settle id txn at login count) (Mismatch id') plain suits is h held_is o found rows are = quiet (Settle id txn at login count) (Mismatch id') is refl (λ l d. refl) (λ l d. refl) (λ l d. refl) rows are
+  usage_leads (Settle id txn at login count) (Conflict id') plain suits is h held_is o found rows are = quiet (Settle id txn at login count) (Conflict id') is refl (λ l d. refl) (λ l d. refl) (λ l d. refl) rows are
+  usage_leads (Settle id txn at login count) (Old id') plain suits is h held_is o found rows are = quiet (Settle id txn at login count) (Old id') is refl (λ l d. refl) (λ l d. refl) (λ l d. refl) rows are
+  usage_leads (Release id txn at login) (Released id' n) plain suits is h held_is o found rows are =
       let agreed = released_agreed H id txn at login id' n is in
       let before : h ≤ reserved day H login (day at) = rw held_is (us.held_is_reserved id txn at login agreed) in
       let mine : (same_text login login && (day at == day at)) ≡ true = rw (text_itself login, number_itself (day at)) refl in
@@ -309,19 +311,22 @@ module _ (day : ℕ → ℕ) (default : ℕ) (H : List Entry) (us : Uses day def
         gains = λ l d. refl;
         ends = rw mine (sym held_is);
         ends_here = λ k f. rw f refl;
-        settles = refl;
+        settles_so = refl;
         settles_here = λ k f. refl;
         no_reserve = λ l d. refl;
         reserved_before = before;
         part = omega arith;
       } in
       closing_leads (entry (Release id txn at login) (Released id' n)) at login h 0 c rows o are found
-  usage_leads (Release id txn at login) (Closed id') suits is h held_is o found rows are = quiet (Release id txn at login) (Closed id') is refl refl (λ l d. refl) (λ l d. refl) rows are
-  usage_leads (Release id txn at login) (Mismatch id') suits is h held_is o found rows are = quiet (Release id txn at login) (Mismatch id') is refl refl (λ l d. refl) (λ l d. refl) rows are
-  usage_leads (Release id txn at login) (Conflict id') suits is h held_is o found rows are = quiet (Release id txn at login) (Conflict id') is refl refl (λ l d. refl) (λ l d. refl) rows are
-  usage_leads (Limit id from c login) (LimitSet id') suits is h held_is o found rows are = quiet (Limit id from c login) (LimitSet id') is refl refl (λ l d. refl) (λ l d. refl) rows are
-  usage_leads (Limit id from c login) (Over id' d n) suits is h held_is o found rows are = quiet (Limit id from c login) (Over id' d n) is refl refl (λ l d. refl) (λ l d. refl) rows are
-  usage_leads (Limit id from c login) (Conflict id') suits is h held_is o found rows are = quiet (Limit id from c login) (Conflict id') is refl refl (λ l d. refl) (λ l d. refl) rows are
-  usage_leads (Usage login d) (UsageReply l' d' s v c) suits is h held_is o found rows are = quiet (Usage login d) (UsageReply l' d' s v c) is refl refl (λ l d. refl) (λ l d. refl) rows are
-  usage_leads (ListRequest d login) (ListReply d' reply_rows) suits is h held_is o found rows are = quiet (ListRequest d login) (ListReply d' reply_rows) is refl refl (λ l d. refl) (λ l d. refl) rows are
-  usage_leads r a suits is h held_is o found rows are = absurd suits
+  usage_leads (Release id txn at login) (Closed id') plain suits is h held_is o found rows are = quiet (Release id txn at login) (Closed id') is refl (λ l d. refl) (λ l d. refl) (λ l d. refl) rows are
+  usage_leads (Release id txn at login) (Mismatch id') plain suits is h held_is o found rows are = quiet (Release id txn at login) (Mismatch id') is refl (λ l d. refl) (λ l d. refl) (λ l d. refl) rows are
+  usage_leads (Release id txn at login) (Conflict id') plain suits is h held_is o found rows are = quiet (Release id txn at login) (Conflict id') is refl (λ l d. refl) (λ l d. refl) (λ l d. refl) rows are
+  usage_leads (Release id txn at login) (Old id') plain suits is h held_is o found rows are = quiet (Release id txn at login) (Old id') is refl (λ l d. refl) (λ l d. refl) (λ l d. refl) rows are
+  usage_leads (Limit id from c login) (LimitSet id') plain suits is h held_is o found rows are = quiet (Limit id from c login) (LimitSet id') is refl (λ l d. refl) (λ l d. refl) (λ l d. refl) rows are
+  usage_leads (Limit id from c login) (Over id' d n) plain suits is h held_is o found rows are = quiet (Limit id from c login) (Over id' d n) is refl (λ l d. refl) (λ l d. refl) (λ l d. refl) rows are
+  usage_leads (Limit id from c login) (Conflict id') plain suits is h held_is o found rows are = quiet (Limit id from c login) (Conflict id') is refl (λ l d. refl) (λ l d. refl) (λ l d. refl) rows are
+  usage_leads (Limit id from c login) (Old id') plain suits is h held_is o found rows are = quiet (Limit id from c login) (Old id') is refl (λ l d. refl) (λ l d. refl) (λ l d. refl) rows are
+  usage_leads (Usage login d) (UsageReply l' d' s v c) plain suits is h held_is o found rows are = quiet (Usage login d) (UsageReply l' d' s v c) is refl (λ l d. refl) (λ l d. refl) (λ l d. refl) rows are
+  usage_leads (ListRequest d login) (ListReply d' reply_rows) plain suits is h held_is o found rows are = quiet (ListRequest d login) (ListReply d' reply_rows) is refl (λ l d. refl) (λ l d. refl) (λ l d. refl) rows are
+  usage_leads (Retire id) a plain suits is h held_is o found rows are = absurd (cc plain)
+  usage_leads r a plain suits is h held_is o found rows are = absurd suits

@@ -1,13 +1,17 @@
 pub mod Booking
 pub mod Ceilings
+pub mod Clearing
+pub mod Closing
 pub mod Days
 pub mod Distinct
 pub mod Governed
+pub mod Leading
 pub mod Lists
 pub mod Lookups
 pub mod Numbered
 pub mod Pages
 pub mod Replies
 pub mod Rightness
+pub mod RowSums
 pub mod Scanning
 pub mod Trans

@@ -4,7 +4,7 @@ use Rattle.std.specs.Prelude.{find, map, All, ◌&&◌, ◌==◌, Some, None}
 use Rattle.std.specs.List.{enumerate_from, filter_map}
 use Rattle.mq_frame.specs.declared.message.Id.{Id}
 use Rattle.mq_frame.specs.declared.message.Request.{Request}
-use Rattle.mq_frame.specs.declared.message.Request.TheVariants.{Reserve, Settle, Release, Limit, Usage, List as ListRequest}
+use Rattle.mq_frame.specs.declared.message.Request.TheVariants.{Reserve, Settle, Release, Limit, Usage, List as ListRequest, Retire}
 use Rattle.mq_frame.specs.Range.{IsId, IsRequest}
 use Rattle.mq_frame.specs.Reading.{request_at}
 use Rattle.mq_frame.specs.Same.{same_text, same_id}
@@ -15,8 +15,9 @@ use Rattle.mq_rows.specs.declared.record.AnswerRecord.{AnswerRecord}
 use Rattle.mq_rows.specs.Rows.{number_of, answer_row}
 use Rattle.mq_rows.proofs.Lists.{either, number_is}
 
-abbrev pub rows_from : ℕ → List Entry → List AnswerRecord
-rows_from n H = map (λ p. answer_row p.0 p.1) (enumerate_from n H)
+-- the rows of entries under the floors of a history
+abbrev pub rows_from : List Entry → ℕ → List Entry → List AnswerRecord
+rows_from G n H = map (λ p. answer_row G p.0 p.1) (enumerate_from n H)
 
 -- a request in range has its number in range
 pub number_in_range : (r : Request) (id : Id) → IsRequest r → id_of r ≡ Some id → IsId id
@@ -24,6 +25,7 @@ number_in_range (Reserve id txn at login count) id' h e = (let same : id ≡ id'
 number_in_range (Settle id txn at login count) id' h e = (let same : id ≡ id' = cc e in rw (← same) h.0)
 number_in_range (Release id txn at login) id' h e = (let same : id ≡ id' = cc e in rw (← same) h.0)
 number_in_range (Limit id from_day cap login) id' h e = (let same : id ≡ id' = cc e in rw (← same) h.0)
+number_in_range (Retire id) id' h e = (let same : id ≡ id' = cc e in rw (← same) h)
 number_in_range (Usage login day) id' h e = absurd (cc e)
 number_in_range (ListRequest day after) id' h e = absurd (cc e)
 
@@ -43,35 +45,36 @@ number_test id (Reserve id' txn at login count) h = refl
 number_test id (Settle id' txn at login count) h = refl
 number_test id (Release id' txn at login) h = refl
 number_test id (Limit id' from_day cap login) h = refl
+number_test id (Retire id') h = refl
 number_test id (Usage login day) h = never_both (same_text id.host []) (id.run == 0) (id.seq == 0) (some_run id.run h.run.from)
 number_test id (ListRequest day after) h = never_both (same_text id.host []) (id.run == 0) (id.seq == 0) (some_run id.run h.run.from)
 
 -- the entry that a row stands for
-pub record Stored (H : List Entry) (id : Id) (row : AnswerRecord) : Type 0 where
+pub record Stored (G H : List Entry) (id : Id) (row : AnswerRecord) : Type 0 where
   pub entry : Entry
   pub n : ℕ
   pub there : find (λ (e : Entry). has_id id e.request) H ≡ Some entry
-  pub is : row ≡ answer_row n entry
+  pub is : row ≡ answer_row G n entry
 
-pub stored_row : (n : ℕ) (H : List Entry) (id : Id) (row : AnswerRecord) → IsId id → find (λ (x : AnswerRecord). same_id id x.id) (rows_from n H) ≡ Some row → Stored H id row
-stored_row n [] id row h e = absurd (cc e)
-stored_row n (x ∷ H) id row h e = elim (either (has_id id x.request)) [
+pub stored_row : (G : List Entry) (n : ℕ) (H : List Entry) (id : Id) (row : AnswerRecord) → IsId id → find (λ (x : AnswerRecord). same_id id x.id) (rows_from G n H) ≡ Some row → Stored G H id row
+stored_row G n [] id row h e = absurd (cc e)
+stored_row G n (x ∷ H) id row h e = elim (either (has_id id x.request)) [
   | inl t ↦ (let u : same_id id (number_of x.request) ≡ true = number_test id x.request h ∙ t in
-      let k : Some (answer_row n x) ≡ Some row = rw u at e in
-      let same : answer_row n x ≡ row = cc k in
+      let k : Some (answer_row G n x) ≡ Some row = rw u at e in
+      let same : answer_row G n x ≡ row = cc k in
       record { entry = x; n = n; there = rw t refl; is = sym same })
   | inr f ↦ (let u : same_id id (number_of x.request) ≡ false = number_test id x.request h ∙ f in
-      let r = stored_row (n + 1) H id row h (rw u at e) in
+      let r = stored_row G (n + 1) H id row h (rw u at e) in
       record { entry = r.entry; n = r.n; there = rw f r.there; is = r.is })
 ]
 
-pub no_row : (n : ℕ) (H : List Entry) (id : Id) → IsId id → find (λ (x : AnswerRecord). same_id id x.id) (rows_from n H) ≡ None → find (λ (e : Entry). has_id id e.request) H ≡ None
-no_row n [] id h e = refl
-no_row n (x ∷ H) id h e = elim (either (has_id id x.request)) [
+pub no_row : (G : List Entry) (n : ℕ) (H : List Entry) (id : Id) → IsId id → find (λ (x : AnswerRecord). same_id id x.id) (rows_from G n H) ≡ None → find (λ (e : Entry). has_id id e.request) H ≡ None
+no_row G n [] id h e = refl
+no_row G n (x ∷ H) id h e = elim (either (has_id id x.request)) [
   | inl t ↦ (let u : same_id id (number_of x.request) ≡ true = number_test id x.request h ∙ t in
-      let k : Some (answer_row n x) ≡ None = rw u at e in absurd (cc k))
+      let k : Some (answer_row G n x) ≡ None = rw u at e in absurd (cc k))
   | inr f ↦ (let u : same_id id (number_of x.request) ≡ false = number_test id x.request h ∙ f in
-      rw f (no_row (n + 1) H id h (rw u at e)))
+      rw f (no_row G (n + 1) H id h (rw u at e)))
 ]
 
 pub head_of : {X : Type 0} (P : X → Type 0) (x : X) (xs : List X) → All P (x ∷ xs) → P x
@@ -88,9 +91,9 @@ found_has P p (y ∷ xs) x all h = elim (either (p y)) [
 ]
 
 -- The requests that the rows spell.
-pub spelled_requests : (read : (r : Request) → IsRequest r → request_at (request_body r) ≡ Some r) → (n : ℕ) (H : List Entry) → All (λ (e : Entry). IsRequest e.request) H
-    → filter_map (λ (a : AnswerRecord). request_at a.request) (rows_from n H) ≡ map (λ (e : Entry). e.request) H
-spelled_requests read n [] all = refl
-spelled_requests read n (x ∷ H) all =
+pub spelled_requests : (read : (r : Request) → IsRequest r → request_at (request_body r) ≡ Some r) → (G : List Entry) (n : ℕ) (H : List Entry) → All (λ (e : Entry). IsRequest e.request) H
+    → filter_map (λ (a : AnswerRecord). request_at a.request) (rows_from G n H) ≡ map (λ (e : Entry). e.request) H
+spelled_requests read G n [] all = refl
+spelled_requests read G n (x ∷ H) all =
     let e : request_at (request_body x.request) ≡ Some x.request = read x.request (head_of (λ (y : Entry). IsRequest y.request) x H all) in
-    rw e (ap (λ (l : List Request). x.request ∷ l) (spelled_requests read (n + 1) H (tail_of (λ (y : Entry). IsRequest y.request) x H all)))
+    rw e (ap (λ (l : List Request). x.request ∷ l) (spelled_requests read G (n + 1) H (tail_of (λ (y : Entry). IsRequest y.request) x H all)))

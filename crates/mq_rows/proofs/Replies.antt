@@ -4,14 +4,14 @@ use Rattle.std.specs.Prelude.{find, filter, not, ◌&&◌, ◌==◌, ◌⊎◌, 
 use Rattle.std.specs.List.{AllByRecursion}
 use Rattle.mq_frame.specs.declared.message.Id.{Id}
 use Rattle.mq_frame.specs.declared.message.Request.{Request}
-use Rattle.mq_frame.specs.declared.message.Request.TheVariants.{Reserve, Settle, Release, Limit, Usage, List as ListRequest}
+use Rattle.mq_frame.specs.declared.message.Request.TheVariants.{Reserve, Settle, Release, Limit, Usage, List as ListRequest, Retire}
 use Rattle.mq_frame.specs.declared.message.Reply.TheVariants.{Released, Over, Closed, Mismatch}
 use Rattle.mq_frame.specs.Same.{same_text}
 use Rattle.mq_frame.specs.Range.{IsReply}
 use Rattle.mq_ledger.specs.declared.entry.Entry.{Entry}
 use Rattle.mq_ledger.specs.Arrivals.{id_of}
 use Rattle.mq_ledger.specs.Answer.{answer, granted_or_full, settled_or_too_many, set_or_over}
-use Rattle.mq_ledger.specs.History.{Transaction, transaction, is_of, is_at, named, agrees, closed, held, reserved, settled, used}
+use Rattle.mq_ledger.specs.History.{Transaction, transaction, same_transaction, is_of, is_at, named, agrees, closed, held, reserved, settled, used}
 use Rattle.mq_ledger.specs.Limits.{set_cap, cap}
 use Rattle.mq_ledger.specs.Over.{over, IsLeastOver}
 use Rattle.mq_ledger.specs.Page.{has_reserve}
@@ -24,13 +24,13 @@ use Rattle.mq_rows.specs.Tables.{Tables, those, AreUsage, AreCeilings}
 use Rattle.mq_rows.specs.Found.{is_due, IsGoverning, is_over, IsFirstOver, IsFound}
 use Rattle.mq_rows.specs.Plan.{agrees_with, is_closed, held_by, reserved_by, used_by, cap_by, set_or_over_by, decided, fits, fits_if_open, is_day_over, may_be_found}
 use Rattle.mq_rows.proofs.Lists.{either, option_cases, one_of_those, text_is, text_itself, number_itself}
-use Rattle.mq_rows.proofs.Trans.{Entries, IsTransactionFound}
+use Rattle.mq_rows.proofs.Trans.{IsHeard, IsTransactionFound}
 use Rattle.mq_rows.proofs.Days.{Uses, IsUsageFound, both_split}
 use Rattle.mq_rows.proofs.Ceilings.{row_of_cap}
 
 -- Members.
 
-found_passes : {X : Type 0} (p : X → Bool) (xs : List X) (x : X) → find p xs ≡ Some x → p x ≡ true
+pub found_passes : {X : Type 0} (p : X → Bool) (xs : List X) (x : X) → find p xs ≡ Some x → p x ≡ true
 found_passes p [] x h = absurd (cc h)
 found_passes p (y ∷ xs) x h = elim (either (p y)) [
   | inl t ↦ (let k : Some y ≡ Some x = rw t at h in let same : y ≡ x = cc k in rw (← same) t)
@@ -81,20 +81,21 @@ at_is T at login (Release id txn at' login') h = refl
 at_is T at login (Limit id from c login') h = absurd (cc h)
 at_is T at login (Usage login' d) h = absurd (cc h)
 at_is T at login (ListRequest d l) h = absurd (cc h)
+at_is T at login (Retire id) h = absurd (cc h)
 
 pub record Stands (H : List Entry) (T : Transaction) (at : ℕ) (login : List ℕ) (o : Option TransactionRecord) : Type 0 where
   pub agreed : agrees_with at login o ≡ agrees at login (named H T)
   pub shut : is_closed o ≡ closed H T
   pub holds : held_by o ≡ held H T
 
-pub stands : (es : Entries) (day : ℕ → ℕ) (H : List Entry) (T : Transaction) (at : ℕ) (login : List ℕ) (o : Option TransactionRecord) → o ≡ transaction_row day H T → Stands H T at login o
-stands es day H T at login o h = elim (option_cases (named H T)) [
-  | inl none ↦ (let u = es.unheard H T none in
+pub stands : (day : ℕ → ℕ) (H : List Entry) (r : Request) → IsHeard H r → (T : Transaction) (at : ℕ) (login : List ℕ) (o : Option TransactionRecord) → is_of T r ≡ true → o ≡ transaction_row day H T → Stands H T at login o
+stands day H r heard T at login o own h = elim (option_cases (named H T)) [
+  | inl none ↦ (let u = heard T own none in
       let k : o ≡ None = h ∙ (rw none refl) in
       record { agreed = rw (k, none) refl; shut = rw k (sym u.0); holds = rw k (sym u.1) })
   | inr p ↦ (let k : o ≡ Some (transaction_of day H T p.0) = h ∙ (rw p.1 refl) in
-      let own : is_of T p.0.request ≡ true = found_passes (λ e. is_of T e.request) H p.0 p.1 in
-      record { agreed = rw (k, p.1) (at_is T at login p.0.request own); shut = rw k refl; holds = rw k refl })
+      let mine : is_of T p.0.request ≡ true = found_passes (λ e. is_of T e.request) H p.0 p.1 in
+      record { agreed = rw (k, p.1) (at_is T at login p.0.request mine); shut = rw k refl; holds = rw k refl })
 ]
 
 module _ (day : ℕ → ℕ) (default : ℕ) (H : List Entry) (us : Uses day default H) where
@@ -210,25 +211,26 @@ module _ (default : ℕ) (H : List Entry) (gs : Governs default H) (rows : List 
       ]))
 
 -- The reply.
-module _ (es : Entries) (day : ℕ → ℕ) (default : ℕ) (H : List Entry) (us : Uses day default H) (gs : Governs default H)
+module _ (itself : (t : Transaction) → same_transaction t t ≡ true) (day : ℕ → ℕ) (default : ℕ) (H : List Entry) (us : Uses day default H) (gs : Governs default H)
     (only : (l : List ℕ) (from c : ℕ) (o : Option ℕ) → IsLeastOver day H l from c o → o ≡ over day H l from c) where
-  pub decided_is_answer : (t : Tables) (r : Request) (f : Found) → AreUsage day H t.usage → AreCeilings H t.ceilings → IsTransactionFound day H r f.transaction → IsUsageFound day default H us r f.usage → IsFound day t r f → is_some (id_of r) ≡ true
+  pub decided_is_answer : (t : Tables) (r : Request) (f : Found) → IsHeard H r → AreUsage day H t.usage → AreCeilings H t.ceilings → IsTransactionFound day H r f.transaction → IsUsageFound day default H us r f.usage → IsFound day t r f → is_some (id_of r) ≡ true
       → decided default r f ≡ answer day default H r
-  decided_is_answer t (Reserve id txn at login count) f are_usage are_ceilings tf uf found numbered =
-      let s : Stands H (transaction id txn) at login f.transaction = stands es day H (transaction id txn) at login f.transaction tf in
+  decided_is_answer t (Reserve id txn at login count) f heard are_usage are_ceilings tf uf found numbered =
+      let s : Stands H (transaction id txn) at login f.transaction = stands day H (Reserve id txn at login count) heard (transaction id txn) at login f.transaction (itself (transaction id txn)) tf in
       let w : Tells day default H us login (day at) f.usage = tells day default H us login (day at) f.usage uf in
       let g : cap_by default f.governing ≡ cap default H login (day at) = governs default H gs t.ceilings are_ceilings login (day at) f.governing found.2 in
       λ i. if not (s.agreed i) then Mismatch id else (if s.shut i then Closed id else granted_or_full id (w.uses i) (g i) count)
-  decided_is_answer t (Settle id txn at login count) f are_usage are_ceilings tf uf found numbered =
-      let s : Stands H (transaction id txn) at login f.transaction = stands es day H (transaction id txn) at login f.transaction tf in
+  decided_is_answer t (Settle id txn at login count) f heard are_usage are_ceilings tf uf found numbered =
+      let s : Stands H (transaction id txn) at login f.transaction = stands day H (Settle id txn at login count) heard (transaction id txn) at login f.transaction (itself (transaction id txn)) tf in
       λ i. if not (s.agreed i) then Mismatch id else (if s.shut i then Closed id else settled_or_too_many id (s.holds i) count)
-  decided_is_answer t (Release id txn at login) f are_usage are_ceilings tf uf found numbered =
-      let s : Stands H (transaction id txn) at login f.transaction = stands es day H (transaction id txn) at login f.transaction tf in
+  decided_is_answer t (Release id txn at login) f heard are_usage are_ceilings tf uf found numbered =
+      let s : Stands H (transaction id txn) at login f.transaction = stands day H (Release id txn at login) heard (transaction id txn) at login f.transaction (itself (transaction id txn)) tf in
       λ i. if not (s.agreed i) then Mismatch id else (if s.shut i then Closed id else Released id (s.holds i))
-  decided_is_answer t (Limit id from asked login) f are_usage are_ceilings tf uf found numbered =
+  decided_is_answer t (Limit id from asked login) f heard are_usage are_ceilings tf uf found numbered =
       over_reply day default H us t.usage are_usage only id login from asked f.over found.0
-  decided_is_answer t (Usage login d) f are_usage are_ceilings tf uf found numbered = absurd (cc numbered)
-  decided_is_answer t (ListRequest d l) f are_usage are_ceilings tf uf found numbered = absurd (cc numbered)
+  decided_is_answer t (Usage login d) f heard are_usage are_ceilings tf uf found numbered = absurd (cc numbered)
+  decided_is_answer t (ListRequest d l) f heard are_usage are_ceilings tf uf found numbered = absurd (cc numbered)
+  decided_is_answer t (Retire id) f heard are_usage are_ceilings tf uf found numbered = refl
 
 -- What was found may be found.
 
@@ -245,22 +247,23 @@ fit at login c t u n k held = elim (either (agrees_with at login t)) [
   ]
 ]
 
-module _ (es : Entries) (day : ℕ → ℕ) (default : ℕ) (H : List Entry) (us : Uses day default H) (gs : Governs default H)
+module _ (itself : (t : Transaction) → same_transaction t t ≡ true) (day : ℕ → ℕ) (default : ℕ) (H : List Entry) (us : Uses day default H) (gs : Governs default H)
     (used_in_range : (l : List ℕ) (d : ℕ) → used day H l d ≤ 1000000) (cap_in_range : (l : List ℕ) (d : ℕ) → cap default H l d ≤ 1000000) where
-  fit_here : (id : Id) (txn at : ℕ) (login : List ℕ) (c : ℕ) (t : Option TransactionRecord) (u : Option UsageRecord) → t ≡ transaction_row day H (transaction id txn) → u ≡ usage_row day H login (day at) → c ≤ 1000000 → fits_if_open at login c t u ≡ true
-  fit_here id txn at login c t u tf uf k =
-      let s : Stands H (transaction id txn) at login t = stands es day H (transaction id txn) at login t tf in
+  fit_here : (r : Request) → IsHeard H r → (id : Id) (txn at : ℕ) (login : List ℕ) (c : ℕ) (t : Option TransactionRecord) (u : Option UsageRecord) → is_of (transaction id txn) r ≡ true → t ≡ transaction_row day H (transaction id txn) → u ≡ usage_row day H login (day at) → c ≤ 1000000 → fits_if_open at login c t u ≡ true
+  fit_here r heard id txn at login c t u own tf uf k =
+      let s : Stands H (transaction id txn) at login t = stands day H r heard (transaction id txn) at login t own tf in
       let w : Tells day default H us login (day at) u = tells day default H us login (day at) u uf in
       let n : used_by u ≤ 1000000 = rw w.uses (used_in_range login (day at)) in
       fit at login c t u n k (λ a. let le : held H (transaction id txn) ≤ reserved day H login (day at) = us.held_is_reserved id txn at login (sym s.agreed ∙ a) in rw (s.holds, w.reserves) le)
 
-  pub may_be : (t : Tables) (r : Request) (f : Found) → AreCeilings H t.ceilings → IsTransactionFound day H r f.transaction → IsUsageFound day default H us r f.usage → IsFound day t r f → IsReply (decided default r f) → may_be_found default r f ≡ true
-  may_be t (Reserve id txn at login count) f are tf uf found fits =
+  pub may_be : (t : Tables) (r : Request) (f : Found) → IsHeard H r → AreCeilings H t.ceilings → IsTransactionFound day H r f.transaction → IsUsageFound day default H us r f.usage → IsFound day t r f → IsReply (decided default r f) → may_be_found default r f ≡ true
+  may_be t (Reserve id txn at login count) f heard are tf uf found fits =
       let g : cap_by default f.governing ≡ cap default H login (day at) = governs default H gs t.ceilings are login (day at) f.governing found.2 in
       let k : cap_by default f.governing ≤ 1000000 = rw g (cap_in_range login (day at)) in
-      fit_here id txn at login (cap_by default f.governing) f.transaction f.usage tf uf k
-  may_be t (Settle id txn at login count) f are tf uf found fits = fit_here id txn at login 0 f.transaction f.usage tf uf (omega arith)
-  may_be t (Release id txn at login) f are tf uf found fits = fit_here id txn at login 0 f.transaction f.usage tf uf (omega arith)
-  may_be t (Limit id from asked login) f are tf uf found fits = day_over id f.over fits
-  may_be t (Usage login d) f are tf uf found fits = refl
-  may_be t (ListRequest d l) f are tf uf found fits = refl
+      fit_here (Reserve id txn at login count) heard id txn at login (cap_by default f.governing) f.transaction f.usage (itself (transaction id txn)) tf uf k
+  may_be t (Settle id txn at login count) f heard are tf uf found fits = fit_here (Settle id txn at login count) heard id txn at login 0 f.transaction f.usage (itself (transaction id txn)) tf uf (omega arith)
+  may_be t (Release id txn at login) f heard are tf uf found fits = fit_here (Release id txn at login) heard id txn at login 0 f.transaction f.usage (itself (transaction id txn)) tf uf (omega arith)
+  may_be t (Limit id from asked login) f heard are tf uf found fits = day_over id f.over fits
+  may_be t (Usage login d) f heard are tf uf found fits = refl
+  may_be t (ListRequest d l) f heard are tf uf found fits = refl
+  may_be t (Retire id) f heard are tf uf found fits = refl

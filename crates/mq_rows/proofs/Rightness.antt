@@ -14,7 +14,7 @@ use Rattle.std.proofs.lemmas.List.{map-set, get_or-map, length-map}
 use Rattle.std.proofs.lemmas.List.Sorted.{IsPermutation-refl, IsPermutation-trans, IsPermutation-swap, IsPermutation-keeps}
 use Rattle.std.proofs.lemmas.List.Elements.{All-head}
 use Rattle.mq_frame.specs.declared.message.Request.{Request}
-use Rattle.mq_frame.specs.declared.message.Request.TheVariants.{Reserve, Settle, Release, Limit, Usage, List as ListRequest}
+use Rattle.mq_frame.specs.declared.message.Request.TheVariants.{Reserve, Settle, Release, Limit, Usage, List as ListRequest, Retire}
 use Rattle.mq_frame.specs.Range.{IsRequest, IsMoment}
 use Rattle.mq_frame.specs.Same.{same_text}
 use Rattle.mq_ledger.specs.declared.entry.Entry.{Entry}
@@ -154,6 +154,7 @@ for_pair day t (Release id txn at login) l d mine = refl
 for_pair day t (Limit id from c login) l d mine = absurd (cc mine)
 for_pair day t (Usage login k) l d mine = absurd (cc mine)
 for_pair day t (ListRequest k after) l d mine = absurd (cc mine)
+for_pair day t (Retire id) l d mine = absurd (cc mine)
 
 moment_in : (t : Transaction) (r : Request) → is_of t r ≡ true → IsRequest r → IsMoment (moment_of r)
 moment_in t (Reserve id txn at login count) mine h = h.2
@@ -162,6 +163,7 @@ moment_in t (Release id txn at login) mine h = h.2
 moment_in t (Limit id from c login) mine h = absurd (cc mine)
 moment_in t (Usage login k) mine h = absurd (cc mine)
 moment_in t (ListRequest k after) mine h = absurd (cc mine)
+moment_in t (Retire id) mine h = absurd (cc mine)
 
 -- the row is of that login and day
 abbrev is_on : List ℕ → ℕ → TransactionRecord → Bool

@@ -4,13 +4,13 @@ use Rattle.std.specs.Prelude.{None, Contains}
 use Rattle.std.specs.List.{AllByRecursion}
 use Rattle.mq_frame.specs.declared.message.Request.{Request}
 use Rattle.mq_frame.specs.declared.message.Request.TheVariants.{Reserve, Settle, Release, Limit, Usage}
-use Rattle.mq_frame.specs.declared.message.Request.TheVariants.{List as ListRequest}
+use Rattle.mq_frame.specs.declared.message.Request.TheVariants.{List as ListRequest, Retire}
 use Rattle.mq_frame.specs.Same.{same_text}
 use Rattle.mq_ledger.specs.History.{transaction}
 use Rattle.mq_rows.specs.declared.record.UsageRecord.{UsageRecord}
 use Rattle.mq_rows.specs.declared.record.CeilingRecord.{CeilingRecord}
 use Rattle.mq_rows.specs.declared.plan.Found.{Found}
-use Rattle.mq_rows.specs.Rows.{is_transaction, is_usage, is_ceiling}
+use Rattle.mq_rows.specs.Rows.{is_transaction, is_usage, is_ceiling, is_host}
 use Rattle.mq_rows.specs.Tables.{Tables}
 
 -- the limit is the login's, and holds from that day or an earlier one on
@@ -52,3 +52,4 @@ IsFound day t (Limit id from_day asked login) f =
     × (f.ceiling ≡ find (is_ceiling login from_day) t.ceilings)
 IsFound day t (Usage login d) f = Unit {0}
 IsFound day t (ListRequest d after) f = Unit {0}
+IsFound day t (Retire id) f = f.floor ≡ find (is_host id.host) t.retired

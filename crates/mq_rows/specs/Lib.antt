@@ -9,6 +9,7 @@ pub mod Pair
 pub mod Plan
 pub mod Storable
 pub mod Repeat
+pub mod Retiring
 pub mod Rows
 pub mod Tables
 pub mod Written

@@ -1,27 +1,30 @@
 -- The reply to a numbered request whose number is new, and what is written with it, by what was
 -- found in the tables.
-use Rattle.std.specs.Prelude.{◌≡◌, ℕ, ◌+◌, ◌-◌, List, ◌∷◌, Bool, true, false, not, ◌==◌, ◌&&◌, nat_le, if◌then◌else◌}
+use Rattle.std.specs.Prelude.{◌≡◌, ℕ, ◌+◌, ◌-◌, List, [], ◌∷◌, map, filter, ◌⊎◌, Bool, true, false, not, ◌==◌, ◌&&◌, nat_le, if◌then◌else◌}
 use Rattle.std.specs.Prelude.{Option, Some, None}
 use Rattle.std.specs.List.{AllByRecursion}
 use Rattle.std.specs.List.Sorted.{IsPermutation}
 use Rattle.mq_frame.specs.declared.message.Id.{Id}
 use Rattle.mq_frame.specs.declared.message.Request.{Request}
 use Rattle.mq_frame.specs.declared.message.Request.TheVariants.{Reserve, Settle, Release, Limit, Usage}
-use Rattle.mq_frame.specs.declared.message.Request.TheVariants.{List as ListRequest}
+use Rattle.mq_frame.specs.declared.message.Request.TheVariants.{List as ListRequest, Retire}
 use Rattle.mq_frame.specs.declared.message.Reply.{Reply}
 use Rattle.mq_frame.specs.declared.message.Reply.TheVariants.{Granted, Settled, Released, LimitSet, Over, Closed}
-use Rattle.mq_frame.specs.declared.message.Reply.TheVariants.{Mismatch, Bad}
+use Rattle.mq_frame.specs.declared.message.Reply.TheVariants.{Mismatch, Bad, Retired}
 use Rattle.mq_frame.specs.Same.{same_text}
 use Rattle.mq_ledger.specs.Answer.{granted_or_full, settled_or_too_many}
 use Rattle.mq_rows.specs.declared.record.TransactionRecord.{TransactionRecord}
 use Rattle.mq_rows.specs.declared.record.UsageRecord.{UsageRecord}
+use Rattle.mq_rows.specs.declared.record.AnswerRecord.{AnswerRecord}
 use Rattle.mq_rows.specs.declared.record.CeilingRecord.{CeilingRecord}
+use Rattle.mq_rows.specs.declared.record.RetiredRecord.{RetiredRecord}
 use Rattle.mq_rows.specs.declared.plan.Found.{Found}
 use Rattle.mq_rows.specs.declared.plan.Plan.{Plan}
+use Rattle.mq_rows.specs.declared.plan.Runs.{Runs}
 use Rattle.mq_rows.specs.declared.plan.Write.{Write}
 use Rattle.mq_rows.specs.declared.plan.Write.TheVariants.{Keep, Insert, Update}
 use Rattle.mq_ledger.specs.History.{Transaction}
-use Rattle.mq_rows.specs.Rows.{answer_row, is_transaction, is_usage, is_ceiling}
+use Rattle.mq_rows.specs.Rows.{answer_of, is_transaction, is_usage, is_ceiling, is_host}
 
 -- What was found, as numbers: nothing where there is no row.
 
@@ -74,6 +77,7 @@ decided default (Release id txn at login) f =
 decided default (Limit id from_day asked login) f = set_or_over_by id f.over
 decided default (Usage login day) f = Bad
 decided default (ListRequest day after) f = Bad
+decided default (Retire id) f = Retired id
 
 -- What is written with it: a refusal changes no row, and a transaction's first request makes its row.
 
@@ -145,15 +149,37 @@ abbrev pub ceiling_write : Request → Reply → Option CeilingRecord → Write 
 ceiling_write (Limit id from_day asked login) (LimitSet id') c = set_ceiling_to login from_day asked c
 ceiling_write _ _ c = Keep
 
+-- the floor that was found, and 0 where there is no row
+abbrev pub floor_by : Option RetiredRecord → ℕ
+floor_by None = 0
+floor_by (Some r) = r.run
+
+-- the runs that a retire gives up: those of its host from the floor before on, below its own
+abbrev pub given_up_by : Request → Found → Option Runs
+given_up_by (Retire id) f = Some (record { host = id.host; from = floor_by f.floor; to = id.run - 1 })
+given_up_by _ f = None
+
+-- the floor of that host is that run
+abbrev pub raised_to : Id → Option RetiredRecord → Write RetiredRecord
+raised_to id None = Insert (record { host = id.host; run = id.run })
+raised_to id (Some r) = Update (record r { run = id.run })
+
+-- retired
+abbrev pub retired_write : Request → Option RetiredRecord → Write RetiredRecord
+retired_write (Retire id) r = raised_to id r
+retired_write _ r = Keep
+
 -- all that is written with that reply
 abbrev pub written : (ℕ → ℕ) → ℕ → Request → Found → Reply → Plan
 written day arrivals r f a = record {
   reply = a;
-  answer = answer_row (arrivals + 1) (record { request = r; reply = a });
+  answer = answer_of (arrivals + 1) (record { request = r; reply = a });
   arrivals = arrivals + 1;
+  given_up = given_up_by r f;
   transaction = transaction_write day r a f.transaction;
   usage = usage_write day r a (held_by f.transaction) f.usage;
   ceiling = ceiling_write r a f.ceiling;
+  retired = retired_write r f.floor;
 }
 
 -- what a numbered request whose number is new comes to, where so many were answered
@@ -231,3 +257,57 @@ same_from new other = is_ceiling new.login new.day other
 
 abbrev pub set_ceiling : CeilingRecord → CeilingRecord → CeilingRecord
 set_ceiling new was = record was { cap = new.cap }
+
+abbrev pub same_host : RetiredRecord → RetiredRecord → Bool
+same_host new other = is_host new.host other
+
+abbrev pub set_run : RetiredRecord → RetiredRecord → RetiredRecord
+set_run new was = record was { run = new.run }
+
+-- What giving runs up does to the rows of their transactions and answers.
+
+-- the run of that host is one of them
+abbrev pub is_among : Runs → List ℕ → ℕ → Bool
+is_among runs host run = same_text runs.host host && (nat_le runs.from run && nat_le run runs.to)
+
+-- the transaction is open, and of one of these runs
+abbrev pub is_open_in : Runs → TransactionRecord → Bool
+is_open_in runs t = same_text runs.host t.host && (nat_le runs.from t.run && (nat_le t.run runs.to && not t.closed))
+
+-- its row once its run was given up: what it held is settled
+abbrev pub abandoned_row : TransactionRecord → TransactionRecord
+abandoned_row t = record t { held = 0; settled = t.held; closed = true }
+
+-- these are the open transactions of the runs that are given up, in any order
+abbrev pub AreToClose : Option Runs → List TransactionRecord → List TransactionRecord → Type 0
+AreToClose None rows these = these ≡ []
+AreToClose (Some runs) rows these = IsPermutation these (filter (is_open_in runs) rows)
+
+-- the row is among them
+abbrev pub Has : {R : Type 0} → List R → R → Type 0
+Has [] r = ⊥
+Has (x ∷ rows) r = (x ≡ r) ⊎ Has rows r
+
+-- no row passes, or this is one that does
+abbrev pub IsOneIn : {R : Type 0} → (R → Bool) → List R → Option R → Type 0
+IsOneIn passes rows None = AllByRecursion (λ r. passes r ≡ false) rows
+IsOneIn passes rows (Some r) = Has rows r × (passes r ≡ true)
+
+-- Each of these can be closed after the one before, with what it held settled on its login's day, whatever row is found
+-- there; P holds of the rows then.
+abbrev pub LeadsAll : List TransactionRecord → List TransactionRecord → List UsageRecord
+    → (List TransactionRecord → List UsageRecord → Type 0) → Type 0
+LeadsAll [] rows usage P = P rows usage
+LeadsAll (was ∷ rest) rows usage P =
+    (u : Option UsageRecord) → IsOneIn (is_usage was.login was.day) usage u
+    → Leads same_key set_transaction (Update (abandoned_row was)) rows (λ after.
+    Leads same_day set_usage (freed was.held was.held u) usage (λ used. LeadsAll rest after used P))
+
+-- an answer of one of these runs keeps no reply
+abbrev pub cleared_in : Runs → AnswerRecord → AnswerRecord
+cleared_in runs a = if is_among runs a.id.host a.id.run then record a { reply = [] } else a
+
+-- so for all answers, where runs are given up
+abbrev pub cleared : Option Runs → List AnswerRecord → List AnswerRecord
+cleared None answers = answers
+cleared (Some runs) answers = map (cleared_in runs) answers

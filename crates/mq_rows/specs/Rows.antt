@@ -2,8 +2,8 @@
 --
 -- `day` gives the day of a moment. A table but the answers has at most one row under a key, and the
 -- rule gives the row of each key, where there is one.
-use Rattle.std.specs.Prelude.{◌≡◌, ℕ, List, [], map, length, Bool, true, ◌==◌, ◌&&◌, if◌then◌else◌, Option, Some, None}
-use Rattle.std.specs.Prelude.{option_map, unwrap_or}
+use Rattle.std.specs.Prelude.{◌≡◌, ℕ, List, [], map, length, Bool, true, ◌==◌, ◌&&◌, ◌||◌, if◌then◌else◌, Option, Some}
+use Rattle.std.specs.Prelude.{None, option_map, unwrap_or}
 use Rattle.std.specs.List.{enumerate_from}
 use Rattle.mq_frame.specs.declared.message.Id.{Id}
 use Rattle.mq_frame.specs.declared.message.Request.{Request}
@@ -12,9 +12,10 @@ use Rattle.mq_frame.specs.Same.{same_text}
 use Rattle.mq_frame.specs.Spelling.{request_body, reply_body}
 use Rattle.mq_ledger.specs.declared.entry.Entry.{Entry}
 use Rattle.mq_ledger.specs.declared.zone.Zone.{Zone}
-use Rattle.mq_ledger.specs.Arrivals.{id_of}
+use Rattle.mq_ledger.specs.Arrivals.{id_of, floor, is_below}
 use Rattle.mq_ledger.specs.Day.{ByOffset, ByRule, minutes_in, rule_in}
-use Rattle.mq_ledger.specs.History.{Transaction, same_transaction, named, closed, held, settled_in, settled, reserved}
+use Rattle.mq_ledger.specs.History.{requests, Transaction, same_transaction, named, closed, held, settled_in, settled}
+use Rattle.mq_ledger.specs.History.{reserved}
 use Rattle.mq_ledger.specs.Legal.{Book}
 use Rattle.mq_ledger.specs.Limits.{set_cap}
 use Rattle.mq_ledger.specs.Page.{has_reserve}
@@ -23,15 +24,17 @@ use Rattle.mq_rows.specs.declared.record.AnswerRecord.{AnswerRecord}
 use Rattle.mq_rows.specs.declared.record.TransactionRecord.{TransactionRecord}
 use Rattle.mq_rows.specs.declared.record.UsageRecord.{UsageRecord}
 use Rattle.mq_rows.specs.declared.record.CeilingRecord.{CeilingRecord}
+use Rattle.mq_rows.specs.declared.record.RetiredRecord.{RetiredRecord}
+use Rattle.mq_rows.specs.declared.setting.TheConstants.{VERSION}
 
--- the version of the tables that a ledger is made with: 1 with an offset, 2 with a rule
-abbrev pub version_of : Zone → ℕ
-version_of (ByOffset minutes) = 1
-version_of (ByRule text) = 2
+-- the version of the tables that a ledger was made with before there were floors: 1 with an offset, 2 with a rule
+abbrev pub older_version : Zone → ℕ
+older_version (ByOffset minutes) = 1
+older_version (ByRule text) = 2
 
 -- whether tables of this version may be those of a ledger that goes by this zone
 abbrev pub is_version : Zone → ℕ → Bool
-is_version zone version = version == version_of zone
+is_version zone version = (version == VERSION) || (version == older_version zone)
 
 -- setting: the version of the tables, what a store keeps of the zone, the default limit, and the length of the history
 abbrev pub setting_row : ℕ → Book → SettingRecord
@@ -52,14 +55,23 @@ pub record IsSetting (b : Book) (s : SettingRecord) : Type 0 where
 abbrev pub number_of : Request → Id
 number_of r = unwrap_or (id_of r) (record { host = []; run = 0; seq = 0 })
 
--- answer: the n-th entry's number, and the bodies that spell its request and its reply
-abbrev pub answer_row : ℕ → Entry → AnswerRecord
-answer_row n e =
+-- the n-th entry's number, and the bodies that spell its request and its reply
+abbrev pub answer_of : ℕ → Entry → AnswerRecord
+answer_of n e =
     record { n = n; id = number_of e.request; request = request_body e.request; reply = reply_body e.reply }
+
+-- answer: so for each entry, but with no reply where its run is below the floor
+abbrev pub answer_row : List Entry → ℕ → Entry → AnswerRecord
+answer_row H n e = record {
+  n = n;
+  id = number_of e.request;
+  request = request_body e.request;
+  reply = if is_below (requests H) (number_of e.request) then [] else reply_body e.reply;
+}
 
 -- the rows of all entries, in their order, from n = 1 on
 abbrev pub answer_rows : List Entry → List AnswerRecord
-answer_rows H = map (λ p. answer_row p.0 p.1) (enumerate_from 1 H)
+answer_rows H = map (λ p. answer_row H p.0 p.1) (enumerate_from 1 H)
 
 -- the login of a reserve, settle or release
 abbrev pub login_of : Request → List ℕ
@@ -103,6 +115,14 @@ usage_row day H l d =
 -- ceiling: a row for each login and day from which a limit was set, with the cap of the last of them
 abbrev pub ceiling_row : List Entry → List ℕ → ℕ → Option CeilingRecord
 ceiling_row H l d = option_map (λ c. record { login = l; day = d; cap = c }) (set_cap H l d)
+
+-- retired: a row for each host whose floor is above 0
+abbrev pub retired_row : List Entry → List ℕ → Option RetiredRecord
+retired_row H h = if floor (requests H) h == 0 then None else Some (record { host = h; run = floor (requests H) h })
+
+-- the row is of that host
+abbrev pub is_host : List ℕ → RetiredRecord → Bool
+is_host h r = same_text h r.host
 
 -- the row is of that transaction
 abbrev pub is_transaction : Transaction → TransactionRecord → Bool

@@ -1,7 +1,9 @@
 -- What an integer column has a place for: a whole number of 64 bits with its sign.
 use Rattle.std.specs.Prelude.{◌<◌, ◌^◌, Option, Some, None}
 use Rattle.mq_rows.specs.declared.record.TransactionRecord.{TransactionRecord}
+use Rattle.mq_rows.specs.declared.record.RetiredRecord.{RetiredRecord}
 use Rattle.mq_rows.specs.declared.plan.Plan.{Plan}
+use Rattle.mq_rows.specs.declared.plan.Runs.{Runs}
 use Rattle.mq_rows.specs.declared.plan.Write.{Write}
 use Rattle.mq_rows.specs.declared.plan.Write.TheVariants.{Keep, Insert, Update}
 
@@ -13,6 +15,22 @@ IsStorable t = (t.run < 2 ^ 63) × (t.moment < 2 ^ 63)
 abbrev pub AreStorableIf : Option TransactionRecord → Type 0
 AreStorableIf None = Unit {0}
 AreStorableIf (Some t) = IsStorable t
+
+-- there is a place for the run of a floor, where there is one
+abbrev pub IsStorableFloor : Option RetiredRecord → Type 0
+IsStorableFloor None = Unit {0}
+IsStorableFloor (Some r) = r.run < 2 ^ 63
+
+-- and for the first and the last of the runs
+abbrev pub AreStorableRuns : Option Runs → Type 0
+AreStorableRuns None = Unit {0}
+AreStorableRuns (Some runs) = (runs.from < 2 ^ 63) × (runs.to < 2 ^ 63)
+
+-- so there is in what is written of a floor
+abbrev pub IsStorableRun : Write RetiredRecord → Type 0
+IsStorableRun Keep = Unit {0}
+IsStorableRun (Insert r) = r.run < 2 ^ 63
+IsStorableRun (Update r) = r.run < 2 ^ 63
 
 -- so there is in what is written
 abbrev pub AreStorable : Write TransactionRecord → Type 0
@@ -26,3 +44,5 @@ pub record IsStorablePlan (p : Plan) : Type 0 where
   pub run : p.answer.id.run < 2 ^ 63
   pub arrivals : p.arrivals < 2 ^ 63
   pub transaction : AreStorable p.transaction
+  pub given_up : AreStorableRuns p.given_up
+  pub retired : IsStorableRun p.retired

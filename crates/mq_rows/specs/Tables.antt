@@ -9,17 +9,19 @@ use Rattle.mq_rows.specs.declared.record.AnswerRecord.{AnswerRecord}
 use Rattle.mq_rows.specs.declared.record.TransactionRecord.{TransactionRecord}
 use Rattle.mq_rows.specs.declared.record.UsageRecord.{UsageRecord}
 use Rattle.mq_rows.specs.declared.record.CeilingRecord.{CeilingRecord}
-use Rattle.mq_rows.specs.Rows.{IsSetting, answer_rows, transaction_row, usage_row, ceiling_row, is_transaction}
-use Rattle.mq_rows.specs.Rows.{is_usage, is_ceiling}
+use Rattle.mq_rows.specs.declared.record.RetiredRecord.{RetiredRecord}
+use Rattle.mq_rows.specs.Rows.{IsSetting, answer_rows, transaction_row, usage_row, ceiling_row, retired_row}
+use Rattle.mq_rows.specs.Rows.{is_transaction, is_usage, is_ceiling, is_host}
 
 -- the tables' rows: that of the settings with the rule, which has a table of its own from version 2 on; the answers in the
--- order of n; the rows of the last three in any order
+-- order of n; the rows of the others in any order; those of the floors have a table of their own from version 3 on
 pub record Tables : Type 0 where
   pub setting : SettingRecord
   pub answers : List AnswerRecord
   pub transactions : List TransactionRecord
   pub usage : List UsageRecord
   pub ceilings : List CeilingRecord
+  pub retired : List RetiredRecord
 
 -- the one, or none
 abbrev pub those : {R : Type 0} → Option R → List R
@@ -38,6 +40,10 @@ AreUsage day H rows = (l : List ℕ) (d : ℕ) → filter (is_usage l d) rows �
 abbrev pub AreCeilings : List Entry → List CeilingRecord → Type 0
 AreCeilings H rows = (l : List ℕ) (d : ℕ) → filter (is_ceiling l d) rows ≡ those (ceiling_row H l d)
 
+-- the rows are those of the floors: of each host the one, once, and no others
+abbrev pub AreRetired : List Entry → List RetiredRecord → Type 0
+AreRetired H rows = (h : List ℕ) → filter (is_host h) rows ≡ those (retired_row H h)
+
 -- the tables are the rows of the history, with its zone and its default limit
 pub record AreRows (b : Book) (t : Tables) : Type 0 where
   pub setting : IsSetting b t.setting
@@ -45,3 +51,4 @@ pub record AreRows (b : Book) (t : Tables) : Type 0 where
   pub transactions : AreTransactions (day_of b.zone) b.history t.transactions
   pub usage : AreUsage (day_of b.zone) b.history t.usage
   pub ceilings : AreCeilings b.history t.ceilings
+  pub retired : AreRetired b.history t.retired

@@ -1,18 +1,19 @@
 //! Laws of the rows of a history, for a ledger that keeps them in a store. Each function does
 //! nothing: its contract is the law.
-ghost use Rattle.std.specs.Prelude.{◌≡◌, ◌≤◌, ◌⊎◌, ℕ, ◌+◌, ℤ, List, [], ◌∷◌, ◌++◌, length, map, find, true, Option};
+ghost use Rattle.std.specs.Prelude.{◌≡◌, ◌≤◌, ◌⊎◌, ℕ, ◌+◌, ℤ, List, [], ◌∷◌, ◌++◌, length, map, filter, find, true, Option};
 ghost use Rattle.std.specs.Prelude.{false, Some, None, is_some, Contains};
 ghost use Rattle.std.specs.List.{AllByRecursion};
 ghost use Rattle.std.specs.List.Sorted.{IsPermutation};
 ghost use Rattle.mq_frame.specs.declared.message.Id.{Id};
 ghost use Rattle.mq_frame.specs.declared.message.Request.{Request as AnyRequest};
 ghost use Rattle.mq_frame.specs.declared.message.Reply.{Reply as AnyReply};
+ghost use Rattle.mq_frame.specs.declared.message.Reply.TheVariants.{Old};
 ghost use Rattle.mq_frame.specs.Range.{IsRequest, IsAmount};
 ghost use Rattle.mq_frame.specs.Same.{same_id};
 ghost use Rattle.mq_frame.specs.Spelling.{SpellsRequest, SpellsReply};
 ghost use Rattle.mq_ledger.specs.declared.entry.Entry.{Entry as AnyEntry};
-ghost use Rattle.mq_ledger.specs.Answer.{answer, appended, build, reply, stored};
-ghost use Rattle.mq_ledger.specs.Arrivals.{id_of, first};
+ghost use Rattle.mq_ledger.specs.Answer.{answer, appended, build, known_by, reply, stored};
+ghost use Rattle.mq_ledger.specs.Arrivals.{id_of, first, floor, is_below};
 ghost use Rattle.mq_ledger.specs.Day.{IsZone, IsDayRule, day_of};
 ghost use Rattle.mq_ledger.specs.declared.zone.Zone.{Zone as AnyZone};
 ghost use Rattle.mq_ledger.specs.History.{Transaction, requests};
@@ -22,26 +23,34 @@ ghost use Rattle.mq_rows.specs.declared.record.AnswerRecord.{AnswerRecord};
 ghost use Rattle.mq_rows.specs.declared.record.TransactionRecord.{TransactionRecord};
 ghost use Rattle.mq_rows.specs.declared.record.UsageRecord.{UsageRecord};
 ghost use Rattle.mq_rows.specs.declared.record.CeilingRecord.{CeilingRecord};
+ghost use Rattle.mq_rows.specs.declared.record.RetiredRecord.{RetiredRecord};
+ghost use Rattle.mq_rows.specs.declared.setting.TheConstants.{VERSION};
 ghost use Rattle.mq_rows.specs.declared.plan.Found.{Found};
-ghost use Rattle.mq_rows.specs.Rows.{setting_row, version_of, answer_row, answer_rows, transaction_row, usage_row, ceiling_row};
-ghost use Rattle.mq_rows.specs.Rows.{is_transaction, is_usage, is_ceiling};
-ghost use Rattle.mq_rows.specs.Tables.{Tables, AreTransactions, AreUsage, AreCeilings, AreRows};
+ghost use Rattle.mq_rows.specs.Rows.{setting_row, is_version, answer_of, answer_rows, transaction_row, usage_row, ceiling_row};
+ghost use Rattle.mq_rows.specs.Rows.{retired_row, is_transaction, is_usage, is_ceiling, is_host};
+ghost use Rattle.mq_rows.specs.Tables.{Tables, AreTransactions, AreUsage, AreCeilings, AreRetired, AreRows};
 ghost use Rattle.mq_rows.specs.Meaning.{meaning, AreSound};
 ghost use Rattle.mq_rows.specs.Found.{IsFound, IsGoverning};
 ghost use Rattle.mq_rows.specs.Repeat.{IsRepeatOf};
 ghost use Rattle.mq_rows.specs.Listing.{usage_reply_by, page_row_by, IsNext, IsNextLogin, AreNext, behind};
 ghost use Rattle.mq_rows.specs.Plan.{held_by, decided, transaction_write, usage_write, ceiling_write, planned};
 ghost use Rattle.mq_rows.specs.Plan.{may_be_found, Leads, same_key, set_transaction, same_day, set_usage, same_from};
-ghost use Rattle.mq_rows.specs.Plan.{set_ceiling};
+ghost use Rattle.mq_rows.specs.Plan.{set_ceiling, same_host, set_run, retired_write, freed, is_open_in, abandoned_row};
+ghost use Rattle.mq_rows.specs.Plan.{LeadsAll, cleared, floor_by};
+ghost use Rattle.mq_rows.specs.declared.plan.Write.TheVariants as Write;
+ghost use Rattle.mq_rows.specs.Retiring.{retires, retire_entry, IsUnretired, runs_below, is_to_close, AreRetiring};
+ghost use Rattle.mq_rows.specs.Plan.{Has};
+ghost use Rattle.mq_rows.specs.Retiring.{AreMoved};
 ghost use Rattle.mq_rows.specs.Written.{LeadTo};
 ghost use Rattle.mq_rows.specs.Audit.{Figures, is_right, pairs};
 ghost use Rattle.mq_rows.specs.Figured.{figures};
 
 use mq_frame::laws::{bodies_are_read_back, one_spelling};
 use mq_ledger::laws::{
-    amounts_in_range, built_is_legal, latest_limit_governs, one_more_arrival, one_more_limit,
-    one_more_of_a_transaction, one_more_on_a_day, open_transactions, over_is_least, page_is_first,
-    replies_in_range, replies_suit, sums_over_transactions, used_where_reserved, within_limits,
+    amounts_in_range, built_is_legal, latest_limit_governs, one_more_arrival, one_more_floor,
+    one_more_limit, one_more_of_a_transaction, one_more_on_a_day, open_transactions, over_is_least,
+    page_is_first, replies_in_range, replies_suit, sums_over_transactions, used_where_reserved,
+    within_limits,
 };
 
 /// The rows of a history are its rows in any order.
@@ -52,6 +61,8 @@ pub fn any_order()
         IsPermutation rows others → AreUsage day H rows → AreUsage day H others }
     ensures ceilings { (H : List AnyEntry) (rows others : List CeilingRecord) →
         IsPermutation rows others → AreCeilings H rows → AreCeilings H others }
+    ensures retired { (H : List AnyEntry) (rows others : List RetiredRecord) →
+        IsPermutation rows others → AreRetired H rows → AreRetired H others }
 {}
 
 /// The row that a table has under a key is the history's.
@@ -62,16 +73,18 @@ pub fn rows_by_key()
         AreUsage day H rows → find (is_usage l d) rows ≡ usage_row day H l d }
     ensures ceiling { (H : List AnyEntry) (rows : List CeilingRecord) (l : List ℕ) (d : ℕ) →
         AreCeilings H rows → find (is_ceiling l d) rows ≡ ceiling_row H l d }
+    ensures retired { (H : List AnyEntry) (rows : List RetiredRecord) (h : List ℕ) →
+        AreRetired H rows → find (is_host h) rows ≡ retired_row H h }
     ensures only_usage { (day : ℕ → ℕ) (H : List AnyEntry) (rows : List UsageRecord) (l : List ℕ) (d : ℕ) →
         AreUsage day H rows →
         AllByRecursion (λ u. is_usage l d u ≡ true → Some u ≡ find (is_usage l d) rows) rows }
 {}
 
-/// What is written of transactions leads to their rows with one more answer. At most one row
-/// changes.
+/// What is written of transactions leads to their rows with one more answer but to a retire. At most
+/// one row changes.
 pub fn transactions_follow()
     ensures { (day : ℕ → ℕ) (default : ℕ) (H : List AnyEntry) (t : Tables) (r : AnyRequest) (f : Found) →
-        AreTransactions day H t.transactions → IsFound day t r f →
+        retires r ≡ false → IsUnretired H r → AreTransactions day H t.transactions → IsFound day t r f →
         Leads same_key set_transaction (transaction_write day r (answer day default H r) f.transaction)
         t.transactions (AreTransactions day (appended day default H r)) }
 {
@@ -81,10 +94,10 @@ pub fn transactions_follow()
 }
 
 /// What is written of a login and day leads to the rows of what logins have used with one more
-/// answer. At most one row changes.
+/// answer but to a retire. At most one row changes.
 pub fn usage_follows()
     ensures { (day : ℕ → ℕ) (default : ℕ) (H : List AnyEntry) (t : Tables) (r : AnyRequest) (f : Found) →
-        IsLegal day default H → AreTransactions day H t.transactions → AreUsage day H t.usage →
+        retires r ≡ false → IsUnretired H r → IsLegal day default H → AreTransactions day H t.transactions → AreUsage day H t.usage →
         IsFound day t r f →
         Leads same_day set_usage (usage_write day r (answer day default H r) (held_by f.transaction) f.usage)
         t.usage (AreUsage day (appended day default H r)) }
@@ -107,17 +120,95 @@ pub fn ceilings_follow()
     one_more_limit();
 }
 
-/// The rows of answers with one more entry.
+/// What is written of floors leads to their rows with one more answer. At most one row changes.
+pub fn floors_follow()
+    ensures { (day : ℕ → ℕ) (default : ℕ) (H : List AnyEntry) (t : Tables) (r : AnyRequest) (f : Found) →
+        IsRequest r → IsUnretired H r → AreRetired H t.retired → IsFound day t r f →
+        Leads same_host set_run (retired_write r f.floor) t.retired
+        (AreRetired (appended day default H r)) }
+{
+    one_more_floor();
+}
+
+/// The rows of answers with one more entry: with a retire those of the runs that it gives up keep no
+/// reply, and with any other they stay.
 pub fn answers_follow()
     ensures row { (H : List AnyEntry) (e : AnyEntry) →
-        answer_rows (H ++ e ∷ []) ≡ answer_rows H ++ answer_row (length H + 1) e ∷ [] }
+        retires e.request ≡ false → IsUnretired H e.request → is_some (id_of e.request) ≡ true →
+        answer_rows (H ++ e ∷ []) ≡ answer_rows H ++ answer_of (length H + 1) e ∷ [] }
+    ensures retired { (H : List AnyEntry) (id : Id) → 1 ≤ id.run → is_below (requests H) id ≡ false →
+        answer_rows (H ++ retire_entry id ∷ [])
+        ≡ cleared (Some (runs_below H id)) (answer_rows H)
+        ++ answer_of (length H + 1) (retire_entry id) ∷ [] }
     ensures count { (H : List AnyEntry) → length (answer_rows H) ≡ length H }
-{}
+{
+    one_more_floor();
+}
+
+/// Before a retire closes a transaction, the rows of a legal history are as while it does.
+pub fn closings_begin()
+    ensures { (day : ℕ → ℕ) (default : ℕ) (H : List AnyEntry) (id : Id) (rows : List TransactionRecord)
+        (usage : List UsageRecord) → IsLegal day default H →
+        AreTransactions day H rows → AreUsage day H usage → AreRetiring day H id rows usage }
+{
+    sums_over_transactions();
+    used_where_reserved();
+    open_transactions();
+}
+
+/// One transaction more is closed, with what it held settled on its login's day, and the rows are so
+/// again. At most one row of each table changes.
+pub fn one_more_closing()
+    ensures { (day : ℕ → ℕ) (default : ℕ) (H : List AnyEntry) (id : Id) (rows : List TransactionRecord)
+        (usage : List UsageRecord) (was : TransactionRecord) (u : Option UsageRecord) → IsLegal day default H →
+        AreRetiring day H id rows usage → Has rows was → is_to_close id was ≡ true →
+        u ≡ find (is_usage was.login was.day) usage →
+        Leads same_key set_transaction (Write.Update (abandoned_row was)) rows (λ after.
+        Leads same_day set_usage (freed was.held was.held u) usage (AreRetiring day H id after)) }
+{
+    one_more_of_a_transaction();
+    one_more_on_a_day();
+    used_where_reserved();
+    open_transactions();
+}
+
+/// Where none is left to close, the rows are those of the history with the retire.
+pub fn closings_end()
+    ensures transactions { (day : ℕ → ℕ) (H : List AnyEntry) (id : Id) (rows : List TransactionRecord)
+        (usage : List UsageRecord) → AreRetiring day H id rows usage →
+        AllByRecursion (λ r. is_to_close id r ≡ false) rows →
+        AreTransactions day (H ++ retire_entry id ∷ []) rows }
+    ensures usage { (day : ℕ → ℕ) (default : ℕ) (H : List AnyEntry) (id : Id) (rows : List TransactionRecord)
+        (usage : List UsageRecord) → IsLegal day default (H ++ retire_entry id ∷ []) →
+        AreRetiring day H id rows usage → AllByRecursion (λ r. is_to_close id r ≡ false) rows →
+        AreUsage day (H ++ retire_entry id ∷ []) usage }
+{
+    one_more_of_a_transaction();
+    one_more_on_a_day();
+    open_transactions();
+    sums_over_transactions();
+    used_where_reserved();
+}
+
+/// The open transactions of the runs that a retire gives up, closed one after another in any order,
+/// lead to the rows of the history with it.
+pub fn retired_runs_follow()
+    ensures { (day : ℕ → ℕ) (default : ℕ) (H : List AnyEntry) (id : Id) (rows : List TransactionRecord)
+        (usage : List UsageRecord) (these : List TransactionRecord) → 1 ≤ id.run → IsLegal day default H →
+        IsLegal day default (H ++ retire_entry id ∷ []) → AreTransactions day H rows → AreUsage day H usage →
+        IsPermutation these (filter (is_open_in (runs_below H id)) rows) →
+        LeadsAll these rows usage (AreMoved day (H ++ retire_entry id ∷ [])) }
+{
+    closings_begin();
+    one_more_closing();
+    closings_end();
+    open_transactions();
+}
 
 /// The reply that is decided from the rows of a legal history is the answer over it.
 pub fn reply_follows()
     ensures { (day : ℕ → ℕ) (default : ℕ) (H : List AnyEntry) (t : Tables) (r : AnyRequest) (f : Found) →
-        IsLegal day default H → AreTransactions day H t.transactions → AreUsage day H t.usage →
+        IsUnretired H r → IsLegal day default H → AreTransactions day H t.transactions → AreUsage day H t.usage →
         AreCeilings H t.ceilings → IsFound day t r f → is_some (id_of r) ≡ true →
         decided default r f ≡ answer day default H r }
 {
@@ -129,34 +220,40 @@ pub fn reply_follows()
     latest_limit_governs();
 }
 
-/// One more numbered request, over tables that are the rows of a legal history without its number:
-/// its reply is the ledger's, and the planned writes lead to the rows of the history with it.
+/// One more numbered request, over tables that are the rows of a legal history without its number,
+/// which isn't retired: its reply is the ledger's, and the planned writes lead to the rows of the
+/// history with it.
 pub fn one_more_answer()
     ensures reply { (b : Book) (t : Tables) (r : AnyRequest) (id : Id) (f : Found) →
-        IsLegalBook b → AreRows b t → id_of r ≡ Some id → stored b.history id ≡ None →
-        IsFound (day_of b.zone) t r f →
+        IsLegalBook b → AreRows b t → id_of r ≡ Some id → is_below (requests b.history) id ≡ false →
+        stored b.history id ≡ None → IsFound (day_of b.zone) t r f →
         (planned (day_of b.zone) b.default t.setting.arrivals r f).reply
         ≡ reply (day_of b.zone) b.default b.history r }
     ensures rows { (b : Book) (t : Tables) (r : AnyRequest) (id : Id) (f : Found) →
-        IsLegalBook b → AreRows b t → id_of r ≡ Some id → stored b.history id ≡ None →
+        IsLegalBook b → AreRows b t → IsRequest r → id_of r ≡ Some id →
+        is_below (requests b.history) id ≡ false → stored b.history id ≡ None →
         IsFound (day_of b.zone) t r f →
         LeadTo (record b { history = appended (day_of b.zone) b.default b.history r }) t
         (planned (day_of b.zone) b.default t.setting.arrivals r f) }
     ensures history { (day : ℕ → ℕ) (default : ℕ) (H : List AnyEntry) (r : AnyRequest) (id : Id) →
-        IsLegal day default H → id_of r ≡ Some id → stored H id ≡ None →
+        IsLegal day default H → id_of r ≡ Some id → is_below (requests H) id ≡ false →
+        stored H id ≡ None →
         build day default (first (requests H ++ r ∷ [])) ≡ appended day default H r }
     ensures found { (b : Book) (t : Tables) (r : AnyRequest) (id : Id) (f : Found) →
         IsLegalBook b → AreRows b t → IsRequest r → id_of r ≡ Some id →
-        stored b.history id ≡ None → IsFound (day_of b.zone) t r f →
-        may_be_found b.default r f ≡ true }
+        is_below (requests b.history) id ≡ false → stored b.history id ≡ None →
+        IsFound (day_of b.zone) t r f → may_be_found b.default r f ≡ true }
     ensures legal { (day : ℕ → ℕ) (default : ℕ) (H : List AnyEntry) (r : AnyRequest) (id : Id) →
-        IsLegal day default H → IsRequest r → id_of r ≡ Some id → stored H id ≡ None →
-        IsLegal day default (appended day default H r) }
+        IsLegal day default H → IsRequest r → id_of r ≡ Some id → is_below (requests H) id ≡ false →
+        stored H id ≡ None → IsLegal day default (appended day default H r) }
 {
     transactions_follow();
     usage_follows();
     ceilings_follow();
+    floors_follow();
     answers_follow();
+    retired_runs_follow();
+    floors_are_found();
     reply_follows();
     one_more_arrival();
     open_transactions();
@@ -169,29 +266,32 @@ pub fn one_more_answer()
     built_is_legal();
 }
 
-/// A request that has no number, or one that is stored, adds no entry.
+/// A request that has no number, one whose number is stored, and one whose run is given up adds no
+/// entry.
 pub fn nothing_is_added()
     ensures unnumbered { (day : ℕ → ℕ) (default : ℕ) (H : List AnyEntry) (r : AnyRequest) →
         IsLegal day default H → id_of r ≡ None →
         build day default (first (requests H ++ r ∷ [])) ≡ H }
-    ensures stored { (day : ℕ → ℕ) (default : ℕ) (H : List AnyEntry) (r : AnyRequest) (id : Id) →
-        IsLegal day default H → id_of r ≡ Some id → is_some (stored H id) ≡ true →
+    ensures known { (day : ℕ → ℕ) (default : ℕ) (H : List AnyEntry) (r : AnyRequest) →
+        IsLegal day default H → known_by H (id_of r) ≡ true →
         build day default (first (requests H ++ r ∷ [])) ≡ H }
 {
     one_more_arrival();
 }
 
-/// The reply by a number's row is the ledger's, and a number without a row has no entry. A number has
-/// one row at most.
+/// The reply by a number's row is the ledger's where its run isn't given up, and a number without a
+/// row has no entry. A number has one row at most.
 pub fn repeats_are_answered()
     ensures known { (day : ℕ → ℕ) (default : ℕ) (H : List AnyEntry) (r : AnyRequest) (id : Id)
         (row : AnswerRecord) (a : AnyReply) →
         IsAmount default → IsDayRule day → IsLegal day default H → IsRequest r → id_of r ≡ Some id →
+        is_below (requests H) id ≡ false →
         find (λ x. same_id id x.id) (answer_rows H) ≡ Some row → IsRepeatOf row id r a →
         a ≡ reply day default H r }
     ensures spelled { (day : ℕ → ℕ) (default : ℕ) (H : List AnyEntry) (r : AnyRequest) (id : Id)
         (row : AnswerRecord) →
         IsAmount default → IsDayRule day → IsLegal day default H → IsRequest r → id_of r ≡ Some id →
+        is_below (requests H) id ≡ false →
         find (λ x. same_id id x.id) (answer_rows H) ≡ Some row →
         (q : AnyRequest) × (p : AnyReply) × SpellsRequest row.request q × SpellsReply row.reply p }
     ensures stored { (H : List AnyEntry) (r : AnyRequest) (id : Id) (row : AnswerRecord) →
@@ -209,8 +309,18 @@ pub fn repeats_are_answered()
     one_spelling();
 }
 
+/// A run is below the floor of its host exactly where the host's row says so.
+pub fn floors_are_found()
+    ensures floor { (H : List AnyEntry) (rows : List RetiredRecord) (h : List ℕ) → AreRetired H rows →
+        floor_by (find (is_host h) rows) ≡ floor (requests H) h }
+    ensures old { (day : ℕ → ℕ) (default : ℕ) (H : List AnyEntry) (r : AnyRequest) (id : Id) →
+        id_of r ≡ Some id → is_below (requests H) id ≡ true → reply day default H r ≡ Old id }
+{
+    rows_by_key();
+}
+
 /// Tables that are the rows of a legal history mean it, so they are sound; and those of a ledger
-/// that has answered nothing are.
+/// that has answered nothing are. What a table's version is changes nothing.
 pub fn rows_mean_their_history()
     ensures meaning { (b : Book) (t : Tables) → IsLegalBook b → AreRows b t →
         meaning b.zone b.default t.answers ≡ b }
@@ -218,15 +328,20 @@ pub fn rows_mean_their_history()
         AreSound b.zone b.default t }
     ensures new { (zone : AnyZone) (default : ℕ) → IsZone zone → IsAmount default →
         AreSound zone default (record {
-          setting = setting_row (version_of zone) (record { zone = zone; default = default; history = [] });
+          setting = setting_row VERSION (record { zone = zone; default = default; history = [] });
           answers = [];
           transactions = [];
           usage = [];
           ceilings = [];
+          retired = [];
         }) }
+    ensures version { (b : Book) (t : Tables) (version : ℕ) → AreRows b t →
+        is_version b.zone version ≡ true →
+        AreRows b (record t { setting = record t.setting { version = version } }) }
 {
     bodies_are_read_back();
     one_spelling();
+    one_more_floor();
 }
 
 /// What is replied of a login's numbers is the ledger's.

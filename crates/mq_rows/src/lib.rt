@@ -18,9 +18,11 @@ mod write;
 pub use audited::{Audit, LimitFigures, Pair, TransactionFigures, UsageFigures};
 pub use auditing::audit;
 pub use body::Body;
-pub use plan::{Found, Plan, Write};
-pub use record::{AnswerRecord, CeilingRecord, SettingRecord, TransactionRecord, UsageRecord};
+pub use plan::{Found, Plan, Runs, Write};
+pub use record::{
+    AnswerRecord, CeilingRecord, RetiredRecord, SettingRecord, TransactionRecord, UsageRecord,
+};
 pub use repeat::stored_reply;
-pub use setting::version_of;
+pub use setting::{VERSION, older_version};
 pub use usage::{page_row, usage_reply};
 pub use write::decide;

@@ -1,6 +1,6 @@
 //! What is read of the tables for a request, and what the request then writes.
-use crate::record::{AnswerRecord, CeilingRecord, TransactionRecord, UsageRecord};
-use mq_frame::Reply;
+use crate::record::{AnswerRecord, CeilingRecord, RetiredRecord, TransactionRecord, UsageRecord};
+use mq_frame::{Host, Reply};
 
 /// What becomes of the rows of a table. At most one row changes.
 #[derive(Debug, Drop)]
@@ -28,6 +28,18 @@ pub struct Found {
     pub over: Option<UsageRecord>,
     /// For a limit: the row of its login and day.
     pub ceiling: Option<CeilingRecord>,
+    /// For a retire: the row of its host's floor.
+    pub floor: Option<RetiredRecord>,
+}
+
+/// Runs of a host that a retire gives up.
+#[derive(Debug, Drop)]
+pub struct Runs {
+    pub host: Host,
+    /// The first of them.
+    pub from: u64,
+    /// The last of them; there are none where it is below the first.
+    pub to: u64,
 }
 
 /// The reply to a numbered request whose number is new, and what is written with it.
@@ -38,7 +50,11 @@ pub struct Plan {
     pub answer: AnswerRecord,
     /// The count of answers in the row of settings.
     pub arrivals: u64,
+    /// For a retire: what the open transactions of these runs hold is settled, and the replies of these runs are
+    /// cleared, before the rest is written.
+    pub given_up: Option<Runs>,
     pub transaction: Write<TransactionRecord>,
     pub usage: Write<UsageRecord>,
     pub ceiling: Write<CeilingRecord>,
+    pub retired: Write<RetiredRecord>,
 }

@@ -6,7 +6,7 @@ use mq_frame::{Host, Id, Login};
 /// requests it has answered.
 #[derive(Debug, Drop)]
 pub struct SettingRecord {
-    /// The version of the tables: `version_of` of the ledger's zone.
+    /// The version of the tables: [`VERSION`](crate::VERSION), or `older_version` of the ledger's zone.
     pub version: u32,
     /// The minutes of the ledger's zone east of UTC, -1,439 to 1,439; 0 with a rule.
     pub minutes: i32,
@@ -14,7 +14,7 @@ pub struct SettingRecord {
     pub cap: u32,
     /// The numbered requests that were answered: the rows of `answer`.
     pub arrivals: u64,
-    /// The text of the zone's rule, where there is one: the row of `rule`, a table of version 2.
+    /// The text of the zone's rule, where there is one: the row of `rule`, a table of versions 2 and 3.
     pub rule: Option<Body>,
 }
 
@@ -26,7 +26,7 @@ pub struct AnswerRecord {
     pub id: Id,
     /// The body that spells the request.
     pub request: Body,
-    /// The body that spells the reply.
+    /// The body that spells the reply; empty where the request's run was given up.
     pub reply: Body,
 }
 
@@ -45,9 +45,9 @@ pub struct TransactionRecord {
     pub day: u32,
     /// The recipients that it holds, 0 once it is closed.
     pub held: u32,
-    /// The recipients that it was settled with, 0 where it wasn't.
+    /// The recipients that it was settled with, 0 where it wasn't; what it held where its run was given up.
     pub settled: u32,
-    /// Whether it was settled or released.
+    /// Whether it was settled or released, or its run given up.
     pub closed: bool,
 }
 
@@ -71,4 +71,12 @@ pub struct CeilingRecord {
     pub day: u32,
     /// Recipients a day, 0 to 1,000,000.
     pub cap: u32,
+}
+
+/// A row of `retired`, a table of version 3: the floor of a host.
+#[derive(Debug, Drop)]
+pub struct RetiredRecord {
+    pub host: Host,
+    /// The runs of the host below this one are given up: 1 to 281,474,976,710,655.
+    pub run: u64,
 }

@@ -264,6 +264,7 @@ impl Found {
             Request::Release { id, at, login, .. } => self.release_reply(id, *at, login),
             Request::Limit { id, .. } => self.limit_reply(id),
             Request::Usage { .. } | Request::List { .. } => Ok(Reply::Bad),
+            Request::Retire { id } => Ok(Reply::Retired { id: id.clone()? }),
         }
     }
 }

@@ -1,18 +1,20 @@
 //! What a numbered request whose number is new comes to: its reply, and what is written with it.
 ghost use Rattle.std.specs.Prelude.{◌≡◌, ◌+◌, ◌<◌, ◌≤◌, ◌^◌, true, false, Some, IfOk, IfErr};
+ghost use Rattle.mq_rows.specs.declared.plan.Found.{Found as AnyFound};
 ghost use Rattle.mq_frame.specs.Range.{IsRequest, IsReply, IsCount};
 ghost use Rattle.mq_frame.specs.Spelling.{request_body, reply_body};
 ghost use Rattle.mq_ledger.specs.Arrivals.{id_of};
 ghost use Rattle.mq_ledger.specs.Day.{day_of};
-ghost use Rattle.mq_rows.specs.Rows.{number_of, answer_row};
+ghost use Rattle.mq_rows.specs.Rows.{number_of, answer_of};
 ghost use Rattle.mq_rows.specs.Plan.{moves, moved, fresh, moved_or_made, transaction_write};
 ghost use Rattle.mq_rows.specs.Plan.{reserved_more, freed, usage_write, set_ceiling_to, ceiling_write};
+ghost use Rattle.mq_rows.specs.Plan.{floor_by, given_up_by, raised_to, retired_write};
 ghost use Rattle.mq_rows.specs.Plan.{held_by, reserved_by, used_by, fits, written, planned, may_be_found};
-ghost use Rattle.mq_rows.specs.Storable.{AreStorableIf, IsStorablePlan};
+ghost use Rattle.mq_rows.specs.Storable.{AreStorableIf, IsStorableFloor, IsStorablePlan};
 
 use crate::body::Body;
-use crate::plan::{Found, Plan, Write};
-use crate::record::{AnswerRecord, CeilingRecord, TransactionRecord, UsageRecord};
+use crate::plan::{Found, Plan, Runs, Write};
+use crate::record::{AnswerRecord, CeilingRecord, RetiredRecord, TransactionRecord, UsageRecord};
 use mq_frame::format::HEAD_BYTES;
 use mq_frame::{Id, Login, Memory, Reply, Request, encode_reply, encode_request};
 use mq_ledger::{LedgerFault, Zone};
@@ -212,6 +214,51 @@ fn ceiling_write(
     }
 }
 
+/// The floor that was found, and 0 where there is no row.
+fn floor(row: &Option<RetiredRecord>) -> u64
+    ensures { result ≡ floor_by row.now }
+{
+    match row {
+        None => 0,
+        Some(row) => row.run,
+    }
+}
+
+/// The runs that a retire gives up: those of its host from the floor before on, below its own.
+fn given_up(request: &Request, row: &Option<RetiredRecord>) -> Result<Option<Runs>, AllocError>
+    requires in_range { IsRequest request.now }
+    ensures { (f : AnyFound) → f.floor ≡ row.now → IfOk result (λ runs. runs ≡ given_up_by request.now f) }
+{
+    match request {
+        Request::Retire { id } => Ok(Some(Runs {
+            host: id.host.clone()?,
+            from: floor(row),
+            to: id.run - 1,
+        })),
+        _ => Ok(None),
+    }
+}
+
+/// What becomes of the row of the request's host among the floors.
+fn retired_write(
+    request: &Request,
+    row: Option<RetiredRecord>,
+) -> Result<Write<RetiredRecord>, AllocError>
+    ensures { IfOk result (λ write. write ≡ retired_write request.now row) }
+{
+    match (request, row) {
+        (Request::Retire { id }, None) => Ok(Write::Insert(RetiredRecord {
+            host: id.host.clone()?,
+            run: id.run,
+        })),
+        (Request::Retire { id }, Some(row)) => Ok(Write::Update(RetiredRecord {
+            run: id.run,
+            ..row
+        })),
+        _ => Ok(Write::Keep),
+    }
+}
+
 /// The body of the request's frame.
 fn request_body(alloc: Global, request: &Request) -> Result<Body, Memory>
     requires { IsRequest request.now }
@@ -243,7 +290,7 @@ fn answer_row(
     requires request { IsRequest request.now }
     requires reply { IsReply reply.now }
     requires number { id_of request.now ≡ Some id.now }
-    ensures { IfOk result (λ row. row ≡ answer_row n (record { request = request.now; reply = reply.now })) }
+    ensures { IfOk result (λ row. row ≡ answer_of n (record { request = request.now; reply = reply.now })) }
 {
     Ok(AnswerRecord {
         n,
@@ -308,7 +355,7 @@ fn changes(
     requires number { id_of request.now ≡ Some id.now }
     requires fits { moves reply.now ≡ true → fits found.old.transaction found.old.usage ≡ true }
     ensures answer { IfOk result (λ changes. changes.0
-        ≡ answer_row n (record { request = request.now; reply = reply.now })) }
+        ≡ answer_of n (record { request = request.now; reply = reply.now })) }
     ensures transaction { IfOk result (λ changes. changes.1.0
         ≡ transaction_write (day_of zone) request.now reply.now found.old.transaction) }
     ensures usage { IfOk result (λ changes. changes.1.1
@@ -338,15 +385,19 @@ fn plan(
     ensures { IfOk result (λ plan. plan ≡ written (day_of zone) arrivals request.now found.old reply) }
 {
     let arrivals = arrivals + 1;
+    let given_up = given_up(request, &found.floor)?;
+    let retired = retired_write(request, found.floor.take())?;
     let (answer, (transaction, usage, ceiling)) = changes(
         alloc, zone, arrivals, id, request, &reply, found,
     )?;
     Ok(Plan {
         answer,
         arrivals,
+        given_up,
         transaction,
         usage,
         ceiling,
+        retired,
         reply,
     })
 }
@@ -366,7 +417,8 @@ fn decide_by(
     ensures plan { IfOk result (λ plan. plan ≡ planned (day_of zone) default arrivals request.now found.old) }
     ensures in_range { IfOk result (λ plan. IsReply plan.reply) }
     ensures room { IfOk result (λ _. arrivals < 4611686018427387904) }
-    ensures storable { IfOk result (λ plan. AreStorableIf found.old.transaction → IsStorablePlan plan) }
+    ensures storable { IfOk result (λ plan. AreStorableIf found.old.transaction → IsStorableFloor found.old.floor
+        → IsStorablePlan plan) }
     ensures store { IfErr result (λ fault. fault ≡ LedgerFault.Store
         → arrivals < 4611686018427387904 → may_be_found default request.now found.old ≡ false) }
 {
@@ -399,7 +451,8 @@ pub fn decide(
     ensures plan { IfOk result (λ plan. plan ≡ planned (day_of zone) default arrivals request.now found) }
     ensures in_range { IfOk result (λ plan. IsReply plan.reply) }
     ensures room { IfOk result (λ _. arrivals < 4611686018427387904) }
-    ensures storable { IfOk result (λ plan. AreStorableIf found.transaction → IsStorablePlan plan) }
+    ensures storable { IfOk result (λ plan. AreStorableIf found.transaction → IsStorableFloor found.floor
+        → IsStorablePlan plan) }
     ensures store { IfErr result (λ fault. fault ≡ LedgerFault.Store
         → arrivals < 4611686018427387904 → may_be_found default request.now found ≡ false) }
 {

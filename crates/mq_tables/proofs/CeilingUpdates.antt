@@ -52,7 +52,6 @@ is_update = record {
   filter = (_, _, refl, (_, _, refl, refl, refl), (_, _, refl, refl, refl));
   known = λ t. refl;
   short = refl;
-  keyless = refl;
   uncounted = refl;
   timeless = λ params. append-nil params;
 }
@@ -60,7 +59,7 @@ is_update = record {
 accepted : IsAccepted shape
 accepted s t low found = rw (low, found)
 
-decides : (r was : CeilingRecord) → test ceiling_fields same_from set_ceiling cap_params update_text shape is_update accepted r (ceiling_fields was) ≡ same_from r was
+decides : (r was : CeilingRecord) → test ceiling_fields same_from set_ceiling cap_params update_text shape is_update accepted refl r (ceiling_fields was) ≡ same_from r was
 decides r was = rw (text_test was.login r.login, day_test was.day r.day) (ap (λ b. (same_text r.login was.login) && b) (and-true (was.day == r.day)))
 
 one_edit : (r : CeilingRecord) (db : Trees) (t : ℕ) (was : CeilingRecord) (id : ℤ) (hits : List Row) → hits ≡ eval_all shape.row (cap_params r ∷ (Int id ∷ ceiling_fields was) ∷ []) ∷ []
@@ -72,6 +71,6 @@ updates_ceiling old new r (Err e) h = (tt, tt)
 updates_ceiling old new r (Ok count) h = (
   h.1.mode,
   λ t l was rest same hit apart.
-      let it = set_so ceiling_fields same_from set_ceiling cap_params update_text shape is_update accepted r (decides r) (one_edit r) old new l.at.ceiling l.tables.ceiling l.tables.ceiling_alone count h.0 in
+      let it = set_so ceiling_fields same_from set_ceiling cap_params update_text shape is_update accepted refl r (decides r) (one_edit r) old new l.at.ceiling l.tables.ceiling l.tables.ceiling_alone count h.0 in
       ceilings_changed old.now new.now t l it.schema it.sound it.others (set_ceiling r was ∷ rest) (it.rows was rest (held_so ceiling_fields _ t.ceilings (was ∷ rest) l.holds.ceilings same) hit apart),
 )

@@ -25,7 +25,7 @@ use Rattle.sqlite_resolve.specs.Compile.{first, compiled, planned, meaning, retu
 use Rattle.sqlite.specs.Listing.{understood, reads_listing, if_select, listing_schema}
 use Rattle.sqlite.proofs.Callers.{IsPlain, command_of, statement_of}
 use Rattle.sqlite_tied.specs.Compute.{everything}
-use Rattle.mq_tables.specs.Tables.{setting_table, answer_table, trans_table, usage_table, ceiling_table, rule_table}
+use Rattle.mq_tables.specs.Tables.{setting_table, answer_table, trans_table, usage_table, ceiling_table, rule_table, retired_table}
 use Rattle.mq_tables.specs.Written.{Created}
 use Rattle.mq_tables.proofs.Plain.{parsed_in}
 use Rattle.mq_tables.proofs.Statements.{creates as creates_known}
@@ -165,6 +165,9 @@ create_ceiling_text = codes "CREATE TABLE ceiling (login BLOB NOT NULL, day INTE
 abbrev pub create_rule_text : List ℕ
 create_rule_text = codes "CREATE TABLE rule (id INTEGER PRIMARY KEY, bytes BLOB NOT NULL) STRICT"
 
+abbrev pub create_retired_text : List ℕ
+create_retired_text = codes "CREATE TABLE retired (host BLOB PRIMARY KEY, run INTEGER NOT NULL) STRICT"
+
 pub makes_setting : MakesTable create_setting_text setting_table
 unfolding everything listing_schema
 makes_setting = record { parses = refl; create = record { definition = _; statement = refl; asks = refl }; unlisted = refl; whole = refl; defined = refl; uncounted = refl }
@@ -188,3 +191,7 @@ makes_ceiling = record { parses = refl; create = record { definition = _; statem
 pub makes_rule : MakesTable create_rule_text rule_table
 unfolding everything listing_schema
 makes_rule = record { parses = refl; create = record { definition = _; statement = refl; asks = refl }; unlisted = refl; whole = refl; defined = refl; uncounted = refl }
+
+pub makes_retired : MakesTable create_retired_text retired_table
+unfolding everything listing_schema
+makes_retired = record { parses = refl; create = record { definition = _; statement = refl; asks = refl }; unlisted = refl; whole = refl; defined = refl; uncounted = refl }

@@ -1,102 +1,104 @@
--- A new ledger with the tables of later versions, which are made before the five.
-use Rattle.std.proofs.Common.{◌≡◌, ℕ, ℤ, List, [], ◌∷◌, true, false, Option, Some, None, Ok, Err, Result, OnOk, refl, sym, ap, subst, ◌∙◌}
+-- A new ledger with the rule of its zone, where it has one.
+use Rattle.std.proofs.Common.{◌≡◌, ◌≢◌, ◌<◌, ℕ, ℤ, List, [], ◌∷◌, true, Option, Some, None, Ok, Err, Result, OnOk, IsTrue, refl, sym, ap, subst, ◌∙◌, arith}
 use Rattle.std.specs.List.{AllByRecursion}
 use Rattle.sqlite.specs.declared.error.Error.{Error}
 use Rattle.sqlite.specs.Schema.{Schema}
 use Rattle.sqlite.specs.Table.{Table}
 use Rattle.sqlite.specs.Change.{created, next_tree}
-use Rattle.sqlite.specs.Effect.{Database}
+use Rattle.sqlite.specs.Does.{lacks_sequence}
+use Rattle.sqlite.specs.Effect.{Database, IsDatabase}
 use Rattle.sqlite.specs.State.{State}
-use Rattle.sqlite_schema.specs.Names.{same_name}
+use Rattle.sqlite_trees.proofs.ListLemmas.{all_weaker}
 use Rattle.mq_ledger.specs.Day.{ByOffset, ByRule, rule_in}
 use Rattle.mq_ledger.specs.declared.zone.Zone.{Zone}
 use Rattle.mq_tables.specs.declared.setting.NewSetting.{NewSetting}
 use Rattle.mq_tables.specs.Tables.{setting_table, rule_table}
 use Rattle.mq_tables.specs.Settings.{rule_fields}
-use Rattle.mq_tables.specs.Ledger.{HasLater}
-use Rattle.mq_tables.specs.Making.{trees_for, is_ours, AreUnnamed, other_tables, setting_row, new_rows, HasCounters, HasStarted, HasBegun, HasAdded, IsMade, IsMadeOver}
-use Rattle.mq_tables.proofs.Chains.{all_joined, all_both, of_chain}
-use Rattle.mq_tables.proofs.Found.{IsFound, begun, still_all, in_database}
-use Rattle.mq_tables.proofs.NewLedger.{AreFive, five_over, five_made}
+use Rattle.mq_tables.specs.Ledger.{HasLedger}
+use Rattle.mq_tables.specs.Making.{chain, trees_for, AreUnnamed, other_tables, five_tables, setting_row, new_rows, HasCounters, HasStarted, HasAdded, HasPut, PutsAny, IsMade, IsMadeOver}
+use Rattle.mq_tables.proofs.Chains.{all_both, of_chain}
+use Rattle.mq_tables.proofs.Changes.{kept_of, setting_rule, rule_changed}
+use Rattle.mq_tables.specs.Places.{IsSettingIn}
+use Rattle.mq_tables.proofs.NewLedger.{AreSeven, seven_made, without_rule}
+use Rattle.mq_tables.proofs.Places.{all_below}
 
-pub rule_named : same_name rule_table.name rule_table.name ≡ true
-unfolding same_name
-rule_named = refl
+-- with an offset there is none
+module _ (minutes : ℤ) (cap : ℕ) (old new : Database) where
+  abbrev by_offset : NewSetting
+  by_offset = record { zone = ByOffset minutes; cap = cap }
 
-abbrev by_offset : ℤ → ℕ → NewSetting
-by_offset minutes cap = record { zone = ByOffset minutes; cap = cap }
-
-abbrev by_rule : List ℕ → ℕ → NewSetting
-by_rule text cap = record { zone = ByRule text; cap = cap }
-
--- with an offset there are none
-with_offset : (minutes : ℤ) (cap : ℕ) (old new : Database) → AreFive (by_offset minutes cap) old new → IsMade (by_offset minutes cap) old new
-with_offset minutes cap old new five =
-    let later : HasLater new (new_rows (by_offset minutes cap)) = record { rule = refl } in
-    record {
-      sound = five.sound;
-      schema = five.schema;
-      row = five.row;
-      empty = five.empty;
-      setting = five.setting;
-      later = later;
-      ledger = five.ledger later;
-      others = five.others;
-    }
-
--- with a rule there is one, which stands before the five
-module _ (text : List ℕ) (cap : ℕ) (z a : State) (new : Database) (p : HasStarted rule_table (rule_fields text) z a) (five : AreFive (by_rule text cap) a.now new) where
-  abbrev s : Schema
-  s = z.now.schema
-
-  kept : AllByRecursion (λ t. new.trees t.tree ≡ a.now.trees t.tree) s.tables × AllByRecursion (λ n. new.trees n ≡ a.now.trees n) (trees_for s (rule_table ∷ []))
-  kept = of_chain (λ n. new.trees n ≡ a.now.trees n) (rule_table ∷ []) s (subst (λ (x : Schema). AllByRecursion (λ t. new.trees t.tree ≡ a.now.trees t.tree) x.tables) p.schema five.others)
-
-  schema : new.schema ≡ five_over (created s rule_table)
-  schema = five.schema ∙ ap five_over p.schema
-
-  found : IsFound new.schema.tables (record rule_table { tree = next_tree s })
-  found =
-      let stays = still_all (record rule_table { tree = next_tree s }) (setting_table ∷ other_tables) (created s rule_table) (begun rule_table rule_named s p.free) in
-      subst (λ (x : Schema). IsFound x.tables (record rule_table { tree = next_tree s })) (sym schema) stays
-
-  later : HasLater new (new_rows (by_rule text cap))
-  later = record { rule = record { tree = next_tree s; table = in_database rule_table (next_tree s) new five.sound found; holds = kept.1.0 ∙ p.row_is } }
-
-  still_unnamed : AreUnnamed s → AreUnnamed a.now.schema
-  still_unnamed unnamed =
-      subst AreUnnamed (sym p.schema) (all_joined (λ (t : Table). AllByRecursion (λ ref. is_ours ref.parent ≡ false) t.references) s.tables (record rule_table { tree = next_tree s } ∷ []) unnamed (tt, tt))
-
-  with_rule : IsMade (by_rule text cap) z.now new
-  with_rule = record {
-    sound = five.sound;
-    schema = schema;
-    row = subst (λ x. new.trees (next_tree x) ≡ setting_row (by_rule text cap) ∷ []) p.schema five.row;
-    empty = subst (λ x. AllByRecursion (λ n. new.trees n ≡ []) (trees_for (created x setting_table) other_tables)) p.schema five.empty;
-    setting = five.setting;
-    later = later;
-    ledger = λ unnamed. five.ledger later (still_unnamed unnamed);
-    others = all_both _ _ _ (λ t after before. after ∙ before) s.tables kept.0 p.others;
+  with_offset : AreSeven by_offset old new → IsMade by_offset old new
+  with_offset it = record {
+    sound = it.sound;
+    schema = it.schema;
+    row = it.row;
+    rule = it.empty.1.1.1.1.0;
+    empty = all_weaker (λ n. new.trees n ≡ []) (λ n. n ≢ next_tree (chain old.schema five_tables) → new.trees n ≡ []) (λ n none apart. none) (trees_for (created old.schema setting_table) other_tables) it.empty;
+    setting = it.setting;
+    ledger = it.ledger;
+    others = it.others;
   }
 
-counters_begun : (rule : Option (List ℕ)) (z a : State) → HasBegun rule z a → HasCounters a
-counters_begun None z a p = p.1
-counters_begun (Some text) z a p = p.counters
+-- with a rule its row is put in
+module _ (text : List ℕ) (cap : ℕ) (a b c : State) where
+  abbrev by_rule : NewSetting
+  by_rule = record { zone = ByRule text; cap = cap }
 
-made_whole : (zone : Zone) (cap : ℕ) (z a b c : State) → HasBegun (rule_in zone) z a → HasStarted setting_table (setting_row (record { zone = zone; cap = cap })) a b → HasAdded other_tables b c
-    → IsMade (record { zone = zone; cap = cap }) z.now c.now
-made_whole (ByOffset minutes) cap z a b c p q r = subst (λ db. IsMade (by_offset minutes cap) db c.now) p.0 (with_offset minutes cap a.now c.now (five_made (by_offset minutes cap) a b c q r))
-made_whole (ByRule text) cap z a b c p q r = with_rule text cap z a c.now p (five_made (by_rule text cap) a b c q r)
+  abbrev s : Schema
+  s = a.now.schema
+
+  abbrev tree : ℕ
+  tree = next_tree (chain s five_tables)
+
+  -- those that stand before it have other trees
+  before : AllByRecursion (λ (t : Table). t.tree ≢ tree) s.tables × (next_tree s ≢ tree)
+  before =
+      let low = of_chain (λ n. n ≢ tree) five_tables s (all_weaker (λ (t : Table). t.tree < tree) (λ (t : Table). t.tree ≢ tree) (λ t l e. omega (arith, l, e)) (chain s five_tables).tables (all_below (chain s five_tables))) in
+      (low.0, low.1.0)
+
+  with_rule : AreSeven by_rule a.now b.now → HasPut tree (rule_fields text) b c → IsMade by_rule a.now c.now
+  with_rule it put =
+      let kept : AllByRecursion (λ t. t.tree ≢ tree → c.now.trees t.tree ≡ b.now.trees t.tree) (chain s (setting_table ∷ other_tables)).tables =
+      subst (λ (x : Schema). AllByRecursion (λ t. t.tree ≢ tree → c.now.trees t.tree ≡ b.now.trees t.tree) x.tables) it.schema put.others in
+      let parts = of_chain (λ n. n ≢ tree → c.now.trees n ≡ b.now.trees n) (setting_table ∷ other_tables) s kept in
+      record {
+        sound = put.sound;
+        schema = put.schema ∙ it.schema;
+        row = parts.1.0 before.1 ∙ it.row;
+        rule = put.row_is;
+        empty = all_both (λ n. n ≢ tree → c.now.trees n ≡ b.now.trees n) (λ n. b.now.trees n ≡ []) (λ n. n ≢ tree → c.now.trees n ≡ []) (λ n same none apart. same apart ∙ none) (trees_for (created s setting_table) other_tables) parts.1.1 it.empty;
+        setting = record {
+          tree = it.setting.tree;
+          table = subst (λ x. IsSettingIn x it.setting.tree) (sym put.schema) it.setting.table;
+          row = kept_of b.now.schema setting_table rule_table it.setting.tree tree b.now.trees c.now.trees it.setting.table it.rule setting_rule put.others ∙ it.setting.row;
+        };
+        ledger = λ unnamed. rule_changed b.now c.now (without_rule by_rule) (it.ledger unnamed) put.schema put.sound (record { tree = tree; table = it.rule; holds = it.empty.1.1.1.1.0 }) refl put.others (Some text) put.row_is;
+        others = all_both _ _ _ (λ t same was. same ∙ was) s.tables (all_both _ _ _ (λ t apart same. same apart) s.tables before.0 parts.0) it.others;
+      }
+
+made_whole : (zone : Zone) (cap : ℕ) (a b c d : State) → HasStarted setting_table (setting_row (record { zone = zone; cap = cap })) a b → HasAdded other_tables b c → PutsAny (rule_in zone) c d
+    → IsMade (record { zone = zone; cap = cap }) a.now d.now
+made_whole (ByOffset minutes) cap a b c d p q r = subst (IsMade (by_offset minutes cap a.now c.now) a.now) (sym r.1) (with_offset minutes cap a.now c.now (seven_made (by_offset minutes cap a.now c.now) a b c p q))
+made_whole (ByRule text) cap a b c d p q r =
+    let it = seven_made (by_rule text cap a c d) a b c p q in
+    with_rule text cap a c d it (r.1 it.rule.at (tree text cap a c d) it.rule.named it.rule.there it.empty.1.1.1.1.0)
 
 -- ---- as the functions say it
 
-pub made_ok : (made_with : NewSetting) (z a b c : State) (r : Result ℕ Error) → (HasCounters z → HasBegun (rule_in made_with.zone) z a) → (HasCounters a → HasStarted setting_table (setting_row made_with) a b)
-    → OnOk r (HasCounters b → HasAdded other_tables b c) → OnOk r (IsMadeOver made_with z.now c.now)
-made_ok made_with z a b c (Ok count) p q r =
+pub made_ok : (made_with : NewSetting) (a b c d : State) (r : Result ℕ Error) → (HasCounters a → HasStarted setting_table (setting_row made_with) a b) → (HasCounters b → HasAdded other_tables b c)
+    → OnOk r (PutsAny (rule_in made_with.zone) c d) → OnOk r (IsMadeOver made_with a.now d.now)
+made_ok made_with a b c d (Ok count) p q r =
     record {
       made = λ counters.
-          let begun = p counters in
-          let started = q (counters_begun (rule_in made_with.zone) z a begun) in
-          made_whole made_with.zone made_with.cap z a b c begun started (r started.counters);
+          let started = p counters in
+          made_whole made_with.zone made_with.cap a b c d started (q started.counters) r;
     }
-made_ok made_with z a b c (Err e) p q r = tt
+made_ok made_with a b c d (Err e) p q r = tt
+
+inside_by : (rule : Option (List ℕ)) (c d : State) → PutsAny rule c d → IsTrue d.in_transaction
+inside_by None c d h = h.0
+inside_by (Some text) c d h = h.0
+
+pub inside_ok : (rule : Option (List ℕ)) (c d : State) (r : Result ℕ Error) → OnOk r (PutsAny rule c d) → OnOk r (IsTrue d.in_transaction)
+inside_ok rule c d (Ok count) h = inside_by rule c d h
+inside_ok rule c d (Err e) h = tt

@@ -48,7 +48,16 @@ pub mod ArrivalReads
 pub mod RuleReads
 pub mod RuleInserts
 pub mod Later
+pub mod FloorReads
+pub mod FloorInserts
+pub mod FloorUpdates
 pub mod Keyed
+pub mod OpenReads
+pub mod PlaceReads
+pub mod ClearedRows
+pub mod ReplyClears
+pub mod VersionSets
+pub mod Adding
 pub mod FigureReads
 pub mod Still
 pub mod Strict

@@ -22,7 +22,7 @@ use Rattle.sqlite_schema.specs.Names.{table_named, same_name}
 use Rattle.sqlite_resolve.specs.Compile.{first, small, new_rows}
 use Rattle.sqlite.proofs.Callers.{IsPlain, command_of}
 use Rattle.sqlite_tied.specs.Compute.{everything}
-use Rattle.mq_tables.specs.Tables.{setting_table, answer_table, trans_table, usage_table, ceiling_table}
+use Rattle.mq_tables.specs.Tables.{setting_table, answer_table, trans_table, usage_table, ceiling_table, rule_table, retired_table}
 use Rattle.mq_tables.specs.declared.setting.NewSetting.{NewSetting}
 use Rattle.mq_tables.specs.Written.{Created}
 use Rattle.mq_tables.specs.Making.{Makes, Puts, HasPut, HasCounters, HasAdded, HasStarted, setting_row, setting_params, other_tables}
@@ -33,7 +33,7 @@ use Rattle.mq_tables.proofs.Statements.{inserts}
 use Rattle.mq_tables.proofs.Places.{placed, unnamed, all_below}
 use Rattle.mq_tables.proofs.Chains.{adds_both, all_split, all_both}
 use Rattle.mq_ledger.specs.Day.{minutes_in}
-use Rattle.mq_rows.specs.Rows.{version_of}
+use Rattle.mq_rows.specs.declared.setting.TheConstants.{VERSION}
 
 pub makes : (text : List ℕ) (table : Table) (it : MakesTable text table) (old new : State) (r : Result ℕ Error) → ExecutesInside 0 text [] old new r → OnOk r (Makes table old new)
 makes text table it old new (Err e) h = tt
@@ -47,15 +47,15 @@ makes text table it old new (Ok count) h = (
 created_adds : (table : Table) (old new : State) → Created old.now.schema table old new → HasCounters new → HasAdded (table ∷ []) old new
 created_adds table old new it counters = record { schema = it.schema_is; free = (it.free, tt); empty = (it.empty, tt); others = it.tables; counters = counters; sound = it.sound }
 
-pub adds_four : (a b c d e : State) → Makes answer_table a b → Makes trans_table b c → Makes usage_table c d → Makes ceiling_table d e → HasCounters a → HasAdded other_tables a e
-adds_four a b c d e p q r s counters =
-    let one = p.1 counters in
-    let two = q.1 one.1 in
-    let three = r.1 two.1 in
-    let four = s.1 three.1 in
-    adds_both (answer_table ∷ []) (trans_table ∷ usage_table ∷ ceiling_table ∷ []) a b e (created_adds answer_table a b one.0 one.1)
-    (adds_both (trans_table ∷ []) (usage_table ∷ ceiling_table ∷ []) b c e (created_adds trans_table b c two.0 two.1)
-    (adds_both (usage_table ∷ []) (ceiling_table ∷ []) c d e (created_adds usage_table c d three.0 three.1) (created_adds ceiling_table d e four.0 four.1)))
+adds_next : (table : Table) (more : List Table) (a b z : State) → Makes table a b → (HasCounters b → HasAdded more b z) → HasCounters a → HasAdded (table ∷ more) a z
+adds_next table more a b z p rest counters = let one = p.1 counters in adds_both (table ∷ []) more a b z (created_adds table a b one.0 one.1) (rest one.1)
+
+adds_last : (table : Table) (a z : State) → Makes table a z → HasCounters a → HasAdded (table ∷ []) a z
+adds_last table a z p counters = let one = p.1 counters in created_adds table a z one.0 one.1
+
+pub adds_six : (a b c d e f g : State) → Makes answer_table a b → Makes trans_table b c → Makes usage_table c d → Makes ceiling_table d e → Makes rule_table e f → Makes retired_table f g → HasCounters a → HasAdded other_tables a g
+adds_six a b c d e f g p q r s t u =
+    adds_next answer_table _ a b g p (adds_next trans_table _ b c g q (adds_next usage_table _ c d g r (adds_next ceiling_table _ d e g s (adds_next rule_table _ e f g t (adds_last retired_table f g u)))))
 
 -- ---- the row of settings
 
@@ -91,7 +91,7 @@ unfolding unary
 cast_null = either _ Null
 
 row_is : (made_with : NewSetting) (tree : ℕ) (rows : List Row) → with_rowid Chosen rows (cast_row (record setting_table { tree = tree }) (eval_all put_terms (setting_params made_with ∷ []))) ≡ setting_row made_with
-row_is made_with tree rows = rw (cast_null, cast_int (pos 1), cast_int (pos (version_of made_with.zone)), cast_int (minutes_in made_with.zone), cast_int (pos made_with.cap), cast_int (pos 0))
+row_is made_with tree rows = rw (cast_null, cast_int (pos 1), cast_int (pos VERSION), cast_int (minutes_in made_with.zone), cast_int (pos made_with.cap), cast_int (pos 0))
 
 module _ (made_with : NewSetting) (old new : State) (at tree : ℕ) (named : table_named old.now.schema (codes "setting") ≡ Some at) (there : slice_get old.now.schema.tables at ≡ Some (record setting_table { tree = tree })) where
   put_ran : (count : ℕ) → old.now.trees tree ≡ [] → Executes put_text (setting_params made_with) old new (Ok count) → HasPut tree (setting_row made_with) old new
@@ -103,6 +103,7 @@ module _ (made_with : NewSetting) (old new : State) (at tree : ℕ) (named : tab
       let done = inserts put_text (setting_params made_with) old new s refl at table (record { place = there; uncounted = refl; timeless = λ params. append-nil params; unreferred = unreferred s tree })
       put_terms 6 (ap command_of is) (subst IsPlain (sym is) (refl, refl)) refl count h in
       record {
+        sound = done.sound;
         schema = done.schema_is;
         row_is = done.rows ∙ ap (λ r. put_row r (old.now.trees tree)) (row_is made_with tree (old.now.trees tree)) ∙ ap (put_row (setting_row made_with)) none;
         others = done.tables;
@@ -140,6 +141,6 @@ pub starts_ok : (table : Table) (row : Row) → same_name table.name table.name 
 starts_ok table row self a b c (Ok count) p q = starts table row self a b c p q
 starts_ok table row self a b c (Err e) p q = tt
 
-pub adds_ok : (a b c d e : State) (r : Result ℕ Error) → Makes answer_table a b → Makes trans_table b c → Makes usage_table c d → OnOk r (Makes ceiling_table d e) → OnOk r (HasCounters a → HasAdded other_tables a e)
-adds_ok a b c d e (Ok count) p q r s = adds_four a b c d e p q r s
-adds_ok a b c d e (Err _) p q r s = tt
+pub adds_ok : (a b c d e f g : State) (r : Result ℕ Error) → Makes answer_table a b → Makes trans_table b c → Makes usage_table c d → Makes ceiling_table d e → Makes rule_table e f → OnOk r (Makes retired_table f g) → OnOk r (HasCounters a → HasAdded other_tables a g)
+adds_ok a b c d e f g (Ok count) p q r s t u = adds_six a b c d e f g p q r s t u
+adds_ok a b c d e f g (Err _) p q r s t u = tt

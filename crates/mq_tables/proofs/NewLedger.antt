@@ -1,5 +1,5 @@
 -- The five tables of a new ledger are found, and hold the rows of the empty history.
-use Rattle.std.proofs.Common.{◌≡◌, ℕ, pos, ◌<◌, ◌==◌, find, List, [], ◌∷◌, Bool, true, false, Some, true≢false, refl, sym, ap, subst, ◌∙◌}
+use Rattle.std.proofs.Common.{◌≡◌, ℕ, pos, ◌<◌, ◌==◌, find, List, [], ◌∷◌, Bool, true, false, Some, None, true≢false, refl, sym, ap, subst, ◌∙◌}
 use Rattle.std.specs.Prelude.{if◌then◌else◌, ⊤}
 use Rattle.std.specs.List.{AllByRecursion}
 use Rattle.std.proofs.lemmas.Bool.{or_parts}
@@ -13,28 +13,29 @@ use Rattle.sqlite.specs.Table.{Table}
 use Rattle.sqlite.specs.Change.{created, next_tree}
 use Rattle.sqlite.specs.Effect.{Database, IsDatabase}
 use Rattle.sqlite.specs.State.{State}
-use Rattle.mq_tables.specs.Tables.{setting_table, answer_table, trans_table, usage_table, ceiling_table}
+use Rattle.mq_tables.specs.Tables.{setting_table, answer_table, trans_table, usage_table, ceiling_table, rule_table, retired_table}
 use Rattle.mq_tables.specs.declared.setting.NewSetting.{NewSetting}
 use Rattle.mq_tables.specs.Places.{IsTableIn, IsUnreferred, is_tree, refers}
 use Rattle.mq_tables.specs.Records.{Holds}
 use Rattle.mq_tables.specs.Ledger.{HasLater, HasLedger, IsLedgerIn}
 use Rattle.mq_tables.specs.Settings.{HasSetting, setting_after}
-use Rattle.mq_tables.specs.Making.{chain, trees_for, is_ours, AllFree, AreUnnamed, other_tables, setting_row, new_rows, HasStarted, HasAdded}
+use Rattle.mq_rows.specs.Tables.{Tables}
+use Rattle.mq_tables.specs.Making.{chain, trees_for, is_ours, AllFree, AreUnnamed, other_tables, five_tables, ledger_over, setting_row, new_rows, HasStarted, HasAdded}
 use Rattle.mq_tables.proofs.Chains.{all_joined, all_both, of_chain}
 use Rattle.mq_tables.proofs.Found.{IsFound, apart, begun, still_all, in_database}
 use Rattle.mq_tables.proofs.Places.{all_below}
 
 names_selves : (same_name setting_table.name setting_table.name ≡ true) × (same_name answer_table.name answer_table.name ≡ true) × (same_name trans_table.name trans_table.name ≡ true)
-    × (same_name usage_table.name usage_table.name ≡ true) × (same_name ceiling_table.name ceiling_table.name ≡ true)
+    × (same_name usage_table.name usage_table.name ≡ true) × (same_name ceiling_table.name ceiling_table.name ≡ true) × (same_name rule_table.name rule_table.name ≡ true) × (same_name retired_table.name retired_table.name ≡ true)
 unfolding same_name
-names_selves = (refl, refl, refl, refl, refl)
+names_selves = (refl, refl, refl, refl, refl, refl, refl)
 
 pub setting_named : same_name setting_table.name setting_table.name ≡ true
 setting_named = names_selves.0
 
--- the schema with the five
-abbrev pub five_over : Schema → Schema
-five_over s = chain s (setting_table ∷ other_tables)
+-- the rows of a new ledger before its rule is put in
+abbrev pub without_rule : NewSetting → Tables
+without_rule made_with = record (new_rows made_with) { setting = record (new_rows made_with).setting { rule = None } }
 
 -- ---- no foreign key refers to a new table
 
@@ -46,7 +47,7 @@ all_chain : (P : Table → Type 0) (made : List Table) (s : Schema) → AllByRec
 all_chain P [] s h k = h
 all_chain P (t ∷ more) s h k = all_chain P more (created s t) (all_joined P s.tables _ h (k.0, tt)) k.1
 
-find_apart : (p : Table → Bool) (tree : ℕ) (xs : List Table) → AllByRecursion (λ (t : Table). p t ≡ true → (t.tree == tree) ≡ false) xs → is_tree tree (find p xs) ≡ false
+pub find_apart : (p : Table → Bool) (tree : ℕ) (xs : List Table) → AllByRecursion (λ (t : Table). p t ≡ true → (t.tree == tree) ≡ false) xs → is_tree tree (find p xs) ≡ false
 find_apart p tree [] h = refl
 find_apart p tree (x ∷ xs) h = go (p x) refl (find_apart p tree xs h.1)
   where
@@ -64,29 +65,31 @@ module _ (s : Schema) (before : List Table) where
   older : AllByRecursion (λ (t : Table). t.tree < tree) s.tables
   older = (of_chain (λ n. n < tree) before s (all_below (chain s before))).0
 
-  not_referred : (ref : Reference) → is_ours ref.parent ≡ false → refers (five_over s) tree ref ≡ false
+  not_referred : (ref : Reference) → is_ours ref.parent ≡ false → refers (ledger_over s) tree ref ≡ false
   not_referred ref others =
       let p : Table → Bool = λ t. same_name t.name ref.parent in
       let a = or_parts _ _ others in
       let b = or_parts _ _ a.1 in
       let c = or_parts _ _ b.1 in
       let d = or_parts _ _ c.1 in
-      find_apart p tree (five_over s).tables
+      let e = or_parts _ _ d.1 in
+      let f = or_parts _ _ e.1 in
+      find_apart p tree (ledger_over s).tables
       (all_chain (λ (t : Table). p t ≡ true → (t.tree == tree) ≡ false) (setting_table ∷ other_tables) s (all_weaker (λ (t : Table). t.tree < tree) (λ (t : Table). p t ≡ true → (t.tree == tree) ≡ false) (λ t low hit. apart t.tree tree low) s.tables older)
-      (unlike _ a.0, (unlike _ b.0, (unlike _ c.0, (unlike _ d.0, (unlike _ d.1, tt))))))
+      (unlike _ a.0, (unlike _ b.0, (unlike _ c.0, (unlike _ d.0, (unlike _ e.0, (unlike _ f.0, (unlike _ f.1, tt))))))))
 
-  pub alone : AreUnnamed s → IsUnreferred (five_over s) tree
+  pub alone : AreUnnamed s → IsUnreferred (ledger_over s) tree
   alone unnamed =
-      all_chain (λ (t : Table). AllByRecursion (λ ref. refers (five_over s) tree ref ≡ false) t.references) (setting_table ∷ other_tables) s
-      (all_weaker (λ (t : Table). AllByRecursion (λ ref. is_ours ref.parent ≡ false) t.references) (λ (t : Table). AllByRecursion (λ ref. refers (five_over s) tree ref ≡ false) t.references)
-      (λ t refs. all_weaker (λ ref. is_ours ref.parent ≡ false) (λ ref. refers (five_over s) tree ref ≡ false) not_referred t.references refs) s.tables unnamed) (tt, (tt, (tt, (tt, (tt, tt)))))
+      all_chain (λ (t : Table). AllByRecursion (λ ref. refers (ledger_over s) tree ref ≡ false) t.references) (setting_table ∷ other_tables) s
+      (all_weaker (λ (t : Table). AllByRecursion (λ ref. is_ours ref.parent ≡ false) t.references) (λ (t : Table). AllByRecursion (λ ref. refers (ledger_over s) tree ref ≡ false) t.references)
+      (λ t refs. all_weaker (λ ref. is_ours ref.parent ≡ false) (λ ref. refers (ledger_over s) tree ref ≡ false) not_referred t.references refs) s.tables unnamed) (tt, (tt, (tt, (tt, (tt, (tt, (tt, tt)))))))
 
 -- ---- what they hold
 
-holds_none : {R : Type 0} (fields : R → Row) (rows : List Row) → rows ≡ [] → Holds 1 fields rows []
+pub holds_none : {R : Type 0} (fields : R → Row) (rows : List Row) → rows ≡ [] → Holds 1 fields rows []
 holds_none fields rows none = subst (λ rs. Holds 1 fields rs []) (sym none) (record { numbered = search; same = IsPermutation-refl _ })
 
-module _ (made_with : NewSetting) (old new : Database) (sound : IsDatabase new) (schema : new.schema ≡ five_over old.schema) (free : AllFree old.schema (setting_table ∷ other_tables)) where
+module _ (made_with : NewSetting) (old new : Database) (sound : IsDatabase new) (schema : new.schema ≡ ledger_over old.schema) (free : AllFree old.schema (setting_table ∷ other_tables)) where
   abbrev s : Schema
   s = old.schema
 
@@ -102,7 +105,13 @@ module _ (made_with : NewSetting) (old new : Database) (sound : IsDatabase new) 
   abbrev s4 : Schema
   s4 = created s3 usage_table
 
-  at_place : (made : Table) (tree : ℕ) → IsFound (five_over s).tables (record made { tree = tree }) → IsTableIn new.schema made tree
+  abbrev s5 : Schema
+  s5 = created s4 ceiling_table
+
+  abbrev s6 : Schema
+  s6 = created s5 rule_table
+
+  at_place : (made : Table) (tree : ℕ) → IsFound (ledger_over s).tables (record made { tree = tree }) → IsTableIn new.schema made tree
   at_place made tree found = in_database made tree new sound (subst (λ (x : Schema). IsFound x.tables (record made { tree = tree })) (sym schema) found)
 
   setting_place : IsTableIn new.schema setting_table (next_tree s)
@@ -114,40 +123,53 @@ module _ (made_with : NewSetting) (old new : Database) (sound : IsDatabase new) 
   ledger_in : AreUnnamed s → IsLedgerIn new.schema (record { setting = next_tree s; answer = next_tree s1; trans = next_tree s2; usage = next_tree s3; ceiling = next_tree s4 })
   ledger_in unnamed = record {
     setting = setting_place;
-    answer = at_place answer_table (next_tree s1) (still_all _ (trans_table ∷ usage_table ∷ ceiling_table ∷ []) s2 (begun answer_table names_selves.1 s1 free.1.0));
-    trans = at_place trans_table (next_tree s2) (still_all _ (usage_table ∷ ceiling_table ∷ []) s3 (begun trans_table names_selves.2 s2 free.1.1.0));
-    usage = at_place usage_table (next_tree s3) (still_all _ (ceiling_table ∷ []) s4 (begun usage_table names_selves.3 s3 free.1.1.1.0));
-    ceiling = at_place ceiling_table (next_tree s4) (begun ceiling_table names_selves.4 s4 free.1.1.1.1.0);
+    answer = at_place answer_table (next_tree s1) (still_all _ (trans_table ∷ usage_table ∷ ceiling_table ∷ rule_table ∷ retired_table ∷ []) s2 (begun answer_table names_selves.1 s1 free.1.0));
+    trans = at_place trans_table (next_tree s2) (still_all _ (usage_table ∷ ceiling_table ∷ rule_table ∷ retired_table ∷ []) s3 (begun trans_table names_selves.2 s2 free.1.1.0));
+    usage = at_place usage_table (next_tree s3) (still_all _ (ceiling_table ∷ rule_table ∷ retired_table ∷ []) s4 (begun usage_table names_selves.3 s3 free.1.1.1.0));
+    ceiling = at_place ceiling_table (next_tree s4) (still_all _ (rule_table ∷ retired_table ∷ []) s5 (begun ceiling_table names_selves.4 s4 free.1.1.1.1.0));
     setting_alone = left_alone unnamed [];
+    answer_alone = left_alone unnamed (setting_table ∷ []);
     trans_alone = left_alone unnamed (setting_table ∷ answer_table ∷ []);
     usage_alone = left_alone unnamed (setting_table ∷ answer_table ∷ trans_table ∷ []);
     ceiling_alone = left_alone unnamed (setting_table ∷ answer_table ∷ trans_table ∷ usage_table ∷ []);
   }
 
-  ledger_held : new.trees (next_tree s) ≡ setting_row made_with ∷ [] → AllByRecursion (λ n. new.trees n ≡ []) (trees_for s1 other_tables) → HasLater new (new_rows made_with) → AreUnnamed s → HasLedger new (new_rows made_with)
-  ledger_held row empty later unnamed = record {
+  rule_place : IsTableIn new.schema rule_table (next_tree s5)
+  rule_place = at_place rule_table (next_tree s5) (still_all _ (retired_table ∷ []) s6 (begun rule_table names_selves.5 s5 free.1.1.1.1.1.0))
+
+  ledger_held : new.trees (next_tree s) ≡ setting_row made_with ∷ [] → AllByRecursion (λ n. new.trees n ≡ []) (trees_for s1 other_tables) → AreUnnamed s → HasLedger new (without_rule made_with)
+  ledger_held row empty unnamed = record {
     sound = sound;
     at = _;
     tables = ledger_in unnamed;
     holds = record { setting = row; answers = record { rows = empty.0; numbered = tt }; transactions = holds_none _ _ empty.1.0; usage = holds_none _ _ empty.1.1.0; ceilings = holds_none _ _ empty.1.1.1.0 };
-    later = later;
+    later = record {
+      rule = record { tree = next_tree s5; table = rule_place; holds = empty.1.1.1.1.0 };
+      retired = record {
+        tree = next_tree s6;
+        table = at_place retired_table (next_tree s6) (begun retired_table names_selves.6 s6 free.1.1.1.1.1.1.0);
+        alone = left_alone unnamed (setting_table ∷ answer_table ∷ trans_table ∷ usage_table ∷ ceiling_table ∷ rule_table ∷ []);
+        holds = holds_none _ _ empty.1.1.1.1.1.0;
+      };
+    };
   }
 
--- the five were made over a store, which may have tables of later versions already
-pub record AreFive (made_with : NewSetting) (old new : Database) : Type 0 where
+-- the seven were made over a store, and no rule was put in yet
+pub record AreSeven (made_with : NewSetting) (old new : Database) : Type 0 where
   pub sound : IsDatabase new
-  pub schema : new.schema ≡ five_over old.schema
+  pub schema : new.schema ≡ ledger_over old.schema
   pub row : new.trees (next_tree old.schema) ≡ setting_row made_with ∷ []
   pub empty : AllByRecursion (λ n. new.trees n ≡ []) (trees_for (created old.schema setting_table) other_tables)
   pub setting : HasSetting new (setting_after (pos 0) made_with)
-  pub ledger : HasLater new (new_rows made_with) → AreUnnamed old.schema → HasLedger new (new_rows made_with)
+  pub rule : IsTableIn new.schema rule_table (next_tree (chain old.schema five_tables))
+  pub ledger : AreUnnamed old.schema → HasLedger new (without_rule made_with)
   pub others : AllByRecursion (λ t. new.trees t.tree ≡ old.trees t.tree) old.schema.tables
 
-pub five_made : (made_with : NewSetting) (a b c : State) → HasStarted setting_table (setting_row made_with) a b → HasAdded other_tables b c → AreFive made_with a.now c.now
-five_made made_with a b c p q =
+pub seven_made : (made_with : NewSetting) (a b c : State) → HasStarted setting_table (setting_row made_with) a b → HasAdded other_tables b c → AreSeven made_with a.now c.now
+seven_made made_with a b c p q =
     let kept : AllByRecursion (λ t. c.now.trees t.tree ≡ b.now.trees t.tree) (created a.now.schema setting_table).tables = subst (λ (s : Schema). AllByRecursion (λ t. c.now.trees t.tree ≡ b.now.trees t.tree) s.tables) p.schema q.others in
     let parts = of_chain (λ n. c.now.trees n ≡ b.now.trees n) (setting_table ∷ []) a.now.schema kept in
-    let schema : c.now.schema ≡ five_over a.now.schema = q.schema ∙ ap (λ s. chain s other_tables) p.schema in
+    let schema : c.now.schema ≡ ledger_over a.now.schema = q.schema ∙ ap (λ s. chain s other_tables) p.schema in
     let free : AllFree a.now.schema (setting_table ∷ other_tables) = (p.free, subst (λ s. AllFree s other_tables) p.schema q.free) in
     let row : c.now.trees (next_tree a.now.schema) ≡ setting_row made_with ∷ [] = parts.1.0 ∙ p.row_is in
     let empty : AllByRecursion (λ n. c.now.trees n ≡ []) (trees_for (created a.now.schema setting_table) other_tables) = subst (λ s. AllByRecursion (λ n. c.now.trees n ≡ []) (trees_for s other_tables)) p.schema q.empty in
@@ -157,6 +179,7 @@ five_made made_with a b c p q =
       row = row;
       empty = empty;
       setting = record { tree = next_tree a.now.schema; table = setting_place made_with a.now c.now q.sound schema free; row = row };
+      rule = rule_place made_with a.now c.now q.sound schema free;
       ledger = ledger_held made_with a.now c.now q.sound schema free row empty;
       others = all_both _ _ _ (λ t later before. later ∙ before) a.now.schema.tables parts.0 p.others;
     }

@@ -39,7 +39,7 @@ module _ (text : List ℕ) (old new : State) (at tree : ℕ) (named : table_name
   put_ran : (count : ℕ) → old.now.trees tree ≡ [] → Executes insert_text (rule_params text) old new (Ok count) → HasPut tree (rule_fields text) old new
   put_ran count none h =
       let done = inserted insert_text shape is_insert (rule_params text) old new tree at named there count h in
-      record { schema = done.schema_is; row_is = done.rows ∙ ap (λ r. put_row r (old.now.trees tree)) row_is ∙ ap (put_row (rule_fields text)) none; others = done.tables }
+      record { sound = done.sound; schema = done.schema_is; row_is = done.rows ∙ ap (λ r. put_row r (old.now.trees tree)) row_is ∙ ap (put_row (rule_fields text)) none; others = done.tables }
 
 pub puts_rule : (text : List ℕ) (old new : State) (r : Result ℕ Error) → ExecutesInside 0 insert_text (rule_params text) old new r → OnOk r (Puts rule_table (rule_fields text) old new)
 puts_rule text old new (Err e) h = tt

@@ -52,7 +52,6 @@ is_update = record {
   filter = (_, _, refl, (_, _, refl, (_, _, refl, refl, refl), (_, _, refl, refl, refl)), (_, _, refl, refl, refl));
   known = λ t. refl;
   short = refl;
-  keyless = refl;
   uncounted = refl;
   timeless = λ params. append-nil params;
 }
@@ -60,7 +59,7 @@ is_update = record {
 accepted : IsAccepted shape
 accepted s t low found = rw (low, found)
 
-decides : (r was : TransactionRecord) → test transaction_fields same_key set_transaction standing_params update_text shape is_update accepted r (transaction_fields was) ≡ same_key r was
+decides : (r was : TransactionRecord) → test transaction_fields same_key set_transaction standing_params update_text shape is_update accepted refl r (transaction_fields was) ≡ same_key r was
 decides r was = rw (text_test was.host r.host, nat_test was.run r.run, nat_test was.txn r.txn) (ap (λ b. (same_text r.host was.host) && b) (ap (λ b. (r.run == was.run) && b) (and-true (r.txn == was.txn))))
 
 one_edit : (r : TransactionRecord) (db : Trees) (t : ℕ) (was : TransactionRecord) (id : ℤ) (hits : List Row) → hits ≡ eval_all shape.row (standing_params r ∷ (Int id ∷ transaction_fields was) ∷ []) ∷ []
@@ -72,6 +71,6 @@ updates_trans old new r (Err e) h = (tt, tt)
 updates_trans old new r (Ok count) h = (
   h.1.mode,
   λ t l was rest same hit apart.
-      let it = set_so transaction_fields same_key set_transaction standing_params update_text shape is_update accepted r (decides r) (one_edit r) old new l.at.trans l.tables.trans l.tables.trans_alone count h.0 in
+      let it = set_so transaction_fields same_key set_transaction standing_params update_text shape is_update accepted refl r (decides r) (one_edit r) old new l.at.trans l.tables.trans l.tables.trans_alone count h.0 in
       transactions_changed old.now new.now t l it.schema it.sound it.others (set_transaction r was ∷ rest) (it.rows was rest (held_so transaction_fields _ t.transactions (was ∷ rest) l.holds.transactions same) hit apart),
 )

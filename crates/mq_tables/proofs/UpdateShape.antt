@@ -74,7 +74,6 @@ pub record IsUpdateOf (text : List ℕ) (shape : UpdateShape) : Type 0 where
   pub filter : IsFilter update.test (reverse shape.tests)
   pub known : (t : ℕ) → list_all (λ (u : Test). is_field (in_tree shape t) u.column) (reverse shape.tests) ≡ true
   pub short : nat_le (length shape.sets + nodes_of (reverse shape.tests) + depth_of (reverse shape.tests)) 600 ≡ true
-  pub keyless : shape.table.key ≡ None
   pub uncounted : shape.table.is_counted ≡ false
   pub timeless : (params : Row) → stamped shape.table params ≡ params
 
@@ -132,7 +131,7 @@ module _ (text : List ℕ) (shape : UpdateShape) (it : IsUpdateOf text shape) (a
 
 -- ---- what it leaves of the records
 
-module _ {R : Type 0} (fields : R → Row) (same : R → R → Bool) (set : R → R → R) (params : R → Row) (text : List ℕ) (shape : UpdateShape) (it : IsUpdateOf text shape) (accepted : IsAccepted shape) (r : R) where
+module _ {R : Type 0} (fields : R → Row) (same : R → R → Bool) (set : R → R → R) (params : R → Row) (text : List ℕ) (shape : UpdateShape) (it : IsUpdateOf text shape) (accepted : IsAccepted shape) (keyless : shape.table.key ≡ None) (r : R) where
   -- whether a row of these fields passes
   abbrev pub test : Row → Bool
   test c = list_all (holds (params r ∷ (Null ∷ c) ∷ [])) (tests_in shape)
@@ -141,7 +140,7 @@ module _ {R : Type 0} (fields : R → Row) (same : R → R → Bool) (set : R �
   pass c = list_all (holds (params r ∷ c ∷ [])) (tests_in shape)
 
   tied : (c : Row) → pass c ≡ test (drop 1 c)
-  tied c = subst (λ k. list_all (holds (params r ∷ c ∷ [])) (filter_of k (reverse shape.tests)) ≡ list_all (holds (params r ∷ (Null ∷ drop 1 c) ∷ [])) (filter_of k (reverse shape.tests))) (sym it.keyless) (same_tests (params r) c (reverse shape.tests))
+  tied c = subst (λ k. list_all (holds (params r ∷ c ∷ [])) (filter_of k (reverse shape.tests)) ≡ list_all (holds (params r ∷ (Null ∷ drop 1 c) ∷ [])) (filter_of k (reverse shape.tests))) (sym keyless) (same_tests (params r) c (reverse shape.tests))
 
   module _ (decides : (was : R) → test (fields was) ≡ same r was)
       (edits : (db : Trees) (t : ℕ) (was : R) (id : ℤ) (hits : List Row) → hits ≡ eval_all shape.row (params r ∷ (Int id ∷ fields was) ∷ []) ∷ []

@@ -52,7 +52,6 @@ is_update = record {
   filter = (_, _, refl, (_, _, refl, refl, refl), (_, _, refl, refl, refl));
   known = λ t. refl;
   short = refl;
-  keyless = refl;
   uncounted = refl;
   timeless = λ params. append-nil params;
 }
@@ -60,7 +59,7 @@ is_update = record {
 accepted : IsAccepted shape
 accepted s t low found = rw (low, found)
 
-decides : (u was : UsageRecord) → test usage_fields same_day set_usage totals_params totals_text shape is_update accepted u (usage_fields was) ≡ same_day u was
+decides : (u was : UsageRecord) → test usage_fields same_day set_usage totals_params totals_text shape is_update accepted refl u (usage_fields was) ≡ same_day u was
 decides u was = rw (text_test was.login u.login, day_test was.day u.day) (ap (λ b. same_text u.login was.login && b) (and-true (was.day == u.day)))
 
 one_edit : (u : UsageRecord) (db : Trees) (t : ℕ) (was : UsageRecord) (id : ℤ) (hits : List Row) → hits ≡ eval_all shape.row (totals_params u ∷ (Int id ∷ usage_fields was) ∷ []) ∷ []
@@ -72,6 +71,6 @@ sets_usage old new u (Err e) h = (tt, tt)
 sets_usage old new u (Ok count) h = (
   h.1.mode,
   λ t l was rest same hit apart.
-      let it = set_so usage_fields same_day set_usage totals_params totals_text shape is_update accepted u (decides u) (one_edit u) old new l.at.usage l.tables.usage l.tables.usage_alone count h.0 in
+      let it = set_so usage_fields same_day set_usage totals_params totals_text shape is_update accepted refl u (decides u) (one_edit u) old new l.at.usage l.tables.usage l.tables.usage_alone count h.0 in
       usage_changed old.now new.now t l it.schema it.sound it.others (set_usage u was ∷ rest) (it.rows was rest (held_so usage_fields _ t.usage (was ∷ rest) l.holds.usage same) hit apart),
 )

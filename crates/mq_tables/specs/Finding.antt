@@ -4,7 +4,7 @@ use Rattle.mq_frame.specs.declared.message.Id.{Id}
 use Rattle.mq_ledger.specs.History.{Transaction, transaction}
 use Rattle.mq_rows.specs.declared.plan.Found.{Found}
 use Rattle.mq_rows.specs.Found.{IsGoverning, IsFirstOver}
-use Rattle.mq_rows.specs.Rows.{is_transaction, is_usage, is_ceiling}
+use Rattle.mq_rows.specs.Rows.{is_transaction, is_usage, is_ceiling, is_host}
 use Rattle.mq_rows.specs.Tables.{Tables}
 
 -- at most one row has a key
@@ -12,6 +12,7 @@ pub record AreKeyed (t : Tables) : Type 0 where
   pub transactions : (k : Transaction) → length (filter (is_transaction k) t.transactions) ≤ 1
   pub usage : (l : List ℕ) (d : ℕ) → length (filter (is_usage l d) t.usage) ≤ 1
   pub ceilings : (l : List ℕ) (d : ℕ) → length (filter (is_ceiling l d) t.ceilings) ≤ 1
+  pub retired : (h : List ℕ) → length (filter (is_host h) t.retired) ≤ 1
 
 -- the rows of the transaction, and of the login and day
 abbrev pub IsTransactionFound : Id → ℕ → List ℕ → ℕ → Tables → Found → Type 0

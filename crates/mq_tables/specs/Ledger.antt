@@ -6,11 +6,14 @@ use Rattle.sqlite.specs.Schema.{Schema}
 use Rattle.sqlite.specs.Table.{Table}
 use Rattle.sqlite.specs.Tree.{Trees}
 use Rattle.mq_rows.specs.declared.record.SettingRecord.{SettingRecord}
+use Rattle.mq_rows.specs.declared.setting.TheConstants.{VERSION}
 use Rattle.mq_rows.specs.Tables.{Tables}
-use Rattle.mq_tables.specs.Places.{IsTableIn, IsSettingIn, IsAnswerIn, IsTransIn, IsUsageIn, IsCeilingIn, IsUnreferred}
-use Rattle.mq_tables.specs.Records.{HoldsAnswers, HoldsTransactions, HoldsUsage, HoldsCeilings}
+use Rattle.mq_rows.specs.declared.record.RetiredRecord.{RetiredRecord}
+use Rattle.mq_tables.specs.Places.{IsTableIn, IsSettingIn, IsAnswerIn, IsTransIn, IsUsageIn, IsCeilingIn, IsRetiredIn}
+use Rattle.mq_tables.specs.Places.{IsUnreferred, IsUnnamed}
+use Rattle.mq_tables.specs.Records.{HoldsAnswers, HoldsTransactions, HoldsUsage, HoldsCeilings, HoldsRetired}
 use Rattle.mq_tables.specs.Settings.{SettingRow, setting_fields, rule_rows}
-use Rattle.mq_tables.specs.Tables.{rule_table}
+use Rattle.mq_tables.specs.Tables.{rule_table, retired_table}
 
 -- the trees of the five tables
 pub record Places : Type 0 where
@@ -28,6 +31,7 @@ pub record IsLedgerIn (schema : Schema) (at : Places) : Type 0 where
   pub usage : IsUsageIn schema at.usage
   pub ceiling : IsCeilingIn schema at.ceiling
   pub setting_alone : IsUnreferred schema at.setting
+  pub answer_alone : IsUnreferred schema at.answer
   pub trans_alone : IsUnreferred schema at.trans
   pub usage_alone : IsUnreferred schema at.usage
   pub ceiling_alone : IsUnreferred schema at.ceiling
@@ -54,10 +58,28 @@ abbrev pub Since : Bool → Type 0 → Type 0 → Type 0
 Since true Now Before = Now
 Since false Now Before = Before
 
--- what tables of later versions hold: from version 2 on there is one for the rule, and before it no rule
+-- the table of floors is there, at some place, with these rows, and no foreign key refers to it
+pub record HasFloors (db : Database) (rows : List RetiredRecord) : Type 0 where
+  pub tree : ℕ
+  pub table : IsRetiredIn db.schema tree
+  pub alone : IsUnreferred db.schema tree
+  pub holds : HoldsRetired (db.trees tree) rows
+
+-- there are no floors, and no foreign key names a table as theirs
+pub record HasNoFloors (db : Database) (rows : List RetiredRecord) : Type 0 where
+  pub none : rows ≡ []
+  pub unnamed : IsUnnamed db.schema retired_table.name
+
+-- What tables of later versions hold: from version 2 on there is one for the rule, and before it no rule; from version 3
+-- on there is one for the floors, and before it no floor.
 pub record HasLater (db : Database) (t : Tables) : Type 0 where
   pub rule :
       Since (nat_le 2 t.setting.version) (IsThere db rule_table (rule_rows t.setting.rule)) (t.setting.rule ≡ None)
+  pub retired : Since (nat_le 3 t.setting.version) (HasFloors db t.retired) (HasNoFloors db t.retired)
+
+-- they are those of the version that a ledger has once it is opened
+abbrev pub IsCurrent : Tables → Type 0
+IsCurrent t = t.setting.version ≡ VERSION
 
 -- The store has the five tables at some places, and those of its version; they hold these rows. Its trees list its
 -- schema, as those of an open store do.

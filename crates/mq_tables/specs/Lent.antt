@@ -8,6 +8,7 @@ use Rattle.mq_rows.specs.declared.record.AnswerRecord.{AnswerRecord}
 use Rattle.mq_rows.specs.declared.record.TransactionRecord.{TransactionRecord}
 use Rattle.mq_rows.specs.declared.record.UsageRecord.{UsageRecord}
 use Rattle.mq_rows.specs.declared.record.CeilingRecord.{CeilingRecord}
+use Rattle.mq_rows.specs.declared.record.RetiredRecord.{RetiredRecord}
 use Rattle.mq_tables.specs.Records.{bit, IsFirstBy}
 
 -- the parameters of the INSERT of an answer
@@ -71,6 +72,28 @@ IsFirstTransaction h r x = IsFirstBy (IsTransactionShown h r x)
 -- the parameters of the UPDATE of a limit
 abbrev pub cap_params : CeilingRecord → Row
 cap_params c = Int (pos c.cap) ∷ Blob c.login ∷ Int (pos c.day) ∷ []
+
+-- the parameter of the query for a floor
+abbrev pub host_params : List ℕ → Row
+host_params host = Blob host ∷ []
+
+-- the parameters of the UPDATE of a floor
+abbrev pub floor_params : RetiredRecord → Row
+floor_params r = Int (pos r.run) ∷ Blob r.host ∷ []
+
+-- what the query for a floor shows
+abbrev pub floor_row : RetiredRecord → Row
+floor_row r = Int (pos r.run) ∷ []
+
+-- what the row of that host shows
+pub record IsFloorShown (h : List ℕ) (row : Row) (r : RetiredRecord) : Type 0 where
+  pub host : r.host ≡ h
+  pub run : column row 0 ≡ Int (pos r.run)
+  pub fits : r.run < 2 ^ 63
+
+-- no row, or what the first shows
+abbrev pub IsFirstFloor : List ℕ → List Row → Option RetiredRecord → Type 0
+IsFirstFloor h = IsFirstBy (IsFloorShown h)
 
 abbrev pub id_key : Id → Row
 id_key id = Blob id.host ∷ Int (pos id.run) ∷ Int (pos id.seq) ∷ []

@@ -15,3 +15,5 @@ pub mod Over
 pub mod Paging
 pub mod Finding
 pub mod Figures
+pub mod Retiring
+pub mod Migrating

@@ -16,10 +16,11 @@ use Rattle.sqlite.specs.State.{State}
 use Rattle.sqlite.specs.Tree.{Trees}
 use Rattle.mq_ledger.specs.Day.{minutes_in, rule_in}
 use Rattle.mq_ledger.specs.declared.zone.Zone.{Zone}
-use Rattle.mq_rows.specs.Rows.{version_of}
+use Rattle.mq_rows.specs.declared.setting.TheConstants.{VERSION}
 use Rattle.mq_tables.specs.Tables.{setting_table, answer_table, trans_table, usage_table, ceiling_table, rule_table}
+use Rattle.mq_tables.specs.Tables.{retired_table}
 use Rattle.mq_tables.specs.declared.setting.NewSetting.{NewSetting}
-use Rattle.mq_tables.specs.Settings.{HasSetting, setting_fields, setting_after, rule_fields}
+use Rattle.mq_tables.specs.Settings.{HasSetting, setting_fields, setting_after, rule_fields, rule_rows}
 use Rattle.mq_rows.specs.Tables.{Tables}
 use Rattle.mq_tables.specs.Ledger.{HasLater, HasLedger}
 use Rattle.mq_tables.specs.Written.{Created}
@@ -60,7 +61,7 @@ setting_row made_with = setting_fields (setting_after (pos 0) made_with)
 abbrev pub new_rows : NewSetting → Tables
 new_rows made_with = record {
   setting = record {
-    version = version_of made_with.zone;
+    version = VERSION;
     minutes = minutes_in made_with.zone;
     cap = made_with.cap;
     arrivals = 0;
@@ -70,21 +71,23 @@ new_rows made_with = record {
   transactions = [];
   usage = [];
   ceilings = [];
+  retired = [];
 }
 
 abbrev pub setting_params : NewSetting → Row
 setting_params made_with =
-    Int (pos (version_of made_with.zone)) ∷ Int (minutes_in made_with.zone) ∷ Int (pos made_with.cap) ∷ []
+    Int (pos VERSION) ∷ Int (minutes_in made_with.zone) ∷ Int (pos made_with.cap) ∷ []
 
 abbrev pub rule_params : List ℕ → Row
 rule_params text = Blob text ∷ []
 
+-- the others that hold nothing
 abbrev pub other_tables : List Table
-other_tables = answer_table ∷ trans_table ∷ usage_table ∷ ceiling_table ∷ []
+other_tables = answer_table ∷ trans_table ∷ usage_table ∷ ceiling_table ∷ rule_table ∷ retired_table ∷ []
 
--- the tables of later versions that tables of this one have
-abbrev pub later_tables : ℕ → List Table
-later_tables version = if nat_le 2 version then rule_table ∷ [] else []
+-- the tables before that of the rule
+abbrev pub five_tables : List Table
+five_tables = setting_table ∷ answer_table ∷ trans_table ∷ usage_table ∷ ceiling_table ∷ []
 
 -- What one CREATE leaves, and that the transaction goes on.
 abbrev pub Makes : Table → State → State → Type 0
@@ -93,6 +96,7 @@ Makes table old new =
 
 -- the table whose rows are in this tree has this row
 pub record HasPut (tree : ℕ) (row : Row) (old new : State) : Type 0 where
+  pub sound : IsDatabase new.now
   pub schema : new.now.schema ≡ old.now.schema
   pub row_is : new.now.trees tree ≡ row ∷ []
   pub others : AllByRecursion (λ t. t.tree ≢ tree → new.now.trees t.tree ≡ old.now.trees t.tree) old.now.schema.tables
@@ -113,39 +117,37 @@ pub record HasStarted (table : Table) (row : Row) (old new : State) : Type 0 whe
   pub others : AllByRecursion (λ t. new.now.trees t.tree ≡ old.now.trees t.tree) old.now.schema.tables
   pub counters : lacks_sequence new.now.schema ≡ false
 
--- what is made first: the tables of later versions, with their rows
-abbrev pub HasBegun : Option (List ℕ) → State → State → Type 0
-HasBegun None old new = (new.now ≡ old.now) × (lacks_sequence new.now.schema ≡ false)
-HasBegun (Some text) old new = HasStarted rule_table (rule_fields text) old new
+-- the rule is put into its table, where there is one
+abbrev pub PutsAny : Option (List ℕ) → State → State → Type 0
+PutsAny None old new = IsTrue new.in_transaction × (new.now ≡ old.now)
+PutsAny (Some text) old new = Puts rule_table (rule_fields text) old new
 
--- the schema with the tables of later versions that a ledger of this zone has
-abbrev pub later_over : Zone → Schema → Schema
-later_over zone s = chain s (later_tables (version_of zone))
-
--- and with the five behind them
-abbrev pub ledger_over : Zone → Schema → Schema
-ledger_over zone s = chain (later_over zone s) (setting_table ∷ other_tables)
+-- the schema with the seven
+abbrev pub ledger_over : Schema → Schema
+ledger_over s = chain s (setting_table ∷ other_tables)
 
 abbrev pub is_ours : List ℕ → Bool
 is_ours name =
     same_name setting_table.name name || (same_name answer_table.name name
-    || (same_name trans_table.name name || (same_name usage_table.name name || same_name ceiling_table.name name)))
+    || (same_name trans_table.name name
+    || (same_name usage_table.name name || (same_name ceiling_table.name name
+    || (same_name rule_table.name name || same_name retired_table.name name)))))
 
--- no foreign key of a table that is there names one of the five
+-- no foreign key of a table that is there names one of the seven
 abbrev pub AreUnnamed : Schema → Type 0
 AreUnnamed s = AllByRecursion (λ t. AllByRecursion (λ ref. is_ours ref.parent ≡ false) t.references) s.tables
 
--- The tables of later versions and then the five stand behind those that were there, and hold the rows of a new
--- ledger. Each table that was there has its rows.
+-- The seven stand behind those that were there, and hold the rows of a new ledger. Each table that was there has its
+-- rows.
 pub record IsMade (made_with : NewSetting) (old new : Database) : Type 0 where
   pub sound : IsDatabase new
-  pub schema : new.schema ≡ ledger_over made_with.zone old.schema
-  pub row : new.trees (next_tree (later_over made_with.zone old.schema)) ≡ setting_row made_with ∷ []
+  pub schema : new.schema ≡ ledger_over old.schema
+  pub row : new.trees (next_tree old.schema) ≡ setting_row made_with ∷ []
+  pub rule : new.trees (next_tree (chain old.schema five_tables)) ≡ rule_rows (rule_in made_with.zone)
   pub empty :
-      AllByRecursion (λ n. new.trees n ≡ [])
-      (trees_for (created (later_over made_with.zone old.schema) setting_table) other_tables)
+      AllByRecursion (λ n. n ≢ next_tree (chain old.schema five_tables) → new.trees n ≡ [])
+      (trees_for (created old.schema setting_table) other_tables)
   pub setting : HasSetting new (setting_after (pos 0) made_with)
-  pub later : HasLater new (new_rows made_with)
   pub ledger : AreUnnamed old.schema → HasLedger new (new_rows made_with)
   pub others : AllByRecursion (λ t. new.trees t.tree ≡ old.trees t.tree) old.schema.tables
 
@@ -164,7 +166,7 @@ abbrev pub has_ledger_table : Schema → Bool
 has_ledger_table s =
     has_table s setting_table.name || (has_table s answer_table.name
     || (has_table s trans_table.name || (has_table s usage_table.name
-    || (has_table s ceiling_table.name || has_table s rule_table.name))))
+    || (has_table s ceiling_table.name || (has_table s rule_table.name || has_table s retired_table.name)))))
 
 -- the same, where each table with AUTOINCREMENT had the table that counts for it
 pub record IsMadeOver (made_with : NewSetting) (old new : Database) : Type 0 where

@@ -1,11 +1,12 @@
 -- A table of ours at some place of a schema, whatever stands before it and after it.
-use Rattle.std.specs.Prelude.{◌≡◌, ◌^◌, ℕ, Bool, false, nat_le, Some, None, Option, slice_get, find, ◌==◌}
+use Rattle.std.specs.Prelude.{◌≡◌, ◌^◌, ℕ, List, Bool, false, nat_le, Some, None, Option, slice_get, find, ◌==◌}
 use Rattle.std.specs.List.{AllByRecursion}
 use Rattle.sqlite.specs.Schema.{Schema}
 use Rattle.sqlite.specs.Table.{Table}
 use Rattle.sqlite_schema.specs.declared.schema.Reference.{Reference}
 use Rattle.sqlite_schema.specs.Names.{table_named, same_name}
 use Rattle.mq_tables.specs.Tables.{setting_table, answer_table, trans_table, usage_table, ceiling_table, rule_table}
+use Rattle.mq_tables.specs.Tables.{retired_table}
 
 -- the table goes by its name, and its rows are in this tree
 pub record IsTableIn (schema : Schema) (made : Table) (tree : ℕ) : Type 0 where
@@ -33,6 +34,9 @@ IsCeilingIn schema tree = IsTableIn schema ceiling_table tree
 abbrev pub IsRuleIn : Schema → ℕ → Type 0
 IsRuleIn schema tree = IsTableIn schema rule_table tree
 
+abbrev pub IsRetiredIn : Schema → ℕ → Type 0
+IsRetiredIn schema tree = IsTableIn schema retired_table tree
+
 abbrev pub is_tree : ℕ → Option Table → Bool
 is_tree tree None = false
 is_tree tree (Some t) = t.tree == tree
@@ -45,3 +49,8 @@ refers schema tree ref = is_tree tree (find (λ t. same_name t.name ref.parent) 
 abbrev pub IsUnreferred : Schema → ℕ → Type 0
 IsUnreferred schema tree =
     AllByRecursion (λ t. AllByRecursion (λ ref. refers schema tree ref ≡ false) t.references) schema.tables
+
+-- no foreign key names a table so
+abbrev pub IsUnnamed : Schema → List ℕ → Type 0
+IsUnnamed schema name =
+    AllByRecursion (λ t. AllByRecursion (λ ref. same_name name ref.parent ≡ false) t.references) schema.tables

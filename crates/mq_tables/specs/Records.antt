@@ -11,6 +11,7 @@ use Rattle.mq_rows.specs.declared.record.AnswerRecord.{AnswerRecord}
 use Rattle.mq_rows.specs.declared.record.TransactionRecord.{TransactionRecord}
 use Rattle.mq_rows.specs.declared.record.UsageRecord.{UsageRecord}
 use Rattle.mq_rows.specs.declared.record.CeilingRecord.{CeilingRecord}
+use Rattle.mq_rows.specs.declared.record.RetiredRecord.{RetiredRecord}
 
 -- a column that stands for the rowid is kept as NULL
 abbrev pub answer_fields : AnswerRecord → Row
@@ -31,6 +32,9 @@ usage_fields u = Blob u.login ∷ Int (pos u.day) ∷ Int (pos u.settled) ∷ In
 
 abbrev pub ceiling_fields : CeilingRecord → Row
 ceiling_fields c = Blob c.login ∷ Int (pos c.day) ∷ Int (pos c.cap) ∷ []
+
+abbrev pub retired_fields : RetiredRecord → Row
+retired_fields r = Blob r.host ∷ Int (pos r.run) ∷ []
 
 -- numbered from here on, without a gap
 abbrev pub AreNumbered : ℕ → List AnswerRecord → Type 0
@@ -55,6 +59,9 @@ HoldsUsage rows all = Holds 1 usage_fields rows all
 
 abbrev pub HoldsCeilings : List Row → List CeilingRecord → Type 0
 HoldsCeilings rows all = Holds 1 ceiling_fields rows all
+
+abbrev pub HoldsRetired : List Row → List RetiredRecord → Type 0
+HoldsRetired rows all = Holds 1 retired_fields rows all
 
 -- no record passes the test, or this is one that does
 abbrev pub IsOneOf : {R : Type 0} → (R → Bool) → List R → Option R → Type 0

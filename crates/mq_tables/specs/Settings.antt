@@ -10,7 +10,7 @@ use Rattle.sqlite_trees.specs.declared.error.StoreError.{StoreError}
 use Rattle.mq_tables.specs.declared.setting.Setting.{Setting}
 use Rattle.mq_tables.specs.declared.setting.NewSetting.{NewSetting}
 use Rattle.mq_ledger.specs.Day.{minutes_in}
-use Rattle.mq_rows.specs.Rows.{version_of}
+use Rattle.mq_rows.specs.declared.setting.TheConstants.{VERSION}
 use Rattle.mq_tables.specs.Places.{IsSettingIn, IsRuleIn}
 
 pub record SettingRow : Type 0 where
@@ -26,7 +26,7 @@ setting_fields s = Int (pos 1) ∷ Null ∷ Int s.version ∷ Int s.minutes ∷ 
 -- that of a ledger that has applied so many requests
 abbrev pub setting_after : ℤ → NewSetting → SettingRow
 setting_after arrivals made =
-    record { version = pos (version_of made.zone); minutes = minutes_in made.zone; cap = pos made.cap; arrivals = arrivals }
+    record { version = pos VERSION; minutes = minutes_in made.zone; cap = pos made.cap; arrivals = arrivals }
 
 -- our table of settings is there, at some place, and has this one row
 pub record HasSetting (db : Database) (s : SettingRow) : Type 0 where

@@ -122,3 +122,19 @@ rule_table = record {
   stamps = record { places = []; terms = []; formats = [] };
   is_counted = false;
 }
+
+abbrev pub retired_table : Table
+retired_table = record {
+  name = codes "retired";
+  tree = 0;
+  columns = required (codes "host") Blob ∷ required (codes "run") Integer ∷ [];
+  key = None;
+  primary = 1 ∷ [];
+  uniques = (1 ∷ []) ∷ [];
+  orders = plain ∷ [];
+  checks = [];
+  references = [];
+  computed = [];
+  stamps = record { places = []; terms = []; formats = [] };
+  is_counted = false;
+}

@@ -13,9 +13,10 @@ use Rattle.mq_rows.specs.declared.record.AnswerRecord.{AnswerRecord}
 use Rattle.mq_rows.specs.declared.record.TransactionRecord.{TransactionRecord}
 use Rattle.mq_rows.specs.declared.record.UsageRecord.{UsageRecord}
 use Rattle.mq_rows.specs.declared.record.CeilingRecord.{CeilingRecord}
+use Rattle.mq_rows.specs.declared.record.RetiredRecord.{RetiredRecord}
 use Rattle.mq_rows.specs.Tables.{Tables}
-use Rattle.mq_rows.specs.Plan.{same_key, set_transaction, same_day, set_usage, same_from, set_ceiling}
-use Rattle.mq_tables.specs.Ledger.{HasLedger}
+use Rattle.mq_rows.specs.Plan.{same_key, set_transaction, same_day, set_usage, same_from, set_ceiling, same_host, set_run}
+use Rattle.mq_tables.specs.Ledger.{HasLedger, IsCurrent}
 use Rattle.mq_tables.specs.Settings.{SettingRow, setting_fields}
 
 -- each table but that of this tree has its rows
@@ -83,3 +84,8 @@ abbrev pub WritesCeiling : Write CeilingRecord → State → State → Type 0
 WritesCeiling write old new =
     (t : Tables) → HasLedger old.now t
     → Leaves same_from set_ceiling write t.ceilings (λ after. HasLedger new.now (record t { ceilings = after }))
+
+abbrev pub WritesFloor : Write RetiredRecord → State → State → Type 0
+WritesFloor write old new =
+    (t : Tables) → HasLedger old.now t → IsCurrent t
+    → Leaves same_host set_run write t.retired (λ after. HasLedger new.now (record t { retired = after }))

@@ -8,11 +8,12 @@ ghost use Rattle.sqlite.specs.Values.{bound};
 ghost use Rattle.mq_ledger.specs.Day.{rule_in};
 ghost use Rattle.mq_tables.specs.Settings.{rule_fields};
 ghost use Rattle.mq_tables.specs.Tables.{setting_table, answer_table, trans_table, usage_table, ceiling_table, rule_table};
-ghost use Rattle.mq_tables.specs.Making.{Makes, Puts, HasCounters, HasStarted, HasBegun, HasAdded, IsMadeOver};
+ghost use Rattle.mq_tables.specs.Tables.{retired_table};
+ghost use Rattle.mq_tables.specs.Making.{Makes, Puts, PutsAny, HasCounters, HasStarted, HasAdded, IsMadeOver};
 ghost use Rattle.mq_tables.specs.Making.{AreMadeOver, other_tables, setting_row, setting_params, rule_params};
 
 use crate::setting::NewSetting;
-use mq_rows::version_of;
+use mq_rows::VERSION;
 use sqlite::types::ValueRef;
 use sqlite::{Alter, Connection, Error, Transaction};
 
@@ -103,7 +104,7 @@ fn create_ceiling<S: Alter>(tx: &mut Transaction<'_, S>) -> Result<usize, Error>
     )
 }
 
-fn create_rule<S: Alter>(tx: &mut Transaction<'_, S>) -> Result<usize, Error>
+pub(crate) fn create_rule<S: Alter>(tx: &mut Transaction<'_, S>) -> Result<usize, Error>
     requires inside { HasCleanDisk (state S.Store tx.old.conn.now)
         → IsTrue (state S.Store tx.old.conn.now).in_transaction }
     ensures same_reference { tx.new.conn.ghost_name ≡ tx.old.conn.ghost_name }
@@ -115,6 +116,22 @@ fn create_rule<S: Alter>(tx: &mut Transaction<'_, S>) -> Result<usize, Error>
 {
     tx.execute(
         "CREATE TABLE rule (id INTEGER PRIMARY KEY, bytes BLOB NOT NULL) STRICT",
+        &[],
+    )
+}
+
+pub(crate) fn create_retired<S: Alter>(tx: &mut Transaction<'_, S>) -> Result<usize, Error>
+    requires inside { HasCleanDisk (state S.Store tx.old.conn.now)
+        → IsTrue (state S.Store tx.old.conn.now).in_transaction }
+    ensures same_reference { tx.new.conn.ghost_name ≡ tx.old.conn.ghost_name }
+    ensures made { HasCleanDisk (state S.Store tx.new.conn.now)
+        → OnOk result (Makes retired_table (state S.Store tx.old.conn.now) (state S.Store tx.new.conn.now)) }
+    ensures kept { HasCleanDisk (state S.Store tx.new.conn.now)
+        → KeepsCommit (state S.Store tx.old.conn.now) (state S.Store tx.new.conn.now) }
+    ensures survives { Survives (state S.Store tx.old.conn.now) (state S.Store tx.new.conn.now) (λ _. ⊥) }
+{
+    tx.execute(
+        "CREATE TABLE retired (host BLOB PRIMARY KEY, run INTEGER NOT NULL) STRICT",
         &[],
     )
 }
@@ -142,45 +159,24 @@ fn put_rule<S: Alter>(tx: &mut Transaction<'_, S>, rule: &[u8]) -> Result<usize,
     )
 }
 
-fn begin_rule<S: Alter>(tx: &mut Transaction<'_, S>, rule: &[u8]) -> Result<usize, Error>
+/// Puts the zone's rule into its table, where there is one.
+fn put_any_rule<S: Alter>(
+    tx: &mut Transaction<'_, S>,
+    made_with: &NewSetting,
+) -> Result<usize, Error>
     requires inside { HasCleanDisk (state S.Store tx.old.conn.now)
         → IsTrue (state S.Store tx.old.conn.now).in_transaction }
     ensures same_reference { tx.new.conn.ghost_name ≡ tx.old.conn.ghost_name }
-    ensures inside { HasCleanDisk (state S.Store tx.new.conn.now)
-        → OnOk result (IsTrue (state S.Store tx.new.conn.now).in_transaction) }
-    ensures started { HasCleanDisk (state S.Store tx.new.conn.now)
-        → OnOk result (HasCounters (state S.Store tx.old.conn.now)
-        → HasStarted rule_table (rule_fields rule.now) (state S.Store tx.old.conn.now)
-        (state S.Store tx.new.conn.now)) }
-    ensures kept { HasCleanDisk (state S.Store tx.new.conn.now)
-        → KeepsCommit (state S.Store tx.old.conn.now) (state S.Store tx.new.conn.now) }
-    ensures survives { Survives (state S.Store tx.old.conn.now) (state S.Store tx.new.conn.now) (λ _. ⊥) }
-{
-    create_rule(tx)?;
-    put_rule(tx, rule)
-}
-
-/// Makes the tables that only later versions have, before the five: a ledger with an offset has none.
-fn begin_later<S: Alter>(tx: &mut Transaction<'_, S>, made_with: &NewSetting) -> Result<(), Error>
-    requires inside { HasCleanDisk (state S.Store tx.old.conn.now)
-        → IsTrue (state S.Store tx.old.conn.now).in_transaction }
-    ensures same_reference { tx.new.conn.ghost_name ≡ tx.old.conn.ghost_name }
-    ensures inside { HasCleanDisk (state S.Store tx.new.conn.now)
-        → OnOk result (IsTrue (state S.Store tx.new.conn.now).in_transaction) }
-    ensures begun { HasCleanDisk (state S.Store tx.new.conn.now)
-        → OnOk result (HasCounters (state S.Store tx.old.conn.now)
-        → HasBegun (rule_in made_with.now.zone) (state S.Store tx.old.conn.now)
+    ensures put { HasCleanDisk (state S.Store tx.new.conn.now)
+        → OnOk result (PutsAny (rule_in made_with.now.zone) (state S.Store tx.old.conn.now)
         (state S.Store tx.new.conn.now)) }
     ensures kept { HasCleanDisk (state S.Store tx.new.conn.now)
         → KeepsCommit (state S.Store tx.old.conn.now) (state S.Store tx.new.conn.now) }
     ensures survives { Survives (state S.Store tx.old.conn.now) (state S.Store tx.new.conn.now) (λ _. ⊥) }
 {
     match made_with.zone.rule() {
-        Some(rule) => {
-            begin_rule(tx, rule)?;
-            Ok(())
-        }
-        None => Ok(()),
+        Some(rule) => put_rule(tx, rule),
+        None => Ok(0),
     }
 }
 
@@ -188,7 +184,7 @@ fn setting_params(made_with: &NewSetting) -> [ValueRef<'static>; 3]
     ensures { bound result ≡ setting_params made_with.now }
 {
     [
-        ValueRef::Int(i64::from(version_of(&made_with.zone))),
+        ValueRef::Int(i64::from(VERSION)),
         ValueRef::Int(i64::from(made_with.zone.minutes())),
         ValueRef::Int(i64::from(made_with.cap)),
     ]
@@ -251,7 +247,9 @@ fn create_others<S: Alter>(tx: &mut Transaction<'_, S>) -> Result<usize, Error>
     create_answer(tx)?;
     create_trans(tx)?;
     create_usage(tx)?;
-    create_ceiling(tx)
+    create_ceiling(tx)?;
+    create_rule(tx)?;
+    create_retired(tx)
 }
 
 fn make_tables<S: Alter>(
@@ -270,13 +268,12 @@ fn make_tables<S: Alter>(
         → KeepsCommit (state S.Store tx.old.conn.now) (state S.Store tx.new.conn.now) }
     ensures survives { Survives (state S.Store tx.old.conn.now) (state S.Store tx.new.conn.now) (λ _. ⊥) }
 {
-    begin_later(tx, made_with)?;
     begin_setting(tx, made_with)?;
-    create_others(tx)
+    create_others(tx)?;
+    put_any_rule(tx, made_with)
 }
 
-/// Makes the tables of a ledger that has applied nothing, in one transaction, or leaves all as it was: first
-/// those that only later versions have, then the five.
+/// Makes the seven tables of a ledger that has applied nothing, in one transaction, or leaves all as it was.
 ///
 /// An error is the store's.
 pub fn make_ledger<S: Alter>(conn: &mut Connection<S>, made_with: &NewSetting) -> Result<(), Error>

@@ -1,18 +1,20 @@
 //! What the tables have about a numbered request.
 
-ghost use Rattle.std.specs.Prelude.{◌≡◌, ◌<◌, ◌^◌, OnOk, IfOk, IsSome};
+ghost use Rattle.std.specs.Prelude.{◌≡◌, ◌<◌, ◌^◌, find, OnOk, IfOk, IsSome};
 ghost use Rattle.sqlite.specs.Held.{state};
 ghost use Rattle.sqlite.specs.State.{HasCleanDisk, IsUnchanged, KeepsCommit, Survives};
 ghost use Rattle.mq_frame.specs.Range.{IsRequest};
 ghost use Rattle.mq_ledger.specs.Arrivals.{id_of};
 ghost use Rattle.mq_ledger.specs.Day.{day_of};
 ghost use Rattle.mq_rows.specs.Found.{IsFound};
-ghost use Rattle.mq_rows.specs.Storable.{AreStorableIf};
+ghost use Rattle.mq_rows.specs.Rows.{is_host};
+ghost use Rattle.mq_rows.specs.Storable.{AreStorableIf, IsStorableFloor};
 ghost use Rattle.mq_rows.specs.Tables.{Tables};
 ghost use Rattle.mq_tables.specs.Finding.{AreKeyed, IsTransactionFound, IsReserveFound, IsLimitFound};
-ghost use Rattle.mq_tables.specs.Ledger.{HasLedger};
+ghost use Rattle.mq_tables.specs.Ledger.{HasLedger, IsCurrent};
 
 use crate::ceiling::{find_ceiling, find_governing};
+use crate::floor::find_floor;
 use crate::over::find_over;
 use crate::transaction::find_transaction;
 use crate::usage::find_usage;
@@ -28,6 +30,7 @@ const NOTHING: Found = Found {
     governing: None,
     over: None,
     ceiling: None,
+    floor: None,
 };
 
 /// The rows of a request's transaction, and of its login and day.
@@ -46,6 +49,7 @@ fn find_named<S: Alter>(
         → IfOk result (λ found. (t : Tables) → HasLedger (state S.Store tx.old.conn.now).now t → AreKeyed t
         → IsTransactionFound id.now txn login.now day t found) }
     ensures storable { IfOk result (λ found. AreStorableIf found.transaction) }
+    ensures storable_floor { IfOk result (λ found. IsStorableFloor found.floor) }
     ensures kept { HasCleanDisk (state S.Store tx.new.conn.now)
         → KeepsCommit (state S.Store tx.old.conn.now) (state S.Store tx.new.conn.now) }
     ensures survives { Survives (state S.Store tx.old.conn.now) (state S.Store tx.new.conn.now) (λ _. ⊥) }
@@ -58,6 +62,7 @@ fn find_named<S: Alter>(
         governing: None,
         over: None,
         ceiling: None,
+        floor: None,
     })
 }
 
@@ -77,6 +82,7 @@ fn find_for_reserve<S: Alter>(
         → IfOk result (λ found. (t : Tables) → HasLedger (state S.Store tx.old.conn.now).now t → AreKeyed t
         → IsReserveFound id.now txn login.now day t found) }
     ensures storable { IfOk result (λ found. AreStorableIf found.transaction) }
+    ensures storable_floor { IfOk result (λ found. IsStorableFloor found.floor) }
     ensures kept { HasCleanDisk (state S.Store tx.new.conn.now)
         → KeepsCommit (state S.Store tx.old.conn.now) (state S.Store tx.new.conn.now) }
     ensures survives { Survives (state S.Store tx.old.conn.now) (state S.Store tx.new.conn.now) (λ _. ⊥) }
@@ -100,6 +106,7 @@ fn find_for_limit<S: Alter>(
         → IfOk result (λ found. (t : Tables) → HasLedger (state S.Store tx.old.conn.now).now t → AreKeyed t
         → IsLimitFound login.now from_day cap t found) }
     ensures storable { IfOk result (λ found. AreStorableIf found.transaction) }
+    ensures storable_floor { IfOk result (λ found. IsStorableFloor found.floor) }
     ensures kept { HasCleanDisk (state S.Store tx.new.conn.now)
         → KeepsCommit (state S.Store tx.old.conn.now) (state S.Store tx.new.conn.now) }
     ensures survives { Survives (state S.Store tx.old.conn.now) (state S.Store tx.new.conn.now) (λ _. ⊥) }
@@ -112,6 +119,32 @@ fn find_for_limit<S: Alter>(
         governing: None,
         over,
         ceiling,
+        floor: None,
+    })
+}
+
+/// The floor of a retire's host.
+fn find_for_retire<S: Alter>(tx: &mut Transaction<'_, S>, id: &Id) -> Result<Found, Error>
+    ensures same_reference { tx.new.conn.ghost_name ≡ tx.old.conn.ghost_name }
+    ensures same { HasCleanDisk (state S.Store tx.new.conn.now)
+        → OnOk result (IsUnchanged (state S.Store tx.old.conn.now) (state S.Store tx.new.conn.now)) }
+    ensures found { HasCleanDisk (state S.Store tx.new.conn.now)
+        → IfOk result (λ found. (t : Tables) → HasLedger (state S.Store tx.old.conn.now).now t × IsCurrent t
+        → AreKeyed t → found.floor ≡ find (is_host id.now.host) t.retired) }
+    ensures storable { IfOk result (λ found. AreStorableIf found.transaction) }
+    ensures storable_floor { IfOk result (λ found. IsStorableFloor found.floor) }
+    ensures kept { HasCleanDisk (state S.Store tx.new.conn.now)
+        → KeepsCommit (state S.Store tx.old.conn.now) (state S.Store tx.new.conn.now) }
+    ensures survives { Survives (state S.Store tx.old.conn.now) (state S.Store tx.new.conn.now) (λ _. ⊥) }
+{
+    let floor = find_floor(tx, &id.host)?;
+    Ok(Found {
+        transaction: None,
+        usage: None,
+        governing: None,
+        over: None,
+        ceiling: None,
+        floor,
     })
 }
 
@@ -129,9 +162,10 @@ pub fn find<S: Alter>(
     ensures same { HasCleanDisk (state S.Store tx.new.conn.now)
         → OnOk result (IsUnchanged (state S.Store tx.old.conn.now) (state S.Store tx.new.conn.now)) }
     ensures found { HasCleanDisk (state S.Store tx.new.conn.now)
-        → IfOk result (λ found. (t : Tables) → HasLedger (state S.Store tx.old.conn.now).now t → AreKeyed t
-        → IsFound (day_of zone) t request.now found) }
+        → IfOk result (λ found. (t : Tables) → HasLedger (state S.Store tx.old.conn.now).now t × IsCurrent t
+        → AreKeyed t → IsFound (day_of zone) t request.now found) }
     ensures storable { IfOk result (λ found. AreStorableIf found.transaction) }
+    ensures storable_floor { IfOk result (λ found. IsStorableFloor found.floor) }
     ensures kept { HasCleanDisk (state S.Store tx.new.conn.now)
         → KeepsCommit (state S.Store tx.old.conn.now) (state S.Store tx.new.conn.now) }
     ensures survives { Survives (state S.Store tx.old.conn.now) (state S.Store tx.new.conn.now) (λ _. ⊥) }
@@ -160,6 +194,7 @@ pub fn find<S: Alter>(
             login,
             ..
         } => find_for_limit(tx, login, *from_day, *cap),
+        Request::Retire { id } => find_for_retire(tx, id),
         Request::Usage { .. } | Request::List { .. } => Ok(NOTHING),
     }
 }

@@ -37,7 +37,7 @@ fn has_table(schema: &Schema, name: &[u8]) -> bool
     any_named(schema.tables.as_slice(), name) || any_aside(schema.views.as_slice(), name)
 }
 
-/// Whether a table of one of the ledger's six names is there.
+/// Whether a table of one of the ledger's seven names is there.
 pub fn has_ledger_table(schema: &Schema) -> bool
     ensures { result ≡ has_ledger_table schema.now }
 {
@@ -47,4 +47,5 @@ pub fn has_ledger_table(schema: &Schema) -> bool
         || has_table(schema, b"usage")
         || has_table(schema, b"ceiling")
         || has_table(schema, b"rule")
+        || has_table(schema, b"retired")
 }

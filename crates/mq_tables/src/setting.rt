@@ -93,7 +93,7 @@ pub fn read_setting<S: Alter>(connection: &mut Connection<S>) -> Result<Option<S
 }
 
 /// A whole number of the row from 0 on, which is below 2 to the 63rd.
-pub(crate) fn natural_at(row: &Row, at: usize) -> Result<u64, Error>
+pub fn natural_at(row: &Row, at: usize) -> Result<u64, Error>
     ensures { IfOk result (IsNaturalAt row.now at) }
 {
     let value: i64 = row.get(at)?;

@@ -181,6 +181,7 @@ impl PlainLedger {
             } => self.answer_limit(id, *from_day, *cap, login),
             Request::Usage { login, day } => self.answer_usage(login, *day),
             Request::List { day, after } => self.answer_list(*day, after),
+            Request::Retire { id } => Ok(Reply::Retired { id: id.clone()? }),
         }
     }
 }

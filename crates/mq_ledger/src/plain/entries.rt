@@ -1,12 +1,12 @@
 //! What an entry says.
-ghost use Rattle.std.specs.Prelude.{◌≡◌};
+ghost use Rattle.std.specs.Prelude.{◌≡◌, nat_lt};
 ghost use Rattle.std.specs.Option.{option_copied};
-ghost use Rattle.mq_ledger.specs.Arrivals.{id_of, has_id};
+ghost use Rattle.mq_ledger.specs.Arrivals.{id_of, has_id, raised, greater, floor};
 ghost use Rattle.mq_ledger.specs.Answer.{stored};
-ghost use Rattle.mq_ledger.specs.History.{closes, granted, counted};
+ghost use Rattle.mq_ledger.specs.History.{requests, closes, granted, counted};
 
 use crate::entry::Entry;
-use mq_frame::{Id, Reply, Request};
+use mq_frame::{Host, Id, Reply, Request};
 
 /// The number of a request: usage and list have none.
 pub fn id_of(request: &Request) -> Option<&Id>
@@ -16,7 +16,8 @@ pub fn id_of(request: &Request) -> Option<&Id>
         Request::Reserve { id, .. }
         | Request::Settle { id, .. }
         | Request::Release { id, .. }
-        | Request::Limit { id, .. } => Some(id),
+        | Request::Limit { id, .. }
+        | Request::Retire { id } => Some(id),
         Request::Usage { .. } | Request::List { .. } => None,
     }
 }
@@ -35,6 +36,41 @@ pub fn stored<'a>(entries: &'a [Entry], id: &Id) -> Option<&'a Entry>
     ensures { option_copied result ≡ stored entries.now id.now }
 {
     entries.iter().find(|entry| has_id(&entry.request, id))
+}
+
+/// The run to which a request raises the floor of the host.
+fn raised(request: &Request, host: &Host) -> u64
+    ensures { result ≡ raised host.now request.now }
+{
+    match request {
+        Request::Retire { id } if *host == id.host => id.run,
+        _ => 0,
+    }
+}
+
+/// The greater of the two.
+fn greater(run: u64, other: u64) -> u64
+    ensures { result ≡ greater run other }
+{
+    if run < other { other } else { run }
+}
+
+/// The floor of a host: runs below it are retired.
+fn floor(entries: &[Entry], host: &Host) -> u64
+    ensures { result ≡ floor (requests entries.now) host.now }
+{
+    let mut run = 0;
+    for entry in entries {
+        run = greater(run, raised(&entry.request, host));
+    }
+    run
+}
+
+/// Whether that run of the host is below its floor.
+pub fn is_below(entries: &[Entry], host: &Host, run: u64) -> bool
+    ensures { result ≡ nat_lt run (floor (requests entries.now) host.now) }
+{
+    run < floor(entries, host)
 }
 
 /// Whether the reply closes its transaction.

@@ -3,10 +3,10 @@ ghost use Rattle.std.specs.Prelude.{◌≡◌, ◌<◌, ◌^◌, IfOk};
 ghost use Rattle.std.specs.Option.{option_copied, MatchOption};
 ghost use Rattle.mq_frame.specs.declared.message.Reply.{Reply as AnyReply};
 ghost use Rattle.mq_ledger.specs.Answer.{if_open};
-ghost use Rattle.mq_ledger.specs.History.{transaction, is_of, is_at, named, agrees, closed, granted_in, IsOpenTo};
+ghost use Rattle.mq_ledger.specs.History.{transaction, is_of, is_at, named, agrees, ended, closed, abandoned, granted_in, IsOpenTo};
 
 use crate::entry::Entry;
-use crate::plain::entries::{closes, granted};
+use crate::plain::entries::{closes, granted, is_below};
 use mq_frame::{Id, Login, Reply, Request};
 use std::alloc::AllocError;
 
@@ -75,11 +75,25 @@ fn agrees(entries: &[Entry], id: &Id, txn: u32, at: u64, login: &Login) -> bool
     }
 }
 
-/// Whether the transaction is closed.
+/// Whether the transaction was settled or released.
+fn is_ended(entries: &[Entry], id: &Id, txn: u32) -> bool
+    ensures { result ≡ ended entries.now (transaction id.now txn) }
+{
+    entries.iter().any(|entry| is_of(&entry.request, id, txn) && closes(&entry.reply))
+}
+
+/// Whether the transaction is closed: settled, released or of a retired run.
 pub fn is_closed(entries: &[Entry], id: &Id, txn: u32) -> bool
     ensures { result ≡ closed entries.now (transaction id.now txn) }
 {
-    entries.iter().any(|entry| is_of(&entry.request, id, txn) && closes(&entry.reply))
+    is_below(entries, &id.host, id.run) || is_ended(entries, id, txn)
+}
+
+/// Whether the transaction is of a retired run, and was neither settled nor released.
+pub fn is_abandoned(entries: &[Entry], id: &Id, txn: u32) -> bool
+    ensures { result ≡ abandoned entries.now (transaction id.now txn) }
+{
+    is_below(entries, &id.host, id.run) && !is_ended(entries, id, txn)
 }
 
 /// The reply to a request whose transaction isn't open to it: it has another moment or login, or is

@@ -1,12 +1,12 @@
 //! What a login has reserved, settled and used on a day.
-ghost use Rattle.std.specs.Prelude.{◌≡◌, ◌<◌, ◌^◌, All};
+ghost use Rattle.std.specs.Prelude.{◌≡◌, ◌<◌, ◌^◌, ◌+◌, if◌then◌else◌, All};
 ghost use Rattle.mq_frame.specs.Range.{IsRequest};
 ghost use Rattle.mq_ledger.specs.Day.{day_of};
-ghost use Rattle.mq_ledger.specs.History.{concerns, is_open, reserved_of, settled_of, reserved, settled, used};
+ghost use Rattle.mq_ledger.specs.History.{concerns, is_open, is_abandoned, granted, counted, reserved_of, settled_of, reserved, settled, used};
 
 use crate::entry::Entry;
 use crate::plain::entries::{counted, granted};
-use crate::plain::standing::is_closed;
+use crate::plain::standing::{self, is_closed};
 use crate::zone::Zone;
 use mq_frame::{Login, Request};
 
@@ -55,14 +55,40 @@ fn reserved_of(entries: &[Entry], zone: Zone, login: &Login, day: u32, entry: &E
     }
 }
 
-/// What the entry settles of that login and day.
-fn settled_of(zone: Zone, login: &Login, day: u32, entry: &Entry) -> u32
-    requires { IsRequest entry.now.request }
-    ensures { result ≡ settled_of (day_of zone) login.now day entry.now }
+/// Whether the request is a reserve whose transaction a retire alone closed.
+fn is_abandoned(entries: &[Entry], request: &Request) -> bool
+    ensures { result ≡ is_abandoned entries.now request.now }
 {
-    let count = counted(entry);
-    if 0 < count && concerns(&entry.request, zone, login, day) {
-        count
+    match request {
+        Request::Reserve { id, txn, .. } => standing::is_abandoned(entries, id, *txn),
+        _ => false,
+    }
+}
+
+/// What the entry counts for: what was settled, or what was granted and then abandoned.
+fn counts(entries: &[Entry], entry: &Entry) -> u32
+    ensures { result ≡ counted entry.now.request entry.now.reply
+        + (if is_abandoned entries.now entry.now.request then granted entry.now.request entry.now.reply else 0) }
+{
+    let count = granted(entry);
+    if 0 < count {
+        if is_abandoned(entries, &entry.request) {
+            count
+        } else {
+            0
+        }
+    } else {
+        counted(entry)
+    }
+}
+
+/// What the entry settles of that login and day.
+fn settled_of(entries: &[Entry], zone: Zone, login: &Login, day: u32, entry: &Entry) -> u32
+    requires { IsRequest entry.now.request }
+    ensures { result ≡ settled_of (day_of zone) entries.now login.now day entry.now }
+{
+    if concerns(&entry.request, zone, login, day) {
+        counts(entries, entry)
     } else {
         0
     }
@@ -88,7 +114,7 @@ pub fn settled(entries: &[Entry], zone: Zone, login: &Login, day: u32) -> u32
 {
     entries
         .iter()
-        .map(|entry| settled_of(zone, login, day, entry))
+        .map(|entry| settled_of(entries, zone, login, day, entry))
         .sum()
 }
 

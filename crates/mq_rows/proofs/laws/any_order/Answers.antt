@@ -1,4 +1,4 @@
-use Rattle.mq_rows.specs.Rows.{transaction_row, usage_row, ceiling_row, is_transaction, is_usage, is_ceiling}
+use Rattle.mq_rows.specs.Rows.{transaction_row, usage_row, ceiling_row, retired_row, is_transaction, is_usage, is_ceiling, is_host}
 use Rattle.mq_rows.proofs.Lists.{in_any_order}
 use Rattle.mq_rows.proofs.laws.any_order.Goals as goal
 
@@ -10,3 +10,6 @@ returns-clause-usage c = λ day H rows others order are l d. in_any_order (is_us
 
 pub returns-clause-ceilings : goal.returns-clause-ceilings
 returns-clause-ceilings c = λ H rows others order are l d. in_any_order (is_ceiling l d) rows others order (ceiling_row H l d) (are l d)
+
+pub returns-clause-retired : goal.returns-clause-retired
+returns-clause-retired c = λ H rows others order are h. in_any_order (is_host h) rows others order (retired_row H h) (are h)

@@ -1,4 +1,4 @@
-use Rattle.mq_rows.specs.Rows.{transaction_row, usage_row, ceiling_row, is_transaction, is_usage, is_ceiling}
+use Rattle.mq_rows.specs.Rows.{transaction_row, usage_row, ceiling_row, retired_row, is_transaction, is_usage, is_ceiling, is_host}
 use Rattle.mq_rows.proofs.Lists.{find_of_those, those_are_found}
 use Rattle.mq_rows.proofs.laws.rows_by_key.Goals as goal
 
@@ -13,3 +13,6 @@ returns-clause-ceiling c = λ H rows l d are. find_of_those (is_ceiling l d) row
 
 pub returns-clause-only_usage : goal.returns-clause-only_usage
 returns-clause-only_usage c = λ day H rows l d are. those_are_found (is_usage l d) rows (usage_row day H l d) (are l d)
+
+pub returns-clause-retired : goal.returns-clause-retired
+returns-clause-retired c = λ H rows h are. find_of_those (is_host h) rows (retired_row H h) (are h)

@@ -1,24 +1,26 @@
-use Rattle.std.proofs.Common.{◌≡◌, ℕ, refl, ◌∙◌, ap, sym, subst, arith}
-use Rattle.std.specs.Prelude.{Some, true}
+use Rattle.std.proofs.Common.{◌≡◌, ℕ, List, [], refl, ◌∙◌, ap, sym, subst, arith}
+use Rattle.std.specs.Prelude.{None, Some, true}
 use Rattle.mq_frame.specs.declared.message.Request.{Request}
 use Rattle.mq_frame.specs.Range.{IsRequest}
 use Rattle.mq_frame.specs.Reading.{request_at}
 use Rattle.mq_frame.specs.Spelling.{request_body}
 use Rattle.mq_ledger.specs.Answer.{build}
-use Rattle.mq_ledger.specs.Day.{ByOffset, ByRule, day_of}
-use Rattle.mq_ledger.specs.declared.zone.Zone.{Zone}
+use Rattle.mq_ledger.specs.Arrivals.{floor}
+use Rattle.mq_ledger.specs.Day.{day_of}
 use Rattle.mq_ledger.specs.History.{requests}
 use Rattle.mq_ledger.specs.Legal.{Book, IsLegalBook}
 use Rattle.mq_rows.specs.Meaning.{requests_in, meaning, AreSound}
-use Rattle.mq_rows.specs.Rows.{version_of, is_version}
-use Rattle.mq_rows.specs.Tables.{Tables, AreRows}
+use Rattle.mq_rows.specs.declared.setting.TheConstants.{VERSION}
+use Rattle.mq_rows.specs.declared.record.SettingRecord.{SettingRecord}
+use Rattle.mq_rows.specs.Rows.{is_version, retired_row}
+use Rattle.mq_rows.specs.Tables.{Tables, those, AreRows}
 use Rattle.mq_rows.proofs.Numbered.{spelled_requests}
 use Rattle.mq_rows.proofs.laws.rows_mean_their_history.Goals as goal
 
 means : (read : (r : Request) → IsRequest r → request_at (request_body r) ≡ Some r) → (b : Book) (t : Tables) → IsLegalBook b → AreRows b t → meaning b.zone b.default t.answers ≡ b
 means read b t legal rows =
     let day : ℕ → ℕ = day_of b.zone in
-    let asked : requests_in t.answers ≡ requests b.history = ap requests_in rows.answers ∙ spelled_requests read 1 b.history legal.legal.range in
+    let asked : requests_in t.answers ≡ requests b.history = ap requests_in rows.answers ∙ spelled_requests read b.history 1 b.history legal.legal.range in
     let H : build day b.default (requests_in t.answers) ≡ b.history = ap (build day b.default) asked ∙ sym legal.legal.built in
     λ i. record { zone = b.zone; default = b.default; history = H i }
 
@@ -27,9 +29,8 @@ sound read b t legal rows =
     let e = sym (means read b t legal rows) in
     record { legal = subst IsLegalBook e legal; rows = subst (λ (x : Book). AreRows x t) e rows }
 
-own_version : (zone : Zone) → is_version zone (version_of zone) ≡ true
-own_version (ByOffset minutes) = refl
-own_version (ByRule text) = refl
+no_floor : (h : List ℕ) → floor [] h ≡ 0 → retired_row [] h ≡ None
+no_floor h none = rw none refl
 
 pub returns-clause-meaning : goal.returns-clause-meaning
 returns-clause-meaning c = means (λ r h. c.bodies_are_read_back.ensures.spelled_request (request_body r) r (c.one_spelling.ensures.request r h))
@@ -40,5 +41,22 @@ returns-clause-sound c = sound (λ r h. c.bodies_are_read_back.ensures.spelled_r
 pub returns-clause-new : goal.returns-clause-new
 returns-clause-new c = λ zone default offset amount. record {
   legal = record { zone = offset; default = amount; legal = record { range = λ k d h. absurd (omega arith); distinct = refl; built = refl } };
-  rows = record { setting = record { row = refl; version = own_version zone }; answers = refl; transactions = λ t. refl; usage = λ l d. refl; ceilings = λ l d. refl };
+  rows = record {
+    setting = record { row = refl; version = refl };
+    answers = refl;
+    transactions = λ t. refl;
+    usage = λ l d. refl;
+    ceilings = λ l d. refl;
+    retired = λ h. sym (ap those (no_floor h (c.one_more_floor.ensures.none h)));
+  };
+}
+
+pub returns-clause-version : goal.returns-clause-version
+returns-clause-version c = λ b t version rows so. record {
+  setting = record { row = ap (λ (s : SettingRecord). record s { version = version }) rows.setting.row; version = so };
+  answers = rows.answers;
+  transactions = rows.transactions;
+  usage = rows.usage;
+  ceilings = rows.ceilings;
+  retired = rows.retired;
 }

@@ -13,7 +13,7 @@ pub returns-clause-reply : goal.returns-clause-reply
 returns-clause-reply c = λ day default H t l d u g legal are_usage are_ceilings found governing.
     let us : Uses day default H = record {
       reserves_more = λ e m k is. c.one_more_on_a_day.ensures.reserved day default H e m k legal is;
-      settled_more = λ e m k. c.one_more_on_a_day.ensures.settled day H e m k;
+      settled_more = λ e m k is. c.one_more_on_a_day.ensures.settled day default H e m k is;
       reserve_more = λ e m k. c.one_more_on_a_day.ensures.has_reserve day H e m k;
       held_is_reserved = λ id txn at login agreed. c.used_where_reserved.ensures.held day default H _ at login legal agreed;
       none = λ m k none. c.used_where_reserved.ensures.none day default H m k legal none;
@@ -32,7 +32,7 @@ pub returns-clause-row : goal.returns-clause-row
 returns-clause-row c = λ day default H t l d u g legal are_usage are_ceilings found governing.
     let us : Uses day default H = record {
       reserves_more = λ e m k is. c.one_more_on_a_day.ensures.reserved day default H e m k legal is;
-      settled_more = λ e m k. c.one_more_on_a_day.ensures.settled day H e m k;
+      settled_more = λ e m k is. c.one_more_on_a_day.ensures.settled day default H e m k is;
       reserve_more = λ e m k. c.one_more_on_a_day.ensures.has_reserve day H e m k;
       held_is_reserved = λ id txn at login agreed. c.used_where_reserved.ensures.held day default H _ at login legal agreed;
       none = λ m k none. c.used_where_reserved.ensures.none day default H m k legal none;

@@ -3,12 +3,12 @@ use Rattle.std.specs.Prelude.{is_some}
 use Rattle.std.specs.Borrow.{Bor}
 use Rattle.std.specs.Option.{option_copied}
 use Rattle.mq_ledger.specs.declared.entry.Entry.{Entry}
-use Rattle.mq_ledger.specs.Answer.{answer, stored_by, with_arrival}
+use Rattle.mq_ledger.specs.Answer.{answer, known_by, with_arrival}
 use Rattle.mq_ledger.specs.Arrivals.{id_of}
 use Rattle.mq_ledger.specs.Day.{day_of}
 use Rattle.mq_ledger.specs.Legal.{Book}
 use Rattle.mq_ledger.proofs.Basics.{option_cases}
-use Rattle.mq_ledger.proofs.Books.{arrival_of_stored, arrival_unnumbered, book_arrival, book_reply, book_history, book_appended, book_fresh_reply}
+use Rattle.mq_ledger.proofs.Books.{arrival_of_known, arrival_unnumbered, book_arrival, book_reply, book_history, book_appended, book_fresh_reply}
 use Rattle.mq_ledger.proofs.plain.PlainLedgerLedger.apply.Goals as goal
 use Rattle.mq_ledger.proofs.plain.PlainLedgerLedger.apply.Goals.{then-is_some+in_ok-append, else-is_some}
 
@@ -20,7 +20,7 @@ returns-in-Some-clause-in_range c =
 pub returns-in-Some-clause-history : goal.returns-in-Some-clause-history
 returns-in-Some-clause-history c =
     let told = rw (c.in-Some.is, c.deref.ensures.value) at c.in_ok-reply.ensures in
-    rw (← c.self.view_is) (book_history _ c.args.request.now _ c.self.invariant (sym (arrival_of_stored (day_of c.self.inside.zone) c.self.inside.default c.self.inside.entries.items c.args.request.now (id_of c.args.request.now) told.0)))
+    rw (← c.self.view_is) (book_history _ c.args.request.now _ c.self.invariant (sym (arrival_of_known (day_of c.self.inside.zone) c.self.inside.default c.self.inside.entries.items c.args.request.now (id_of c.args.request.now) told.0)))
 
 copied_some : {X : Type 0} (o : Option (Bor X)) → is_some (option_copied o) ≡ is_some o
 copied_some None = refl
@@ -31,7 +31,7 @@ invariant_of-self c = elim (option_cases c.in_ok-reply.field-0) [
   | inr p ↦ absurd (c.in_default.not-Some p.0 p.1)
   | inl none ↦ (let b : Book = record { zone = c.self.inside.zone; default = c.self.inside.default; history = c.self.inside.entries.items } in
       let r = c.args.request.now in
-      let fresh : stored_by b.history (id_of r) ≡ None = rw (none, c.deref.ensures.value) at c.in_ok-reply.ensures in
+      let fresh : known_by b.history (id_of r) ≡ false = rw (none, c.deref.ensures.value) at c.in_ok-reply.ensures in
       let numbered : is_some (id_of r) ≡ true = ap is_some (sym c.id_of.ensures) ∙ copied_some c.id_of.result ∙ sym c.if-is_some.ensures in
       let is : c.in_ok-reply-2.reply ≡ answer (day_of b.zone) b.default b.history r = rw (← c.self.view_is) at c.in_ok-reply-2.ensures in
       book_arrival b (record { zone = b.zone; default = b.default; history = c.append.new.entries.items }) r c.self.invariant c.requires refl refl
@@ -43,7 +43,7 @@ returns-clause-in_range c = elim (option_cases c.in_ok-reply.field-0) [
   | inr p ↦ absurd (c.in_default.not-Some p.0 p.1)
   | inl none ↦ (let b : Book = record { zone = c.self.inside.zone; default = c.self.inside.default; history = c.self.inside.entries.items } in
       let r = c.args.request.now in
-      let fresh : stored_by b.history (id_of r) ≡ None = rw (none, c.deref.ensures.value) at c.in_ok-reply.ensures in
+      let fresh : known_by b.history (id_of r) ≡ false = rw (none, c.deref.ensures.value) at c.in_ok-reply.ensures in
       let is : c.in_ok-reply-2.reply ≡ answer (day_of b.zone) b.default b.history r = rw (← c.self.view_is) at c.in_ok-reply-2.ensures in
       book_reply b r c.in_ok-reply-2.reply c.self.invariant c.requires (book_fresh_reply b r c.in_ok-reply-2.reply fresh is))
 ]
@@ -54,7 +54,7 @@ after c = elim (option_cases c.in_ok-reply.field-0) [
   | inr p ↦ absurd (c.in_default.not-Some p.0 p.1)
   | inl none ↦ (let b : Book = record { zone = c.self.inside.zone; default = c.self.inside.default; history = c.self.inside.entries.items } in
       let r = c.args.request.now in
-      let fresh : stored_by b.history (id_of r) ≡ None = rw (none, c.deref.ensures.value) at c.in_ok-reply.ensures in
+      let fresh : known_by b.history (id_of r) ≡ false = rw (none, c.deref.ensures.value) at c.in_ok-reply.ensures in
       let is : c.in_ok-reply-2.reply ≡ answer (day_of b.zone) b.default b.history r = rw (← c.self.view_is) at c.in_ok-reply-2.ensures in
       let with_history : List Entry → Book = λ H. record { zone = b.zone; default = b.default; history = H } in
       elim c.if-is_some.branch [

@@ -1,0 +1,21 @@
+use Rattle.std.proofs.Common.{◌≡◌, ℕ, List, [], ◌∷◌, ◌++◌, refl, ◌∙◌, ap}
+use Rattle.std.proofs.lemmas.List.{map-append}
+use Rattle.mq_frame.specs.declared.message.Request.{Request}
+use Rattle.mq_ledger.specs.declared.entry.Entry.{Entry}
+use Rattle.mq_ledger.specs.Arrivals.{floor}
+use Rattle.mq_ledger.specs.History.{requests, transaction}
+use Rattle.mq_ledger.proofs.Transactions.{floor_push, given_up_push}
+use Rattle.mq_ledger.proofs.laws.one_more_floor.Goals as goal
+
+pub returns-clause-floor : goal.returns-clause-floor
+returns-clause-floor c = λ H e h. ap (λ (rs : List Request). floor rs h) (map-append (λ (x : Entry). x.request) H (e ∷ [])) ∙ floor_push (requests H) e.request h
+
+pub returns-clause-below : goal.returns-clause-below
+returns-clause-below c = λ H e id txn. given_up_push H e (transaction id txn)
+
+nothing : (h : List ℕ) → floor [] h ≡ 0
+unfolding floor
+nothing h = refl
+
+pub returns-clause-none : goal.returns-clause-none
+returns-clause-none c = nothing

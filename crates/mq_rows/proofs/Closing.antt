@@ -1,0 +1,349 @@
+-- A retire closes one transaction more.
+use Rattle.std.proofs.Common.{◌≡◌, ℕ, ◌+◌, ◌-◌, ◌≤◌, ◌<◌, List, [], ◌∷◌, ◌++◌, Bool, true, false, refl, ◌∙◌, ap, sym, subst, inl, inr, arith}
+use Rattle.std.specs.Prelude.{filter, find, sum_by, not, ◌&&◌, ◌||◌, ◌==◌, ◌⊎◌, nat_lt, if◌then◌else◌, Option, Some, None, option_map}
+use Rattle.std.specs.List.{AllByRecursion}
+use Rattle.std.specs.List.Sorted.{IsPermutation}
+use Rattle.std.specs.Option.{option_or}
+use Rattle.std.proofs.lemmas.List.Sums.{sum_by-cons}
+use Rattle.std.proofs.lemmas.List.Sorted.{sum_by_pushed}
+use Rattle.mq_frame.specs.declared.message.Id.{Id}
+use Rattle.mq_frame.specs.declared.message.Request.TheVariants.{Retire}
+use Rattle.mq_frame.specs.Same.{same_text}
+use Rattle.mq_ledger.specs.declared.entry.Entry.{Entry}
+use Rattle.mq_ledger.specs.History.{Transaction, same_transaction, named, agrees, gives_up, closed, held, settled_in, reserved, settled}
+use Rattle.mq_ledger.specs.Page.{has_reserve}
+use Rattle.mq_rows.specs.declared.record.TransactionRecord.{TransactionRecord}
+use Rattle.mq_rows.specs.declared.record.UsageRecord.{UsageRecord}
+use Rattle.mq_rows.specs.declared.plan.Write.TheVariants.{Keep, Update}
+use Rattle.mq_rows.specs.Rows.{transaction_of, transaction_row, usage_row, is_transaction, is_usage}
+use Rattle.mq_rows.specs.Tables.{those, AreTransactions, AreUsage}
+use Rattle.mq_rows.specs.Plan.{Updates, Leads, key_of, same_key, set_transaction, same_day, set_usage, freed, abandoned_row}
+use Rattle.mq_rows.specs.Retiring.{retire_entry, is_to_close, IsBetween, is_on, total, summed_row, AreRetiring}
+use Rattle.mq_rows.specs.Plan.{Has}
+use Rattle.mq_rows.proofs.Lists.{either, option_cases, text_is, number_is, text_itself, number_itself, those_are_found, find_of_those, updated, parted, Parted, update, kept}
+use Rattle.mq_rows.proofs.RowSums.{IsRowOf, row_of, is_mine, agreed, day_is, all_at, Laws}
+
+-- What the ledger's laws say of the retire's entry.
+pub record Retires (H : List Entry) (id : Id) : Type 0 where
+  pub named_more : (t : Transaction) → named (H ++ retire_entry id ∷ []) t ≡ option_or (named H t) None
+  pub closed_more : (t : Transaction) → closed (H ++ retire_entry id ∷ []) t ≡ (gives_up (Retire id) t || (closed H t || false))
+  pub held_more : (t : Transaction) → held (H ++ retire_entry id ∷ []) t ≡ (if gives_up (Retire id) t || (closed H t || false) then 0 else held H t + 0)
+  pub settled_more : (t : Transaction) → settled_in (H ++ retire_entry id ∷ []) t ≡ settled_in H t + 0 + (if gives_up (Retire id) t then held H t else 0)
+  pub open_settled : (t : Transaction) → closed H t ≡ false → settled_in H t ≡ 0
+  pub same : (t u : Transaction) → same_transaction t u ≡ true → t ≡ u
+  pub itself : (t : Transaction) → same_transaction t t ≡ true
+
+-- And of what is reserved in a legal history.
+pub record Reserves (day : ℕ → ℕ) (H : List Entry) : Type 0 where
+  pub held_is_reserved : (t : Transaction) (at : ℕ) (login : List ℕ) → agrees at login (named H t) ≡ true → held H t ≤ reserved day H login (day at)
+  pub none : (l : List ℕ) (d : ℕ) → has_reserve day H d l ≡ false → (reserved day H l d ≡ 0) × (settled day H l d ≡ 0)
+
+first_so : (a b : Bool) → (a && b) ≡ true → a ≡ true
+first_so true b h = refl
+first_so false b h = h
+
+second_so : (a b : Bool) → (a && b) ≡ true → b ≡ true
+second_so true b h = h
+second_so false b h = cc
+
+not_true : (b : Bool) → not b ≡ true → b ≡ false
+not_true true h = cc
+not_true false h = refl
+
+or_none : (o : Option Entry) → option_or o None ≡ o
+or_none None = refl
+or_none (Some e) = refl
+
+or_false : (x : Bool) → (x || false) ≡ x
+or_false true = refl
+or_false false = refl
+
+or_true : (x : Bool) → (x || true) ≡ true
+or_true true = refl
+or_true false = refl
+
+zero_if : (x : Bool) (n : ℕ) → n ≡ 0 → (if x then n else 0) ≡ 0
+zero_if true n h = h
+zero_if false n h = refl
+
+zero_either : (x : Bool) (n : ℕ) → (if x || true then 0 else n) ≡ 0
+zero_either true n = refl
+zero_either false n = refl
+
+if_held : (H : List Entry) (t : Transaction) (x : Bool) → closed H t ≡ x → (if x || false then 0 else held H t + 0) ≡ held H t
+if_held H t true e = rw e refl
+if_held H t false e = omega arith
+
+same_row : (t : TransactionRecord) (h h' s s' : ℕ) (c c' : Bool) → h ≡ h' → s ≡ s' → c ≡ c' → (record t { held = h; settled = s; closed = c }) ≡ (record t { held = h'; settled = s'; closed = c' })
+same_row t h h' s s' c c' p q r = λ i. record t { held = p i; settled = q i; closed = r i }
+
+module _ (day : ℕ → ℕ) (H : List Entry) (id : Id) (L : Retires H id) where
+  abbrev H' : List Entry
+  H' = H ++ retire_entry id ∷ []
+
+  -- an open transaction that the retire gives up has this row then
+  abandoned_is : (was : TransactionRecord) → transaction_row day H (key_of was) ≡ Some was → is_to_close id was ≡ true → transaction_row day H' (key_of was) ≡ Some (abandoned_row was)
+  abandoned_is was here open_so =
+      let is = row_of day H was here in
+      let k : Transaction = key_of was in
+      let still : was.closed ≡ false = not_true was.closed (first_so (not was.closed) _ open_so) in
+      let gone : gives_up (Retire id) k ≡ true = second_so (not was.closed) _ open_so in
+      let shut : closed H k ≡ false = ap (λ (x : TransactionRecord). x.closed) is.row ∙ still in
+      let c : closed H' k ≡ true = L.closed_more k ∙ ap (λ b. b || (closed H k || false)) gone in
+      let h : held H' k ≡ 0 = L.held_more k ∙ ap (λ b. if b || (closed H k || false) then 0 else held H k + 0) gone in
+      let had : held H k ≡ was.held = ap (λ (x : TransactionRecord). x.held) is.row in
+      let z : (if gives_up (Retire id) k then held H k else 0) ≡ held H k = ap (λ b. if b then held H k else 0) gone in
+      let s : settled_in H' k ≡ was.held = omega (arith, L.settled_more k, z, L.open_settled k shut, had) in
+      let names : named H' k ≡ Some is.first = L.named_more k ∙ or_none (named H k) ∙ is.names in
+      let made : transaction_of day H' k is.first ≡ abandoned_row (transaction_of day H k is.first) = same_row (transaction_of day H k is.first) _ _ _ _ _ _ h (s ∙ sym had) c in
+      ap (option_map (transaction_of day H' k)) names ∙ ap Some (made ∙ ap abandoned_row is.row)
+
+  -- one that is closed in a row behind the retire isn't to be closed
+  closed_behind : (was : TransactionRecord) → transaction_row day H' (key_of was) ≡ Some was → is_to_close id was ≡ true → ⊥
+  closed_behind was here open_so =
+      let is = row_of day H' was here in
+      let still : was.closed ≡ false = not_true was.closed (first_so (not was.closed) _ open_so) in
+      let gone : gives_up (Retire id) (key_of was) ≡ true = second_so (not was.closed) _ open_so in
+      let c : closed H' (key_of was) ≡ true = L.closed_more (key_of was) ∙ ap (λ b. b || (closed H (key_of was) || false)) gone in
+      let clash : true ≡ false = sym c ∙ ap (λ (x : TransactionRecord). x.closed) is.row ∙ still in cc
+
+  -- a row that is there is its transaction's, before the retire or behind it
+  among : (rows : List TransactionRecord) (was : TransactionRecord) (o : Option TransactionRecord) → filter (is_transaction (key_of was)) rows ≡ those o → Has rows was → o ≡ Some was
+  among rows was o are i =
+      let k : Transaction = key_of was in
+      let each = those_are_found (is_transaction k) rows o are in
+      let here : Some was ≡ find (is_transaction k) rows = all_at (λ x. is_transaction k x ≡ true → Some x ≡ find (is_transaction k) rows) rows was each i (L.itself k) in
+      sym (here ∙ find_of_those (is_transaction k) rows o are)
+
+  module _ (R : Reserves day H) (rows : List TransactionRecord) (usage : List UsageRecord) (b : AreRetiring day H id rows usage) (was : TransactionRecord) (there : Has rows was) (open_so : is_to_close id was ≡ true) where
+    abbrev k : Transaction
+    k = key_of was
+
+    abbrev next : TransactionRecord
+    next = abandoned_row was
+
+    before : transaction_row day H k ≡ Some was
+    before = elim (b.transactions k) [
+      | inl e ↦ among rows was (transaction_row day H k) e there
+      | inr e ↦ absurd (closed_behind was (among rows was (transaction_row day H' k) e there) open_so)
+    ]
+
+    here : filter (is_transaction k) rows ≡ was ∷ []
+    here = elim (b.transactions k) [
+      | inl e ↦ e ∙ ap those before
+      | inr e ↦ absurd (closed_behind was (among rows was (transaction_row day H' k) e there) open_so)
+    ]
+
+    part : Parted (is_transaction k) rows was
+    part = parted (is_transaction k) rows was here
+
+    abbrev after : List TransactionRecord
+    after = set_transaction next was ∷ part.rest
+
+    between_other : (t : Transaction) → is_transaction t was ≡ false → (o : Option TransactionRecord) → filter (is_transaction t) rows ≡ those o → filter (is_transaction t) after ≡ those o
+    between_other t f o e =
+        updated (is_transaction t) (set_transaction next was) was part.rest rows o o part.order e refl (λ y. absurd (cc (f, y))) (λ _. refl)
+
+    between : (t : Transaction) → IsBetween day H id after t
+    between t = elim (either (is_transaction t was)) [
+      | inl y ↦ (let same : t ≡ k = L.same t k y in
+          let at : filter (is_transaction k) after ≡ those (transaction_row day H' k) =
+          updated (is_transaction k) (set_transaction next was) was part.rest rows (Some was) (transaction_row day H' k) part.order here refl (λ _ _. abandoned_is was before open_so) (λ f. absurd (cc (f, part.there))) in
+          let P : Transaction → Type 0 = λ u. IsBetween day H id after u in
+          subst P (sym same) (inr at))
+      | inr f ↦ elim (b.transactions t) [
+        | inl e ↦ inl (between_other t f (transaction_row day H t) e)
+        | inr e ↦ inr (between_other t f (transaction_row day H' t) e)
+      ]
+    ]
+
+    -- the sums over the rows
+    sum_of : (amount : TransactionRecord → ℕ) (l : List ℕ) (d : ℕ) → total amount l d rows ≡ (if is_on l d was then amount was else 0) + total amount l d part.rest
+    sum_of amount l d = sum_by_pushed (λ r. if is_on l d r then amount r else 0) was part.rest rows part.order
+
+    sum_then : (amount : TransactionRecord → ℕ) (l : List ℕ) (d : ℕ) → total amount l d after ≡ (if is_on l d was then amount next else 0) + total amount l d part.rest
+    sum_then amount l d = sum_by-cons (λ r. if is_on l d r then amount r else 0) (set_transaction next was) part.rest
+
+    is : IsRowOf day H was
+    is = row_of day H was before
+
+    none_settled : was.settled ≡ 0
+    none_settled =
+        let still : was.closed ≡ false = not_true was.closed (first_so (not was.closed) _ open_so) in
+        sym (ap (λ (x : TransactionRecord). x.settled) is.row) ∙ L.open_settled k (ap (λ (x : TransactionRecord). x.closed) is.row ∙ still)
+
+    none_sum : (c : Bool) → (if c then was.settled else 0) ≡ 0
+    none_sum true = none_settled
+    none_sum false = refl
+
+    nothing : (c : Bool) (n : ℕ) → n ≡ 0 → (if c then n else 0) ≡ 0
+    nothing true n h = h
+    nothing false n h = refl
+
+    -- the held ones are settled
+    settled_then : (l : List ℕ) (d : ℕ) → total (λ r. r.settled) l d after ≡ total (λ r. r.settled) l d rows + (if is_on l d was then was.held else 0)
+    settled_then l d = (let a = sum_then (λ r. r.settled) l d in let c = sum_of (λ r. r.settled) l d in let z = none_sum (is_on l d was) in omega (arith, a, c, z))
+
+    held_then : (l : List ℕ) (d : ℕ) → total (λ r. r.held) l d after + (if is_on l d was then was.held else 0) ≡ total (λ r. r.held) l d rows
+    held_then l d = (let a = sum_then (λ r. r.held) l d in let c = sum_of (λ r. r.held) l d in let z = nothing (is_on l d was) 0 refl in omega (arith, a, c, z))
+
+    -- where it held some its login and day has a reserve
+    reserve_there : (was.held == 0) ≡ false → has_reserve day H was.day was.login ≡ true
+    reserve_there some = elim (either (has_reserve day H was.day was.login)) [
+      | inl y ↦ y
+      | inr f ↦ absurd (let le = R.held_is_reserved k was.moment was.login (agreed day H was is) in
+          let le' : held H k ≤ reserved day H was.login was.day = subst (λ n. held H k ≤ reserved day H was.login n) (day_is day H was is) le in
+          let had : held H k ≡ was.held = ap (λ (x : TransactionRecord). x.held) is.row in
+          let zero_so : was.held ≡ 0 = omega (arith, le', had, (R.none was.login was.day f).0) in
+          let clash : true ≡ false = sym (number_itself 0) ∙ ap (λ n. n == 0) (sym zero_so) ∙ some in cc)
+    ]
+
+    -- the row of its login and day before and then
+    own_row : has_reserve day H was.day was.login ≡ true → summed_row day H rows was.login was.day ≡ Some (record { login = was.login; day = was.day; settled = total (λ r. r.settled) was.login was.day rows; reserved = total (λ r. r.held) was.login was.day rows })
+    own_row y = rw y refl
+
+    on_own : is_on was.login was.day was ≡ true
+    on_own = rw (text_itself was.login, number_itself was.day) refl
+
+    own_then : has_reserve day H was.day was.login ≡ true → summed_row day H after was.login was.day
+        ≡ Some (record { login = was.login; day = was.day; settled = total (λ r. r.settled) was.login was.day rows + was.held; reserved = total (λ r. r.held) was.login was.day rows - was.held })
+    own_then y =
+        let s : total (λ r. r.settled) was.login was.day after ≡ total (λ r. r.settled) was.login was.day rows + was.held = settled_then was.login was.day ∙ rw on_own refl in
+        let h : total (λ r. r.held) was.login was.day after ≡ total (λ r. r.held) was.login was.day rows - was.held =
+        (let e : total (λ r. r.held) was.login was.day after + was.held ≡ total (λ r. r.held) was.login was.day rows = sym (ap (λ n. total (λ r. r.held) was.login was.day after + n) (rw on_own refl)) ∙ held_then was.login was.day in omega (arith, e)) in
+        ap (λ (c : Bool). if c then Some (record { login = was.login; day = was.day; settled = total (λ r. r.settled) was.login was.day after; reserved = total (λ r. r.held) was.login was.day after }) else None) y
+        ∙ (λ i. Some (record { login = was.login; day = was.day; settled = s i; reserved = h i }))
+
+    -- of another login or day nothing changes
+    other_then : (l : List ℕ) (d : ℕ) → is_on l d was ≡ false → summed_row day H after l d ≡ summed_row day H rows l d
+    other_then l d f =
+        let s : total (λ r. r.settled) l d after ≡ total (λ r. r.settled) l d rows = (let e = settled_then l d in let z : (if is_on l d was then was.held else 0) ≡ 0 = rw f refl in omega (arith, e, z)) in
+        let h : total (λ r. r.held) l d after ≡ total (λ r. r.held) l d rows = (let e = held_then l d in let z : (if is_on l d was then was.held else 0) ≡ 0 = rw f refl in omega (arith, e, z)) in
+        (λ i. if has_reserve day H d l then Some (record { login = l; day = d; settled = s i; reserved = h i }) else None)
+
+    -- where it held none nothing changes
+    none_then : (was.held == 0) ≡ true → (l : List ℕ) (d : ℕ) → summed_row day H after l d ≡ summed_row day H rows l d
+    none_then z l d =
+        let zero_so : was.held ≡ 0 = number_is was.held 0 z in
+        let n : (if is_on l d was then was.held else 0) ≡ 0 = nothing (is_on l d was) was.held zero_so in
+        let s : total (λ r. r.settled) l d after ≡ total (λ r. r.settled) l d rows = (let e = settled_then l d in omega (arith, e, n)) in
+        let h : total (λ r. r.held) l d after ≡ total (λ r. r.held) l d rows = (let e = held_then l d in omega (arith, e, n)) in
+        (λ i. if has_reserve day H d l then Some (record { login = l; day = d; settled = s i; reserved = h i }) else None)
+
+    as_before : (was.held == 0) ≡ true → AreRetiring day H id after usage
+    as_before z = record { transactions = between; days = λ l d. b.days l d ∙ ap those (sym (none_then z l d)) }
+
+    abbrev pair_is : (List ℕ × ℕ) → UsageRecord → Bool
+    pair_is p u = is_usage p.0 p.1 u
+
+    abbrev pair_of : UsageRecord → List ℕ × ℕ
+    pair_of u = (u.login, u.day)
+
+    pair_key : (p : List ℕ × ℕ) (u : UsageRecord) → pair_is p u ≡ true → p ≡ pair_of u
+    pair_key p u h =
+        let l = text_is p.0 u.login (first_so (same_text p.0 u.login) _ h) in
+        let d : p.1 ≡ u.day = sym (number_is u.day p.1 (second_so (same_text p.0 u.login) _ h)) in
+        λ i. (l i, d i)
+
+    pair_itself : (u : UsageRecord) → pair_is (pair_of u) u ≡ true
+    pair_itself u = rw (text_itself u.login, number_itself u.day) refl
+
+    apart_pair : (u : UsageRecord) → u.login ≡ was.login → u.day ≡ was.day → (p : List ℕ × ℕ) → pair_is p u ≡ false → is_on p.0 p.1 was ≡ false
+    apart_pair u l d p f = (λ i. same_text p.0 (sym l i) && (sym d i == p.1)) ∙ f
+
+    update_usage : (u : UsageRecord) → (was.held == 0) ≡ false → summed_row day H rows was.login was.day ≡ Some u
+        → Updates same_day set_usage (record u { settled = u.settled + was.held; reserved = u.reserved - was.held }) usage (AreRetiring day H id after)
+    update_usage u some e =
+        let y = reserve_there some in
+        let same : Some (record { login = was.login; day = was.day; settled = total (λ r. r.settled) was.login was.day rows; reserved = total (λ r. r.held) was.login was.day rows }) ≡ Some u = sym (own_row y) ∙ e in
+        let is_u : record { login = was.login; day = was.day; settled = total (λ r. r.settled) was.login was.day rows; reserved = total (λ r. r.held) was.login was.day rows } ≡ u = cc same in
+        let l : u.login ≡ was.login = sym (ap (λ (x : UsageRecord). x.login) is_u) in
+        let d : u.day ≡ was.day = sym (ap (λ (x : UsageRecord). x.day) is_u) in
+        let new : UsageRecord = record u { settled = u.settled + was.held; reserved = u.reserved - was.held } in
+        let now : summed_row day H after was.login was.day ≡ Some new = own_then y ∙ ap (λ (x : UsageRecord). Some (record x { settled = x.settled + was.held; reserved = x.reserved - was.held })) is_u in
+        let here_u : summed_row day H rows u.login u.day ≡ Some u = (λ i. summed_row day H rows (l i) (d i)) ∙ e in
+        let now_u : summed_row day H after u.login u.day ≡ Some (set_usage new u) = (λ i. summed_row day H after (l i) (d i)) ∙ now in
+        let up = update pair_is pair_of set_usage pair_key pair_itself (λ n w p. refl) (λ p. summed_row day H rows p.0 p.1) (λ p. summed_row day H after p.0 p.1) usage new u
+        (λ p. b.days p.0 p.1) here_u now_u (λ p f. other_then p.0 p.1 (apart_pair u l d p f)) in
+        record {
+          was = up.was;
+          rest = up.rest;
+          order = up.order;
+          there = up.there;
+          alone = up.alone;
+          after = record { transactions = between; days = λ m n. up.after (m, n) };
+        }
+
+    usage_leads : (u : Option UsageRecord) → u ≡ find (is_usage was.login was.day) usage → Leads same_day set_usage (freed was.held was.held u) usage (AreRetiring day H id after)
+    usage_leads None e = elim (either (was.held == 0)) [
+      | inl z ↦ as_before z
+      | inr some ↦ absurd (let k : summed_row day H rows was.login was.day ≡ None = sym (e ∙ find_of_those (is_usage was.login was.day) usage (summed_row day H rows was.login was.day) (b.days was.login was.day)) in
+          let clash = sym (own_row (reserve_there some)) ∙ k in cc clash)
+    ]
+    usage_leads (Some u) e = elim (either (was.held == 0)) [
+      | inl z ↦ rw z (as_before z)
+      | inr some ↦ (let k : summed_row day H rows was.login was.day ≡ Some u = sym (e ∙ find_of_those (is_usage was.login was.day) usage (summed_row day H rows was.login was.day) (b.days was.login was.day)) in
+          rw some (update_usage u some k))
+    ]
+
+    pub one_closed : (u : Option UsageRecord) → u ≡ find (is_usage was.login was.day) usage → Leads same_key set_transaction (Update (abandoned_row was)) rows (λ more. Leads same_day set_usage (freed was.held was.held u) usage (AreRetiring day H id more))
+    one_closed u e = record {
+      was = was;
+      rest = part.rest;
+      order = part.order;
+      there = part.there;
+      alone = part.alone;
+      after = usage_leads u e;
+    }
+
+  -- ---- the end
+
+  given_up_row : (t : Transaction) (e : Entry) → named H t ≡ Some e → gives_up (Retire id) t ≡ true → closed H t ≡ false → is_to_close id (transaction_of day H t e) ≡ true
+  given_up_row t e n g c = rw c g
+
+  stays_row : (t : Transaction) → (gives_up (Retire id) t ≡ false) ⊎ (closed H t ≡ true) → transaction_row day H' t ≡ transaction_row day H t
+  stays_row t how = ap (λ o. option_map (transaction_of day H' t) o) (L.named_more t ∙ or_none (named H t)) ∙ mapped (named H t) where
+    same_of : (e : Entry) → transaction_of day H' t e ≡ transaction_of day H t e
+    same_of e = elim how [
+      | inl g ↦ (let c : closed H' t ≡ closed H t = L.closed_more t ∙ ap (λ b. b || (closed H t || false)) g ∙ or_false (closed H t) in
+          let h : held H' t ≡ held H t = L.held_more t ∙ ap (λ b. if b || (closed H t || false) then 0 else held H t + 0) g ∙ if_held H t (closed H t) refl in
+          let s : settled_in H' t ≡ settled_in H t = (let m = L.settled_more t in let z : (if gives_up (Retire id) t then held H t else 0) ≡ 0 = ap (λ b. if b then held H t else 0) g in omega (arith, m, z)) in
+          same_row (transaction_of day H t e) _ _ _ _ _ _ h s c)
+      | inr shut ↦ (let none : held H t ≡ 0 = rw shut refl in
+          let c : closed H' t ≡ closed H t = L.closed_more t ∙ ap (λ b. gives_up (Retire id) t || (b || false)) shut ∙ or_true (gives_up (Retire id) t) ∙ sym shut in
+          let h : held H' t ≡ held H t = L.held_more t ∙ ap (λ b. if gives_up (Retire id) t || (b || false) then 0 else held H t + 0) shut ∙ zero_either (gives_up (Retire id) t) (held H t + 0) ∙ sym none in
+          let s : settled_in H' t ≡ settled_in H t = (let m = L.settled_more t in let z : (if gives_up (Retire id) t then held H t else 0) ≡ 0 = zero_if (gives_up (Retire id) t) (held H t) none in omega (arith, m, z)) in
+          same_row (transaction_of day H t e) _ _ _ _ _ _ h s c)
+    ]
+
+    mapped : (o : Option Entry) → option_map (transaction_of day H' t) o ≡ option_map (transaction_of day H t) o
+    mapped None = refl
+    mapped (Some e) = ap Some (same_of e)
+
+  has_head : {X : Type 0} (p : X → Bool) (xs : List X) (x : X) → filter p xs ≡ x ∷ [] → Has xs x
+  has_head p [] x h = absurd (cc h)
+  has_head p (y ∷ xs) x h = elim (either (p y)) [
+    | inl t ↦ (let h' : y ∷ filter p xs ≡ x ∷ [] = rw t at h in let e : y ≡ x = cc h' in inl e)
+    | inr f ↦ inr (has_head p xs x (rw f at h))
+  ]
+
+  pub all_closed : (rows : List TransactionRecord) (usage : List UsageRecord) → AreRetiring day H id rows usage → AllByRecursion (λ r. is_to_close id r ≡ false) rows → AreTransactions day H' rows
+  all_closed rows usage b none t = elim (b.transactions t) [
+    | inr e ↦ e
+    | inl e ↦ elim (either (gives_up (Retire id) t)) [
+      | inr g ↦ e ∙ ap those (sym (stays_row t (inl g)))
+      | inl g ↦ elim (either (closed H t)) [
+        | inl shut ↦ e ∙ ap those (sym (stays_row t (inr shut)))
+        | inr still ↦ elim (option_cases (named H t)) [
+          | inl unheard ↦ (let a : transaction_row day H t ≡ None = rw unheard refl in
+              let c : transaction_row day H' t ≡ None = ap (λ o. option_map (transaction_of day H' t) o) (L.named_more t ∙ or_none (named H t) ∙ unheard) in
+              e ∙ ap those (a ∙ sym c))
+          | inr p ↦ (let a : transaction_row day H t ≡ Some (transaction_of day H t p.0) = rw p.1 refl in
+              let i = has_head (is_transaction t) rows (transaction_of day H t p.0) (e ∙ ap those a) in
+              let n : is_to_close id (transaction_of day H t p.0) ≡ false = all_at (λ r. is_to_close id r ≡ false) rows (transaction_of day H t p.0) none i in
+              let y = given_up_row t p.0 p.1 g still in
+              absurd (cc (y, n)))
+        ]
+      ]
+    ]
+  ]

@@ -1,0 +1,146 @@
+-- Closing one after another all that a retire gives up.
+use Rattle.std.proofs.Common.{◌≡◌, ℕ, List, [], ◌∷◌, ◌++◌, Bool, true, false, refl, ◌∙◌, ap, sym, subst, inl, inr}
+use Rattle.std.specs.Prelude.{filter, find, not, Option, Some, None}
+use Rattle.std.specs.List.{AllByRecursion}
+use Rattle.std.specs.List.Sorted.{IsPermutation}
+use Rattle.std.proofs.lemmas.List.Sorted.{IsPermutation-trans, IsPermutation-sym}
+use Rattle.sqlite_trees.proofs.ListLemmas.{IsPermutation-filter, filter_all, all-permutation, all_weaker}
+use Rattle.mq_frame.specs.declared.message.Id.{Id}
+use Rattle.mq_ledger.specs.declared.entry.Entry.{Entry}
+use Rattle.mq_rows.specs.declared.record.TransactionRecord.{TransactionRecord}
+use Rattle.mq_rows.specs.declared.record.UsageRecord.{UsageRecord}
+use Rattle.mq_rows.specs.declared.plan.Write.{Write}
+use Rattle.mq_rows.specs.declared.plan.Write.TheVariants.{Keep, Insert, Update}
+use Rattle.mq_rows.specs.Rows.{is_transaction, is_usage}
+use Rattle.mq_rows.specs.Tables.{those, AreTransactions, AreUsage}
+use Rattle.mq_rows.specs.Plan.{Leads, key_of, same_key, set_transaction, same_day, set_usage, freed, abandoned_row, LeadsAll}
+use Rattle.mq_rows.specs.Retiring.{retire_entry, is_to_close, summed_row, AreRetiring, AreMoved}
+use Rattle.mq_rows.specs.Plan.{Has, IsOneIn}
+use Rattle.mq_rows.proofs.Lists.{either, text_itself, number_itself, find_of_those, those_are_found, in_any_order, none_pass}
+
+-- what a write leads to leads on
+pub leads_on : {R : Type 0} (same : R → R → Bool) (set : R → R → R) (w : Write R) (rows : List R) (P Q : List R → Type 0) → ((after : List R) → P after → Q after) → Leads same set w rows P → Leads same set w rows Q
+leads_on same set Keep rows P Q more h = more rows h
+leads_on same set (Insert new) rows P Q more h = record { absent = h.absent; after = more (new ∷ rows) h.after }
+leads_on same set (Update new) rows P Q more h = record { was = h.was; rest = h.rest; order = h.order; there = h.there; alone = h.alone; after = more (set new h.was ∷ h.rest) h.after }
+
+-- those of a filter were there, and pass
+module _ {R : Type 0} (p : R → Bool) where
+  every : (rows : List R) → AllByRecursion (λ x. Has rows x × (p x ≡ true)) (filter p rows)
+  every [] = tt
+  every (y ∷ rows) =
+      let later = all_weaker (λ x. Has rows x × (p x ≡ true)) (λ x. Has (y ∷ rows) x × (p x ≡ true)) (λ x h. (inr h.0, h.1)) (filter p rows) (every rows) in
+      elim (either (p y)) [ inl t ↦ rw t ((inl refl, t), later) | inr f ↦ rw f later ]
+
+  -- what fails another test all along fails it in a filter
+  kept_all : (q : R → Bool) (rows : List R) → AllByRecursion (λ x. q x ≡ false) rows → AllByRecursion (λ x. q x ≡ false) (filter p rows)
+  kept_all q [] h = tt
+  kept_all q (y ∷ rows) h = elim (either (p y)) [ inl t ↦ rw t (h.0, kept_all q rows h.1) | inr f ↦ rw f (kept_all q rows h.1) ]
+
+  filter_head : (x : R) (xs : List R) → p x ≡ true → filter p (x ∷ xs) ≡ x ∷ filter p xs
+  filter_head x xs t = rw t refl
+
+  filter_past : (x : R) (xs : List R) → p x ≡ false → filter p (x ∷ xs) ≡ filter p xs
+  filter_past x xs f = rw f refl
+
+  none_kept : (xs : List R) → AllByRecursion (λ x. p x ≡ false) xs → filter p xs ≡ []
+  none_kept [] h = refl
+  none_kept (x ∷ xs) h = rw (h.0, none_kept xs h.1)
+
+none_left : {R : Type 0} (ys : List R) → filter (λ _. true) ys ≡ [] → ys ≡ []
+none_left [] h = refl
+none_left (y ∷ ys) h = absurd (cc h)
+
+not_so : {R : Type 0} (q : R → Bool) (xs : List R) → AllByRecursion (λ x. q x ≡ false) xs → AllByRecursion (λ x. not (q x) ≡ true) xs
+not_so q xs = all_weaker (λ x. q x ≡ false) (λ x. not (q x) ≡ true) (λ x f. ap not f) xs
+
+-- where two lists begin with the one that passes, what follows is the same in any order
+module _ {R : Type 0} (q : R → Bool) (x : R) (is : q x ≡ true) where
+  abbrev others : R → Bool
+  others r = not (q r)
+
+  pub tails : (xs ys : List R) → AllByRecursion (λ r. q r ≡ false) ys → IsPermutation (x ∷ xs) (x ∷ ys) → IsPermutation xs ys
+  tails xs ys apart same =
+      let one : filter q (x ∷ ys) ≡ those (Some x) = filter_head q x ys is ∙ ap (λ l. x ∷ l) (none_kept q ys apart) in
+      let back : filter q (x ∷ xs) ≡ those (Some x) = in_any_order q (x ∷ ys) (x ∷ xs) (IsPermutation-sym _ _ same) (Some x) one in
+      let none : filter q xs ≡ [] = (let e : x ∷ filter q xs ≡ x ∷ [] = sym (filter_head q x xs is) ∙ back in cc e) in
+      let left : filter others (x ∷ xs) ≡ xs = filter_past others x xs (ap not is) ∙ filter_all others xs (not_so q xs (none_pass q xs none)) in
+      let right : filter others (x ∷ ys) ≡ ys = filter_past others x ys (ap not is) ∙ filter_all others ys (not_so q ys apart) in
+      subst (λ l. IsPermutation l ys) left (subst (λ l. IsPermutation (filter others (x ∷ xs)) l) right (IsPermutation-filter others (x ∷ xs) (x ∷ ys) same))
+
+found_at : {R : Type 0} (P : R → Type 0) (rows : List R) (x : R) → AllByRecursion P rows → Has rows x → P x
+found_at P [] x h i = absurd i
+found_at P (y ∷ rows) x h (inl e) = subst P e h.0
+found_at P (y ∷ rows) x h (inr i) = found_at P rows x h.1 i
+
+none_found : {R : Type 0} (p : R → Bool) (rows : List R) → AllByRecursion (λ r. p r ≡ false) rows → find p rows ≡ None
+none_found p [] h = refl
+none_found p (r ∷ rows) h = rw h.0 (none_found p rows h.1)
+
+-- where at most one row passes, it is the one that is found
+one_found : {R : Type 0} (p : R → Bool) (rows : List R) (u o : Option R) → filter p rows ≡ those o → IsOneIn p rows u → u ≡ find p rows
+one_found p rows None o are one = sym (none_found p rows one)
+one_found p rows (Some r) o are one = found_at (λ x. p x ≡ true → Some x ≡ find p rows) rows r (those_are_found p rows o are) one.0 one.1
+
+-- What the laws say of one closing, and of the end.
+pub record Steps (day : ℕ → ℕ) (H : List Entry) (id : Id) : Type 0 where
+  pub closes : (rows : List TransactionRecord) (usage : List UsageRecord) (was : TransactionRecord) (u : Option UsageRecord) → AreRetiring day H id rows usage → Has rows was → is_to_close id was ≡ true
+      → u ≡ find (is_usage was.login was.day) usage
+      → Leads same_key set_transaction (Update (abandoned_row was)) rows (λ after. Leads same_day set_usage (freed was.held was.held u) usage (AreRetiring day H id after))
+  pub transactions : (rows : List TransactionRecord) (usage : List UsageRecord) → AreRetiring day H id rows usage → AllByRecursion (λ r. is_to_close id r ≡ false) rows → AreTransactions day (H ++ retire_entry id ∷ []) rows
+  pub usage : (rows : List TransactionRecord) (usage : List UsageRecord) → AreRetiring day H id rows usage → AllByRecursion (λ r. is_to_close id r ≡ false) rows → AreUsage day (H ++ retire_entry id ∷ []) usage
+
+module _ (day : ℕ → ℕ) (H : List Entry) (id : Id) (S : Steps day H id) where
+  abbrev close : TransactionRecord → Bool
+  close = is_to_close id
+
+  own_key : (was : TransactionRecord) → is_transaction (key_of was) was ≡ true
+  own_key was = rw (text_itself was.host, number_itself was.run, number_itself was.txn) refl
+
+  -- what is left to close
+  left_over : (rest rows : List TransactionRecord) (was w : TransactionRecord) (others : List TransactionRecord) → IsPermutation (was ∷ rest) (filter close rows) → Has rows was → close was ≡ true
+      → IsPermutation (w ∷ others) rows → is_transaction (key_of was) w ≡ true → AllByRecursion (λ r. is_transaction (key_of was) r ≡ false) others
+      → IsPermutation rest (filter close (set_transaction (abandoned_row was) w ∷ others))
+  left_over rest rows was w others same there so order own alone =
+      let q = is_transaction (key_of was) in
+      let one : filter q (w ∷ others) ≡ those (Some w) = filter_head q w others own ∙ ap (λ l. w ∷ l) (none_kept q others alone) in
+      let all : filter q rows ≡ those (Some w) = in_any_order q (w ∷ others) rows order (Some w) one in
+      let hit : Some was ≡ find q rows = found_at (λ r. q r ≡ true → Some r ≡ find q rows) rows was (those_are_found q rows (Some w) all) there (own_key was) in
+      let is : was ≡ w = (let e : Some was ≡ Some w = hit ∙ find_of_those q rows (Some w) all in cc e) in
+      let so' : close w ≡ true = ap close (sym is) ∙ so in
+      let kept : filter close (w ∷ others) ≡ was ∷ filter close others = filter_head close w others so' ∙ ap (λ x. x ∷ filter close others) (sym is) in
+      let both : IsPermutation (was ∷ rest) (was ∷ filter close others) =
+      subst (IsPermutation (was ∷ rest)) kept (IsPermutation-trans _ _ _ same (IsPermutation-sym _ _ (IsPermutation-filter close (w ∷ others) rows order))) in
+      let left : IsPermutation rest (filter close others) = tails q was (own_key was) rest (filter close others) (kept_all close q others alone) both in
+      subst (IsPermutation rest) (sym (filter_past close (set_transaction (abandoned_row was) w) others refl)) left
+
+  pub led : (these rows : List TransactionRecord) (usage : List UsageRecord) → AreRetiring day H id rows usage → IsPermutation these (filter close rows) → LeadsAll these rows usage (AreMoved day (H ++ retire_entry id ∷ []))
+  led [] rows usage b same =
+      let none : filter close rows ≡ [] = none_left (filter close rows) (in_any_order (λ _. true) [] (filter close rows) same None refl) in
+      let all = none_pass close rows none in
+      record { transactions = S.transactions rows usage b all; usage = S.usage rows usage b all }
+  led (was ∷ rest) rows usage b same = λ u one.
+      let found : u ≡ find (is_usage was.login was.day) usage = one_found (is_usage was.login was.day) usage u (summed_row day H rows was.login was.day) (b.days was.login was.day) one in
+      let first = (all-permutation (λ x. Has rows x × (close x ≡ true)) (filter close rows) (was ∷ rest) (IsPermutation-sym _ _ same) (every close rows)).0 in
+      let step = S.closes rows usage was u b first.0 first.1 found in
+      let after : List TransactionRecord = set_transaction (abandoned_row was) step.was ∷ step.rest in
+      record {
+        was = step.was;
+        rest = step.rest;
+        order = step.order;
+        there = step.there;
+        alone = step.alone;
+        after = leads_on same_day set_usage (freed was.held was.held u) usage (AreRetiring day H id after) (λ used. LeadsAll rest after used (AreMoved day (H ++ retire_entry id ∷ [])))
+            (λ usage' b'. led rest after usage' b' (left_over rest rows was step.was step.rest same first.0 first.1 step.order step.there step.alone)) step.after;
+      }
+
+-- and so do closings, one after another
+pub all_lead_on : (these rows : List TransactionRecord) (usage : List UsageRecord) (P Q : List TransactionRecord → List UsageRecord → Type 0)
+    → ((after : List TransactionRecord) (used : List UsageRecord) → P after used → Q after used) → LeadsAll these rows usage P → LeadsAll these rows usage Q
+all_lead_on [] rows usage P Q more h = more rows usage h
+all_lead_on (was ∷ rest) rows usage P Q more h = λ u found.
+    leads_on same_key set_transaction (Update (abandoned_row was)) rows
+    (λ after. Leads same_day set_usage (freed was.held was.held u) usage (λ used. LeadsAll rest after used P))
+    (λ after. Leads same_day set_usage (freed was.held was.held u) usage (λ used. LeadsAll rest after used Q))
+    (λ after. leads_on same_day set_usage (freed was.held was.held u) usage (λ used. LeadsAll rest after used P) (λ used. LeadsAll rest after used Q) (λ used. all_lead_on rest after used P Q more))
+    (h u found)

@@ -1,0 +1,67 @@
+-- One closing, and one more behind those before.
+use Rattle.std.proofs.Common.{◌≡◌, ℕ, ◌+◌, ◌<◌, Bool, List, [], ◌∷◌, drop, suc, zero, refl, sym, ap, subst, arith, ◌∙◌}
+use Rattle.std.specs.Prelude.{Option, Some, slice_get, Result, Ok, Err, OnOk}
+use Rattle.sqlite.specs.declared.error.Error.{Error}
+use Rattle.sqlite.specs.Effect.{Database}
+use Rattle.sqlite.specs.State.{State}
+use Rattle.mq_rows.specs.declared.plan.Write.{Write}
+use Rattle.mq_rows.specs.declared.plan.Write.TheVariants.{Keep, Insert, Update}
+use Rattle.mq_rows.specs.declared.record.TransactionRecord.{TransactionRecord}
+use Rattle.mq_rows.specs.declared.record.UsageRecord.{UsageRecord}
+use Rattle.mq_rows.specs.Plan.{Leads, same_key, set_transaction, same_day, set_usage, freed, abandoned_row, IsOneIn, LeadsAll, Has as HasRow}
+use Rattle.sqlite_rules.specs.Lists.{Has}
+use Rattle.std.proofs.Common.{inl, inr}
+use Rattle.std.specs.Prelude.{None}
+use Rattle.mq_rows.specs.Rows.{is_usage}
+use Rattle.mq_rows.specs.Tables.{Tables}
+use Rattle.mq_tables.specs.Ledger.{HasLedger}
+use Rattle.mq_tables.specs.Records.{IsOneOf}
+use Rattle.mq_tables.specs.Updates.{Leaves, WritesTransaction, WritesUsage}
+use Rattle.mq_store.specs.GivingUp.{with_rows, ClosesOne, HasMoved}
+
+pub closes : (was : TransactionRecord) (u : Option UsageRecord) (s0 s1 s2 s3 : State) → ((t : Tables) → HasLedger s0.now t → IsOneOf (is_usage was.login was.day) t.usage u) → s1.now ≡ s0.now
+    → WritesTransaction (Update (abandoned_row was)) s1 s2 → WritesUsage (freed was.held was.held u) s2 s3 → ClosesOne was s0.now s3.now
+closes was u s0 s1 s2 s3 found same one two = λ t l.
+    (u, found t l, λ w rest order there alone. two (record t { transactions = set_transaction (abandoned_row was) w ∷ rest }) (one t (subst (λ db. HasLedger db t) (sym same) l) w rest order there alone))
+
+pub closes_ok : (was : TransactionRecord) (u : Option UsageRecord) (s0 s1 s2 s3 : State) (r : Result ℕ Error) → ((t : Tables) → HasLedger s0.now t → IsOneOf (is_usage was.login was.day) t.usage u) → s1.now ≡ s0.now
+    → WritesTransaction (Update (abandoned_row was)) s1 s2 → OnOk r (WritesUsage (freed was.held was.held u) s2 s3) → OnOk r (ClosesOne was s0.now s3.now)
+closes_ok was u s0 s1 s2 s3 (Ok n) found same one two = closes was u s0 s1 s2 s3 found same one two
+closes_ok was u s0 s1 s2 s3 (Err e) found same one two = tt
+
+-- the rows that a write leads to are those that it leaves
+both : {R : Type 0} (same : R → R → Bool) (set : R → R → R) (w : Write R) (rows : List R) (P Q : List R → Type 0)
+    → Leads same set w rows P → Leaves same set w rows Q → (after : List R) × P after × Q after
+both same set Keep rows P Q p q = (rows, p, q)
+both same set (Insert new) rows P Q p q = (new ∷ rows, p.after, q)
+both same set (Update new) rows P Q p q = (set new p.was ∷ p.rest, p.after, q p.was p.rest p.order p.there p.alone)
+
+has_row : {R : Type 0} (rows : List R) (r : R) → Has rows r → HasRow rows r
+has_row [] r h = h
+has_row (x ∷ rows) r (inl e) = inl e
+has_row (x ∷ rows) r (inr h) = inr (has_row rows r h)
+
+-- the one that the table has is the one that the law speaks of
+one_in : {R : Type 0} (test : R → Bool) (rows : List R) (o : Option R) → IsOneOf test rows o → IsOneIn test rows o
+one_in test rows None h = h
+one_in test rows (Some r) h = (has_row rows r h.0, h.1)
+
+-- what is there of the closings that are left: of the other tables these, and rows that lead on
+pub record IsLeft (t : Tables) (P : List TransactionRecord → List UsageRecord → Type 0) (rest : List TransactionRecord) (db : Database) : Type 0 where
+  pub rows : List TransactionRecord
+  pub used : List UsageRecord
+  pub holds : HasLedger db (with_rows t rows used)
+  pub leads : LeadsAll rest rows used P
+
+pub one_more : (t : Tables) (P : List TransactionRecord → List UsageRecord → Type 0) (was : TransactionRecord) (rest : List TransactionRecord) (old new : Database) → IsLeft t P (was ∷ rest) old → ClosesOne was old new → IsLeft t P rest new
+one_more t P was rest old new left closes =
+    let it = closes (with_rows t left.rows left.used) left.holds in
+    let u = it.0 in
+    let ts = both same_key set_transaction (Update (abandoned_row was)) left.rows
+    (λ a. Leads same_day set_usage (freed was.held was.held u) left.used (λ c. LeadsAll rest a c P))
+    (λ a. Leaves same_day set_usage (freed was.held was.held u) left.used (λ c. HasLedger new (with_rows t a c))) (left.leads u (one_in (is_usage was.login was.day) left.used u it.1)) it.2 in
+    let us = both same_day set_usage (freed was.held was.held u) left.used (λ c. LeadsAll rest ts.0 c P) (λ c. HasLedger new (with_rows t ts.0 c)) ts.1 ts.2 in
+    record { rows = ts.0; used = us.0; holds = us.2; leads = us.1 }
+
+pub all_closed : (t : Tables) (P : List TransactionRecord → List UsageRecord → Type 0) (db : Database) → IsLeft t P [] db → HasMoved t P db
+all_closed t P db left = record { rows = left.rows; used = left.used; holds = left.holds; so = left.leads }

@@ -1,0 +1,154 @@
+//! A retire gives runs up: what their open transactions hold is settled, and the replies of their
+//! answers are cleared, one by one, so that no more than one row is in memory besides the list of them.
+
+ghost use Rattle.std.specs.Prelude.{◌≡◌, ◌<◌, ◌^◌, All, IsTrue, IfOk, OnOk};
+ghost use Rattle.sqlite.specs.Held.{state};
+ghost use Rattle.sqlite.specs.State.{HasCleanDisk, KeepsCommit, Survives};
+ghost use Rattle.mq_rows.specs.Plan.{abandoned_row, freed};
+ghost use Rattle.mq_rows.specs.Storable.{IsStorable, AreStorableRuns};
+ghost use Rattle.mq_store.specs.GivingUp.{ClosesOne, ClosesAll, ClearsRuns, GivesUp};
+
+use mq_rows::{Runs, TransactionRecord, UsageRecord, Write};
+use mq_tables::retiring::{answer_places, clear_reply, find_open};
+use mq_tables::setting::natural_at;
+use mq_tables::transaction::write_transaction;
+use mq_tables::usage::{find_usage, write_usage};
+use sqlite::{Alter, Error, Transaction};
+use std::alloc::{AllocError, Global};
+
+/// The row of a transaction whose run is given up.
+fn abandoned(was: &TransactionRecord) -> Result<TransactionRecord, AllocError>
+    ensures { IfOk result (λ row. row ≡ abandoned_row was.now) }
+{
+    Ok(TransactionRecord {
+        host: was.host.clone()?,
+        run: was.run,
+        txn: was.txn,
+        login: was.login.clone()?,
+        moment: was.moment,
+        day: was.day,
+        held: 0,
+        settled: was.held,
+        closed: true,
+    })
+}
+
+/// What becomes of a login's row of a day where a transaction that held so many is closed with all of
+/// them settled. Rows of no ledger are an error of the store.
+fn settled(held: u32, row: Option<UsageRecord>) -> Result<Write<UsageRecord>, Error>
+    ensures { IfOk result (λ write. write ≡ freed held held row) }
+{
+    let Some(row) = row else {
+        return Ok(Write::Keep);
+    };
+    if held == 0 {
+        return Ok(Write::Keep);
+    }
+    let Some(settled) = row.settled.checked_add(held) else {
+        return Err(Error::IntegralValueOutOfRange(0));
+    };
+    let Some(reserved) = row.reserved.checked_sub(held) else {
+        return Err(Error::IntegralValueOutOfRange(0));
+    };
+    Ok(Write::Update(UsageRecord {
+        settled,
+        reserved,
+        ..row
+    }))
+}
+
+/// Closes one transaction.
+#[tactic(auto, using(crate::proofs::Chain::calls))]
+fn close_one<S: Alter>(tx: &mut Transaction<'_, S>, was: &TransactionRecord) -> Result<usize, Error>
+    requires storable { IsStorable was.now }
+    requires inside { HasCleanDisk (state S.Store tx.old.conn.now)
+        → IsTrue (state S.Store tx.old.conn.now).in_transaction }
+    ensures same_reference { tx.new.conn.ghost_name ≡ tx.old.conn.ghost_name }
+    ensures inside { HasCleanDisk (state S.Store tx.new.conn.now)
+        → OnOk result (IsTrue (state S.Store tx.new.conn.now).in_transaction) }
+    ensures closed { HasCleanDisk (state S.Store tx.new.conn.now)
+        → OnOk result (ClosesOne was.now (state S.Store tx.old.conn.now).now (state S.Store tx.new.conn.now).now) }
+    ensures kept { HasCleanDisk (state S.Store tx.new.conn.now)
+        → KeepsCommit (state S.Store tx.old.conn.now) (state S.Store tx.new.conn.now) }
+    ensures survives { Survives (state S.Store tx.old.conn.now) (state S.Store tx.new.conn.now) (λ _. ⊥) }
+{
+    let usage = find_usage(tx, &was.login, was.day)?;
+    let totals = settled(was.held, usage)?;
+    let transaction = Write::Update(abandoned(was)?);
+    write_transaction(tx, &transaction)?;
+    write_usage(tx, &totals)
+}
+
+/// Closes them one after another.
+#[tactic(auto, using(crate::proofs::Chain::calls))]
+fn close_all<S: Alter>(
+    tx: &mut Transaction<'_, S>,
+    these: &[TransactionRecord],
+) -> Result<(), Error>
+    requires storable { All IsStorable these.now }
+    requires inside { HasCleanDisk (state S.Store tx.old.conn.now)
+        → IsTrue (state S.Store tx.old.conn.now).in_transaction }
+    ensures same_reference { tx.new.conn.ghost_name ≡ tx.old.conn.ghost_name }
+    ensures inside { HasCleanDisk (state S.Store tx.new.conn.now)
+        → OnOk result (IsTrue (state S.Store tx.new.conn.now).in_transaction) }
+    ensures closed { HasCleanDisk (state S.Store tx.new.conn.now)
+        → OnOk result (ClosesAll these.now (state S.Store tx.old.conn.now).now (state S.Store tx.new.conn.now).now) }
+    ensures kept { HasCleanDisk (state S.Store tx.new.conn.now)
+        → KeepsCommit (state S.Store tx.old.conn.now) (state S.Store tx.new.conn.now) }
+    ensures survives { Survives (state S.Store tx.old.conn.now) (state S.Store tx.new.conn.now) (λ _. ⊥) }
+{
+    for was in these {
+        let _count = close_one(tx, was)?;
+    }
+    Ok(())
+}
+
+/// Clears the replies of the answers of these runs, one after another.
+#[tactic(auto, using(crate::proofs::Chain::calls))]
+fn clear_all<S: Alter>(tx: &mut Transaction<'_, S>, runs: &Runs) -> Result<(), Error>
+    requires in_range { (runs.now.from < 2 ^ 63) × (runs.now.to < 2 ^ 63) }
+    requires inside { HasCleanDisk (state S.Store tx.old.conn.now)
+        → IsTrue (state S.Store tx.old.conn.now).in_transaction }
+    ensures same_reference { tx.new.conn.ghost_name ≡ tx.old.conn.ghost_name }
+    ensures inside { HasCleanDisk (state S.Store tx.new.conn.now)
+        → OnOk result (IsTrue (state S.Store tx.new.conn.now).in_transaction) }
+    ensures cleared { HasCleanDisk (state S.Store tx.new.conn.now)
+        → OnOk result (ClearsRuns runs.now (state S.Store tx.old.conn.now).now (state S.Store tx.new.conn.now).now) }
+    ensures kept { HasCleanDisk (state S.Store tx.new.conn.now)
+        → KeepsCommit (state S.Store tx.old.conn.now) (state S.Store tx.new.conn.now) }
+    ensures survives { Survives (state S.Store tx.old.conn.now) (state S.Store tx.new.conn.now) (λ _. ⊥) }
+{
+    let rows = answer_places(tx, runs)?;
+    for row in rows.as_slice() {
+        let n = natural_at(row, 0)?;
+        let _count = clear_reply(tx, n)?;
+    }
+    Ok(())
+}
+
+/// Gives these runs up, where there are any to give up.
+#[tactic(auto, using(crate::proofs::Chain::calls))]
+pub(crate) fn give_up<S: Alter>(
+    alloc: Global,
+    tx: &mut Transaction<'_, S>,
+    runs: &Option<Runs>,
+) -> Result<(), Error>
+    requires storable { AreStorableRuns runs.now }
+    requires inside { HasCleanDisk (state S.Store tx.old.conn.now)
+        → IsTrue (state S.Store tx.old.conn.now).in_transaction }
+    ensures same_reference { tx.new.conn.ghost_name ≡ tx.old.conn.ghost_name }
+    ensures inside { HasCleanDisk (state S.Store tx.new.conn.now)
+        → OnOk result (IsTrue (state S.Store tx.new.conn.now).in_transaction) }
+    ensures given_up { HasCleanDisk (state S.Store tx.new.conn.now)
+        → OnOk result (GivesUp runs.now (state S.Store tx.old.conn.now).now (state S.Store tx.new.conn.now).now) }
+    ensures kept { HasCleanDisk (state S.Store tx.new.conn.now)
+        → KeepsCommit (state S.Store tx.old.conn.now) (state S.Store tx.new.conn.now) }
+    ensures survives { Survives (state S.Store tx.old.conn.now) (state S.Store tx.new.conn.now) (λ _. ⊥) }
+{
+    let Some(runs) = runs else {
+        return Ok(());
+    };
+    clear_all(tx, runs)?;
+    let these = find_open(alloc, tx, runs)?;
+    close_all(tx, these.as_slice())
+}

@@ -1,0 +1,210 @@
+-- One more table leaves a ledger where it is; so the tables of later versions come to one of an older version.
+use Rattle.std.proofs.Common.{◌≡◌, ◌≢◌, ℕ, ◌<◌, ◌==◌, find, List, [], ◌∷◌, ◌++◌, Bool, true, false, Option, Some, None, Ok, Err, Result, OnOk, codes, arith, refl, sym, ap, subst, ◌∙◌}
+use Rattle.std.proofs.Common.{IsTrue, nat_le, true≢false}
+use Rattle.std.specs.Prelude.{if◌then◌else◌, slice_get}
+use Rattle.std.specs.List.{AllByRecursion}
+use Rattle.sqlite_trees.proofs.ListLemmas.{all_weaker, all-slice_get}
+use Rattle.sqlite.specs.declared.error.Error.{Error}
+use Rattle.sqlite_schema.specs.declared.schema.Reference.{Reference}
+use Rattle.sqlite_schema.specs.Names.{same_name}
+use Rattle.sqlite.specs.Schema.{Schema}
+use Rattle.sqlite.specs.Table.{Table}
+use Rattle.sqlite.specs.Tree.{Trees}
+use Rattle.sqlite.specs.Change.{created, next_tree}
+use Rattle.sqlite.specs.Does.{lacks_sequence}
+use Rattle.sqlite.specs.Effect.{Database, IsDatabase}
+use Rattle.sqlite.specs.State.{State}
+use Rattle.sqlite_resolve.specs.Compile.{first, compiled}
+use Rattle.sqlite.specs.Listing.{listing_schema}
+use Rattle.sqlite_tied.specs.Compute.{everything}
+use Rattle.mq_rows.specs.Tables.{Tables}
+use Rattle.mq_tables.specs.Tables.{setting_table, answer_table, trans_table, usage_table, ceiling_table, rule_table, retired_table}
+use Rattle.mq_tables.specs.Settings.{rule_rows}
+use Rattle.mq_tables.specs.Places.{IsTableIn, IsUnreferred, IsUnnamed, is_tree, refers}
+use Rattle.mq_tables.specs.Records.{retired_fields, HoldsAnswers, HoldsTransactions, HoldsUsage, HoldsCeilings, HoldsRetired}
+use Rattle.mq_tables.specs.Ledger.{IsLedgerIn, IsThere, HasFloors, HasNoFloors, Since, HasLedger}
+use Rattle.mq_tables.specs.Written.{Created}
+use Rattle.mq_tables.specs.Making.{Makes, HasCounters}
+use Rattle.mq_tables.proofs.Creating.{MakesTable}
+use Rattle.mq_tables.proofs.Chains.{all_joined}
+use Rattle.mq_tables.proofs.Found.{IsFound, apart, begun, still_all, in_database}
+use Rattle.mq_tables.proofs.Places.{all_below}
+use Rattle.mq_rows.specs.declared.record.RetiredRecord.{RetiredRecord}
+use Rattle.mq_tables.specs.Migrating.{AddsRule, SetsVersion, IsMigrated}
+use Rattle.mq_tables.proofs.Changes.{since}
+use Rattle.mq_tables.proofs.NewLedger.{find_apart, holds_none}
+
+-- ---- one more table leaves a ledger where it is
+
+find_more : (p : Table → Bool) (tree : ℕ) (xs : List Table) (t : Table) → is_tree tree (find p xs) ≡ false → (t.tree == tree) ≡ false → is_tree tree (find p (xs ++ t ∷ [])) ≡ false
+find_more p tree [] t none new = go (p t)
+  where
+    go : (b : Bool) → is_tree tree (if b then Some t else None) ≡ false
+    go true = new
+    go false = refl
+find_more p tree (x ∷ xs) t none new = go (p x) (find_more p tree xs t) none
+  where
+    go : (b : Bool) → (is_tree tree (find p xs) ≡ false → (t.tree == tree) ≡ false → is_tree tree (find p (xs ++ t ∷ [])) ≡ false)
+        → is_tree tree (if b then Some x else find p xs) ≡ false → is_tree tree (if b then Some x else find p (xs ++ t ∷ [])) ≡ false
+    go true more e = e
+    go false more e = more e new
+
+-- a tree that is there is below the next one
+there_below : (s : Schema) (made : Table) (tree : ℕ) → IsTableIn s made tree → tree < next_tree s
+there_below s made tree p = all-slice_get (λ (t : Table). t.tree < next_tree s) s.tables p.at (record made { tree = tree }) p.there (all_below s)
+
+apart_from : (a b : ℕ) → a < b → (b == a) ≡ false
+apart_from a b low = swapped (apart a b low)
+  where
+    swapped : (a == b) ≡ false → (b == a) ≡ false
+    swapped h = grind (arith, h)
+
+module _ (s : Schema) (t : Table) (none : t.references ≡ []) (made : Table) (tree : ℕ) (place : IsTableIn s made tree) where
+  still_apart : (ref : Reference) → refers s tree ref ≡ false → refers (created s t) tree ref ≡ false
+  still_apart ref h = find_more (λ x. same_name x.name ref.parent) tree s.tables (record t { tree = next_tree s }) h (apart_from tree (next_tree s) (there_below s made tree place))
+
+  pub still_alone : IsUnreferred s tree → IsUnreferred (created s t) tree
+  still_alone h =
+      all_joined (λ (x : Table). AllByRecursion (λ ref. refers (created s t) tree ref ≡ false) x.references) s.tables (record t { tree = next_tree s } ∷ [])
+      (all_weaker (λ (x : Table). AllByRecursion (λ ref. refers s tree ref ≡ false) x.references) (λ (x : Table). AllByRecursion (λ ref. refers (created s t) tree ref ≡ false) x.references)
+      (λ x refs. all_weaker (λ ref. refers s tree ref ≡ false) (λ ref. refers (created s t) tree ref ≡ false) still_apart x.references refs) s.tables h)
+      (subst (AllByRecursion (λ ref. refers (created s t) tree ref ≡ false)) (sym none) tt, tt)
+
+module _ (old new : State) (t : Table) (none : t.references ≡ []) (it : Created old.now.schema t old new) where
+  still_in : (made : Table) (tree : ℕ) → IsTableIn old.now.schema made tree → IsTableIn new.now.schema made tree
+  still_in made tree p =
+      let found : IsFound old.now.schema.tables (record made { tree = tree }) = record { at = p.at; named = p.named; there = p.there; found = p.found } in
+      in_database made tree new.now it.sound (subst (λ (x : Schema). IsFound x.tables (record made { tree = tree })) (sym it.schema_is) (still_all (record made { tree = tree }) (t ∷ []) old.now.schema found))
+
+  same_rows : (made : Table) (tree : ℕ) → IsTableIn old.now.schema made tree → new.now.trees tree ≡ old.now.trees tree
+  same_rows made tree p = all-slice_get (λ (x : Table). new.now.trees x.tree ≡ old.now.trees x.tree) old.now.schema.tables p.at (record made { tree = tree }) p.there it.tables
+
+  alone_in : (made : Table) (tree : ℕ) → IsTableIn old.now.schema made tree → IsUnreferred old.now.schema tree → IsUnreferred new.now.schema tree
+  alone_in made tree p h = subst (λ x. IsUnreferred x tree) (sym it.schema_is) (still_alone old.now.schema t none made tree p h)
+
+  rule_stays : (rows : Tables) → IsThere old.now rule_table (rule_rows rows.setting.rule) → IsThere new.now rule_table (rule_rows rows.setting.rule)
+  rule_stays rows h = record { tree = h.tree; table = still_in rule_table h.tree h.table; holds = same_rows rule_table h.tree h.table ∙ h.holds }
+
+  floors_stay : (rows : List RetiredRecord) → HasFloors old.now rows → HasFloors new.now rows
+  floors_stay rows h = record {
+    tree = h.tree;
+    table = still_in retired_table h.tree h.table;
+    alone = alone_in retired_table h.tree h.table h.alone;
+    holds = subst (λ rs. HoldsRetired rs rows) (sym (same_rows retired_table h.tree h.table)) h.holds;
+  }
+
+  no_floors : (rows : List RetiredRecord) → HasNoFloors old.now rows → HasNoFloors new.now rows
+  no_floors rows h = record {
+    none = h.none;
+    unnamed = subst (λ x. IsUnnamed x retired_table.name) (sym it.schema_is)
+        (all_joined (λ (x : Table). AllByRecursion (λ ref. same_name retired_table.name ref.parent ≡ false) x.references) old.now.schema.tables (record t { tree = next_tree old.now.schema } ∷ []) h.unnamed
+        (subst (AllByRecursion (λ ref. same_name retired_table.name ref.parent ≡ false)) (sym none) tt, tt));
+  }
+
+  pub ledger_stays : (rows : Tables) → HasLedger old.now rows → HasLedger new.now rows
+  ledger_stays rows l = record {
+    sound = it.sound;
+    at = l.at;
+    tables = record {
+      setting = still_in setting_table _ l.tables.setting;
+      answer = still_in answer_table _ l.tables.answer;
+      trans = still_in trans_table _ l.tables.trans;
+      usage = still_in usage_table _ l.tables.usage;
+      ceiling = still_in ceiling_table _ l.tables.ceiling;
+      setting_alone = alone_in setting_table _ l.tables.setting l.tables.setting_alone;
+      answer_alone = alone_in answer_table _ l.tables.answer l.tables.answer_alone;
+      trans_alone = alone_in trans_table _ l.tables.trans l.tables.trans_alone;
+      usage_alone = alone_in usage_table _ l.tables.usage l.tables.usage_alone;
+      ceiling_alone = alone_in ceiling_table _ l.tables.ceiling l.tables.ceiling_alone;
+    };
+    holds = record {
+      setting = same_rows setting_table _ l.tables.setting ∙ l.holds.setting;
+      answers = subst (λ rs. HoldsAnswers rs rows.answers) (sym (same_rows answer_table _ l.tables.answer)) l.holds.answers;
+      transactions = subst (λ rs. HoldsTransactions rs rows.transactions) (sym (same_rows trans_table _ l.tables.trans)) l.holds.transactions;
+      usage = subst (λ rs. HoldsUsage rs rows.usage) (sym (same_rows usage_table _ l.tables.usage)) l.holds.usage;
+      ceilings = subst (λ rs. HoldsCeilings rs rows.ceilings) (sym (same_rows ceiling_table _ l.tables.ceiling)) l.holds.ceilings;
+    };
+    later = record {
+      rule = since _ _ _ _ (nat_le 2 rows.setting.version) (rule_stays rows) (λ none. none) l.later.rule;
+      retired = since _ _ _ _ (nat_le 3 rows.setting.version) (floors_stay rows.retired) (no_floors rows.retired) l.later.retired;
+    };
+  }
+
+  pub rule_kept : (rows : Tables) → IsThere old.now rule_table (rule_rows rows.setting.rule) → IsThere new.now rule_table (rule_rows rows.setting.rule)
+  rule_kept = rule_stays
+
+  -- the new one is there, and empty
+  pub empty_made : same_name t.name t.name ≡ true → IsThere new.now t []
+  empty_made self = record {
+    tree = next_tree old.now.schema;
+    table = in_database t (next_tree old.now.schema) new.now it.sound (subst (λ (x : Schema). IsFound x.tables (record t { tree = next_tree old.now.schema })) (sym it.schema_is) (begun t self old.now.schema it.free));
+    holds = it.empty;
+  }
+
+-- where no foreign key names a table so, none refers to the one that is made
+new_alone : (s : Schema) → IsUnnamed s retired_table.name → IsUnreferred (created s retired_table) (next_tree s)
+new_alone s unnamed =
+    let tree : ℕ = next_tree s in
+    let apart_ref : (ref : Reference) → same_name retired_table.name ref.parent ≡ false → refers (created s retired_table) tree ref ≡ false = λ ref other.
+        find_apart (λ x. same_name x.name ref.parent) tree (created s retired_table).tables
+        (all_joined (λ (x : Table). same_name x.name ref.parent ≡ true → (x.tree == tree) ≡ false) s.tables (record retired_table { tree = tree } ∷ [])
+          (all_weaker (λ (x : Table). x.tree < tree) (λ (x : Table). same_name x.name ref.parent ≡ true → (x.tree == tree) ≡ false) (λ x low hit. apart x.tree tree low) s.tables (all_below s))
+          ((λ hit. absurd (true≢false (sym hit ∙ other))), tt)) in
+    all_joined (λ (x : Table). AllByRecursion (λ ref. refers (created s retired_table) tree ref ≡ false) x.references) s.tables (record retired_table { tree = tree } ∷ [])
+    (all_weaker (λ (x : Table). AllByRecursion (λ ref. same_name retired_table.name ref.parent ≡ false) x.references) (λ (x : Table). AllByRecursion (λ ref. refers (created s retired_table) tree ref ≡ false) x.references)
+      (λ x refs. all_weaker (λ ref. same_name retired_table.name ref.parent ≡ false) (λ ref. refers (created s retired_table) tree ref ≡ false) apart_ref x.references refs) s.tables unnamed)
+    (tt, tt)
+
+-- ---- the tables of later versions
+
+names_selves : (same_name rule_table.name rule_table.name ≡ true) × (same_name retired_table.name retired_table.name ≡ true)
+unfolding same_name
+names_selves = (refl, refl)
+
+-- the table of the rule is there
+pub record HasRuleTable (db : Database) (t : Tables) : Type 0 where
+  holds : HasLedger db t
+  rule : IsThere db rule_table (rule_rows t.setting.rule)
+  counters : lacks_sequence db.schema ≡ false
+
+is_there : (Now Before : Type 0) (b : Bool) → b ≡ true → Since b Now Before → Now
+is_there Now Before true e h = h
+is_there Now Before false e h = absurd cc
+
+was_before : (Now Before : Type 0) (b : Bool) → b ≡ false → Since b Now Before → Before
+was_before Now Before true e h = absurd cc
+was_before Now Before false e h = h
+
+rule_added : (has_rule : Bool) (a b : State) → AddsRule has_rule a b → HasCounters a → (t : Tables) → HasLedger a.now t → nat_le 2 t.setting.version ≡ has_rule → HasRuleTable b.now t
+rule_added true a b h counters t l is = record {
+  holds = subst (λ db. HasLedger db t) (sym h.1) l;
+  rule = subst (λ db. IsThere db rule_table (rule_rows t.setting.rule)) (sym h.1) (is_there _ _ (nat_le 2 t.setting.version) is l.later.rule);
+  counters = subst (λ (db : Database). lacks_sequence db.schema ≡ false) (sym h.1) counters;
+}
+rule_added false a b h counters t l is =
+    let one = h.1 counters in
+    let none : t.setting.rule ≡ None = was_before _ _ (nat_le 2 t.setting.version) is l.later.rule in
+    record {
+      holds = ledger_stays a b rule_table refl one.0 t l;
+      rule = subst (λ r. IsThere b.now rule_table (rule_rows r)) (sym none) (empty_made a b rule_table refl one.0 names_selves.0);
+      counters = one.1;
+    }
+
+pub migrates : (has_rule : Bool) (a b c d : State) (r : Result ℕ Error) → AddsRule has_rule a b → Makes retired_table b c → OnOk r (SetsVersion c.now d.now) → OnOk r (IsMigrated has_rule a.now d.now)
+migrates has_rule a b c d (Err e) p q s = tt
+migrates has_rule a b c d (Ok count) p q s = record { made = λ counters t l is old.
+    let first = rule_added has_rule a b p counters t l is in
+    let two = (q.1 first.counters).0 in
+    let before = was_before _ _ (nat_le 3 t.setting.version) old first.holds.later.retired in
+    let floors : HasFloors c.now t.retired = record {
+      tree = next_tree b.now.schema;
+      table = (empty_made b c retired_table refl two names_selves.1).table;
+      alone = subst (λ x. IsUnreferred x (next_tree b.now.schema)) (sym two.schema_is) (new_alone b.now.schema before.unnamed);
+      holds = subst (HoldsRetired (c.now.trees (next_tree b.now.schema))) (sym before.none) (holds_none retired_fields _ two.empty);
+    } in
+    s t (ledger_stays b c retired_table refl two t first.holds) (rule_kept b c retired_table refl two t first.rule) floors }
+
+-- the transaction goes on behind either
+pub adds_inside : (has_rule : Bool) (a b : State) → AddsRule has_rule a b → IsTrue b.in_transaction
+adds_inside true a b h = h.0
+adds_inside false a b h = h.0

@@ -1,0 +1,136 @@
+-- What the query of the open transactions of runs answers of the records, and what is made of its rows.
+use Rattle.std.proofs.Common.{pos, ◌≡◌, ◌&&◌, ℕ, ℤ, List, [], ◌∷◌, ◌==◌, map, filter, codes, Bool, true, false, None, Ok, Err, Result, refl, sym, ap, subst, ◌∙◌}
+use Rattle.std.specs.Prelude.{not, All, nat_le}
+use Rattle.std.specs.List.{AllByRecursion}
+use Rattle.std.proofs.Common.{subst₂, cond, true≢false}
+use Rattle.std.proofs.lemmas.Bool.{not-true}
+use Rattle.std.proofs.lemmas.List.Elements.{recursion_from_All}
+use Rattle.std.proofs.lemmas.List.Sorted.{IsPermutation-map, IsPermutation-sym}
+use Rattle.sqlite.specs.declared.types.Value.TheVariants.{Blob}
+use Rattle.std.specs.Ordering.{int_eq}
+use Rattle.std.specs.Prelude.{Vec, IfOk}
+use Rattle.std.specs.declared.alloc.Global.{Global}
+use Rattle.sqlite.specs.declared.error.Error.{Error}
+use Rattle.sqlite.specs.Listing.{listing_schema}
+use Rattle.sqlite.specs.Order.{Row, column}
+use Rattle.sqlite.specs.State.{State, Shown}
+use Rattle.sqlite_schema.specs.Names.{same_name}
+use Rattle.sqlite_tied.specs.Compute.{everything}
+use Rattle.std.specs.List.Sorted.{IsPermutation}
+use Rattle.std.specs.Cmp.{unsigned_Decides}
+use Rattle.std.proofs.Math.Bool.{and-true}
+use Rattle.std.proofs.lemmas.Bool.{and_parts}
+use Rattle.std.proofs.lemmas.Slice.Eq.{slice_eq-Decides}
+use Rattle.sqlite.specs.declared.types.Value.TheVariants.{Int}
+use Rattle.mq_frame.specs.Same.{same_text}
+use Rattle.mq_rows.specs.declared.record.TransactionRecord.{TransactionRecord}
+use Rattle.mq_rows.specs.declared.plan.Runs.{Runs}
+use Rattle.mq_rows.specs.Plan.{is_open_in}
+use Rattle.mq_rows.specs.Tables.{Tables}
+use Rattle.mq_tables.specs.Ledger.{HasLedger}
+use Rattle.mq_tables.specs.Retiring.{open_params, open_row, open_columns, IsOpenRead, IsOpenOf}
+use Rattle.mq_tables.specs.Records.{transaction_fields, bit}
+use Rattle.mq_tables.specs.Tables.{trans_table}
+use Rattle.mq_tables.proofs.FigureReads.{mapped_more}
+use Rattle.mq_tables.proofs.SelectShape.{SelectShape, IsSelect, IsAccepted}
+use Rattle.mq_tables.proofs.TermShape.{field, against}
+use Rattle.mq_tables.proofs.Selected.{pass, shows_all}
+use Rattle.mq_tables.proofs.TermShape.Relation.{Same, AtMost, AtLeast}
+use Rattle.mq_tables.proofs.Tests.{text_test, nat_test, from_test, until_test}
+
+abbrev pub open_text : List ℕ
+open_text = codes "SELECT run, txn, login, moment, day, held, settled FROM trans WHERE host = ?1 AND run >= ?2 AND run <= ?3 AND closed = ?4"
+
+abbrev pub open_shape : SelectShape
+open_shape = record {
+  table = trans_table;
+  shown = field (codes "run") 1 ∷ field (codes "txn") 2 ∷ field (codes "login") 3 ∷ field (codes "moment") 4 ∷ field (codes "day") 5 ∷ field (codes "held") 6 ∷ field (codes "settled") 7 ∷ [];
+  tests = against (field (codes "host") 0) Same 1 ∷ against (field (codes "run") 1) AtLeast 2 ∷ against (field (codes "run") 1) AtMost 3 ∷ against (field (codes "closed") 8) Same 4 ∷ [];
+  order = None;
+}
+
+pub open_select : IsSelect open_text open_shape
+unfolding everything listing_schema same_name
+open_select = record {
+  parsed = refl;
+  select = _;
+  statement = refl;
+  timeless = refl;
+  unlisted = refl;
+  source = (_, refl, refl, refl, refl, refl, refl);
+  shown = ((_, refl, refl), ((_, refl, refl), ((_, refl, refl), ((_, refl, refl), ((_, refl, refl), ((_, refl, refl), ((_, refl, refl), tt)))))));
+  filter = (_, _, refl, (_, _, refl, (_, _, refl, (_, _, refl, refl, refl), (_, _, refl, refl, refl)), (_, _, refl, refl, refl)), (_, _, refl, refl, refl));
+  ungrouped = (refl, refl, refl);
+  order = (refl, refl);
+  alone = (refl, refl, refl);
+  known = λ t. refl;
+  short = refl;
+}
+
+open_accepted : IsAccepted open_shape
+open_accepted s t low found = rw (low, found)
+
+-- a transaction that isn't closed has 0 there
+shut_test : (c : Bool) → (0 == bit c) ≡ not c
+shut_test true = refl
+shut_test false = refl
+
+module _ (runs : Runs) where
+  decides : (r : TransactionRecord) → pass transaction_fields open_text open_shape open_select open_accepted refl (open_params runs) r ≡ is_open_in runs r
+  decides r =
+      rw (text_test r.host runs.host, from_test r.run runs.from, until_test r.run runs.to, nat_test (bit r.closed) 0, shut_test r.closed)
+      (ap (λ b. same_text runs.host r.host && b) (ap (λ b. nat_le runs.from r.run && b) (ap (λ b. nat_le r.run runs.to && b) (and-true (not r.closed)))))
+
+  pub found_all : (old new : State) (outcome : Result (Vec Row Global) Error) → IfOk outcome (λ rows. Shown open_text (open_params runs) old new rows.items)
+      → IfOk outcome (λ rows. (t : Tables) → HasLedger old.now t → IsPermutation (map open_row (filter (is_open_in runs) t.transactions)) rows.items)
+  found_all old new (Ok rows) h = λ t l.
+      subst (λ (p : TransactionRecord → Bool). IsPermutation (map open_row (filter p t.transactions)) rows.items) (λ i r. decides r i)
+      (shows_all transaction_fields open_text open_shape open_select open_accepted refl (open_params runs) old new l.at.trans l.tables.trans rows.items h t.transactions refl l.holds.transactions.same)
+  found_all old new (Err e) h = tt
+
+-- ---- the records that rows of open transactions stand for
+
+pub opens_more : (h : List ℕ) (row : Row) (t : TransactionRecord) → IsOpenRead h row t → open_columns row ≡ open_row t
+opens_more h row t is = λ i. is.run i ∷ is.txn i ∷ is.login i ∷ is.moment i ∷ is.day i ∷ is.held i ∷ is.settled i ∷ []
+
+abbrev open_back : List ℕ → Row → TransactionRecord
+open_back h (Int (pos r) ∷ Int (pos x) ∷ Blob l ∷ Int (pos m) ∷ Int (pos d) ∷ Int (pos n) ∷ Int (pos s) ∷ []) =
+    record { host = h; run = r; txn = x; login = l; moment = m; day = d; held = n; settled = s; closed = false }
+open_back h _ = record { host = h; run = 0; txn = 0; login = []; moment = 0; day = 0; held = 0; settled = 0; closed = false }
+
+back_is : (h : List ℕ) (xs : List TransactionRecord) → AllByRecursion (IsOpenOf h) xs → map (open_back h) (map open_row xs) ≡ xs
+back_is h [] all = refl
+back_is h (x ∷ xs) all =
+    let one : (record { host = h; run = x.run; txn = x.txn; login = x.login; moment = x.moment; day = x.day; held = x.held; settled = x.settled; closed = false }) ≡ x =
+    (λ i. record { host = sym all.0.0 i; run = x.run; txn = x.txn; login = x.login; moment = x.moment; day = x.day; held = x.held; settled = x.settled; closed = sym all.0.1 i }) in
+    λ i. one i ∷ back_is h xs all.1 i
+
+again : (xs : List TransactionRecord) → map open_columns (map open_row xs) ≡ map open_row xs
+again [] = refl
+again (x ∷ xs) = ap (λ ys. open_row x ∷ ys) (again xs)
+
+-- those that pass are open and the host's
+open_so : (runs : Runs) (t : TransactionRecord) → is_open_in runs t ≡ true → IsOpenOf runs.host t
+open_so runs t hit =
+    let a = and_parts _ _ hit in
+    let b = and_parts _ _ a.1 in
+    let c = and_parts _ _ b.1 in
+    (sym ((slice_eq-Decides unsigned_Decides runs.host t.host _ refl).0 a.0), not-true t.closed c.1)
+
+kept_open : (runs : Runs) (all : List TransactionRecord) → AllByRecursion (IsOpenOf runs.host) (filter (is_open_in runs) all)
+kept_open runs [] = tt
+kept_open runs (t ∷ all) = go (is_open_in runs t) refl (kept_open runs all)
+  where
+    go : (b : Bool) → is_open_in runs t ≡ b → AllByRecursion (IsOpenOf runs.host) (filter (is_open_in runs) all) → AllByRecursion (IsOpenOf runs.host) (cond b (t ∷ filter (is_open_in runs) all) (filter (is_open_in runs) all))
+    go true is more = (open_so runs t is, more)
+    go false is more = more
+
+pub opens_read : (runs : Runs) (Held : Tables → Type 0) (rows : List Row) (outcome : Result (Vec TransactionRecord Global) Error) → ((t : Tables) → Held t → IsPermutation (map open_row (filter (is_open_in runs) t.transactions)) rows)
+    → IfOk outcome (λ read. map open_columns rows ≡ map open_row read.items) → IfOk outcome (λ read. All (IsOpenOf runs.host) read.items)
+    → IfOk outcome (λ read. (t : Tables) → Held t → IsPermutation read.items (filter (is_open_in runs) t.transactions))
+opens_read runs Held rows (Ok read) same is open_all = λ t l.
+    let these : List TransactionRecord = filter (is_open_in runs) t.transactions in
+    let columns = IsPermutation-map open_columns _ _ (same t l) in
+    let cells : IsPermutation (map open_row these) (map open_row read.items) = subst₂ IsPermutation (again these) is columns in
+    IsPermutation-sym _ _ (subst₂ IsPermutation (back_is runs.host these (kept_open runs t.transactions)) (back_is runs.host read.items (recursion_from_All (IsOpenOf runs.host) read.items open_all)) (IsPermutation-map (open_back runs.host) _ _ cells))
+opens_read runs Held rows (Err e) same is open_all = tt

@@ -1,0 +1,96 @@
+//! The tables of an older version become those of the current one.
+
+ghost use Rattle.std.specs.Prelude.{◌≡◌, ◌⊎◌, pos, [], ◌∷◌, false, IsTrue, OnOk, OnErr};
+ghost use Rattle.sqlite.specs.State.{HasCleanDisk, KeepsCommit, Survives};
+ghost use Rattle.sqlite.specs.Held.{state};
+ghost use Rattle.sqlite.specs.Tree.{Trees};
+ghost use Rattle.sqlite.specs.Values.{bound};
+ghost use Rattle.sqlite.specs.declared.types.Value.TheVariants.{Int};
+ghost use Rattle.mq_tables.specs.Migrating.{AddsRule, SetsVersion, IsMigrated, AreMigrated};
+
+use crate::create::{create_retired, create_rule};
+use mq_rows::VERSION;
+use sqlite::types::ValueRef;
+use sqlite::{Alter, Connection, Error, Transaction};
+
+fn version_params() -> [ValueRef<'static>; 1]
+    ensures { bound result ≡ Int (pos 3) ∷ [] }
+{
+    [ValueRef::Int(i64::from(VERSION))]
+}
+
+fn set_version<S: Alter>(tx: &mut Transaction<'_, S>) -> Result<usize, Error>
+    requires inside { HasCleanDisk (state S.Store tx.old.conn.now)
+        → IsTrue (state S.Store tx.old.conn.now).in_transaction }
+    ensures same_reference { tx.new.conn.ghost_name ≡ tx.old.conn.ghost_name }
+    ensures inside { HasCleanDisk (state S.Store tx.new.conn.now)
+        → OnOk result (IsTrue (state S.Store tx.new.conn.now).in_transaction) }
+    ensures set { HasCleanDisk (state S.Store tx.new.conn.now)
+        → OnOk result (SetsVersion (state S.Store tx.old.conn.now).now (state S.Store tx.new.conn.now).now) }
+    ensures kept { HasCleanDisk (state S.Store tx.new.conn.now)
+        → KeepsCommit (state S.Store tx.old.conn.now) (state S.Store tx.new.conn.now) }
+    ensures survives { Survives (state S.Store tx.old.conn.now) (state S.Store tx.new.conn.now) (λ _. ⊥) }
+{
+    tx.execute("UPDATE setting SET version = ?1 WHERE id = 1", &version_params())
+}
+
+/// Makes the table of the rule, where it isn't there yet.
+fn add_rule<S: Alter>(tx: &mut Transaction<'_, S>, has_rule: bool) -> Result<usize, Error>
+    requires inside { HasCleanDisk (state S.Store tx.old.conn.now)
+        → IsTrue (state S.Store tx.old.conn.now).in_transaction }
+    ensures same_reference { tx.new.conn.ghost_name ≡ tx.old.conn.ghost_name }
+    ensures inside { HasCleanDisk (state S.Store tx.new.conn.now)
+        → OnOk result (IsTrue (state S.Store tx.new.conn.now).in_transaction) }
+    ensures added { HasCleanDisk (state S.Store tx.new.conn.now)
+        → OnOk result (AddsRule has_rule (state S.Store tx.old.conn.now) (state S.Store tx.new.conn.now)) }
+    ensures kept { HasCleanDisk (state S.Store tx.new.conn.now)
+        → KeepsCommit (state S.Store tx.old.conn.now) (state S.Store tx.new.conn.now) }
+    ensures survives { Survives (state S.Store tx.old.conn.now) (state S.Store tx.new.conn.now) (λ _. ⊥) }
+{
+    if has_rule { Ok(0) } else { create_rule(tx) }
+}
+
+/// All three in turn.
+fn migrate_tables<S: Alter>(tx: &mut Transaction<'_, S>, has_rule: bool) -> Result<usize, Error>
+    requires inside { HasCleanDisk (state S.Store tx.old.conn.now)
+        → IsTrue (state S.Store tx.old.conn.now).in_transaction }
+    ensures same_reference { tx.new.conn.ghost_name ≡ tx.old.conn.ghost_name }
+    ensures inside { HasCleanDisk (state S.Store tx.new.conn.now)
+        → OnOk result (IsTrue (state S.Store tx.new.conn.now).in_transaction) }
+    ensures migrated { HasCleanDisk (state S.Store tx.new.conn.now)
+        → OnOk result (IsMigrated has_rule (state S.Store tx.old.conn.now).now (state S.Store tx.new.conn.now).now) }
+    ensures kept { HasCleanDisk (state S.Store tx.new.conn.now)
+        → KeepsCommit (state S.Store tx.old.conn.now) (state S.Store tx.new.conn.now) }
+    ensures survives { Survives (state S.Store tx.old.conn.now) (state S.Store tx.new.conn.now) (λ _. ⊥) }
+{
+    add_rule(tx, has_rule)?;
+    create_retired(tx)?;
+    set_version(tx)
+}
+
+/// Makes a ledger of an older version one of the current version, in one transaction, or leaves all as it was.
+/// `has_rule` says whether the table of the rule is there.
+///
+/// An error is the store's.
+pub fn migrate<S: Alter>(conn: &mut Connection<S>, has_rule: bool) -> Result<(), Error>
+    requires autocommit { conn.old.in_transaction ≡ false }
+    ensures autocommit { conn.new.in_transaction ≡ false }
+    ensures limit { conn.new.step_limit ≡ conn.old.step_limit }
+    ensures migrated { HasCleanDisk (state S.Store conn.new) → OnOk result
+        (IsMigrated has_rule (state S.Store conn.old).now (state S.Store conn.new).now) }
+    ensures open { HasCleanDisk (state S.Store conn.new) → OnOk result (IsTrue (state S.Store conn.new).is_open) }
+    ensures err { HasCleanDisk (state S.Store conn.new) → IsTrue (state S.Store conn.new).is_open
+        → OnErr result ((state S.Store conn.new).now ≡ (state S.Store conn.old).now) }
+
+    // What an open after a crash may find: the new version, or behind an error the old one or the new one.
+    ensures crash_ok { HasCleanDisk (state S.Store conn.new) → OnOk result ((db : Trees)
+        → (state S.Store conn.new).may_leave db → db ≡ (state S.Store conn.new).now.trees) }
+    ensures crash_err { HasCleanDisk (state S.Store conn.new) → OnErr result ((db : Trees)
+        → (state S.Store conn.new).may_leave db
+        → (state S.Store conn.old).may_leave db ⊎ AreMigrated has_rule (state S.Store conn.old).now db) }
+{
+    let _settled = conn.is_autocommit();
+    let mut tx = conn.transaction();
+    migrate_tables(&mut tx, has_rule)?;
+    tx.commit()
+}
