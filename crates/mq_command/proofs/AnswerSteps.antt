@@ -7,36 +7,58 @@ use Rattle.mq_frame.specs.declared.message.Reply.TheVariants as says
 use Rattle.mq_frame.specs.declared.message.Id.{Id}
 use Rattle.mq_frame.specs.declared.usage.UsageRow.{UsageRow}
 use Rattle.mq_link.specs.declared.link.Told.{Told}
-use Rattle.mq_command.specs.Asking.{fits, IsAnswered, IsLimit, AnswersLimit, TellsLimit, Limits}
+use Rattle.mq_command.specs.Asking.{fits, IsAnswered}
+use Rattle.mq_command.specs.Orders.{IsOrder, AnswersOrder, Says, Orders}
 use Rattle.mq_command.specs.Report.{AnswersList, AnswersUsage, TakesPage, AsksPage, IsUsage, PrintsRow, ReportsOne}
-use Rattle.mq_command.specs.declared.limit.SetFault.{SetFault}
-use Rattle.mq_command.specs.declared.limit.SetFault.TheVariants.{Over, Conflict, Unanswered, Write}
+use Rattle.mq_command.specs.declared.order.OrderFault.{OrderFault}
+use Rattle.mq_command.specs.declared.order.OrderFault.TheVariants.{Over, OtherLimit, OtherRequest, Retired, Unanswered}
 use Rattle.mq_command.specs.declared.report.ReportFault.{ReportFault}
 use Rattle.mq_command.specs.declared.report.ReportFault.TheVariants as fault
 
-fits_limit : (id : Id) (from_day cap : ℕ) (login : List ℕ) (reply : Reply) → fits (asks.Limit id from_day cap login) reply ≡ true → AnswersLimit reply
-fits_limit its from_day most name (says.Granted id used) answers = cc
-fits_limit its from_day most name (says.Full id used cap) answers = cc
-fits_limit its from_day most name (says.Settled id count) answers = cc
-fits_limit its from_day most name (says.Released id held) answers = cc
-fits_limit its from_day most name (says.LimitSet id) answers = tt
-fits_limit its from_day most name (says.Over id day used) answers = tt
-fits_limit its from_day most name (says.Closed id) answers = cc
-fits_limit its from_day most name (says.Mismatch id) answers = cc
-fits_limit its from_day most name (says.TooMany id held) answers = cc
-fits_limit its from_day most name (says.Conflict id) answers = tt
-fits_limit its from_day most name (says.Usage login day settled reserved cap) answers = cc
-fits_limit its from_day most name (says.List day rows) answers = cc
-fits_limit its from_day most name (says.Bad) answers = cc
-fits_limit its from_day most name (says.Retry) answers = cc
+to_limit : (id : Id) (from_day cap : ℕ) (login : List ℕ) (reply : Reply) → fits (asks.Limit id from_day cap login) reply ≡ true → AnswersOrder (asks.Limit id from_day cap login) reply
+to_limit its from_day most name (says.Granted id used) answers = cc
+to_limit its from_day most name (says.Full id used cap) answers = cc
+to_limit its from_day most name (says.Settled id count) answers = cc
+to_limit its from_day most name (says.Released id held) answers = cc
+to_limit its from_day most name (says.LimitSet id) answers = tt
+to_limit its from_day most name (says.Over id day used) answers = tt
+to_limit its from_day most name (says.Closed id) answers = cc
+to_limit its from_day most name (says.Mismatch id) answers = cc
+to_limit its from_day most name (says.TooMany id held) answers = cc
+to_limit its from_day most name (says.Conflict id) answers = tt
+to_limit its from_day most name (says.Usage login day settled reserved cap) answers = cc
+to_limit its from_day most name (says.List day rows) answers = cc
+to_limit its from_day most name (says.Bad) answers = cc
+to_limit its from_day most name (says.Retry) answers = cc
+to_limit its from_day most name (says.Retired id) answers = cc
+to_limit its from_day most name (says.Old id) answers = tt
 
-pub to_limit : (request : Request) (reply : Reply) → IsLimit request → fits request reply ≡ true → AnswersLimit reply
-to_limit (asks.Reserve id txn at login count) reply is answers = absurd is
-to_limit (asks.Settle id txn at login count) reply is answers = absurd is
-to_limit (asks.Release id txn at login) reply is answers = absurd is
-to_limit (asks.Limit id from_day cap login) reply is answers = fits_limit id from_day cap login reply answers
-to_limit (asks.Usage login day) reply is answers = absurd is
-to_limit (asks.List day after) reply is answers = absurd is
+to_retire : (id : Id) (reply : Reply) → fits (asks.Retire id) reply ≡ true → AnswersOrder (asks.Retire id) reply
+to_retire its (says.Granted id used) answers = cc
+to_retire its (says.Full id used cap) answers = cc
+to_retire its (says.Settled id count) answers = cc
+to_retire its (says.Released id held) answers = cc
+to_retire its (says.LimitSet id) answers = cc
+to_retire its (says.Over id day used) answers = cc
+to_retire its (says.Closed id) answers = cc
+to_retire its (says.Mismatch id) answers = cc
+to_retire its (says.TooMany id held) answers = cc
+to_retire its (says.Conflict id) answers = tt
+to_retire its (says.Usage login day settled reserved cap) answers = cc
+to_retire its (says.List day rows) answers = cc
+to_retire its (says.Bad) answers = cc
+to_retire its (says.Retry) answers = cc
+to_retire its (says.Retired id) answers = tt
+to_retire its (says.Old id) answers = tt
+
+pub to_order : (request : Request) (reply : Reply) → IsOrder request → fits request reply ≡ true → AnswersOrder request reply
+to_order (asks.Reserve id txn at login count) reply is answers = absurd is
+to_order (asks.Settle id txn at login count) reply is answers = absurd is
+to_order (asks.Release id txn at login) reply is answers = absurd is
+to_order (asks.Limit id from_day cap login) reply is answers = to_limit id from_day cap login reply answers
+to_order (asks.Usage login day) reply is answers = absurd is
+to_order (asks.List day after) reply is answers = absurd is
+to_order (asks.Retire id) reply is answers = to_retire id reply answers
 
 pub to_usage : (name : List ℕ) (on : ℕ) (reply : Reply) → fits (asks.Usage name on) reply ≡ true → AnswersUsage reply
 to_usage name on (says.Granted id used) answers = cc
@@ -53,6 +75,8 @@ to_usage name on (says.Usage login day settled reserved cap) answers = tt
 to_usage name on (says.List day rows) answers = cc
 to_usage name on (says.Bad) answers = cc
 to_usage name on (says.Retry) answers = cc
+to_usage name on (says.Retired id) answers = cc
+to_usage name on (says.Old id) answers = cc
 
 pub to_list : (on : ℕ) (after : List ℕ) (reply : Reply) → fits (asks.List on after) reply ≡ true → AnswersList reply
 to_list on after (says.Granted id used) answers = cc
@@ -69,15 +93,18 @@ to_list on after (says.Usage login day settled reserved cap) answers = cc
 to_list on after (says.List day rows) answers = tt
 to_list on after (says.Bad) answers = cc
 to_list on after (says.Retry) answers = cc
+to_list on after (says.Retired id) answers = cc
+to_list on after (says.Old id) answers = cc
 
--- a limit that was answered and told
-pub limit_told : (request : Request) (reply : Reply) (told told' : Option (List Told)) (old new : Option (List ℕ)) (ended : Result (Unit {0}) SetFault)
-    → IsAnswered request reply told told' → TellsLimit reply old new ended → Limits request told told' old new ended
-limit_told request reply told told' old new (Ok u) answered (id, is, printed) = (id, subst (λ r. IsAnswered request r told told') is answered, printed)
-limit_told request reply told told' old new (Err Write) answered (id, is, front) = (id, subst (λ r. IsAnswered request r told told') is answered, front)
-limit_told request reply told told' old new (Err (Over day used)) answered (id, is, kept) = (id, subst (λ r. IsAnswered request r told told') is answered, kept)
-limit_told request reply told told' old new (Err Conflict) answered (id, is, kept) = (id, subst (λ r. IsAnswered request r told told') is answered, kept)
-limit_told request reply told told' old new (Err (Unanswered cause)) answered never = absurd never
+-- an order that was answered
+pub order_answered : (request : Request) (reply : Reply) (told told' : Option (List Told)) (ended : Result (Unit {0}) OrderFault)
+    → IsAnswered request reply told told' → Says request reply ended → Orders request told told' ended
+order_answered request reply told told' (Ok u) answered says = (reply, answered, says)
+order_answered request reply told told' (Err (Over day used)) answered says = (reply, answered, says)
+order_answered request reply told told' (Err OtherLimit) answered says = (reply, answered, says)
+order_answered request reply told told' (Err OtherRequest) answered says = (reply, answered, says)
+order_answered request reply told told' (Err Retired) answered says = (reply, answered, says)
+order_answered request reply told told' (Err (Unanswered cause)) answered never = absurd never
 
 -- a page that was answered and taken, or not taken
 pub page_taken : (day : ℕ) (asked after : List ℕ) (reply : Reply) (told told' : Option (List Told)) (ended : Result (List UsageRow) ReportFault)

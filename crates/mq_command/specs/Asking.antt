@@ -1,31 +1,29 @@
 -- What an administrator's question to the quota server brings.
 use Rattle.std.specs.Prelude.{◌≡◌, ◌<◌, ◌==◌, ℕ, List, [], ◌∷◌, ◌++◌, Bool, true, false, length, ◌&&◌, ◌⊎◌, Option}
-use Rattle.std.specs.Prelude.{Result, Ok, Err, codes, ⊤}
+use Rattle.std.specs.Prelude.{Result, Ok, Err}
 use Rattle.std.specs.List.{All}
-use Rattle.std.specs.Io.KnownBytes.{Appends, Keeps}
-use Rattle.mq_frame.specs.Range.{IsRequest}
 use Rattle.mq_frame.specs.Same.{same_id, same_text}
 use Rattle.mq_frame.specs.Spelling.{SpellsReply, frame, request_body}
 use Rattle.mq_frame.specs.declared.message.Request.{Request}
 use Rattle.mq_frame.specs.declared.message.Request.TheVariants as asks
 use Rattle.mq_frame.specs.declared.message.Reply.{Reply}
 use Rattle.mq_frame.specs.declared.message.Reply.TheVariants as says
-use Rattle.mq_frame.specs.declared.message.Id.{Id}
-use Rattle.mq_command.specs.Output.{AppendsFront}
 use Rattle.mq_command.specs.declared.ask.AskFault.{AskFault}
 use Rattle.mq_command.specs.declared.ask.AskFault.TheVariants.{Unavailable, Memory}
-use Rattle.mq_command.specs.declared.limit.SetFault.{SetFault}
-use Rattle.mq_command.specs.declared.limit.SetFault.TheVariants.{Over, Conflict, Unanswered, Write}
 use Rattle.mq_link.specs.Link.{Tells}
 use Rattle.mq_link.specs.declared.link.Outcome.{Outcome}
 use Rattle.mq_link.specs.declared.link.Outcome.TheVariants.{Answered, Faulted}
 use Rattle.mq_link.specs.declared.link.Told.{Told}
 
--- whether a reply answers a limit, a usage or a list
+-- whether a reply answers a limit, a retire, a usage or a list
 abbrev pub fits : Request → Reply → Bool
 fits (asks.Limit id from_day cap login) (says.LimitSet other) = same_id id other
 fits (asks.Limit id from_day cap login) (says.Over other day used) = same_id id other
 fits (asks.Limit id from_day cap login) (says.Conflict other) = same_id id other
+fits (asks.Limit id from_day cap login) (says.Old other) = same_id id other
+fits (asks.Retire id) (says.Retired other) = same_id id other
+fits (asks.Retire id) (says.Conflict other) = same_id id other
+fits (asks.Retire id) (says.Old other) = same_id id other
 fits (asks.Usage login day) (says.Usage other day' settled reserved cap) = same_text login other && (day == day')
 fits (asks.List day after) (says.List day' rows) = true
 fits _ _ = false
@@ -84,43 +82,6 @@ abbrev pub Asks : Request → Option (List Told) → Option (List Told) → Resu
 Asks request old new (Ok reply) = IsAnswered request reply old new
 Asks request old new (Err Unavailable) = IsUnanswered request 3 old new
 Asks request old new (Err Memory) = (new ≡ old) ⊎ IsUndecoded request old new
-
--- a limit whose fields are in range
-abbrev pub IsLimit : Request → Type 0
-IsLimit (asks.Limit id from_day cap login) = IsRequest (asks.Limit id from_day cap login)
-IsLimit _ = ⊥
-
--- what a limit that is set prints
-abbrev pub set_line : List ℕ
-set_line = codes "set\n"
-
--- What sending a limit leads to: `set` is printed only where the server has set it.
-abbrev pub Limits : Request → Option (List Told) → Option (List Told) → Option (List ℕ) → Option (List ℕ)
-    → Result (Unit {0}) SetFault → Type 0
-Limits request told told' old new (Ok _) =
-    (id : Id) × IsAnswered request (says.LimitSet id) told told' × Appends old new set_line
-Limits request told told' old new (Err Write) =
-    (id : Id) × IsAnswered request (says.LimitSet id) told told' × AppendsFront old new set_line
-Limits request told told' old new (Err (Over day used)) =
-    (id : Id) × IsAnswered request (says.Over id day used) told told' × Keeps old new
-Limits request told told' old new (Err Conflict) =
-    (id : Id) × IsAnswered request (says.Conflict id) told told' × Keeps old new
-Limits request told told' old new (Err (Unanswered fault)) = Asks request told told' (Err fault) × Keeps old new
-
--- a reply that may answer a limit
-abbrev pub AnswersLimit : Reply → Type 0
-AnswersLimit (says.LimitSet id) = ⊤
-AnswersLimit (says.Over id day used) = ⊤
-AnswersLimit (says.Conflict id) = ⊤
-AnswersLimit _ = ⊥
-
--- What telling the reply to a limit leads to.
-abbrev pub TellsLimit : Reply → Option (List ℕ) → Option (List ℕ) → Result (Unit {0}) SetFault → Type 0
-TellsLimit reply old new (Ok _) = (id : Id) × (reply ≡ says.LimitSet id) × Appends old new set_line
-TellsLimit reply old new (Err Write) = (id : Id) × (reply ≡ says.LimitSet id) × AppendsFront old new set_line
-TellsLimit reply old new (Err (Over day used)) = (id : Id) × (reply ≡ says.Over id day used) × Keeps old new
-TellsLimit reply old new (Err Conflict) = (id : Id) × (reply ≡ says.Conflict id) × Keeps old new
-TellsLimit reply old new (Err (Unanswered fault)) = ⊥
 
 -- 0 where all is done and printed, else 1
 abbrev pub status_of : {Fault : Type 0} → Result (Unit {0}) Fault → ℕ

@@ -1,5 +1,6 @@
 pub mod Asking
 pub mod Connections
+pub mod Orders
 pub mod Output
 pub mod Replay
 pub mod Report

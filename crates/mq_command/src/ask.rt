@@ -36,7 +36,7 @@ impl From<Memory> for AskFault {
     }
 }
 
-/// Whether a reply answers a limit, a usage or a list.
+/// Whether a reply answers a limit, a retire, a usage or a list.
 fn fits(request: &Request, reply: &Reply) -> bool
     ensures { result ≡ fits request.now reply.now }
 {
@@ -44,6 +44,10 @@ fn fits(request: &Request, reply: &Reply) -> bool
         (Request::Limit { id, .. }, Reply::LimitSet { id: other }) => id.is_same(other),
         (Request::Limit { id, .. }, Reply::Over { id: other, .. }) => id.is_same(other),
         (Request::Limit { id, .. }, Reply::Conflict { id: other }) => id.is_same(other),
+        (Request::Limit { id, .. }, Reply::Old { id: other }) => id.is_same(other),
+        (Request::Retire { id }, Reply::Retired { id: other }) => id.is_same(other),
+        (Request::Retire { id }, Reply::Conflict { id: other }) => id.is_same(other),
+        (Request::Retire { id }, Reply::Old { id: other }) => id.is_same(other),
         (
             Request::Usage { login, day },
             Reply::Usage {

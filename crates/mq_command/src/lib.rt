@@ -1,9 +1,9 @@
-//! What the subcommands `limit`, `report` and `replay` do, over any link, ledger, text and output.
+//! What the subcommands `limit`, `retire`, `report` and `replay` do, over any link, ledger, text and output.
 #![tactic(auto)]
 
 mod ask;
 mod connections;
-mod limit;
+mod order;
 mod output;
 mod printed;
 mod replay;
@@ -11,7 +11,7 @@ mod report;
 
 pub use ask::{AskFault, TRIES};
 pub use connections::{TEXT_LIMIT, TextFault, read_connections};
-pub use limit::{SetFault, run_limit};
+pub use order::{OrderFault, run_limit, run_retire};
 pub use output::{OutputFault, write_whole};
 pub use printed::login_text;
 pub use replay::{Ending, ReplayFault, replay_over};

@@ -10,6 +10,8 @@
 #[cfg(test)]
 mod filter_end;
 #[cfg(test)]
+mod orders;
+#[cfg(test)]
 mod questions;
 #[cfg(test)]
 mod server_end;

@@ -1,0 +1,75 @@
+-- What an administrator's order brings: a limit of a login, or that a host's runs are given up.
+use Rattle.std.specs.Prelude.{◌≡◌, ◌⊎◌, ℕ, List, Option, Result, Ok, Err, codes, ⊤}
+use Rattle.std.specs.Io.KnownBytes.{Appends, Keeps}
+use Rattle.mq_frame.specs.Range.{IsRequest}
+use Rattle.mq_frame.specs.declared.message.Request.{Request}
+use Rattle.mq_frame.specs.declared.message.Request.TheVariants as asks
+use Rattle.mq_frame.specs.declared.message.Reply.{Reply}
+use Rattle.mq_frame.specs.declared.message.Reply.TheVariants as says
+use Rattle.mq_frame.specs.declared.message.Id.{Id}
+use Rattle.mq_command.specs.Asking.{Asks, IsAnswered}
+use Rattle.mq_command.specs.Output.{AppendsFront}
+use Rattle.mq_command.specs.declared.order.OrderFault.{OrderFault}
+use Rattle.mq_command.specs.declared.order.OrderFault.TheVariants.{Over, OtherLimit, OtherRequest, Retired, Unanswered}
+use Rattle.mq_link.specs.declared.link.Told.{Told}
+
+-- a limit whose fields are in range
+abbrev pub IsLimit : Request → Type 0
+IsLimit (asks.Limit id from_day cap login) = IsRequest (asks.Limit id from_day cap login)
+IsLimit _ = ⊥
+
+-- a retire whose fields are in range
+abbrev pub IsRetire : Request → Type 0
+IsRetire (asks.Retire id) = IsRequest (asks.Retire id)
+IsRetire _ = ⊥
+
+-- a limit or a retire, whose fields are in range
+abbrev pub IsOrder : Request → Type 0
+IsOrder (asks.Limit id from_day cap login) = IsRequest (asks.Limit id from_day cap login)
+IsOrder (asks.Retire id) = IsRequest (asks.Retire id)
+IsOrder _ = ⊥
+
+-- the reply by which the server says that it carried an order out
+abbrev pub done : Request → Id → Reply
+done (asks.Retire id') id = says.Retired id
+done _ id = says.LimitSet id
+
+-- what is printed of an order that is carried out
+abbrev pub word : Request → List ℕ
+word (asks.Retire id) = codes "retired\n"
+word _ = codes "set\n"
+
+-- the fault where the number of an order was used with another request
+abbrev pub conflict : Request → OrderFault
+conflict (asks.Retire id) = OtherRequest
+conflict _ = OtherLimit
+
+-- a reply that may answer an order
+abbrev pub AnswersOrder : Request → Reply → Type 0
+AnswersOrder (asks.Limit id' from_day cap login) (says.LimitSet id) = ⊤
+AnswersOrder (asks.Limit id' from_day cap login) (says.Over id day used) = ⊤
+AnswersOrder (asks.Retire id') (says.Retired id) = ⊤
+AnswersOrder request (says.Conflict id) = ⊤
+AnswersOrder request (says.Old id) = ⊤
+AnswersOrder _ _ = ⊥
+
+-- What a reply says of an order.
+abbrev pub Says : Request → Reply → Result (Unit {0}) OrderFault → Type 0
+Says request reply (Ok _) = (id : Id) × (reply ≡ done request id)
+Says request reply (Err (Over day used)) = (id : Id) × (reply ≡ says.Over id day used)
+Says request reply (Err OtherLimit) = (id : Id) × (reply ≡ says.Conflict id) × (conflict request ≡ OtherLimit)
+Says request reply (Err OtherRequest) = (id : Id) × (reply ≡ says.Conflict id) × (conflict request ≡ OtherRequest)
+Says request reply (Err Retired) = (id : Id) × (reply ≡ says.Old id)
+Says request reply (Err (Unanswered fault)) = ⊥
+
+-- What sending an order leads to: what the reply says that answers it, or why there is none.
+abbrev pub Orders : Request → Option (List Told) → Option (List Told) → Result (Unit {0}) OrderFault → Type 0
+Orders request told told' (Err (Unanswered fault)) = Asks request told told' (Err fault)
+Orders request told told' ended = (reply : Reply) × IsAnswered request reply told told' × Says request reply ended
+
+-- What telling it prints: the word where all is done, and nothing where it isn't. The status is 0 where the word is
+-- printed whole, else 1.
+abbrev pub Prints : {X : Type 0} → (X → List ℕ) → Option (List ℕ) → Option (List ℕ) → Result X OrderFault → ℕ → Type 0
+Prints word old new (Ok done) status =
+    ((status ≡ 0) × Appends old new (word done)) ⊎ ((status ≡ 1) × AppendsFront old new (word done))
+Prints word old new (Err fault) status = (status ≡ 1) × Keeps old new
