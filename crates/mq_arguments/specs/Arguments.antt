@@ -4,7 +4,7 @@ use Rattle.mq_frame.specs.Range.{IsRun, IsDay, IsAmount, IsWithin}
 use Rattle.mq_arguments.specs.declared.ReplayArguments.{ReplayArguments}
 use Rattle.mq_arguments.specs.declared.LimitArguments.{LimitArguments}
 use Rattle.mq_arguments.specs.declared.Arguments.{Arguments}
-use Rattle.mq_arguments.specs.declared.Arguments.TheVariants.{Replay, Filter, Server, Limit, Report, Audit}
+use Rattle.mq_arguments.specs.declared.Arguments.TheVariants.{Replay, Filter, Server, Limit, Retire, Report, Audit}
 
 -- a limit of 0 to 1,000,000, and at most 1,439 minutes either way
 pub record IsReplayArguments (given : ReplayArguments) : Type 0 where
@@ -23,5 +23,6 @@ IsArguments (Replay given) = IsReplayArguments given
 IsArguments (Filter given) = IfSome given.run IsRun
 IsArguments (Server given) = IsWithin 1 1000000 given.connections
 IsArguments (Limit given) = IsLimitArguments given
+IsArguments (Retire given) = IfSome given.run IsRun
 IsArguments (Report given) = IsDay given.day
 IsArguments (Audit given) = ⊤

@@ -57,6 +57,16 @@ pub struct LimitArguments<'a> {
     pub run: Option<u64>,
 }
 
+/// What `retire` is given.
+#[derive(Clone, Copy, Debug, PartialEq)]
+pub struct RetireArguments<'a> {
+    pub server: &'a str,
+    /// The host whose runs are given up.
+    pub host: &'a str,
+    /// The number of the run below which they are given up, or the clock's.
+    pub run: Option<u64>,
+}
+
 /// What `report` is given.
 #[derive(Clone, Copy, Debug, PartialEq)]
 pub struct ReportArguments<'a> {
@@ -74,6 +84,7 @@ pub enum Arguments<'a> {
     Filter(FilterArguments<'a>),
     Server(ServerArguments<'a>),
     Limit(LimitArguments<'a>),
+    Retire(RetireArguments<'a>),
     Report(ReportArguments<'a>),
     Audit(AuditArguments<'a>),
 }

@@ -7,7 +7,7 @@ use Rattle.mq_ledger.specs.declared.zone.Zone.{Zone}
 use Rattle.mq_program.specs.Refusals.{IsRuleAlone, IsZoneOf, Refuses}
 use Rattle.mq_program.specs.Faults.{fault_status}
 use Rattle.mq_arguments.specs.declared.Arguments.{Arguments}
-use Rattle.mq_arguments.specs.declared.Arguments.TheVariants.{Replay, Filter, Server, Limit, Report, Audit}
+use Rattle.mq_arguments.specs.declared.Arguments.TheVariants.{Replay, Filter, Server, Limit, Retire, Report, Audit}
 use Rattle.mq_program.specs.declared.fault.ProgramFault.{ProgramFault}
 use Rattle.mq_program.specs.declared.fault.ProgramFault.TheVariants.{Host, Login, Address, Rule}
 
@@ -45,6 +45,10 @@ for_refusals (Limit given) A B step refuses = record {
   host = λ no. step Host (refuses.host no);
   login = λ host no. step Login (refuses.login host no);
   address = λ host login no. step Address (refuses.address host login no);
+}
+for_refusals (Retire given) A B step refuses = record {
+  host = λ no. step Host (refuses.host no);
+  address = λ host no. step Address (refuses.address host no);
 }
 for_refusals (Report given) A B step refuses = record {
   login = for_login given.login (A Login) (B Login) (step Login) refuses.login;

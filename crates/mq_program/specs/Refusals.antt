@@ -8,9 +8,10 @@ use Rattle.mq_ledger.specs.declared.zone.Zone.{Zone}
 use Rattle.mq_ledger.specs.Day.{ByOffset, ByRule, IsRule}
 use Rattle.mq_arguments.specs.declared.ReplayArguments.{ReplayArguments}
 use Rattle.mq_arguments.specs.declared.LimitArguments.{LimitArguments}
+use Rattle.mq_arguments.specs.declared.RetireArguments.{RetireArguments}
 use Rattle.mq_arguments.specs.declared.ReportArguments.{ReportArguments}
 use Rattle.mq_arguments.specs.declared.Arguments.{Arguments}
-use Rattle.mq_arguments.specs.declared.Arguments.TheVariants.{Replay, Limit, Report}
+use Rattle.mq_arguments.specs.declared.Arguments.TheVariants.{Replay, Limit, Retire, Report}
 use Rattle.mq_program.specs.declared.fault.ProgramFault.{ProgramFault}
 use Rattle.mq_program.specs.declared.fault.ProgramFault.TheVariants.{Host, Login, Address, Rule}
 use Rattle.mq_settings.specs.declared.settings.FilterSettings.{FilterSettings}
@@ -34,6 +35,11 @@ pub record LimitRefuses (given : LimitArguments) (EndsBy : ProgramFault → Type
   pub host : ¬ IsHost given.host.now → EndsBy Host
   pub login : IsHost given.host.now → ¬ IsLogin given.login.now → EndsBy Login
   pub address : IsHost given.host.now → IsLogin given.login.now → IsNoAddress given.server.now → EndsBy Address
+
+-- how `retire` ends where a word of it is at fault: the host goes before the address
+pub record RetireRefuses (given : RetireArguments) (EndsBy : ProgramFault → Type 0) : Type 0 where
+  pub host : ¬ IsHost given.host.now → EndsBy Host
+  pub address : IsHost given.host.now → IsNoAddress given.server.now → EndsBy Address
 
 -- how `report` ends where a word of it is at fault: the login goes before the address
 pub record ReportRefuses (given : ReportArguments) (EndsBy : ProgramFault → Type 0) : Type 0 where
@@ -65,5 +71,6 @@ ReplayRefuses given EndsBy = IfSome given.rule (λ text. ¬ IsRuleAlone given.ea
 abbrev pub Refuses : Arguments → (ProgramFault → Type 0) → Type 0
 Refuses (Replay given) EndsBy = ReplayRefuses given EndsBy
 Refuses (Limit given) EndsBy = LimitRefuses given EndsBy
+Refuses (Retire given) EndsBy = RetireRefuses given EndsBy
 Refuses (Report given) EndsBy = ReportRefuses given EndsBy
 Refuses _ EndsBy = ⊤

@@ -11,7 +11,7 @@ mod server;
 mod store;
 mod subcommand;
 
-pub use admin::{limit, report};
+pub use admin::{limit, report, retire};
 pub use auditing::{audit, audit_ledger};
 pub use clock::run_number;
 pub use fault::{ProgramFault, or_memory};

@@ -4,7 +4,7 @@ ghost use Rattle.mq_arguments.specs.Arguments.{IsArguments};
 ghost use Rattle.mq_program.specs.Faults.{fault_status};
 ghost use Rattle.mq_program.specs.Refusals.{Refuses};
 
-use crate::admin::{limit, report};
+use crate::admin::{limit, report, retire};
 use crate::auditing::audit;
 use crate::fault::ProgramFault;
 use crate::filter::filter;
@@ -47,6 +47,7 @@ fn status_of<E: Write>(
         Arguments::Filter(given) => filter(rt, given),
         Arguments::Server(given) => server(rt, given),
         Arguments::Limit(given) => limit(rt, given, errors),
+        Arguments::Retire(given) => retire(rt, given, errors),
         Arguments::Report(given) => report(rt, given, errors),
         Arguments::Audit(given) => audit(rt, given, &mut io::writer(rt)),
     }

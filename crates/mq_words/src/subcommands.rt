@@ -87,6 +87,24 @@ const HOST: CommandOption = CommandOption {
     default: None,
 };
 
+const RETIRED_HOST: CommandOption = CommandOption {
+    name: "host",
+    value: "HOST",
+    help: "Host whose earlier runs are given up",
+    takes: Takes::Text,
+    is_required: true,
+    default: None,
+};
+
+const RETIRED_RUN: CommandOption = CommandOption {
+    name: "run",
+    value: "N",
+    help: "Run below which they are given up, no filter's own; the clock's milliseconds where it isn't given",
+    takes: Takes::Number(1, 281_474_976_710_655),
+    is_required: false,
+    default: None,
+};
+
 const LOGIN: CommandOption = CommandOption {
     name: "login",
     value: "LOGIN",
@@ -178,7 +196,7 @@ const RULE: CommandOption = CommandOption {
 };
 
 /// The subcommands, in the order in which people need them.
-pub const SUBCOMMANDS: [Subcommand; 6] = [
+pub const SUBCOMMANDS: [Subcommand; 7] = [
     Subcommand {
         name: "server",
         about: "Serve the ledger to filters",
@@ -193,6 +211,11 @@ pub const SUBCOMMANDS: [Subcommand; 6] = [
         name: "limit",
         about: "Set the limit of a login from a day on",
         options: &[SERVER, HOST, LOGIN, FROM, CAP, RUN],
+    },
+    Subcommand {
+        name: "retire",
+        about: "Give up a host's earlier runs: settle what they hold, forget their replies",
+        options: &[SERVER, RETIRED_HOST, RETIRED_RUN],
     },
     Subcommand {
         name: "report",

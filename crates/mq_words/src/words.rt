@@ -8,7 +8,7 @@ use clap::error::ErrorKind;
 use clap::{Arg, ArgAction, ArgMatches, Command, Error, value_parser};
 use mq_arguments::{
     Arguments, AuditArguments, FilterArguments, LimitArguments, ReplayArguments, ReportArguments,
-    ServerArguments,
+    RetireArguments, ServerArguments,
 };
 use std::alloc::{AllocError, Global};
 
@@ -61,6 +61,11 @@ pub fn read_arguments<'a>(alloc: Global, words: &'a [String]) -> Result<Argument
             login: text_of(found, "login"),
             from: number_of(found, "from", 0, 376_200),
             cap: number_of(found, "cap", 0, 1_000_000),
+            run: run_of(found),
+        })),
+        Some(("retire", found)) => Ok(Arguments::Retire(RetireArguments {
+            server: text_of(found, "server"),
+            host: text_of(found, "host"),
             run: run_of(found),
         })),
         Some(("report", found)) => Ok(Arguments::Report(ReportArguments {
