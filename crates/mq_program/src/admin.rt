@@ -3,18 +3,15 @@ ghost use Rattle.std.specs.Prelude.{◌≡◌, IfOk, MatchResult};
 ghost use Rattle.std.specs.Net.Grammar.{IsSocketText};
 ghost use Rattle.mq_program.specs.Refusals.{IsNoAddress};
 
-mod limit;
-mod report;
-mod retire;
+pub mod limit;
+pub mod report;
+pub mod retire;
 
 use crate::fault::ProgramFault;
-pub use limit::limit;
 use log::Log;
 use mq_command::TRIES;
 use mq_frame::{Host, Id};
 use mq_tcp::{Connector, LoggedLink, TcpLink};
-pub use report::report;
-pub use retire::retire;
 use std::alloc::{AllocError, Global};
 use std::net::{Net, SocketAddr};
 use std::rt::Clock;

@@ -11,7 +11,9 @@ mod server;
 mod store;
 mod subcommand;
 
-pub use admin::{limit, report, retire};
+pub use admin::limit::limit;
+pub use admin::report::report;
+pub use admin::retire::retire;
 pub use auditing::{audit, audit_ledger};
 pub use clock::run_number;
 pub use fault::{ProgramFault, or_memory};

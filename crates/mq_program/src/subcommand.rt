@@ -4,7 +4,9 @@ ghost use Rattle.mq_arguments.specs.Arguments.{IsArguments};
 ghost use Rattle.mq_program.specs.Faults.{fault_status};
 ghost use Rattle.mq_program.specs.Refusals.{Refuses};
 
-use crate::admin::{limit, report, retire};
+use crate::admin::limit::limit;
+use crate::admin::report::report;
+use crate::admin::retire::retire;
 use crate::auditing::audit;
 use crate::fault::ProgramFault;
 use crate::filter::filter;
