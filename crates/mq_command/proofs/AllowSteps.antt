@@ -11,13 +11,12 @@ room_more refused grown is =
     ap (λ r. min (r * 2 + 8) 1000000) is ∙ ap room next
 
 nothing_more : (old new : Option (List ℕ)) → Keeps old new → Appends old new []
-nothing_more None None kept = tt
-nothing_more None (Some new) kept = absurd kept
-nothing_more (Some old) None kept = tt
+nothing_more None new kept = tt
+nothing_more (Some old) None kept = absurd kept
 nothing_more (Some old) (Some new) kept = kept ∙ sym (append-nil old)
 
 -- a line that was told, or that there was no memory for
 pub line_told : {S E : Type 0} (bytes_of : S → List ℕ) (line : Result S E) (text : List ℕ) (old new : Option (List ℕ)) (status : ℕ) → IfOk line (λ l. bytes_of l ≡ text)
     → MatchResult line (λ l. PrintsLine (bytes_of l) old new status) (λ _. (status ≡ 1) × Keeps old new) → PrintsLine text old new status
 line_told bytes_of (Ok line) text old new status is printed = subst (λ t. PrintsLine t old new status) is printed
-line_told bytes_of (Err error) text old new status is (same, kept) = inr (same, [], text, refl, nothing_more old new kept)
+line_told bytes_of (Err error) text old new status is (same, kept) = inr (same, ([], text, refl, nothing_more old new kept))
