@@ -1,5 +1,5 @@
 -- The room that grows with each refusal, and the line that is told.
-use Rattle.std.proofs.Common.{◌≡◌, ◌+◌, ◌*◌, ℕ, suc, List, [], ◌++◌, Option, None, Some, Result, Ok, Err, min, refl, sym, ap, subst, inr, ◌∙◌, append-nil, arith}
+use Rattle.std.proofs.Common.{◌≡◌, ◌+◌, ◌*◌, ℕ, suc, List, [], Option, None, Some, Result, Ok, Err, min, refl, sym, ap, subst, inr, ◌∙◌, append-nil, arith}
 use Rattle.std.specs.Prelude.{IfOk, MatchResult}
 use Rattle.std.specs.Io.KnownBytes.{Appends, Keeps}
 use Rattle.mq_command.specs.Allowing.{room}

@@ -1,4 +1,4 @@
-use Rattle.std.proofs.Common.{◌≡◌, ◌≤◌, ◌+◌, ℕ}
+use Rattle.std.proofs.Common.{◌≡◌, ◌≤◌}
 use Rattle.mq_command.specs.Allowing.{AreRefused, room}
 use Rattle.mq_command.proofs.allow.set_above.Given as goal
 

@@ -1,4 +1,4 @@
-use Rattle.std.proofs.Common.{◌≡◌, ◌+◌, ◌*◌, sym, ap, subst, refl, ◌∙◌, arith}
+use Rattle.std.proofs.Common.{◌+◌, ◌*◌, sym, ap, subst, refl, ◌∙◌, arith}
 use Rattle.mq_command.specs.Orders.{IsOrder, later, no_number, number}
 use Rattle.mq_command.proofs.OrderSteps.{ahead_more, ahead_small, later_none, later_more}
 use Rattle.mq_command.proofs.order.order_fresh.Goals as goal
