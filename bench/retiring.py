@@ -1,0 +1,97 @@
+#!/usr/bin/env python3
+"""Measures what it costs to open a file of version 1 and to retire the run of all its answers.
+
+usage: retiring.py PROGRAM [ANSWERS]
+"""
+import os
+import resource
+import socket
+import sqlite3
+import subprocess
+import sys
+import tempfile
+import time
+from pathlib import Path
+
+TESTS = Path(__file__).resolve().parent.parent / "tests"
+# (the modules of this folder have names of theirs)
+sys.path[0] = str(TESTS / "program")
+sys.path.append(str(TESTS / "model"))
+
+import wire
+from cases.retiring import FIVE_TABLES
+from ends import Server, World, ledger_settings
+
+HOST, RUN, DAY = b"mx1.example.org", 1_700_000_000_000, 20_000
+SENDER = {"host": HOST, "run": RUN}
+MESSAGES_OF_A_LOGIN = 10
+
+
+def login_of(txn):
+    return b"u%06d" % (txn // MESSAGES_OF_A_LOGIN)
+
+
+def answers(transactions):
+    """A reserve and a settle of each transaction, with their replies."""
+    for txn in range(1, transactions + 1):
+        its = {"txn": txn, "login": login_of(txn), "at": 86_400 * DAY, **SENDER}
+        used = txn % MESSAGES_OF_A_LOGIN + 1
+        for n, request, reply in (
+            (2 * txn - 1, wire.reserve(2 * txn - 1, **its), wire.granted(2 * txn - 1, used, **SENDER)),
+            (2 * txn, wire.settle(2 * txn, **its), wire.settled(2 * txn, 1, **SENDER)),
+        ):
+            yield n, HOST, RUN, n, request[2:], reply[2:]
+
+
+def write_file(path, transactions):
+    database = sqlite3.connect(path)
+    for statement in FIVE_TABLES:
+        database.execute(statement)
+    database.execute("INSERT INTO setting VALUES (1, 1, 0, 1000, ?)", (2 * transactions,))
+    database.executemany("INSERT INTO answer VALUES (?, ?, ?, ?, ?, ?)", answers(transactions))
+    of_all = range(1, transactions + 1)
+    database.executemany("INSERT INTO trans VALUES (?, ?, ?, ?, ?, ?, 0, 1, 1)", ((HOST, RUN, txn, login_of(txn), 86_400 * DAY, DAY) for txn in of_all))
+    sent = {}
+    for txn in of_all:
+        sent[login_of(txn)] = sent.get(login_of(txn), 0) + 1
+    database.executemany("INSERT INTO usage VALUES (?, ?, ?, 0)", ((login, DAY, count) for login, count in sorted(sent.items())))
+    database.commit()
+    database.close()
+
+
+def timed(what, go):
+    start = time.monotonic()
+    came = go()
+    print(f"{what}: {time.monotonic() - start:.1f} s", flush=True)
+    return came
+
+
+def asked(address, frame):
+    """What comes back for this frame, however long it takes."""
+    host, _, port = address.rpartition(":")
+    with socket.create_connection((host, int(port))) as peer:
+        peer.sendall(frame)
+        peer.shutdown(socket.SHUT_WR)
+        return b"".join(iter(lambda: peer.recv(65_536), b""))
+
+
+def main():
+    program = os.path.abspath(sys.argv[1])
+    transactions = int(sys.argv[2] if len(sys.argv) > 2 else 1_000_000) // 2
+    with tempfile.TemporaryDirectory() as folder:
+        world = World(program, folder)
+        for name in ("audited", "served"):
+            write_file(f"{folder}/{name}", transactions)
+        audit = [program, "audit", "--config", ledger_settings(world, f"{folder}/audited", default=1_000)]
+        timed("audit of version 1", lambda: subprocess.run(audit, check=True))
+        timed("audit of version 3", lambda: subprocess.run(audit, check=True))
+        print(f"memory of an audit: {resource.getrusage(resource.RUSAGE_CHILDREN).ru_maxrss // 1_000} MB")
+        server = timed("a server's start over version 1", lambda: Server(world, store=f"{folder}/served", default=1_000))
+        with server:
+            timed("the retire", lambda: asked(server.address, wire.retire(1, host=HOST, run=RUN + 1)))
+            with open(f"/proc/{server.process.pid}/status", encoding="ascii") as status:
+                print("the server then:", *[line.strip() for line in status if line.startswith(("VmHWM", "VmRSS"))])
+
+
+if __name__ == "__main__":
+    main()
