@@ -1,8 +1,8 @@
 //! A ledger by a zone rule, one with a retire, and one that is made of a file of an earlier version: a file of theirs stops
 //! at some call, at each in turn, and they are opened anew over what is left of the files.
 
-use super::steps::{Outcome, audit, is_refused, make, open};
 use super::older::FIRST_VERSION;
+use super::steps::{Outcome, audit, is_refused, make, open};
 use super::worked::{RESERVED_TWICE_SETTLED_ONCE, RETIRED};
 use crate::asks::{Asked, Verdict, ask_in_turn, replies, wanted, zone_by};
 use mq_ledger::{Ledger, Zone};
