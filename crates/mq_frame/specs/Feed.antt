@@ -4,12 +4,13 @@ use Rattle.std.specs.Prelude.{Option, Some, None, Result, Ok, Err}
 use Rattle.mq_frame.specs.declared.feed.FrameFault.{FrameFault}
 use Rattle.mq_frame.specs.declared.feed.FrameFault.TheVariants.{TooLong, Empty, CutFrame}
 
--- a feed: the longest body that it gives, the bytes that it was fed and that weren't taken, and how many bytes its
--- buffer holds
+-- a feed: the longest body that it gives, the bytes that it was fed and that weren't taken, how many bytes its buffer
+-- holds, and for how many it has room
 pub record Feed : Type 0 where
   pub limit : ℕ
   pub rest : List ℕ
   pub held : ℕ
+  pub room : ℕ
 
 -- what stands at the front of some bytes: nothing; a part of a frame; the head of a frame with an empty body, or with a
 -- body above the limit; or a whole frame, with its body and the bytes behind it
@@ -53,6 +54,7 @@ pub record Takes (old new : Feed) : Type 0 where
   pub limit : new.limit ≡ old.limit
   pub rest : new.rest ≡ left_by_next (front old.limit old.rest) old.rest
   pub held : new.held ≡ old.held
+  pub room : new.room ≡ old.room
 
 -- what is said at the end of the stream
 abbrev pub finish_answer : Front → Result (Unit {0}) FrameFault

@@ -1,5 +1,5 @@
 //! The frames of a stream, in whatever pieces it comes.
-ghost use Rattle.std.specs.Prelude.{◌≡◌, ◌≤◌, ◌↔◌, [], ◌++◌, length, OnOk, OnErr, IsOk, Ok, Err, MatchResult};
+ghost use Rattle.std.specs.Prelude.{◌≡◌, ◌<◌, ◌≤◌, ◌+◌, ◌↔◌, [], ◌++◌, length, OnOk, OnErr, IsOk, Ok, Err, MatchResult};
 ghost use Rattle.std.specs.Option.{option_copied};
 ghost use Rattle.std.specs.Borrow.{sem};
 ghost use Rattle.std.specs.Io.BufRead.{Rests};
@@ -50,7 +50,7 @@ pub struct FrameFeed {
 }
 
 impl Model for FrameFeed {
-    ghost use Rattle.std.specs.Prelude.{drop, ◌≤◌, length};
+    ghost use Rattle.std.specs.Prelude.{drop, ◌≤◌, length, vec_capacity};
     ghost use Rattle.mq_frame.specs.Feed.{Feed};
 
     ghost Value = { Feed };
@@ -59,6 +59,7 @@ impl Model for FrameFeed {
       limit = feed.limit;
       rest = drop feed.taken feed.bytes.items;
       held = length feed.bytes.items;
+      room = vec_capacity feed.bytes;
     } };
 
     ghost invariant = { λ feed. feed.taken ≤ length feed.bytes.items };
@@ -89,6 +90,10 @@ impl FrameFeed {
         // What is held is what wasn't taken, and after a refused growth no more than before.
         ensures held { OnOk result (self.new.held ≡ length self.new.rest) }
         ensures held_at_err { OnErr result (self.new.held ≤ self.old.held) }
+
+        // Memory is answered only where there is no room for the rest and the piece, and room never shrinks.
+        ensures full { OnErr result (self.old.room < length self.old.rest + length piece.now) }
+        ensures room { self.old.room ≤ self.new.room }
     {
         self.give_up_taken();
         self.bytes.extend_from_slice(piece)?;
@@ -101,6 +106,7 @@ impl FrameFeed {
         ensures rest { self.new.rest ≡ self.old.rest }
         ensures held { self.new.held ≡ length self.new.rest }
         ensures less { self.new.held ≤ self.old.held }
+        ensures room { self.new.room ≡ self.old.room }
     {
         if self.taken > 0 {
             let end = self.bytes.len();
