@@ -1,6 +1,9 @@
 -- How the life of a connection goes on as it answers.
-use Rattle.std.proofs.Common.{◌≡◌, ℕ, suc, ◌+◌, ◌<◌, ◌≤◌, List, [], ◌∷◌, ◌++◌, length, map, refl, sym, ap, subst, ◌∙◌, append-nil, append_assoc, length-append, arith, inl, inr, Option, Some, None, Result, Ok, Err, Bool, false}
+use Rattle.std.proofs.Common.{◌≡◌, ℕ, suc, ◌+◌, ◌<◌, ◌≤◌, List, [], ◌∷◌, ◌++◌, length, map, refl, sym, ap, subst, ◌∙◌, append-nil, append_assoc, length-append, arith, inl, inr, Option, Some, None, Result, Ok, Err, Bool, false, true}
 use Rattle.std.proofs.lemmas.List.{map-append}
+use Rattle.std.specs.Prelude.{IsSome}
+use Rattle.std.specs.Option.{option_to_list}
+use Rattle.mq_frame.specs.declared.message.Request.{Request}
 use Rattle.mq_frame.specs.declared.message.Reply.{Reply}
 use Rattle.mq_frame.specs.declared.message.Reply.TheVariants.{Bad}
 use Rattle.mq_frame.specs.Feed.{Whole}
@@ -8,24 +11,26 @@ use Rattle.mq_frame.specs.Spelling.{SpellsRequest, frame, reply_body}
 use Rattle.mq_ledger.specs.declared.entry.Entry.{Entry}
 use Rattle.mq_ledger.specs.declared.ledger.Told.{Told}
 use Rattle.mq_ledger.specs.Legal.{Book, IsLegalBook}
+use Rattle.mq_ledger.specs.Told.{Tells}
 use Rattle.mq_server.specs.declared.connection.Progress.{Progress}
 use Rattle.mq_server.specs.declared.connection.Progress.TheVariants.{Answered, Waits, Ended}
 use Rattle.mq_server.specs.declared.connection.Served.{Served}
 use Rattle.mq_server.specs.declared.connection.Served.TheVariants.{InputEnd, Enough, BadFrame, CutFrame}
 use Rattle.mq_server.specs.declared.fault.ServeFault.{ServeFault}
 use Rattle.mq_server.specs.declared.fault.ServeFault.TheVariants.{Read, Write, Memory, Store}
-use Rattle.mq_server.specs.Delivery.{Delivery, asked, answers, answers_after, answer_to, history_after}
+use Rattle.mq_server.specs.Delivery.{Delivery, asked, answers, answers_after, answer_to, call, failed_call, history_after}
 use Rattle.mq_server.specs.Held.{State}
-use Rattle.mq_server.specs.Life.{AreAnswered, Counts, Exchange, HasReplies, Life, Lives, deliveries, replies_of, with_exchanges}
+use Rattle.mq_server.specs.Life.{AreAnswered, Counts, Exchange, HasReplies, Life, Lives, MakesCalls, deliveries, replies_of, told_of, with_exchanges}
 use Rattle.mq_server.specs.State.{Goes, Steps}
 use Rattle.mq_server.specs.Text.{Asks, IsBad, IsPartial, frames_of, next}
 use Rattle.mq_server.proofs.Deliveries.{Follows, answer_more, history_more, history_none}
 use Rattle.mq_server.proofs.Living.{as_end, living}
 use Rattle.mq_server.proofs.Running.{asks_push, frames_of_push}
+use Rattle.mq_server.proofs.Telling.{Tells-none, Tells-trans}
 
 -- some exchanges came with a ledger of that book, which then has this history, and each life goes on by them
-abbrev pub Advances : Book → State → State → (ℕ → Type 0) → List Entry → Type 0
-Advances k c now P history = (xs : List Exchange) × P (length xs) × AreAnswered k xs history
+abbrev pub Advances : Book → State → State → (List Exchange → Type 0) → List Entry → Type 0
+Advances k c now P history = (xs : List Exchange) × P xs × AreAnswered k xs history
     × ((l : Life) → Lives l c → (rest : List ℕ) × Lives (with_exchanges l xs rest) now)
 
 -- ---- no exchange
@@ -36,17 +41,17 @@ same_life l = λ i. record { bytes = l.bytes; exchanges = sym (append-nil l.exch
 none_more : (l : Life) (c : State) → Lives l c → Lives (with_exchanges l [] l.rest) c
 none_more l c lives = let P : Life → Type 0 = λ q. Lives q c in subst P (same_life l) lives
 
-quiet : (k : Book) (history : List Entry) → IsLegalBook k → history ≡ k.history → AreAnswered k [] history
+pub quiet : (k : Book) (history : List Entry) → IsLegalBook k → history ≡ k.history → AreAnswered k [] history
 quiet k history legal same = record { replies = refl; after = same ∙ sym (history_none k legal) }
 
--- the same of another count
-counted_so : (k : Book) (c now : State) (P Q : ℕ → Type 0) (history : List Entry) → ((n : ℕ) → P n → Q n) → Advances k c now P history → Advances k c now Q history
-counted_so k c now P Q history f (xs, p, answered, lives) = (xs, f (length xs) p, answered, lives)
+-- the same with something else said of the exchanges
+said_so : (k : Book) (c now : State) (P Q : List Exchange → Type 0) (history : List Entry) → ((xs : List Exchange) → P xs → Q xs) → Advances k c now P history → Advances k c now Q history
+said_so k c now P Q history f (xs, p, answered, lives) = (xs, f xs p, answered, lives)
 
-pub advance_none : (k : Book) (c now : State) (P : ℕ → Type 0) (history : List Entry) → P 0 → IsLegalBook k → history ≡ k.history → ((l : Life) → Lives l c → Lives l now) → Advances k c now P history
+pub advance_none : (k : Book) (c now : State) (P : List Exchange → Type 0) (history : List Entry) → P [] → IsLegalBook k → history ≡ k.history → ((l : Life) → Lives l c → Lives l now) → Advances k c now P history
 advance_none k c now P history p legal same f = ([], p, quiet k history legal same, λ l lives. (l.rest, none_more l now (f l lives)))
 
-pub advance_still : (k : Book) (c now : State) (P : ℕ → Type 0) (history : List Entry) → P 0 → IsLegalBook k → history ≡ k.history → now ≡ c → Advances k c now P history
+pub advance_still : (k : Book) (c now : State) (P : List Exchange → Type 0) (history : List Entry) → P [] → IsLegalBook k → history ≡ k.history → now ≡ c → Advances k c now P history
 advance_still k c now P history p legal same is = advance_none k c now P history p legal same (λ l lives. let P : State → Type 0 = λ q. Lives l q in subst P (sym is) lives)
 
 -- ---- an exchange
@@ -119,13 +124,23 @@ unheard_one c now body d r going end stands spelled kept = λ l lives.
       },
     )
 
-abbrev at_most_one : ℕ → Type 0
-at_most_one n = n ≤ 1
+-- ---- the calls of one attempt
+
+-- one exchange at most, and the calls of an attempt
+abbrev OneAtMost : Option (List Told) → Option (List Told) → Progress → List Exchange → Type 0
+OneAtMost t u progress xs = (length xs ≤ 1) × MakesCalls None progress t u xs
+
+none_some : false ≡ true → ⊥
+none_some e = cc
+
+-- the store didn't fail
+one_worked : (t u : Option (List Told)) (progress : Progress) (xs : List Exchange) → length xs ≤ 1 → (progress ≡ Ended (Err Store) → ⊥) → Tells t u (told_of xs ++ []) → OneAtMost t u progress xs
+one_worked t u progress xs few not told = (few, record { failed = None; told = told; ends = λ some. absurd (none_some some); only = λ was is. absurd (not is) })
 
 pub ends_lives : (k : Book) (t u : Option (List Told)) (c now : State) (end : Result Served ServeFault) (history : List Entry) → IsLegalBook k → c.end ≡ None → Goes c (Ended end) now
-    → Steps k t c.is_closed c.rest c.replies (Ended end) now.rest now.replies history u → Advances k c now at_most_one history
+    → Steps k t c.is_closed c.rest c.replies (Ended end) now.rest now.replies history u → Advances k c now (OneAtMost t u (Ended end)) history
 ends_lives k t u c now (Ok InputEnd) history legal going (end, last, closed, less) (over, nothing, kept, (same, told)) =
-    advance_none k c now at_most_one history (omega arith) legal same (λ l lives.
+    advance_none k c now (OneAtMost t u (Ended (Ok InputEnd))) history (one_worked t u (Ended (Ok InputEnd)) [] (omega arith) (λ e. cc) told) legal same (λ l lives.
     let (text, counted, under, rest) = living l (l.taken ++ c.replies) c c.end going lives.replies in
     record {
       asks = lives.asks;
@@ -133,7 +148,7 @@ ends_lives k t u c now (Ok InputEnd) history legal going (end, last, closed, les
           (ap (λ (q : List ℕ). l.taken ++ q) kept ∙ text ∙ ap frames_of (sym (append-nil (replies_of l.exchanges))), (omega (arith, counted, under), ap next (sym rest) ∙ nothing, refl), closed ∙ over);
     })
 ends_lives k t u c now (Ok CutFrame) history legal going (end, last, closed, less) (over, cut, kept, (same, told)) =
-    advance_none k c now at_most_one history (omega arith) legal same (λ l lives.
+    advance_none k c now (OneAtMost t u (Ended (Ok CutFrame))) history (one_worked t u (Ended (Ok CutFrame)) [] (omega arith) (λ e. cc) told) legal same (λ l lives.
     let (text, counted, under, rest) = living l (l.taken ++ c.replies) c c.end going lives.replies in
     record {
       asks = lives.asks;
@@ -141,7 +156,7 @@ ends_lives k t u c now (Ok CutFrame) history legal going (end, last, closed, les
           (ap (λ (q : List ℕ). l.taken ++ q) kept ∙ text ∙ ap frames_of (sym (append-nil (replies_of l.exchanges))), (omega (arith, counted, under), ap next (sym rest) ∙ cut, refl), closed ∙ over);
     })
 ends_lives k t u c now (Ok BadFrame) history legal going (end, last, closed, less) (bad, added, (same, told)) =
-    advance_none k c now at_most_one history (omega arith) legal same (λ l lives.
+    advance_none k c now (OneAtMost t u (Ended (Ok BadFrame))) history (one_worked t u (Ended (Ok BadFrame)) [] (omega arith) (λ e. cc) told) legal same (λ l lives.
     let (text, counted, under, rest) = living l (l.taken ++ c.replies) c c.end going lives.replies in
     let P : List ℕ → Type 0 = λ q. IsBad (next q) in
     record {
@@ -150,9 +165,9 @@ ends_lives k t u c now (Ok BadFrame) history legal going (end, last, closed, les
           (ap (λ (q : List ℕ). l.taken ++ q) added ∙ sym (append_assoc l.taken c.replies (frame (reply_body Bad))) ∙ ap (λ (q : List ℕ). q ++ frame (reply_body Bad)) text ∙ sym (frames_of_push (replies_of l.exchanges) Bad), (omega (arith, counted, under), subst P rest bad), tt);
     })
 ends_lives k t u c now (Ok Enough) history legal going goes (body, reply, stands, added, (d, spelled, a, h, told)) =
-    (exchange d reply ∷ [], omega arith, one k d reply history a h, enough_one c now body d reply going goes stands spelled added)
+    (exchange d reply ∷ [], one_worked t u (Ended (Ok Enough)) (exchange d reply ∷ []) (omega arith) (λ e. cc) told, one k d reply history a h, enough_one c now body d reply going goes stands spelled added)
 ends_lives k t u c now (Err Memory) history legal going (end, last, closed, less) (kept, inl (some, (same, told))) =
-    advance_none k c now at_most_one history (omega arith) legal same (λ l lives.
+    advance_none k c now (OneAtMost t u (Ended (Err Memory))) history (one_worked t u (Ended (Err Memory)) [] (omega arith) (λ e. cc) told) legal same (λ l lives.
     let (text, counted, under, rest) = living l (l.taken ++ c.replies) c c.end going lives.replies in
     record {
       asks = lives.asks;
@@ -160,9 +175,9 @@ ends_lives k t u c now (Err Memory) history legal going (end, last, closed, less
           (l.exchanges, None, sym (append-nil l.exchanges), omega (arith, counted, under), (λ is. some (ap next rest ∙ is)), ap (λ (q : List ℕ). l.taken ++ q) kept ∙ text);
     })
 ends_lives k t u c now (Err Memory) history legal going (end, last, closed, less) (kept, inr (body, reply, stands, (d, spelled, a, h, told))) =
-    (exchange d reply ∷ [], omega arith, one k d reply history a h, unheard_one c now body d reply going end stands spelled kept)
+    (exchange d reply ∷ [], one_worked t u (Ended (Err Memory)) (exchange d reply ∷ []) (omega arith) (λ e. cc) told, one k d reply history a h, unheard_one c now body d reply going end stands spelled kept)
 ends_lives k t u c now (Err Store) history legal going (end, last, closed, less) (kept, (body, after, stands, (request, spelled, same, told))) =
-    advance_none k c now at_most_one history (omega arith) legal same (λ l lives.
+    advance_none k c now (OneAtMost t u (Ended (Err Store))) history (omega arith, record { failed = Some request; told = told; ends = λ some. refl; only = λ was is. refl }) legal same (λ l lives.
     let (text, counted, under, rest) = living l (l.taken ++ c.replies) c c.end going lives.replies in
     record {
       asks = lives.asks;
@@ -181,14 +196,66 @@ ended_answered end e = cc
 waits_answered : Waits ≡ Answered → ⊥
 waits_answered e = cc
 
+-- all that is said of the exchanges of one attempt or several
+abbrev pub Told_so : Option (Result Served ServeFault) → Option (List Told) → Option (List Told) → Progress → ℕ → List Exchange → Type 0
+Told_so was t u progress most xs = Counts progress most (length xs) × MakesCalls was progress t u xs
+
 pub step_lives : (k : Book) (t u : Option (List Told)) (c now : State) (progress : Progress) (history : List Entry) → IsLegalBook k → c.end ≡ None → Goes c progress now
-    → Steps k t c.is_closed c.rest c.replies progress now.rest now.replies history u → Advances k c now (Counts progress 1) history
+    → Steps k t c.is_closed c.rest c.replies progress now.rest now.replies history u → Advances k c now (Told_so None t u progress 1) history
 step_lives k t u c now Answered history legal going goes (body, reply, stands, added, (d, spelled, a, h, told)) =
-    (exchange d reply ∷ [], record { within = omega arith; all = λ is. refl }, one k d reply history a h, answered_one c now body d reply going goes stands spelled added)
+    (exchange d reply ∷ [], (record { within = omega arith; all = λ is. refl }, (one_worked t u Answered (exchange d reply ∷ []) (omega arith) (λ e. cc) told).1), one k d reply history a h, answered_one c now body d reply going goes stands spelled added)
 step_lives k t u c now Waits history legal going (is, closed, partial) (same, told) =
-    advance_still k c now (Counts Waits 1) history (record { within = omega arith; all = λ e. absurd (waits_answered e) }) legal same is
+    advance_still k c now (Told_so None t u Waits 1) history (record { within = omega arith; all = λ e. absurd (waits_answered e) }, (one_worked t u Waits [] (omega arith) (λ e. cc) told).1) legal same is
 step_lives k t u c now (Ended end) history legal going goes steps =
-    counted_so k c now at_most_one (Counts (Ended end) 1) history (λ n few. record { within = few; all = λ e. absurd (ended_answered end e) }) (ends_lives k t u c now end history legal going goes steps)
+    said_so k c now (OneAtMost t u (Ended end)) (Told_so None t u (Ended end) 1) history (λ xs (few, calls). (record { within = few; all = λ e. absurd (ended_answered end e) }, calls)) (ends_lives k t u c now end history legal going goes steps)
+
+-- ---- the calls of attempts, one after another
+
+ended_same : (x r : Result Served ServeFault) → Ended x ≡ Ended r → x ≡ r
+ended_same x r e = cc
+
+told_both : (xs ys : List Exchange) → told_of (xs ++ ys) ≡ told_of xs ++ told_of ys
+told_both xs ys = map-append (λ (x : Exchange). call x.delivery x.answer) xs ys
+
+-- the calls of so many frames, all answered
+abbrev pub AllAnswered : Option (List Told) → Option (List Told) → ℕ → List Exchange → Type 0
+AllAnswered t u n xs = (length xs ≡ n) × Tells t u (told_of xs)
+
+pub none_answered : (t : Option (List Told)) → AllAnswered t t 0 []
+none_answered t = (refl, Tells-none t)
+
+worked_both : (t u v : Option (List Told)) (xs ys : List Exchange) → Tells t u (told_of xs) → (failed : Option Request) → (IsSome failed → Answered ≡ Ended (Err Store)) → Tells u v (told_of ys ++ map failed_call (option_to_list failed)) → Tells t v (told_of (xs ++ ys))
+worked_both t u v xs ys before None ends more =
+    let P : List Told → Type 0 = λ q. Tells t v q in
+    subst P (ap (λ (q : List Told). told_of xs ++ q) (append-nil (told_of ys)) ∙ sym (told_both xs ys)) (Tells-trans t u v (told_of xs) (told_of ys ++ []) before more)
+worked_both t u v xs ys before (Some request) ends more = absurd (ended_answered (Err Store) (sym (ends refl)))
+
+-- one more, and it was answered
+pub one_answered : (t u v : Option (List Told)) (n : ℕ) (xs ys : List Exchange) → AllAnswered t u n xs → Told_so None u v Answered 1 ys → AllAnswered t v (n + 1) (xs ++ ys)
+one_answered t u v n xs ys (counted, told) (counts, calls) =
+    (omega (arith, length-append xs ys, counted, counts.all refl), worked_both t u v xs ys told calls.failed calls.ends calls.told)
+
+-- it had ended before, and no call was made
+pub ended_calls : (t : Option (List Told)) (was : Option (Result Served ServeFault)) (r : Result Served ServeFault) (most : ℕ) → was ≡ Some r → Told_so was t t (Ended r) most []
+ended_calls t was r most is = (
+  record { within = omega arith; all = λ e. absurd (ended_answered r e) },
+  record { failed = None; told = Tells-none t; ends = λ some. absurd (none_some some); only = λ not same. absurd (not (is ∙ ap Some (ended_same r (Err Store) same))) },
+)
+
+-- one more, and that was all
+pub last_told : (t u v : Option (List Told)) (progress : Progress) (n most : ℕ) (xs ys : List Exchange) → n < most → (progress ≡ Answered → ⊥) → AllAnswered t u n xs → Told_so None u v progress 1 ys → Told_so None t v progress most (xs ++ ys)
+last_told t u v progress n most xs ys here not (counted, told) (counts, calls) = (
+  record { within = omega (arith, length-append xs ys, counted, counts.within, here); all = λ is. absurd (not is) },
+  record {
+    failed = calls.failed;
+    told =
+        let P : List Told → Type 0 = λ q. Tells t v q in
+        let f = map failed_call (option_to_list calls.failed) in
+        subst P (sym (append_assoc (told_of xs) (told_of ys) f) ∙ ap (λ (q : List Told). q ++ f) (sym (told_both xs ys))) (Tells-trans t u v (told_of xs) (told_of ys ++ f) told calls.told);
+    ends = calls.ends;
+    only = calls.only;
+  },
+)
 
 -- ---- one attempt after others
 
@@ -224,11 +291,11 @@ answered_both b k xs ys history legal zone default before more =
 more_exchanges : (l : Life) (xs ys : List Exchange) (rest rest' : List ℕ) → with_exchanges (with_exchanges l xs rest) ys rest' ≡ with_exchanges l (xs ++ ys) rest'
 more_exchanges l xs ys rest rest' = λ i. record { bytes = l.bytes; exchanges = append_assoc l.exchanges xs ys i; rest = rest'; taken = l.taken }
 
-pub advance_both : (b k : Book) (c mid now : State) (P Q R : ℕ → Type 0) (history : List Entry) → IsLegalBook k → k.zone ≡ b.zone → k.default ≡ b.default → ((n m : ℕ) → P n → Q m → R (n + m))
+pub advance_both : (b k : Book) (c mid now : State) (P Q R : List Exchange → Type 0) (history : List Entry) → IsLegalBook k → k.zone ≡ b.zone → k.default ≡ b.default → ((xs ys : List Exchange) → P xs → Q ys → R (xs ++ ys))
     → Advances b c mid P k.history → Advances k mid now Q history → Advances b c now R history
-advance_both b k c mid now P Q R history legal zone default count (xs, p, before, f) (ys, q, more, g) = (
+advance_both b k c mid now P Q R history legal zone default all (xs, p, before, f) (ys, q, more, g) = (
   xs ++ ys,
-  (let S : ℕ → Type 0 = λ n. R n in subst S (sym (length-append xs ys)) (count (length xs) (length ys) p q)),
+  all xs ys p q,
   answered_both b k xs ys history legal zone default before more,
   λ l lives.
       let (rest, mid_lives) = f l lives in
@@ -256,14 +323,6 @@ ended_by c now before after progress r (Some x) e goes over is =
     let same : Ended x ≡ Ended r = sym o.0 ∙ is in
     ap (λ (q : State). q.end) o.1 ∙ e ∙ same_ended x r same
 
-pub advance_any : {L : Type 0} (book : L → Book) (told : L → Option (List Told)) (c now : State) (before after : L) (progress : Progress) (end : Option (Result Served ServeFault)) → c.end ≡ end → IsLegalBook (book before)
-    → (c.end ≡ None → Goes c progress now) → IsOver c now progress before after
-    → (c.end ≡ None → Steps (book before) (told before) c.is_closed c.rest c.replies progress now.rest now.replies (book after).history (told after)) → Advances (book before) c now (Counts progress 1) (book after).history
-advance_any book told c now before after progress None e legal goes over steps = step_lives (book before) (told before) (told after) c now progress (book after).history legal e (goes e) (steps e)
-advance_any book told c now before after progress (Some r) e legal goes over steps =
-    let o = over r e in
-    advance_still (book before) c now (Counts progress 1) (book after).history (record { within = omega arith; all = λ is. absurd (ended_answered r (sym o.0 ∙ is)) }) legal (ap (λ q. (book q).history) o.2) o.1
-
 pub waits_by : {L : Type 0} (c now : State) (before after : L) (progress : Progress) (end : Option (Result Served ServeFault)) → c.end ≡ end → (c.end ≡ None → Goes c progress now) → IsOver c now progress before after
     → progress ≡ Waits → (now.end ≡ None) × (now.is_closed ≡ false) × IsPartial (next now.rest)
 waits_by c now before after progress None e goes over is =
@@ -272,3 +331,34 @@ waits_by c now before after progress None e goes over is =
     let Q : List ℕ → Type 0 = λ q. IsPartial (next q) in
     (ap (λ (q : State). q.end) still ∙ e, ap (λ (q : State). q.is_closed) still ∙ closed, subst Q (sym (ap (λ (q : State). q.rest) still)) partial)
 waits_by c now before after progress (Some x) e goes over is = absurd (ended_waits x (sym (over x e).0 ∙ is))
+
+-- ---- a connection that goes on
+
+none_ended : (r : Result Served ServeFault) → None ≡ Some r → ⊥
+none_ended r e = cc
+
+pub going_ended : {end : Option (Result Served ServeFault)} (r : Result Served ServeFault) → end ≡ None → end ≡ Some r → ⊥
+going_ended r going is = none_ended r (sym going ∙ is)
+
+pub answered_goes : (c now : State) (progress : Progress) → progress ≡ Answered → Goes c progress now → now.end ≡ None
+answered_goes c now progress is goes =
+    let P : Progress → Type 0 = λ p. Goes c p now in
+    let g : Goes c Answered now = subst P is goes in g.0
+
+pub one_more : (t u v : Option (List Told)) (n : ℕ) (progress : Progress) (xs ys : List Exchange) → progress ≡ Answered → AllAnswered t u n xs → Told_so None u v progress 1 ys → AllAnswered t v (n + 1) (xs ++ ys)
+one_more t u v n progress xs ys is before more =
+    let P : Progress → Type 0 = λ p. Told_so None u v p 1 ys in
+    one_answered t u v n xs ys before (subst P is more)
+
+pub told_as : (t u : Option (List Told)) (progress : Progress) (most : ℕ) (xs : List Exchange) (was : Option (Result Served ServeFault)) → was ≡ None → Told_so None t u progress most xs → Told_so was t u progress most xs
+told_as t u progress most xs was is told =
+    let P : Option (Result Served ServeFault) → Type 0 = λ w. Told_so w t u progress most xs in subst P (sym is) told
+
+pub none_of : (end : Option (Result Served ServeFault)) → ((r : Result Served ServeFault) → end ≡ Some r → ⊥) → end ≡ None
+none_of None not = refl
+none_of (Some r) not = absurd (not r refl)
+
+-- each part of what is said
+pub each_said : (k : Book) (c now : State) (progress : Progress) (t u : Option (List Told)) (most : ℕ) (was : Option (Result Served ServeFault)) (history : List Entry) → Advances k c now (Told_so was t u progress most) history
+    → (xs : List Exchange) × Counts progress most (length xs) × MakesCalls was progress t u xs × AreAnswered k xs history × ((l : Life) → Lives l c → (rest : List ℕ) × Lives (with_exchanges l xs rest) now)
+each_said k c now progress t u most was history (xs, (counts, calls), right, lives) = (xs, counts, calls, right, lives)

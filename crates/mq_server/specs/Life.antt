@@ -1,20 +1,22 @@
 -- The whole life of a connection: all bytes that came, all requests with their answers, and all bytes of replies.
-use Rattle.std.specs.Prelude.{◌≡◌, ◌≢◌, ℕ, ◌<◌, ◌≤◌, List, [], ◌++◌, length, map, Bool, true, Option, None, Some, IfNone, Result, Ok, Err}
+use Rattle.std.specs.Prelude.{◌≡◌, ◌≢◌, ℕ, ◌<◌, ◌≤◌, List, [], ◌++◌, length, map, Bool, true, Option, None, Some, IfNone, IsSome, Result, Ok, Err}
 use Rattle.std.specs.Option.{option_to_list}
 use Rattle.mq_frame.specs.declared.message.Request.{Request}
 use Rattle.mq_frame.specs.declared.message.Reply.{Reply}
 use Rattle.mq_frame.specs.Feed.{Front, Nothing, Whole}
 use Rattle.mq_frame.specs.Spelling.{SpellsRequest}
 use Rattle.mq_ledger.specs.declared.entry.Entry.{Entry}
+use Rattle.mq_ledger.specs.declared.ledger.Told.{Told}
 use Rattle.mq_ledger.specs.Legal.{Book}
+use Rattle.mq_ledger.specs.Told.{Tells}
 use Rattle.mq_server.specs.declared.connection.Progress.{Progress}
-use Rattle.mq_server.specs.declared.connection.Progress.TheVariants.{Answered}
+use Rattle.mq_server.specs.declared.connection.Progress.TheVariants.{Answered, Ended}
 use Rattle.mq_server.specs.declared.connection.Served.{Served}
 use Rattle.mq_server.specs.declared.connection.Served.TheVariants.{InputEnd, Enough, BadFrame, CutFrame}
 use Rattle.mq_server.specs.declared.connection.TheConstants.{ENOUGH}
 use Rattle.mq_server.specs.declared.fault.ServeFault.{ServeFault}
 use Rattle.mq_server.specs.declared.fault.ServeFault.TheVariants.{Read, Write, Memory, Store}
-use Rattle.mq_server.specs.Delivery.{Delivery, asked, answers, answer_to, history_after}
+use Rattle.mq_server.specs.Delivery.{Delivery, asked, answers, answer_to, call, failed_call, history_after}
 use Rattle.mq_server.specs.Held.{State}
 use Rattle.mq_server.specs.Text.{Asks, IsEnd, farewell, frames_of, next}
 
@@ -100,3 +102,16 @@ pub record AreAnswered (b : Book) (xs : List Exchange) (history : List Entry) : 
 pub record Counts (progress : Progress) (most count : ℕ) : Type 0 where
   pub within : count ≤ most
   pub all : progress ≡ Answered → count ≡ most
+
+-- the calls of `apply` that exchanges are
+abbrev pub told_of : List Exchange → List Told
+told_of xs = map (λ x. call x.delivery x.answer) xs
+
+-- The calls that were made on a connection, of which some end had come before: one for each exchange and, only where its
+-- store failed, the one at which it did.
+pub record MakesCalls (was : Option (Result Served ServeFault)) (progress : Progress)
+    (before after : Option (List Told)) (xs : List Exchange) : Type 0 where
+  pub failed : Option Request
+  pub told : Tells before after (told_of xs ++ map failed_call (option_to_list failed))
+  pub ends : IsSome failed → progress ≡ Ended (Err Store)
+  pub only : was ≢ Some (Err Store) → progress ≡ Ended (Err Store) → IsSome failed

@@ -2,7 +2,7 @@
 //! they are taken.
 ghost use Rattle.std.specs.Prelude.{◌≡◌, ◌≤◌, length, take, drop, true, false, None, Some, List, OnOk, OnErr, ℕ};
 ghost use Rattle.mq_server.specs.Held.{fresh, received, with_closed, with_replies};
-ghost use Rattle.mq_server.specs.Life.{AreAnswered, Counts, Exchange, Life, Lives, unborn, with_bytes, with_exchanges, with_taken};
+ghost use Rattle.mq_server.specs.Life.{AreAnswered, Counts, Exchange, Life, Lives, MakesCalls, unborn, with_bytes, with_exchanges, with_taken};
 ghost use Rattle.mq_server.specs.State.{Goes, Steps};
 ghost use Rattle.mq_server.specs.Text.{IsPartial, next};
 ghost use Rattle.mq_server.specs.declared.connection.Progress.TheVariants.{Ended};
@@ -169,10 +169,13 @@ impl Connection {
     /// The body of a request goes to the ledger, and the ledger's reply is held; `Retry` where the ledger had no memory
     /// for it. A body that is no request, an empty one and one above 512 bytes is answered by `Bad`, which ends the
     /// connection; so does the 10,000th answer. `Memory` and `Store` end it too, and the replies to the frames before
-    /// are held still.
+    /// are held still. Nothing follows an end.
     pub fn answer<L: Ledger>(&mut self, alloc: Global, most: u32, ledger: &mut L) -> Progress
-        // Of any ledger, sound or not.
+        // Of any ledger, sound or not. After an end nothing happens.
+        ensures over { (r : _) → self.old.end ≡ Some r →
+            (result ≡ Ended r) × (self.new ≡ self.old) × (ledger.new ≡ ledger.old) }
         ensures ended { (r : _) → result ≡ Ended r → self.new.end ≡ Some r }
+        ensures answered { result ≡ Progress.Answered → self.new.end ≡ None }
         ensures waits { result ≡ Progress.Waits →
             (self.new.end ≡ None) × (self.new.is_closed ≡ false) × IsPartial (next self.new.rest) }
         ensures same_zone { (L.book ledger.new).zone ≡ (L.book ledger.old).zone }
@@ -182,9 +185,13 @@ impl Connection {
         // Of a sound one that has kept its premise.
         ensures sound { L.has_kept ledger.new → L.is_sound ledger.old → L.is_sound ledger.new }
         ensures lives { L.has_kept ledger.new → L.is_sound ledger.old → (xs : List Exchange)
-            × Counts result most (length xs) × AreAnswered (L.book ledger.old) xs (L.book ledger.new).history
+            × Counts result most (length xs) × MakesCalls self.old.end result (L.told ledger.old) (L.told ledger.new) xs
+            × AreAnswered (L.book ledger.old) xs (L.book ledger.new).history
             × ((l : Life) → Lives l self.old → (rest : List ℕ) × Lives (with_exchanges l xs rest) self.new) }
     {
+        if let Some(end) = self.end {
+            return Progress::Ended(end);
+        }
         for _frame in 0..most {
             match self.answer_next(alloc, ledger) {
                 Progress::Answered => {}

@@ -1,5 +1,5 @@
 //! Laws of what is served. Each is the contract of a function that does nothing.
-ghost use Rattle.std.specs.Prelude.{◌≡◌, ◌⊎◌, ℕ, List, ◌++◌, length, map, Option, None, Some, Ok};
+ghost use Rattle.std.specs.Prelude.{◌≡◌, ◌⊎◌, ℕ, List, [], ◌++◌, length, map, Option, None, Some, Ok};
 ghost use Rattle.std.specs.Io.KnownBytes.{Appends};
 ghost use Rattle.mq_frame.specs.declared.message.Reply.{Reply};
 ghost use Rattle.mq_ledger.specs.Answer.{replies_after};
@@ -14,8 +14,8 @@ ghost use Rattle.mq_server.specs.declared.connection.Served.TheVariants.{BadFram
 ghost use Rattle.mq_server.specs.Connection.{Wire, Serves};
 ghost use Rattle.mq_server.specs.Connections.{wires, AreServed, AreServedWhole, AppendEach};
 ghost use Rattle.mq_server.specs.Delivery.{Delivery, HasGrown, arrivals, asked, answer_to, taken_answers};
-ghost use Rattle.mq_server.specs.Held.{State};
-ghost use Rattle.mq_server.specs.Life.{AreAnswered, Life, Lives, deliveries, replies_of};
+ghost use Rattle.mq_server.specs.Held.{State, fresh};
+ghost use Rattle.mq_server.specs.Life.{AreAnswered, Exchange, Life, Lives, deliveries, replies_of, unborn};
 ghost use Rattle.mq_server.specs.Text.{Asks, IsServed, LosesAlike, farewell, frames_of, served};
 
 use mq_frame::laws::{frames_stay, one_spelling};
@@ -49,6 +49,9 @@ pub fn any_cutting()
 
 /// What a connection was given and gave is what is served for all the bytes that came on it.
 pub fn a_life_is_served()
+    // Nothing has come on a connection that is new.
+    ensures begins { Lives unborn fresh }
+
     // At an end the replies that were taken and those that wait are all that is served for these bytes.
     ensures ended { (l : Life) (c : State) (e : Served) → Lives l c → c.end ≡ Some (Ok e) →
         IsServed l.bytes (deliveries l.exchanges) e
@@ -98,4 +101,12 @@ pub fn more_deliveries()
     ensures none { (b : Book) → IsLegalBook b → HasGrown b b }
     ensures more { (b k c : Book) → IsLegalBook k → k.zone ≡ b.zone → k.default ≡ b.default →
         HasGrown b k → HasGrown k c → HasGrown b c }
+{}
+
+/// Exchanges with a ledger that others came to before are exchanges behind those.
+pub fn more_exchanges()
+    ensures none { (b : Book) → IsLegalBook b → AreAnswered b [] b.history }
+    ensures more { (b k : Book) (xs ys : List Exchange) (history : List Entry) → IsLegalBook k →
+        k.zone ≡ b.zone → k.default ≡ b.default → AreAnswered b xs k.history → AreAnswered k ys history →
+        AreAnswered b (xs ++ ys) history }
 {}
