@@ -1,5 +1,5 @@
 -- How the life of a connection goes on as it answers.
-use Rattle.std.proofs.Common.{◌≡◌, ℕ, suc, ◌+◌, ◌<◌, ◌≤◌, List, [], ◌∷◌, ◌++◌, length, map, refl, sym, ap, subst, ◌∙◌, append-nil, append_assoc, length-append, arith, inl, inr, Option, Some, None, Result, Ok, Err, Bool, false, true}
+use Rattle.std.proofs.Common.{◌≡◌, ℕ, suc, ◌+◌, ◌<◌, ◌≤◌, List, [], ◌∷◌, ◌++◌, length, map, refl, sym, ap, subst, ◌∙◌, append-nil, append_assoc, length-append, arith, inl, inr, Option, Some, None, Result, Ok, Err, false, true}
 use Rattle.std.proofs.lemmas.List.{map-append}
 use Rattle.std.specs.Prelude.{IsSome}
 use Rattle.std.specs.Option.{option_to_list}
@@ -20,7 +20,7 @@ use Rattle.mq_server.specs.declared.fault.ServeFault.{ServeFault}
 use Rattle.mq_server.specs.declared.fault.ServeFault.TheVariants.{Read, Write, Memory, Store}
 use Rattle.mq_server.specs.Delivery.{Delivery, asked, answers, answers_after, answer_to, call, failed_call, history_after}
 use Rattle.mq_server.specs.Held.{State}
-use Rattle.mq_server.specs.Life.{AreAnswered, Counts, Exchange, HasReplies, Life, Lives, MakesCalls, deliveries, replies_of, told_of, with_exchanges}
+use Rattle.mq_server.specs.Life.{AreAnswered, Counts, Exchange, Life, Lives, MakesCalls, deliveries, replies_of, told_of, with_exchanges}
 use Rattle.mq_server.specs.State.{Goes, Steps}
 use Rattle.mq_server.specs.Text.{Asks, IsBad, IsPartial, frames_of, next}
 use Rattle.mq_server.proofs.Deliveries.{Follows, answer_more, history_more, history_none}

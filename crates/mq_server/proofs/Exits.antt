@@ -21,11 +21,11 @@ use Rattle.mq_server.specs.declared.fault.ServeFault.TheVariants.{Read, Write, M
 use Rattle.mq_server.specs.Delivery.{Delivery, history_after, answer_to, answers}
 use Rattle.mq_server.specs.Connection.{Wire, Serves, calls_of}
 use Rattle.mq_server.specs.Exits.{IsPart}
-use Rattle.mq_server.specs.Held.{State, with_closed}
+use Rattle.mq_server.specs.Held.{State}
 use Rattle.mq_server.specs.State.{Goes, Steps}
 use Rattle.mq_server.specs.Steps.{Refills, AnswersBody}
 use Rattle.mq_server.specs.Text.{IsBad, IsEnd, IsPartial, farewell, frames_of, next}
-use Rattle.mq_server.proofs.Heads.{nothing_whole, some_behind, partial_short, left_short}
+use Rattle.mq_server.proofs.Heads.{some_behind, partial_short, left_short}
 use Rattle.mq_server.proofs.Telling.{Tells-trans, Tells-kept, Tells-all, told_push}
 use Rattle.mq_server.proofs.Running.{SoFar, Finds, came_read, came_more, due_here, frames_of_push, answered_more, read_more}
 

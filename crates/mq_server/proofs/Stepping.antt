@@ -1,5 +1,5 @@
 -- What one step of a connection comes to.
-use Rattle.std.proofs.Common.{◌≡◌, ℕ, List, ◌++◌, sym, subst, ◌∙◌, inl, inr, Option, Some, None, Result, Ok, Err, Bool, refl}
+use Rattle.std.proofs.Common.{◌≡◌, ℕ, List, sym, subst, ◌∙◌, inl, inr, Option, Some, Result, Ok, Err, Bool, refl}
 use Rattle.mq_frame.specs.declared.message.Reply.{Reply}
 use Rattle.mq_frame.specs.Feed.{Whole}
 use Rattle.mq_frame.specs.Spelling.{frame, reply_body}

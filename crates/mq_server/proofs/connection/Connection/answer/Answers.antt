@@ -1,4 +1,4 @@
-use Rattle.std.proofs.Common.{◌≡◌, ◌∙◌, ◌<◌, ◌+◌, ◌++◌, refl, sym, ap, None}
+use Rattle.std.proofs.Common.{◌∙◌, ◌+◌, ◌++◌, refl, sym, ap, None}
 use Rattle.mq_server.specs.Held.{State}
 use Rattle.mq_server.proofs.Advance.{AllAnswered, Told_so, advance_both, advance_still, answered_goes, each_said, ended_by, ended_calls, going_ended, last_told, none_answered, none_of, one_more, step_lives, told_as, waits_by}
 use Rattle.mq_server.proofs.connection.Connection.answer.Goals as goal
