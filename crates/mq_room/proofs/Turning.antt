@@ -191,3 +191,6 @@ waits_works e = cc
 
 pub turns_as : (b : Book) (history : List Entry) (t u : Option (List Told)) (p q : Progress) (old new : Wire) (c now : State) → p ≡ q → Turns b history t u p old new c now → Turns b history t u q old new c now
 turns_as b history t u p q old new c now is turns = let P : Progress → Type 0 = λ x. Turns b history t u x old new c now in subst P is turns
+
+pub calls_is : (t u : Option (List Told)) (was : Option (Result Served ServeFault)) (p q : Progress) (xs : List Exchange) → p ≡ q → MakesCalls was p t u xs → MakesCalls was q t u xs
+calls_is t u was p q xs is calls = let P : Progress → Type 0 = λ x. MakesCalls was x t u xs in subst P is calls
