@@ -1,3 +1,3 @@
 pub mod Maps
-pub mod Serving
+pub mod Standing
 pub mod Turning

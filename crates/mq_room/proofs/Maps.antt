@@ -9,7 +9,7 @@ use Rattle.std.proofs.lemmas.Bool.Decides.{eqb_tells}
 use Rattle.mq_server.specs.Held.{State, fresh}
 use Rattle.mq_room.specs.declared.opened.OpenConnection.{OpenConnection}
 use Rattle.mq_room.specs.Sessions.{AreFewer, Opens, held}
-use Rattle.mq_room.proofs.Serving.{not_eqb}
+use Rattle.mq_room.proofs.Standing.{not_eqb}
 
 abbrev Map : Type 0
 Map = BTreeMap ℕ OpenConnection
