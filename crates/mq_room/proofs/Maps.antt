@@ -88,3 +88,10 @@ empty_held m is n = ap (λ (es : List (ℕ × OpenConnection)). connection_of (l
 
 pub same_held : (m n : Map) → n.entries ≡ m.entries → (q : ℕ) → held n q ≡ held m q
 same_held m n is q = ap (λ (es : List (ℕ × OpenConnection)). connection_of (lookup (is_at (nat_cmp q)) es)) is
+
+-- a connection that was found is held
+pub held_here : (m : Map) (k : ℕ) (o : OpenConnection) → Some o ≡ get nat_cmp m k → held m k ≡ Some o.connection
+held_here m k o is = ap connection_of (sym is)
+
+pub same_fewer : (m n : Map) → n ≡ m → AreFewer (held m) (held n)
+same_fewer m n is q c here = ap (λ (x : Map). held x q) (sym is) ∙ here

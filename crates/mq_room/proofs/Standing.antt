@@ -1,6 +1,6 @@
 -- The sessions of a server go on as its connections are opened, served and closed.
 use Rattle.std.proofs.Common.{◌≡◌, ◌≢◌, ◌⊎◌, ℕ, ◌+◌, ◌<◌, ◌≤◌, List, [], ◌∷◌, ◌++◌, map, refl, sym, ap, subst, ◌∙◌, append-nil, append_assoc, Bool, true, false, Option, Some, None, Result, Ok, Err, arith, inl, inr}
-use Rattle.std.specs.Prelude.{IsSome, cond, eqb, filter, take}
+use Rattle.std.specs.Prelude.{IsSome, IfErr, OnOk, cond, eqb, filter, take}
 use Rattle.std.specs.Option.{option_to_list}
 use Rattle.std.specs.Io.KnownBytes.{Appends, Consumes, ReadConsumes}
 use Rattle.std.proofs.KnownBytes.{Appends-nil, Appends-trans, Consumes-kept, Consumes-nil, Consumes-trans}
@@ -15,14 +15,18 @@ use Rattle.mq_ledger.specs.Legal.{Book, IsLegalBook}
 use Rattle.mq_ledger.specs.Told.{Tells}
 use Rattle.mq_server.specs.declared.connection.Progress.{Progress}
 use Rattle.mq_server.specs.declared.connection.Progress.TheVariants.{Ended}
+use Rattle.mq_server.specs.declared.connection.Served.{Served}
+use Rattle.mq_server.specs.declared.fault.ServeFault.{ServeFault}
 use Rattle.mq_server.specs.declared.fault.ServeFault.TheVariants.{Memory, Store}
 use Rattle.mq_server.specs.Connection.{Wire}
 use Rattle.mq_server.specs.Delivery.{HasGrown, failed_call}
 use Rattle.mq_server.specs.Held.{State, fresh}
 use Rattle.mq_server.specs.Life.{AreAnswered, Exchange, Life, Lives, deliveries, told_of, unborn}
+use Rattle.mq_room.specs.declared.fault.RoomFault.{RoomFault}
+use Rattle.mq_room.specs.declared.fault.RoomFault.TheVariants as faults
 use Rattle.mq_room.specs.Sessions.{AreFewer, EndsServing, GoesOn, HaveServed, Opens, Outside, Placed, Session, all_of, those_of}
 use Rattle.mq_room.specs.Turns.{Turns, lived}
-use Rattle.mq_room.proofs.Turning.{Follow, Tells-none, Works, none_some, told_on, worked_calls}
+use Rattle.mq_room.proofs.Turning.{Follow, Tells-none, Works, ended_inj, none_some, told_on, worked_calls}
 
 -- ---- exchanges of one connection behind those of all
 
@@ -416,3 +420,40 @@ read_bytes a b (Err e) buf h = ([], Consumes-kept a a b [] (Consumes-nil a) h)
 
 pub ends_as : {A E : Type 0} (old new : Outside) (store : E) (r q : Result A E) → r ≡ q → EndsServing old new store r → EndsServing old new store q
 ends_as {A = A} {E = E} old new store r q is e = let P : Result A E → Type 0 = λ x. EndsServing old new store x in subst P is e
+
+-- ---- ends under other names
+
+pub goes_last : (old new : Outside) (last number : ℕ) (held : ℕ → Option State) → number ≡ last → GoesOn old new last held → GoesOn old new number held
+goes_last old new last number held is g = let P : ℕ → Type 0 = λ k. GoesOn old new k held in subst P (sym is) g
+
+pub ends_wires : {A E : Type 0} (old new : Outside) (wires : ℕ → Wire) (store : E) (result : Result A E) → ((n : ℕ) → wires n ≡ new.wires n) → EndsServing old new store result → EndsServing old (with_wires new wires) store result
+ends_wires old new wires store result same e = record {
+  failed = e.failed;
+  served = served_as old new wires e.failed same e.served;
+  stops = e.stops;
+  only = e.only;
+  at = e.at;
+}
+
+pub ok_not : {A E : Type 0} (x : A) (e : E) → Ok x ≡ Err e → ⊥
+ok_not x e is = cc
+
+pub not_ok : {A E : Type 0} (r : Result A E) (e : E) (G : Type 0) → r ≡ Err e → OnOk r G
+not_ok {A = A} {E = E} r e G is = let P : Result A E → Type 0 = λ q. OnOk q G in subst P (sym is) tt
+
+-- a connection has ended, and the serving with it only where its store failed
+pub ends_either : {A F : Type 0} (G : Type 0) (E : Result A F → Type 0) (store : F) (r : Result A F) (end : Result Served ServeFault) (p : Progress) → p ≡ Ended end → OnOk r (end ≢ Err Store) → IfErr r (λ f. (f ≡ store) × (end ≡ Err Store))
+    → (Works p → G) → ((q : Result A F) → (q ≡ Err store → ⊥) → G → E q) → ((q : Result A F) → p ≡ Ended (Err Store) → q ≡ Err store → E q) → OnOk r G × E r
+ends_either G E store (Ok x) end p is ok err goes so stops =
+    let went = goes (λ e. ok (ended_inj end (Err Store) (sym is ∙ e))) in
+    (went, so (Ok x) (ok_not x store) went)
+ends_either G E store (Err f) end p is ok err goes so stops = (tt, stops (Err f) (is ∙ ap Ended err.1) (ap Err err.0))
+
+pub not_store : {A : Type 0} (r : Result A RoomFault) (y f : RoomFault) → r ≡ Err y → y ≡ f → f ≡ faults.Accept → r ≡ Err faults.Store → ⊥
+not_store r y f is same accept store = cc
+
+pub not_memory : {A : Type 0} (r : Result A RoomFault) (y : RoomFault) → r ≡ Err y → y ≡ faults.Memory → r ≡ Err faults.Store → ⊥
+not_memory r y is memory store = cc
+
+pub nothing_grown : (o : Outside) → AreAnswered o.book [] o.book.history → HasGrown o.book o.book
+nothing_grown o none = ([], none.after)

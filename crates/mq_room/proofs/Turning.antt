@@ -1,8 +1,8 @@
 -- One turn after another.
-use Rattle.std.proofs.Common.{◌≡◌, ◌≢◌, ℕ, List, [], ◌++◌, map, refl, sym, ap, subst, ◌∙◌, append-nil, append_assoc, Option, Some, None, Result, Ok, Err, false, true}
+use Rattle.std.proofs.Common.{◌≡◌, ◌≢◌, ℕ, List, [], ◌++◌, map, take, refl, sym, ap, subst, ◌∙◌, append-nil, append_assoc, Option, Some, None, Result, Ok, Err, false, true}
 use Rattle.std.specs.Prelude.{IsSome}
 use Rattle.std.specs.Option.{option_to_list}
-use Rattle.std.specs.Io.KnownBytes.{Appends, Consumes, Keeps}
+use Rattle.std.specs.Io.KnownBytes.{Appends, Consumes, Keeps, ReadConsumes, WriteAppends}
 use Rattle.std.proofs.KnownBytes.{Appends-nil, Appends-trans, Consumes-nil, Consumes-trans}
 use Rattle.std.proofs.lemmas.List.{map-append}
 use Rattle.mq_frame.specs.declared.message.Request.{Request}
@@ -194,3 +194,90 @@ turns_as b history t u p q old new c now is turns = let P : Progress → Type 0 
 
 pub calls_is : (t u : Option (List Told)) (was : Option (Result Served ServeFault)) (p q : Progress) (xs : List Exchange) → p ≡ q → MakesCalls was p t u xs → MakesCalls was q t u xs
 calls_is t u was p q xs is calls = let P : Progress → Type 0 = λ x. MakesCalls was x t u xs in subst P is calls
+
+-- ---- what a read or a write leaves
+
+-- no bytes of replies were taken
+pub takes_none : (c : State) (l : Life) → Lives l c → Lives (with_taken l []) c
+takes_none c l here = let P : Life → Type 0 = λ q. Lives q c in subst P (λ i. named l l.bytes l.exchanges l.rest (sym (append-nil l.taken) i)) here
+
+-- no bytes came
+pub comes_none : (c : State) (l : Life) → Lives l c → Lives (with_bytes l []) c
+comes_none c l here = let P : Life → Type 0 = λ q. Lives q c in subst P (λ i. named l (sym (append-nil l.bytes) i) l.exchanges (sym (append-nil l.rest) i) l.taken) here
+
+-- known bytes that stay grow by none
+pub appends_kept : (a b : Option (List ℕ)) → Keeps a b → Appends a b []
+appends_kept None b h = tt
+appends_kept (Some x) None h = absurd h
+appends_kept (Some x) (Some y) h = h ∙ sym (append-nil x)
+
+-- and lose none
+pub consumes_kept : (a b : Option (List ℕ)) → Keeps a b → Consumes a b []
+consumes_kept None b h = tt
+consumes_kept (Some x) None h = absurd h
+consumes_kept (Some x) (Some y) h = sym h
+
+-- an end that isn't the store's, by what an answer came to
+pub still_works : (p : Progress) (e : Option (Result Served ServeFault)) → ((r : Result Served ServeFault) → p ≡ Ended r → e ≡ Some r) → (p ≡ Answered → e ≡ None) → (p ≡ Waits → e ≡ None) → Works p → e ≢ Some (Err Store)
+still_works Answered e ended answered waits works is = let h = answered refl in cc
+still_works Waits e ended answered waits works is = let h = waits refl in cc
+still_works (Ended r) e ended answered waits works is = let h = ended r refl in works (let same : Ended r ≡ Ended (Err Store) = cc in same)
+
+pub waits_room : Waits ≢ Ended (Err Memory)
+waits_room e = cc
+
+-- the same connection lives alike
+pub lives_as : (d now : State) (l : Life) → now ≡ d → Lives l d → Lives l now
+lives_as d now l is here = let P : State → Type 0 = λ q. Lives l q in subst P (sym is) here
+
+-- what a write leaves
+abbrev pub Writes : Option (List ℕ) → Option (List ℕ) → State → State → Type 0
+Writes a b c now = (written : List ℕ) × Appends a b written × ((l : Life) → Lives l c → Lives (with_taken l written) now)
+
+pub writes_none : (a b : Option (List ℕ)) (c : State) → Appends a b [] → Writes a b c c
+writes_none a b c sent = ([], sent, takes_none c)
+
+pub writes_some : (a b : Option (List ℕ)) (c d now : State) (bytes : List ℕ) (count : ℕ) → bytes ≡ c.replies → now ≡ d → Appends a b (take count bytes) → ((l : Life) → Lives l c → Lives (with_taken l (take count c.replies)) d) → Writes a b c now
+writes_some a b c d now bytes count is same sent lives =
+    let P : List ℕ → Type 0 = λ q. Appends a b (take count q) in
+    (take count c.replies, subst P is sent, λ l here. lives_as d now (with_taken l (take count c.replies)) same (lives l here))
+
+-- what a read leaves, where it came to this
+abbrev pub Reads : Option (List ℕ) → Option (List ℕ) → State → State → Progress → Type 0
+Reads a b c now p = (read : List ℕ) × (lost : List ℕ) × (p ≢ Ended (Err Memory) → lost ≡ []) × Consumes a b (read ++ lost) × ((l : Life) → Lives l c → Lives (with_bytes l read) now)
+
+pub reads_none : (a b : Option (List ℕ)) (c now : State) (p : Progress) → Consumes a b [] → ((l : Life) → Lives l c → Lives l now) → Reads a b c now p
+reads_none a b c now p consumed lives = ([], [], (λ _. refl), consumed, λ l here. comes_none now l (lives l here))
+
+pub reads_some : (a b : Option (List ℕ)) (c d now : State) (p : Progress) (bytes front : List ℕ) → bytes ≡ front → now ≡ d → Consumes a b front → ((l : Life) → Lives l c → Lives (with_bytes l bytes) d) → Reads a b c now p
+reads_some a b c d now p bytes front is same consumed lives =
+    let P : List ℕ → Type 0 = λ q. Consumes a b q in
+    (bytes, [], (λ _. refl), subst P (sym is ∙ sym (append-nil bytes)) consumed, λ l here. lives_as d now (with_bytes l bytes) same (lives l here))
+
+pub reads_lost : (a b : Option (List ℕ)) (c now : State) (p : Progress) (bytes : List ℕ) → p ≡ Ended (Err Memory) → now ≡ c → Consumes a b bytes → Reads a b c now p
+reads_lost a b c now p bytes is same consumed = ([], bytes, (λ not. absurd (not is)), consumed, λ l here. comes_none now l (lives_as c now l same here))
+
+-- the calls of a progress by which the store failed alike
+pub calls_either : (t u : Option (List Told)) (was : Option (Result Served ServeFault)) (p q : Progress) (xs : List Exchange) → (p ≡ Ended (Err Store) → q ≡ Ended (Err Store)) → (q ≡ Ended (Err Store) → p ≡ Ended (Err Store)) → MakesCalls was p t u xs → MakesCalls was q t u xs
+calls_either t u was p q xs to back calls = record { failed = calls.failed; told = calls.told; ends = λ some. to (calls.ends some); only = λ not is. calls.only not (back is) }
+
+pub ended_inj : (a b : Result Served ServeFault) → Ended a ≡ Ended b → a ≡ b
+ended_inj a b is = cc
+
+-- what an end that was told says of the progress that it is
+pub ended_to : (p q : Progress) (end : Result Served ServeFault) → p ≡ Ended end → (end ≡ Err Store → q ≡ Ended (Err Store)) → p ≡ Ended (Err Store) → q ≡ Ended (Err Store)
+ended_to p q end is store failed = store (ended_inj end (Err Store) (sym is ∙ failed))
+
+pub ended_back : (p q : Progress) (end : Result Served ServeFault) → p ≡ Ended end → (q ≡ Ended (Err Store) → end ≡ Err Store) → q ≡ Ended (Err Store) → p ≡ Ended (Err Store)
+ended_back p q end is other failed = is ∙ ap Ended (other failed)
+
+pub ended_some : (a b : Result Served ServeFault) → Some a ≡ Some b → a ≡ b
+ended_some a b is = cc
+
+-- a write that took none
+pub wrote_none : {E : Type 0} (a b : Option (List ℕ)) (r : Result ℕ E) (bytes : List ℕ) → r ≡ Ok 0 → WriteAppends a b r bytes → Appends a b []
+wrote_none {E = E} a b r bytes is h = let P : Result ℕ E → Type 0 = λ q. WriteAppends a b q bytes in subst P is h
+
+-- a read that gave none
+pub gave_none : {E : Type 0} (a b : Option (List ℕ)) (r : Result ℕ E) (bytes : List ℕ) → r ≡ Ok 0 → ReadConsumes a b r bytes → Consumes a b []
+gave_none {E = E} a b r bytes is h = let P : Result ℕ E → Type 0 = λ q. ReadConsumes a b q bytes in (subst P is h).0

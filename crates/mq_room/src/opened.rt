@@ -10,7 +10,7 @@ use crate::network::Network;
 use mq_deadline::deadline_after;
 use mq_ledger::Ledger;
 use mq_server::laws::more_exchanges;
-use mq_server::{Connection, PIECE, Progress, ServeFault};
+use mq_server::{Connection, PIECE, Progress, ServeFault, Served};
 use std::alloc::Global;
 use std::io;
 use std::io::ErrorKind;
@@ -101,13 +101,42 @@ impl OpenConnection {
             return self.write_replies(clock, network, number, timeout);
         }
         match self.connection.answer(alloc, FRAMES, ledger) {
-            Progress::Ended(Err(ServeFault::Store)) => {
+            Progress::Answered => Progress::Answered,
+            Progress::Waits if !self.connection.replies().is_empty() => Progress::Answered,
+            Progress::Waits => self.read_more(clock, network, number, timeout),
+            Progress::Ended(end) => self.end_turn(clock, network, number, timeout, end),
+        }
+    }
+
+    /// The turn of a connection that has ended so: its replies go out before the end is told. Where the store failed,
+    /// what the peer takes of them now is all.
+    fn end_turn<N: Network>(
+        &mut self,
+        clock: &impl Clock,
+        network: &mut N,
+        number: usize,
+        timeout: Duration,
+        end: Result<Served, ServeFault>,
+    ) -> Progress
+        ensures others { (n : ℕ) → n ≢ number → N.wire network.new n ≡ N.wire network.old n }
+        ensures end { self.new.connection.end ≡ self.old.connection.end }
+        ensures store { end ≡ Err ServeFault.Store → result ≡ Ended (Err ServeFault.Store) }
+        ensures other { result ≡ Ended (Err ServeFault.Store) → end ≡ Err ServeFault.Store }
+        ensures remaining { (N.wire network.new number).remaining ≡ (N.wire network.old number).remaining }
+        ensures writes { (written : List ℕ)
+            × Appends (N.wire network.old number).contents (N.wire network.new number).contents written
+            × ((l : Life) → Lives l self.old.connection → Lives (with_taken l written) self.new.connection) }
+    {
+        if self.connection.replies().is_empty() {
+            return Progress::Ended(end);
+        }
+        match end {
+            Ok(_) => Progress::Answered,
+            Err(ServeFault::Store) => {
                 let _ = self.write_replies(clock, network, number, timeout);
                 Progress::Ended(Err(ServeFault::Store))
             }
-            _ if !self.connection.replies().is_empty() => Progress::Answered,
-            Progress::Waits => self.read_more(clock, network, number, timeout),
-            progress => progress,
+            Err(_) => Progress::Answered,
         }
     }
 

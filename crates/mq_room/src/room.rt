@@ -96,33 +96,39 @@ impl Room {
         ensures last { self.new.last ≡ self.old.last }
         ensures opens { Opens (held self.old.opened) (held self.new.opened) self.old.last }
     {
-        match OpenConnection::new(clock, self.alloc, peer, timeout) {
-            Ok(open) => {
-                if self.opened.len() >= PLACES {
-                    self.make_place(log, network);
-                }
-                if self.opened.insert(self.last, open).is_ok() {
-                    return;
-                }
-                warn!(log; "connection of {peer}: {}", ServeFault::Memory);
+        let open = match OpenConnection::new(clock, self.alloc, peer, timeout) {
+            Ok(open) => open,
+            Err(cause) => {
+                warn!(log; "connection of {peer}: {cause}");
+                network.close(self.last);
+                return;
             }
-            Err(cause) => warn!(log; "connection of {peer}: {cause}"),
+        };
+        self.make_place(log, network);
+        match self.opened.insert(self.last, open) {
+            Ok(_) => return,
+            Err(_) => warn!(log; "connection of {peer}: {}", ServeFault::Memory),
         }
         network.close(self.last);
     }
 
-    /// Closes the connection that would be late first.
+    /// Closes the connection that would be late first, where no place is left.
     fn make_place<N: Network, G: Log>(&mut self, log: &G, network: &mut N)
         ensures same { (n : ℕ) → N.wire network.new n ≡ N.wire network.old n }
         ensures last { self.new.last ≡ self.old.last }
         ensures fewer { AreFewer (held self.old.opened) (held self.new.opened) }
     {
-        if let Some((number, _)) = self.first_late() {
-            if let Some(open) = self.close(network, number) {
-                let peer = open.peer;
-                warn!(log; "connection of {peer}: too many connections");
-            }
+        if self.opened.len() < PLACES {
+            return;
         }
+        let Some((number, _)) = self.first_late() else {
+            return;
+        };
+        let Some(open) = self.close(network, number) else {
+            return;
+        };
+        let peer = open.peer;
+        warn!(log; "connection of {peer}: too many connections");
     }
 
     /// Gives each connection of which something came its turns.
@@ -141,8 +147,8 @@ impl Room {
         ensures sound { L.has_kept ledger.new → L.is_sound ledger.old → L.is_sound ledger.new }
         ensures fault { IfErr result (λ fault. fault ≡ RoomFault.Store) }
         ensures goes { L.has_kept ledger.new → L.is_sound ledger.old → (old : Outside) →
-            (let before = record { book = L.book ledger.old; told = L.told ledger.old; wires = N.wire network.old } in
-            let after = record { book = L.book ledger.new; told = L.told ledger.new; wires = N.wire network.new } in
+            (let before : Outside = record { book = L.book ledger.old; told = L.told ledger.old; wires = N.wire network.old } in
+            let after : Outside = record { book = L.book ledger.new; told = L.told ledger.new; wires = N.wire network.new } in
             GoesOn old before self.old.last (held self.old.opened) →
             OnOk result (GoesOn old after self.new.last (held self.new.opened))
             × EndsServing old after RoomFault.Store result) }
@@ -169,8 +175,8 @@ impl Room {
         ensures sound { L.has_kept ledger.new → L.is_sound ledger.old → L.is_sound ledger.new }
         ensures fault { IfErr result (λ fault. fault ≡ RoomFault.Store) }
         ensures goes { L.has_kept ledger.new → L.is_sound ledger.old → (old : Outside) →
-            (let before = record { book = L.book ledger.old; told = L.told ledger.old; wires = N.wire network.old } in
-            let after = record { book = L.book ledger.new; told = L.told ledger.new; wires = N.wire network.new } in
+            (let before : Outside = record { book = L.book ledger.old; told = L.told ledger.old; wires = N.wire network.old } in
+            let after : Outside = record { book = L.book ledger.new; told = L.told ledger.new; wires = N.wire network.new } in
             GoesOn old before self.old.last (held self.old.opened) →
             OnOk result (GoesOn old after self.new.last (held self.new.opened))
             × EndsServing old after RoomFault.Store result) }
@@ -183,10 +189,7 @@ impl Room {
         match take_turns(clock, self.alloc, network, number, open, timeout, ledger) {
             Progress::Waits => Ok(()),
             Progress::Answered => {
-                if let Err(cause) = network.tell_again(number) {
-                    warn!(log; "connection of {peer}: {cause}");
-                    let _ = self.close(network, number);
-                }
+                self.tell_again(log, network, number, &peer);
                 Ok(())
             }
             Progress::Ended(end) => {
@@ -194,6 +197,25 @@ impl Room {
                 end_of(log, &peer, end)
             }
         }
+    }
+
+    /// Has the system tell again of a connection that may have more. One of which it can't tell is closed.
+    fn tell_again<N: Network, G: Log>(
+        &mut self,
+        log: &G,
+        network: &mut N,
+        number: usize,
+        peer: &SocketAddr,
+    )
+        ensures same { (n : ℕ) → N.wire network.new n ≡ N.wire network.old n }
+        ensures last { self.new.last ≡ self.old.last }
+        ensures fewer { AreFewer (held self.old.opened) (held self.new.opened) }
+    {
+        let Err(cause) = network.tell_again(number) else {
+            return;
+        };
+        warn!(log; "connection of {peer}: {cause}");
+        let _ = self.close(network, number);
     }
 
     /// Closes the connections that were late at that moment.

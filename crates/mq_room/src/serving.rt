@@ -47,9 +47,10 @@ pub fn serve_connections<R: Clock + Net, G: Log, L: Ledger>(
     a_life_is_served();
     more_exchanges();
     let events = Events::with_capacity(alloc, EVENTS)?;
-    let mut sockets = Sockets::new(rt, log, alloc, events, listener, connections).map_err(
-        |e| no_wait(log, &e),
-    )?;
+    let mut sockets = match Sockets::new(rt, log, alloc, events, listener, connections) {
+        Ok(sockets) => sockets,
+        Err(error) => return Err(no_wait(log, &error)),
+    };
     serve_network(rt, log, alloc, &mut sockets, timeout, ledger)
 }
 
@@ -81,9 +82,12 @@ pub fn serve_network<N: Network, C: Clock, G: Log, L: Ledger>(
         room.accept(clock, log, network, timeout)?;
         // The last connection may just have been given up for want of memory: then nothing more comes.
         if network.is_done() && room.is_empty() {
-            break;
+            return Ok(());
         }
-        let now = wait(clock, &room, network, &mut ready).map_err(|e| no_wait(log, &e))?;
+        let now = match wait(clock, &room, network, &mut ready) {
+            Ok(now) => now,
+            Err(error) => return Err(no_wait(log, &error)),
+        };
         room.serve(clock, log, network, &ready, timeout, ledger)?;
         room.expire(log, network, now);
     }
@@ -110,7 +114,9 @@ fn wait<N: Network>(
 }
 
 /// Logs why the system doesn't tell of connections.
-fn no_wait<G: Log>(log: &G, error: &io::Error) -> RoomFault {
+fn no_wait<G: Log>(log: &G, error: &io::Error) -> RoomFault
+    ensures { result ≡ RoomFault.Accept }
+{
     error!(log; "waiting for connections: {error}");
     RoomFault::Accept
 }

@@ -15,8 +15,8 @@ loop-turn-init g c = record {
       (c.more_exchanges.ensures.none (g.L.Ledger.book c.args.ledger.now) (g.met.L.Ledger.sound_is_legal c.args.ledger.now s));
 }
 
-pub returns-in_default-take_turn : goal.returns-in_default-take_turn
-returns-in_default-take_turn g c =
+pub returns-in_default : goal.returns-in_default
+returns-in_default g c =
     let i = c.loop-turn.invariant in
     let turn = c.take_turn.ensures in record {
       others = λ n not. turn.others n not ∙ i.others n not;

@@ -1,4 +1,8 @@
-use Rattle.std.proofs.Common.{◌≡◌, ◌∙◌, refl}
+use Rattle.std.proofs.Common.{◌≡◌, ◌∙◌, Err, refl, sym, ap}
+use Rattle.std.proofs.lemmas.Result.{err_from_is_err_and}
+use Rattle.mq_room.specs.declared.fault.RoomFault.TheVariants as faults
+use Rattle.mq_room.specs.Sessions.{GoesOn, Outside, held}
+use Rattle.mq_room.proofs.Standing.{ends_as, not_ok}
 use Rattle.mq_room.proofs.room.Room.serve.Goals as goal
 
 pub loop-number-init : goal.loop-number-init
@@ -22,7 +26,12 @@ loop-number-preserved g c =
     }
 
 pub returns-in_err-serve_one-clause-goes : goal.returns-in_err-serve_one-clause-goes
-returns-in_err-serve_one-clause-goes g c =
+returns-in_err-serve_one-clause-goes g c = λ k s old start.
     let i = c.loop-number.invariant in
     let e = c.in_err-serve_one.ensures in
-    λ k s old start. e.goes k (i.sound (e.kept k) s) old (i.goes (e.kept k) s old start)
+    let after : Outside = record { book = g.L.Ledger.book c.serve_one.new.ledger; told = g.L.Ledger.told c.serve_one.new.ledger; wires = g.N.Network.wire c.serve_one.new.network } in
+    let r = c.from_residual.result in
+    let p = err_from_is_err_and r c.from_residual.ensures.1 in (
+      not_ok r p.0 (GoesOn old after c.serve_one.new.self.last (held c.serve_one.new.self.opened)) p.1,
+      ends_as old after faults.Store _ r (sym (p.1 ∙ ap Err p.2)) (e.goes k (i.sound (e.kept k) s) old (i.goes (e.kept k) s old start)).1,
+    )
