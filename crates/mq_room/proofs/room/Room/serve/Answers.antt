@@ -1,8 +1,8 @@
-use Rattle.std.proofs.Common.{◌≡◌, ◌∙◌, Err, refl, sym, ap}
+use Rattle.std.proofs.Common.{◌≡◌, ◌∙◌, Ok, Err, refl, sym, ap}
 use Rattle.std.proofs.lemmas.Result.{err_from_is_err_and}
 use Rattle.mq_room.specs.declared.fault.RoomFault.TheVariants as faults
 use Rattle.mq_room.specs.Sessions.{GoesOn, Outside, held}
-use Rattle.mq_room.proofs.Standing.{ends_as, not_ok}
+use Rattle.mq_room.proofs.Standing.{ends_as, ends_so, not_ok, ok_not}
 use Rattle.mq_room.proofs.room.Room.serve.Goals as goal
 
 pub loop-number-init : goal.loop-number-init
@@ -35,3 +35,10 @@ returns-in_err-serve_one-clause-goes g c = λ k s old start.
       not_ok r p.0 (GoesOn old after c.serve_one.new.self.last (held c.serve_one.new.self.opened)) p.1,
       ends_as old after faults.Store _ r (sym (p.1 ∙ ap Err p.2)) (e.goes k (i.sound (e.kept k) s) old (i.goes (e.kept k) s old start)).1,
     )
+
+pub returns-clause-goes : goal.returns-clause-goes
+returns-clause-goes g c = λ k s old start.
+    let room = c.loop-number.self in
+    let after : Outside = record { book = g.L.Ledger.book c.loop-number.ledger; told = g.L.Ledger.told c.loop-number.ledger; wires = g.N.Network.wire c.loop-number.network } in
+    let goes = c.loop-number.invariant.goes k s old start in
+    (goes, ends_so old after room.last (held room.opened) faults.Store (Ok tt) (ok_not tt faults.Store) goes)
