@@ -57,8 +57,8 @@ returns-in_err-accept-clause-serves g c = λ k s.
     ends_so start accepted room.last (held room.opened) faults.Store r (not_store r p.0 _ p.1 p.2 c.in_err-accept.ensures.fault) (c.accept.ensures.goes start accepted.book accepted.told (i.goes k s))
 
 -- the system doesn't tell of connections
-pub returns-in-Err-now-clause-serves : goal.returns-in-Err-now-clause-serves
-returns-in-Err-now-clause-serves g c = λ k s.
+pub returns-in-Err-clause-serves : goal.returns-in-Err-clause-serves
+returns-in-Err-clause-serves g c = λ k s.
     let i = c.loop-round.invariant in
     let wire = g.N.Network.wire in
     let start : Outside = record { book = g.L.Ledger.book c.args.ledger.now; told = g.L.Ledger.told c.args.ledger.now; wires = wire c.args.network.now } in
@@ -86,8 +86,8 @@ returns-in_err-serve-clause-serves g c = λ k s.
     ends_as start after faults.Store _ r (sym (p.1 ∙ ap Err p.2)) (e.goes k (i.sound before s) start goes).1
 
 -- all were accepted, and have ended
-pub returns-then-is_done-clause-serves : goal.returns-then-is_done-clause-serves
-returns-then-is_done-clause-serves g c = λ k s.
+pub returns-then-is_empty-clause-serves : goal.returns-then-is_empty-clause-serves
+returns-then-is_empty-clause-serves g c = λ k s.
     let i = c.loop-round.invariant in
     let wire = g.N.Network.wire in
     let start : Outside = record { book = g.L.Ledger.book c.args.ledger.now; told = g.L.Ledger.told c.args.ledger.now; wires = wire c.args.network.now } in
