@@ -254,6 +254,10 @@ impl From<AllocError> for Refused {
 }
 
 impl<T: Drop> From<AllocFailed<T>> for Refused {
+    ghost use Rattle.mq_ledger.specs.declared.ledger.LedgerFault.TheVariants.{Memory};
+
+    ghost from_gives = { λ _ refused. refused.fault ≡ Memory };
+
     fn from(_error: AllocFailed<T>) -> Refused {
         Refused {
             fault: LedgerFault::Memory,

@@ -1,4 +1,4 @@
-ghost use Rattle.std.specs.Prelude.{◌≡◌, ◌⊎◌, ℕ, Option, true, Bool, List, [], ◌∷◌, ◌++◌, false, IsTrue, IfOk, IfErr, OnOk, OnErr};
+ghost use Rattle.std.specs.Prelude.{◌≡◌, ◌⊎◌, ℕ, Option, true, Bool, List, [], ◌∷◌, ◌++◌, length, false, IsTrue, IfOk, IfErr, OnOk, OnErr};
 ghost use Rattle.sqlite.specs.Held.{state};
 ghost use Rattle.sqlite.specs.State.{HasCleanDisk};
 ghost use Rattle.sqlite.specs.Tree.{Trees};
@@ -22,6 +22,7 @@ ghost use Rattle.mq_store.specs.declared.fault.OpenFault.TheVariants.{NotOurs, M
 
 use crate::apply::apply;
 use crate::auditing::audit_store;
+use crate::counting::count_store;
 use crate::fault::{OpenFault, OpenRefused, create_fault};
 use crate::laws::{books_are_right, later_arrivals_add_nothing, tables_mean_their_book};
 use crate::opening::open_store;
@@ -103,6 +104,12 @@ impl<S: Alter> SqlLedger<S> {
             → (state S.Store e.connection).now ≡ (state S.Store connection).now) }
 
         ensures fault { IfErr result (λ e. (e.fault ≡ NotOurs) ⊎ ((e.fault ≡ Memory) ⊎ (e.fault ≡ Store))) }
+
+        // Kept at the end, it was kept at the entry.
+        ensures kept_ok { IfOk result (λ l. HasKept (state S.Store l.connection)
+            → HasKept (state S.Store connection)) }
+        ensures kept_err { IfErr result (λ e. HasKept (state S.Store e.connection)
+            → HasKept (state S.Store connection)) }
 
         // The connection is outside a transaction where it was lent so, and a ledger's always is.
         ensures autocommit_ok { IfOk result (λ l. (connection.in_transaction ≡ false)
@@ -206,6 +213,12 @@ impl<S: Alter> SqlLedger<S> {
         ensures sound { IfOk result (λ l. HasKept (state S.Store l.connection)
             → IsOpened zone default (state S.Store connection) (state S.Store l.connection)) }
 
+        // Kept at the end, it was kept at the entry.
+        ensures kept_ok { IfOk result (λ l. HasKept (state S.Store l.connection)
+            → HasKept (state S.Store connection)) }
+        ensures kept_err { IfErr result (λ e. HasKept (state S.Store e.connection)
+            → HasKept (state S.Store connection)) }
+
         // The connection is outside a transaction where it was lent so, and a ledger's always is.
         ensures autocommit_ok { IfOk result (λ l. (connection.in_transaction ≡ false)
             × (l.connection.in_transaction ≡ false)) }
@@ -286,6 +299,33 @@ impl<S: Alter> SqlLedger<S> {
         books_are_right();
         let found = audit_store(self.alloc, &mut self.connection, self.zone, self.default)?;
         Ok(found)
+    }
+
+    /// How many answers the ledger has: one for each number under which it took a request. Nothing is written.
+    ///
+    /// The fault is `Memory`, or `Store` where the statement was refused for another cause. A crash behind it,
+    /// whatever it answered, leaves what a crash before it could leave.
+    pub fn count_answers(&mut self) -> Result<u64, LedgerFault>
+        ensures lent { (self.new.zone ≡ self.old.zone) × (self.new.default ≡ self.old.default) }
+        ensures counted { HasKept (state S.Store self.new.connection)
+            → IsSound self.old.zone self.old.default (state S.Store self.old.connection)
+            → IfOk result (λ n. n ≡ length (book_in self.old.zone self.old.default
+            (state S.Store self.old.connection).now).history) }
+        ensures sound { HasKept (state S.Store self.new.connection)
+            → IsSound self.old.zone self.old.default (state S.Store self.old.connection)
+            → IsSound self.new.zone self.new.default (state S.Store self.new.connection) }
+        ensures same { HasKept (state S.Store self.new.connection)
+            → (state S.Store self.new.connection).now ≡ (state S.Store self.old.connection).now }
+        ensures kept { HasKept (state S.Store self.new.connection)
+            → HasKept (state S.Store self.old.connection) }
+        ensures autocommit { self.new.connection.in_transaction ≡ false }
+
+        // What an open after a crash may find.
+        ensures crash { HasCleanDisk (state S.Store self.new.connection) → (db : Trees)
+            → (state S.Store self.new.connection).may_leave db → (state S.Store self.old.connection).may_leave db }
+    {
+        let count = count_store(&mut self.connection)?;
+        Ok(count)
     }
 
     /// The connection, with the tables as they are. It is outside a transaction.

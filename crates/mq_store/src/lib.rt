@@ -3,6 +3,7 @@
 
 mod apply;
 mod auditing;
+mod counting;
 mod fault;
 mod giving_up;
 mod laws;

@@ -8,6 +8,7 @@ ghost use Rattle.mq_tables.specs.Settings.{SettingRow, shown_of};
 ghost use Rattle.mq_store.specs.Opening.{known_version, IsJudged, IsJudgedAs, IsJudgedBy, IsJudgedRuled, IsJudgedCurrent};
 ghost use Rattle.mq_store.specs.Opening.{HasSettings, HoldsKnown, HoldsVersion, HasCurrent, IsRuled, IsFaultOf, IsOf};
 ghost use Rattle.mq_store.specs.Opening.{IsFound, IsFoundOf, IsBroughtUp, IsLeftOlder, Opens, Refuses};
+ghost use Rattle.mq_store.specs.Soundness.{HasKept};
 
 use crate::auditing::audit_store;
 use crate::fault::{
@@ -154,6 +155,7 @@ fn check_store<S: Alter>(
     ensures exact { HasCleanDisk (state S.Store connection.new) → (s : SettingRow) (rule : Option (List ℕ))
         → HasSettings (state S.Store connection.old).now s rule
         → IsOf zone default (state S.Store connection.old).now.schema s rule result }
+    ensures clean { HasCleanDisk (state S.Store connection.new) → HasCleanDisk (state S.Store connection.old) }
     ensures spares { HasCleanDisk (state S.Store connection.new)
         → Spares (state S.Store connection.old) (state S.Store connection.new) }
 {
@@ -179,6 +181,7 @@ fn check_ledger<S: Alter>(
     ensures exact { HasCleanDisk (state S.Store connection.new) → (s : SettingRow) (rule : Option (List ℕ))
         → HasSettings (state S.Store connection.old).now s rule
         → IsFoundOf zone default (state S.Store connection.old).now s rule result }
+    ensures clean { HasCleanDisk (state S.Store connection.new) → HasCleanDisk (state S.Store connection.old) }
     ensures spares { HasCleanDisk (state S.Store connection.new)
         → Spares (state S.Store connection.old) (state S.Store connection.new) }
 {
@@ -227,6 +230,7 @@ pub(crate) fn open_store<S: Alter>(
     requires autocommit { connection.old.in_transaction ≡ false }
     ensures autocommit { connection.new.in_transaction ≡ false }
     ensures unlimited { connection.new.step_limit ≡ None }
+    ensures kept { HasKept (state S.Store connection.new) → HasKept (state S.Store connection.old) }
     ensures opens { HasCleanDisk (state S.Store connection.new)
         → OnOk result (Opens (IsFound S.Store zone default connection.old connection.new)
         (state S.Store connection.old) (state S.Store connection.new)) }

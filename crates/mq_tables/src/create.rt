@@ -6,6 +6,7 @@ ghost use Rattle.sqlite.specs.Held.{state};
 ghost use Rattle.sqlite.specs.Tree.{Trees};
 ghost use Rattle.sqlite.specs.Values.{bound};
 ghost use Rattle.mq_ledger.specs.Day.{rule_in};
+ghost use Rattle.mq_tables.specs.Inside.{Lasts};
 ghost use Rattle.mq_tables.specs.Settings.{rule_fields};
 ghost use Rattle.mq_tables.specs.Tables.{setting_table, answer_table, trans_table, usage_table, ceiling_table, rule_table};
 ghost use Rattle.mq_tables.specs.Tables.{retired_table};
@@ -315,6 +316,7 @@ pub fn make_ledger<S: Alter>(conn: &mut Connection<S>, made_with: &NewSetting) -
     requires autocommit { conn.old.in_transaction ≡ false }
     ensures autocommit { conn.new.in_transaction ≡ false }
     ensures limit { conn.new.step_limit ≡ conn.old.step_limit }
+    ensures lasts { Lasts (state S.Store conn.old) (state S.Store conn.new) }
     ensures made { HasCleanDisk (state S.Store conn.new) → OnOk result
         (IsMadeOver made_with.now (state S.Store conn.old).now (state S.Store conn.new).now) }
     ensures open { HasCleanDisk (state S.Store conn.new) → OnOk result (IsTrue (state S.Store conn.new).is_open) }

@@ -72,6 +72,7 @@ pub fn read_setting<S: Alter>(connection: &mut Connection<S>) -> Result<Option<S
     // Whatever the store holds.
     ensures read { HasCleanDisk (state S.Store connection.new)
         → IsRead (state S.Store connection.old) (state S.Store connection.new) result }
+    ensures clean { HasCleanDisk (state S.Store connection.new) → HasCleanDisk (state S.Store connection.old) }
     ensures spares { HasCleanDisk (state S.Store connection.new)
         → Spares (state S.Store connection.old) (state S.Store connection.new) }
     ensures open { HasCleanDisk (state S.Store connection.new)

@@ -1,4 +1,4 @@
-use Rattle.std.proofs.Common.{IsTrue, Ok, Err, refl, ap}
+use Rattle.std.proofs.Common.{arith, IsTrue, Ok, Err, refl, ap}
 use Rattle.sqlite.specs.Held.{state}
 use Rattle.mq_tables.proofs.Opens.{of_setting}
 use Rattle.mq_tables.specs.Reading.{setting_text}
@@ -48,3 +48,9 @@ pub returns-in-Err-clause-row : goal.returns-in-Err-clause-row
 returns-in-Err-clause-row g c clean =
     of_setting (state g.S.Store c.args.connection.now) (state g.S.Store c.query_row.new.self) (Err c.in-Err.error)
     (record { answer = Err c.in-Err.error; queried = rw c.set_step_limit.ensures at (c.in-Err.ensures.row clean); read_is = refl })
+
+pub returns-in-Ok-clause-clean : goal.returns-in-Ok-clause-clean
+returns-in-Ok-clause-clean g c clean = omega (arith, rw c.set_step_limit.ensures at c.in-Ok.ensures.survives.clean)
+
+pub returns-in-Err-clause-clean : goal.returns-in-Err-clause-clean
+returns-in-Err-clause-clean g c clean = omega (arith, rw c.set_step_limit.ensures at c.in-Err.ensures.survives.clean)
