@@ -37,6 +37,7 @@ pub mod TransactionUpdates
 pub mod TransactionInserts
 pub mod TransactionReads
 pub mod AnswerReads
+pub mod EntryReads
 pub mod Firsts
 pub mod Governing
 pub mod CeilingReads

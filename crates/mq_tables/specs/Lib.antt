@@ -18,3 +18,4 @@ pub mod Figures
 pub mod Floors
 pub mod Retiring
 pub mod Migrating
+pub mod Entries

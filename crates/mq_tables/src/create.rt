@@ -288,7 +288,9 @@ fn create_others<S: Alter>(tx: &mut Transaction<'_, S>) -> Result<usize, Error>
     create_later(tx)
 }
 
-fn make_tables<S: Alter>(
+/// Makes the seven tables of a ledger that has applied nothing, inside a transaction, over whatever the
+/// store holds. An error is the store's; the tables that were made before it are then there.
+pub fn make_tables<S: Alter>(
     tx: &mut Transaction<'_, S>,
     made_with: &NewSetting,
 ) -> Result<usize, Error>

@@ -4,6 +4,7 @@
 pub mod answer;
 pub mod ceiling;
 pub mod create;
+pub mod entry;
 pub mod figures;
 pub mod find;
 pub mod floor;

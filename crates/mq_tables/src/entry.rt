@@ -1,0 +1,79 @@
+//! The answers one by one, by their places in the order of arrival.
+
+ghost use Rattle.std.specs.List.Sorted.{IsPermutation};
+ghost use Rattle.std.specs.Prelude.{◌≡◌, ◌<◌, ◌^◌, ◌==◌, pos, List, [], ◌∷◌, map, filter, OnOk, IfOk};
+ghost use Rattle.sqlite.specs.Held.{state};
+ghost use Rattle.sqlite.specs.State.{HasCleanDisk, IsUnchanged, KeepsCommit, Survives};
+ghost use Rattle.sqlite.specs.Values.{bound};
+ghost use Rattle.sqlite.specs.declared.types.Value.TheVariants.{Int};
+ghost use Rattle.mq_rows.specs.Tables.{Tables};
+ghost use Rattle.mq_tables.specs.Ledger.{HasLedger};
+ghost use Rattle.mq_tables.specs.Lent.{bodies_row};
+ghost use Rattle.mq_tables.specs.Entries.{IsFirstBodies, IsAnswerAt};
+
+use mq_rows::Body;
+use sqlite::types::ValueRef;
+use sqlite::{Alter, Error, Row, Transaction};
+
+/// The bodies of a request and of its reply, which is empty where its run was given up.
+#[derive(Drop)]
+pub struct Bodies {
+    pub request: Body,
+    pub reply: Body,
+}
+
+fn place_params(n: u64) -> [ValueRef<'static>; 1]
+    requires { n < 2 ^ 63 }
+    ensures { bound result ≡ Int (pos n) ∷ [] }
+{
+    [ValueRef::Int(n as i64)]
+}
+
+fn rows_at<S: Alter>(tx: &mut Transaction<'_, S>, n: u64) -> Result<Vec<Row>, Error>
+    requires { n < 2 ^ 63 }
+    ensures same_reference { tx.new.conn.ghost_name ≡ tx.old.conn.ghost_name }
+    ensures same { HasCleanDisk (state S.Store tx.new.conn.now)
+        → OnOk result (IsUnchanged (state S.Store tx.old.conn.now) (state S.Store tx.new.conn.now)) }
+    ensures found { HasCleanDisk (state S.Store tx.new.conn.now)
+        → IfOk result (λ rows. (t : Tables) → HasLedger (state S.Store tx.old.conn.now).now t
+        → IsPermutation (map bodies_row (filter (λ a. n == a.n) t.answers)) rows.items) }
+    ensures kept { HasCleanDisk (state S.Store tx.new.conn.now)
+        → KeepsCommit (state S.Store tx.old.conn.now) (state S.Store tx.new.conn.now) }
+    ensures survives { Survives (state S.Store tx.old.conn.now) (state S.Store tx.new.conn.now) (λ _. ⊥) }
+{
+    tx.query_all(
+        "SELECT n, request, reply FROM answer WHERE n = ?1",
+        &place_params(n),
+    )
+}
+
+/// What the first row shows, where there is one.
+fn first_bodies(rows: &[Row]) -> Result<Option<Bodies>, Error>
+    ensures { IfOk result (IsFirstBodies rows.now) }
+{
+    let Some(row) = rows.first() else {
+        return Ok(None);
+    };
+    Ok(Some(Bodies {
+        request: Body::new(row.get(1)?),
+        reply: Body::new(row.get(2)?),
+    }))
+}
+
+/// The bodies of the n-th answer, where there is one: n counts from 1 to below 2 to the 63rd. An error
+/// is the store's, or that of a row whose bodies aren't bytes.
+pub fn read_answer<S: Alter>(tx: &mut Transaction<'_, S>, n: u64) -> Result<Option<Bodies>, Error>
+    requires { n < 2 ^ 63 }
+    ensures same_reference { tx.new.conn.ghost_name ≡ tx.old.conn.ghost_name }
+    ensures same { HasCleanDisk (state S.Store tx.new.conn.now)
+        → OnOk result (IsUnchanged (state S.Store tx.old.conn.now) (state S.Store tx.new.conn.now)) }
+    ensures found { HasCleanDisk (state S.Store tx.new.conn.now)
+        → IfOk result (λ found. (t : Tables) → HasLedger (state S.Store tx.old.conn.now).now t
+        → IsAnswerAt n t.answers found) }
+    ensures kept { HasCleanDisk (state S.Store tx.new.conn.now)
+        → KeepsCommit (state S.Store tx.old.conn.now) (state S.Store tx.new.conn.now) }
+    ensures survives { Survives (state S.Store tx.old.conn.now) (state S.Store tx.new.conn.now) (λ _. ⊥) }
+{
+    let rows = rows_at(tx, n)?;
+    first_bodies(rows.as_slice())
+}
