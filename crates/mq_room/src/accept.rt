@@ -1,5 +1,5 @@
 //! The next connection, also behind errors that pass.
-ghost use Rattle.std.specs.Prelude.{◌≡◌, ◌*◌, min};
+ghost use Rattle.std.specs.Prelude.{◌≡◌, ◌*◌, min, IfErr};
 
 use crate::fault::RoomFault;
 use log::{Log, error, warn};
@@ -98,7 +98,9 @@ impl<'a> Acceptor<'a> {
         &mut self,
         clock: &C,
         log: &G,
-    ) -> Result<Option<(TcpStream, SocketAddr)>, RoomFault> {
+    ) -> Result<Option<(TcpStream, SocketAddr)>, RoomFault>
+        ensures { IfErr result (λ fault. fault ≡ RoomFault.Accept) }
+    {
         if !self.is_due(clock).unwrap_or(true) {
             return Ok(None);
         }

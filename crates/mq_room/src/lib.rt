@@ -1,13 +1,15 @@
-//! The connections of a server that are open at once, over sockets that don't block: each has its turns, and none waits for
+//! The connections of a server that are open at once, over streams that don't block: each has its turns, and none waits for
 //! another's peer.
 #![tactic(auto)]
 
 mod accept;
 mod fault;
-mod guest;
-mod portion;
+mod network;
+mod opened;
 mod room;
 mod serving;
+mod sockets;
 
 pub use fault::RoomFault;
-pub use serving::serve_connections;
+pub use network::Network;
+pub use serving::{serve_connections, serve_network};

@@ -1,115 +1,143 @@
-//! The connections that are open, and the system's word on which of them something came.
-ghost use Rattle.std.specs.Prelude.{◌≡◌};
-ghost use Rattle.mq_server.specs.Delivery.{HasGrown};
+//! The connections that are open.
+ghost use Rattle.std.specs.Prelude.{◌≡◌, ◌≢◌, ℕ, List, Option, None, Err, IfErr, OnOk};
+ghost use Rattle.mq_ledger.specs.declared.ledger.Told.{Told};
+ghost use Rattle.mq_ledger.specs.Legal.{Book};
+ghost use Rattle.mq_room.specs.Sessions.{AreFewer, EndsServing, GoesOn, Opens, Outside, held};
 
-use crate::accept::Acceptor;
 use crate::fault::RoomFault;
-use crate::guest::{Guest, Turn, take_turns};
+use crate::network::Network;
+use crate::opened::{OpenConnection, take_turns};
 use log::{Log, error, warn};
-use mio::unix::SourceFd;
-use mio::{Events, Interest, Poll, Token};
 use mq_ledger::Ledger;
-use mq_server::laws::more_deliveries;
-use mq_server::{ServeFault, Served};
+use mq_server::laws::{a_life_is_served, more_exchanges};
+use mq_server::{PIECE, Progress, ServeFault, Served};
 use std::alloc::Global;
 use std::collections::BTreeMap;
-use std::io;
-use std::net::{Net, SocketAddr, TcpListener};
-use std::os::fd::AsRawFd;
+use std::net::SocketAddr;
 use std::rt::Clock;
 use std::time::{Duration, Instant};
 
 /// The most connections that are open at once: a process may commonly have 1,024 files.
 const PLACES: usize = 900;
 
-/// The most connections that are told of at once: all of them.
-pub const EVENTS: usize = 1_024;
-
 /// The most connections that are accepted before others have their turns.
-const ARRIVALS: usize = 64;
+const ACCEPTED: usize = 64;
 
-/// Under which the system tells of the listener; a connection has a number above it.
-const LISTENER: Token = Token(0);
-
-/// The listener and the connections that are open.
+/// The connections that are open, each under its number: they are counted as they come, from 1 on.
 #[derive(Drop)]
-pub struct Room<'a> {
-    poll: Poll,
-    acceptor: Acceptor<'a>,
-    guests: BTreeMap<usize, Guest>,
+pub struct Room {
+    opened: BTreeMap<usize, OpenConnection>,
     alloc: Global,
     /// The number of the connection that was accepted last.
     last: usize,
 }
 
-impl<'a> Room<'a> {
-    /// A room with no connection, which accepts so many.
-    pub fn new(
-        net: &impl Net,
-        alloc: Global,
-        listener: &'a TcpListener,
-        connections: u32,
-    ) -> io::Result<Room<'a>> {
-        listener.set_nonblocking(true)?;
-        let poll = Poll::new(net)?;
-        let descriptor = listener.as_raw_fd();
-        poll.registry()
-            .register(&mut SourceFd(&descriptor), LISTENER, Interest::READABLE)?;
-        Ok(Room {
-            poll,
-            acceptor: Acceptor::new(listener, connections),
-            guests: BTreeMap::new(alloc),
+impl Room {
+    /// None is open yet.
+    pub fn new(alloc: Global) -> Room
+        ensures last { result.last ≡ 0 }
+        ensures none { (n : ℕ) → held result.opened n ≡ None }
+    {
+        Room {
+            opened: BTreeMap::new(alloc),
             alloc,
             last: 0,
-        })
-    }
-
-    /// Whether all connections were accepted, and have ended.
-    pub fn is_over(&self) -> bool {
-        self.acceptor.is_done() && self.guests.is_empty()
-    }
-
-    /// Waits until something comes, or until a connection is late, or a pause is over, and tells when that was.
-    pub fn wait(&mut self, clock: &impl Clock, events: &mut Events) -> io::Result<Instant> {
-        let now = Instant::now(clock)?;
-        let mut wait = self.acceptor.wait_at(now);
-        for guest in self.guests.values() {
-            let left = guest.until.duration_since(now);
-            wait = match wait {
-                Some(wait) if wait <= left => Some(wait),
-                _ => Some(left),
-            };
         }
-        self.poll.poll(events, wait)?;
-        Instant::now(clock)
     }
 
-    /// Accepts the connections that have come. Where no place is left, the one that would be late first goes.
-    pub fn admit<C: Clock, G: Log>(
+    /// Whether all connections have ended.
+    pub fn is_empty(&self) -> bool {
+        self.opened.is_empty()
+    }
+
+    /// How long it is until the first connection is late.
+    pub fn late_in(&self, now: Instant) -> Option<Duration> {
+        self.first_late()
+            .map(|(_, until)| until.duration_since(now))
+    }
+
+    /// Accepts the connections that have come. Where no place is left, the one that would be late first is closed.
+    pub fn accept<N: Network, C: Clock, G: Log>(
         &mut self,
         clock: &C,
         log: &G,
+        network: &mut N,
         timeout: Duration,
-    ) -> Result<(), RoomFault> {
-        for _arrival in 0..ARRIVALS {
-            let Some((stream, peer)) = self.acceptor.next(clock, log)? else {
+    ) -> Result<(), RoomFault>
+        ensures fault { IfErr result (λ fault. fault ≡ RoomFault.Accept) }
+        ensures goes { (old : Outside) (book : Book) (told : Option (List Told)) →
+            GoesOn old (record { book = book; told = told; wires = N.wire network.old }) self.old.last (held self.old.opened) →
+            GoesOn old (record { book = book; told = told; wires = N.wire network.new }) self.new.last (held self.new.opened) }
+    {
+        a_life_is_served();
+        for _connection in 0..ACCEPTED {
+            let Some(number) = self.last.checked_add(1) else {
+                return Err(RoomFault::Accept);
+            };
+            let Some(peer) = network.accept(number)? else {
                 return Ok(());
             };
-            match Guest::new(clock, self.alloc, stream, peer, timeout) {
-                Ok(guest) => self.seat(log, guest),
-                Err(cause) => warn!(log; "connection of {peer}: {cause}"),
-            }
+            self.last = number;
+            self.add(clock, log, network, peer, timeout);
         }
         Ok(())
+    }
+
+    /// Gives the connection that was accepted last a place. One that can't have it is closed.
+    fn add<N: Network, C: Clock, G: Log>(
+        &mut self,
+        clock: &C,
+        log: &G,
+        network: &mut N,
+        peer: SocketAddr,
+        timeout: Duration,
+    )
+        ensures same { (n : ℕ) → N.wire network.new n ≡ N.wire network.old n }
+        ensures last { self.new.last ≡ self.old.last }
+        ensures opens { Opens (held self.old.opened) (held self.new.opened) self.old.last }
+    {
+        let open = match OpenConnection::new(clock, self.alloc, peer, timeout) {
+            Ok(open) => open,
+            Err(cause) => {
+                warn!(log; "connection of {peer}: {cause}");
+                network.close(self.last);
+                return;
+            }
+        };
+        self.make_place(log, network);
+        match self.opened.insert(self.last, open) {
+            Ok(_) => return,
+            Err(_) => warn!(log; "connection of {peer}: {}", ServeFault::Memory),
+        }
+        network.close(self.last);
+    }
+
+    /// Closes the connection that would be late first, where no place is left.
+    fn make_place<N: Network, G: Log>(&mut self, log: &G, network: &mut N)
+        ensures same { (n : ℕ) → N.wire network.new n ≡ N.wire network.old n }
+        ensures last { self.new.last ≡ self.old.last }
+        ensures fewer { AreFewer (held self.old.opened) (held self.new.opened) }
+    {
+        if self.opened.len() < PLACES {
+            return;
+        }
+        let Some((number, _)) = self.first_late() else {
+            return;
+        };
+        let Some(open) = self.close(network, number) else {
+            return;
+        };
+        let peer = open.peer;
+        warn!(log; "connection of {peer}: too many connections");
     }
 
     /// Gives each connection of which something came its turns.
-    pub fn attend<C: Clock, G: Log, L: Ledger>(
+    pub fn serve<N: Network, C: Clock, G: Log, L: Ledger>(
         &mut self,
         clock: &C,
         log: &G,
-        alloc: Global,
-        events: &Events,
+        network: &mut N,
+        ready: &[usize],
         timeout: Duration,
         ledger: &mut L,
     ) -> Result<(), RoomFault>
@@ -117,28 +145,27 @@ impl<'a> Room<'a> {
         ensures same_default { (L.book ledger.new).default ≡ (L.book ledger.old).default }
         ensures kept { L.has_kept ledger.new → L.has_kept ledger.old }
         ensures sound { L.has_kept ledger.new → L.is_sound ledger.old → L.is_sound ledger.new }
-        ensures history { L.has_kept ledger.new → L.is_sound ledger.old →
-            HasGrown (L.book ledger.old) (L.book ledger.new) }
+        ensures fault { IfErr result (λ fault. fault ≡ RoomFault.Store) }
+        ensures goes { L.has_kept ledger.new → L.is_sound ledger.old → (old : Outside) →
+            (let before : Outside = record { book = L.book ledger.old; told = L.told ledger.old; wires = N.wire network.old } in
+            let after : Outside = record { book = L.book ledger.new; told = L.told ledger.new; wires = N.wire network.new } in
+            GoesOn old before self.old.last (held self.old.opened) →
+            OnOk result (GoesOn old after self.new.last (held self.new.opened))
+            × EndsServing old after RoomFault.Store result) }
     {
-        more_deliveries();
-        for event in events.iter() {
-            let token = event.token();
-            if token == LISTENER {
-                self.acceptor.arrived();
-                continue;
-            }
-            self.attend_one(clock, log, alloc, token, timeout, ledger)?;
+        for number in ready {
+            self.serve_one(clock, log, network, *number, timeout, ledger)?;
         }
         Ok(())
     }
 
-    /// Gives a connection its turns, and lets it go where it ended.
-    fn attend_one<C: Clock, G: Log, L: Ledger>(
+    /// Gives a connection its turns, and closes it where it ended.
+    fn serve_one<N: Network, C: Clock, G: Log, L: Ledger>(
         &mut self,
         clock: &C,
         log: &G,
-        alloc: Global,
-        token: Token,
+        network: &mut N,
+        number: usize,
         timeout: Duration,
         ledger: &mut L,
     ) -> Result<(), RoomFault>
@@ -146,109 +173,121 @@ impl<'a> Room<'a> {
         ensures same_default { (L.book ledger.new).default ≡ (L.book ledger.old).default }
         ensures kept { L.has_kept ledger.new → L.has_kept ledger.old }
         ensures sound { L.has_kept ledger.new → L.is_sound ledger.old → L.is_sound ledger.new }
-        ensures history { L.has_kept ledger.new → L.is_sound ledger.old →
-            HasGrown (L.book ledger.old) (L.book ledger.new) }
+        ensures fault { IfErr result (λ fault. fault ≡ RoomFault.Store) }
+        ensures goes { L.has_kept ledger.new → L.is_sound ledger.old → (old : Outside) →
+            (let before : Outside = record { book = L.book ledger.old; told = L.told ledger.old; wires = N.wire network.old } in
+            let after : Outside = record { book = L.book ledger.new; told = L.told ledger.new; wires = N.wire network.new } in
+            GoesOn old before self.old.last (held self.old.opened) →
+            OnOk result (GoesOn old after self.new.last (held self.new.opened))
+            × EndsServing old after RoomFault.Store result) }
     {
-        more_deliveries();
-        let Some(guest) = self.guests.get_mut(&token.0) else {
+        more_exchanges();
+        let Some(open) = self.opened.get_mut(&number) else {
             return Ok(());
         };
-        let peer = guest.peer;
-        match take_turns(clock, alloc, guest, timeout, ledger) {
-            Turn::Waits => Ok(()),
-            Turn::Answered => {
-                self.tell_again(log, token);
+        let peer = open.peer;
+        match take_turns(clock, self.alloc, network, number, open, timeout, ledger) {
+            Progress::Waits => Ok(()),
+            Progress::Answered => {
+                self.tell_again(log, network, number, &peer);
                 Ok(())
             }
-            Turn::Ended(ended) => {
-                let _ = self.guests.remove(&token.0);
-                end_of(log, &peer, ended)
+            Progress::Ended(end) => {
+                let _ = self.close(network, number);
+                end_of(log, &peer, end)
             }
         }
     }
 
-    /// Has the system tell again of a connection that may have more.
-    fn tell_again<G: Log>(&mut self, log: &G, token: Token) {
-        let Some(guest) = self.guests.get(&token.0) else {
+    /// Has the system tell again of a connection that may have more. One of which it can't tell is closed.
+    fn tell_again<N: Network, G: Log>(
+        &mut self,
+        log: &G,
+        network: &mut N,
+        number: usize,
+        peer: &SocketAddr,
+    )
+        ensures same { (n : ℕ) → N.wire network.new n ≡ N.wire network.old n }
+        ensures last { self.new.last ≡ self.old.last }
+        ensures fewer { AreFewer (held self.old.opened) (held self.new.opened) }
+    {
+        let Err(cause) = network.tell_again(number) else {
             return;
         };
-        let peer = guest.peer;
-        let descriptor = guest.stream.as_raw_fd();
-        let told = self
-            .poll
-            .registry()
-            .reregister(&mut SourceFd(&descriptor), token, both_ways());
-        if let Err(cause) = told {
-            warn!(log; "connection of {peer}: {cause}");
-            let _ = self.guests.remove(&token.0);
-        }
+        warn!(log; "connection of {peer}: {cause}");
+        let _ = self.close(network, number);
     }
 
-    /// Ends the connections that were late at that moment.
-    pub fn dismiss_late<G: Log>(&mut self, log: &G, now: Instant) {
-        self.guests.retain(|_number, guest| {
-            let is_late = guest.until.duration_since(now).is_zero();
-            if is_late {
-                guest.pass_over();
-                let peer = guest.peer;
-                warn!(log; "connection of {peer}: {}", guest.late_fault());
-            }
-            !is_late
-        });
-    }
-
-    /// Gives a connection a place. One that can't have it is dropped.
-    fn seat<G: Log>(&mut self, log: &G, guest: Guest) {
-        if self.guests.len() >= PLACES {
-            self.send_away(log);
-        }
-        self.last = self.last.wrapping_add(1);
-        let peer = guest.peer;
-        let descriptor = guest.stream.as_raw_fd();
-        let registered = self
-            .poll
-            .registry()
-            .register(&mut SourceFd(&descriptor), Token(self.last), both_ways());
-        match registered {
-            Ok(()) => {
-                if self.guests.insert(self.last, guest).is_err() {
-                    warn!(log; "connection of {peer}: {}", ServeFault::Memory);
+    /// Closes the connections that were late at that moment.
+    pub fn expire<N: Network, G: Log>(&mut self, log: &G, network: &mut N, now: Instant)
+        ensures last { self.new.last ≡ self.old.last }
+        ensures goes { (old : Outside) (book : Book) (told : Option (List Told)) →
+            GoesOn old (record { book = book; told = told; wires = N.wire network.old }) self.old.last (held self.old.opened) →
+            GoesOn old (record { book = book; told = told; wires = N.wire network.new }) self.new.last (held self.new.opened) }
+    {
+        for _late in 0..self.opened.len() {
+            match self.first_late() {
+                Some((number, until)) if until.duration_since(now).is_zero() => {
+                    self.give_up(log, network, number);
                 }
+                _ => return,
             }
-            Err(cause) => warn!(log; "connection of {peer}: {cause}"),
         }
     }
 
-    /// Ends the connection that would be late first.
-    fn send_away<G: Log>(&mut self, log: &G) {
+    /// Closes a connection that is late. What came and is of no use is read, so that the peer's reading ends in order and
+    /// not by a reset.
+    fn give_up<N: Network, G: Log>(&mut self, log: &G, network: &mut N, number: usize)
+        ensures last { self.new.last ≡ self.old.last }
+        ensures goes { (old : Outside) (book : Book) (told : Option (List Told)) →
+            GoesOn old (record { book = book; told = told; wires = N.wire network.old }) self.old.last (held self.old.opened) →
+            GoesOn old (record { book = book; told = told; wires = N.wire network.new }) self.new.last (held self.new.opened) }
+    {
+        let Some(open) = self.opened.remove(&number) else {
+            return;
+        };
+        let mut piece = [0u8; PIECE];
+        let _ = network.read(number, &mut piece);
+        // The peer sees the end once the log has it.
+        let peer = open.peer;
+        warn!(log; "connection of {peer}: {}", open.late_fault());
+        network.close(number);
+    }
+
+    /// Closes a connection.
+    fn close<N: Network>(&mut self, network: &mut N, number: usize) -> Option<OpenConnection>
+        ensures same { (n : ℕ) → N.wire network.new n ≡ N.wire network.old n }
+        ensures last { self.new.last ≡ self.old.last }
+        ensures fewer { AreFewer (held self.old.opened) (held self.new.opened) }
+        ensures gone { held self.new.opened number ≡ None }
+    {
+        network.close(number);
+        self.opened.remove(&number)
+    }
+
+    /// The connection that is late first, and when.
+    fn first_late(&self) -> Option<(usize, Instant)> {
         let mut first: Option<(usize, Instant)> = None;
-        for (number, guest) in &self.guests {
+        for (number, open) in &self.opened {
             first = match first {
-                Some((_, until)) if until <= guest.until => first,
-                _ => Some((*number, guest.until)),
+                Some((_, until)) if until <= open.until => first,
+                _ => Some((*number, open.until)),
             };
         }
-        if let Some((number, _)) = first {
-            if let Some(guest) = self.guests.remove(&number) {
-                let peer = guest.peer;
-                warn!(log; "connection of {peer}: too many connections");
-            }
-        }
+        first
     }
-}
-
-/// What the system tells of a connection: that something came, and that its peer takes replies again.
-fn both_ways() -> Interest {
-    Interest::READABLE | Interest::WRITABLE
 }
 
 /// Warns of a connection that didn't end behind whole frames. A store that failed ends the serving.
 fn end_of<G: Log>(
     log: &G,
     peer: &SocketAddr,
-    ended: Result<Served, ServeFault>,
-) -> Result<(), RoomFault> {
-    match ended {
+    end: Result<Served, ServeFault>,
+) -> Result<(), RoomFault>
+    ensures ok { OnOk result (end ≢ Err ServeFault.Store) }
+    ensures store { IfErr result (λ fault. (fault ≡ RoomFault.Store) × (end ≡ Err ServeFault.Store)) }
+{
+    match end {
         Ok(served) => warn_of(log, peer, served),
         Err(ServeFault::Store) => {
             error!(log; "connection of {peer}: {}", ServeFault::Store);

@@ -1,18 +1,22 @@
 //! Serving connections until so many were accepted, and have ended.
-ghost use Rattle.std.specs.Prelude.{◌≡◌};
+ghost use Rattle.std.specs.Prelude.{◌≡◌, ℕ, None};
+ghost use Rattle.mq_server.specs.Connection.{Wire};
 ghost use Rattle.mq_server.specs.Delivery.{HasGrown};
+ghost use Rattle.mq_room.specs.Sessions.{EndsServing, unknown};
 
 use crate::fault::RoomFault;
-use crate::room::{EVENTS, Room};
+use crate::network::Network;
+use crate::room::Room;
+use crate::sockets::{EVENTS, Sockets};
 use log::{Log, error};
 use mio::Events;
 use mq_ledger::Ledger;
-use mq_server::laws::more_deliveries;
+use mq_server::laws::{a_life_is_served, more_exchanges};
 use std::alloc::Global;
 use std::io;
 use std::net::{Net, TcpListener};
 use std::rt::Clock;
-use std::time::Duration;
+use std::time::{Duration, Instant};
 
 /// Accepts so many connections, and serves whichever has whole frames there, a few at a time; so no peer holds back the
 /// others by what it doesn't send, or doesn't take of its replies. Each end but that of whole frames is logged with the
@@ -27,52 +31,92 @@ pub fn serve_connections<R: Clock + Net, G: Log, L: Ledger>(
     ledger: &mut L,
     connections: u32,
 ) -> Result<(), RoomFault>
+    // Of any ledger, sound or not.
     ensures same_zone { (L.book ledger.new).zone ≡ (L.book ledger.old).zone }
     ensures same_default { (L.book ledger.new).default ≡ (L.book ledger.old).default }
     ensures kept { L.has_kept ledger.new → L.has_kept ledger.old }
+
+    // Of a sound one that has kept its premise.
     ensures sound { L.has_kept ledger.new → L.is_sound ledger.old → L.is_sound ledger.new }
+    ensures serves { L.has_kept ledger.new → L.is_sound ledger.old → EndsServing
+        (record { book = L.book ledger.old; told = L.told ledger.old; wires = unknown })
+        (record { book = L.book ledger.new; told = L.told ledger.new; wires = unknown }) RoomFault.Store result }
     ensures history { L.has_kept ledger.new → L.is_sound ledger.old →
         HasGrown (L.book ledger.old) (L.book ledger.new) }
 {
-    more_deliveries();
-    let mut events = Events::with_capacity(alloc, EVENTS)?;
-    let mut room = Room::new(rt, alloc, listener, connections).map_err(|e| no_poll(log, &e))?;
-    serve_room(rt, log, alloc, &mut room, &mut events, timeout, ledger)
+    a_life_is_served();
+    more_exchanges();
+    let events = Events::with_capacity(alloc, EVENTS)?;
+    let mut sockets = match Sockets::new(rt, log, alloc, events, listener, connections) {
+        Ok(sockets) => sockets,
+        Err(error) => return Err(no_wait(log, &error)),
+    };
+    serve_network(rt, log, alloc, &mut sockets, timeout, ledger)
 }
 
-/// Serves the connections of a room, round by round, until all were accepted and have ended.
-fn serve_room<C: Clock, G: Log, L: Ledger>(
+/// Serves the connections of a network, round by round, until all were accepted and have ended.
+pub fn serve_network<N: Network, C: Clock, G: Log, L: Ledger>(
     clock: &C,
     log: &G,
     alloc: Global,
-    room: &mut Room<'_>,
-    events: &mut Events,
+    network: &mut N,
     timeout: Duration,
     ledger: &mut L,
 ) -> Result<(), RoomFault>
+    // Of any ledger, sound or not.
     ensures same_zone { (L.book ledger.new).zone ≡ (L.book ledger.old).zone }
     ensures same_default { (L.book ledger.new).default ≡ (L.book ledger.old).default }
     ensures kept { L.has_kept ledger.new → L.has_kept ledger.old }
+
+    // Of a sound one that has kept its premise.
     ensures sound { L.has_kept ledger.new → L.is_sound ledger.old → L.is_sound ledger.new }
-    ensures history { L.has_kept ledger.new → L.is_sound ledger.old →
-        HasGrown (L.book ledger.old) (L.book ledger.new) }
+    ensures serves { L.has_kept ledger.new → L.is_sound ledger.old → EndsServing
+        (record { book = L.book ledger.old; told = L.told ledger.old; wires = N.wire network.old })
+        (record { book = L.book ledger.new; told = L.told ledger.new; wires = N.wire network.new }) RoomFault.Store result }
 {
-    more_deliveries();
+    a_life_is_served();
+    more_exchanges();
+    let mut ready = Vec::with_capacity(alloc, EVENTS)?;
+    let mut room = Room::new(alloc);
     for _round in 0..u64::MAX {
-        room.admit(clock, log, timeout)?;
+        room.accept(clock, log, network, timeout)?;
         // The last connection may just have been given up for want of memory: then nothing more comes.
-        if room.is_over() {
-            break;
+        if network.is_done() && room.is_empty() {
+            return Ok(());
         }
-        let now = room.wait(clock, events).map_err(|e| no_poll(log, &e))?;
-        room.attend(clock, log, alloc, events, timeout, ledger)?;
-        room.dismiss_late(log, now);
+        let now = match wait(clock, &room, network, &mut ready) {
+            Ok(now) => now,
+            Err(error) => return Err(no_wait(log, &error)),
+        };
+        room.serve(clock, log, network, &ready, timeout, ledger)?;
+        room.expire(log, network, now);
     }
     Ok(())
 }
 
+/// Waits until something comes, or until a connection is late, or a pause is over, and tells when that was.
+fn wait<N: Network>(
+    clock: &impl Clock,
+    room: &Room,
+    network: &mut N,
+    ready: &mut Vec<usize>,
+) -> io::Result<Instant>
+    ensures { (n : ℕ) → N.wire network.new n ≡ N.wire network.old n }
+{
+    let now = Instant::now(clock)?;
+    let wait = match (network.accepts_in(now), room.late_in(now)) {
+        (Some(accept), Some(late)) => Some(accept.min(late)),
+        (accept, late) => accept.or(late),
+    };
+    ready.clear();
+    network.wait(wait, ready)?;
+    Instant::now(clock)
+}
+
 /// Logs why the system doesn't tell of connections.
-fn no_poll<G: Log>(log: &G, error: &io::Error) -> RoomFault {
+fn no_wait<G: Log>(log: &G, error: &io::Error) -> RoomFault
+    ensures { result ≡ RoomFault.Accept }
+{
     error!(log; "waiting for connections: {error}");
     RoomFault::Accept
 }

@@ -1,0 +1,33 @@
+-- What a turn of a connection does to it, to its wire and to the ledger.
+use Rattle.std.specs.Prelude.{◌≡◌, ◌≢◌, ℕ, List, [], ◌++◌, Option, Err}
+use Rattle.std.specs.Io.KnownBytes.{Appends, Consumes}
+use Rattle.mq_ledger.specs.declared.entry.Entry.{Entry}
+use Rattle.mq_ledger.specs.declared.ledger.Told.{Told}
+use Rattle.mq_ledger.specs.Legal.{Book}
+use Rattle.mq_server.specs.declared.connection.Progress.{Progress}
+use Rattle.mq_server.specs.declared.connection.Progress.TheVariants.{Ended}
+use Rattle.mq_server.specs.declared.fault.ServeFault.TheVariants.{Memory}
+use Rattle.mq_server.specs.Connection.{Wire}
+use Rattle.mq_server.specs.Held.{State}
+use Rattle.mq_server.specs.Life.{AreAnswered, Exchange, Life, Lives, MakesCalls}
+
+-- a life with more bytes in, more exchanges, and more bytes out
+abbrev pub lived : Life → List ℕ → List Exchange → List ℕ → List ℕ → Life
+lived l read xs rest written =
+    record { bytes = l.bytes ++ read; exchanges = l.exchanges ++ xs; rest = rest; taken = l.taken ++ written }
+
+-- Bytes were read from the wire, and those that found no room are lost; requests were answered by the ledger, which then
+-- has this history and tells their calls, and nothing else came to it; and bytes of replies were written. Each life of the
+-- connection goes on by them.
+pub record Turns (b : Book) (history : List Entry) (before after : Option (List Told)) (turn : Progress)
+    (old new : Wire) (c now : State) : Type 0 where
+  pub exchanges : List Exchange
+  pub answered : AreAnswered b exchanges history
+  pub calls : MakesCalls c.end turn before after exchanges
+  pub read : List ℕ
+  pub lost : List ℕ
+  pub whole : turn ≢ Ended (Err Memory) → lost ≡ []
+  pub written : List ℕ
+  pub consumed : Consumes old.remaining new.remaining (read ++ lost)
+  pub sent : Appends old.contents new.contents written
+  pub lives : (l : Life) → Lives l c → (rest : List ℕ) × Lives (lived l read exchanges rest written) now
