@@ -1,7 +1,8 @@
 -- What was let through was granted in the ledger, under numbers of the run.
-use Rattle.std.proofs.Common.{◌≡◌, ℕ, ◌+◌, ◌≤◌, List, [], ◌∷◌, ◌++◌, Bool, true, false, refl, ap, sym, subst, inl, inr, arith, Option, None, Some, if◌then◌else◌}
-use Rattle.std.specs.Prelude.{sum_by, ◌&&◌, ◌==◌, nat_le}
+use Rattle.std.proofs.Common.{◌≡◌, ℕ, ◌+◌, ◌≤◌, List, [], ◌∷◌, ◌++◌, Bool, true, false, refl, ◌∙◌, ap, sym, subst, inl, inr, arith, Option, None, Some, if◌then◌else◌}
+use Rattle.std.specs.Prelude.{sum_by, ◌&&◌, ◌==◌, nat_le, not, length}
 use Rattle.std.proofs.lemmas.Bool.Decides.{nat_tests}
+use Rattle.mq_frame.specs.Same.{same_text}
 use Rattle.mq_frame.specs.declared.message.Request.{Request}
 use Rattle.mq_frame.specs.declared.message.Request.TheVariants.{Reserve, Settle, Release, Limit, Usage, List as ListRequest, Retire}
 use Rattle.mq_frame.specs.declared.message.Reply.{Reply}
@@ -9,12 +10,14 @@ use Rattle.mq_frame.specs.declared.message.Reply.TheVariants as reply
 use Rattle.mq_ledger.specs.declared.entry.Entry.{Entry}
 use Rattle.mq_ledger.specs.History.{Transaction, same_transaction, is_of, granted, granted_in}
 use Rattle.mq_client.specs.Exchanges.{Exchange}
-use Rattle.mq_client.specs.Past.{Source, Action, Ask, Close, Drain, Step, Standing, Never, Live, Closed, View, view, after, after_ask, after_close, held_by, opened, let_through, answer_of, reserve_of}
+use Rattle.mq_client.specs.Past.{Source, Action, Ask, Close, Drain, Step, Standing, Never, Live, Closed, View, view, after, after_ask, after_close, held_by, opened, let_through, answer_of, reserve_of, is_other, refuses}
+use Rattle.mq_client.specs.Turns.{IsUnderway, AreUnderway}
 use Rattle.mq_track.specs.declared.closing.CloseEnd.{CloseEnd}
 use Rattle.mq_client.specs.declared.held.Asked.{Asked}
 use Rattle.mq_client.specs.declared.held.Asked.TheVariants as asked
 use Rattle.mq_client.specs.declared.held.Held.{Held}
-use Rattle.mq_world.proofs.Basics.{either, clash, none_some, some_is, number_is, In, in_front, sum_below, sum_grows}
+use Rattle.mq_world.proofs.Basics.{either, clash, none_some, some_is, first_not, second_not, number_is, In, in_front, sum_below, sum_grows}
+use Rattle.mq_world.proofs.Ranges.{next_among, free_ask}
 
 abbrev pub of_source : Source → ℕ → Transaction
 of_source s t = record { host = s.host; run = s.run; txn = t }
@@ -30,14 +33,21 @@ pub record GrantedIn (s : Source) (H : List Entry) (n txn at : ℕ) (login : Lis
   pub request : entry.request ≡ reserve_of s (n + 1) txn at login
   pub granted : is_grant entry.reply ≡ true
 
-abbrev pub IsGround : Source → List Entry → View → Action → List Exchange → Type 0
-IsGround s H v (Ask txn at login) g = answer_of g ≡ asked.Granted → GrantedIn s H v.numbers txn at login
-IsGround s H v (Close txn end) g = Unit {0}
-IsGround s H v Drain g = Unit {0}
+-- on F or a later day a recipient that was let through was granted
+abbrev pub IsGround : (day : ℕ → ℕ) → (F : ℕ) → Source → List Entry → View → Action → List Exchange → Type 0
+IsGround day F s H v (Ask txn at login) g = answer_of g ≡ asked.Granted → F ≤ day at → GrantedIn s H v.numbers txn at login
+IsGround day F s H v (Close txn end) g = Unit {0}
+IsGround day F s H v Drain g = Unit {0}
 
-abbrev pub IsGrounded : Source → List Entry → List Step → Type 0
-IsGrounded s H [] = Unit {0}
-IsGrounded s H (x ∷ P) = IsGround s H (view s P) x.action x.group × IsGrounded s H P
+abbrev pub IsGrounded : (day : ℕ → ℕ) → (F : ℕ) → Source → List Entry → List Step → Type 0
+IsGrounded day F s H [] = Unit {0}
+IsGrounded day F s H (x ∷ P) = IsGround day F s H (view s P) x.action x.group × IsGrounded day F s H P
+
+-- the moment of a transaction
+abbrev pub at_of : Standing → ℕ
+at_of Never = 0
+at_of (Live h) = h.at
+at_of (Closed end seq h) = h.at
 
 abbrev pub let_at : Standing → ℕ
 let_at Never = 0
@@ -94,69 +104,99 @@ one_there I s n txn at login r a e h =
 upto_grows : IsSameAsItself → (s : Source) (H : List Entry) (n txn at : ℕ) (login : List ℕ) → GrantedIn s H n txn at login → upto H (of_source s txn) n + 1 ≤ upto H (of_source s txn) (n + 1)
 upto_grows I s H n txn at login g = sum_grows (one_upto (of_source s txn) n) (one_upto (of_source s txn) (n + 1)) (one_more (of_source s txn) n) g.entry H g.among (one_there I s n txn at login g.entry.request g.entry.reply g.request g.granted)
 
-opened_let : (at : ℕ) (login : List ℕ) (st : Standing) → (opened at login (held_by st)).granted ≤ let_at st
-opened_let at login Never = omega arith
-opened_let at login (Live h) = omega arith
-opened_let at login (Closed end seq h) = omega arith
+-- what was let through of a transaction of F or a later day
+abbrev pub AllLet : (day : ℕ → ℕ) → (F : ℕ) → Source → List Entry → View → Type 0
+AllLet day F s H v = (t : ℕ) → F ≤ day (at_of (v.standing t)) → let_at (v.standing t) ≤ upto H (of_source s t) v.numbers
 
-abbrev pub AllLet : Source → List Entry → View → Type 0
-AllLet s H v = (t : ℕ) → let_at (v.standing t) ≤ upto H (of_source s t) v.numbers
+opened_let : (day : ℕ → ℕ) (F at : ℕ) (login : List ℕ) (st : Standing) (n : ℕ) → (opened at login (held_by st)).at ≡ at → F ≤ day at → (F ≤ day (at_of st) → let_at st ≤ n) → (opened at login (held_by st)).granted ≤ n
+opened_let day F at login Never n same f all = omega arith
+opened_let day F at login (Live h) n same f all = all (subst (λ x. F ≤ day x) (sym same) f)
+opened_let day F at login (Closed end seq h) n same f all = omega arith
 
 let_here : IsSameAsItself → (s : Source) (H : List Entry) (n txn at : ℕ) (login : List ℕ) (a : Asked) (h : Held) → (a ≡ asked.Granted → GrantedIn s H n txn at login) → h.granted ≤ upto H (of_source s txn) n → (let_through a h).granted ≤ upto H (of_source s txn) (n + 1)
 let_here I s H n txn at login asked.Granted h ground le = (let m = upto_grows I s H n txn at login (ground refl) in omega (arith, le, m))
 let_here I s H n txn at login asked.Full h ground le = (let m = upto_more H (of_source s txn) n in omega (arith, le, m))
 let_here I s H n txn at login asked.Unavailable h ground le = (let m = upto_more H (of_source s txn) n in omega (arith, le, m))
 
-let_ask : IsSameAsItself → (s : Source) (H : List Entry) (v : View) (txn at : ℕ) (login : List ℕ) (x : Exchange) (g : List Exchange) → (answer_of (x ∷ g) ≡ asked.Granted → GrantedIn s H v.numbers txn at login) → AllLet s H v → AllLet s H (after_ask txn at login (x ∷ g) v)
-let_ask I s H v txn at login x g ground all = λ t. elim (either (txn == t)) [
-  | inr n ↦ (let a = all t in let m = upto_more H (of_source s t) v.numbers in rw n (omega (arith, a, m)))
+let_through_at : (a : Asked) (h : Held) → (let_through a h).at ≡ h.at
+let_through_at asked.Granted h = refl
+let_through_at asked.Full h = refl
+let_through_at asked.Unavailable h = refl
+
+not_is : (b : Bool) → not b ≡ false → b ≡ true
+not_is true e = refl
+not_is false e = absurd (clash true refl e)
+
+-- an ask that isn't refused is of the moment of its transaction
+opened_at : (at : ℕ) (login : List ℕ) (o : Option Held) (live numbers waiting : ℕ) → refuses o live numbers waiting at login ≡ false → (opened at login o).at ≡ at
+opened_at at login None live numbers waiting free = refl
+opened_at at login (Some h) live numbers waiting free =
+    let same : is_other h at login ≡ false = first_not (is_other h at login) _ free in
+    number_is h.at at (not_is (h.at == at) (second_not (not (same_text h.login login)) (not (h.at == at)) same))
+
+let_ask : (day : ℕ → ℕ) (F : ℕ) → IsSameAsItself → (s : Source) (H : List Entry) (v : View) (txn at : ℕ) (login : List ℕ) (x : Exchange) (g : List Exchange) → (opened at login (held_by (v.standing txn))).at ≡ at
+    → (answer_of (x ∷ g) ≡ asked.Granted → F ≤ day at → GrantedIn s H v.numbers txn at login) → AllLet day F s H v → AllLet day F s H (after_ask txn at login (x ∷ g) v)
+let_ask day F I s H v txn at login x g same_at ground all = λ t. elim (either (txn == t)) [
+  | inr n ↦ rw n (λ f. (let a = all t f in let m = upto_more H (of_source s t) v.numbers in omega (arith, a, m)))
   | inl y ↦ (let same : txn ≡ t = number_is txn t y in
-      let a = all txn in
-      let b = opened_let at login (v.standing txn) in
-      let here = let_here I s H v.numbers txn at login (answer_of (x ∷ g)) (opened at login (held_by (v.standing txn))) ground (omega (arith, a, b)) in
-      let F : ℕ → Type 0 = λ u. (let_through (answer_of (x ∷ g)) (opened at login (held_by (v.standing txn)))).granted ≤ upto H (of_source s u) (v.numbers + 1) in
-      rw y (subst F same here))
+      let o : Held = opened at login (held_by (v.standing txn)) in
+      let here : F ≤ day (let_through (answer_of (x ∷ g)) o).at → (let_through (answer_of (x ∷ g)) o).granted ≤ upto H (of_source s txn) (v.numbers + 1) = λ f. (
+      let g' : F ≤ day at = subst (λ z. F ≤ day z) (let_through_at (answer_of (x ∷ g)) o ∙ same_at) f in
+      let b = opened_let day F at login (v.standing txn) (upto H (of_source s txn) v.numbers) same_at g' (all txn) in
+      let_here I s H v.numbers txn at login (answer_of (x ∷ g)) o (λ z. ground z g') b) in
+      let G : ℕ → Type 0 = λ u. F ≤ day (let_through (answer_of (x ∷ g)) o).at → (let_through (answer_of (x ∷ g)) o).granted ≤ upto H (of_source s u) (v.numbers + 1) in
+      rw y (subst G same here))
 ]
 
-held_let : (st : Standing) (h : Held) → held_by st ≡ Some h → let_at st ≡ h.granted
+held_let : (st : Standing) (h : Held) → held_by st ≡ Some h → (let_at st ≡ h.granted) × (at_of st ≡ h.at)
 held_let Never h e = absurd (none_some h e)
-held_let (Live k) h e = ap (λ (x : Held). x.granted) (some_is k h e)
+held_let (Live k) h e = (ap (λ (x : Held). x.granted) (some_is k h e), ap (λ (x : Held). x.at) (some_is k h e))
 held_let (Closed end seq k) h e = absurd (none_some h e)
 
-let_close : (s : Source) (H : List Entry) (v : View) (txn : ℕ) (end : CloseEnd) (g : List Exchange) (o : Option Held) → held_by (v.standing txn) ≡ o → AllLet s H v → AllLet s H (after_close s txn end g v o)
-let_close s H v txn end g None e all = all
-let_close s H v txn end g (Some h) e all = λ t. elim (either (txn == t)) [
-  | inr n ↦ (let a = all t in let m = upto_more H (of_source s t) v.numbers in rw n (omega (arith, a, m)))
+let_close : (day : ℕ → ℕ) (F : ℕ) (s : Source) (H : List Entry) (v : View) (txn : ℕ) (end : CloseEnd) (g : List Exchange) (o : Option Held) → held_by (v.standing txn) ≡ o → AllLet day F s H v → AllLet day F s H (after_close s txn end g v o)
+let_close day F s H v txn end g None e all = all
+let_close day F s H v txn end g (Some h) e all = λ t. elim (either (txn == t)) [
+  | inr n ↦ rw n (λ f. (let a = all t f in let m = upto_more H (of_source s t) v.numbers in omega (arith, a, m)))
   | inl y ↦ (let same : txn ≡ t = number_is txn t y in
-      let a = all txn in
       let b = held_let (v.standing txn) h e in
+      let here : F ≤ day h.at → h.granted ≤ upto H (of_source s txn) (v.numbers + 1) = λ f. (
+      let a = all txn (subst (λ z. F ≤ day z) (sym b.1) f) in
+      let c = b.0 in
       let m = upto_more H (of_source s txn) v.numbers in
-      let here : h.granted ≤ upto H (of_source s txn) (v.numbers + 1) = omega (arith, a, b, m) in
-      let F : ℕ → Type 0 = λ u. h.granted ≤ upto H (of_source s u) (v.numbers + 1) in
-      rw y (subst F same here))
+      omega (arith, a, c, m)) in
+      let G : ℕ → Type 0 = λ u. F ≤ day h.at → h.granted ≤ upto H (of_source s u) (v.numbers + 1) in
+      rw y (subst G same here))
 ]
 
-let_step : IsSameAsItself → (s : Source) (H : List Entry) (v : View) (a : Action) (g : List Exchange) → IsGround s H v a g → AllLet s H v → AllLet s H (after s v a g)
-let_step I s H v (Ask txn at login) [] ok all = all
-let_step I s H v (Ask txn at login) (x ∷ g) ok all = let_ask I s H v txn at login x g ok all
-let_step I s H v (Close txn end) g ok all = let_close s H v txn end g (held_by (v.standing txn)) refl all
-let_step I s H v Drain g ok all = all
+let_step : (day : ℕ → ℕ) (F : ℕ) → IsSameAsItself → (s : Source) (tries : ℕ) (H : List Entry) (P : List Step) (a : Action) (g : List Exchange) → IsUnderway s tries P (record { action = a; group = g }) → IsGround day F s H (view s P) a g → AllLet day F s H (view s P)
+    → AllLet day F s H (after s (view s P) a g)
+let_step day F I s tries H P (Ask txn at login) [] u ok all = all
+let_step day F I s tries H P (Ask txn at login) (x ∷ g) u ok all =
+    let v = view s P in
+    let free = (free_ask (refuses (held_by (v.standing txn)) (length v.live) v.numbers (length v.waiting) at login) (reserve_of s (v.numbers + 1) txn at login) x.request (next_among tries _ g x.request u.0)).0 in
+    let_ask day F I s H v txn at login x g (opened_at at login (held_by (v.standing txn)) (length v.live) v.numbers (length v.waiting) free) ok all
+let_step day F I s tries H P (Close txn end) g u ok all = let_close day F s H (view s P) txn end g (held_by ((view s P).standing txn)) refl all
+let_step day F I s tries H P Drain g u ok all = all
 
-all_let : IsSameAsItself → (s : Source) (H : List Entry) (P : List Step) → IsGrounded s H P → AllLet s H (view s P)
-all_let I s H [] ground = λ t. omega arith
-all_let I s H (x ∷ P) ground = let_step I s H (view s P) x.action x.group ground.0 (all_let I s H P ground.1)
+all_let : (day : ℕ → ℕ) (F : ℕ) → IsSameAsItself → (s : Source) (tries : ℕ) (H : List Entry) (P : List Step) → AreUnderway s tries P → IsGrounded day F s H P → AllLet day F s H (view s P)
+all_let day F I s tries H [] u ground = λ t f. omega arith
+all_let day F I s tries H (x ∷ P) u ground = let_step day F I s tries H P x.action x.group u.0 ground.0 (all_let day F I s tries H P u.1 ground.1)
 
 -- what was let through was granted
-pub was_granted : IsSameAsItself → (s : Source) (H : List Entry) (P : List Step) → IsGrounded s H P → (t : ℕ) → let_at ((view s P).standing t) ≤ granted_in H (of_source s t)
-was_granted I s H P ground t = let a = all_let I s H P ground t in let b = upto_all H (of_source s t) (view s P).numbers in omega (arith, a, b)
+pub was_granted : (day : ℕ → ℕ) (F : ℕ) → IsSameAsItself → (s : Source) (tries : ℕ) (H : List Entry) (P : List Step) → AreUnderway s tries P → IsGrounded day F s H P → (t : ℕ) → F ≤ day (at_of ((view s P).standing t)) → let_at ((view s P).standing t) ≤ granted_in H (of_source s t)
+was_granted day F I s tries H P u ground t f = let a = all_let day F I s tries H P u ground t f in let b = upto_all H (of_source s t) (view s P).numbers in omega (arith, a, b)
 
 -- ---- what was granted stays granted
 
-ground_one : (s : Source) (H K : List Entry) (v : View) (a : Action) (g : List Exchange) → IsGround s H v a g → IsGround s (H ++ K) v a g
-ground_one s H K v (Ask txn at login) g h = λ o. (let k = h o in record { entry = k.entry; among = in_front H K k.entry k.among; request = k.request; granted = k.granted })
-ground_one s H K v (Close txn end) g h = tt
-ground_one s H K v Drain g h = tt
+ground_one : (day : ℕ → ℕ) (F : ℕ) (s : Source) (H K : List Entry) (v : View) (a : Action) (g : List Exchange) → ((txn at : ℕ) (login : List ℕ) → F ≤ day at → GrantedIn s H v.numbers txn at login → GrantedIn s K v.numbers txn at login) → IsGround day F s H v a g → IsGround day F s K v a g
+ground_one day F s H K v (Ask txn at login) g stays h = λ o f. stays txn at login f (h o f)
+ground_one day F s H K v (Close txn end) g stays h = tt
+ground_one day F s H K v Drain g stays h = tt
 
-pub ground_stays : (s : Source) (H K : List Entry) (P : List Step) → IsGrounded s H P → IsGrounded s (H ++ K) P
-ground_stays s H K [] h = tt
-ground_stays s H K (x ∷ P) h = (ground_one s H K (view s P) x.action x.group h.0, ground_stays s H K P h.1)
+-- in another history that has it still
+pub ground_kept : (day : ℕ → ℕ) (F : ℕ) (s : Source) (H K : List Entry) → ((n txn at : ℕ) (login : List ℕ) → F ≤ day at → GrantedIn s H n txn at login → GrantedIn s K n txn at login) → (P : List Step) → IsGrounded day F s H P → IsGrounded day F s K P
+ground_kept day F s H K stays [] h = tt
+ground_kept day F s H K stays (x ∷ P) h = (ground_one day F s H K (view s P) x.action x.group (stays (view s P).numbers) h.0, ground_kept day F s H K stays P h.1)
+
+pub ground_stays : (day : ℕ → ℕ) (F : ℕ) (s : Source) (H K : List Entry) (P : List Step) → IsGrounded day F s H P → IsGrounded day F s (H ++ K) P
+ground_stays day F s H K P h = ground_kept day F s H (H ++ K) (λ n txn at login f k. record { entry = k.entry; among = in_front H K k.entry k.among; request = k.request; granted = k.granted }) P h

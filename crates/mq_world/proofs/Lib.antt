@@ -8,3 +8,4 @@ pub mod Runs
 pub mod Takes
 pub mod Worlds
 pub mod Within
+pub mod Forgetting

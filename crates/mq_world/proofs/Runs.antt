@@ -1,6 +1,6 @@
 -- One run against any others.
-use Rattle.std.proofs.Common.{◌≡◌, ℕ, ◌+◌, List, [], ◌∷◌, Bool, true, false, refl, ◌∙◌, ap, sym, subst, inl, inr, Option, None, Some}
-use Rattle.std.specs.Prelude.{length}
+use Rattle.std.proofs.Common.{◌≡◌, ℕ, ◌+◌, ◌≤◌, ◌<◌, List, [], ◌∷◌, Bool, true, false, refl, ◌∙◌, ap, sym, subst, inl, inr, arith, Option, None, Some}
+use Rattle.std.specs.Prelude.{length, ◌⊎◌}
 use Rattle.mq_frame.specs.Range.{IsHost, IsRun, IsRequest, IsReply}
 use Rattle.mq_frame.specs.Spelling.{request_body, reply_body, frame}
 use Rattle.mq_frame.specs.declared.message.Id.{Id}
@@ -11,6 +11,7 @@ use Rattle.mq_frame.specs.declared.message.Reply.TheVariants as reply
 use Rattle.mq_ledger.specs.declared.entry.Entry.{Entry}
 use Rattle.mq_ledger.specs.History.{counted}
 use Rattle.mq_ledger.specs.Suits.{Suits as RepliesSuit}
+use Rattle.mq_forget.specs.Remembered.{moment_of}
 use Rattle.mq_client.specs.Exchanges.{Exchange, answers_reserve, answers_closing, decides, Brings, IsDecision, request_frame}
 use Rattle.mq_client.specs.Past.{Source, Action, Ask, Close, Drain, Step, View, view, answer_of, answer_by, held_by, id_of, reserve_of, refuses}
 use Rattle.mq_client.specs.Turns.{next, AreUnderway}
@@ -40,8 +41,15 @@ pub record Wrote (H : List Entry) (a : Reply) : Type 0 where
   pub among : In entry H
   pub is : entry.reply ≡ a
 
--- what holds of one run, whatever the others do
-pub record Holds (s : Source) (tries : ℕ) (P : List Step) (H : List Entry) (sent written : List (List ℕ)) : Type 0 where
+-- its entry was forgotten: the run used the number for a request about a day before F
+pub record IsForgotten (day : ℕ → ℕ) (F : ℕ) (s : Source) (P : List Step) (q : Request) : Type 0 where
+  pub request : Request
+  pub numbered : IsNumbered s P request
+  pub same : id_in request ≡ id_in q
+  pub earlier : day (moment_of request) < F
+
+-- what holds of one run, whatever the others do, and whatever is forgotten of days before F
+pub record Holds (day : ℕ → ℕ) (F : ℕ) (s : Source) (tries : ℕ) (P : List Step) (H : List Entry) (sent written : List (List ℕ)) : Type 0 where
   pub host : IsHost s.host
   pub run : IsRun s.run
   pub underway : AreUnderway s tries P
@@ -49,9 +57,9 @@ pub record Holds (s : Source) (tries : ℕ) (P : List Step) (H : List Entry) (se
   pub asks : AreAsked P
   pub sends : (q : Request) → In (frame (request_body q)) sent → IsRequest q → IsOwn s q → IsNumbered s P q
   pub taken : (e : Entry) → In e H → IsOwn s e.request → IsNumbered s P e.request
-  pub wrote : (a : Reply) (q : Request) → In (frame (reply_body a)) written → IsReply a → IsOwn s q → decides q a ≡ true → is_grant a ≡ true → Wrote H a
-  pub ground : IsGrounded s H P
-  pub settled : (e : Entry) → In e H → IsOwn s e.request → is_settle e.request ≡ true → counted e.request e.reply ≡ count_of e.request
+  pub wrote : (a : Reply) (q : Request) → In (frame (reply_body a)) written → IsReply a → IsOwn s q → decides q a ≡ true → is_grant a ≡ true → Wrote H a ⊎ IsForgotten day F s P q
+  pub ground : IsGrounded day F s H P
+  pub settled : (e : Entry) → In e H → IsOwn s e.request → is_settle e.request ≡ true → F ≤ day (moment_of e.request) → counted e.request e.reply ≡ count_of e.request
 
 abbrev pub AllSuit : List Entry → Type 0
 AllSuit H = (e : Entry) → In e H → RepliesSuit e.request e.reply
@@ -152,13 +160,18 @@ own_by s q r own same = record { number = own.number; id = same ∙ own.id }
 unavailable_not : asked.Unavailable ≡ asked.Granted → ⊥
 unavailable_not e = cc
 
-no_ground : (s : Source) (H : List Entry) (v : View) (a : Action) (g : List Exchange) → answer_of g ≡ asked.Unavailable → IsGround s H v a g
-no_ground s H v (Ask txn at login) g z = λ o. absurd (unavailable_not (sym z ∙ o))
-no_ground s H v (Close txn end) g z = tt
-no_ground s H v Drain g z = tt
+no_ground : (day : ℕ → ℕ) (F : ℕ) (s : Source) (H : List Entry) (v : View) (a : Action) (g : List Exchange) → answer_of g ≡ asked.Unavailable → IsGround day F s H v a g
+no_ground day F s H v (Ask txn at login) g z = λ o f. absurd (unavailable_not (sym z ∙ o))
+no_ground day F s H v (Close txn end) g z = tt
+no_ground day F s H v Drain g z = tt
 
-pub begins : (s : Source) (tries : ℕ) (P : List Step) (H : List Entry) (sent written : List (List ℕ)) (a : Action) → NoneReturns s (begun a ∷ P) → IsAsked a → Holds s tries P H sent written → Holds s tries (begun a ∷ P) H sent written
-begins s tries P H sent written a fresh i h = record {
+-- what was written was granted or is forgotten, also of a past in which each request has its number still
+wrote_on : {day : ℕ → ℕ} {F : ℕ} → (s : Source) (P Q : List Step) (H : List Entry) (a : Reply) (q : Request) → ((r : Request) → IsNumbered s P r → IsNumbered s Q r) → Wrote H a ⊎ IsForgotten day F s P q → Wrote H a ⊎ IsForgotten day F s Q q
+wrote_on s P Q H a q more (inl w) = inl w
+wrote_on s P Q H a q more (inr f) = inr (record { request = f.request; numbered = more f.request f.numbered; same = f.same; earlier = f.earlier })
+
+pub begins : {day : ℕ → ℕ} {F : ℕ} → (s : Source) (tries : ℕ) (P : List Step) (H : List Entry) (sent written : List (List ℕ)) (a : Action) → NoneReturns s (begun a ∷ P) → IsAsked a → Holds day F s tries P H sent written → Holds day F s tries (begun a ∷ P) H sent written
+begins {day = day} {F = since} s tries P H sent written a fresh i h = record {
   host = h.host;
   run = h.run;
   underway = (tt, h.underway);
@@ -166,8 +179,8 @@ begins s tries P H sent written a fresh i h = record {
   asks = (i, h.asks);
   sends = λ q j r own. begun_numbered s a P q (h.sends q j r own);
   taken = λ e j own. begun_numbered s a P e.request (h.taken e j own);
-  wrote = h.wrote;
-  ground = (no_ground s H (view s P) a [] refl, h.ground);
+  wrote = λ b q j r own d g. wrote_on s P (begun a ∷ P) H b q (begun_numbered s a P) (h.wrote b q j r own d g);
+  ground = (no_ground day since s H (view s P) a [] refl, h.ground);
   settled = h.settled;
 }
 
@@ -176,9 +189,9 @@ begins s tries P H sent written a fresh i h = record {
 none_brought : (q : Request) → IsDecision q (Faulted Down) None
 none_brought q = λ a b. absurd b
 
-pub sends_on : OfFrames → OfClients → (s : Source) (tries : ℕ) (P : List Step) (H : List Entry) (sent written : List (List ℕ)) (a : Action) (g : List Exchange) (q : Request) → next s tries (view s P) a g ≡ Some q
-    → Holds s tries (step a g ∷ P) H sent written → Holds s tries (step a (failing q ∷ g) ∷ P) H (request_frame q ∷ sent) written
-sends_on F C s tries P H sent written a g q e h =
+pub sends_on : {day : ℕ → ℕ} {F : ℕ} → OfFrames → OfClients → (s : Source) (tries : ℕ) (P : List Step) (H : List Entry) (sent written : List (List ℕ)) (a : Action) (g : List Exchange) (q : Request) → next s tries (view s P) a g ≡ Some q
+    → Holds day F s tries (step a g ∷ P) H sent written → Holds day F s tries (step a (failing q ∷ g) ∷ P) H (request_frame q ∷ sent) written
+sends_on {day = day} {F = since} F C s tries P H sent written a g q e h =
     let u : AreUnderway s tries (step a (failing q ∷ g) ∷ P) = ((e, none_brought q, h.underway.0), h.underway.1) in
     let range : IsRequest q = next_in_range C.bounded s tries a g (failing q) P h.host h.run h.asks u in
     let new : IsNumbered s (step a (failing q ∷ g) ∷ P) q = (C.sent s tries (step a (failing q ∷ g) ∷ P) u).0 in
@@ -193,13 +206,13 @@ sends_on F C s tries P H sent written a g q e h =
         | inr j ↦ more_numbered s a (failing q) g P r (h.sends r j k own)
       ];
       taken = λ x i own. more_numbered s a (failing q) g P x.request (h.taken x i own);
-      wrote = h.wrote;
-      ground = (no_ground s H (view s P) a (failing q ∷ g) refl, h.ground.1);
+      wrote = λ b r i k own d z. wrote_on s (step a g ∷ P) (step a (failing q ∷ g) ∷ P) H b r (more_numbered s a (failing q) g P) (h.wrote b r i k own d z);
+      ground = (no_ground day since s H (view s P) a (failing q ∷ g) refl, h.ground.1);
       settled = h.settled;
     }
 
 -- what is sent has a number of the run
-pub sends_own : OfClients → (s : Source) (tries : ℕ) (P : List Step) (H : List Entry) (sent written : List (List ℕ)) (a : Action) (g : List Exchange) (q : Request) → next s tries (view s P) a g ≡ Some q → Holds s tries (step a g ∷ P) H sent written → IsRequest q × IsOwn s q
+pub sends_own : {day : ℕ → ℕ} {F : ℕ} → OfClients → (s : Source) (tries : ℕ) (P : List Step) (H : List Entry) (sent written : List (List ℕ)) (a : Action) (g : List Exchange) (q : Request) → next s tries (view s P) a g ≡ Some q → Holds day F s tries (step a g ∷ P) H sent written → IsRequest q × IsOwn s q
 sends_own C s tries P H sent written a g q e h =
     let u : AreUnderway s tries (step a (failing q ∷ g) ∷ P) = ((e, none_brought q, h.underway.0), h.underway.1) in
     (next_in_range C.bounded s tries a g (failing q) P h.host h.run h.asks u, numbered_own s (step a (failing q ∷ g) ∷ P) q (C.sent s tries (step a (failing q ∷ g) ∷ P) u).0)
@@ -222,10 +235,10 @@ granted_by o e = absurd (unavailable_not e)
 grant_of : (q : Request) (o : Outcome) (d : Option Reply) (a : Reply) → IsDecision q o d → d ≡ Some a → Brings o a × (decides q a ≡ true)
 grant_of q o d a dec e = let D : Option Reply → Type 0 = λ x. IsDecision q o x in subst D e dec
 
-heard : OfFrames → OfClients → (s : Source) (tries : ℕ) (P : List Step) (H : List Entry) (sent written : List (List ℕ)) (txn at : ℕ) (login : List ℕ) (g : List Exchange) (x : Exchange)
-    → AllSuit H → Holds s tries (step (Ask txn at login) (failing x.request ∷ g) ∷ P) H sent written → Comes written x.request x.outcome → IsDecision x.request x.outcome x.decided
-    → answer_by x.decided ≡ asked.Granted → GrantedIn s H (view s P).numbers txn at login
-heard F C s tries P H sent written txn at login g x suits h may dec e =
+heard : {day : ℕ → ℕ} {F : ℕ} → OfFrames → OfClients → (s : Source) (tries : ℕ) (P : List Step) (H : List Entry) (sent written : List (List ℕ)) (txn at : ℕ) (login : List ℕ) (g : List Exchange) (x : Exchange)
+    → AllSuit H → Holds day F s tries (step (Ask txn at login) (failing x.request ∷ g) ∷ P) H sent written → Comes written x.request x.outcome → IsDecision x.request x.outcome x.decided
+    → answer_by x.decided ≡ asked.Granted → F ≤ day at → GrantedIn s H (view s P).numbers txn at login
+heard {day = day} {F = since} F C s tries P H sent written txn at login g x suits h may dec e on =
     let v = view s P in
     let Q : List Step = step (Ask txn at login) (failing x.request ∷ g) ∷ P in
     let k = granted_by x.decided e in
@@ -233,28 +246,33 @@ heard F C s tries P H sent written txn at login g x suits h may dec e =
     let came = may k.0 d.0 d.1 in
     let number : IsNumbered s Q x.request = (C.sent s tries Q h.underway).0 in
     let own : IsOwn s x.request = numbered_own s Q x.request number in
-    let w = h.wrote k.0 x.request came.0 came.1 own d.1 k.2 in
-    let R : Reply → Type 0 = λ a. RepliesSuit w.entry.request a in
-    let fits : RepliesSuit w.entry.request k.0 = subst R w.is (suits w.entry w.among) in
-    let same = same_id_by F s x.request w.entry.request k.0 own d.1 fits in
-    let there = h.taken w.entry w.among (own_by s x.request w.entry.request own same) in
-    let is : w.entry.request ≡ x.request = one_request s Q w.entry.request x.request there number same in
     let free = free_ask (refuses (held_by (v.standing txn)) (length v.live) v.numbers (length v.waiting) at login) (reserve_of s (v.numbers + 1) txn at login) x.request (next_among tries _ g x.request h.underway.0.0) in
-    record {
-      entry = w.entry;
-      among = w.among;
-      request = is ∙ sym free.1;
-      granted = ap is_grant w.is ∙ k.2;
-    }
+    elim (h.wrote k.0 x.request came.0 came.1 own d.1 k.2) [
+      | inl w ↦ (let R : Reply → Type 0 = λ a. RepliesSuit w.entry.request a in
+          let fits : RepliesSuit w.entry.request k.0 = subst R w.is (suits w.entry w.among) in
+          let same = same_id_by F s x.request w.entry.request k.0 own d.1 fits in
+          let there = h.taken w.entry w.among (own_by s x.request w.entry.request own same) in
+          let is : w.entry.request ≡ x.request = one_request s Q w.entry.request x.request there number same in
+          record {
+            entry = w.entry;
+            among = w.among;
+            request = is ∙ sym free.1;
+            granted = ap is_grant w.is ∙ k.2;
+          })
+      | inr f ↦ (let is : f.request ≡ x.request = one_request s Q f.request x.request f.numbered number f.same in
+          let at_is : moment_of f.request ≡ at = ap moment_of (is ∙ sym free.1) in
+          let less = subst (λ m. day m < since) at_is f.earlier in
+          absurd (omega (arith, less, on)))
+    ]
 
-heard_ground : OfFrames → OfClients → (s : Source) (tries : ℕ) (P : List Step) (H : List Entry) (sent written : List (List ℕ)) (a : Action) (g : List Exchange) (x : Exchange)
-    → AllSuit H → Holds s tries (step a (failing x.request ∷ g) ∷ P) H sent written → Comes written x.request x.outcome → IsDecision x.request x.outcome x.decided → IsGround s H (view s P) a (x ∷ g)
-heard_ground F C s tries P H sent written (Ask txn at login) g x suits h may dec = λ e. heard F C s tries P H sent written txn at login g x suits h may dec e
+heard_ground : {day : ℕ → ℕ} {F : ℕ} → OfFrames → OfClients → (s : Source) (tries : ℕ) (P : List Step) (H : List Entry) (sent written : List (List ℕ)) (a : Action) (g : List Exchange) (x : Exchange)
+    → AllSuit H → Holds day F s tries (step a (failing x.request ∷ g) ∷ P) H sent written → Comes written x.request x.outcome → IsDecision x.request x.outcome x.decided → IsGround day F s H (view s P) a (x ∷ g)
+heard_ground F C s tries P H sent written (Ask txn at login) g x suits h may dec = λ e on. heard F C s tries P H sent written txn at login g x suits h may dec e on
 heard_ground F C s tries P H sent written (Close txn end) g x suits h may dec = tt
 heard_ground F C s tries P H sent written Drain g x suits h may dec = tt
 
-pub ends_on : OfFrames → OfClients → (s : Source) (tries : ℕ) (P : List Step) (H : List Entry) (sent written : List (List ℕ)) (a : Action) (g : List Exchange) (x : Exchange)
-    → AllSuit H → Holds s tries (step a (failing x.request ∷ g) ∷ P) H sent written → Comes written x.request x.outcome → IsDecision x.request x.outcome x.decided → Holds s tries (step a (x ∷ g) ∷ P) H sent written
+pub ends_on : {day : ℕ → ℕ} {F : ℕ} → OfFrames → OfClients → (s : Source) (tries : ℕ) (P : List Step) (H : List Entry) (sent written : List (List ℕ)) (a : Action) (g : List Exchange) (x : Exchange)
+    → AllSuit H → Holds day F s tries (step a (failing x.request ∷ g) ∷ P) H sent written → Comes written x.request x.outcome → IsDecision x.request x.outcome x.decided → Holds day F s tries (step a (x ∷ g) ∷ P) H sent written
 ends_on F C s tries P H sent written a g x suits h may dec = record {
   host = h.host;
   run = h.run;
@@ -263,15 +281,15 @@ ends_on F C s tries P H sent written a g x suits h may dec = record {
   asks = h.asks;
   sends = λ q i r own. ended_numbered s a (failing x.request) x g P q (h.sends q i r own);
   taken = λ e i own. ended_numbered s a (failing x.request) x g P e.request (h.taken e i own);
-  wrote = h.wrote;
+  wrote = λ b q i r own d z. wrote_on s (step a (failing x.request ∷ g) ∷ P) (step a (x ∷ g) ∷ P) H b q (ended_numbered s a (failing x.request) x g P) (h.wrote b q i r own d z);
   ground = (heard_ground F C s tries P H sent written a g x suits h may dec, h.ground.1);
   settled = h.settled;
 }
 
 -- ---- others send, and the ledger writes what it wrote
 
-pub others_send : (s : Source) (tries : ℕ) (P : List Step) (H : List Entry) (sent written : List (List ℕ)) (bytes : List ℕ) → ((q : Request) → bytes ≡ frame (request_body q) → IsRequest q → IsOwn s q → ⊥)
-    → Holds s tries P H sent written → Holds s tries P H (bytes ∷ sent) written
+pub others_send : {day : ℕ → ℕ} {F : ℕ} → (s : Source) (tries : ℕ) (P : List Step) (H : List Entry) (sent written : List (List ℕ)) (bytes : List ℕ) → ((q : Request) → bytes ≡ frame (request_body q) → IsRequest q → IsOwn s q → ⊥)
+    → Holds day F s tries P H sent written → Holds day F s tries P H (bytes ∷ sent) written
 others_send s tries P H sent written bytes others h = record {
   host = h.host;
   run = h.run;
@@ -285,8 +303,8 @@ others_send s tries P H sent written bytes others h = record {
   settled = h.settled;
 }
 
-pub writes_on : (s : Source) (tries : ℕ) (P : List Step) (H : List Entry) (sent written : List (List ℕ)) (bytes : List ℕ) → ((a : Reply) (q : Request) → bytes ≡ frame (reply_body a) → IsReply a → IsOwn s q → decides q a ≡ true → is_grant a ≡ true → Wrote H a)
-    → Holds s tries P H sent written → Holds s tries P H sent (bytes ∷ written)
+pub writes_on : {day : ℕ → ℕ} {F : ℕ} → (s : Source) (tries : ℕ) (P : List Step) (H : List Entry) (sent written : List (List ℕ)) (bytes : List ℕ) → ((a : Reply) (q : Request) → bytes ≡ frame (reply_body a) → IsReply a → IsOwn s q → decides q a ≡ true → is_grant a ≡ true → Wrote H a ⊎ IsForgotten day F s P q)
+    → Holds day F s tries P H sent written → Holds day F s tries P H sent (bytes ∷ written)
 writes_on s tries P H sent written bytes known h = record {
   host = h.host;
   run = h.run;

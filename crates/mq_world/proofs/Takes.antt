@@ -15,6 +15,7 @@ use Rattle.mq_ledger.specs.Arrivals.{has_id, is_id, is_below, id_of as ledger_id
 use Rattle.mq_ledger.specs.History.{Transaction, transaction, same_transaction, is_of, is_at, closes, ended, named, agrees, granted_in, counted, requests}
 use Rattle.mq_ledger.specs.Answer.{answer, appended, stored}
 use Rattle.mq_ledger.specs.Suits.{Suits as RepliesSuit}
+use Rattle.mq_forget.specs.Remembered.{moment_of}
 use Rattle.mq_client.specs.Past.{Source, Step, Standing, Never, Live, Closed, view, id_of, reserve_of, closing_of, is_commit}
 use Rattle.mq_client.specs.Numbered.{id_in, txn_in, IsNumbered, Suits}
 use Rattle.mq_track.specs.declared.closing.CloseEnd.{CloseEnd}
@@ -22,7 +23,7 @@ use Rattle.mq_client.specs.declared.held.Held.{Held}
 use Rattle.mq_world.proofs.Basics.{either, clash, some_is, first_so, second_so, both_so, text_itself, number_itself, In, in_push, in_front, in_last, found, not_found, any_found}
 use Rattle.mq_world.proofs.Known.{OfFrames, OfClients, OfLedgers}
 use Rattle.mq_world.proofs.Numbers.{IsOwn}
-use Rattle.mq_world.proofs.Grounds.{of_source, let_at, was_granted, ground_stays}
+use Rattle.mq_world.proofs.Grounds.{of_source, let_at, at_of, was_granted, ground_stays}
 use Rattle.mq_world.proofs.Runs.{is_settle, count_of, Holds, AllSuit}
 
 abbrev pub entry : Request → Reply → Entry
@@ -56,7 +57,7 @@ pub record SuitsUnder (s : Source) (t : ℕ) (st : Standing) (q : Request) : Typ
   pub id : id_in q ≡ Some (id_of s number)
   pub suits : Suits s number t st q
 
-pub numbered_suits : OfClients → (s : Source) (tries : ℕ) (P : List Step) (H : List Entry) (sent written : List (List ℕ)) → Holds s tries P H sent written → (t : ℕ) (q : Request) → IsNumbered s P q → txn_in q ≡ Some t → SuitsUnder s t ((view s P).standing t) q
+pub numbered_suits : {day : ℕ → ℕ} {F : ℕ} → OfClients → (s : Source) (tries : ℕ) (P : List Step) (H : List Entry) (sent written : List (List ℕ)) → Holds day F s tries P H sent written → (t : ℕ) (q : Request) → IsNumbered s P q → txn_in q ≡ Some t → SuitsUnder s t ((view s P).standing t) q
 numbered_suits C s tries P H sent written h t q i named_is = record {
   number = i.number;
   id = i.id;
@@ -64,10 +65,30 @@ numbered_suits C s tries P H sent written h t q i named_is = record {
 }
 
 -- what each entry of a run's transaction is
-pub entry_suits : OfClients → OfLedgers → (s : Source) (tries : ℕ) (P : List Step) (H : List Entry) (sent written : List (List ℕ)) → Holds s tries P H sent written → (t : ℕ) (e : Entry) → In e H → is_of (of_source s t) e.request ≡ true → SuitsUnder s t ((view s P).standing t) e.request
+pub entry_suits : {day : ℕ → ℕ} {F : ℕ} → OfClients → OfLedgers → (s : Source) (tries : ℕ) (P : List Step) (H : List Entry) (sent written : List (List ℕ)) → Holds day F s tries P H sent written → (t : ℕ) (e : Entry) → In e H → is_of (of_source s t) e.request ≡ true → SuitsUnder s t ((view s P).standing t) e.request
 entry_suits C L s tries P H sent written h t e i mine =
     let o = of_source_own L s t e.request mine in
     numbered_suits C s tries P H sent written h t e.request (h.taken e i o.0) o.1
+
+-- ---- all requests of a transaction are of its moment
+
+pub closing_moment : (s : Source) (n t : ℕ) (end : CloseEnd) (h : Held) → moment_of (closing_of s n t end h) ≡ h.at
+closing_moment s n t end h = by_kind (is_commit end && nat_le 1 h.granted)
+  where
+    by_kind : (b : Bool) → moment_of (if b then Settle (id_of s n) t h.at h.login h.granted else Release (id_of s n) t h.at h.login) ≡ h.at
+    by_kind true = refl
+    by_kind false = refl
+
+pub suits_moment : (s : Source) (n t : ℕ) (st : Standing) (q : Request) → Suits s n t st q → moment_of q ≡ at_of st
+suits_moment s n t Never q u = absurd u
+suits_moment s n t (Live h) q u = ap moment_of u
+suits_moment s n t (Closed end seq h) q (inl r) = ap moment_of r
+suits_moment s n t (Closed end seq h) q (inr p) = ap moment_of p.1 ∙ closing_moment s n t end h
+
+pub entry_moment : {day : ℕ → ℕ} {F : ℕ} → OfClients → OfLedgers → (s : Source) (tries : ℕ) (P : List Step) (H : List Entry) (sent written : List (List ℕ)) → Holds day F s tries P H sent written → (t : ℕ) (e : Entry) → In e H → is_of (of_source s t) e.request ≡ true → moment_of e.request ≡ at_of ((view s P).standing t)
+entry_moment C L s tries P H sent written h t e i mine =
+    let u = entry_suits C L s tries P H sent written h t e i mine in
+    suits_moment s u.number t ((view s P).standing t) e.request u.suits
 
 -- ---- requests of an ended transaction
 
@@ -156,14 +177,14 @@ still_reserves F s t end seq h H new e i u = by_suits u.suits
         let is : ledger_id e.request ≡ Some (id_of s seq) = ap ledger_id p.1 ∙ closing_id s u.number t end h ∙ ap (λ n. Some (id_of s n)) p.0 in
         absurd (clash (has_id (id_of s seq) e.request) (has_its_id F (id_of s seq) e.request is) (not_found (λ x. has_id (id_of s seq) x.request) H new e i))
 
-settled_now : (day : ℕ → ℕ) (default : ℕ) → OfFrames → OfClients → OfLedgers → (s : Source) (tries : ℕ) (P : List Step) (H : List Entry) (sent written : List (List ℕ)) → AllSuit H → Holds s tries P H sent written → (t : ℕ) (end : CloseEnd) (seq : ℕ) (h : Held)
-    → (view s P).standing t ≡ Closed end seq h → is_below (requests H) (id_of s seq) ≡ false → stored H (id_of s seq) ≡ None
+settled_now : {F : ℕ} → (day : ℕ → ℕ) (default : ℕ) → OfFrames → OfClients → OfLedgers → (s : Source) (tries : ℕ) (P : List Step) (H : List Entry) (sent written : List (List ℕ)) → AllSuit H → Holds day F s tries P H sent written → (t : ℕ) (end : CloseEnd) (seq : ℕ) (h : Held)
+    → (view s P).standing t ≡ Closed end seq h → F ≤ day h.at → is_below (requests H) (id_of s seq) ≡ false → stored H (id_of s seq) ≡ None
     → counted (Settle (id_of s seq) t h.at h.login h.granted) (answer day default H (Settle (id_of s seq) t h.at h.login h.granted)) ≡ h.granted
-settled_now day default F C L s tries P H sent written suits holds t end seq h is_ended up new =
+settled_now {F = since} day default F C L s tries P H sent written suits holds t end seq h is_ended on up new =
     let S : Standing → Type 0 = λ st. (e : Entry) → In e H → is_of (of_source s t) e.request ≡ true → SuitsUnder s t st e.request in
     let each : (e : Entry) → In e H → is_of (of_source s t) e.request ≡ true → SuitsUnder s t (Closed end seq h) e.request = subst S is_ended (entry_suits C L s tries P H sent written holds t) in
-    let G : Standing → Type 0 = λ st. let_at st ≤ granted_in H (of_source s t) in
-    let enough : h.granted ≤ granted_in H (of_source s t) = subst G is_ended (was_granted L.itself s H P holds.ground t) in
+    let G : Standing → Type 0 = λ st. since ≤ day (at_of st) → let_at st ≤ granted_in H (of_source s t) in
+    let enough : h.granted ≤ granted_in H (of_source s t) = subst G is_ended (was_granted day since L.itself s tries H P holds.underway holds.ground t) on in
     settle_answer day default H (id_of s seq) t h.at h.login h.granted
     (agrees_if h.at h.login (named H (of_source s t)) (λ e f. (let k = found (λ x. is_of (of_source s t) x.request) H e f in let u = each e k.among k.so in ended_at s u.number t end seq h e.request u.suits)))
     up
@@ -184,16 +205,17 @@ closing_settles : (day : ℕ → ℕ) (default : ℕ) (s : Source) (H : List Ent
     → counted (closing_of s n t end h) (answer day default H (closing_of s n t end h)) ≡ count_of (closing_of s n t end h)
 closing_settles day default s H n t end h y e = kind_settles day default s H n t h (is_commit end && nat_le 1 h.granted) y e
 
-settled_by : (day : ℕ → ℕ) (default : ℕ) → OfFrames → OfClients → OfLedgers → (s : Source) (tries : ℕ) (P : List Step) (H : List Entry) (sent written : List (List ℕ)) → AllSuit H → Holds s tries P H sent written → (t n : ℕ) (st : Standing) (q : Request)
-    → (view s P).standing t ≡ st → Suits s n t st q → is_settle q ≡ true → is_below (requests H) (id_of s n) ≡ false → stored H (id_of s n) ≡ None → counted q (answer day default H q) ≡ count_of q
-settled_by day default F C L s tries P H sent written suits holds t n Never q is h y up new = absurd h
-settled_by day default F C L s tries P H sent written suits holds t n (Live k) q is h y up new = absurd (clash (is_settle q) y (reserve_settle s n t k q h))
-settled_by day default F C L s tries P H sent written suits holds t n (Closed end seq k) q is (inl r) y up new = absurd (clash (is_settle q) y (reserve_settle s n t k q r))
-settled_by day default F C L s tries P H sent written suits holds t n (Closed end seq k) q is (inr p) y up new =
+settled_by : {F : ℕ} → (day : ℕ → ℕ) (default : ℕ) → OfFrames → OfClients → OfLedgers → (s : Source) (tries : ℕ) (P : List Step) (H : List Entry) (sent written : List (List ℕ)) → AllSuit H → Holds day F s tries P H sent written → (t n : ℕ) (st : Standing) (q : Request)
+    → (view s P).standing t ≡ st → Suits s n t st q → is_settle q ≡ true → F ≤ day (moment_of q) → is_below (requests H) (id_of s n) ≡ false → stored H (id_of s n) ≡ None → counted q (answer day default H q) ≡ count_of q
+settled_by day default F C L s tries P H sent written suits holds t n Never q is h y on up new = absurd h
+settled_by day default F C L s tries P H sent written suits holds t n (Live k) q is h y on up new = absurd (clash (is_settle q) y (reserve_settle s n t k q h))
+settled_by day default F C L s tries P H sent written suits holds t n (Closed end seq k) q is (inl r) y on up new = absurd (clash (is_settle q) y (reserve_settle s n t k q r))
+settled_by {F = since} day default F C L s tries P H sent written suits holds t n (Closed end seq k) q is (inr p) y on up new =
     let U : ℕ → Type 0 = λ m. is_below (requests H) (id_of s m) ≡ false in
     let N : ℕ → Type 0 = λ m. stored H (id_of s m) ≡ None in
     let same : q ≡ closing_of s seq t end k = p.1 ∙ ap (λ m. closing_of s m t end k) p.0 in
-    let now = settled_now day default F C L s tries P H sent written suits holds t end seq k is (subst U p.0 up) (subst N p.0 new) in
+    let late : since ≤ day k.at = subst (λ m. since ≤ day m) (ap moment_of p.1 ∙ closing_moment s n t end k) on in
+    let now = settled_now day default F C L s tries P H sent written suits holds t end seq k is late (subst U p.0 up) (subst N p.0 new) in
     let A : Request → Type 0 = λ r. counted r (answer day default H r) ≡ count_of r in
     subst A (sym same) (closing_settles day default s H seq t end k (ap is_settle (sym same) ∙ y) now)
 
@@ -207,27 +229,27 @@ ledger_number (Usage login day) = refl
 ledger_number (ListRequest day after) = refl
 ledger_number (Retire id) = refl
 
-new_settled : (day : ℕ → ℕ) (default : ℕ) → OfFrames → OfClients → OfLedgers → (s : Source) (tries : ℕ) (P : List Step) (H : List Entry) (sent written : List (List ℕ)) → AllSuit H → Holds s tries P H sent written → (id : Id) (q : Request)
-    → IsNumbered s P q → is_settle q ≡ true → ledger_id q ≡ Some id → is_below (requests H) id ≡ false → stored H id ≡ None → counted q (answer day default H q) ≡ count_of q
-new_settled day default F C L s tries P H sent written suits holds id (Settle i txn at login count) n y is up new =
+new_settled : {F : ℕ} → (day : ℕ → ℕ) (default : ℕ) → OfFrames → OfClients → OfLedgers → (s : Source) (tries : ℕ) (P : List Step) (H : List Entry) (sent written : List (List ℕ)) → AllSuit H → Holds day F s tries P H sent written → (id : Id) (q : Request)
+    → IsNumbered s P q → is_settle q ≡ true → F ≤ day (moment_of q) → ledger_id q ≡ Some id → is_below (requests H) id ≡ false → stored H id ≡ None → counted q (answer day default H q) ≡ count_of q
+new_settled day default F C L s tries P H sent written suits holds id (Settle i txn at login count) n y on is up new =
     let u = numbered_suits C s tries P H sent written holds txn (Settle i txn at login count) n refl in
     let same : id ≡ id_of s u.number = some_is id (id_of s u.number) (sym is ∙ u.id) in
     let U : Id → Type 0 = λ j. is_below (requests H) j ≡ false in
     let N : Id → Type 0 = λ j. stored H j ≡ None in
-    settled_by day default F C L s tries P H sent written suits holds txn u.number ((view s P).standing txn) (Settle i txn at login count) refl u.suits y (subst U same up) (subst N same new)
-new_settled day default F C L s tries P H sent written suits holds id (Reserve i txn at login count) n y is up new = absurd (clash false y refl)
-new_settled day default F C L s tries P H sent written suits holds id (Release i txn at login) n y is up new = absurd (clash false y refl)
-new_settled day default F C L s tries P H sent written suits holds id (Limit i from c login) n y is up new = absurd (clash false y refl)
-new_settled day default F C L s tries P H sent written suits holds id (Usage login d) n y is up new = absurd (clash false y refl)
-new_settled day default F C L s tries P H sent written suits holds id (ListRequest d after) n y is up new = absurd (clash false y refl)
-new_settled day default F C L s tries P H sent written suits holds id (Retire i) n y is up new = absurd (clash false y refl)
+    settled_by day default F C L s tries P H sent written suits holds txn u.number ((view s P).standing txn) (Settle i txn at login count) refl u.suits y on (subst U same up) (subst N same new)
+new_settled day default F C L s tries P H sent written suits holds id (Reserve i txn at login count) n y on is up new = absurd (clash false y refl)
+new_settled day default F C L s tries P H sent written suits holds id (Release i txn at login) n y on is up new = absurd (clash false y refl)
+new_settled day default F C L s tries P H sent written suits holds id (Limit i from c login) n y on is up new = absurd (clash false y refl)
+new_settled day default F C L s tries P H sent written suits holds id (Usage login d) n y on is up new = absurd (clash false y refl)
+new_settled day default F C L s tries P H sent written suits holds id (ListRequest d after) n y on is up new = absurd (clash false y refl)
+new_settled day default F C L s tries P H sent written suits holds id (Retire i) n y on is up new = absurd (clash false y refl)
 
 -- ---- a new request
 
-pub takes_new : (day : ℕ → ℕ) (default : ℕ) → OfFrames → OfClients → OfLedgers → (s : Source) (tries : ℕ) (P : List Step) (H : List Entry) (sent written : List (List ℕ)) (id : Id) (q : Request)
-    → In (frame (request_body q)) sent → IsRequest q → ledger_id q ≡ Some id → is_below (requests H) id ≡ false → stored H id ≡ None → IsReply (answer day default H q) → AllSuit H → Holds s tries P H sent written
-    → Holds s tries P (appended day default H q) sent (frame (reply_body (answer day default H q)) ∷ written)
-takes_new day default F C L s tries P H sent written id q was range is up new fits suits h =
+pub takes_new : {F : ℕ} → (day : ℕ → ℕ) (default : ℕ) → OfFrames → OfClients → OfLedgers → (s : Source) (tries : ℕ) (P : List Step) (H : List Entry) (sent written : List (List ℕ)) (id : Id) (q : Request)
+    → In (frame (request_body q)) sent → IsRequest q → ledger_id q ≡ Some id → is_below (requests H) id ≡ false → stored H id ≡ None → IsReply (answer day default H q) → AllSuit H → Holds day F s tries P H sent written
+    → Holds day F s tries P (appended day default H q) sent (frame (reply_body (answer day default H q)) ∷ written)
+takes_new {F = since} day default F C L s tries P H sent written id q was range is up new fits suits h =
     let a : Reply = answer day default H q in
     let e : Entry = entry q a in
     record {
@@ -242,14 +264,14 @@ takes_new day default F C L s tries P H sent written id q was range is up new fi
         | inr same ↦ (let r : q ≡ x.request = ap (λ (y : Entry). y.request) same in subst (IsNumbered s P) r (h.sends q was range (subst (IsOwn s) (sym r) own)))
       ];
       wrote = λ b r i k own d g. elim i [
-        | inl same ↦ record { entry = e; among = in_last H e; is = F.one_reply a b fits k same }
-        | inr j ↦ (let o = h.wrote b r j k own d g in record { entry = o.entry; among = in_front H (e ∷ []) o.entry o.among; is = o.is })
+        | inl same ↦ inl (record { entry = e; among = in_last H e; is = F.one_reply a b fits k same })
+        | inr j ↦ elim (h.wrote b r j k own d g) [ inl o ↦ inl (record { entry = o.entry; among = in_front H (e ∷ []) o.entry o.among; is = o.is }) | inr z ↦ inr z ]
       ];
-      ground = ground_stays s H (e ∷ []) P h.ground;
-      settled = λ x i own y. elim (in_push H e x i) [
-        | inl j ↦ h.settled x j own y
+      ground = ground_stays day since s H (e ∷ []) P h.ground;
+      settled = λ x i own y on. elim (in_push H e x i) [
+        | inl j ↦ h.settled x j own y on
         | inr same ↦ (let r : q ≡ x.request = ap (λ (z : Entry). z.request) same in
             let A : Entry → Type 0 = λ z. counted z.request z.reply ≡ count_of z.request in
-            subst A same (new_settled day default F C L s tries P H sent written suits h id q (h.sends q was range (subst (IsOwn s) (sym r) own)) (ap is_settle r ∙ y) is up new))
+            subst A same (new_settled day default F C L s tries P H sent written suits h id q (h.sends q was range (subst (IsOwn s) (sym r) own)) (ap is_settle r ∙ y) (subst (λ z. since ≤ day (moment_of z)) (sym r) on) is up new))
       ];
     }

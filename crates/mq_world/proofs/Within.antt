@@ -3,6 +3,7 @@ use Rattle.std.proofs.Common.{◌≡◌, ℕ, zero, suc, ◌+◌, ◌<◌, ◌�
 use Rattle.std.specs.Prelude.{◌&&◌, ◌==◌, ◌⊎◌, nat_le, slice_get, is_some, length}
 use Rattle.std.specs.List.{list_any}
 use Rattle.std.proofs.lemmas.Bool.Decides.{nat_tests}
+use Rattle.mq_frame.specs.Same.{same_text}
 use Rattle.mq_frame.specs.declared.message.Request.{Request}
 use Rattle.mq_frame.specs.declared.message.Request.TheVariants.{Settle, Release}
 use Rattle.mq_frame.specs.declared.message.Reply.{Reply}
@@ -19,12 +20,13 @@ use Rattle.mq_client.specs.declared.held.Asked.TheVariants as asked
 use Rattle.mq_client.specs.declared.held.Held.{Held}
 use Rattle.mq_world.specs.World.{with_exchange}
 use Rattle.mq_world.specs.Law.{counting, granted_of, let_by, is_on, let_on}
-use Rattle.mq_world.proofs.Basics.{either, clash, none_some, first_so, second_so, zero_or_more, number_is, In, found, any_found, not_any, sum_has, option_cases}
+use Rattle.mq_world.proofs.Basics.{either, clash, none_some, some_is, first_so, second_so, zero_or_more, number_is, In, found, any_found, not_any, sum_has, option_cases}
 use Rattle.mq_world.proofs.Known.{OfLedgers}
 use Rattle.mq_world.proofs.Ranges.{unless}
-use Rattle.mq_world.proofs.Grounds.{of_source, let_at}
+use Rattle.mq_world.proofs.Grounds.{of_source, let_at, at_of}
 use Rattle.mq_world.proofs.Runs.{is_settle, count_of, Holds, AllSuit, failing, so_far, step}
-use Rattle.mq_world.proofs.Takes.{SuitsUnder, of_source_own, is_closing, not_ended, reserve_closes, reserve_settle}
+use Rattle.mq_forget.specs.Remembered.{moment_of}
+use Rattle.mq_world.proofs.Takes.{closing_moment, SuitsUnder, of_source_own, is_closing, not_ended, reserve_closes, reserve_settle}
 
 -- ---- an exchange on its way lets nothing through
 
@@ -107,15 +109,16 @@ closing_count s n t k y = by_kind (nat_le 1 k.granted) y
 closing_settle : (s : Source) (n t : ℕ) (k : Held) → 0 < k.granted → is_settle (closing_of s n t ending.Commit k) ≡ true
 closing_settle s n t k some = let one : nat_le 1 k.granted ≡ true = grind (arith, nat_tests, some) in rw one refl
 
-settled_each : (s : Source) (tries : ℕ) (P : List Step) (H : List Entry) (sent written : List (List ℕ)) → OfLedgers → Holds s tries P H sent written → (t seq : ℕ) (k : Held) (e : Entry) → In e H → is_of (of_source s t) e.request ≡ true → is_settle e.request ≡ true
-    → SuitsUnder s t (Closed ending.Commit seq k) e.request → k.granted ≤ settled_in H (of_source s t)
-settled_each s tries P H sent written L h t seq k e i mine y u = by_suits u.suits
+settled_each : {day : ℕ → ℕ} {F : ℕ} → (s : Source) (tries : ℕ) (P : List Step) (H : List Entry) (sent written : List (List ℕ)) → OfLedgers → Holds day F s tries P H sent written → (t seq : ℕ) (k : Held) (e : Entry) → In e H → is_of (of_source s t) e.request ≡ true → is_settle e.request ≡ true
+    → SuitsUnder s t (Closed ending.Commit seq k) e.request → F ≤ day k.at → k.granted ≤ settled_in H (of_source s t)
+settled_each {day = day} {F = since} s tries P H sent written L h t seq k e i mine y u on = by_suits u.suits
   where
     by_suits : Suits s u.number t (Closed ending.Commit seq k) e.request → k.granted ≤ settled_in H (of_source s t)
     by_suits (inl r) = absurd (clash (is_settle e.request) y (reserve_settle s u.number t k e.request r))
     by_suits (inr p) =
         let count : count_of e.request ≡ k.granted = ap count_of p.1 ∙ closing_count s u.number t k (sym (ap is_settle p.1) ∙ y) in
-        let all = h.settled e i (of_source_own L s t e.request mine).0 y in
+        let late : since ≤ day (moment_of e.request) = subst (λ m. since ≤ day m) (sym (ap moment_of p.1 ∙ closing_moment s u.number t ending.Commit k)) on in
+        let all = h.settled e i (of_source_own L s t e.request mine).0 y late in
         let part : (if is_of (of_source s t) e.request then counted e.request e.reply else 0) ≤ counted_in H (of_source s t) = sum_has (λ x. if is_of (of_source s t) x.request then counted x.request x.reply else 0) e H i in
         let own : counted e.request e.reply ≤ counted_in H (of_source s t) = rw mine at part in
         omega (arith, count, all, own)
@@ -131,19 +134,19 @@ unsettled s t seq k e some mine none u = by_suits u.suits
         let z : settles_it (of_source s t) e ≡ true = rw (mine, y) refl in
         absurd (clash (settles_it (of_source s t) e) z none)
 
-pub standing_each : (s : Source) (tries : ℕ) (P : List Step) (H : List Entry) (sent written : List (List ℕ)) → OfLedgers → AllSuit H → Holds s tries P H sent written → (t : ℕ) (st : Standing) → let_at st ≤ granted_in H (of_source s t)
+pub standing_each : {day : ℕ → ℕ} {F : ℕ} → (s : Source) (tries : ℕ) (P : List Step) (H : List Entry) (sent written : List (List ℕ)) → OfLedgers → AllSuit H → Holds day F s tries P H sent written → (t : ℕ) (st : Standing) → F ≤ day (at_of st) → let_at st ≤ granted_in H (of_source s t)
     → ((e : Entry) → In e H → is_of (of_source s t) e.request ≡ true → SuitsUnder s t st e.request) → let_by st ≤ held H (of_source s t) + settled_in H (of_source s t)
-standing_each s tries P H sent written L suits h t Never enough each = omega arith
-standing_each s tries P H sent written L suits h t (Live k) enough each =
+standing_each s tries P H sent written L suits h t Never on enough each = omega arith
+standing_each s tries P H sent written L suits h t (Live k) on enough each =
     held_each L H (of_source s t) k.granted suits enough (λ e i mine. (let u = each e i mine in reserve_closes s u.number t k e.request u.suits))
-standing_each s tries P H sent written L suits h t (Closed ending.Drop seq k) enough each = omega arith
-standing_each s tries P H sent written L suits h t (Closed ending.Commit seq k) enough each = elim (zero_or_more k.granted) [
+standing_each s tries P H sent written L suits h t (Closed ending.Drop seq k) on enough each = omega arith
+standing_each s tries P H sent written L suits h t (Closed ending.Commit seq k) on enough each = elim (zero_or_more k.granted) [
   | inl z ↦ omega (arith, z)
   | inr some ↦ elim (either (list_any (settles_it (of_source s t)) H)) [
     | inl y ↦ (let f = any_found (settles_it (of_source s t)) H y in
         let mine = first_so (is_of (of_source s t) f.0.request) (is_settle f.0.request) f.1.so in
         let settles = second_so (is_of (of_source s t) f.0.request) (is_settle f.0.request) f.1.so in
-        let a = settled_each s tries P H sent written L h t seq k f.0 f.1.among mine settles (each f.0 f.1.among mine) in omega (arith, a))
+        let a = settled_each s tries P H sent written L h t seq k f.0 f.1.among mine settles (each f.0 f.1.among mine) on in omega (arith, a))
     | inr m ↦ held_each L H (of_source s t) k.granted suits enough (λ e i mine. unsettled s t seq k e some mine (not_any (settles_it (of_source s t)) H m e i) (each e i mine))
   ]
 ]
@@ -186,3 +189,22 @@ let_from day l d st now n (inr same) le = (let e : let_on day l d st ≡ let_on 
 pub by_from : (st now : Standing) (n : ℕ) → Counts st now → let_by now ≤ n → let_by st ≤ n
 by_from st now n (inl z) le = omega (arith, z)
 by_from st now n (inr same) le = (let e : let_by st ≡ let_by now = ap granted_of same in omega (arith, e, le))
+
+-- ---- the day of what counts
+
+pub counting_at : (st : Standing) (h : Held) → counting st ≡ Some h → at_of st ≡ h.at
+counting_at Never h e = absurd (none_some h e)
+counting_at (Live k) h e = ap (λ (x : Held). x.at) (some_is k h e)
+counting_at (Closed ending.Commit seq k) h e = ap (λ (x : Held). x.at) (some_is k h e)
+counting_at (Closed ending.Drop seq k) h e = absurd (none_some h e)
+
+pub on_at : (day : ℕ → ℕ) (l : List ℕ) (d : ℕ) (st : Standing) → is_on day l d (counting st) ≡ true → day (at_of st) ≡ d
+on_at day l d Never on = absurd (clash false on refl)
+on_at day l d (Live k) on = number_is (day k.at) d (second_so (same_text l k.login) (day k.at == d) on)
+on_at day l d (Closed ending.Commit seq k) on = number_is (day k.at) d (second_so (same_text l k.login) (day k.at == d) on)
+on_at day l d (Closed ending.Drop seq k) on = absurd (clash false on refl)
+
+-- what counted before an exchange that is on its way
+pub counts_at : (st now : Standing) (n : ℕ) (h : Held) → Counts st now → counting st ≡ Some h → (at_of now ≡ h.at → let_by now ≤ n) → let_by st ≤ n
+counts_at st now n h (inl z) is le = omega (arith, z)
+counts_at st now n h (inr same) is le = by_from st now n (inr same) (le (counting_at now h (sym same ∙ is)))

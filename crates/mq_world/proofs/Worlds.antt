@@ -36,10 +36,10 @@ pub record IsRead (s : Source) (tries : ℕ) (r : Run) : Type 0 where
   pub ended : r.is_at_end ≡ true → actions r.past ≡ Drain ∷ actions_of r.lines
   pub played : IsPlayed s tries (earlier r.past)
 
-pub record IsSound (site : Site) (w : World) : Type 0 where
+pub record IsSound (site : Site) (F : ℕ) (w : World) : Type 0 where
   pub ledger : IsLegalBook w.ledger
   pub reading : (s : Source) → site.is_run s ≡ true → IsRead s (site.tries s) (w.runs s)
-  pub runs : (s : Source) → site.is_run s ≡ true → Holds s (site.tries s) (so_far (w.runs s).on_way (w.runs s).past) w.ledger.history w.sent w.written
+  pub runs : (s : Source) → site.is_run s ≡ true → Holds (day_of w.ledger.zone) F s (site.tries s) (so_far (w.runs s).on_way (w.runs s).past) w.ledger.history w.sent w.written
   pub idle : (s : Source) → site.is_run s ≡ false → w.runs s ≡ fresh
 
 pub all_suit : OfLedgers → (b : Book) → IsLegalBook b → AllSuit b.history
@@ -57,18 +57,18 @@ source_is a b h =
     λ i. record { host = host i; run = run i }
 
 -- a run in its place, and perhaps a frame that was sent
-pub put_sound : (site : Site) (w : World) (s : Source) (r : Run) (sent : List (List ℕ)) → IsSound site w → site.is_run s ≡ true → IsRead s (site.tries s) r
-    → Holds s (site.tries s) (so_far r.on_way r.past) w.ledger.history sent w.written
-    → ((u : Source) → same_source s u ≡ false → site.is_run u ≡ true → Holds u (site.tries u) (so_far (w.runs u).on_way (w.runs u).past) w.ledger.history sent w.written)
-    → IsSound site (record { runs = put s r w.runs; ledger = w.ledger; sent = sent; written = w.written })
-put_sound site w s r sent h y read own other = record {
+pub put_sound : {F : ℕ} → (site : Site) (w : World) (s : Source) (r : Run) (sent : List (List ℕ)) → IsSound site F w → site.is_run s ≡ true → IsRead s (site.tries s) r
+    → Holds (day_of w.ledger.zone) F s (site.tries s) (so_far r.on_way r.past) w.ledger.history sent w.written
+    → ((u : Source) → same_source s u ≡ false → site.is_run u ≡ true → Holds (day_of w.ledger.zone) F u (site.tries u) (so_far (w.runs u).on_way (w.runs u).past) w.ledger.history sent w.written)
+    → IsSound site F (record { runs = put s r w.runs; ledger = w.ledger; sent = sent; written = w.written })
+put_sound {F = F} site w s r sent h y read own other = record {
   ledger = h.ledger;
   reading = λ u yu. elim (either (same_source s u)) [
-    | inl same ↦ (let F : Source → Type 0 = λ x. IsRead x (site.tries x) r in rw same (subst F (source_is s u same) read))
+    | inl same ↦ (let G : Source → Type 0 = λ x. IsRead x (site.tries x) r in rw same (subst G (source_is s u same) read))
     | inr differs ↦ rw differs (h.reading u yu)
   ];
   runs = λ u yu. elim (either (same_source s u)) [
-    | inl same ↦ (let F : Source → Type 0 = λ x. Holds x (site.tries x) (so_far r.on_way r.past) w.ledger.history sent w.written in rw same (subst F (source_is s u same) own))
+    | inl same ↦ (let G : Source → Type 0 = λ x. Holds (day_of w.ledger.zone) F x (site.tries x) (so_far r.on_way r.past) w.ledger.history sent w.written in rw same (subst G (source_is s u same) own))
     | inr differs ↦ rw differs (other u differs yu)
   ];
   idle = λ u nu. elim (either (same_source s u)) [
@@ -92,26 +92,26 @@ same_reply : OfFrames → (H : List Entry) (id : Id) (e : Entry) (b : Bool) → 
 same_reply F H id e true there fits a f k g = let i = found (λ x. has_id id x.request) H e there in record { entry = e; among = i.among; is = F.one_reply e.reply a fits k f }
 same_reply F H id e false there fits a f k g = absurd (conflict_not id a (F.one_reply (reply.Conflict id) a fits k f) g)
 
-takes_by : (day : ℕ → ℕ) (default : ℕ) → Known → (s : Source) (tries : ℕ) (P : List Step) (H : List Entry) (sent written : List (List ℕ)) (id : Id) (q : Request) (m : Option Entry) → ledger_id q ≡ Some id → is_below (requests H) id ≡ false → stored H id ≡ m
-    → In (frame (request_body q)) sent → IsRequest q → AllSuit H → IsReply (reply_by day default H q id m) → Holds s tries P H sent written
-    → Holds s tries P (if is_some m then H else appended day default H q) sent (frame (reply_body (reply_by day default H q id m)) ∷ written)
+takes_by : {F : ℕ} → (day : ℕ → ℕ) (default : ℕ) → Known → (s : Source) (tries : ℕ) (P : List Step) (H : List Entry) (sent written : List (List ℕ)) (id : Id) (q : Request) (m : Option Entry) → ledger_id q ≡ Some id → is_below (requests H) id ≡ false → stored H id ≡ m
+    → In (frame (request_body q)) sent → IsRequest q → AllSuit H → IsReply (reply_by day default H q id m) → Holds day F s tries P H sent written
+    → Holds day F s tries P (if is_some m then H else appended day default H q) sent (frame (reply_body (reply_by day default H q id m)) ∷ written)
 takes_by day default K s tries P H sent written id q None number up there was range suits fits h =
     takes_new day default K.frames K.clients K.ledgers s tries P H sent written id q was range number up there fits suits h
 takes_by day default K s tries P H sent written id q (Some e) number up there was range suits fits h =
     writes_on s tries P H sent written (frame (reply_body (reply_by day default H q id (Some e))))
-    (λ a p f k own d g. same_reply K.frames H id e (same_request q e.request) there fits a f k g) h
+    (λ a p f k own d g. inl (same_reply K.frames H id e (same_request q e.request) there fits a f k g)) h
 
 -- a request of a retired run gets Old, and any other is taken
-takes_if : (day : ℕ → ℕ) (default : ℕ) → Known → (s : Source) (tries : ℕ) (P : List Step) (H : List Entry) (sent written : List (List ℕ)) (id : Id) (q : Request) (b : Bool) → ledger_id q ≡ Some id → is_below (requests H) id ≡ b
-    → In (frame (request_body q)) sent → IsRequest q → AllSuit H → IsReply (if b then reply.Old id else reply_by day default H q id (stored H id)) → Holds s tries P H sent written
-    → Holds s tries P (if b || is_some (stored H id) then H else appended day default H q) sent (frame (reply_body (if b then reply.Old id else reply_by day default H q id (stored H id))) ∷ written)
+takes_if : {F : ℕ} → (day : ℕ → ℕ) (default : ℕ) → Known → (s : Source) (tries : ℕ) (P : List Step) (H : List Entry) (sent written : List (List ℕ)) (id : Id) (q : Request) (b : Bool) → ledger_id q ≡ Some id → is_below (requests H) id ≡ b
+    → In (frame (request_body q)) sent → IsRequest q → AllSuit H → IsReply (if b then reply.Old id else reply_by day default H q id (stored H id)) → Holds day F s tries P H sent written
+    → Holds day F s tries P (if b || is_some (stored H id) then H else appended day default H q) sent (frame (reply_body (if b then reply.Old id else reply_by day default H q id (stored H id))) ∷ written)
 takes_if day default K s tries P H sent written id q true number up was range suits fits h =
     writes_on s tries P H sent written (frame (reply_body (reply.Old id))) (λ a p f k own d g. absurd (old_not id a (K.frames.one_reply (reply.Old id) a fits k f) g)) h
 takes_if day default K s tries P H sent written id q false number up was range suits fits h = takes_by day default K s tries P H sent written id q (stored H id) number up refl was range suits fits h
 
-pub takes_any : (day : ℕ → ℕ) (default : ℕ) → Known → (s : Source) (tries : ℕ) (P : List Step) (H : List Entry) (sent written : List (List ℕ)) (q : Request) (o : Option Id) → ledger_id q ≡ o
-    → In (frame (request_body q)) sent → IsRequest q → AllSuit H → RepliesSuit q (reply_to day default H q o) → IsReply (reply_to day default H q o) → Holds s tries P H sent written
-    → Holds s tries P (with_arrival_by day default H q o) sent (frame (reply_body (reply_to day default H q o)) ∷ written)
+pub takes_any : {F : ℕ} → (day : ℕ → ℕ) (default : ℕ) → Known → (s : Source) (tries : ℕ) (P : List Step) (H : List Entry) (sent written : List (List ℕ)) (q : Request) (o : Option Id) → ledger_id q ≡ o
+    → In (frame (request_body q)) sent → IsRequest q → AllSuit H → RepliesSuit q (reply_to day default H q o) → IsReply (reply_to day default H q o) → Holds day F s tries P H sent written
+    → Holds day F s tries P (with_arrival_by day default H q o) sent (frame (reply_body (reply_to day default H q o)) ∷ written)
 takes_any day default K s tries P H sent written q (Some id) number was range suits fit fits h = takes_if day default K s tries P H sent written id q (is_below (requests H) id) number refl was range suits fits h
 takes_any day default K s tries P H sent written q None number was range suits fit fits h =
     writes_on s tries P H sent written (frame (reply_body (answer day default H q)))

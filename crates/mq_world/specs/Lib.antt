@@ -1,4 +1,5 @@
 pub mod World
 pub mod Law
 pub mod Running
+pub mod Forgetting
 pub mod Happening

@@ -17,19 +17,22 @@ ghost use Rattle.mq_client.specs.Past.{Source, Action, Step, drained, view, Play
 ghost use Rattle.mq_client.specs.Numbered.{exchanges_in};
 ghost use Rattle.mq_client.specs.Filter.{Takes, push};
 ghost use Rattle.mq_client.specs.Run.{Outside, EndsWith, StopsAt};
+ghost use Rattle.mq_client.specs.declared.held.Held.{Held};
 ghost use Rattle.mq_client.specs.declared.faults.FilterFault.{FilterFault};
 ghost use Rattle.mq_client.specs.declared.filter.Ended.{Ended};
 ghost use Rattle.mq_world.specs.World.{Site, World, IsStart, Reaches, Next, with_run, with_sent, with_on_way, after_stop};
 ghost use Rattle.mq_world.specs.World.{MayCome};
+ghost use Rattle.mq_world.specs.Forgetting.{forgotten, ReachesForgetting};
 ghost use Rattle.mq_world.specs.Happening.{unused, IsReachable, HasLetOneThrough, WasAnsweredAgain, WasTakenTwice};
 ghost use Rattle.mq_world.specs.Happening.{CameLate, HasStopped, WasRetired};
 ghost use Rattle.mq_world.specs.Running.{ran, step_of, unsent, amid, frames_of, AllMayCome, GoesOn, IsNew, lines_at, IsOrOneMore};
-ghost use Rattle.mq_world.specs.Law.{standing_of, let_by, let_together, IsPastOf};
+ghost use Rattle.mq_world.specs.Law.{standing_of, counting, let_by, let_together, IsPastOf};
 
 use mq_client::{
     closed_is_not_asked_for, few_at_a_time, in_turn, one_request_for_a_number, readings,
     settles_are_of_what_was_let,
 };
+use mq_forget::laws::remembered_is_legal;
 use mq_frame::laws::{one_spelling, same_is_equal};
 use mq_ledger::laws::{
     built_is_legal, one_more_arrival, open_transactions, replies_in_range, replies_suit,
@@ -60,6 +63,34 @@ pub fn never_past_the_limit()
     ensures bounded { (site : Site) (start w : World) → IsStart site start → Reaches site start w →
         (s : Source) → site.is_run s ≡ true → IsBounded (view s (w.runs s).past) }
 {
+    never_past_the_limit_over_a_forgetting();
+}
+
+/// The same for days from F on, where the ledger forgets days before F while runs go on, once or again:
+/// what runs asked about a forgotten day may then be applied once more, and touches no day from F on.
+///
+/// A transaction is of the day of its first ask's moment.
+pub fn never_past_the_limit_over_a_forgetting()
+    // A start whose ledger has forgotten some days is a start.
+    ensures start { (site : Site) (w : World) (D : ℕ) → IsStart site w → IsStart site (forgotten D w) }
+    ensures one { (site : Site) (start w : World) (F : ℕ) → IsStart site start → ReachesForgetting site start F w →
+        (t : Transaction) (h : Held) → counting (standing_of w t) ≡ Some h → F ≤ day_of w.ledger.zone h.at →
+        let_by (standing_of w t) ≤ held w.ledger.history t + settled_in w.ledger.history t }
+    ensures together { (site : Site) (start w : World) (F : ℕ) → IsStart site start →
+        ReachesForgetting site start F w → (l : List ℕ) (d : ℕ) (ts : List Transaction) → AreDistinct ts → F ≤ d →
+        let_together w l d ts ≤ settled (day_of w.ledger.zone) w.ledger.history l d
+        + reserved (day_of w.ledger.zone) w.ledger.history l d }
+    ensures limit { (site : Site) (start w : World) (F : ℕ) → IsStart site start →
+        ReachesForgetting site start F w → (l : List ℕ) (d : ℕ) (ts : List Transaction) → AreDistinct ts → F ≤ d →
+        let_together w l d ts ≤ cap w.ledger.default w.ledger.history l d }
+    // Of runs all is as without a forgetting.
+    ensures pasts { (site : Site) (start w : World) (F : ℕ) → IsStart site start →
+        ReachesForgetting site start F w →
+        (s : Source) → site.is_run s ≡ true → IsPastOf s (site.tries s) (w.runs s) }
+    ensures bounded { (site : Site) (start w : World) (F : ℕ) → IsStart site start →
+        ReachesForgetting site start F w →
+        (s : Source) → site.is_run s ≡ true → IsBounded (view s (w.runs s).past) }
+{
     one_spelling();
     same_is_equal();
     few_at_a_time();
@@ -75,6 +106,7 @@ pub fn never_past_the_limit()
     replies_suit();
     sums_over_transactions();
     within_limits();
+    remembered_is_legal();
 }
 
 /// What a filter run's contract allows is a way through worlds: no line, no exchange and no end of a

@@ -1,0 +1,149 @@
+-- What holds of a run holds once days before F are forgotten.
+use Rattle.std.proofs.Common.{◌≡◌, ℕ, ◌≤◌, ◌<◌, List, [], ◌∷◌, Bool, true, false, refl, ◌∙◌, ap, sym, subst, inl, inr, arith, Option, None, Some}
+use Rattle.std.specs.Prelude.{◌⊎◌, ◌||◌, nat_le, filter}
+use Rattle.std.specs.List.{AllByRecursion}
+use Rattle.std.proofs.lemmas.Bool.Decides.{nat_tests}
+use Rattle.mq_frame.specs.Spelling.{reply_body, frame}
+use Rattle.mq_frame.specs.Range.{IsReply}
+use Rattle.mq_frame.specs.declared.message.Id.{Id}
+use Rattle.mq_frame.specs.declared.message.Request.{Request}
+use Rattle.mq_frame.specs.declared.message.Request.TheVariants.{Reserve, Settle, Release, Limit, Usage, List as ListRequest, Retire}
+use Rattle.mq_frame.specs.declared.message.Reply.{Reply}
+use Rattle.mq_frame.specs.declared.message.Reply.TheVariants as reply
+use Rattle.mq_ledger.specs.declared.entry.Entry.{Entry}
+use Rattle.mq_ledger.specs.History.{Transaction, transaction, same_transaction, is_of, named}
+use Rattle.mq_ledger.specs.Legal.{IsLegal}
+use Rattle.mq_ledger.specs.Suits.{Suits as RepliesSuit}
+use Rattle.mq_forget.specs.Remembered.{moment_of, day_named, is_about, is_set, stays, remembered}
+use Rattle.mq_client.specs.Exchanges.{decides}
+use Rattle.mq_client.specs.Past.{Source, Step, id_of, reserve_of}
+use Rattle.mq_world.proofs.Basics.{either, clash, some_is, first_not, option_cases, In, found}
+use Rattle.mq_world.proofs.Known.{OfFrames, OfClients, OfLedgers}
+use Rattle.mq_world.proofs.Numbers.{IsOwn}
+use Rattle.mq_world.proofs.Grounds.{of_source, is_grant, GrantedIn, ground_kept}
+use Rattle.mq_world.proofs.Runs.{Wrote, IsForgotten, Holds, AllSuit, same_id_by, own_by}
+use Rattle.mq_world.proofs.Takes.{entry_moment}
+
+-- what is remembered of a legal history is legal
+abbrev pub OfForgetting : Type 0
+OfForgetting = (day : ℕ → ℕ) (default D : ℕ) (H : List Entry) → IsLegal day default H → IsLegal day default (remembered day D H)
+
+-- ---- what a filter leaves
+
+pub in_filter : {X : Type 0} (p : X → Bool) (xs : List X) (x : X) → In x (filter p xs) → In x xs
+in_filter p [] x i = absurd i
+in_filter p (y ∷ xs) x i = elim (either (p y)) [
+  | inl t ↦ (let j : (y ≡ x) ⊎ In x (filter p xs) = rw t at i in elim j [ inl e ↦ inl e | inr k ↦ inr (in_filter p xs x k) ])
+  | inr f ↦ (let j : In x (filter p xs) = rw f at i in inr (in_filter p xs x j))
+]
+
+pub filter_in : {X : Type 0} (p : X → Bool) (xs : List X) (x : X) → In x xs → p x ≡ true → In x (filter p xs)
+filter_in p [] x i h = absurd i
+filter_in p (y ∷ xs) x i h = elim (either (p y)) [
+  | inl t ↦ rw t (elim i [ inl e ↦ inl e | inr k ↦ inr (filter_in p xs x k h) ])
+  | inr f ↦ rw f (elim i [ inl e ↦ absurd (clash (p y) (ap p e ∙ h) f) | inr k ↦ filter_in p xs x k h ])
+]
+
+pub all_filter : {X : Type 0} (P : X → Type 0) (p : X → Bool) (xs : List X) → AllByRecursion P xs → AllByRecursion P (filter p xs)
+all_filter P p [] all = tt
+all_filter P p (x ∷ xs) all = elim (either (p x)) [
+  | inl t ↦ rw t (all.0, all_filter P p xs all.1)
+  | inr f ↦ rw f (all_filter P p xs all.1)
+]
+
+-- ---- the day of a run's transaction
+
+own_day : (day : ℕ → ℕ) (H : List Entry) (t : Transaction) (at : ℕ) → ((e : Entry) → In e H → is_of t e.request ≡ true → moment_of e.request ≡ at) → day_named day at (named H t) ≡ day at
+own_day day H t at same = elim (option_cases (named H t)) [
+  | inl none ↦ ap (day_named day at) none
+  | inr p ↦ (let f = found (λ x. is_of t x.request) H p.0 p.1 in ap (day_named day at) p.1 ∙ ap day (same p.0 f.among f.so))
+]
+
+-- where all entries of a transaction are of one moment, a request of it is about that day
+about_own : OfLedgers → (day : ℕ → ℕ) (D : ℕ) (H : List Entry) (t : Transaction) (r : Request) → is_of t r ≡ true → ((e : Entry) → In e H → is_of t e.request ≡ true → moment_of e.request ≡ moment_of r) → is_about day D H r ≡ nat_le D (day (moment_of r))
+about_own L day D H t (Reserve id txn at login count) mine same = ap (nat_le D) (ap (λ u. day_named day at (named H u)) (sym (L.same t (transaction id txn) mine)) ∙ own_day day H t at same)
+about_own L day D H t (Settle id txn at login count) mine same = ap (nat_le D) (ap (λ u. day_named day at (named H u)) (sym (L.same t (transaction id txn) mine)) ∙ own_day day H t at same)
+about_own L day D H t (Release id txn at login) mine same = ap (nat_le D) (ap (λ u. day_named day at (named H u)) (sym (L.same t (transaction id txn) mine)) ∙ own_day day H t at same)
+about_own L day D H t (Limit id from c login) mine same = absurd (clash false mine refl)
+about_own L day D H t (Usage login d) mine same = absurd (clash false mine refl)
+about_own L day D H t (ListRequest d after) mine same = absurd (clash false mine refl)
+about_own L day D H t (Retire id) mine same = absurd (clash false mine refl)
+
+entry_about : {day : ℕ → ℕ} {F : ℕ} → OfClients → OfLedgers → (D : ℕ) (s : Source) (tries : ℕ) (P : List Step) (H : List Entry) (sent written : List (List ℕ)) → Holds day F s tries P H sent written → (t : ℕ) (e : Entry) → In e H → is_of (of_source s t) e.request ≡ true
+    → is_about day D H e.request ≡ nat_le D (day (moment_of e.request))
+entry_about {day = day} C L D s tries P H sent written h t e i mine =
+    about_own L day D H (of_source s t) e.request mine
+    (λ x j m. entry_moment C L s tries P H sent written h t x j m ∙ sym (entry_moment C L s tries P H sent written h t e i mine))
+
+-- ---- of a granted reserve
+
+-- the transaction of the run that a request is of
+record IsOfRun (s : Source) (r : Request) : Type 0 where
+  pub txn : ℕ
+  pub is : is_of (of_source s txn) r ≡ true
+
+reserve_is_of : OfLedgers → (s : Source) (n : ℕ) (id : Id) (txn : ℕ) → id ≡ id_of s n → same_transaction (of_source s txn) (transaction id txn) ≡ true
+reserve_is_of L s n id txn e = let S : Id → Type 0 = λ i. same_transaction (of_source s txn) (transaction i txn) ≡ true in subst S (sym e) (L.itself (of_source s txn))
+
+-- an entry of the run that was granted is of a transaction
+granted_of_run : OfLedgers → (s : Source) (r : Request) (a : Reply) → IsOwn s r → RepliesSuit r a → is_grant a ≡ true → IsOfRun s r
+granted_of_run L s (Reserve id txn at login count) a own suits g = record { txn = txn; is = reserve_is_of L s own.number id txn (some_is id (id_of s own.number) own.id) }
+granted_of_run L s (Settle id txn at login count) (reply.Granted j u) own suits g = absurd suits
+granted_of_run L s (Release id txn at login) (reply.Granted j u) own suits g = absurd suits
+granted_of_run L s (Limit id from c login) (reply.Granted j u) own suits g = absurd suits
+granted_of_run L s (Usage login d) (reply.Granted j u) own suits g = absurd suits
+granted_of_run L s (ListRequest d after) (reply.Granted j u) own suits g = absurd suits
+granted_of_run L s (Retire id) (reply.Granted j u) own suits g = absurd suits
+granted_of_run L s r a own suits g = absurd (clash false g refl)
+
+-- ---- the run after a forgetting
+
+stays_if : (day : ℕ → ℕ) (D : ℕ) (H : List Entry) (e : Entry) → is_about day D H e.request ≡ true → stays day D H e ≡ true
+stays_if day D H e about = rw about refl
+
+granted_kept : {day : ℕ → ℕ} {F : ℕ} → OfClients → OfLedgers → (D : ℕ) → D ≤ F → (s : Source) (tries : ℕ) (P : List Step) (H : List Entry) (sent written : List (List ℕ)) → Holds day F s tries P H sent written → (n txn at : ℕ) (login : List ℕ)
+    → F ≤ day at → GrantedIn s H n txn at login → GrantedIn s (remembered day D H) n txn at login
+granted_kept {day = day} {F = F} C L D below s tries P H sent written h n txn at login on k =
+    let own : is_of (of_source s txn) k.entry.request ≡ true = ap (is_of (of_source s txn)) k.request ∙ L.itself (of_source s txn) in
+    let about = entry_about C L D s tries P H sent written h txn k.entry k.among own in
+    let moment : moment_of k.entry.request ≡ at = ap moment_of k.request in
+    let late : nat_le D (day at) ≡ true = grind (arith, nat_tests, below, on) in
+    let yes : is_about day D H k.entry.request ≡ true = about ∙ ap (λ m. nat_le D (day m)) moment ∙ late in
+    record {
+      entry = k.entry;
+      among = filter_in (stays day D H) H k.entry k.among (stays_if day D H k.entry yes);
+      request = k.request;
+      granted = k.granted;
+    }
+
+wrote_kept : {day : ℕ → ℕ} {F : ℕ} → OfClients → OfLedgers → OfFrames → (D : ℕ) → D ≤ F → (s : Source) (tries : ℕ) (P : List Step) (H : List Entry) (sent written : List (List ℕ)) → AllSuit H → Holds day F s tries P H sent written → (a : Reply) (q : Request)
+    → IsOwn s q → decides q a ≡ true → is_grant a ≡ true → Wrote H a → Wrote (remembered day D H) a ⊎ IsForgotten day F s P q
+wrote_kept {day = day} {F = F} C L K D below s tries P H sent written suits h a q own d g w =
+    let e : Entry = w.entry in
+    let fits : RepliesSuit e.request e.reply = suits e w.among in
+    let same = same_id_by K s q e.request a own d (subst (RepliesSuit e.request) w.is fits) in
+    let mine = own_by s q e.request own same in
+    let of_run = granted_of_run L s e.request e.reply mine fits (ap is_grant w.is ∙ g) in
+    elim (either (stays day D H e)) [
+      | inl y ↦ inl (record { entry = e; among = filter_in (stays day D H) H e w.among y; is = w.is })
+      | inr n ↦ (let off : is_about day D H e.request ≡ false = first_not (is_about day D H e.request) (is_set e.request e.reply) n in
+          let early : nat_le D (day (moment_of e.request)) ≡ false = sym (entry_about C L D s tries P H sent written h of_run.txn e w.among of_run.is) ∙ off in
+          inr (record { request = e.request; numbered = h.taken e w.among mine; same = same; earlier = grind (arith, nat_tests, below, early) }))
+    ]
+
+pub forgets_on : {day : ℕ → ℕ} {F : ℕ} → OfClients → OfLedgers → OfFrames → (D : ℕ) → D ≤ F → (s : Source) (tries : ℕ) (P : List Step) (H : List Entry) (sent written : List (List ℕ)) → AllSuit H → Holds day F s tries P H sent written → Holds day F s tries P (remembered day D H) sent written
+forgets_on {day = day} {F = F} C L K D below s tries P H sent written suits h = record {
+  host = h.host;
+  run = h.run;
+  underway = h.underway;
+  returns = h.returns;
+  asks = h.asks;
+  sends = h.sends;
+  taken = λ e i own. h.taken e (in_filter (stays day D H) H e i) own;
+  wrote = λ a q i range own d g. elim (h.wrote a q i range own d g) [
+    | inl w ↦ wrote_kept C L K D below s tries P H sent written suits h a q own d g w
+    | inr f ↦ inr f
+  ];
+  ground = ground_kept day F s H (remembered day D H) (granted_kept C L D below s tries P H sent written h) P h.ground;
+  settled = λ e i own y on. h.settled e (in_filter (stays day D H) H e i) own y on;
+}
