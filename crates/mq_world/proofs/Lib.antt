@@ -9,3 +9,4 @@ pub mod Takes
 pub mod Worlds
 pub mod Within
 pub mod Forgetting
+pub mod Ways

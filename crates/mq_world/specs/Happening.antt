@@ -8,6 +8,7 @@ use Rattle.mq_frame.specs.declared.message.Request.{Request}
 use Rattle.mq_frame.specs.declared.message.Request.TheVariants.{Retire}
 use Rattle.mq_frame.specs.declared.message.Reply.{Reply}
 use Rattle.mq_frame.specs.declared.message.Reply.TheVariants.{Old}
+use Rattle.mq_ledger.specs.Day.{day_of}
 use Rattle.mq_ledger.specs.History.{Transaction, requests, held, settled_in}
 use Rattle.mq_ledger.specs.Legal.{Book}
 use Rattle.mq_client.specs.Exchanges.{Exchange, decides, request_frame}
@@ -16,7 +17,9 @@ use Rattle.mq_client.specs.Numbered.{exchanges_in}
 use Rattle.mq_link.specs.declared.link.LinkFault.{LinkFault}
 use Rattle.mq_link.specs.declared.link.Outcome.TheVariants.{Answered, Faulted}
 use Rattle.mq_world.specs.World.{Site, World, IsStart, Next, Reaches, with_run, after_exchange, same_source, source_of}
-use Rattle.mq_world.specs.Law.{run_of, standing_of, let_by}
+use Rattle.mq_client.specs.declared.held.Held.{Held}
+use Rattle.mq_world.specs.Law.{run_of, standing_of, counting, let_by}
+use Rattle.mq_world.specs.Forgetting.{forgotten, ReachesForgetting}
 
 -- ---- reaching
 
@@ -127,3 +130,28 @@ pub record WasRetired (site : Site) (start w : World) : Type 0 where
   pub came : newest (w.runs (run_of transaction)).past ≡ Some (brought closing (Old id) (Some (Old id)))
   pub none_waits : (view (run_of transaction) (w.runs (run_of transaction)).past).waiting ≡ []
   pub is_one : let_by (standing_of w transaction) ≡ 1
+
+-- A transaction of a run let one recipient through, and the ledger forgot its day: it held one of it, and then it had
+-- neither held nor settled any. The run went on, and let one through in a transaction of the first day that isn't
+-- forgotten. Then the ledger took a frame of the forgotten reserve again, and applied it once more.
+pub record WentOnThoughForgotten (site : Site) (start w : World) : Type 0 where
+  pub earlier : Transaction
+  pub is_run : site.is_run (run_of earlier) ≡ true
+  pub held_before : held w.ledger.history earlier ≡ 1
+  pub reserve : Request
+  pub had : requests w.ledger.history ≡ reserve ∷ []
+  pub day : ℕ
+  pub held_no_more : held (forgotten day w).ledger.history earlier ≡ 0
+  pub settled_none : settled_in (forgotten day w).ledger.history earlier ≡ 0
+  pub let_still : let_by (standing_of (forgotten day w) earlier) ≡ 1
+  pub now : World
+  pub went_on : Reaches site (forgotten day w) now
+  pub reached : ReachesForgetting site start day now
+  pub transaction : Transaction
+  pub same_run : run_of transaction ≡ run_of earlier
+  pub asked : Held
+  pub counts : counting (standing_of now transaction) ≡ Some asked
+  pub is_one : asked.granted ≡ 1
+  pub is_first_day : day_of now.ledger.zone asked.at ≡ day
+  pub request : Request
+  pub taken_again : requests now.ledger.history ≡ request ∷ reserve ∷ []

@@ -1,13 +1,13 @@
 //! Laws of both ends. The functions compute nothing.
 ghost use Rattle.std.specs.Prelude.{◌≡◌, ◌≤◌, ◌+◌, ◌++◌, ◌∷◌, ℕ, List, Bool, Option, sum_by, true, false, Some};
-ghost use Rattle.std.specs.Prelude.{slice_get};
+ghost use Rattle.std.specs.Prelude.{slice_get, ℤ};
 ghost use Rattle.mq_frame.specs.Spelling.{reply_body, frame};
 ghost use Rattle.mq_frame.specs.declared.message.Reply.TheVariants.{Retry, Bad};
 ghost use Rattle.mq_link.specs.declared.link.LinkFault.{LinkFault};
 ghost use Rattle.mq_link.specs.declared.link.Outcome.TheVariants.{Answered, Faulted};
 ghost use Rattle.std.specs.Option.{option_map};
 ghost use Rattle.mq_line.specs.Grammar.{Meaning};
-ghost use Rattle.mq_ledger.specs.Day.{day_of};
+ghost use Rattle.mq_ledger.specs.Day.{ByOffset, day_of};
 ghost use Rattle.mq_ledger.specs.History.{Transaction, held, settled_in, reserved, settled};
 ghost use Rattle.mq_ledger.specs.Legal.{Book, IsLegalBook};
 ghost use Rattle.mq_ledger.specs.Limits.{cap};
@@ -24,7 +24,7 @@ ghost use Rattle.mq_world.specs.World.{Site, World, IsStart, Reaches, Next, with
 ghost use Rattle.mq_world.specs.World.{MayCome};
 ghost use Rattle.mq_world.specs.Forgetting.{forgotten, ReachesForgetting};
 ghost use Rattle.mq_world.specs.Happening.{unused, IsReachable, HasLetOneThrough, WasAnsweredAgain, WasTakenTwice};
-ghost use Rattle.mq_world.specs.Happening.{CameLate, HasStopped, WasRetired};
+ghost use Rattle.mq_world.specs.Happening.{CameLate, HasStopped, WasRetired, WentOnThoughForgotten};
 ghost use Rattle.mq_world.specs.Running.{ran, step_of, unsent, amid, frames_of, AllMayCome, GoesOn, IsNew, lines_at, IsOrOneMore};
 ghost use Rattle.mq_world.specs.Law.{standing_of, counting, let_by, let_together, IsPastOf};
 
@@ -35,8 +35,8 @@ use mq_client::{
 use mq_forget::laws::remembered_is_legal;
 use mq_frame::laws::{one_spelling, same_is_equal};
 use mq_ledger::laws::{
-    built_is_legal, one_more_arrival, open_transactions, replies_in_range, replies_suit,
-    sums_over_transactions, within_limits,
+    built_is_legal, day_is_the_floor, one_more_arrival, open_transactions, replies_in_range,
+    replies_suit, sums_over_transactions, within_limits,
 };
 use mq_track::laws::open_numbers_differ;
 
@@ -156,7 +156,8 @@ pub fn each_run_is_of_a_world()
 }
 
 /// Worlds are reached in which mail goes through and the network does its worst: a law of all worlds
-/// speaks of such ones too. The start's ledger may have any zone, and any default of at least one.
+/// speaks of such ones too. The start's ledger may have any zone, and any default of at least one; where
+/// it forgets, any offset for a zone.
 pub fn what_may_happen()
     ensures let_through { (b : Book) → IsLegalBook (unused b) → 1 ≤ b.default → IsReachable b HasLetOneThrough }
     ensures answered_again { (b : Book) → IsLegalBook (unused b) → 1 ≤ b.default → IsReachable b WasAnsweredAgain }
@@ -164,6 +165,9 @@ pub fn what_may_happen()
     ensures late { (b : Book) → IsLegalBook (unused b) → 1 ≤ b.default → IsReachable b CameLate }
     ensures stopped { (b : Book) → IsLegalBook (unused b) → IsReachable b HasStopped }
     ensures retired { (b : Book) → IsLegalBook (unused b) → 1 ≤ b.default → IsReachable b WasRetired }
+    ensures forgotten { (b : Book) (minutes : ℤ) → b.zone ≡ ByOffset minutes → IsLegalBook (unused b) →
+        1 ≤ b.default → IsReachable b WentOnThoughForgotten }
 {
     one_spelling();
+    day_is_the_floor();
 }

@@ -2,16 +2,16 @@
 use Rattle.std.proofs.Common.{◌≡◌, ℕ, ◌+◌, ◌≤◌, arith, subst, sym, ap, ◌∙◌, inl, inr, Option, None, Some}
 use Rattle.mq_ledger.specs.Day.{day_of}
 use Rattle.mq_ledger.specs.History.{Transaction, held, settled_in}
-use Rattle.mq_world.specs.World.{Site, World, IsStart, Reaches, AtOnce, Later}
+use Rattle.mq_world.specs.World.{Site, World, Reaches}
 use Rattle.mq_world.specs.Law.{standing_of, counting, granted_of, let_by}
-use Rattle.mq_world.specs.Forgetting.{ReachesForgetting, FromStart, Steps}
+use Rattle.mq_world.specs.Forgetting.{ReachesForgetting, FromStart}
 use Rattle.mq_client.specs.declared.held.Held.{Held}
 use Rattle.mq_world.proofs.Basics.{option_cases}
+use Rattle.mq_world.proofs.Ways.{with_steps}
 use Rattle.mq_world.proofs.laws.never_past_the_limit.Goals as goal
 
 forgets_nothing : (site : Site) (start w : World) → Reaches site start w → ReachesForgetting site start 0 w
-forgets_nothing site start w AtOnce = FromStart
-forgets_nothing site start w (Later v later r n) = Steps v later (forgets_nothing site start v r) n
+forgets_nothing site start w r = with_steps site 0 start start w FromStart r
 
 -- what counts not, lets nothing through
 none_or : (w : World) (t : Transaction) (n : ℕ) → ((h : Held) → counting (standing_of w t) ≡ Some h → let_by (standing_of w t) ≤ n) → let_by (standing_of w t) ≤ n

@@ -1,11 +1,12 @@
 -- A world of two runs, step by step.
 use Rattle.std.proofs.Common.{◌≡◌, ℕ, ◌≤◌, List, [], ◌∷◌, ◌++◌, Bool, true, false, refl, ap, sym, subst, inl, inr, arith, None, Some, if◌then◌else◌}
-use Rattle.std.specs.Prelude.{codes, nat_lt, ◌||◌, ◌⊎◌, count_by}
+use Rattle.std.specs.Prelude.{codes, nat_lt, nat_le, ◌||◌, ◌⊎◌, count_by, ◌<◌, ◌+◌, ◌*◌, ℤ, pos, ◌≤ℤ◌, ◌<ℤ◌}
+use Rattle.std.proofs.lemmas.Int.{ints}
 use Rattle.mq_frame.specs.Same.{same_text}
 use Rattle.std.proofs.lemmas.Bool.Decides.{nat_tests}
 use Rattle.std.proofs.lemmas.List.Elements.{All-from_recursion}
 use Rattle.mq_line.specs.Grammar.{Meaning, ReportLine, FilterLine}
-use Rattle.mq_frame.specs.Range.{IsHost, IsHostByte, IsRun, IsId, IsRequest, IsReply}
+use Rattle.mq_frame.specs.Range.{IsHost, IsHostByte, IsRun, IsId, IsMoment, IsRequest, IsReply}
 use Rattle.mq_frame.specs.Spelling.{request_body, reply_body, SpellsReply, frame}
 use Rattle.mq_frame.specs.declared.message.Id.{Id}
 use Rattle.mq_frame.specs.declared.message.Request.{Request}
@@ -13,16 +14,20 @@ use Rattle.mq_frame.specs.declared.message.Request.TheVariants.{Settle, Retire}
 use Rattle.mq_frame.specs.declared.message.Reply.{Reply}
 use Rattle.mq_frame.specs.declared.message.Reply.TheVariants.{Granted, Full, Old, Retired}
 use Rattle.mq_ledger.specs.Arrivals.{floor}
-use Rattle.mq_ledger.specs.History.{requests, held, settled_in}
+use Rattle.mq_ledger.specs.declared.entry.Entry.{Entry}
+use Rattle.mq_ledger.specs.Day.{IsZone, IsOffset, ByOffset, clock, day_of}
+use Rattle.mq_ledger.specs.History.{Transaction, requests, held, settled_in}
 use Rattle.mq_ledger.specs.Legal.{Book, IsLegalBook}
 use Rattle.mq_client.specs.Exchanges.{Exchange, IsTry, decides, request_frame}
 use Rattle.mq_client.specs.Past.{Source, Ask, IsPlayed, id_of, reserve_of}
 use Rattle.mq_client.specs.Numbered.{id_in}
 use Rattle.mq_link.specs.declared.link.LinkFault.TheVariants.{TimedOut}
 use Rattle.mq_world.specs.World.{Site, World, fresh, IsStart, after_line, with_on_way, after_exchange, after_stop, same_source, with_run, with_sent, after_arrival, reply_from, Next, Reads, Sends, Ends, Takes, OthersSend, Stops, Reaches, AtOnce, Later, IsOfOthers, IsFrameOfOthers, source_of}
-use Rattle.mq_world.specs.Happening.{unused, times_written, IsReachable, failed, brought, HasLetOneThrough, WasAnsweredAgain, WasTakenTwice, CameLate, HasStopped, WasRetired}
+use Rattle.mq_world.specs.Happening.{unused, times_written, IsReachable, failed, brought, HasLetOneThrough, WasAnsweredAgain, WasTakenTwice, CameLate, HasStopped, WasRetired, WentOnThoughForgotten}
+use Rattle.mq_world.specs.Forgetting.{forgotten, ReachesForgetting, FromStart, Forgets}
 use Rattle.mq_world.proofs.Basics.{some_is}
 use Rattle.mq_world.proofs.Runs.{step}
+use Rattle.mq_world.proofs.Ways.{with_steps}
 use Rattle.mq_world.proofs.Worlds.{source_is}
 use Rattle.mq_world.proofs.laws.what_may_happen.Goals as goal
 
@@ -399,6 +404,142 @@ retires_it one b legal le =
       is_one = refl;
     })
 
+-- ---- a day is forgotten while the run goes on
+
+-- two days after noon
+abbrev pub afterwards : ℕ
+afterwards = 1700172800
+
+abbrev pub later_login : Meaning
+later_login = ReportLine afterwards (codes "smtp-in") (codes "link-auth") (codes "v") (codes "pass|u")
+
+abbrev pub later_begin : Meaning
+later_begin = ReportLine afterwards (codes "smtp-in") (codes "tx-begin") (codes "v") (codes "n")
+
+abbrev pub later_recipient : Meaning
+later_recipient = FilterLine afterwards (codes "smtp-in") (codes "rcpt-to") (codes "v") (codes "t") (codes "r")
+
+abbrev pub second_request : Request
+second_request = reserve_of here 2 2 afterwards (codes "u")
+
+abbrev pub second_reply : Reply
+second_reply = Granted (id_of here 2) 1
+
+abbrev pub second_answered : Exchange
+second_answered = brought second_request second_reply (Some second_reply)
+
+-- the ledger as it is then: with no answer
+abbrev pub cleared : Book → World
+cleared b = record { runs = (granted b).runs; ledger = unused b; sent = (granted b).sent; written = (granted b).written }
+
+abbrev pub asks_later : Book → World
+asks_later b = reads (reads (reads (cleared b) here later_login) here later_begin) here later_recipient
+
+abbrev pub sent_later : Book → World
+sent_later b = with_sent (with_run (asks_later b) here (with_on_way (Some second_request) ((asks_later b).runs here))) (request_frame second_request)
+
+abbrev pub granted_later : Book → World
+granted_later b = ends (after_arrival (sent_later b) second_request) here second_answered
+
+-- a frame of the forgotten reserve comes once more
+abbrev pub taken_later : Book → World
+taken_later b = takes (granted_later b)
+
+second_request_range : IsRequest second_request
+second_request_range = (second_range, record { from = omega arith; to = omega arith }, record { from = omega arith; to = omega arith }, record { from = omega arith; to = omega arith }, record { from = omega arith; to = omega arith })
+
+second_granted : (b : Book) (t : Bool) → t ≡ false → (if t then Full (id_of here 2) 0 b.default else second_reply) ≡ second_reply
+second_granted b t e = rw e refl
+
+later_reply : (b : Book) → 1 ≤ b.default → reply_from (sent_later b).ledger second_request ≡ second_reply
+unfolding floor
+later_reply b le = second_granted b (nat_lt b.default 1) (grind (arith, nat_tests, le))
+
+to_taken_later : (b : Book) → 1 ≤ b.default → Reaches site (cleared b) (taken_later b)
+to_taken_later b le =
+    let w0 = cleared b in
+    let w1 = reads w0 here later_login in
+    let w2 = reads w1 here later_begin in
+    let w3 = reads w2 here later_recipient in
+    let w4 = sent_later b in
+    let w5 = after_arrival w4 second_request in
+    let w6 = granted_later b in
+    let r1 : Reaches site w0 w1 = Later w0 w1 AtOnce (Reads here later_login (record { up = record { is_run = refl; is_up = refl }; before_end = refl; none_on_way = refl; played = asked_once }) refl) in
+    let r2 : Reaches site w0 w2 = Later w1 w2 r1 (Reads here later_begin (record { up = record { is_run = refl; is_up = refl }; before_end = refl; none_on_way = refl; played = asked_once }) refl) in
+    let r3 : Reaches site w0 w3 = Later w2 w3 r2 (Reads here later_recipient (record { up = record { is_run = refl; is_up = refl }; before_end = refl; none_on_way = refl; played = asked_once }) refl) in
+    let r4 : Reaches site w0 w4 = Later w3 w4 r3 (Sends here second_request (record { is_run = refl; is_up = refl }) refl refl) in
+    let r5 : Reaches site w0 w5 = Later w4 w5 r4 (Takes 0 (request_body second_request) second_request refl (record { bytes = refl; in_range = second_request_range })) in
+    let r6 : Reaches site w0 w6 = Later w5 w6 r5 (Ends here second_answered (record { is_run = refl; is_up = refl }) refl
+    (inr (inr (0, ap (λ a. Some (frame (reply_body a))) (later_reply b le))))
+    (record { bytes = refl; in_range = (second_range, record { from = omega arith; to = omega arith }) }, refl)) in
+    Later w6 (taken_later b) r6 (Takes 1 (request_body (request here)) (request here) refl (record { bytes = refl; in_range = request_range }))
+
+-- noon's reserve goes with its day
+one_goes : (e : Entry) (t : Bool) → t ≡ false → (if (t || false) then e ∷ [] else []) ≡ []
+one_goes e t f = rw f refl
+
+forgets_noon : (b : Book) (D : ℕ) → nat_le D (day_of b.zone noon) ≡ false → (forgotten D (granted b)).ledger.history ≡ []
+unfolding floor
+forgets_noon b D before = one_goes (record { request = request here; reply = reply_from (unused b) (request here) }) (nat_le D (day_of b.zone noon)) before
+
+is_cleared : (b : Book) (D : ℕ) → nat_le D (day_of b.zone noon) ≡ false → forgotten D (granted b) ≡ cleared b
+is_cleared b D before =
+    let none = forgets_noon b D before in
+    λ i. record { runs = (granted b).runs; ledger = record { zone = b.zone; default = b.default; history = none i }; sent = (granted b).sent; written = (granted b).written }
+
+-- at an offset noon is on an earlier day
+abbrev pub Floors : Type 0
+Floors = (minutes : ℤ) (at : ℕ) → IsOffset minutes → IsMoment at → (pos (86400 * day_of (ByOffset minutes) at) ≤ℤ clock minutes at) × (clock minutes at <ℤ pos (86400 * (day_of (ByOffset minutes) at + 1)))
+
+noon_is_earlier : Floors → (minutes : ℤ) → IsOffset minutes → nat_le (day_of (ByOffset minutes) afterwards) (day_of (ByOffset minutes) noon) ≡ false
+noon_is_earlier floors minutes offset =
+    let first = (floors minutes noon offset (record { from = omega arith; to = omega arith })).0 in
+    let second = (floors minutes afterwards offset (record { from = omega arith; to = omega arith })).1 in
+    let less : day_of (ByOffset minutes) noon < day_of (ByOffset minutes) afterwards = omega (arith, ints, first, second) in
+    grind (arith, nat_tests, less)
+
+requests_later : (b : Book) → requests (taken_later b).ledger.history ≡ second_request ∷ request here ∷ []
+unfolding floor
+requests_later b = refl
+
+requests_before : (b : Book) → requests (granted b).ledger.history ≡ request here ∷ []
+unfolding floor
+requests_before b = refl
+
+goes_on : (b : Book) → nat_le (day_of b.zone afterwards) (day_of b.zone noon) ≡ false → IsLegalBook (unused b) → 1 ≤ b.default → IsReachable b WentOnThoughForgotten
+unfolding floor
+goes_on b before legal le =
+    let D : ℕ = day_of b.zone afterwards in
+    let t : Transaction = record { host = codes "a"; run = 1; txn = 1 } in
+    let none = forgets_noon b D before in
+    let went : Reaches site (forgotten D (granted b)) (taken_later b) = subst (λ w. Reaches site w (taken_later b)) (sym (is_cleared b D before)) (to_taken_later b le) in
+    reachable b legal WentOnThoughForgotten (granted b) (to_granted b le) (record {
+      earlier = t;
+      is_run = refl;
+      held_before = held_one b le;
+      reserve = request here;
+      had = requests_before b;
+      day = D;
+      held_no_more = ap (λ H. held H t) none;
+      settled_none = ap (λ H. settled_in H t) none;
+      let_still = refl;
+      now = taken_later b;
+      went_on = went;
+      reached = with_steps site D (start b) (forgotten D (granted b)) (taken_later b) (Forgets (granted b) D (with_steps site D (start b) (start b) (granted b) FromStart (to_granted b le)) (omega arith)) went;
+      transaction = record { host = codes "a"; run = 1; txn = 2 };
+      same_run = refl;
+      asked = record { login = codes "u"; at = afterwards; granted = 1 };
+      counts = refl;
+      is_one = refl;
+      is_first_day = refl;
+      request = second_request;
+      taken_again = requests_later b;
+    })
+
+goes_on_at : Floors → (b : Book) (minutes : ℤ) → b.zone ≡ ByOffset minutes → IsLegalBook (unused b) → 1 ≤ b.default → IsReachable b WentOnThoughForgotten
+goes_on_at floors b minutes is legal le =
+    goes_on b (subst (λ z. nat_le (day_of z afterwards) (day_of z noon) ≡ false) (sym is) (noon_is_earlier floors minutes (subst IsZone is legal.zone))) legal le
+
 pub returns : goal.returns
 returns c = record {
   let_through = lets_through;
@@ -407,4 +548,5 @@ returns c = record {
   late = comes_late c.one_spelling.ensures.one_reply;
   stopped = stops;
   retired = retires_it c.one_spelling.ensures.one_request_frame;
+  forgotten = goes_on_at c.day_is_the_floor.ensures;
 }
