@@ -1,6 +1,6 @@
 -- What is answered over histories that tell the same.
-use Rattle.std.proofs.Common.{◌≡◌, ℕ, ◌<◌, ◌≤◌, List, [], ◌∷◌, Bool, true, false, refl, ◌∙◌, ap, sym, subst, inl, inr, arith}
-use Rattle.std.specs.Prelude.{map, ◌&&◌, ◌==◌, not, nat_le, nat_lt, if◌then◌else◌, Option, Some, None}
+use Rattle.std.proofs.Common.{◌≡◌, ℕ, ◌<◌, ◌≤◌, List, [], ◌∷◌, true, false, refl, ◌∙◌, ap, sym, subst, inl, inr, arith}
+use Rattle.std.specs.Prelude.{map, nat_le, nat_lt, if◌then◌else◌, Option, Some, None}
 use Rattle.std.proofs.lemmas.Bool.Decides.{nat_tests}
 use Rattle.mq_frame.specs.declared.message.Id.{Id}
 use Rattle.mq_frame.specs.declared.message.Request.{Request}
@@ -9,12 +9,12 @@ use Rattle.mq_frame.specs.declared.message.Reply.{Reply}
 use Rattle.mq_frame.specs.declared.message.Reply.TheVariants.{Released, Over, Closed, Usage as UsageReply, List as ListReply}
 use Rattle.mq_ledger.specs.declared.entry.Entry.{Entry}
 use Rattle.mq_ledger.specs.Answer.{if_open, granted_or_full, settled_or_too_many, set_or_over, answer}
-use Rattle.mq_ledger.specs.History.{Transaction, transaction, named, agrees, closed, held, reserved, settled, used}
+use Rattle.mq_ledger.specs.History.{Transaction, transaction, named, agrees, closed, reserved, settled, used}
 use Rattle.mq_ledger.specs.Arrivals.{greater}
 use Rattle.mq_ledger.specs.Limits.{cap}
 use Rattle.mq_ledger.specs.Over.{over, IsLeastOver}
 use Rattle.mq_ledger.specs.Page.{page, row, IsLoginPage, has_reserve}
-use Rattle.mq_forget.specs.Remembered.{moment_of, day_named, is_about, is_set}
+use Rattle.mq_forget.specs.Remembered.{day_named, is_about, is_set}
 use Rattle.mq_forget.specs.Kept.{AreAlike}
 use Rattle.mq_forget.proofs.Lists.{either, le_of, lt_of}
 use Rattle.mq_forget.proofs.Numbers.{agreed_day}

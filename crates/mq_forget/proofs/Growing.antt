@@ -1,19 +1,18 @@
 -- What is remembered of a legal history is legal, entry by entry.
-use Rattle.std.proofs.Common.{◌≡◌, ℕ, ◌+◌, ◌<◌, ◌≤◌, List, [], ◌∷◌, ◌++◌, Bool, true, false, refl, ◌∙◌, ap, sym, subst, inl, inr, arith, append-nil}
-use Rattle.std.specs.Prelude.{◌||◌, nat_le, if◌then◌else◌, Option, Some, None, is_some, All}
+use Rattle.std.proofs.Common.{◌≡◌, ℕ, ◌<◌, List, [], ◌∷◌, ◌++◌, true, false, refl, ◌∙◌, ap, sym, subst, inl, inr, arith, append-nil}
+use Rattle.std.specs.Prelude.{if◌then◌else◌, Option, Some, None, is_some, All}
 use Rattle.std.specs.List.{AllByRecursion}
 use Rattle.std.proofs.lemmas.List.Elements.{recursion_from_All, All-from_recursion}
 use Rattle.mq_frame.specs.declared.message.Id.{Id}
 use Rattle.mq_frame.specs.declared.message.Request.{Request}
-use Rattle.mq_frame.specs.declared.message.Reply.{Reply}
 use Rattle.mq_frame.specs.Range.{IsRequest}
 use Rattle.mq_ledger.specs.declared.entry.Entry.{Entry}
 use Rattle.mq_ledger.specs.Answer.{answer, appended, stored, known_by, with_arrival, with_arrival_by, history_of}
 use Rattle.mq_ledger.specs.Arrivals.{id_of, has_id, is_below}
-use Rattle.mq_ledger.specs.History.{requests, reserved, settled, used}
+use Rattle.mq_ledger.specs.History.{requests, used}
 use Rattle.mq_ledger.specs.Legal.{IsLegal}
 use Rattle.mq_ledger.specs.Over.{over, IsLeastOver}
-use Rattle.mq_ledger.specs.Page.{page, IsLoginPage, has_reserve}
+use Rattle.mq_ledger.specs.Page.{page, IsLoginPage}
 use Rattle.mq_forget.specs.Remembered.{is_about, is_set, stays, remembered}
 use Rattle.mq_forget.specs.Kept.{Keeps}
 use Rattle.mq_forget.proofs.Lists.{either, neither, not_some, find_none, all_push, all_split, all_mapped, by_pushes}

@@ -6,3 +6,4 @@ pub mod Answers
 pub mod Carrying
 pub mod Growing
 pub mod Replying
+pub mod Past

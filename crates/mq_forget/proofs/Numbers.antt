@@ -1,6 +1,6 @@
 -- What is remembered has the numbers of D and later days: an entry that counts on a day is of a transaction of that day.
-use Rattle.std.proofs.Common.{◌≡◌, ℕ, ◌+◌, ◌<◌, ◌≤◌, List, [], ◌∷◌, ◌++◌, Bool, true, false, refl, ◌∙◌, ap, sym, subst, inl, inr, arith}
-use Rattle.std.specs.Prelude.{◌&&◌, ◌||◌, ◌==◌, not, nat_le, if◌then◌else◌, Option, Some, None, sum_by}
+use Rattle.std.proofs.Common.{◌≡◌, ℕ, ◌+◌, ◌<◌, ◌≤◌, List, ◌∷◌, ◌++◌, Bool, true, false, refl, ◌∙◌, ap, sym, subst, inl, inr}
+use Rattle.std.specs.Prelude.{◌&&◌, ◌==◌, not, nat_le, if◌then◌else◌, Option, Some, None}
 use Rattle.std.specs.Option.{option_or}
 use Rattle.std.proofs.lemmas.List.Folds.{find-append}
 use Rattle.mq_frame.specs.declared.message.Id.{Id}
@@ -10,13 +10,12 @@ use Rattle.mq_frame.specs.declared.message.Reply.{Reply}
 use Rattle.mq_frame.specs.declared.message.Reply.TheVariants.{Granted, Settled, Mismatch}
 use Rattle.mq_frame.specs.Same.{same_text}
 use Rattle.mq_ledger.specs.declared.entry.Entry.{Entry}
-use Rattle.mq_ledger.specs.Answer.{if_open, granted_or_full, settled_or_too_many, answer}
+use Rattle.mq_ledger.specs.Answer.{if_open, answer}
 use Rattle.mq_ledger.specs.History.{Transaction, transaction, is_of, is_at, named, agrees, granted, counted, concerns, is_open, reserved_of, is_abandoned, settled_of, reserved, settled}
 use Rattle.mq_ledger.specs.Legal.{IsLegal}
-use Rattle.mq_ledger.specs.Limits.{cap}
 use Rattle.mq_ledger.specs.Page.{is_login, login_on, has_reserve}
 use Rattle.mq_forget.specs.Remembered.{moment_of, day_named, is_about, is_set, stays, remembered}
-use Rattle.mq_forget.proofs.Lists.{either, first_so, second_so, number_is, nothing_either_way, le_of, lt_of, le_is, lt_is, In, filter_in, sum_kept, sum_same, sum_nothing, any_kept, any_nothing}
+use Rattle.mq_forget.proofs.Lists.{either, first_so, second_so, number_is, nothing_either_way, le_is, lt_is, In, filter_in, sum_kept, sum_same, sum_nothing, any_kept, any_nothing}
 use Rattle.mq_forget.proofs.Staying.{entry, transaction_itself, or_or, alike}
 use Rattle.mq_forget.proofs.Fronts.{Builds, next, behind}
 

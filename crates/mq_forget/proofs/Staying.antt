@@ -1,6 +1,6 @@
 -- Which entries stay: a later entry changes nothing of it, and of a transaction all stay or none.
 use Rattle.std.proofs.Common.{◌≡◌, ℕ, ◌≤◌, List, [], ◌∷◌, ◌++◌, Bool, true, false, refl, ◌∙◌, ap, sym, subst, inl, inr, arith, append_assoc}
-use Rattle.std.specs.Prelude.{◌+◌, sum_by, filter, fold, map, ◌&&◌, ◌||◌, ◌==◌, not, nat_le, nat_lt, if◌then◌else◌, Option, Some, None}
+use Rattle.std.specs.Prelude.{◌+◌, sum_by, filter, ◌&&◌, ◌||◌, ◌==◌, not, nat_le, nat_lt, if◌then◌else◌, Option, Some, None}
 use Rattle.std.specs.List.{list_any}
 use Rattle.std.specs.Option.{option_or}
 use Rattle.std.proofs.lemmas.Bool.Decides.{nat_tests}
@@ -15,7 +15,7 @@ use Rattle.mq_frame.specs.declared.message.Reply.TheVariants.{LimitSet}
 use Rattle.mq_frame.specs.Same.{same_text}
 use Rattle.mq_ledger.specs.declared.entry.Entry.{Entry}
 use Rattle.mq_ledger.specs.Arrivals.{raised, greater, floor, is_below}
-use Rattle.mq_ledger.specs.History.{Transaction, requests, transaction, same_transaction, is_of, named, closes, ended, has_retired_run, closed, abandoned, granted, granted_in, counted, counted_in, held, settled_in}
+use Rattle.mq_ledger.specs.History.{Transaction, requests, transaction, same_transaction, is_of, named, closes, ended, has_retired_run, closed, abandoned, granted, granted_in, counted, counted_in}
 use Rattle.mq_ledger.specs.Limits.{sets, governs, limits, latest, last_cap, from_of, cap}
 use Rattle.mq_forget.specs.Remembered.{moment_of, day_named, is_about, is_set, stays, remembered}
 use Rattle.mq_forget.specs.Kept.{AreAlike}

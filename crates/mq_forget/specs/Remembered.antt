@@ -2,7 +2,7 @@
 --
 -- `day` gives the day of a moment. Limits that were set stay, and retires, and each entry that is about D or a later
 -- day: a limit by the day from which it is to hold, all else by the day of its transaction.
-use Rattle.std.specs.Prelude.{◌≡◌, ℕ, List, [], ◌∷◌, filter, Bool, true, false, ◌||◌, nat_le, Option, Some, None}
+use Rattle.std.specs.Prelude.{◌≡◌, ◌⊎◌, ℕ, List, [], ◌∷◌, filter, Bool, true, false, not, ◌||◌, nat_le, Option, Some, None}
 use Rattle.mq_frame.specs.declared.message.Id.{Id}
 use Rattle.mq_frame.specs.declared.message.Request.{Request}
 use Rattle.mq_frame.specs.declared.message.Request.TheVariants.{Reserve, Settle, Release, Limit, Usage}
@@ -10,7 +10,7 @@ use Rattle.mq_frame.specs.declared.message.Request.TheVariants.{List as ListRequ
 use Rattle.mq_frame.specs.declared.message.Reply.{Reply}
 use Rattle.mq_frame.specs.declared.message.Reply.TheVariants.{LimitSet}
 use Rattle.mq_ledger.specs.declared.entry.Entry.{Entry}
-use Rattle.mq_ledger.specs.Answer.{stored, with_arrival}
+use Rattle.mq_ledger.specs.Answer.{stored, reply, with_arrival}
 use Rattle.mq_ledger.specs.Arrivals.{id_of, is_below}
 use Rattle.mq_ledger.specs.History.{requests, transaction, named}
 
@@ -71,3 +71,15 @@ is_later day D H r = is_later_by day D H r (id_of r)
 abbrev pub AreLater : (ℕ → ℕ) → ℕ → ℕ → List Entry → List Request → Type 0
 AreLater day default D H [] = Unit {0}
 AreLater day default D H (r ∷ rs) = (is_later day D H r ≡ true) × AreLater day default D (with_arrival day default H r) rs
+
+-- the request is about an earlier day, and isn't replied LimitSet, whatever its number
+abbrev pub is_past : (ℕ → ℕ) → (default : ℕ) → ℕ → List Entry → Request → Bool
+is_past day default D H r = not (is_about day D H r || is_set r (reply day default H r))
+
+-- each arrival is later over both histories, as they come, or past over both
+abbrev pub AreLaterOrPast : (ℕ → ℕ) → (default : ℕ) → ℕ → (H K : List Entry) → List Request → Type 0
+AreLaterOrPast day default D H K [] = Unit {0}
+AreLaterOrPast day default D H K (r ∷ rs) =
+    (((is_later day D H r ≡ true) × (is_later day D K r ≡ true))
+    ⊎ ((is_past day default D H r ≡ true) × (is_past day default D K r ≡ true)))
+    × AreLaterOrPast day default D (with_arrival day default H r) (with_arrival day default K r) rs

@@ -13,7 +13,7 @@ ghost use Rattle.mq_ledger.specs.History.{requests, Transaction, named, reserved
 ghost use Rattle.mq_ledger.specs.Legal.{IsLegal};
 ghost use Rattle.mq_ledger.specs.Limits.{cap};
 ghost use Rattle.mq_ledger.specs.Page.{page, has_reserve};
-ghost use Rattle.mq_forget.specs.Remembered.{moment_of, stays, remembered, is_later, AreLater};
+ghost use Rattle.mq_forget.specs.Remembered.{moment_of, stays, remembered, is_later, AreLater, is_past, AreLaterOrPast};
 ghost use Rattle.mq_forget.specs.Carried.{IsAt};
 ghost use Rattle.mq_forget.specs.Kept.{AreAlike, Keeps};
 
@@ -140,6 +140,31 @@ pub fn later_requests_are_answered_alike()
 {
     a_later_request_is_answered_alike();
     remembered_is_legal();
+    built_is_legal();
+    one_more_arrival();
+}
+
+/// What is asked about earlier days touches none from D on: two histories of which the same is
+/// remembered stay so while each arrival is later over both or past over both, and later ones get the
+/// same replies. One of the two may be what is remembered of the other.
+pub fn past_requests_touch_no_later_day()
+    ensures past { (day : ℕ → ℕ) (default D : ℕ) (H : List AnyEntry) (r : AnyRequest) →
+        is_past day default D H r ≡ true →
+        remembered day D (with_arrival day default H r) ≡ remembered day D H }
+    ensures arrivals { (day : ℕ → ℕ) (default D : ℕ) (H K : List AnyEntry) (A : List AnyRequest) →
+        IsLegal day default H → IsLegal day default K → remembered day D K ≡ remembered day D H →
+        All IsRequest A → AreLaterOrPast day default D H K A →
+        remembered day D (history_of day default (requests K ++ A))
+        ≡ remembered day D (history_of day default (requests H ++ A)) }
+    ensures reply { (day : ℕ → ℕ) (default D : ℕ) (H K : List AnyEntry) (A : List AnyRequest) (r : AnyRequest) →
+        IsLegal day default H → IsLegal day default K → remembered day D K ≡ remembered day D H →
+        All IsRequest A → AreLaterOrPast day default D H K A →
+        is_later day D (history_of day default (requests H ++ A)) r ≡ true →
+        is_later day D (history_of day default (requests K ++ A)) r ≡ true →
+        reply day default (history_of day default (requests K ++ A)) r
+        ≡ reply day default (history_of day default (requests H ++ A)) r }
+{
+    a_later_request_is_answered_alike();
     built_is_legal();
     one_more_arrival();
 }

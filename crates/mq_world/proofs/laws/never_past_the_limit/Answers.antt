@@ -1,7 +1,6 @@
 -- Where nothing is forgotten: no day is before day 0.
-use Rattle.std.proofs.Common.{◌≡◌, ℕ, ◌+◌, ◌≤◌, arith, subst, sym, ap, ◌∙◌, inl, inr, Option, None, Some}
-use Rattle.mq_ledger.specs.Day.{day_of}
-use Rattle.mq_ledger.specs.History.{Transaction, held, settled_in}
+use Rattle.std.proofs.Common.{◌≡◌, ℕ, ◌≤◌, arith, ap, inl, inr, Some}
+use Rattle.mq_ledger.specs.History.{Transaction}
 use Rattle.mq_world.specs.World.{Site, World, Reaches}
 use Rattle.mq_world.specs.Law.{standing_of, counting, granted_of, let_by}
 use Rattle.mq_world.specs.Forgetting.{ReachesForgetting, FromStart}

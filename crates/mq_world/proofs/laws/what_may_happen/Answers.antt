@@ -24,7 +24,7 @@ use Rattle.mq_client.specs.Numbered.{id_in}
 use Rattle.mq_link.specs.declared.link.LinkFault.TheVariants.{TimedOut}
 use Rattle.mq_world.specs.World.{Site, World, fresh, IsStart, after_line, with_on_way, after_exchange, after_stop, same_source, with_run, with_sent, after_arrival, reply_from, Next, Reads, Sends, Ends, Takes, OthersSend, Stops, Reaches, AtOnce, Later, IsOfOthers, IsFrameOfOthers, source_of}
 use Rattle.mq_world.specs.Happening.{unused, times_written, IsReachable, failed, brought, HasLetOneThrough, WasAnsweredAgain, WasTakenTwice, CameLate, HasStopped, WasRetired, WentOnThoughForgotten}
-use Rattle.mq_world.specs.Forgetting.{forgotten, ReachesForgetting, FromStart, Forgets}
+use Rattle.mq_world.specs.Forgetting.{forgotten, FromStart, Forgets}
 use Rattle.mq_world.proofs.Basics.{some_is}
 use Rattle.mq_world.proofs.Runs.{step}
 use Rattle.mq_world.proofs.Ways.{with_steps}
