@@ -8,8 +8,10 @@ use Rattle.std.specs.Ordering.{nat_cmp}
 use Rattle.std.proofs.lemmas.Bool.Decides.{eqb_tells}
 use Rattle.mq_server.specs.Held.{State, fresh}
 use Rattle.mq_room.specs.declared.opened.OpenConnection.{OpenConnection}
-use Rattle.mq_room.specs.Sessions.{AreFewer, Opens, held}
-use Rattle.mq_room.proofs.Standing.{not_eqb}
+use Rattle.mq_room.specs.Sessions.{held}
+use Rattle.mq_room.specs.Turns.{Closes, Offers}
+use Rattle.mq_room.specs.Wires.{Wire}
+use Rattle.mq_room.proofs.Standing.{Opens, not_eqb}
 
 abbrev Map : Type 0
 Map = BTreeMap ℕ OpenConnection
@@ -34,54 +36,12 @@ none_some_state c e = cc
 same_state : (c d : State) → Some c ≡ Some d → c ≡ d
 same_state c d e = cc
 
-abbrev Apart : ℕ → ℕ → Type 0
-Apart q k = ((eqb q k ≡ true) × (q ≡ k)) ⊎ ((eqb q k ≡ false) × (q ≢ k))
-
-fewer_at : (m n : Map) (k : ℕ) → UpdatesBy nat_cmp (nat_cmp k) m n None → (q : ℕ) (c : State) → Apart q k → held n q ≡ Some c → held m q ≡ Some c
-fewer_at m n k updates q c (inl (t, is)) here = absurd (none_some_state c (sym (ap (held n) is ∙ held_now m n k None updates) ∙ here))
-fewer_at m n k updates q c (inr (f, not)) here = sym (held_beside m n k None updates q not) ∙ here
-
-pub fewer_held : (m n : Map) (k : ℕ) → UpdatesBy nat_cmp (nat_cmp k) m n None → AreFewer (held m) (held n)
-fewer_held m n k updates q c here = fewer_at m n k updates q c (eqb_tells q k) here
-
-opens_at : (m n : Map) (k : ℕ) (o : OpenConnection) → o.connection ≡ fresh → UpdatesBy nat_cmp (nat_cmp k) m n (Some o) → (q : ℕ) (c : State) → Apart q k → held n q ≡ Some c → (held m q ≡ Some c) ⊎ ((q ≡ k) × (c ≡ fresh))
-opens_at m n k o new updates q c (inl (t, is)) here = inr (is, same_state c fresh (sym here ∙ ap (held n) is ∙ held_now m n k (Some o) updates ∙ ap Some new))
-opens_at m n k o new updates q c (inr (f, not)) here = inl (sym (held_beside m n k (Some o) updates q not) ∙ here)
+opens_at : (m n : Map) (k : ℕ) (o : OpenConnection) → o.connection ≡ fresh → UpdatesBy nat_cmp (nat_cmp k) m n (Some o) → (q : ℕ) → ((eqb q k ≡ true) × (q ≡ k)) ⊎ ((eqb q k ≡ false) × (q ≢ k)) → (held n q ≡ held m q) ⊎ ((q ≡ k) × (held n q ≡ Some fresh))
+opens_at m n k o new updates q (inl (t, is)) = inr (is, ap (held n) is ∙ held_now m n k (Some o) updates ∙ ap Some new)
+opens_at m n k o new updates q (inr (f, not)) = inl (held_beside m n k (Some o) updates q not)
 
 pub opens_held : (m n : Map) (k : ℕ) (o : OpenConnection) → o.connection ≡ fresh → UpdatesBy nat_cmp (nat_cmp k) m n (Some o) → Opens (held m) (held n) k
-opens_held m n k o new updates q c here = opens_at m n k o new updates q c (eqb_tells q k) here
-
-pub fewer_trans : (f g h : ℕ → Option State) → AreFewer f g → AreFewer g h → AreFewer f h
-fewer_trans f g h first second n c here = first n c (second n c here)
-
-one_of : (f g : ℕ → Option State) (k : ℕ) → AreFewer f g → (n : ℕ) (c : State) → (g n ≡ Some c) ⊎ ((n ≡ k) × (c ≡ fresh)) → (f n ≡ Some c) ⊎ ((n ≡ k) × (c ≡ fresh))
-one_of f g k less n c (inl was) = inl (less n c was)
-one_of f g k less n c (inr new) = inr new
-
-pub fewer_opens : (f g h : ℕ → Option State) (k : ℕ) → AreFewer f g → Opens g h k → Opens f h k
-fewer_opens f g h k first second n c here = one_of f g k first n c (second n c here)
-
-pub opens_fewer : (f g : ℕ → Option State) (k : ℕ) → AreFewer f g → Opens f g k
-opens_fewer f g k less n c here = inl (less n c here)
-
--- ---- behind a turn of the connection under that number
-
-abbrev pub Behind : (ℕ → Option State) → ℕ → State → (ℕ → Option State) → Type 0
-Behind was k after now = (q : ℕ) (d : State) → now q ≡ Some d → ((q ≢ k) × (was q ≡ Some d)) ⊎ ((q ≡ k) × (d ≡ after))
-
-behind_at : (m n : Map) (k : ℕ) (o : OpenConnection) → UpdatesBy nat_cmp (nat_cmp k) m n (Some o) → (q : ℕ) (d : State) → Apart q k → held n q ≡ Some d → ((q ≢ k) × (held m q ≡ Some d)) ⊎ ((q ≡ k) × (d ≡ o.connection))
-behind_at m n k o updates q d (inl (t, is)) here = inr (is, same_state d o.connection (sym here ∙ ap (held n) is ∙ held_now m n k (Some o) updates))
-behind_at m n k o updates q d (inr (f, not)) here = inl (not, sym (held_beside m n k (Some o) updates q not) ∙ here)
-
-pub behind_turn : (m n : Map) (k : ℕ) (o : OpenConnection) → UpdatesBy nat_cmp (nat_cmp k) m n (Some o) → Behind (held m) k o.connection (held n)
-behind_turn m n k o updates q d here = behind_at m n k o updates q d (eqb_tells q k) here
-
-pub behind_fewer : (was mid now : ℕ → Option State) (k : ℕ) (after : State) → Behind was k after mid → AreFewer mid now → Behind was k after now
-behind_fewer was mid now k after b less q d here = b q d (less q d here)
-
--- where it was closed only others are held
-pub gone_at : (now : ℕ → Option State) (k q : ℕ) (d : State) → now k ≡ None → q ≡ k → now q ≡ Some d → ⊥
-gone_at now k q d gone is here = none_some_state d (sym gone ∙ ap now (sym is) ∙ here)
+opens_held m n k o new updates q = opens_at m n k o new updates q (eqb_tells q k)
 
 pub empty_held : (m : Map) → m.entries ≡ [] → (n : ℕ) → held m n ≡ None
 empty_held m is n = ap (λ (es : List (ℕ × OpenConnection)). connection_of (lookup (is_at (nat_cmp n)) es)) is
@@ -93,5 +53,40 @@ same_held m n is q = ap (λ (es : List (ℕ × OpenConnection)). connection_of (
 pub held_here : (m : Map) (k : ℕ) (o : OpenConnection) → Some o ≡ get nat_cmp m k → held m k ≡ Some o.connection
 held_here m k o is = ap connection_of (sym is)
 
-pub same_fewer : (m n : Map) → n ≡ m → AreFewer (held m) (held n)
-same_fewer m n is q c here = ap (λ (x : Map). held x q) (sym is) ∙ here
+pub same_map : (m n : Map) → n ≡ m → (q : ℕ) → held n q ≡ held m q
+same_map m n is q = ap (λ (x : Map). held x q) is
+
+-- a connection that is held and one that was found are the same
+pub found_is : (m : Map) (k : ℕ) (o : OpenConnection) (c : State) → Some o ≡ get nat_cmp m k → held m k ≡ Some c → o.connection ≡ c
+found_is m k o c found here = same_state o.connection c (sym (held_here m k o found) ∙ here)
+
+-- and nothing is held where none was found
+pub not_none : (m : Map) (k : ℕ) (o : OpenConnection) → Some o ≡ get nat_cmp m k → held m k ≡ None → ⊥
+not_none m k o found none = none_some_state o.connection (sym none ∙ held_here m k o found)
+
+pub none_here : (m : Map) (k : ℕ) → None ≡ get nat_cmp m k → held m k ≡ None
+none_here m k is = ap connection_of (sym is)
+
+-- ---- a connection that is closed
+
+-- it was found, and its replies were offered
+pub closes_one : (m n : Map) (k : ℕ) (o : OpenConnection) (old mid new : ℕ → Wire) → Some o ≡ get nat_cmp m k → UpdatesBy nat_cmp (nat_cmp k) m n None → ((q : ℕ) → q ≢ k → mid q ≡ old q) → Offers o.connection (old k) (mid k)
+    → ((q : ℕ) → new q ≡ mid q) → Closes (held m) (held n) old new k
+closes_one m n k o old mid new found updates others offers same =
+    let P : Wire → Type 0 = λ w. Offers o.connection (old k) w in
+    let Q : State → Type 0 = λ x. Offers x (old k) (new k) in
+    record {
+      gone = held_now m n k None updates;
+      others = λ q not. (held_beside m n k None updates q not, same q ∙ others q not);
+      absent = λ none. absurd (not_none m k o found none);
+      offers = λ c is. subst Q (found_is m k o c found is) (subst P (sym (same k)) offers);
+    }
+
+-- or there was none
+pub closes_none : (m n : Map) (k : ℕ) (old : ℕ → Wire) → None ≡ get nat_cmp m k → n.entries ≡ m.entries → Closes (held m) (held n) old old k
+closes_none m n k old found same = record {
+  gone = same_held m n same k ∙ none_here m k found;
+  others = λ q not. (same_held m n same q, refl);
+  absent = λ none. refl;
+  offers = λ c is. absurd (none_some_state c (sym (none_here m k found) ∙ is));
+}

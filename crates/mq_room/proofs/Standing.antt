@@ -1,5 +1,5 @@
 -- The sessions of a server go on as its connections are opened, served and closed.
-use Rattle.std.proofs.Common.{◌≡◌, ◌≢◌, ◌⊎◌, ℕ, ◌+◌, ◌<◌, ◌≤◌, List, [], ◌∷◌, ◌++◌, map, refl, sym, ap, subst, ◌∙◌, append-nil, append_assoc, Bool, true, false, Option, Some, None, Result, Ok, Err, arith, inl, inr}
+use Rattle.std.proofs.Common.{◌≡◌, ◌≢◌, ◌⊎◌, ℕ, ◌+◌, ◌<◌, ◌≤◌, List, [], ◌∷◌, ◌++◌, length, map, refl, sym, ap, subst, ◌∙◌, append-nil, append_assoc, Bool, true, false, Option, Some, None, Result, Ok, Err, arith, inl, inr}
 use Rattle.std.specs.Prelude.{IsSome, IfErr, OnOk, cond, eqb, filter, take}
 use Rattle.std.specs.Option.{option_to_list}
 use Rattle.std.specs.Io.KnownBytes.{Appends, Consumes, ReadConsumes}
@@ -18,17 +18,18 @@ use Rattle.mq_server.specs.declared.connection.Progress.TheVariants.{Ended}
 use Rattle.mq_server.specs.declared.connection.Served.{Served}
 use Rattle.mq_server.specs.declared.fault.ServeFault.{ServeFault}
 use Rattle.mq_server.specs.declared.fault.ServeFault.TheVariants.{Memory, Store}
-use Rattle.mq_server.specs.Connection.{Wire}
+use Rattle.mq_server.specs.declared.input.TheConstants.{PIECE}
 use Rattle.mq_server.specs.Delivery.{HasGrown, failed_call}
 use Rattle.mq_server.specs.Held.{State, fresh}
-use Rattle.mq_server.specs.Life.{AreAnswered, Exchange, Life, Lives, deliveries, told_of, unborn}
+use Rattle.mq_server.specs.Life.{AreAnswered, Exchange, Life, Lives, deliveries, told_of, unborn, with_taken}
 use Rattle.mq_room.specs.declared.fault.RoomFault.{RoomFault}
 use Rattle.mq_room.specs.declared.fault.RoomFault.TheVariants as faults
-use Rattle.mq_room.specs.Sessions.{AreFewer, EndsServing, GoesOn, HaveServed, Opens, Outside, Placed, Session, all_of, those_of}
-use Rattle.mq_room.specs.Turns.{Turns, lived}
-use Rattle.mq_room.proofs.Turning.{Follow, Tells-none, Works, ended_inj, none_some, told_on, worked_calls}
+use Rattle.mq_room.specs.Sessions.{EndsServing, GoesOn, GoesOnOrStops, HaveServed, Outside, Placed, Session, all_of, those_of}
+use Rattle.mq_room.specs.Turns.{Closes, Offers, Turns, lived}
+use Rattle.mq_room.specs.Wires.{AreOffered, IsKnownAs, Wire}
+use Rattle.mq_room.proofs.Turning.{Follow, Tells-none, Works, ended_inj, few_of, none_few, none_some, some_of, told_on, turned_out, worked_calls}
 
--- ---- exchanges of one connection behind those of all
+-- ---- exchanges of one connection after those of all
 
 abbrev placed : ℕ → Exchange → Placed
 placed n x = record { number = n; exchange = x }
@@ -84,6 +85,7 @@ session_as n ps qs old mid new s is same =
       lives = s.lives;
       placed = s.placed ∙ sym same;
       lost = s.lost;
+      few = s.few;
       consumed = subst P (sym is) s.consumed;
       sent = subst Q (sym is) s.sent;
     }
@@ -100,6 +102,7 @@ session_at m n ps old new is s =
       lives = s.lives;
       placed = subst P (sym is) s.placed;
       lost = s.lost;
+      few = s.few;
       consumed = subst Q (sym is) s.consumed;
       sent = subst R (sym is) s.sent;
     }
@@ -115,6 +118,7 @@ session_new n ps old new lives none is =
       lives = lives;
       placed = sym none;
       lost = [];
+      few = none_few;
       consumed = subst P (sym is) (Consumes-nil old.remaining);
       sent = subst Q (sym is) (Appends-nil old.contents);
     }
@@ -122,7 +126,7 @@ session_new n ps old new lives none is =
 abbrev Told_apart : ℕ → ℕ → Type 0
 Told_apart n m = ((eqb n m ≡ true) × (n ≡ m)) ⊎ ((eqb n m ≡ false) × (n ≢ m))
 
--- one session in the place of another, beside those of other numbers
+-- one session in the place of another, alongside those of other numbers
 abbrev pick : (m n : ℕ) (ps qs : List Placed) (old mid new : ℕ → Wire) → ((k : ℕ) → Session k ps (old k) (mid k)) → Session m qs (old m) (new m)
     → ((k : ℕ) → k ≢ m → (new k ≡ mid k) × (those_of k qs ≡ those_of k ps)) → Told_apart n m → Session n qs (old n) (new n)
 pick m n ps qs old mid new each mine same (inl (t, is)) = session_at m n qs old new is mine
@@ -154,14 +158,19 @@ begun_served o lives none = record {
 none_is : (c : State) → None ≡ Some c → ⊥
 none_is c e = cc
 
-pub begins : (o : Outside) (held : ℕ → Option State) → Lives unborn fresh → AreAnswered o.book [] o.book.history → ((n : ℕ) → held n ≡ None) → GoesOn o o 0 held
+new_offered : (wire : Wire) → AreOffered fresh wire
+new_offered wire = λ some. absurd (some refl)
+
+pub begins : (o : Outside) (held : ℕ → Option State) → Lives unborn fresh → AreAnswered o.book [] o.book.history → ((n : ℕ) → held n ≡ None) → GoesOn o o 0 held None
 begins o held lives none empty = record {
   served = begun_served o lives none;
   beyond = λ n above. (refl, refl);
   are_held = λ n c is. absurd (none_is c (sym (empty n) ∙ is));
+  offered = λ n is. new_offered (o.wires n);
+  at = λ some. absurd (none_some some);
 }
 
--- ---- no more connections, and the same wires
+-- ---- the same connections, and the same wires
 
 abbrev pub with_wires : Outside → (ℕ → Wire) → Outside
 with_wires o wires = record { book = o.book; told = o.told; wires = wires }
@@ -176,11 +185,17 @@ served_as old new wires failed same s = record {
   each = λ n. session_as n s.placed s.placed (old.wires n) (new.wires n) (wires n) (s.each n) (same n) refl;
 }
 
-pub fewer : (old new : Outside) (wires : ℕ → Wire) (last : ℕ) (held now : ℕ → Option State) → ((n : ℕ) → wires n ≡ new.wires n) → AreFewer held now → GoesOn old new last held → GoesOn old (with_wires new wires) last now
-fewer old new wires last held now same less g = record {
-  served = served_as old new wires None same g.served;
+offered_as : (c : State) (w v : Wire) → v ≡ w → AreOffered c w → AreOffered c v
+offered_as c w v is offered = let P : Wire → Type 0 = λ x. AreOffered c x in subst P (sym is) offered
+
+pub rewired : (old new : Outside) (wires : ℕ → Wire) (last : ℕ) (held now : ℕ → Option State) (failed : Option Request) → ((n : ℕ) → wires n ≡ new.wires n) → ((n : ℕ) → now n ≡ held n)
+    → GoesOn old new last held failed → GoesOn old (with_wires new wires) last now failed
+rewired old new wires last held now failed same holds g = record {
+  served = served_as old new wires failed same g.served;
   beyond = λ n above. ((g.beyond n above).0, same n ∙ (g.beyond n above).1);
-  are_held = λ n c is. g.are_held n c (less n c is);
+  are_held = λ n c is. g.are_held n c (sym (holds n) ∙ is);
+  offered = λ n none. offered_as (g.served.each n).state (new.wires n) (wires n) (same n) (g.offered n (sym (holds n) ∙ none));
+  at = g.at;
 }
 
 -- ---- one connection more
@@ -195,20 +210,38 @@ Held_so c n last state lost = (state ≡ c) × (lost ≡ []) × (c.end ≢ Some 
 new_goes : fresh.end ≢ Some (Err Store)
 new_goes e = cc
 
-opened_held : (old new : Outside) (wires : ℕ → Wire) (last number : ℕ) (held : ℕ → Option State) (counted : number ≡ last + 1) (g : GoesOn old new last held)
+same_some : (c d : State) → Some c ≡ Some d → c ≡ d
+same_some c d e = cc
+
+-- the same connections are held, but for one of that number, on which nothing came yet
+abbrev pub Opens : (ℕ → Option State) → (ℕ → Option State) → ℕ → Type 0
+Opens was now number = (n : ℕ) → (now n ≡ was n) ⊎ ((n ≡ number) × (now n ≡ Some fresh))
+
+opened_held : (old new : Outside) (wires : ℕ → Wire) (last number : ℕ) (held now : ℕ → Option State) (counted : number ≡ last + 1) (g : GoesOn old new last held None)
     (mine : Session number g.served.placed (old.wires number) (wires number)) (kept : (k : ℕ) → k ≢ number → (wires k ≡ new.wires k) × (those_of k g.served.placed ≡ those_of k g.served.placed)) → (mine.state ≡ fresh) → (mine.lost ≡ [])
-    → (n : ℕ) (c : State) → (held n ≡ Some c) ⊎ ((n ≡ number) × (c ≡ fresh))
+    → (n : ℕ) (c : State) → now n ≡ Some c → (now n ≡ held n) ⊎ ((n ≡ number) × (now n ≡ Some fresh))
     → (let s = picks number g.served.placed g.served.placed old.wires new.wires wires g.served.each mine kept n in Held_so c n number s.state s.lost)
-opened_held old new wires last number held counted g mine kept is none n c (inl here) =
-    let h = g.are_held n c here in
+opened_held old new wires last number held now counted g mine kept is none n c here (inl same) =
+    let h = g.are_held n c (sym same ∙ here) in
     picked number n g.served.placed g.served.placed old.wires new.wires wires g.served.each mine kept (Held_so c n number) (λ at. absurd (not_above n last number counted h.3 at)) (λ not. (h.0, h.1, h.2, omega (arith, h.3, counted))) (eqb_tells n number)
-opened_held old new wires last number held counted g mine kept is none n c (inr (at, same)) =
+opened_held old new wires last number held now counted g mine kept is none n c here (inr (at, some)) =
+    let same = same_some c fresh (sym here ∙ some) in
     let P : State → Type 0 = λ x. x.end ≢ Some (Err Store) in
     picked number n g.served.placed g.served.placed old.wires new.wires wires g.served.each mine kept (Held_so c n number) (λ _. (is ∙ sym same, none, subst P (sym same) new_goes, omega (arith, at))) (λ not. absurd (not at)) (eqb_tells n number)
 
+opened_offered : (old new : Outside) (wires : ℕ → Wire) (last number : ℕ) (held now : ℕ → Option State) (g : GoesOn old new last held None)
+    (mine : Session number g.served.placed (old.wires number) (wires number)) (kept : (k : ℕ) → k ≢ number → (wires k ≡ new.wires k) × (those_of k g.served.placed ≡ those_of k g.served.placed)) → (mine.state ≡ fresh)
+    → (n : ℕ) → now n ≡ None → (now n ≡ held n) ⊎ ((n ≡ number) × (now n ≡ Some fresh))
+    → (let s = picks number g.served.placed g.served.placed old.wires new.wires wires g.served.each mine kept n in AreOffered s.state (wires n))
+opened_offered old new wires last number held now g mine kept is n none (inl same) =
+    let P : State → Type 0 = λ x. AreOffered x (wires n) in
+    picked number n g.served.placed g.served.placed old.wires new.wires wires g.served.each mine kept (λ s _. AreOffered s (wires n)) (λ _. subst P (sym is) (new_offered (wires n)))
+    (λ not. offered_as (g.served.each n).state (new.wires n) (wires n) (kept n not).0 (g.offered n (sym same ∙ none))) (eqb_tells n number)
+opened_offered old new wires last number held now g mine kept is n none (inr (at, some)) = absurd (none_is fresh (sym none ∙ some))
+
 pub opened : (old new : Outside) (wires : ℕ → Wire) (last number : ℕ) (held now : ℕ → Option State) → Lives unborn fresh → number ≡ last + 1 → ((n : ℕ) → wires n ≡ new.wires n) → Opens held now number
-    → GoesOn old new last held → GoesOn old (with_wires new wires) number now
-opened old new wires last number held now lives counted same opens_it g =
+    → GoesOn old new last held None → GoesOn old (with_wires new wires) number now None
+opened old new wires last number held now lives counted same opens g =
     let ps = g.served.placed in
     let above : last < number = omega (arith, counted) in
     let mine : Session number ps (old.wires number) (wires number) = session_new number ps (old.wires number) (wires number) lives (g.beyond number above).0 (same number ∙ (g.beyond number above).1) in
@@ -223,7 +256,9 @@ opened old new wires last number held now lives counted same opens_it g =
         each = picks number ps ps old.wires new.wires wires g.served.each mine kept;
       };
       beyond = λ n higher. let b = g.beyond n (omega (arith, counted, higher)) in (b.0, same n ∙ b.1);
-      are_held = λ n c is. opened_held old new wires last number held counted g mine kept refl refl n c (opens_it n c is);
+      are_held = λ n c is. opened_held old new wires last number held now counted g mine kept refl refl n c is (opens n);
+      offered = λ n is. opened_offered old new wires last number held now g mine kept refl n is (opens n);
+      at = λ some. absurd (none_some some);
     }
 
 -- ---- a turn of one
@@ -242,6 +277,7 @@ turned_session number ps old mid new b history t u p c now s is none turn =
       lives = lived_on.1;
       placed = ap (λ (q : List Exchange). q ++ turn.exchanges) s.placed ∙ sym (own_more ps number turn.exchanges);
       lost = turn.lost;
+      few = turn.few;
       consumed = subst R (ap (λ (q : List ℕ). q ++ (turn.read ++ turn.lost)) (append-nil s.life.bytes) ∙ sym (append_assoc s.life.bytes turn.read turn.lost))
           (Consumes-trans old.remaining mid.remaining new.remaining _ _ (subst Q none s.consumed) turn.consumed);
       sent = Appends-trans old.contents mid.contents new.contents _ _ s.sent turn.sent;
@@ -261,7 +297,7 @@ told_none t u xs told = let P : List Told → Type 0 = λ q. Tells t u q in subs
 above_held : (n last number : ℕ) → last < n → n ≡ number → number ≤ last → ⊥
 above_held n last number above is within = omega (arith, above, is, within)
 
-module _ (old new now : Outside) (number last : ℕ) (p : Progress) (c after : State) (held : ℕ → Option State) (g : GoesOn old new last held) (here : held number ≡ Some c) (t : TurnOf new now number p c after) where
+module _ (old new now : Outside) (number last : ℕ) (p : Progress) (c after : State) (held : ℕ → Option State) (g : GoesOn old new last held None) (here : held number ≡ Some c) (t : TurnOf new now number p c after) where
   abbrev ps : List Placed
   ps = g.served.placed
 
@@ -295,110 +331,144 @@ module _ (old new now : Outside) (number last : ℕ) (p : Progress) (c after : S
         each = each;
       }
 
-  -- who is held behind the turn: others that were, and that one, unless it was closed
-  abbrev Keeps : (ℕ → Option State) → Type 0
-  Keeps still = (n : ℕ) (d : State) → still n ≡ Some d → ((n ≢ number) × (held n ≡ Some d)) ⊎ ((n ≡ number) × (d ≡ after) × (t.turn.lost ≡ []) × (after.end ≢ Some (Err Store)))
+  -- after the turn the others are held as before
+  abbrev Others : (ℕ → Option State) → Type 0
+  Others still = (n : ℕ) → n ≢ number → still n ≡ held n
 
-  held_turn : (n : ℕ) (d : State) → ((n ≢ number) × (held n ≡ Some d)) ⊎ ((n ≡ number) × (d ≡ after) × (t.turn.lost ≡ []) × (after.end ≢ Some (Err Store))) → (let s = each n in Held_so d n last s.state s.lost)
-  held_turn n d (inl (not, was)) =
-      picked number n ps qs old.wires new.wires now.wires g.served.each mine kept (Held_so d n last) (λ is. absurd (not is)) (λ _. g.are_held n d was) (eqb_tells n number)
-  held_turn n d (inr (at, is, none, works)) =
+  -- and that one, if it is
+  abbrev Here : (ℕ → Option State) → Type 0
+  Here still = (d : State) → still number ≡ Some d → (d ≡ after) × (t.turn.lost ≡ []) × (after.end ≢ Some (Err Store))
+
+  held_turn : (still : ℕ → Option State) → Others still → Here still → (n : ℕ) (d : State) → still n ≡ Some d → (let s = each n in Held_so d n last s.state s.lost)
+  held_turn still others hold n d is =
       let P : State → Type 0 = λ x. x.end ≢ Some (Err Store) in
       let Q : ℕ → Type 0 = λ k. k ≤ last in
-      picked number n ps qs old.wires new.wires now.wires g.served.each mine kept (Held_so d n last) (λ _. (sym is, none, subst P (sym is) works, subst Q (sym at) (g.are_held number c here).3)) (λ not. absurd (not at)) (eqb_tells n number)
+      picked number n ps qs old.wires new.wires now.wires g.served.each mine kept (Held_so d n last)
+      (λ at. let h = hold d (ap still (sym at) ∙ is) in (sym h.0, h.1, subst P (sym h.0) h.2, subst Q (sym at) (g.are_held number c here).3))
+      (λ not. g.are_held n d (sym (others n not) ∙ is)) (eqb_tells n number)
 
-  pub goes_turn : Follow → (still : ℕ → Option State) → Works p → Keeps still → GoesOn old now last still
-  goes_turn follow still works keeps = record {
-    served = served_turn follow None (told_none new.told now.told xs (worked_calls new.told now.told c.end p xs works t.turn.calls));
+  offered_turn : (still : ℕ → Option State) → Others still → (still number ≡ None → AreOffered after (now.wires number)) → (n : ℕ) → still n ≡ None → AreOffered (each n).state (now.wires n)
+  offered_turn still others gone n none =
+      let P : ℕ → Type 0 = λ k. AreOffered after (now.wires k) in
+      picked number n ps qs old.wires new.wires now.wires g.served.each mine kept (λ s _. AreOffered s (now.wires n)) (λ at. subst P (sym at) (gone (ap still (sym at) ∙ none)))
+      (λ not. offered_as (g.served.each n).state (new.wires n) (now.wires n) (t.others_same n not) (g.offered n (sym (others n not) ∙ none))) (eqb_tells n number)
+
+  goes_turn : Follow → (still : ℕ → Option State) (failed : Option Request) → Tells new.told now.told (told_of xs ++ map failed_call (option_to_list failed)) → Others still → Here still → (still number ≡ None → AreOffered after (now.wires number))
+      → (IsSome failed → after.end ≡ Some (Err Store)) → GoesOn old now last still failed
+  goes_turn follow still failed told others hold gone end = record {
+    served = served_turn follow failed told;
     beyond = λ n above.
         let not : n ≢ number = λ is. above_held n last number above is (g.are_held number c here).3 in
         ((kept n not).1 ∙ (g.beyond n above).0, (kept n not).0 ∙ (g.beyond n above).1);
-    are_held = λ n d is. held_turn n d (keeps n d is);
+    are_held = λ n d is. held_turn still others hold n d is;
+    offered = λ n none. offered_turn still others gone n none;
+    at = λ some.
+        let P : State → List ℕ → Type 0 = λ state lost. state.end ≡ Some (Err Store) in
+        (number, picked number number ps qs old.wires new.wires now.wires g.served.each mine kept P (λ _. end some) (λ not. absurd (not refl)) (eqb_tells number number));
   }
 
-  pub ends_turn : {A E : Type 0} (store : E) (result : Result A E) → Follow → p ≡ Ended (Err Store) → after.end ≡ Some (Err Store) → result ≡ Err store → EndsServing old now store result
-  ends_turn store result follow is end so =
-      let P : State → List ℕ → Type 0 = λ state lost. state.end ≡ Some (Err Store) in
-      record {
-        failed = t.turn.calls.failed;
-        served = served_turn follow t.turn.calls.failed t.turn.calls.told;
-        stops = λ some. so;
-        only = λ _. t.turn.calls.only (g.are_held number c here).2 is;
-        at = λ some. (number, picked number number ps qs old.wires new.wires now.wires g.served.each mine kept P (λ _. end) (λ not. absurd (not refl)) (eqb_tells number number));
-      }
+  -- the connection is still open
+  pub goes_open : Follow → (still : ℕ → Option State) → Works p → p ≢ Ended (Err Memory) → (c.end ≢ Some (Err Store) → after.end ≢ Some (Err Store)) → Others still → still number ≡ Some after → GoesOn old now last still None
+  goes_open follow still works room stays others stands =
+      goes_turn follow still None (told_none new.told now.told xs (worked_calls new.told now.told c.end p xs works t.turn.calls)) others
+      (λ d is. (same_some d after (sym is ∙ stands), t.turn.whole room, stays (g.are_held number c here).2)) (λ none. absurd (none_is after (sym none ∙ stands))) (λ some. absurd (none_some some))
 
 -- ---- what it comes to
 
-pub ends_so : {A E : Type 0} (old new : Outside) (last : ℕ) (held : ℕ → Option State) (store : E) (result : Result A E) → (result ≡ Err store → ⊥) → GoesOn old new last held → EndsServing old new store result
-ends_so old new last held store result not g = record {
+pub ok_not : {A E : Type 0} (x : A) (e : E) → Ok x ≡ Err e → ⊥
+ok_not x e is = cc
+
+-- an end that is the store's, and only such a one, is its fault
+stops_so : {A F : Type 0} (store : F) (r : Result A F) (end : Result Served ServeFault) → OnOk r (end ≢ Err Store) → IfErr r (λ f. (f ≡ store) × (end ≡ Err Store)) → end ≡ Err Store → r ≡ Err store
+stops_so store (Ok x) end ok err is = absurd (ok is)
+stops_so store (Err f) end ok err is = ap Err err.0
+
+only_so : {A F : Type 0} (store : F) (r : Result A F) (end : Result Served ServeFault) → IfErr r (λ f. (f ≡ store) × (end ≡ Err Store)) → r ≡ Err store → end ≡ Err Store
+only_so store (Ok x) end err is = absurd (ok_not x store is)
+only_so store (Err f) end err is = err.1
+
+-- a connection has ended, and was closed
+pub closed_turn : {A F : Type 0} (old new now : Outside) (number last : ℕ) (p : Progress) (c after : State) (held still : ℕ → Option State) (store : F) (r : Result A F) (end : Result Served ServeFault) → GoesOn old new last held None → held number ≡ Some c → TurnOf new now number p c after → Follow
+    → p ≡ Ended end → (p ≡ Ended (Err Store) → after.end ≡ Some (Err Store)) → OnOk r (end ≢ Err Store) → IfErr r (λ f. (f ≡ store) × (end ≡ Err Store)) → ((n : ℕ) → n ≢ number → still n ≡ held n) → still number ≡ None → AreOffered after (now.wires number)
+    → GoesOnOrStops old now last still store r
+closed_turn old new now number last p c after held still store r end g here t follow is at_end ok err others gone offered =
+    let calls = t.turn.calls in record {
+      failed = calls.failed;
+      goes = goes_turn old new now number last p c after held g here t follow still calls.failed calls.told others (λ d some. absurd (none_is d (sym gone ∙ some))) (λ _. offered) (λ some. at_end (calls.ends some));
+      stops = λ some. stops_so store r end ok err (ended_inj end (Err Store) (sym is ∙ calls.ends some));
+      only = λ fault. calls.only (g.are_held number c here).2 (is ∙ ap Ended (only_so store r end err fault));
+    }
+
+pub goes_so : {A E : Type 0} (old new : Outside) (last : ℕ) (held : ℕ → Option State) (store : E) (result : Result A E) → (result ≡ Err store → ⊥) → GoesOn old new last held None → GoesOnOrStops old new last held store result
+goes_so old new last held store result not g = record {
   failed = None;
-  served = g.served;
+  goes = g;
   stops = λ some. absurd (none_some some);
   only = λ is. absurd (not is);
-  at = λ some. absurd (none_some some);
 }
 
--- ---- who is held behind a turn
+-- it goes on where it says so
+went : (old new : Outside) (last : ℕ) (held : ℕ → Option State) (failed : Option Request) → (IsSome failed → ⊥) → GoesOn old new last held failed → GoesOn old new last held None
+went old new last held None not g = g
+went old new last held (Some r) not g = absurd (not (some_of r))
 
--- the same as `Maps.Behind`
-abbrev Leaves_behind : (ℕ → Option State) → ℕ → State → (ℕ → Option State) → Type 0
-Leaves_behind was k after now = (q : ℕ) (d : State) → now q ≡ Some d → ((q ≢ k) × (was q ≡ Some d)) ⊎ ((q ≡ k) × (d ≡ after))
+pub goes_on : {A E : Type 0} (old new : Outside) (last : ℕ) (held : ℕ → Option State) (store : E) (result : Result A E) (x : A) → result ≡ Ok x → GoesOnOrStops old new last held store result → GoesOn old new last held None
+goes_on old new last held store result x is g = went old new last held g.failed (λ some. ok_not x store (sym is ∙ g.stops some)) g.goes
 
-still_one : (was : ℕ → Option State) (number : ℕ) (after : State) (lost : List ℕ) (n : ℕ) (d : State) → lost ≡ [] → after.end ≢ Some (Err Store) → ((n ≢ number) × (was n ≡ Some d)) ⊎ ((n ≡ number) × (d ≡ after))
-    → ((n ≢ number) × (was n ≡ Some d)) ⊎ ((n ≡ number) × (d ≡ after) × (lost ≡ []) × (after.end ≢ Some (Err Store)))
-still_one was number after lost n d none works (inl other) = inl other
-still_one was number after lost n d none works (inr (at, is)) = inr (at, is, none, works)
-
-gone_one : (was now : ℕ → Option State) (number : ℕ) (after : State) (lost : List ℕ) (n : ℕ) (d : State) → now number ≡ None → now n ≡ Some d → ((n ≢ number) × (was n ≡ Some d)) ⊎ ((n ≡ number) × (d ≡ after))
-    → ((n ≢ number) × (was n ≡ Some d)) ⊎ ((n ≡ number) × (d ≡ after) × (lost ≡ []) × (after.end ≢ Some (Err Store)))
-gone_one was now number after lost n d gone here (inl other) = inl other
-gone_one was now number after lost n d gone here (inr (at, is)) = absurd (none_is d (sym gone ∙ ap now (sym at) ∙ here))
-
--- it goes on where the connection is still open
-pub goes_open : (old new now : Outside) (number last : ℕ) (p : Progress) (c after : State) (was still : ℕ → Option State) → GoesOn old new last was → was number ≡ Some c → TurnOf new now number p c after → Follow → Works p → p ≢ Ended (Err Memory)
-    → (c.end ≢ Some (Err Store) → after.end ≢ Some (Err Store)) → Leaves_behind was number after still → GoesOn old now last still
-goes_open old new now number last p c after was still g here t follow works room stays behind =
-    goes_turn old new now number last p c after was g here t follow still works (λ n d is. still_one was number after t.turn.lost n d (t.turn.whole room) (stays (g.are_held number c here).2) (behind n d is))
-
--- and where it was closed
-pub goes_closed : (old new now : Outside) (number last : ℕ) (p : Progress) (c after : State) (was still : ℕ → Option State) → GoesOn old new last was → was number ≡ Some c → TurnOf new now number p c after → Follow → Works p
-    → still number ≡ None → Leaves_behind was number after still → GoesOn old now last still
-goes_closed old new now number last p c after was still g here t follow works gone behind =
-    goes_turn old new now number last p c after was g here t follow still works (λ n d is. gone_one was still number after t.turn.lost n d gone is (behind n d is))
-
--- ---- where nothing was served, and the history in any case
+-- no connection is open any more
+pub ends_so : {A E : Type 0} (old new now : Outside) (last : ℕ) (held still : ℕ → Option State) (store : E) (result : Result A E) → ((n : ℕ) → still n ≡ None)
+    → ((failed : Option Request) → GoesOn old new last held failed → GoesOn old now last still failed) → GoesOnOrStops old new last held store result → EndsServing old now store result
+ends_so old new now last held still store result none closes g =
+    let ended = closes g.failed g.goes in record {
+      failed = g.failed;
+      served = ended.served;
+      stops = g.stops;
+      only = g.only;
+      at = ended.at;
+      offered = λ n. ended.offered n (none n);
+    }
 
 pub nothing_served : {A E : Type 0} (o : Outside) (store : E) (result : Result A E) → Lives unborn fresh → AreAnswered o.book [] o.book.history → (result ≡ Err store → ⊥) → EndsServing o o store result
-nothing_served o store result lives none not = ends_so o o 0 (λ n. None) store result not (begins o (λ n. None) lives none (λ n. refl))
+nothing_served o store result lives none not =
+    let g = begins o (λ n. None) lives none (λ n. refl) in record {
+      failed = None;
+      served = g.served;
+      stops = λ some. absurd (none_some some);
+      only = λ is. absurd (not is);
+      at = g.at;
+      offered = λ n. g.offered n refl;
+    }
 
 pub has_grown : {A E : Type 0} (old new : Outside) (store : E) (result : Result A E) → EndsServing old new store result → HasGrown old.book new.book
 has_grown old new store result e = (deliveries (all_of e.served.placed), e.served.answered.after)
 
--- ---- a connection that is given up: what came last is lost
+-- ---- a connection that is closed
 
-abbrev late_session : (n : ℕ) (ps : List Placed) (old mid new : Wire) (bs : List ℕ) → Consumes mid.remaining new.remaining bs → new.contents ≡ mid.contents → Session n ps old mid → Session n ps old new
-late_session n ps old mid new bs read is s =
-    let P : Option (List ℕ) → Type 0 = λ w. Appends old.contents w s.life.taken in
-    let Q : List ℕ → Type 0 = λ x. Consumes old.remaining new.remaining x in
+abbrev closed_session : (n : ℕ) (ps : List Placed) (old mid new : Wire) (c d : State) (bs written : List ℕ) → length bs ≤ PIECE → Consumes mid.remaining new.remaining bs → Appends mid.contents new.contents written → ((l : Life) → Lives l c → Lives (with_taken l written) d)
+    → (s : Session n ps old mid) → s.state ≡ c → s.lost ≡ [] → Session n ps old new
+closed_session n ps old mid new c d bs written few read sent lives s is none =
+    let P : State → Type 0 = λ x. Lives s.life x in
+    let Q : List ℕ → Type 0 = λ x. Consumes old.remaining mid.remaining x in
     record {
-      life = s.life;
-      state = s.state;
-      lives = s.lives;
+      life = with_taken s.life written;
+      state = d;
+      lives = lives s.life (subst P is s.lives);
       placed = s.placed;
-      lost = s.lost ++ bs;
-      consumed = subst Q (append_assoc s.life.bytes s.lost bs) (Consumes-trans old.remaining mid.remaining new.remaining _ _ s.consumed read);
-      sent = subst P (sym is) s.sent;
+      lost = bs;
+      few = few;
+      consumed = Consumes-trans old.remaining mid.remaining new.remaining _ _ (subst Q (ap (λ (q : List ℕ). s.life.bytes ++ q) none ∙ append-nil s.life.bytes) s.consumed) read;
+      sent = Appends-trans old.contents mid.contents new.contents _ _ s.sent sent;
     }
 
-late_held : (n number last : ℕ) (d : State) (held still : ℕ → Option State) → still number ≡ None → AreFewer held still → still n ≡ Some d → n ≢ number
-late_held n number last d held still gone less here = λ is. none_is d (sym gone ∙ ap still (sym is) ∙ here)
-
-pub late : (old new : Outside) (wires : ℕ → Wire) (number last : ℕ) (c : State) (held still : ℕ → Option State) (bs : List ℕ) → held number ≡ Some c → ((n : ℕ) → n ≢ number → wires n ≡ new.wires n)
-    → Consumes (new.wires number).remaining (wires number).remaining bs → (wires number).contents ≡ (new.wires number).contents → still number ≡ None → AreFewer held still → GoesOn old new last held → GoesOn old (with_wires new wires) last still
-late old new wires number last c held still bs here others read contents gone less g =
+pub shut : (old new : Outside) (wires : ℕ → Wire) (number last : ℕ) (c d : State) (held still : ℕ → Option State) (failed : Option Request) (bs written : List ℕ) → held number ≡ Some c → length bs ≤ PIECE → Consumes (new.wires number).remaining (wires number).remaining bs
+    → Appends (new.wires number).contents (wires number).contents written → ((l : Life) → Lives l c → Lives (with_taken l written) d) → AreOffered d (wires number) → still number ≡ None → ((n : ℕ) → n ≢ number → (still n ≡ held n) × (wires n ≡ new.wires n))
+    → GoesOn old new last held failed → GoesOn old (with_wires new wires) last still failed
+shut old new wires number last c d held still failed bs written here few read sent lives off gone others g =
     let ps = g.served.placed in
-    let mine : Session number ps (old.wires number) (wires number) = late_session number ps (old.wires number) (new.wires number) (wires number) bs read contents (g.served.each number) in
-    let kept : (k : ℕ) → k ≢ number → (wires k ≡ new.wires k) × (those_of k ps ≡ those_of k ps) = λ k not. (others k not, refl) in
+    let h = g.are_held number c here in
+    let mine : Session number ps (old.wires number) (wires number) = closed_session number ps (old.wires number) (new.wires number) (wires number) c d bs written few read sent lives (g.served.each number) h.0 h.1 in
+    let kept : (k : ℕ) → k ≢ number → (wires k ≡ new.wires k) × (those_of k ps ≡ those_of k ps) = λ k not. ((others k not).1, refl) in
+    let P : ℕ → Type 0 = λ k. AreOffered d (wires k) in
     record {
       served = record {
         placed = ps;
@@ -408,46 +478,73 @@ late old new wires number last c held still bs here others read contents gone le
         told = g.served.told;
         each = picks number ps ps old.wires new.wires wires g.served.each mine kept;
       };
-      beyond = λ n above. let b = g.beyond n above in (b.0, others n (λ is. above_held n last number above is (g.are_held number c here).3) ∙ b.1);
-      are_held = λ n d is.
-          let not = late_held n number last d held still gone less is in
-          picked number n ps ps old.wires new.wires wires g.served.each mine kept (Held_so d n last) (λ at. absurd (not at)) (λ _. g.are_held n d (less n d is)) (eqb_tells n number);
+      beyond = λ n above. let b = g.beyond n above in (b.0, (others n (λ is. above_held n last number above is h.3)).1 ∙ b.1);
+      are_held = λ n e is.
+          let not : n ≢ number = λ at. none_is e (sym gone ∙ ap still (sym at) ∙ is) in
+          picked number n ps ps old.wires new.wires wires g.served.each mine kept (Held_so e n last) (λ at. absurd (not at)) (λ _. g.are_held n e (sym (others n not).0 ∙ is)) (eqb_tells n number);
+      offered = λ n none.
+          picked number n ps ps old.wires new.wires wires g.served.each mine kept (λ s _. AreOffered s (wires n)) (λ at. subst P (sym at) off)
+          (λ not. offered_as (g.served.each n).state (new.wires n) (wires n) (others n not).1 (g.offered n (sym (others n not).0 ∙ none))) (eqb_tells n number);
+      at = λ some.
+          let (m, is) = g.at some in
+          let Q : ℕ → Type 0 = λ k. (g.served.each k).state.end ≡ Some (Err Store) in
+          let R : State → Type 0 = λ x. x.end ≡ Some (Err Store) in
+          let S : State → List ℕ → Type 0 = λ state lost. state.end ≡ Some (Err Store) in
+          (m, picked number m ps ps old.wires new.wires wires g.served.each mine kept S (λ at. absurd (h.2 (subst R h.0 (subst Q at is)))) (λ not. is) (eqb_tells m number));
     }
 
-pub read_bytes : {E : Type 0} (a b : Option (List ℕ)) (r : Result ℕ E) (buf : List ℕ) → ReadConsumes a b r buf → (bs : List ℕ) × Consumes a b bs
-read_bytes a b (Ok n) buf h = (take n buf, h.0)
-read_bytes a b (Err e) buf h = ([], Consumes-kept a a b [] (Consumes-nil a) h)
+still_there : (wires was : ℕ → Wire) (held still : ℕ → Option State) (number n : ℕ) → (wires number ≡ was number) → (still number ≡ held number) → ((n : ℕ) → n ≢ number → (still n ≡ held n) × (wires n ≡ was n)) → Told_apart n number → (wires n ≡ was n) × (still n ≡ held n)
+still_there wires was held still number n same stays others (inl (t, is)) = (ap wires is ∙ same ∙ ap was (sym is), ap still is ∙ stays ∙ ap held (sym is))
+still_there wires was held still number n same stays others (inr (f, not)) = ((others n not).1, (others n not).0)
 
-pub ends_as : {A E : Type 0} (old new : Outside) (store : E) (r q : Result A E) → r ≡ q → EndsServing old new store r → EndsServing old new store q
-ends_as {A = A} {E = E} old new store r q is e = let P : Result A E → Type 0 = λ x. EndsServing old new store x in subst P is e
+closes_at : (old new : Outside) (wires : ℕ → Wire) (number last : ℕ) (held still : ℕ → Option State) (failed : Option Request) (o : Option State) → held number ≡ o → Closes held still new.wires wires number
+    → GoesOn old new last held failed → GoesOn old (with_wires new wires) last still failed
+closes_at old new wires number last held still failed None is e g =
+    let all : (n : ℕ) → (wires n ≡ new.wires n) × (still n ≡ held n) = λ n. still_there wires new.wires held still number n (e.absent is) (e.gone ∙ sym is) e.others (eqb_tells n number) in
+    rewired old new wires last held still failed (λ n. (all n).0) (λ n. (all n).1) g
+closes_at old new wires number last held still failed (Some c) is e g =
+    let o = e.offers c is in
+    let P : Option (List ℕ) → Type 0 = λ w. Consumes (new.wires number).remaining w [] in
+    shut old new wires number last c o.now held still failed [] o.written is none_few (subst P (sym o.remaining) (Consumes-nil (new.wires number).remaining)) o.sent o.lives o.offered e.gone e.others g
+
+pub closes : (old new : Outside) (wires : ℕ → Wire) (number last : ℕ) (held still : ℕ → Option State) (failed : Option Request) → Closes held still new.wires wires number → GoesOn old new last held failed → GoesOn old (with_wires new wires) last still failed
+closes old new wires number last held still failed e g = closes_at old new wires number last held still failed (held number) refl e g
+
+-- a turn, and then it was closed
+pub turn_closed : (old mid : Outside) (wires : ℕ → Wire) (number : ℕ) (p : Progress) (c after : State) (t : TurnOf old mid number p c after) (o : Offers after (mid.wires number) (wires number)) → ((n : ℕ) → n ≢ number → wires n ≡ mid.wires n)
+    → TurnOf old (with_wires mid wires) number p c o.now
+turn_closed old mid wires number p c after t o others = record {
+  zone = t.zone;
+  default = t.default;
+  legal = t.legal;
+  turn = turned_out old.book mid.book.history old.told mid.told p (old.wires number) (mid.wires number) (wires number) c after t.turn o;
+  others_same = λ n not. others n not ∙ t.others_same n not;
+}
+
+-- what a read gave
+pub read_bytes : {E : Type 0} (a b : Option (List ℕ)) (r : Result ℕ E) (buf : List ℕ) → length buf ≤ PIECE → ReadConsumes a b r buf → (bs : List ℕ) × Consumes a b bs × (length bs ≤ PIECE)
+read_bytes a b (Ok n) buf few h = (take n buf, h.0, few_of n buf few)
+read_bytes a b (Err e) buf few h = ([], Consumes-kept a a b [] (Consumes-nil a) h, none_few)
+
+-- its replies were offered, and what came is read and of no use
+pub read_after : {E : Type 0} (old new : Outside) (mid read now : ℕ → Wire) (number last : ℕ) (c : State) (held still : ℕ → Option State) (failed : Option Request) (r : Result ℕ E) (buf : List ℕ) → held number ≡ Some c → Offers c (new.wires number) (mid number) → ((n : ℕ) → n ≢ number → mid n ≡ new.wires n)
+    → length buf ≤ PIECE → ReadConsumes (mid number).remaining (read number).remaining r buf → (read number).contents ≡ (mid number).contents → (read number).left ≡ (mid number).left → ((n : ℕ) → n ≢ number → read n ≡ mid n) → ((n : ℕ) → now n ≡ read n)
+    → still number ≡ None → ((n : ℕ) → n ≢ number → still n ≡ held n) → GoesOn old new last held failed → GoesOn old (with_wires new now) last still failed
+read_after old new mid read now number last c held still failed r buf here o offered_others small bytes contents left others same gone stays g =
+    let (bs, consumed, few) = read_bytes (mid number).remaining (read number).remaining r buf small bytes in
+    let P : Option (List ℕ) → Type 0 = λ w. Consumes w (read number).remaining bs in
+    let Q : Option (List ℕ) → Type 0 = λ w. Appends (new.wires number).contents w o.written in
+    let R : Option (List ℕ) → Type 0 = λ w. IsKnownAs w o.now.replies in
+    rewired old (with_wires new read) now last still still failed same (λ n. refl)
+    (shut old new read number last c o.now held still failed bs o.written here few (subst P o.remaining consumed) (subst Q (sym contents) o.sent) o.lives (λ some. subst R (sym left) (o.offered some)) gone (λ n not. (stays n not, others n not ∙ offered_others n not)) g)
 
 -- ---- ends under other names
 
-pub goes_last : (old new : Outside) (last number : ℕ) (held : ℕ → Option State) → number ≡ last → GoesOn old new last held → GoesOn old new number held
-goes_last old new last number held is g = let P : ℕ → Type 0 = λ k. GoesOn old new k held in subst P (sym is) g
+pub goes_last : (old new : Outside) (last number : ℕ) (held : ℕ → Option State) (failed : Option Request) → number ≡ last → GoesOn old new last held failed → GoesOn old new number held failed
+goes_last old new last number held failed is g = let P : ℕ → Type 0 = λ k. GoesOn old new k held failed in subst P (sym is) g
 
-pub ends_wires : {A E : Type 0} (old new : Outside) (wires : ℕ → Wire) (store : E) (result : Result A E) → ((n : ℕ) → wires n ≡ new.wires n) → EndsServing old new store result → EndsServing old (with_wires new wires) store result
-ends_wires old new wires store result same e = record {
-  failed = e.failed;
-  served = served_as old new wires e.failed same e.served;
-  stops = e.stops;
-  only = e.only;
-  at = e.at;
-}
-
-pub ok_not : {A E : Type 0} (x : A) (e : E) → Ok x ≡ Err e → ⊥
-ok_not x e is = cc
-
-pub not_ok : {A E : Type 0} (r : Result A E) (e : E) (G : Type 0) → r ≡ Err e → OnOk r G
-not_ok {A = A} {E = E} r e G is = let P : Result A E → Type 0 = λ q. OnOk q G in subst P (sym is) tt
-
--- a connection has ended, and the serving with it only where its store failed
-pub ends_either : {A F : Type 0} (G : Type 0) (E : Result A F → Type 0) (store : F) (r : Result A F) (end : Result Served ServeFault) (p : Progress) → p ≡ Ended end → OnOk r (end ≢ Err Store) → IfErr r (λ f. (f ≡ store) × (end ≡ Err Store))
-    → (Works p → G) → ((q : Result A F) → (q ≡ Err store → ⊥) → G → E q) → ((q : Result A F) → p ≡ Ended (Err Store) → q ≡ Err store → E q) → OnOk r G × E r
-ends_either G E store (Ok x) end p is ok err goes so stops =
-    let went = goes (λ e. ok (ended_inj end (Err Store) (sym is ∙ e))) in
-    (went, so (Ok x) (ok_not x store) went)
-ends_either G E store (Err f) end p is ok err goes so stops = (tt, stops (Err f) (is ∙ ap Ended err.1) (ap Err err.0))
+pub goes_as : {A E : Type 0} (old new : Outside) (last : ℕ) (held : ℕ → Option State) (store : E) (r q : Result A E) → r ≡ q → GoesOnOrStops old new last held store r → GoesOnOrStops old new last held store q
+goes_as {A = A} {E = E} old new last held store r q is g = let P : Result A E → Type 0 = λ x. GoesOnOrStops old new last held store x in subst P is g
 
 pub not_store : {A : Type 0} (r : Result A RoomFault) (y f : RoomFault) → r ≡ Err y → y ≡ f → f ≡ faults.Accept → r ≡ Err faults.Store → ⊥
 not_store r y f is same accept store = cc
@@ -457,3 +554,6 @@ not_memory r y is memory store = cc
 
 pub nothing_grown : (o : Outside) → AreAnswered o.book [] o.book.history → HasGrown o.book o.book
 nothing_grown o none = ([], none.after)
+
+pub goes_stop_last : {A E : Type 0} (old new : Outside) (last number : ℕ) (held : ℕ → Option State) (store : E) (result : Result A E) → number ≡ last → GoesOnOrStops old new last held store result → GoesOnOrStops old new number held store result
+goes_stop_last old new last number held store result is g = let P : ℕ → Type 0 = λ k. GoesOnOrStops old new k held store result in subst P (sym is) g

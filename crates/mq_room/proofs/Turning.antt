@@ -1,10 +1,10 @@
 -- One turn after another.
-use Rattle.std.proofs.Common.{◌≡◌, ◌≢◌, ℕ, List, [], ◌++◌, map, take, refl, sym, ap, subst, ◌∙◌, append-nil, append_assoc, Option, Some, None, Result, Ok, Err, false, true}
+use Rattle.std.proofs.Common.{◌≡◌, ◌≢◌, ℕ, ◌≤◌, List, [], ◌++◌, length, map, take, drop, arith, refl, sym, ap, subst, ◌∙◌, append-nil, append_assoc, Option, Some, None, Result, Ok, Err, false, true}
 use Rattle.std.specs.Prelude.{IsSome}
 use Rattle.std.specs.Option.{option_to_list}
 use Rattle.std.specs.Io.KnownBytes.{Appends, Consumes, Keeps, ReadConsumes, WriteAppends}
 use Rattle.std.proofs.KnownBytes.{Appends-nil, Appends-trans, Consumes-nil, Consumes-trans}
-use Rattle.std.proofs.lemmas.List.{map-append}
+use Rattle.std.proofs.lemmas.List.{length-take, map-append}
 use Rattle.mq_frame.specs.declared.message.Request.{Request}
 use Rattle.mq_ledger.specs.declared.entry.Entry.{Entry}
 use Rattle.mq_ledger.specs.declared.ledger.Told.{Told}
@@ -15,11 +15,12 @@ use Rattle.mq_server.specs.declared.connection.Progress.TheVariants.{Answered, W
 use Rattle.mq_server.specs.declared.connection.Served.{Served}
 use Rattle.mq_server.specs.declared.fault.ServeFault.TheVariants.{Memory, Store}
 use Rattle.mq_server.specs.declared.fault.ServeFault.{ServeFault}
-use Rattle.mq_server.specs.Connection.{Wire}
+use Rattle.mq_server.specs.declared.input.TheConstants.{PIECE}
 use Rattle.mq_server.specs.Delivery.{call, failed_call}
 use Rattle.mq_server.specs.Held.{State}
 use Rattle.mq_server.specs.Life.{AreAnswered, Exchange, Life, Lives, MakesCalls, told_of, with_bytes, with_exchanges, with_taken}
-use Rattle.mq_room.specs.Turns.{Turns, lived}
+use Rattle.mq_room.specs.Turns.{Offers, Turns, lived}
+use Rattle.mq_room.specs.Wires.{AreOffered, IsKnownAs, Leaves, Wire}
 
 -- ---- what a ledger tells
 
@@ -40,7 +41,7 @@ told_both xs ys = map-append (λ (x : Exchange). call x.delivery x.answer) xs ys
 pub none_some : false ≡ true → ⊥
 none_some e = cc
 
-some_of : (r : Request) → IsSome (Some r)
+pub some_of : (r : Request) → IsSome (Some r)
 some_of r = refl
 
 -- it isn't the store that failed
@@ -120,6 +121,12 @@ carries_in c now r f = λ l here. let P : Life → Type 0 = λ q. Lives q now in
 
 -- ---- a turn
 
+pub none_few : length {A = ℕ} [] ≤ PIECE
+none_few = omega arith
+
+pub few_of : (n : ℕ) (bytes : List ℕ) → length bytes ≤ PIECE → length (take n bytes) ≤ PIECE
+few_of n bytes few = let h = length-take n bytes in omega (arith, h, few)
+
 -- a wire whose part stays as it was
 pub still_in : (a b : Option (List ℕ)) → b ≡ a → Consumes a b []
 still_in a b is = let P : Option (List ℕ) → Type 0 = λ q. Consumes a q [] in subst P (sym is) (Consumes-nil a)
@@ -129,14 +136,15 @@ still_out a b is = let P : Option (List ℕ) → Type 0 = λ q. Appends a q [] i
 
 -- answers, and then bytes in or out
 pub turned : (b : Book) (history : List Entry) (t u : Option (List Told)) (p : Progress) (old new : Wire) (c d now : State) (xs : List Exchange) (read lost written : List ℕ)
-    → AreAnswered b xs history → MakesCalls c.end p t u xs → Extends c d xs → (p ≢ Ended (Err Memory) → lost ≡ []) → Consumes old.remaining new.remaining (read ++ lost) → Appends old.contents new.contents written
+    → AreAnswered b xs history → MakesCalls c.end p t u xs → Extends c d xs → length lost ≤ PIECE → (p ≢ Ended (Err Memory) → lost ≡ []) → Consumes old.remaining new.remaining (read ++ lost) → Appends old.contents new.contents written
     → Carries d now read written → Turns b history t u p old new c now
-turned b history t u p old new c d now xs read lost written right calls extends whole consumed sent carries = record {
+turned b history t u p old new c d now xs read lost written right calls extends few whole consumed sent carries = record {
   exchanges = xs;
   answered = right;
   calls = calls;
   read = read;
   lost = lost;
+  few = few;
   whole = whole;
   written = written;
   consumed = consumed;
@@ -146,7 +154,7 @@ turned b history t u p old new c d now xs read lost written right calls extends 
 
 pub nothing_done : (b : Book) (t : Option (List Told)) (p : Progress) (wire : Wire) (c : State) → Works p → AreAnswered b [] b.history → Turns b b.history t t p wire wire c c
 nothing_done b t p wire c works none =
-    turned b b.history t t p wire wire c c c [] [] [] [] none (no_calls t c.end p works) (extends_none c) (λ _. refl) (Consumes-nil wire.remaining) (Appends-nil wire.contents) (carries_none c)
+    turned b b.history t t p wire wire c c c [] [] [] [] none (no_calls t c.end p works) (extends_none c) none_few (λ _. refl) (Consumes-nil wire.remaining) (Appends-nil wire.contents) (carries_none c)
 
 -- exchanges behind others, by the law of mq_server
 abbrev pub Follow : Type 0
@@ -167,6 +175,7 @@ both follow b k history t u v p q old mid new c d now legal zone default works r
       calls = calls_both t u v c.end d.end p q first.exchanges second.exchanges works still first.calls second.calls;
       read = first.read ++ second.read;
       lost = second.lost;
+      few = second.few;
       whole = second.whole;
       written = first.written ++ second.written;
       consumed = subst Q (all_read first.read second.read second.lost) (Consumes-trans old.remaining mid.remaining new.remaining _ _ (subst P (first.whole room) first.consumed) second.consumed);
@@ -244,18 +253,18 @@ writes_some a b c d now bytes count is same sent lives =
 
 -- what a read leaves, where it came to this
 abbrev pub Reads : Option (List ℕ) → Option (List ℕ) → State → State → Progress → Type 0
-Reads a b c now p = (read : List ℕ) × (lost : List ℕ) × (p ≢ Ended (Err Memory) → lost ≡ []) × Consumes a b (read ++ lost) × ((l : Life) → Lives l c → Lives (with_bytes l read) now)
+Reads a b c now p = (read : List ℕ) × (lost : List ℕ) × (length lost ≤ PIECE) × (p ≢ Ended (Err Memory) → lost ≡ []) × Consumes a b (read ++ lost) × ((l : Life) → Lives l c → Lives (with_bytes l read) now)
 
 pub reads_none : (a b : Option (List ℕ)) (c now : State) (p : Progress) → Consumes a b [] → ((l : Life) → Lives l c → Lives l now) → Reads a b c now p
-reads_none a b c now p consumed lives = ([], [], (λ _. refl), consumed, λ l here. comes_none now l (lives l here))
+reads_none a b c now p consumed lives = ([], [], none_few, (λ _. refl), consumed, λ l here. comes_none now l (lives l here))
 
 pub reads_some : (a b : Option (List ℕ)) (c d now : State) (p : Progress) (bytes front : List ℕ) → bytes ≡ front → now ≡ d → Consumes a b front → ((l : Life) → Lives l c → Lives (with_bytes l bytes) d) → Reads a b c now p
 reads_some a b c d now p bytes front is same consumed lives =
     let P : List ℕ → Type 0 = λ q. Consumes a b q in
-    (bytes, [], (λ _. refl), subst P (sym is ∙ sym (append-nil bytes)) consumed, λ l here. lives_as d now (with_bytes l bytes) same (lives l here))
+    (bytes, [], none_few, (λ _. refl), subst P (sym is ∙ sym (append-nil bytes)) consumed, λ l here. lives_as d now (with_bytes l bytes) same (lives l here))
 
-pub reads_lost : (a b : Option (List ℕ)) (c now : State) (p : Progress) (bytes : List ℕ) → p ≡ Ended (Err Memory) → now ≡ c → Consumes a b bytes → Reads a b c now p
-reads_lost a b c now p bytes is same consumed = ([], bytes, (λ not. absurd (not is)), consumed, λ l here. comes_none now l (lives_as c now l same here))
+pub reads_lost : (a b : Option (List ℕ)) (c now : State) (p : Progress) (bytes : List ℕ) → length bytes ≤ PIECE → p ≡ Ended (Err Memory) → now ≡ c → Consumes a b bytes → Reads a b c now p
+reads_lost a b c now p bytes few is same consumed = ([], bytes, few, (λ not. absurd (not is)), consumed, λ l here. comes_none now l (lives_as c now l same here))
 
 -- the calls of a progress by which the store failed alike
 pub calls_either : (t u : Option (List Told)) (was : Option (Result Served ServeFault)) (p q : Progress) (xs : List Exchange) → (p ≡ Ended (Err Store) → q ≡ Ended (Err Store)) → (q ≡ Ended (Err Store) → p ≡ Ended (Err Store)) → MakesCalls was p t u xs → MakesCalls was q t u xs
@@ -281,3 +290,73 @@ wrote_none {E = E} a b r bytes is h = let P : Result ℕ E → Type 0 = λ q. Wr
 -- a read that gave none
 pub gave_none : {E : Type 0} (a b : Option (List ℕ)) (r : Result ℕ E) (bytes : List ℕ) → r ≡ Ok 0 → ReadConsumes a b r bytes → Consumes a b []
 gave_none {E = E} a b r bytes is h = let P : Result ℕ E → Type 0 = λ q. ReadConsumes a b q bytes in (subst P is h).0
+
+-- ---- replies that are offered
+
+no_replies : (c : State) (wire : Wire) → c.replies ≡ [] → AreOffered c wire
+no_replies c wire none = λ some. absurd (some none)
+
+pub offers_none : (c : State) (wire : Wire) → c.replies ≡ [] → Offers c wire wire
+offers_none c wire none = record {
+  now = c;
+  end = refl;
+  written = [];
+  remaining = refl;
+  sent = Appends-nil wire.contents;
+  lives = takes_none c;
+  offered = no_replies c wire none;
+}
+
+-- the peer took some
+pub offers_some : (c d : State) (old new : Wire) (bytes : List ℕ) (count : ℕ) → bytes ≡ c.replies → d.end ≡ c.end → d.replies ≡ drop count c.replies → new.remaining ≡ old.remaining → Appends old.contents new.contents (take count bytes)
+    → IsKnownAs new.left (drop count bytes) → ((l : Life) → Lives l c → Lives (with_taken l (take count c.replies)) d) → Offers c old new
+offers_some c d old new bytes count is end rest remaining sent left lives =
+    let P : List ℕ → Type 0 = λ q. Appends old.contents new.contents (take count q) in
+    let Q : List ℕ → Type 0 = λ q. IsKnownAs new.left q in
+    record {
+      now = d;
+      end = end;
+      written = take count c.replies;
+      remaining = remaining;
+      sent = subst P is sent;
+      lives = lives;
+      offered = λ _. subst Q (ap (λ (q : List ℕ). drop count q) is ∙ sym rest) left;
+    }
+
+-- or none
+pub offers_all : (c : State) (old new : Wire) (bytes : List ℕ) → bytes ≡ c.replies → new.remaining ≡ old.remaining → Keeps old.contents new.contents → IsKnownAs new.left bytes → Offers c old new
+offers_all c old new bytes is remaining kept left =
+    let Q : List ℕ → Type 0 = λ q. IsKnownAs new.left q in
+    record {
+      now = c;
+      end = refl;
+      written = [];
+      remaining = remaining;
+      sent = appends_kept old.contents new.contents kept;
+      lives = takes_none c;
+      offered = λ _. subst Q is left;
+    }
+
+taken_both : (l : Life) (r : List ℕ) (xs : List Exchange) (rest w v : List ℕ) → with_taken (lived l r xs rest w) v ≡ lived l r xs rest (w ++ v)
+taken_both l r xs rest w v = λ i. named l (l.bytes ++ r) (l.exchanges ++ xs) rest (append_assoc l.taken w v i)
+
+-- a turn, and then its replies are offered
+pub turned_out : (b : Book) (history : List Entry) (t u : Option (List Told)) (p : Progress) (old mid new : Wire) (c d : State) → Turns b history t u p old mid c d → (o : Offers d mid new) → Turns b history t u p old new c o.now
+turned_out b history t u p old mid new c d turn o =
+    let P : Option (List ℕ) → Type 0 = λ w. Consumes old.remaining w (turn.read ++ turn.lost) in
+    record {
+      exchanges = turn.exchanges;
+      answered = turn.answered;
+      calls = turn.calls;
+      read = turn.read;
+      lost = turn.lost;
+      few = turn.few;
+      whole = turn.whole;
+      written = turn.written ++ o.written;
+      consumed = subst P (sym o.remaining) turn.consumed;
+      sent = Appends-trans old.contents mid.contents new.contents _ _ turn.sent o.sent;
+      lives = λ l here.
+          let (rest, then) = turn.lives l here in
+          let Q : Life → Type 0 = λ x. Lives x o.now in
+          (rest, subst Q (taken_both l turn.read turn.exchanges rest turn.written o.written) (o.lives (lived l turn.read turn.exchanges rest turn.written) then));
+    }

@@ -1,4 +1,4 @@
-//! The next connection, also behind errors that pass.
+//! The next connection, also after errors that pass.
 ghost use Rattle.std.specs.Prelude.{◌≡◌, ◌*◌, min, IfErr};
 
 use crate::fault::RoomFault;
@@ -16,7 +16,7 @@ const FIRST_PAUSE: u64 = 10;
 /// The longest pause before another attempt, in milliseconds.
 const LONGEST_PAUSE: u64 = 1_000;
 
-/// The errors of accept(2) on Linux that pass: want of memory, of files and of buffers, a firewall's
+/// The errors of accept(2) on Linux that pass: no memory, files or buffers left, a firewall's
 /// refusal, a connection that was given up, and what the network reports of the next connection.
 const PASSING: [i32; 14] = [1, 12, 23, 24, 64, 71, 92, 95, 100, 101, 103, 105, 112, 113];
 
@@ -28,7 +28,7 @@ fn passes(error: &io::Error) -> bool {
     }
 }
 
-/// The pause behind this one: twice as long, and no longer than the longest. In milliseconds.
+/// The pause after this one: twice as long, and no longer than the longest. In milliseconds.
 fn next_pause(pause: u64) -> u64
     ensures { result ≡ min (2 * pause) 1000 }
 {

@@ -7,7 +7,7 @@ use thiserror::Error;
 /// Why no further connection is served.
 #[derive(Clone, Copy, Debug, PartialEq, Eq, Error)]
 pub enum RoomFault {
-    /// The listener accepts no more, or the system doesn't tell of connections.
+    /// The listener accepts no more, or the system doesn't report connections.
     #[error("accept failed")]
     Accept,
     /// A growth was refused before the first connection.

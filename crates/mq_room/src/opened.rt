@@ -1,10 +1,11 @@
 //! A connection that is open, and its turns: none waits for the peer, so none holds back another connection.
-ghost use Rattle.std.specs.Prelude.{◌≡◌, ◌≢◌, [], List, ℕ, ◌++◌, Err, None, Some, IfOk};
+ghost use Rattle.std.specs.Prelude.{◌≡◌, ◌≢◌, ◌≤◌, [], List, ℕ, ◌++◌, length, Err, None, Some, IfOk};
 ghost use Rattle.std.specs.Io.KnownBytes.{Appends, Consumes};
 ghost use Rattle.mq_server.specs.declared.connection.Progress.TheVariants.{Ended};
+ghost use Rattle.mq_server.specs.declared.input.TheConstants.{PIECE as piece_limit};
 ghost use Rattle.mq_server.specs.Held.{fresh};
 ghost use Rattle.mq_server.specs.Life.{Life, Lives, with_bytes, with_taken};
-ghost use Rattle.mq_room.specs.Turns.{Turns};
+ghost use Rattle.mq_room.specs.Turns.{Offers, Turns};
 
 use crate::network::Network;
 use mq_deadline::deadline_after;
@@ -104,39 +105,33 @@ impl OpenConnection {
             Progress::Answered => Progress::Answered,
             Progress::Waits if !self.connection.replies().is_empty() => Progress::Answered,
             Progress::Waits => self.read_more(clock, network, number, timeout),
-            Progress::Ended(end) => self.end_turn(clock, network, number, timeout, end),
+            Progress::Ended(end) => self.end_turn(end),
         }
     }
 
-    /// The turn of a connection that has ended so: its replies go out before the end is told. Where the store failed,
-    /// what the peer takes of them now is all.
-    fn end_turn<N: Network>(
-        &mut self,
-        clock: &impl Clock,
-        network: &mut N,
-        number: usize,
-        timeout: Duration,
-        end: Result<Served, ServeFault>,
-    ) -> Progress
-        ensures others { (n : ℕ) → n ≢ number → N.wire network.new n ≡ N.wire network.old n }
-        ensures end { self.new.connection.end ≡ self.old.connection.end }
+    /// The turn of a connection that has ended so: its replies go out before its end is reported. Where the store failed,
+    /// nothing is waited for.
+    fn end_turn(&self, end: Result<Served, ServeFault>) -> Progress
         ensures store { end ≡ Err ServeFault.Store → result ≡ Ended (Err ServeFault.Store) }
         ensures other { result ≡ Ended (Err ServeFault.Store) → end ≡ Err ServeFault.Store }
-        ensures remaining { (N.wire network.new number).remaining ≡ (N.wire network.old number).remaining }
-        ensures writes { (written : List ℕ)
-            × Appends (N.wire network.old number).contents (N.wire network.new number).contents written
-            × ((l : Life) → Lives l self.old.connection → Lives (with_taken l written) self.new.connection) }
+    {
+        match end {
+            Err(ServeFault::Store) => Progress::Ended(Err(ServeFault::Store)),
+            _ if self.connection.replies().is_empty() => Progress::Ended(end),
+            _ => Progress::Answered,
+        }
+    }
+
+    /// Offers the peer the replies that it hasn't taken, once.
+    pub fn offer<N: Network>(&mut self, network: &mut N, number: usize)
+        ensures others { (n : ℕ) → n ≢ number → N.wire network.new n ≡ N.wire network.old n }
+        ensures offers { Offers self.old.connection (N.wire network.old number) (N.wire network.new number) }
     {
         if self.connection.replies().is_empty() {
-            return Progress::Ended(end);
+            return;
         }
-        match end {
-            Ok(_) => Progress::Answered,
-            Err(ServeFault::Store) => {
-                let _ = self.write_replies(clock, network, number, timeout);
-                Progress::Ended(Err(ServeFault::Store))
-            }
-            Err(_) => Progress::Answered,
+        if let Ok(taken) = network.write(number, self.connection.replies()) {
+            self.connection.take_replies(taken);
         }
     }
 
@@ -181,7 +176,8 @@ impl OpenConnection {
         ensures end { self.new.connection.end ≡ None }
         ensures other { result ≢ Ended (Err ServeFault.Store) }
         ensures contents { (N.wire network.new number).contents ≡ (N.wire network.old number).contents }
-        ensures reads { (read : List ℕ) × (lost : List ℕ) × (result ≢ Ended (Err ServeFault.Memory) → lost ≡ [])
+        ensures reads { (read : List ℕ) × (lost : List ℕ) × (length lost ≤ piece_limit)
+            × (result ≢ Ended (Err ServeFault.Memory) → lost ≡ [])
             × Consumes (N.wire network.old number).remaining (N.wire network.new number).remaining (read ++ lost)
             × ((l : Life) → Lives l self.old.connection → Lives (with_bytes l read) self.new.connection) }
     {

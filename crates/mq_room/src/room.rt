@@ -1,8 +1,9 @@
 //! The connections that are open.
-ghost use Rattle.std.specs.Prelude.{◌≡◌, ◌≢◌, ℕ, List, Option, None, Err, IfErr, OnOk};
+ghost use Rattle.std.specs.Prelude.{◌≡◌, ◌≢◌, ◌+◌, ℕ, List, Option, None, Err, IfErr, OnOk};
 ghost use Rattle.mq_ledger.specs.declared.ledger.Told.{Told};
 ghost use Rattle.mq_ledger.specs.Legal.{Book};
-ghost use Rattle.mq_room.specs.Sessions.{AreFewer, EndsServing, GoesOn, Opens, Outside, held};
+ghost use Rattle.mq_room.specs.Sessions.{GoesOn, GoesOnOrStops, KeepsGoing, Outside, held};
+ghost use Rattle.mq_room.specs.Turns.{Closes};
 
 use crate::fault::RoomFault;
 use crate::network::Network;
@@ -66,10 +67,9 @@ impl Room {
     ) -> Result<(), RoomFault>
         ensures fault { IfErr result (λ fault. fault ≡ RoomFault.Accept) }
         ensures goes { (old : Outside) (book : Book) (told : Option (List Told)) →
-            GoesOn old (record { book = book; told = told; wires = N.wire network.old }) self.old.last (held self.old.opened) →
-            GoesOn old (record { book = book; told = told; wires = N.wire network.new }) self.new.last (held self.new.opened) }
+            GoesOn old (record { book = book; told = told; wires = N.wire network.old }) self.old.last (held self.old.opened) None →
+            GoesOn old (record { book = book; told = told; wires = N.wire network.new }) self.new.last (held self.new.opened) None }
     {
-        a_life_is_served();
         for _connection in 0..ACCEPTED {
             let Some(number) = self.last.checked_add(1) else {
                 return Err(RoomFault::Accept);
@@ -92,10 +92,12 @@ impl Room {
         peer: SocketAddr,
         timeout: Duration,
     )
-        ensures same { (n : ℕ) → N.wire network.new n ≡ N.wire network.old n }
         ensures last { self.new.last ≡ self.old.last }
-        ensures opens { Opens (held self.old.opened) (held self.new.opened) self.old.last }
+        ensures goes { (old : Outside) (book : Book) (told : Option (List Told)) (before : ℕ) → self.old.last ≡ before + 1 →
+            GoesOn old (record { book = book; told = told; wires = N.wire network.old }) before (held self.old.opened) None →
+            GoesOn old (record { book = book; told = told; wires = N.wire network.new }) self.old.last (held self.new.opened) None }
     {
+        a_life_is_served();
         let open = match OpenConnection::new(clock, self.alloc, peer, timeout) {
             Ok(open) => open,
             Err(cause) => {
@@ -114,9 +116,8 @@ impl Room {
 
     /// Closes the connection that would be late first, where no place is left.
     fn make_place<N: Network, G: Log>(&mut self, log: &G, network: &mut N)
-        ensures same { (n : ℕ) → N.wire network.new n ≡ N.wire network.old n }
         ensures last { self.new.last ≡ self.old.last }
-        ensures fewer { AreFewer (held self.old.opened) (held self.new.opened) }
+        ensures goes { KeepsGoing (held self.old.opened) (N.wire network.old) (held self.new.opened) (N.wire network.new) }
     {
         if self.opened.len() < PLACES {
             return;
@@ -149,9 +150,8 @@ impl Room {
         ensures goes { L.has_kept ledger.new → L.is_sound ledger.old → (old : Outside) →
             (let before : Outside = record { book = L.book ledger.old; told = L.told ledger.old; wires = N.wire network.old } in
             let after : Outside = record { book = L.book ledger.new; told = L.told ledger.new; wires = N.wire network.new } in
-            GoesOn old before self.old.last (held self.old.opened) →
-            OnOk result (GoesOn old after self.new.last (held self.new.opened))
-            × EndsServing old after RoomFault.Store result) }
+            GoesOn old before self.old.last (held self.old.opened) None →
+            GoesOnOrStops old after self.new.last (held self.new.opened) RoomFault.Store result) }
     {
         for number in ready {
             self.serve_one(clock, log, network, *number, timeout, ledger)?;
@@ -177,9 +177,8 @@ impl Room {
         ensures goes { L.has_kept ledger.new → L.is_sound ledger.old → (old : Outside) →
             (let before : Outside = record { book = L.book ledger.old; told = L.told ledger.old; wires = N.wire network.old } in
             let after : Outside = record { book = L.book ledger.new; told = L.told ledger.new; wires = N.wire network.new } in
-            GoesOn old before self.old.last (held self.old.opened) →
-            OnOk result (GoesOn old after self.new.last (held self.new.opened))
-            × EndsServing old after RoomFault.Store result) }
+            GoesOn old before self.old.last (held self.old.opened) None →
+            GoesOnOrStops old after self.new.last (held self.new.opened) RoomFault.Store result) }
     {
         more_exchanges();
         let Some(open) = self.opened.get_mut(&number) else {
@@ -189,7 +188,7 @@ impl Room {
         match take_turns(clock, self.alloc, network, number, open, timeout, ledger) {
             Progress::Waits => Ok(()),
             Progress::Answered => {
-                self.tell_again(log, network, number, &peer);
+                self.watch_again(log, network, number, &peer);
                 Ok(())
             }
             Progress::Ended(end) => {
@@ -199,19 +198,18 @@ impl Room {
         }
     }
 
-    /// Has the system tell again of a connection that may have more. One of which it can't tell is closed.
-    fn tell_again<N: Network, G: Log>(
+    /// Has a connection reported again that may have more. One that can't be is closed.
+    fn watch_again<N: Network, G: Log>(
         &mut self,
         log: &G,
         network: &mut N,
         number: usize,
         peer: &SocketAddr,
     )
-        ensures same { (n : ℕ) → N.wire network.new n ≡ N.wire network.old n }
         ensures last { self.new.last ≡ self.old.last }
-        ensures fewer { AreFewer (held self.old.opened) (held self.new.opened) }
+        ensures goes { KeepsGoing (held self.old.opened) (N.wire network.old) (held self.new.opened) (N.wire network.new) }
     {
-        let Err(cause) = network.tell_again(number) else {
+        let Err(cause) = network.watch_again(number) else {
             return;
         };
         warn!(log; "connection of {peer}: {cause}");
@@ -221,9 +219,7 @@ impl Room {
     /// Closes the connections that were late at that moment.
     pub fn expire<N: Network, G: Log>(&mut self, log: &G, network: &mut N, now: Instant)
         ensures last { self.new.last ≡ self.old.last }
-        ensures goes { (old : Outside) (book : Book) (told : Option (List Told)) →
-            GoesOn old (record { book = book; told = told; wires = N.wire network.old }) self.old.last (held self.old.opened) →
-            GoesOn old (record { book = book; told = told; wires = N.wire network.new }) self.new.last (held self.new.opened) }
+        ensures goes { KeepsGoing (held self.old.opened) (N.wire network.old) (held self.new.opened) (N.wire network.new) }
     {
         for _late in 0..self.opened.len() {
             match self.first_late() {
@@ -235,34 +231,48 @@ impl Room {
         }
     }
 
-    /// Closes a connection that is late. What came and is of no use is read, so that the peer's reading ends in order and
-    /// not by a reset.
+    /// Closes a connection that is late, after its peer was offered the replies that wait. What came and is of no use is
+    /// read, so that the peer's reading ends in order and not by a reset.
     fn give_up<N: Network, G: Log>(&mut self, log: &G, network: &mut N, number: usize)
         ensures last { self.new.last ≡ self.old.last }
-        ensures goes { (old : Outside) (book : Book) (told : Option (List Told)) →
-            GoesOn old (record { book = book; told = told; wires = N.wire network.old }) self.old.last (held self.old.opened) →
-            GoesOn old (record { book = book; told = told; wires = N.wire network.new }) self.new.last (held self.new.opened) }
+        ensures goes { KeepsGoing (held self.old.opened) (N.wire network.old) (held self.new.opened) (N.wire network.new) }
     {
-        let Some(open) = self.opened.remove(&number) else {
+        let Some(mut late) = self.opened.remove(&number) else {
             return;
         };
+        let fault = late.late_fault();
+        late.offer(network, number);
         let mut piece = [0u8; PIECE];
         let _ = network.read(number, &mut piece);
         // The peer sees the end once the log has it.
-        let peer = open.peer;
-        warn!(log; "connection of {peer}: {}", open.late_fault());
+        let peer = late.peer;
+        warn!(log; "connection of {peer}: {fault}");
         network.close(number);
     }
 
-    /// Closes a connection.
+    /// Closes a connection, after its peer was offered the replies that wait.
     fn close<N: Network>(&mut self, network: &mut N, number: usize) -> Option<OpenConnection>
-        ensures same { (n : ℕ) → N.wire network.new n ≡ N.wire network.old n }
         ensures last { self.new.last ≡ self.old.last }
-        ensures fewer { AreFewer (held self.old.opened) (held self.new.opened) }
-        ensures gone { held self.new.opened number ≡ None }
+        ensures closes { Closes (held self.old.opened) (held self.new.opened) (N.wire network.old) (N.wire network.new) number }
     {
+        let Some(mut closed) = self.opened.remove(&number) else {
+            return None;
+        };
+        closed.offer(network, number);
         network.close(number);
-        self.opened.remove(&number)
+        Some(closed)
+    }
+
+    /// Closes all connections, each after its peer was offered the replies that wait.
+    pub fn close_all<N: Network>(&mut self, network: &mut N)
+        ensures last { self.new.last ≡ self.old.last }
+        ensures none { (n : ℕ) → held self.new.opened n ≡ None }
+        ensures goes { KeepsGoing (held self.old.opened) (N.wire network.old) (held self.new.opened) (N.wire network.new) }
+    {
+        while let Some((number, mut left)) = self.opened.pop_first() {
+            left.offer(network, number);
+            network.close(number);
+        }
     }
 
     /// The connection that is late first, and when.
@@ -278,7 +288,7 @@ impl Room {
     }
 }
 
-/// Warns of a connection that didn't end behind whole frames. A store that failed ends the serving.
+/// Warns of a connection that didn't end after whole frames. A store that failed ends the serving.
 fn end_of<G: Log>(
     log: &G,
     peer: &SocketAddr,

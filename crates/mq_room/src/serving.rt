@@ -1,8 +1,8 @@
 //! Serving connections until so many were accepted, and have ended.
 ghost use Rattle.std.specs.Prelude.{◌≡◌, ℕ, None};
-ghost use Rattle.mq_server.specs.Connection.{Wire};
 ghost use Rattle.mq_server.specs.Delivery.{HasGrown};
-ghost use Rattle.mq_room.specs.Sessions.{EndsServing, unknown};
+ghost use Rattle.mq_room.specs.Sessions.{EndsServing, GoesOn, GoesOnOrStops, Outside, held};
+ghost use Rattle.mq_room.specs.Wires.{unknown};
 
 use crate::fault::RoomFault;
 use crate::network::Network;
@@ -54,7 +54,8 @@ pub fn serve_connections<R: Clock + Net, G: Log, L: Ledger>(
     serve_network(rt, log, alloc, &mut sockets, timeout, ledger)
 }
 
-/// Serves the connections of a network, round by round, until all were accepted and have ended.
+/// Serves the connections of a network until all were accepted and have ended, or it has to stop. A connection is closed
+/// only after its peer was offered the replies that wait.
 pub fn serve_network<N: Network, C: Clock, G: Log, L: Ledger>(
     clock: &C,
     log: &G,
@@ -78,23 +79,48 @@ pub fn serve_network<N: Network, C: Clock, G: Log, L: Ledger>(
     more_exchanges();
     let mut ready = Vec::with_capacity(alloc, EVENTS)?;
     let mut room = Room::new(alloc);
+    let ended = serve_rounds(clock, log, network, &mut room, &mut ready, timeout, ledger);
+    room.close_all(network);
+    ended
+}
+
+/// Serves the connections of a network, round by round. Where it has to stop, some may be open still.
+fn serve_rounds<N: Network, C: Clock, G: Log, L: Ledger>(
+    clock: &C,
+    log: &G,
+    network: &mut N,
+    room: &mut Room,
+    ready: &mut Vec<usize>,
+    timeout: Duration,
+    ledger: &mut L,
+) -> Result<(), RoomFault>
+    ensures same_zone { (L.book ledger.new).zone ≡ (L.book ledger.old).zone }
+    ensures same_default { (L.book ledger.new).default ≡ (L.book ledger.old).default }
+    ensures kept { L.has_kept ledger.new → L.has_kept ledger.old }
+    ensures sound { L.has_kept ledger.new → L.is_sound ledger.old → L.is_sound ledger.new }
+    ensures goes { L.has_kept ledger.new → L.is_sound ledger.old → (old : Outside) →
+        (let before : Outside = record { book = L.book ledger.old; told = L.told ledger.old; wires = N.wire network.old } in
+        let after : Outside = record { book = L.book ledger.new; told = L.told ledger.new; wires = N.wire network.new } in
+        GoesOn old before room.old.last (held room.old.opened) None →
+        GoesOnOrStops old after room.new.last (held room.new.opened) RoomFault.Store result) }
+{
     for _round in 0..u64::MAX {
         room.accept(clock, log, network, timeout)?;
-        // The last connection may just have been given up for want of memory: then nothing more comes.
+        // The last connection may just have been given up as memory ran out: then nothing more comes.
         if network.is_done() && room.is_empty() {
             return Ok(());
         }
-        let now = match wait(clock, &room, network, &mut ready) {
+        let now = match wait(clock, room, network, ready) {
             Ok(now) => now,
             Err(error) => return Err(no_wait(log, &error)),
         };
-        room.serve(clock, log, network, &ready, timeout, ledger)?;
+        room.serve(clock, log, network, ready, timeout, ledger)?;
         room.expire(log, network, now);
     }
     Ok(())
 }
 
-/// Waits until something comes, or until a connection is late, or a pause is over, and tells when that was.
+/// Waits until something comes, or until a connection is late, or a pause is over, and says when that was.
 fn wait<N: Network>(
     clock: &impl Clock,
     room: &Room,
@@ -113,7 +139,7 @@ fn wait<N: Network>(
     Instant::now(clock)
 }
 
-/// Logs why the system doesn't tell of connections.
+/// Logs why the system doesn't report connections.
 fn no_wait<G: Log>(log: &G, error: &io::Error) -> RoomFault
     ensures { result ≡ RoomFault.Accept }
 {

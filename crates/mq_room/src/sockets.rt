@@ -15,10 +15,10 @@ use std::os::fd::AsRawFd;
 use std::rt::Clock;
 use std::time::{Duration, Instant};
 
-/// The most connections that are told of at once: all of them.
+/// The most connections that are reported at once: all of them.
 pub const EVENTS: usize = 1_024;
 
-/// Under which the system tells of the listener; a connection has a number above it.
+/// Under which the system reports the listener; a connection has a number above it.
 const LISTENER: Token = Token(0);
 
 /// A listener, and the sockets of the connections that are open.
@@ -59,7 +59,7 @@ impl<'a, C: Clock + Net, G: Log> Sockets<'a, C, G> {
 }
 
 impl<C: Clock, G: Log> Sockets<'_, C, G> {
-    /// Opens a connection that was accepted, and has the system tell of it.
+    /// Opens a connection that was accepted, and has the system report it.
     fn register(&mut self, number: usize, stream: TcpStream) -> io::Result<()> {
         stream.set_nonblocking(true)?;
         let descriptor = stream.as_raw_fd();
@@ -106,7 +106,7 @@ impl<C: Clock, G: Log> Network for Sockets<'_, C, G> {
         Ok(())
     }
 
-    fn tell_again(&mut self, number: usize) -> io::Result<()> {
+    fn watch_again(&mut self, number: usize) -> io::Result<()> {
         let Some(stream) = self.streams.get(&number) else {
             return Ok(());
         };
@@ -135,7 +135,7 @@ impl<C: Clock, G: Log> Network for Sockets<'_, C, G> {
     }
 }
 
-/// What the system tells of a connection: that something came, and that its peer takes replies again.
+/// What the system reports of a connection: that something came, and that its peer takes replies again.
 fn both_ways() -> Interest {
     Interest::READABLE | Interest::WRITABLE
 }

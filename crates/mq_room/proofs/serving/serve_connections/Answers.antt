@@ -1,7 +1,8 @@
 use Rattle.std.proofs.Common.{◌≡◌, Err, refl}
 use Rattle.std.proofs.lemmas.Result.{err_from_is_err_and}
 use Rattle.mq_room.specs.declared.fault.RoomFault.TheVariants as faults
-use Rattle.mq_room.specs.Sessions.{Outside, unknown}
+use Rattle.mq_room.specs.Sessions.{Outside}
+use Rattle.mq_room.specs.Wires.{unknown}
 use Rattle.mq_room.proofs.Standing.{has_grown, not_memory, not_store, nothing_grown, nothing_served}
 use Rattle.mq_room.proofs.serving.serve_connections.Goals as goal
 

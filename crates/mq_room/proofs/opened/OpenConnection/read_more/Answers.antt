@@ -1,5 +1,6 @@
-use Rattle.std.proofs.Common.{◌∙◌, Ok, take, refl, ap}
-use Rattle.mq_room.proofs.Turning.{consumes_kept, gave_none, reads_lost, reads_none, reads_some}
+use Rattle.std.proofs.Common.{◌∙◌, ◌≤◌, Ok, length, take, refl, ap, rules}
+use Rattle.mq_server.specs.declared.input.TheConstants.{PIECE}
+use Rattle.mq_room.proofs.Turning.{consumes_kept, few_of, gave_none, reads_lost, reads_none, reads_some}
 use Rattle.mq_server.specs.declared.connection.Progress.TheVariants.{Answered, Ended}
 use Rattle.mq_room.proofs.opened.OpenConnection.read_more.Goals as goal
 
@@ -14,7 +15,9 @@ returns-in-Ok-receive-clause-reads g c = reads_some (g.N.Network.wire c.args.net
     _ (take c.in-Ok.count c.read.new.piece) refl c.stay.ensures c.in-Ok.ensures.bytes.0 (λ l here. c.in-Ok-receive.ensures.lives l here c.requires)
 
 pub returns-in-Err-receive-clause-reads : goal.returns-in-Err-receive-clause-reads
-returns-in-Err-receive-clause-reads g c = reads_lost (g.N.Network.wire c.args.network.now c.args.number).remaining (g.N.Network.wire c.read.new.self c.args.number).remaining c.args.self.now.connection c.receive.new.self _ _ refl c.in-Err-receive.ensures.err c.in-Ok.ensures.bytes.0
+returns-in-Err-receive-clause-reads g c =
+    let small : length c.read.new.piece ≤ PIECE = search rules in
+    reads_lost (g.N.Network.wire c.args.network.now c.args.number).remaining (g.N.Network.wire c.read.new.self c.args.number).remaining c.args.self.now.connection c.receive.new.self _ _ (few_of c.in-Ok.count c.read.new.piece small) refl c.in-Err-receive.ensures.err c.in-Ok.ensures.bytes.0
 
 pub returns-in-Err-clause-reads : goal.returns-in-Err-clause-reads
 returns-in-Err-clause-reads g c =

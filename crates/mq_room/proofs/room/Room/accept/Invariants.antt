@@ -1,4 +1,4 @@
-use Rattle.std.proofs.Common.{Option, List}
+use Rattle.std.proofs.Common.{None, Option, List}
 use Rattle.mq_ledger.specs.declared.ledger.Told.{Told}
 use Rattle.mq_ledger.specs.Legal.{Book}
 use Rattle.mq_room.specs.Sessions.{GoesOn, Outside, held}
@@ -7,5 +7,5 @@ use Rattle.mq_room.proofs.room.Room.accept.Given as goal
 -- the sessions go on by each connection that is accepted
 abbrev pub invariant-loop-connection : goal.invariant-loop-connection
 invariant-loop-connection g l = (old : Outside) (book : Book) (told : Option (List Told)) →
-    GoesOn old (record { book = book; told = told; wires = g.N.Network.wire l.fn.network }) l.fn.self.last (held l.fn.self.opened) →
-    GoesOn old (record { book = book; told = told; wires = g.N.Network.wire l.network }) l.self.last (held l.self.opened)
+    GoesOn old (record { book = book; told = told; wires = g.N.Network.wire l.fn.network }) l.fn.self.last (held l.fn.self.opened) None →
+    GoesOn old (record { book = book; told = told; wires = g.N.Network.wire l.network }) l.self.last (held l.self.opened) None

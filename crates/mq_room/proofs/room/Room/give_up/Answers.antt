@@ -1,26 +1,24 @@
-use Rattle.std.proofs.Common.{◌∙◌, ℕ, List, Option, None, Some, refl}
-use Rattle.mq_ledger.specs.declared.ledger.Told.{Told}
-use Rattle.mq_ledger.specs.Legal.{Book}
+use Rattle.std.proofs.Common.{◌≡◌, ◌≤◌, None, length, refl, rules}
+use Rattle.mq_server.specs.declared.input.TheConstants.{PIECE}
 use Rattle.mq_room.specs.Sessions.{Outside, held}
-use Rattle.mq_room.proofs.Maps.{fewer_held, held_here, held_now}
-use Rattle.mq_room.proofs.Standing.{fewer, late, read_bytes}
+use Rattle.mq_room.proofs.Maps.{held_beside, held_here, held_now, same_held}
+use Rattle.mq_room.proofs.Standing.{read_after, rewired}
 use Rattle.mq_room.proofs.room.Room.give_up.Goals as goal
 
 pub returns-in_default-clause-goes : goal.returns-in_default-clause-goes
-returns-in_default-clause-goes g c = λ old book told start.
+returns-in_default-clause-goes g c = λ old book told last failed start.
     let o : Outside = record { book = book; told = told; wires = g.N.Network.wire c.args.network.now } in
-    fewer old o o.wires c.args.self.now.last (held c.args.self.now.opened) (held c.remove.new.self) (λ n. refl) (fewer_held c.args.self.now.opened c.remove.new.self c.args.number c.remove.ensures.updates) start
+    let same : c.remove.new.self.entries ≡ c.args.self.now.opened.entries = search rules in
+    rewired old o o.wires last (held c.args.self.now.opened) (held c.remove.new.self) failed (λ n. refl) (same_held c.args.self.now.opened c.remove.new.self same) start
 
 pub returns-clause-goes : goal.returns-clause-goes
-returns-clause-goes g c = λ old book told start.
+returns-clause-goes g c = λ old book told last failed start.
     let was = c.args.self.now.opened in
-    let n = c.remove.new.self in
+    let now = c.remove.new.self in
     let number = c.args.number in
     let wire = g.N.Network.wire in
     let o : Outside = record { book = book; told = told; wires = wire c.args.network.now } in
-    let mid : Outside = record { book = book; told = told; wires = wire c.read.new.self } in
-    let (bytes, consumed) = read_bytes (wire c.args.network.now number).remaining (wire c.read.new.self number).remaining c.read.result c.read.new.piece c.read.ensures.bytes in
-    let less = fewer_held was n number c.remove.ensures.updates in
-    let gave = late old o (wire c.read.new.self) number c.args.self.now.last c.in-Some.«open».connection (held was) (held n) bytes (held_here was number c.in-Some.«open» c.in-Some.ensures.value)
-    c.read.ensures.others consumed c.read.ensures.contents (held_now was n number None c.remove.ensures.updates) less start in
-    fewer old mid (wire c.close.new.self) c.args.self.now.last (held n) (held n) c.close.ensures.same (λ q d here. here) gave
+    let one = c.in-Some.late in
+    let small : length c.read.new.piece ≤ PIECE = search rules in
+    read_after old o (wire c.offer.new.network) (wire c.read.new.self) (wire c.close.new.self) number last one.connection (held was) (held now) failed c.read.result c.read.new.piece (held_here was number one c.in-Some.ensures.value) c.offer.ensures.offers c.offer.ensures.others
+    small c.read.ensures.bytes c.read.ensures.contents c.read.ensures.left c.read.ensures.others c.close.ensures.same (held_now was now number None c.remove.ensures.updates) (held_beside was now number None c.remove.ensures.updates) start

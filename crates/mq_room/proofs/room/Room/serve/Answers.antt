@@ -1,8 +1,8 @@
 use Rattle.std.proofs.Common.{◌≡◌, ◌∙◌, Ok, Err, refl, sym, ap}
 use Rattle.std.proofs.lemmas.Result.{err_from_is_err_and}
 use Rattle.mq_room.specs.declared.fault.RoomFault.TheVariants as faults
-use Rattle.mq_room.specs.Sessions.{GoesOn, Outside, held}
-use Rattle.mq_room.proofs.Standing.{ends_as, ends_so, not_ok, ok_not}
+use Rattle.mq_room.specs.Sessions.{Outside, held}
+use Rattle.mq_room.proofs.Standing.{goes_as, goes_on, goes_so, ok_not}
 use Rattle.mq_room.proofs.room.Room.serve.Goals as goal
 
 pub loop-number-init : goal.loop-number-init
@@ -22,7 +22,9 @@ loop-number-preserved g c =
       same_default = e.same_default ∙ i.same_default;
       kept = λ k. i.kept (e.kept k);
       sound = λ k s. e.sound k (i.sound (e.kept k) s);
-      goes = λ k s old start. (e.goes k (i.sound (e.kept k) s) old (i.goes (e.kept k) s old start)).0;
+      goes = λ k s old start.
+          let after : Outside = record { book = g.L.Ledger.book c.serve_one.new.ledger; told = g.L.Ledger.told c.serve_one.new.ledger; wires = g.N.Network.wire c.serve_one.new.network } in
+          goes_on old after c.serve_one.new.self.last (held c.serve_one.new.self.opened) faults.Store _ tt refl (e.goes k (i.sound (e.kept k) s) old (i.goes (e.kept k) s old start));
     }
 
 pub returns-in_err-serve_one-clause-goes : goal.returns-in_err-serve_one-clause-goes
@@ -31,14 +33,11 @@ returns-in_err-serve_one-clause-goes g c = λ k s old start.
     let e = c.in_err-serve_one.ensures in
     let after : Outside = record { book = g.L.Ledger.book c.serve_one.new.ledger; told = g.L.Ledger.told c.serve_one.new.ledger; wires = g.N.Network.wire c.serve_one.new.network } in
     let r = c.from_residual.result in
-    let p = err_from_is_err_and r c.from_residual.ensures.1 in (
-      not_ok r p.0 (GoesOn old after c.serve_one.new.self.last (held c.serve_one.new.self.opened)) p.1,
-      ends_as old after faults.Store _ r (sym (p.1 ∙ ap Err p.2)) (e.goes k (i.sound (e.kept k) s) old (i.goes (e.kept k) s old start)).1,
-    )
+    let p = err_from_is_err_and r c.from_residual.ensures.1 in
+    goes_as old after c.serve_one.new.self.last (held c.serve_one.new.self.opened) faults.Store _ r (sym (p.1 ∙ ap Err p.2)) (e.goes k (i.sound (e.kept k) s) old (i.goes (e.kept k) s old start))
 
 pub returns-clause-goes : goal.returns-clause-goes
 returns-clause-goes g c = λ k s old start.
     let room = c.loop-number.self in
     let after : Outside = record { book = g.L.Ledger.book c.loop-number.ledger; told = g.L.Ledger.told c.loop-number.ledger; wires = g.N.Network.wire c.loop-number.network } in
-    let goes = c.loop-number.invariant.goes k s old start in
-    (goes, ends_so old after room.last (held room.opened) faults.Store (Ok tt) (ok_not tt faults.Store) goes)
+    goes_so old after room.last (held room.opened) faults.Store (Ok tt) (ok_not tt faults.Store) (c.loop-number.invariant.goes k s old start)

@@ -1,4 +1,4 @@
-use Rattle.std.proofs.Common.{◌≡◌}
+use Rattle.std.proofs.Common.{◌≡◌, None}
 use Rattle.mq_room.specs.Sessions.{GoesOn, Outside, held}
 use Rattle.mq_room.proofs.room.Room.serve.Given as goal
 
@@ -10,6 +10,6 @@ invariant-loop-number g l = record {
   kept : g.L.Ledger.has_kept l.ledger → g.L.Ledger.has_kept l.fn.ledger;
   sound : g.L.Ledger.has_kept l.ledger → g.L.Ledger.is_sound l.fn.ledger → g.L.Ledger.is_sound l.ledger;
   goes : g.L.Ledger.has_kept l.ledger → g.L.Ledger.is_sound l.fn.ledger → (old : Outside) →
-      GoesOn old (record { book = g.L.Ledger.book l.fn.ledger; told = g.L.Ledger.told l.fn.ledger; wires = g.N.Network.wire l.fn.network }) l.fn.self.last (held l.fn.self.opened) →
-      GoesOn old (record { book = g.L.Ledger.book l.ledger; told = g.L.Ledger.told l.ledger; wires = g.N.Network.wire l.network }) l.self.last (held l.self.opened);
+      GoesOn old (record { book = g.L.Ledger.book l.fn.ledger; told = g.L.Ledger.told l.fn.ledger; wires = g.N.Network.wire l.fn.network }) l.fn.self.last (held l.fn.self.opened) None →
+      GoesOn old (record { book = g.L.Ledger.book l.ledger; told = g.L.Ledger.told l.ledger; wires = g.N.Network.wire l.network }) l.self.last (held l.self.opened) None;
 }

@@ -1,13 +1,12 @@
-use Rattle.std.proofs.Common.{◌≡◌, ◌∙◌, Some, Ok, Err, refl, sym, ap, rules}
-use Rattle.std.specs.Prelude.{IsSome}
+use Rattle.std.proofs.Common.{◌≡◌, ◌∙◌, None, Some, Ok, Err, refl, sym, rules}
 use Rattle.std.specs.BTreeMap.{get}
 use Rattle.std.specs.Ordering.{nat_cmp}
 use Rattle.mq_server.specs.declared.connection.Progress.TheVariants.{Ended}
 use Rattle.mq_server.specs.declared.fault.ServeFault.TheVariants as ends
 use Rattle.mq_room.specs.declared.fault.RoomFault.TheVariants as faults
-use Rattle.mq_room.specs.Sessions.{EndsServing, GoesOn, Outside, held}
-use Rattle.mq_room.proofs.Maps.{behind_fewer, behind_turn, held_here, same_fewer}
-use Rattle.mq_room.proofs.Standing.{TurnOf, ends_either, ends_so, ends_turn, ends_wires, fewer, goes_closed, goes_last, goes_open, ok_not}
+use Rattle.mq_room.specs.Sessions.{GoesOn, Outside, held}
+use Rattle.mq_room.proofs.Maps.{held_beside, held_here, held_now, same_map}
+use Rattle.mq_room.proofs.Standing.{TurnOf, closed_turn, goes_last, goes_open, goes_so, goes_stop_last, ok_not, rewired, turn_closed}
 use Rattle.mq_room.proofs.Turning.{answered_room, answered_works, waits_room, waits_works}
 use Rattle.mq_room.proofs.room.Room.serve_one.Goals as goal
 
@@ -18,8 +17,7 @@ returns-in_default-clause-goes g c = λ k s old start.
     let now = c.get_mut.follows.lender-at-none in
     let o : Outside = record { book = g.L.Ledger.book c.args.ledger.now; told = g.L.Ledger.told c.args.ledger.now; wires = g.N.Network.wire c.args.network.now } in
     let last = c.args.self.now.last in
-    let goes = fewer old o o.wires last (held was) (held now) (λ n. refl) (same_fewer was now c.get_mut.follows.holds-at-none) start in
-    (goes, ends_so old o last (held now) faults.Store (Ok tt) (ok_not tt faults.Store) goes)
+    goes_so old o last (held now) faults.Store (Ok tt) (ok_not tt faults.Store) (rewired old o o.wires last (held was) (held now) None (λ n. refl) (same_map was now c.get_mut.follows.holds-at-none) start)
 
 -- it waits for its peer
 pub returns-in-Waits-clause-goes : goal.returns-in-Waits-clause-goes
@@ -36,9 +34,10 @@ returns-in-Waits-clause-goes g c = λ k s old start.
     let turn : TurnOf o mid number c.take_turns.result c.in-Some.«open».now.connection turned.connection =
     record { zone = e.same_zone; default = e.same_default; legal = g.met.L.Ledger.sound_is_legal c.args.ledger.now s; turn = e.turns k s; others_same = e.others } in
     let works = λ (is : c.take_turns.result ≡ Ended (Err ends.Store)). waits_works (sym c.in-Waits.is ∙ is) in
-    let goes = goes_open old o mid number last c.take_turns.result c.in-Some.«open».now.connection turned.connection (held was) (held now) start (held_here was number c.in-Some.«open».now found) turn c.more_exchanges.ensures.more
-    works (λ is. waits_room (sym c.in-Waits.is ∙ is)) (λ not. e.works not works) (behind_turn was now number turned ((c.get_mut.follows.holds turned).3 (search rules))) in
-    (goes, ends_so old mid last (held now) faults.Store (Ok tt) (ok_not tt faults.Store) goes)
+    let updates = (c.get_mut.follows.holds turned).3 (search rules) in
+    goes_so old mid last (held now) faults.Store (Ok tt) (ok_not tt faults.Store)
+    (goes_open old o mid number last c.take_turns.result c.in-Some.«open».now.connection turned.connection (held was) start (held_here was number c.in-Some.«open».now found) turn c.more_exchanges.ensures.more (held now)
+    works (λ is. waits_room (sym c.in-Waits.is ∙ is)) (λ not. e.works not works) (held_beside was now number (Some turned) updates) (held_now was now number (Some turned) updates))
 
 -- it may have more
 pub returns-in-Answered-clause-goes : goal.returns-in-Answered-clause-goes
@@ -51,16 +50,17 @@ returns-in-Answered-clause-goes g c = λ k s old start.
     let last = c.args.self.now.last in
     let o : Outside = record { book = g.L.Ledger.book c.args.ledger.now; told = g.L.Ledger.told c.args.ledger.now; wires = g.N.Network.wire c.args.network.now } in
     let mid : Outside = record { book = g.L.Ledger.book c.take_turns.new.ledger; told = g.L.Ledger.told c.take_turns.new.ledger; wires = g.N.Network.wire c.take_turns.new.network } in
-    let after : Outside = record { book = mid.book; told = mid.told; wires = g.N.Network.wire c.tell_again.new.network } in
+    let after : Outside = record { book = mid.book; told = mid.told; wires = g.N.Network.wire c.watch_again.new.network } in
     let found : Some c.in-Some.«open».now ≡ get nat_cmp was number = search rules in
     let turn : TurnOf o mid number c.take_turns.result c.in-Some.«open».now.connection turned.connection =
     record { zone = e.same_zone; default = e.same_default; legal = g.met.L.Ledger.sound_is_legal c.args.ledger.now s; turn = e.turns k s; others_same = e.others } in
     let works = λ (is : c.take_turns.result ≡ Ended (Err ends.Store)). answered_works (sym c.in-Answered.is ∙ is) in
-    let goes = goes_open old o mid number last c.take_turns.result c.in-Some.«open».now.connection turned.connection (held was) (held now) start (held_here was number c.in-Some.«open».now found) turn c.more_exchanges.ensures.more
-    works (λ is. answered_room (sym c.in-Answered.is ∙ is)) (λ not. e.works not works) (behind_turn was now number turned ((c.get_mut.follows.holds turned).3 (search rules))) in
-    let still = held c.tell_again.new.self.opened in
-    let on = goes_last old after last c.tell_again.new.self.last still c.tell_again.ensures.last (fewer old mid after.wires last (held now) still c.tell_again.ensures.same c.tell_again.ensures.fewer goes) in
-    (on, ends_so old after c.tell_again.new.self.last still faults.Store (Ok tt) (ok_not tt faults.Store) on)
+    let updates = (c.get_mut.follows.holds turned).3 (search rules) in
+    let goes = goes_open old o mid number last c.take_turns.result c.in-Some.«open».now.connection turned.connection (held was) start (held_here was number c.in-Some.«open».now found) turn c.more_exchanges.ensures.more (held now)
+    works (λ is. answered_room (sym c.in-Answered.is ∙ is)) (λ not. e.works not works) (held_beside was now number (Some turned) updates) (held_now was now number (Some turned) updates) in
+    let still = held c.watch_again.new.self.opened in
+    goes_so old after c.watch_again.new.self.last still faults.Store (Ok tt) (ok_not tt faults.Store)
+    (goes_last old after last c.watch_again.new.self.last still None c.watch_again.ensures.last (c.watch_again.ensures.goes old mid.book mid.told last None goes))
 
 -- it has ended
 pub returns-in-Ended-clause-goes : goal.returns-in-Ended-clause-goes
@@ -72,17 +72,19 @@ returns-in-Ended-clause-goes g c = λ k s old start.
     let now = c.get_mut.follows.lender turned in
     let number = c.args.number in
     let last = c.args.self.now.last in
+    let wires = g.N.Network.wire c.close.new.network in
     let o : Outside = record { book = g.L.Ledger.book c.args.ledger.now; told = g.L.Ledger.told c.args.ledger.now; wires = g.N.Network.wire c.args.network.now } in
     let mid : Outside = record { book = g.L.Ledger.book c.take_turns.new.ledger; told = g.L.Ledger.told c.take_turns.new.ledger; wires = g.N.Network.wire c.take_turns.new.network } in
-    let after : Outside = record { book = mid.book; told = mid.told; wires = g.N.Network.wire c.close.new.network } in
+    let after : Outside = record { book = mid.book; told = mid.told; wires = wires } in
     let found : Some c.in-Some.«open».now ≡ get nat_cmp was number = search rules in
     let here = held_here was number c.in-Some.«open».now found in
     let turn : TurnOf o mid number p c.in-Some.«open».now.connection turned.connection =
     record { zone = e.same_zone; default = e.same_default; legal = g.met.L.Ledger.sound_is_legal c.args.ledger.now s; turn = e.turns k s; others_same = e.others } in
     let still = held c.close.new.self.opened in
-    let behind = behind_fewer (held was) (held now) still number turned.connection (behind_turn was now number turned ((c.get_mut.follows.holds turned).3 (search rules))) c.close.ensures.fewer in
-    ends_either (GoesOn old after c.close.new.self.last still) (λ q. EndsServing old after faults.Store q) faults.Store c.end_of.result c.in-Ended.end p c.in-Ended.is c.end_of.ensures.ok c.end_of.ensures.store
-    (λ works. goes_last old after last c.close.new.self.last still c.close.ensures.last (fewer old mid after.wires last still still c.close.ensures.same (λ q d is. is)
-    (goes_closed old o mid number last p c.in-Some.«open».now.connection turned.connection (held was) still start here turn c.more_exchanges.ensures.more works c.close.ensures.gone behind)))
-    (λ q not goes. ends_so old after c.close.new.self.last still faults.Store q not goes)
-    (λ q failed so. ends_wires old mid after.wires faults.Store q c.close.ensures.same (ends_turn old o mid number last p c.in-Some.«open».now.connection turned.connection (held was) start here turn faults.Store q c.more_exchanges.ensures.more failed (e.store failed) so))
+    let updates = (c.get_mut.follows.holds turned).3 (search rules) in
+    let closes = c.close.ensures.closes in
+    let offers = closes.offers turned.connection (held_now was now number (Some turned) updates) in
+    goes_stop_last old after last c.close.new.self.last still faults.Store c.end_of.result c.close.ensures.last
+    (closed_turn old o after number last p c.in-Some.«open».now.connection offers.now (held was) still faults.Store c.end_of.result c.in-Ended.end start here
+    (turn_closed o mid wires number p c.in-Some.«open».now.connection turned.connection turn offers (λ n not. (closes.others n not).1)) c.more_exchanges.ensures.more c.in-Ended.is (λ failed. offers.end ∙ e.store failed)
+    c.end_of.ensures.ok c.end_of.ensures.store (λ n not. (closes.others n not).0 ∙ held_beside was now number (Some turned) updates n not) closes.gone offers.offered)
