@@ -6,6 +6,7 @@ mod fixtures;
 mod frame;
 mod ledger;
 mod link;
+mod room;
 mod server;
 mod serving;
 mod texts;

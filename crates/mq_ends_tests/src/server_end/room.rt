@@ -1,0 +1,206 @@
+//! Connections of a server that are open at once, over peers of the test's own.
+mod network;
+
+use crate::server_end::asserts::{assert_bytes, assert_that};
+use crate::server_end::fails_once::FailsOnce;
+use crate::server_end::fixtures::bytes_of;
+use crate::server_end::serving::ledger;
+use log::sink::Discard;
+use mq_ledger::{Ledger, LedgerFault};
+use mq_room::{RoomFault, serve_network};
+use network::{Peer, Peers, Ticking};
+use std::alloc::Global;
+use std::cell::Cell;
+use std::process::Abort;
+use std::test::Fail;
+use std::time::Duration;
+
+/// What a peer sends, piece by piece, where an empty one says that the others have their turn; how many bytes of replies
+/// it takes at a time, after so many refusals; and all that it has taken in the end.
+type Row<'a> = (&'a [&'a str], usize, u32, &'a str);
+
+/// Recipients reserved for the login `u` under the numbers 1 to 4.
+const FIRST: &str =
+    "0021 01 0161 0000000000000001 00000001 00000001 0000000000015180 0175 00000001";
+
+const SECOND: &str =
+    "0021 01 0161 0000000000000001 00000002 00000001 0000000000015180 0175 00000001";
+
+const THIRD: &str =
+    "0021 01 0161 0000000000000001 00000003 00000001 0000000000015180 0175 00000001";
+
+/// Its halves.
+const THIRD_BEGINS: &str = "0021 01 0161 0000000000000001 000000";
+
+const THIRD_ENDS: &str = "03 00000001 0000000000015180 0175 00000001";
+
+/// Half of a head.
+const HALF_HEAD: &str = "00";
+
+const AFTER_IT: &str =
+    "21 01 0161 0000000000000001 00000004 00000001 0000000000015180 0175 00000001";
+
+/// Each asks in a turn of its own, whatever comes of the others in between: the ledger takes 1, 2, 4 and 3, and 3 is one
+/// too many. Halves of frames wait for their ends.
+const IN_TURNS: &[Row<'_>] = &[
+    (
+        &[FIRST, "", THIRD_BEGINS, "", "", THIRD_ENDS],
+        usize::MAX,
+        0,
+        "0013 81 0161 0000000000000001 00000001 00000001 0017 82 0161 0000000000000001 00000003 00000003 00000003",
+    ),
+    (
+        &[HALF_HEAD, "", "", AFTER_IT],
+        usize::MAX,
+        0,
+        "0013 81 0161 0000000000000001 00000004 00000003",
+    ),
+    (
+        &["", SECOND],
+        5,
+        0,
+        "0013 81 0161 0000000000000001 00000002 00000002",
+    ),
+];
+
+/// A peer that takes its replies late, and one that takes none at all: the others get theirs.
+const REPLIES_WAIT: &[Row<'_>] = &[
+    (
+        &[FIRST, SECOND],
+        7,
+        3,
+        "0013 81 0161 0000000000000001 00000001 00000001 0013 81 0161 0000000000000001 00000002 00000003",
+    ),
+    (&[FIRST, THIRD], 7, u32::MAX, ""),
+    (
+        &["", THIRD, "0000"],
+        7,
+        1,
+        "0013 81 0161 0000000000000001 00000003 00000002 0001 8e",
+    ),
+];
+
+/// The second and the third of them at once.
+const SECOND_AND_THIRD: &str = "\
+    0021 01 0161 0000000000000001 00000002 00000001 0000000000015180 0175 00000001 \
+    0021 01 0161 0000000000000001 00000003 00000001 0000000000015180 0175 00000001";
+
+/// The store fails at the third request: the replies before it go out as far as their peers take them, and nothing that
+/// comes after it is answered.
+const STORE_FAILS: &[Row<'_>] = &[
+    (
+        &[FIRST, "", "", SECOND],
+        usize::MAX,
+        0,
+        "0013 81 0161 0000000000000001 00000001 00000001",
+    ),
+    (
+        &["", SECOND_AND_THIRD],
+        20,
+        0,
+        "0013 81 0161 0000000000000001 00000002 000000",
+    ),
+    (&["", FIRST], usize::MAX, 0, ""),
+];
+
+/// So do those that wait for another peer, which takes none at two writes and all at the third.
+const REPLIES_WAIT_AS_IT_FAILS: &[Row<'_>] = &[
+    (
+        &[FIRST],
+        usize::MAX,
+        2,
+        "0013 81 0161 0000000000000001 00000001 00000001",
+    ),
+    (
+        &["", SECOND_AND_THIRD],
+        usize::MAX,
+        0,
+        "0013 81 0161 0000000000000001 00000002 00000002",
+    ),
+];
+
+/// A peer of a row.
+fn peer_of(rt: &impl Abort, alloc: Global, row: &Row<'_>) -> Result<Peer, Fail> {
+    let mut pieces = Vec::new(alloc);
+    for piece in row.0 {
+        pieces.push(bytes_of(rt, alloc, piece))?;
+    }
+    Ok(Peer {
+        pieces,
+        sent: 0,
+        takes: row.1,
+        refusals: row.2,
+        written: Vec::new(alloc),
+        is_open: true,
+    })
+}
+
+/// The network of these peers.
+fn peers_of(rt: &impl Abort, alloc: Global, rows: &[Row<'_>]) -> Result<Peers, Fail> {
+    let mut peers = Vec::new(alloc);
+    for row in rows {
+        peers.push(peer_of(rt, alloc, row)?)?;
+    }
+    Ok(Peers {
+        address: "127.0.0.1:7025".parse()?,
+        peers,
+        accepted: 0,
+    })
+}
+
+/// Serves the peers of these rows: it ends so, each has taken just what it should, and each connection is closed where
+/// all are served.
+fn check_rows(
+    rt: &impl Abort,
+    alloc: Global,
+    ledger: &mut impl Ledger,
+    rows: &[Row<'_>],
+    end: Result<(), RoomFault>,
+) -> Result<(), Fail> {
+    let mut network = peers_of(rt, alloc, rows)?;
+    let clock = Ticking(Cell::new(0));
+    let timeout = Duration::from_millis(1_000);
+    let ended = serve_network(&clock, &Discard, alloc, &mut network, timeout, ledger);
+    assert_that(rt, ended == end, "how it ends");
+    for (peer, row) in network.peers.iter().zip(rows) {
+        let wanted = bytes_of(rt, alloc, row.3);
+        assert_bytes(rt, &peer.written, &wanted, row.3);
+        assert_that(rt, end.is_err() || !peer.is_open, "a connection is closed");
+    }
+    Ok(())
+}
+
+#[test]
+fn connections_in_turns(rt: HostRuntime) -> Result<(), Fail> {
+    let alloc = rt.alloc();
+    check_rows(&rt, alloc, &mut ledger(&rt, alloc, 3), IN_TURNS, Ok(()))
+}
+
+#[test]
+fn replies_that_wait(rt: HostRuntime) -> Result<(), Fail> {
+    let alloc = rt.alloc();
+    check_rows(&rt, alloc, &mut ledger(&rt, alloc, 3), REPLIES_WAIT, Ok(()))
+}
+
+#[test]
+fn a_store_that_fails(rt: HostRuntime) -> Result<(), Fail> {
+    let alloc = rt.alloc();
+    let mut failing = FailsOnce {
+        ledger: ledger(&rt, alloc, 3),
+        calls_before: 2,
+        fault: LedgerFault::Store,
+    };
+    check_rows(&rt, alloc, &mut failing, STORE_FAILS, Err(RoomFault::Store))
+}
+
+#[test]
+fn replies_that_wait_as_a_store_fails(rt: HostRuntime) -> Result<(), Fail> {
+    let alloc = rt.alloc();
+    let mut failing = FailsOnce {
+        ledger: ledger(&rt, alloc, 3),
+        calls_before: 2,
+        fault: LedgerFault::Store,
+    };
+    let rows = REPLIES_WAIT_AS_IT_FAILS;
+    check_rows(&rt, alloc, &mut failing, rows, Err(RoomFault::Store))
+}
