@@ -1,10 +1,12 @@
 -- What the words of a command line may ask for.
 use Rattle.std.specs.Prelude.{◌≤◌, IfSome, ⊤}
-use Rattle.mq_frame.specs.Range.{IsRun, IsDay, IsAmount, IsWithin}
+use Rattle.mq_frame.specs.Range.{IsRun, IsDay, IsAmount, IsMoment, IsWithin}
 use Rattle.mq_arguments.specs.declared.ReplayArguments.{ReplayArguments}
 use Rattle.mq_arguments.specs.declared.LimitArguments.{LimitArguments}
+use Rattle.mq_arguments.specs.declared.ResumeArguments.{ResumeArguments}
 use Rattle.mq_arguments.specs.declared.Arguments.{Arguments}
-use Rattle.mq_arguments.specs.declared.Arguments.TheVariants.{Replay, Filter, Server, Limit, Retire, Report, Audit}
+use Rattle.mq_arguments.specs.declared.Arguments.TheVariants.{Replay, Filter, Server, Limit, Retire, Stop, Resume, Day}
+use Rattle.mq_arguments.specs.declared.Arguments.TheVariants.{Report, Audit}
 
 -- a limit of 0 to 1,000,000, and at most 1,439 minutes either way
 pub record IsReplayArguments (given : ReplayArguments) : Type 0 where
@@ -17,12 +19,19 @@ pub record IsLimitArguments (given : LimitArguments) : Type 0 where
   pub cap : IsAmount given.cap
   pub run : IfSome given.run IsRun
 
+pub record IsResumeArguments (given : ResumeArguments) : Type 0 where
+  pub day : IsWithin 0 376199 given.day
+  pub cap : IsAmount given.cap
+
 -- the numbers are within their ranges
 abbrev pub IsArguments : Arguments → Type 0
 IsArguments (Replay given) = IsReplayArguments given
 IsArguments (Filter given) = IfSome given.run IsRun
 IsArguments (Server given) = IsWithin 1 1000000 given.connections
 IsArguments (Limit given) = IsLimitArguments given
+IsArguments (Stop given) = IsWithin 0 376199 given.day
+IsArguments (Resume given) = IsResumeArguments given
+IsArguments (Day given) = IfSome given.at IsMoment
 IsArguments (Retire given) = IfSome given.run IsRun
 IsArguments (Report given) = IsDay given.day
 IsArguments (Audit given) = ⊤

@@ -43,18 +43,58 @@ pub struct AuditArguments<'a> {
     pub config: &'a str,
 }
 
+/// How a login is named.
+#[derive(Clone, Copy, Debug, PartialEq)]
+pub enum LoginArgument<'a> {
+    /// As smtpd reports it.
+    Reported(&'a str),
+    /// As a report prints it.
+    Printed(&'a str),
+}
+
 /// What `limit` is given.
 #[derive(Clone, Copy, Debug, PartialEq)]
 pub struct LimitArguments<'a> {
     pub server: &'a str,
     pub host: &'a str,
-    pub login: &'a str,
+    pub login: LoginArgument<'a>,
     /// The day number from which on the limit governs, 0 to 376,200.
     pub from: u32,
     /// Recipients a day, 0 to 1,000,000.
     pub cap: u32,
     /// The number of the run, or the clock's.
     pub run: Option<u64>,
+}
+
+/// What `stop` is given.
+#[derive(Clone, Copy, Debug, PartialEq)]
+pub struct StopArguments<'a> {
+    pub server: &'a str,
+    pub host: &'a str,
+    pub login: LoginArgument<'a>,
+    /// The day number from which on the login has nothing more, 0 to 376,199.
+    pub day: u32,
+}
+
+/// What `resume` is given.
+#[derive(Clone, Copy, Debug, PartialEq)]
+pub struct ResumeArguments<'a> {
+    pub server: &'a str,
+    pub host: &'a str,
+    pub login: LoginArgument<'a>,
+    /// The day number from which on the login has more again, 0 to 376,199.
+    pub day: u32,
+    /// How many recipients more it has on that day, and on each later day, 0 to 1,000,000.
+    pub cap: u32,
+}
+
+/// What `day` is given.
+#[derive(Clone, Copy, Debug, PartialEq)]
+pub struct DayArguments<'a> {
+    /// The file of the server's settings.
+    pub config: &'a str,
+    /// The second since 1970-01-01T00:00:00Z whose day is asked for, 86,400 to 32,503,680,000, or the clock's.
+    pub at: Option<u64>,
 }
 
 /// What `retire` is given.
@@ -74,7 +114,7 @@ pub struct ReportArguments<'a> {
     /// The day number that is reported, 0 to 376,200.
     pub day: u32,
     /// The one login that is reported, or all.
-    pub login: Option<&'a str>,
+    pub login: Option<LoginArgument<'a>>,
 }
 
 /// What the words ask for.
@@ -85,6 +125,9 @@ pub enum Arguments<'a> {
     Server(ServerArguments<'a>),
     Limit(LimitArguments<'a>),
     Retire(RetireArguments<'a>),
+    Stop(StopArguments<'a>),
+    Resume(ResumeArguments<'a>),
+    Day(DayArguments<'a>),
     Report(ReportArguments<'a>),
     Audit(AuditArguments<'a>),
 }

@@ -1,5 +1,5 @@
 -- Which replies answer which questions, and what they say.
-use Rattle.std.proofs.Common.{◌≡◌, ℕ, List, true, Option, Result, Ok, Err, subst, subst₂, inr}
+use Rattle.std.proofs.Common.{◌≡◌, ℕ, List, true, Option, Result, Ok, Err, subst₂, inr}
 use Rattle.mq_frame.specs.declared.message.Request.{Request}
 use Rattle.mq_frame.specs.declared.message.Request.TheVariants as asks
 use Rattle.mq_frame.specs.declared.message.Reply.{Reply}

@@ -1,7 +1,10 @@
+pub mod AllowSteps
 pub mod AnswerSteps
 pub mod AskSteps
 pub mod EndSteps
 pub mod Fronts
 pub mod LineSteps
+pub mod OrderSteps
 pub mod PageSteps
+pub mod PrintedSteps
 pub mod ReplaySteps

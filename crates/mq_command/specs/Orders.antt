@@ -1,7 +1,9 @@
 -- What an administrator's order brings: a limit of a login, or that a host's runs are given up.
-use Rattle.std.specs.Prelude.{◌≡◌, ◌⊎◌, ℕ, List, Option, Result, Ok, Err, codes, ⊤}
+use Rattle.std.specs.Prelude.{◌≡◌, ◌⊎◌, ◌<◌, ◌+◌, ◌*◌, ℕ, zero, suc, List, Bool, true, false, Option, Result, Ok, Err, codes}
+use Rattle.std.specs.Prelude.{⊤}
 use Rattle.std.specs.Io.KnownBytes.{Appends, Keeps}
 use Rattle.mq_frame.specs.Range.{IsRequest}
+use Rattle.mq_frame.specs.declared.format.TheConstants.{LAST_RUN}
 use Rattle.mq_frame.specs.declared.message.Request.{Request}
 use Rattle.mq_frame.specs.declared.message.Request.TheVariants as asks
 use Rattle.mq_frame.specs.declared.message.Reply.{Reply}
@@ -67,9 +69,55 @@ abbrev pub Orders : Request → Option (List Told) → Option (List Told) → Re
 Orders request told told' (Err (Unanswered fault)) = Asks request told told' (Err fault)
 Orders request told told' ended = (reply : Reply) × IsAnswered request reply told told' × Says request reply ended
 
--- What telling it prints: the word where all is done, and nothing where it isn't. The status is 0 where the word is
--- printed whole, else 1.
+-- the number of the run that many later
+abbrev pub later_id : ℕ → Id → Id
+later_id runs id = record { host = id.host; run = id.run + runs; seq = id.seq }
+
+-- an order under the number of the run that many later
+abbrev pub later : ℕ → Request → Request
+later runs (asks.Limit id from_day cap login) = asks.Limit (later_id runs id) from_day cap login
+later runs (asks.Retire id) = asks.Retire (later_id runs id)
+later runs request = request
+
+-- the run of an order's number
+abbrev pub run_of : Request → ℕ
+run_of (asks.Limit id from_day cap login) = id.run
+run_of (asks.Retire id) = id.run
+run_of request = 0
+
+-- whether the number of an order was used with another request
+abbrev pub is_taken : Result (Unit {0}) OrderFault → Bool
+is_taken (Err OtherLimit) = true
+is_taken (Err OtherRequest) = true
+is_taken _ = false
+
+-- how many runs after its own an order's number is where so many were used: 0, 1, 3, 7 and so on
+abbrev pub ahead : ℕ → ℕ
+ahead zero = 0
+ahead (suc taken) = ahead taken * 2 + 1
+
+-- an order was sent under so many numbers that were used with other requests
+pub data AreTaken (request : Request) (start : Option (List Told)) : ℕ → Option (List Told) → Type 0 where
+  no_number : AreTaken request start 0 start
+  number : (count : ℕ) (mid new : Option (List Told)) (sent : Result (Unit {0}) OrderFault)
+      → AreTaken request start count mid → Orders (later (ahead count) request) mid new sent → is_taken sent ≡ true
+      → AreTaken request start (count + 1) new
+
+-- What sending an order under the first number that isn't used leads to, of 16 in all: there is none where all are used,
+-- or where there is no further run.
+pub record OrdersFresh (request : Request) (old new : Option (List Told)) (sent : Result (Unit {0}) OrderFault) : Type 0 where
+  pub count : ℕ
+  pub mid : Option (List Told)
+  pub few : count < 16
+  pub taken : AreTaken request old count mid
+  pub last : Orders (later (ahead count) request) mid new sent
+  pub fresh : is_taken sent ≡ true → (count ≡ 15) ⊎ (LAST_RUN < run_of (later (ahead count) request) + (ahead count + 1))
+
+-- What printing a line leads to: status 0 where it is printed whole, else 1.
+abbrev pub PrintsLine : List ℕ → Option (List ℕ) → Option (List ℕ) → ℕ → Type 0
+PrintsLine line old new status = ((status ≡ 0) × Appends old new line) ⊎ ((status ≡ 1) × AppendsFront old new line)
+
+-- What telling it prints: a line where all is done, and nothing where it isn't; then the status is 1.
 abbrev pub Prints : {X : Type 0} → (X → List ℕ) → Option (List ℕ) → Option (List ℕ) → Result X OrderFault → ℕ → Type 0
-Prints word old new (Ok done) status =
-    ((status ≡ 0) × Appends old new (word done)) ⊎ ((status ≡ 1) × AppendsFront old new (word done))
-Prints word old new (Err fault) status = (status ≡ 1) × Keeps old new
+Prints line old new (Ok done) status = PrintsLine (line done) old new status
+Prints line old new (Err fault) status = (status ≡ 1) × Keeps old new

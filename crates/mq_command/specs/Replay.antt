@@ -1,5 +1,5 @@
 -- What a replay of connections over a new ledger writes, and how it ends.
-use Rattle.std.specs.Prelude.{◌≡◌, ◌<◌, ℕ, ℤ, List, [], map, length, Option, Some, None, option_map, Result, Ok, Err}
+use Rattle.std.specs.Prelude.{◌≡◌, ◌<◌, ℕ, List, [], map, length, Option, Some, None, option_map, Result, Ok, Err}
 use Rattle.std.specs.List.{filter_map, enumerate_from, slice_get}
 use Rattle.std.specs.Io.KnownBytes.{Appends, Keeps}
 use Rattle.mq_ledger.specs.Legal.{Book}

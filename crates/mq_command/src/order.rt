@@ -1,16 +1,21 @@
 //! `limit` and `retire`: what an administrator orders, a limit of a login or that a host's runs are given up.
-ghost use Rattle.std.specs.Prelude.{◌≡◌, Result as AResult};
-ghost use Rattle.mq_command.specs.Orders.{AnswersOrder, IsLimit, IsOrder, IsRetire, Orders, Prints, Says, conflict, word};
+ghost use Rattle.std.specs.Prelude.{◌≡◌, ◌<◌, ◌≤◌, ◌+◌, true, false, Result as AResult};
+ghost use Rattle.mq_frame.specs.declared.format.TheConstants.{LAST_RUN};
+ghost use Rattle.mq_command.specs.Orders.{AnswersOrder, IsLimit, IsOrder, IsRetire, Orders, OrdersFresh, Prints, Says, conflict};
+ghost use Rattle.mq_command.specs.Orders.{is_taken, later, later_id, run_of, word};
 ghost use Rattle.mq_command.specs.declared.order.OrderFault.{OrderFault as AnOrderFault};
 
 use crate::ask::{AskFault, ask};
-use crate::output::{OutputFault, write_whole};
-use mq_frame::{Reply, Request};
+use crate::telling::tell;
+use mq_frame::format::LAST_RUN;
+use mq_frame::{Id, Reply, Request};
 use mq_link::Link;
 use std::alloc::Global;
-use std::fmt;
 use std::io::Write;
 use thiserror::Error;
+
+/// How many numbers an order is sent under, where those of its runs may be used already.
+pub const NUMBERS: u32 = 16;
 
 /// Why an order isn't known to be carried out.
 #[derive(Clone, Copy, Debug, PartialEq, Error)]
@@ -76,34 +81,59 @@ fn order<L: Link>(alloc: Global, link: &mut L, request: &Request) -> Result<(), 
     }
 }
 
-/// Says on `errors` why something isn't done. The result is the exit status.
-fn say<E: Write, F: fmt::Display>(errors: &mut E, fault: &F) -> u8
-    ensures { result ≡ 1 }
+/// Whether the number of an order was used with another request.
+fn is_taken(sent: Result<(), OrderFault>) -> bool
+    ensures { result ≡ is_taken sent }
 {
-    let _ = writeln!(errors, "mailquota: {fault}");
-    1
+    matches!(sent, Err(OrderFault::OtherLimit | OrderFault::OtherRequest))
 }
 
-/// Prints the word of an order that was carried out, or says on `errors` why it wasn't. The result is the exit status,
-/// 0 or 1.
-fn tell<W: Write, E: Write>(
-    sent: Result<(), OrderFault>,
-    word: &str,
-    output: &mut W,
-    errors: &mut E,
-) -> u8
-    ensures prints { Prints (λ _. word.now) (W.contents output.old) (W.contents output.new) sent result }
-    ensures quiet { result ≡ 0 → errors.new ≡ errors.old }
+/// Moves a number on by so many runs, where there is such a run.
+fn move_on(id: &mut Id, runs: u64) -> bool
+    ensures next { result ≡ true → (id.old.run ≤ LAST_RUN → id.old.run + runs ≤ LAST_RUN)
+        × (id.new ≡ later_id runs id.old) }
+    ensures last { result ≡ false → LAST_RUN < id.old.run + runs }
 {
-    match sent {
-        Ok(()) => {
-            if write_whole(output, word.as_bytes()).is_err() || output.flush().is_err() {
-                return say(errors, &OutputFault::Write);
-            }
-            0
-        }
-        Err(fault) => say(errors, &fault),
+    if LAST_RUN.saturating_sub(id.run) < runs {
+        return false;
     }
+    id.run += runs;
+    true
+}
+
+/// Puts an order under the number of the run that many later, where there is one.
+fn renumber(request: &mut Request, runs: u64) -> bool
+    requires { IsOrder request.old }
+    ensures next { result ≡ true → IsOrder request.new × (request.new ≡ later runs request.old) }
+    ensures last { result ≡ false → LAST_RUN < run_of request.old + runs }
+{
+    match request {
+        Request::Limit { id, .. } => move_on(id, runs),
+        Request::Retire { id } => move_on(id, runs),
+        _ => unreachable!(),
+    }
+}
+
+/// Sends an order under its number and, where that is used with another request, under those of the runs 1, 3, 7 and so
+/// on after it, up to `NUMBERS` in all. So a number is found soon that isn't used, however many orders a millisecond
+/// others send.
+pub fn order_fresh<L: Link>(
+    alloc: Global,
+    link: &mut L,
+    request: &mut Request,
+) -> Result<(), OrderFault>
+    requires { IsOrder request.old }
+    ensures { OrdersFresh request.old (L.told link.old) (L.told link.new) result }
+{
+    let mut ahead = 0;
+    for _taken in 0..NUMBERS - 1 {
+        let sent = order(alloc, link, request);
+        if !is_taken(sent) || !renumber(request, ahead + 1) {
+            return sent;
+        }
+        ahead = ahead * 2 + 1;
+    }
+    order(alloc, link, request)
 }
 
 /// Sends an order up to three times, and tells what came of it. The result is the exit status, 0 or 1.
@@ -162,4 +192,27 @@ pub fn run_retire<L: Link, W: Write, E: Write>(
     ensures quiet { result ≡ 0 → errors.new ≡ errors.old }
 {
     run_order(alloc, link, request, output, errors)
+}
+
+/// Sends an order up to three times under its number and, where that is used with another request, under those of the
+/// runs 1, 3, 7 and so on after it, up to `NUMBERS` in all. It prints the order's word on `output` where it is carried
+/// out, or says on `errors` why it isn't. The result is the exit status, 0 or 1.
+///
+/// The request is a limit or a retire whose fields are in range.
+pub fn run_fresh<L: Link, W: Write, E: Write>(
+    alloc: Global,
+    link: &mut L,
+    mut request: Request,
+    output: &mut W,
+    errors: &mut E,
+) -> u8
+    requires { IsOrder request }
+    ensures orders { (sent : AResult (Unit {0}) AnOrderFault)
+        × OrdersFresh request (L.told link.old) (L.told link.new) sent
+        × Prints (λ _. word request) (W.contents output.old) (W.contents output.new) sent result }
+    ensures quiet { result ≡ 0 → errors.new ≡ errors.old }
+{
+    let word = word(&request);
+    let sent = order_fresh(alloc, link, &mut request);
+    tell(sent, word, output, errors)
 }

@@ -1,13 +1,13 @@
 -- How a subcommand ends where a word of it is at fault.
 use Rattle.std.proofs.Common.{◌≡◌, ℕ, List, Option, None, Some, Result, Ok, Err, refl, sym, ap, ◌∙◌}
-use Rattle.std.specs.Prelude.{IfSome}
+use Rattle.std.specs.Prelude.{IfSome, IsErrAnd}
 use Rattle.std.specs.Borrow.{Bor}
-use Rattle.mq_frame.specs.Range.{IsLogin}
 use Rattle.mq_ledger.specs.declared.zone.Zone.{Zone}
-use Rattle.mq_program.specs.Refusals.{IsRuleAlone, IsZoneOf, Refuses}
+use Rattle.mq_program.specs.Refusals.{IsRuleAlone, IsZoneOf, NamesLogin, OrderRefuses, Refuses}
 use Rattle.mq_program.specs.Faults.{fault_status}
+use Rattle.mq_arguments.specs.declared.LoginArgument.{LoginArgument}
 use Rattle.mq_arguments.specs.declared.Arguments.{Arguments}
-use Rattle.mq_arguments.specs.declared.Arguments.TheVariants.{Replay, Filter, Server, Limit, Retire, Report, Audit}
+use Rattle.mq_arguments.specs.declared.Arguments.TheVariants.{Replay, Filter, Server, Limit, Stop, Resume, Day, Retire, Report, Audit}
 use Rattle.mq_program.specs.declared.fault.ProgramFault.{ProgramFault}
 use Rattle.mq_program.specs.declared.fault.ProgramFault.TheVariants.{Host, Login, Address, Rule}
 
@@ -17,10 +17,27 @@ status_in (Ok status) = status
 status_in (Err fault) = fault_status fault
 
 -- what follows for a login that is no login
-for_login : (login : Option (Bor (List ℕ))) (A B : Type 0) → (A → B) → IfSome login (λ text. ¬ IsLogin text.now → A)
-    → IfSome login (λ text. ¬ IsLogin text.now → B)
+for_login : (login : Option LoginArgument) (A B : Type 0) → (A → B) → IfSome login (λ l. ¬ NamesLogin l → A)
+    → IfSome login (λ l. ¬ NamesLogin l → B)
 for_login None A B step given = given
 for_login (Some text) A B step given = λ no. step (given no)
+
+-- the same for a host, a login and an address
+for_order : (host : List ℕ) (login : LoginArgument) (server : List ℕ) (A B : ProgramFault → Type 0) → ((fault : ProgramFault) → A fault → B fault)
+    → OrderRefuses host login server A → OrderRefuses host login server B
+for_order host login server A B step refuses = record {
+  bad_host = λ no. step Host (refuses.bad_host no);
+  bad_login = λ is no. step Login (refuses.bad_login is no);
+  bad_address = λ is names no. step Address (refuses.bad_address is names no);
+}
+
+-- an order ends by the fault of its words
+pub order_refused : {X : Type 0} (host : List ℕ) (login : LoginArgument) (server : List ℕ) (checked : Result X ProgramFault) (fault : ProgramFault)
+    (ended : Result ℕ ProgramFault) → checked ≡ Err fault → IsErrAnd ended (λ f. f ≡ fault) → OrderRefuses host login server (λ f. checked ≡ Err f)
+    → OrderRefuses host login server (λ f. ended ≡ Err f)
+order_refused host login server checked fault (Ok status) was is refuses = absurd is
+order_refused host login server checked fault (Err other) was is refuses =
+    for_order host login server (λ f. checked ≡ Err f) (λ f. Err other ≡ Err f) (λ f e. let same = sym was ∙ e in cc) refuses
 
 -- what follows for a rule that is at fault
 for_rule : (rule : Option (Bor (List ℕ))) (east west : ℕ) (A B : Type 0) → (A → B) → IfSome rule (λ text. ¬ IsRuleAlone east west text.now → A)
@@ -41,11 +58,10 @@ for_refusals (Replay given) A B step refuses = for_rule given.rule given.east gi
 for_refusals (Filter given) A B step refuses = refuses
 for_refusals (Server given) A B step refuses = refuses
 for_refusals (Audit given) A B step refuses = refuses
-for_refusals (Limit given) A B step refuses = record {
-  host = λ no. step Host (refuses.host no);
-  login = λ host no. step Login (refuses.login host no);
-  address = λ host login no. step Address (refuses.address host login no);
-}
+for_refusals (Day given) A B step refuses = refuses
+for_refusals (Limit given) A B step refuses = for_order given.host.now given.login given.server.now A B step refuses
+for_refusals (Stop given) A B step refuses = for_order given.host.now given.login given.server.now A B step refuses
+for_refusals (Resume given) A B step refuses = for_order given.host.now given.login given.server.now A B step refuses
 for_refusals (Retire given) A B step refuses = record {
   host = λ no. step Host (refuses.host no);
   address = λ host no. step Address (refuses.address host no);
@@ -60,3 +76,9 @@ pub ends_by_status : (given : Arguments) (ended : Result ℕ ProgramFault) (faul
     → Refuses given (λ other. ended ≡ Err other) → Refuses given (λ other. status ≡ fault_status other)
 ends_by_status given ended fault status is same refuses =
     for_refusals given (λ other. ended ≡ Err other) (λ other. status ≡ fault_status other) (λ other e. same ∙ ap status_in (sym is ∙ e)) refuses
+
+-- the status is that of what was done
+pub ends_well : (given : Arguments) (ended : Result ℕ ProgramFault) (status : ℕ) → ended ≡ Ok status → Refuses given (λ other. ended ≡ Err other)
+    → Refuses given (λ other. status ≡ fault_status other)
+ends_well given ended status is refuses =
+    for_refusals given (λ other. ended ≡ Err other) (λ other. status ≡ fault_status other) (λ other e. ap status_in (sym is ∙ e)) refuses

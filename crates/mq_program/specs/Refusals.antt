@@ -1,5 +1,5 @@
 -- What is refused of the words of a command line and of a filter's and a server's settings.
-use Rattle.std.specs.Prelude.{◌≡◌, ℕ, List, pos, ◌-ℤ◌, Option, None, Some, Result, Ok, IfSome, MatchResult, ⊤}
+use Rattle.std.specs.Prelude.{◌≡◌, ℕ, List, pos, ◌-ℤ◌, Option, None, Some, Result, Ok, IfSome, IsSomeAnd, MatchResult, ⊤}
 use Rattle.std.specs.Borrow.{Bor}
 use Rattle.std.specs.Net.Grammar.{IsSocketText}
 use Rattle.std.specs.declared.net.SocketAddr.{SocketAddr}
@@ -7,11 +7,13 @@ use Rattle.mq_frame.specs.Range.{IsHost, IsLogin, IsAmount, IsWithin}
 use Rattle.mq_ledger.specs.declared.zone.Zone.{Zone}
 use Rattle.mq_ledger.specs.Day.{ByOffset, ByRule, IsRule}
 use Rattle.mq_arguments.specs.declared.ReplayArguments.{ReplayArguments}
-use Rattle.mq_arguments.specs.declared.LimitArguments.{LimitArguments}
+use Rattle.mq_arguments.specs.declared.LoginArgument.{LoginArgument}
+use Rattle.mq_arguments.specs.declared.LoginArgument.TheVariants.{Reported, Printed}
 use Rattle.mq_arguments.specs.declared.RetireArguments.{RetireArguments}
 use Rattle.mq_arguments.specs.declared.ReportArguments.{ReportArguments}
 use Rattle.mq_arguments.specs.declared.Arguments.{Arguments}
-use Rattle.mq_arguments.specs.declared.Arguments.TheVariants.{Replay, Limit, Retire, Report}
+use Rattle.mq_arguments.specs.declared.Arguments.TheVariants.{Replay, Limit, Stop, Resume, Retire, Report}
+use Rattle.mq_command.specs.Printed.{IsLoginText, IsTextOf}
 use Rattle.mq_program.specs.declared.fault.ProgramFault.{ProgramFault}
 use Rattle.mq_program.specs.declared.fault.ProgramFault.TheVariants.{Host, Login, Address, Rule}
 use Rattle.mq_settings.specs.declared.settings.FilterSettings.{FilterSettings}
@@ -30,11 +32,27 @@ pub record CanAsk (settings : FilterSettings) : Type 0 where
 abbrev pub IsNoAddress : List ℕ → Type 0
 IsNoAddress text = (address : SocketAddr) → ¬ IsSocketText text address
 
--- how `limit` ends where a word of it is at fault: the host goes first, then the login, then the address
-pub record LimitRefuses (given : LimitArguments) (EndsBy : ProgramFault → Type 0) : Type 0 where
-  pub host : ¬ IsHost given.host.now → EndsBy Host
-  pub login : IsHost given.host.now → ¬ IsLogin given.login.now → EndsBy Login
-  pub address : IsHost given.host.now → IsLogin given.login.now → IsNoAddress given.server.now → EndsBy Address
+-- the words name this login
+abbrev pub Names : LoginArgument → List ℕ → Type 0
+Names (Reported text) login = login ≡ text.now
+Names (Printed text) login = IsTextOf text.now login
+
+-- the words name a login
+abbrev pub NamesLogin : LoginArgument → Type 0
+NamesLogin (Reported text) = IsLogin text.now
+NamesLogin (Printed text) = IsLoginText text.now
+
+-- the one login that the words name, or all where they name none
+abbrev pub NamesOneOrAll : Option LoginArgument → Option (List ℕ) → Type 0
+NamesOneOrAll None found = found ≡ None
+NamesOneOrAll (Some given) found = IsSomeAnd found (Names given)
+
+-- how an order about a login ends where a word of it is at fault: the host goes first, then the login, then the address
+pub record OrderRefuses (host : List ℕ) (login : LoginArgument) (server : List ℕ) (EndsBy : ProgramFault → Type 0)
+    : Type 0 where
+  pub bad_host : ¬ IsHost host → EndsBy Host
+  pub bad_login : IsHost host → ¬ NamesLogin login → EndsBy Login
+  pub bad_address : IsHost host → NamesLogin login → IsNoAddress server → EndsBy Address
 
 -- how `retire` ends where a word of it is at fault: the host goes before the address
 pub record RetireRefuses (given : RetireArguments) (EndsBy : ProgramFault → Type 0) : Type 0 where
@@ -43,8 +61,8 @@ pub record RetireRefuses (given : RetireArguments) (EndsBy : ProgramFault → Ty
 
 -- how `report` ends where a word of it is at fault: the login goes before the address
 pub record ReportRefuses (given : ReportArguments) (EndsBy : ProgramFault → Type 0) : Type 0 where
-  pub login : IfSome given.login (λ login. ¬ IsLogin login.now → EndsBy Login)
-  pub address : IfSome given.login (λ login. IsLogin login.now) → IsNoAddress given.server.now → EndsBy Address
+  pub login : IfSome given.login (λ login. ¬ NamesLogin login → EndsBy Login)
+  pub address : IfSome given.login NamesLogin → IsNoAddress given.server.now → EndsBy Address
 
 -- a zone rule, and no minutes beside it
 pub record IsRuleAlone (east west : ℕ) (text : List ℕ) : Type 0 where
@@ -70,7 +88,9 @@ ReplayRefuses given EndsBy = IfSome given.rule (λ text. ¬ IsRuleAlone given.ea
 -- how a subcommand ends where a word of it is at fault
 abbrev pub Refuses : Arguments → (ProgramFault → Type 0) → Type 0
 Refuses (Replay given) EndsBy = ReplayRefuses given EndsBy
-Refuses (Limit given) EndsBy = LimitRefuses given EndsBy
+Refuses (Limit given) EndsBy = OrderRefuses given.host.now given.login given.server.now EndsBy
+Refuses (Stop given) EndsBy = OrderRefuses given.host.now given.login given.server.now EndsBy
+Refuses (Resume given) EndsBy = OrderRefuses given.host.now given.login given.server.now EndsBy
 Refuses (Retire given) EndsBy = RetireRefuses given EndsBy
 Refuses (Report given) EndsBy = ReportRefuses given EndsBy
 Refuses _ EndsBy = ⊤

@@ -1,16 +1,19 @@
 //! What an administrator asks of the server.
-ghost use Rattle.std.specs.Prelude.{◌≡◌, IfOk, MatchResult};
+ghost use Rattle.std.specs.Prelude.{◌≡◌, Err, IfErr, IfOk, MatchBool, MatchResult};
 ghost use Rattle.std.specs.Net.Grammar.{IsSocketText};
-ghost use Rattle.mq_program.specs.Refusals.{IsNoAddress};
+ghost use Rattle.mq_frame.specs.Range.{IsHost, IsLogin};
+ghost use Rattle.mq_program.specs.Refusals.{IsNoAddress, Names, NamesLogin, OrderRefuses};
 
 pub mod limit;
 pub mod report;
 pub mod retire;
+pub mod stop;
 
 use crate::fault::ProgramFault;
 use log::Log;
-use mq_command::TRIES;
-use mq_frame::{Host, Id};
+use mq_arguments::LoginArgument;
+use mq_command::{TRIES, is_login_text, login_of_text};
+use mq_frame::{Host, Id, Login, is_host, is_login};
 use mq_tcp::{Connector, LoggedLink, TcpLink};
 use std::alloc::{AllocError, Global};
 use std::net::{Net, SocketAddr};
@@ -29,6 +32,47 @@ fn address_of(text: &str) -> Result<SocketAddr, ProgramFault>
         Ok(address) => Ok(address),
         Err(_) => Err(ProgramFault::Address),
     }
+}
+
+/// Whether words name a login.
+fn names_login(given: LoginArgument<'_>) -> bool
+    ensures { MatchBool result (NamesLogin given.entry) (¬ NamesLogin given.entry) }
+{
+    match given {
+        LoginArgument::Reported(text) => is_login(text.as_bytes()),
+        LoginArgument::Printed(text) => is_login_text(text),
+    }
+}
+
+/// The login that words name.
+fn login_of(alloc: Global, given: LoginArgument<'_>) -> Result<Login, ProgramFault>
+    requires { NamesLogin given }
+    ensures named { IfOk result (Names given.entry) }
+    ensures in_range { IfOk result IsLogin }
+    ensures memory { IfErr result (λ fault. fault ≡ ProgramFault.Memory) }
+{
+    match given {
+        LoginArgument::Reported(text) => Ok(Login::from_slice(alloc, text.as_bytes())?),
+        LoginArgument::Printed(text) => match login_of_text(alloc, text)? {
+            Some(login) => Ok(login),
+            None => unreachable!(),
+        },
+    }
+}
+
+/// The address of the server, where host, login and address are what they should be.
+fn checked(host: &str, login: LoginArgument<'_>, server: &str) -> Result<SocketAddr, ProgramFault>
+    ensures refuses { OrderRefuses host.now login.entry server.now (λ fault. result ≡ Err fault) }
+    ensures host { IfOk result (λ _. IsHost host.now) }
+    ensures login { IfOk result (λ _. NamesLogin login.entry) }
+{
+    if !is_host(host.as_bytes()) {
+        return Err(ProgramFault::Host);
+    }
+    if !names_login(login) {
+        return Err(ProgramFault::Login);
+    }
+    address_of(server)
 }
 
 /// A link to the server at this address, with a log of its troubles.

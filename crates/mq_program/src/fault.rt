@@ -44,6 +44,9 @@ pub enum ProgramFault {
     /// The clock can't be read, or its milliseconds can't be a run's number.
     #[error("run number unavailable")]
     NoRun,
+    /// The clock can't be read, or what it shows is before 1970-01-02 or after 2999.
+    #[error("day unavailable")]
+    NoMoment,
     #[error("{0}")]
     Filter(FilterFault),
     /// The database file, for another cause than memory.

@@ -4,6 +4,7 @@
 mod admin;
 mod auditing;
 mod clock;
+mod day;
 mod fault;
 mod filter;
 mod replay;
@@ -14,6 +15,7 @@ mod subcommand;
 pub use admin::limit::limit;
 pub use admin::report::report;
 pub use admin::retire::retire;
+pub use admin::stop::{resume, stop};
 pub use auditing::{audit, audit_ledger};
 pub use clock::run_number;
 pub use fault::{ProgramFault, or_memory};

@@ -7,7 +7,9 @@ ghost use Rattle.mq_program.specs.Refusals.{Refuses};
 use crate::admin::limit::limit;
 use crate::admin::report::report;
 use crate::admin::retire::retire;
+use crate::admin::stop::{resume, stop};
 use crate::auditing::audit;
+use crate::day::day;
 use crate::fault::ProgramFault;
 use crate::filter::filter;
 use crate::replay::replay;
@@ -49,6 +51,9 @@ fn status_of<E: Write>(
         Arguments::Filter(given) => filter(rt, given),
         Arguments::Server(given) => server(rt, given),
         Arguments::Limit(given) => limit(rt, given, errors),
+        Arguments::Stop(given) => stop(rt, given, errors),
+        Arguments::Resume(given) => resume(rt, given, errors),
+        Arguments::Day(given) => day(rt, given, errors),
         Arguments::Retire(given) => retire(rt, given, errors),
         Arguments::Report(given) => report(rt, given, errors),
         Arguments::Audit(given) => audit(rt, given, &mut io::writer(rt)),

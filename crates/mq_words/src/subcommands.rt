@@ -12,6 +12,17 @@ pub enum Takes {
     Number(i64, i64),
 }
 
+/// Whether an option has to be given.
+#[derive(Clone, Copy)]
+pub enum Need {
+    Optional,
+    Required,
+    /// It has to be given unless this one is.
+    Unless(&'static str),
+    /// It stands in place of this one.
+    InsteadOf(&'static str),
+}
+
 /// An option of a subcommand.
 #[derive(Clone, Copy)]
 pub struct CommandOption {
@@ -20,7 +31,7 @@ pub struct CommandOption {
     pub value: &'static str,
     pub help: &'static str,
     pub takes: Takes,
-    pub is_required: bool,
+    pub need: Need,
     /// What stands for one that isn't given.
     pub default: Option<&'static str>,
 }
@@ -38,7 +49,7 @@ const CONFIG: CommandOption = CommandOption {
     value: "FILE",
     help: "Settings",
     takes: Takes::Text,
-    is_required: true,
+    need: Need::Required,
     default: None,
 };
 
@@ -47,7 +58,7 @@ const CREATE: CommandOption = CommandOption {
     value: "",
     help: "Make a new ledger; one in memory is always new",
     takes: Takes::Nothing,
-    is_required: false,
+    need: Need::Optional,
     default: None,
 };
 
@@ -56,7 +67,7 @@ const CONNECTIONS: CommandOption = CommandOption {
     value: "N",
     help: "Connections to serve",
     takes: Takes::Number(1, 1_000_000),
-    is_required: false,
+    need: Need::Optional,
     default: Some("1000000"),
 };
 
@@ -65,7 +76,7 @@ const RUN: CommandOption = CommandOption {
     value: "N",
     help: "Number of the run; the clock's milliseconds where it isn't given",
     takes: Takes::Number(1, 281_474_976_710_655),
-    is_required: false,
+    need: Need::Optional,
     default: None,
 };
 
@@ -74,7 +85,7 @@ const SERVER: CommandOption = CommandOption {
     value: "ADDRESS",
     help: "Numeric address and port of the quota server",
     takes: Takes::Text,
-    is_required: true,
+    need: Need::Required,
     default: None,
 };
 
@@ -83,7 +94,7 @@ const HOST: CommandOption = CommandOption {
     value: "HOST",
     help: "Host that asks",
     takes: Takes::Text,
-    is_required: true,
+    need: Need::Required,
     default: None,
 };
 
@@ -92,7 +103,7 @@ const RETIRED_HOST: CommandOption = CommandOption {
     value: "HOST",
     help: "Host whose earlier runs are given up",
     takes: Takes::Text,
-    is_required: true,
+    need: Need::Required,
     default: None,
 };
 
@@ -101,7 +112,7 @@ const RETIRED_RUN: CommandOption = CommandOption {
     value: "N",
     help: "Run below which they are given up, no filter's own; the clock's milliseconds where it isn't given",
     takes: Takes::Number(1, 281_474_976_710_655),
-    is_required: false,
+    need: Need::Optional,
     default: None,
 };
 
@@ -110,7 +121,16 @@ const LOGIN: CommandOption = CommandOption {
     value: "LOGIN",
     help: "Login, as smtpd reports it",
     takes: Takes::Text,
-    is_required: true,
+    need: Need::Unless("login-text"),
+    default: None,
+};
+
+const LOGIN_TEXT: CommandOption = CommandOption {
+    name: "login-text",
+    value: "TEXT",
+    help: "Login, as a report prints it",
+    takes: Takes::Text,
+    need: Need::InsteadOf("login"),
     default: None,
 };
 
@@ -119,7 +139,7 @@ const FROM: CommandOption = CommandOption {
     value: "DAY",
     help: "Day number from which on the limit governs",
     takes: Takes::Number(0, 376_200),
-    is_required: true,
+    need: Need::Required,
     default: None,
 };
 
@@ -128,7 +148,7 @@ const CAP: CommandOption = CommandOption {
     value: "N",
     help: "Recipients a day",
     takes: Takes::Number(0, 1_000_000),
-    is_required: true,
+    need: Need::Required,
     default: None,
 };
 
@@ -137,7 +157,34 @@ const DAY: CommandOption = CommandOption {
     value: "DAY",
     help: "Day number, counted from 1970-01-01",
     takes: Takes::Number(0, 376_200),
-    is_required: true,
+    need: Need::Required,
+    default: None,
+};
+
+const STOP_DAY: CommandOption = CommandOption {
+    name: "day",
+    value: "DAY",
+    help: "Day number of today",
+    takes: Takes::Number(0, 376_199),
+    need: Need::Required,
+    default: None,
+};
+
+const MORE: CommandOption = CommandOption {
+    name: "cap",
+    value: "N",
+    help: "Recipients that it may have more today, and on each later day",
+    takes: Takes::Number(0, 1_000_000),
+    need: Need::Required,
+    default: None,
+};
+
+const AT: CommandOption = CommandOption {
+    name: "at",
+    value: "SECONDS",
+    help: "Second since 1970-01-01 UTC; now where it isn't given",
+    takes: Takes::Number(86_400, 32_503_680_000),
+    need: Need::Optional,
     default: None,
 };
 
@@ -146,7 +193,7 @@ const ONE_LOGIN: CommandOption = CommandOption {
     value: "LOGIN",
     help: "One login, as smtpd reports it; all where it isn't given",
     takes: Takes::Text,
-    is_required: false,
+    need: Need::Optional,
     default: None,
 };
 
@@ -155,7 +202,7 @@ const DEFAULT: CommandOption = CommandOption {
     value: "N",
     help: "Limit of a login that has none of its own",
     takes: Takes::Number(0, 1_000_000),
-    is_required: false,
+    need: Need::Optional,
     default: Some("100"),
 };
 
@@ -164,7 +211,7 @@ const SQL: CommandOption = CommandOption {
     value: "",
     help: "Keep the ledger in tables in memory",
     takes: Takes::Nothing,
-    is_required: false,
+    need: Need::Optional,
     default: None,
 };
 
@@ -173,7 +220,7 @@ const EAST: CommandOption = CommandOption {
     value: "M",
     help: "Minutes that a day begins before UTC's",
     takes: Takes::Number(0, 1439),
-    is_required: false,
+    need: Need::Optional,
     default: Some("0"),
 };
 
@@ -182,7 +229,7 @@ const WEST: CommandOption = CommandOption {
     value: "M",
     help: "Minutes that a day begins after UTC's",
     takes: Takes::Number(0, 1439),
-    is_required: false,
+    need: Need::Optional,
     default: Some("0"),
 };
 
@@ -191,12 +238,12 @@ const RULE: CommandOption = CommandOption {
     value: "RULE",
     help: "Zone rule of the days, such as CET-1CEST,M3.5.0,M10.5.0/3",
     takes: Takes::Text,
-    is_required: false,
+    need: Need::Optional,
     default: None,
 };
 
 /// The subcommands, in the order in which people need them.
-pub const SUBCOMMANDS: [Subcommand; 7] = [
+pub const SUBCOMMANDS: [Subcommand; 10] = [
     Subcommand {
         name: "server",
         about: "Serve the ledger to filters",
@@ -210,7 +257,22 @@ pub const SUBCOMMANDS: [Subcommand; 7] = [
     Subcommand {
         name: "limit",
         about: "Set the limit of a login from a day on",
-        options: &[SERVER, HOST, LOGIN, FROM, CAP, RUN],
+        options: &[SERVER, HOST, LOGIN, LOGIN_TEXT, FROM, CAP, RUN],
+    },
+    Subcommand {
+        name: "stop",
+        about: "Let a login have nothing more, today and on each later day",
+        options: &[SERVER, HOST, LOGIN, LOGIN_TEXT, STOP_DAY],
+    },
+    Subcommand {
+        name: "resume",
+        about: "Let a login have more again, today and on each later day",
+        options: &[SERVER, HOST, LOGIN, LOGIN_TEXT, STOP_DAY, MORE],
+    },
+    Subcommand {
+        name: "day",
+        about: "Print the day number of the ledger of a server's settings",
+        options: &[CONFIG, AT],
     },
     Subcommand {
         name: "retire",
@@ -220,7 +282,7 @@ pub const SUBCOMMANDS: [Subcommand; 7] = [
     Subcommand {
         name: "report",
         about: "Print what logins used on a day",
-        options: &[SERVER, DAY, ONE_LOGIN],
+        options: &[SERVER, DAY, ONE_LOGIN, LOGIN_TEXT],
     },
     Subcommand {
         name: "audit",

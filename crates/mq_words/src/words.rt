@@ -1,14 +1,15 @@
 //! The words of the command line.
 ghost use Rattle.std.specs.Prelude.{◌≡◌, ◌≤◌, IfOk, IfSome};
-ghost use Rattle.mq_frame.specs.Range.{IsRun, IsWithin};
-ghost use Rattle.mq_arguments.specs.Arguments.{IsArguments, IsReplayArguments};
+ghost use Rattle.mq_frame.specs.Range.{IsMoment, IsRun, IsWithin};
+ghost use Rattle.mq_arguments.specs.Arguments.{IsArguments, IsLimitArguments, IsReplayArguments, IsResumeArguments};
 
-use crate::subcommands::{CommandOption, SUBCOMMANDS, Subcommand, Takes, VERSION};
+use crate::subcommands::{CommandOption, Need, SUBCOMMANDS, Subcommand, Takes, VERSION};
 use clap::error::ErrorKind;
 use clap::{Arg, ArgAction, ArgMatches, Command, Error, value_parser};
 use mq_arguments::{
-    Arguments, AuditArguments, FilterArguments, LimitArguments, ReplayArguments, ReportArguments,
-    RetireArguments, ServerArguments,
+    Arguments, AuditArguments, DayArguments, FilterArguments, LimitArguments, LoginArgument,
+    ReplayArguments, ReportArguments, ResumeArguments, RetireArguments, ServerArguments,
+    StopArguments,
 };
 use std::alloc::{AllocError, Global};
 
@@ -46,41 +47,49 @@ pub fn read_arguments<'a>(alloc: Global, words: &'a [String]) -> Result<Argument
     let mut program = program(alloc)?;
     let matches = program.try_get_matches_from_mut(words)?;
     match matches.subcommand() {
-        Some(("filter", found)) => Ok(Arguments::Filter(FilterArguments {
-            config: text_of(found, "config"),
-            run: run_of(found),
-        })),
-        Some(("server", found)) => Ok(Arguments::Server(ServerArguments {
-            config: text_of(found, "config"),
-            create: found.get_flag("create"),
-            connections: number_of(found, "connections", 1, 1_000_000),
-        })),
-        Some(("limit", found)) => Ok(Arguments::Limit(LimitArguments {
-            server: text_of(found, "server"),
-            host: text_of(found, "host"),
-            login: text_of(found, "login"),
-            from: number_of(found, "from", 0, 376_200),
-            cap: number_of(found, "cap", 0, 1_000_000),
-            run: run_of(found),
-        })),
-        Some(("retire", found)) => Ok(Arguments::Retire(RetireArguments {
-            server: text_of(found, "server"),
-            host: text_of(found, "host"),
-            run: run_of(found),
-        })),
-        Some(("report", found)) => Ok(Arguments::Report(ReportArguments {
-            server: text_of(found, "server"),
-            day: number_of(found, "day", 0, 376_200),
-            login: found.get_str("login"),
-        })),
-        Some(("audit", found)) => Ok(Arguments::Audit(AuditArguments {
-            config: text_of(found, "config"),
-        })),
-        Some((_, found)) => Ok(Arguments::Replay(replay_of(found))),
+        Some((name, found)) => Ok(arguments_of(name, found)),
         None => Err(WordsFault::Words(program.error(
             ErrorKind::MissingSubcommand,
             "a subcommand is required",
         )?)),
+    }
+}
+
+/// What the options of a subcommand ask for.
+fn arguments_of<'a>(name: &str, found: &ArgMatches<'a>) -> Arguments<'a>
+    ensures { IsArguments result }
+{
+    match name {
+        "filter" => Arguments::Filter(FilterArguments {
+            config: text_of(found, "config"),
+            run: run_of(found),
+        }),
+        "server" => Arguments::Server(ServerArguments {
+            config: text_of(found, "config"),
+            create: found.get_flag("create"),
+            connections: number_of(found, "connections", 1, 1_000_000),
+        }),
+        "limit" => Arguments::Limit(limit_of(found)),
+        "stop" => Arguments::Stop(stop_of(found)),
+        "resume" => Arguments::Resume(resume_of(found)),
+        "day" => Arguments::Day(DayArguments {
+            config: text_of(found, "config"),
+            at: moment_of(found),
+        }),
+        "retire" => Arguments::Retire(RetireArguments {
+            server: text_of(found, "server"),
+            host: text_of(found, "host"),
+            run: run_of(found),
+        }),
+        "report" => Arguments::Report(ReportArguments {
+            server: text_of(found, "server"),
+            day: number_of(found, "day", 0, 376_200),
+            login: one_login_of(found),
+        }),
+        "audit" => Arguments::Audit(AuditArguments {
+            config: text_of(found, "config"),
+        }),
+        _ => Arguments::Replay(replay_of(found)),
     }
 }
 
@@ -101,19 +110,24 @@ fn program<'a>(alloc: Global) -> Result<Command<'a>, AllocError> {
 fn command_of<'a>(alloc: Global, subcommand: &Subcommand) -> Result<Command<'a>, AllocError> {
     let mut command = Command::new(alloc, subcommand.name).about(subcommand.about);
     for option in subcommand.options {
-        command = command.arg(argument_of(alloc, option))?;
+        command = command.arg(argument_of(alloc, option)?)?;
     }
     Ok(command)
 }
 
 /// An option as clap reads it.
-fn argument_of<'a>(alloc: Global, option: &CommandOption) -> Arg<'a> {
+fn argument_of<'a>(alloc: Global, option: &CommandOption) -> Result<Arg<'a>, AllocError> {
     let argument = Arg::new(alloc, option.name)
         .long(option.name)
-        .help(option.help)
-        .required(option.is_required);
+        .help(option.help);
+    let argument = match option.need {
+        Need::Optional => argument,
+        Need::Required => argument.required(true),
+        Need::Unless(other) => argument.required_unless_present(other)?,
+        Need::InsteadOf(other) => argument.conflicts_with(other)?,
+    };
     let argument = match option.takes {
-        Takes::Nothing => return argument.action(ArgAction::SetTrue),
+        Takes::Nothing => return Ok(argument.action(ArgAction::SetTrue)),
         Takes::Text => argument,
         Takes::Number(least, most) => {
             argument.value_parser(value_parser!(u64).range(least..=most))
@@ -121,8 +135,8 @@ fn argument_of<'a>(alloc: Global, option: &CommandOption) -> Arg<'a> {
     };
     let argument = argument.value_name(option.value);
     match option.default {
-        Some(text) => argument.default_value(text),
-        None => argument,
+        Some(text) => Ok(argument.default_value(text)),
+        None => Ok(argument),
     }
 }
 
@@ -149,6 +163,66 @@ fn run_of(found: &ArgMatches<'_>) -> Option<u64>
     match found.get_one::<u64>("run") {
         Some(run) => Some(run.clamp(1, 281_474_976_710_655)),
         None => None,
+    }
+}
+
+/// The second whose day is asked for, if it is given.
+fn moment_of(found: &ArgMatches<'_>) -> Option<u64>
+    ensures { IfSome result IsMoment }
+{
+    match found.get_one::<u64>("at") {
+        Some(at) => Some(at.clamp(86_400, 32_503_680_000)),
+        None => None,
+    }
+}
+
+/// The login, if it is given.
+fn one_login_of<'a>(found: &ArgMatches<'a>) -> Option<LoginArgument<'a>> {
+    match (found.get_str("login"), found.get_str("login-text")) {
+        (Some(login), _) => Some(LoginArgument::Reported(login)),
+        (None, Some(text)) => Some(LoginArgument::Printed(text)),
+        (None, None) => None,
+    }
+}
+
+/// The login, which has to be given.
+fn login_of<'a>(found: &ArgMatches<'a>) -> LoginArgument<'a> {
+    one_login_of(found).unwrap_or(LoginArgument::Reported(""))
+}
+
+fn limit_of<'a>(found: &ArgMatches<'a>) -> LimitArguments<'a>
+    ensures { IsLimitArguments result }
+{
+    LimitArguments {
+        server: text_of(found, "server"),
+        host: text_of(found, "host"),
+        login: login_of(found),
+        from: number_of(found, "from", 0, 376_200),
+        cap: number_of(found, "cap", 0, 1_000_000),
+        run: run_of(found),
+    }
+}
+
+fn stop_of<'a>(found: &ArgMatches<'a>) -> StopArguments<'a>
+    ensures { IsWithin 0 376199 result.day }
+{
+    StopArguments {
+        server: text_of(found, "server"),
+        host: text_of(found, "host"),
+        login: login_of(found),
+        day: number_of(found, "day", 0, 376_199),
+    }
+}
+
+fn resume_of<'a>(found: &ArgMatches<'a>) -> ResumeArguments<'a>
+    ensures { IsResumeArguments result }
+{
+    ResumeArguments {
+        server: text_of(found, "server"),
+        host: text_of(found, "host"),
+        login: login_of(found),
+        day: number_of(found, "day", 0, 376_199),
+        cap: number_of(found, "cap", 0, 1_000_000),
     }
 }
 

@@ -1,35 +1,44 @@
 //! `limit`: sets the limit of a login.
-ghost use Rattle.std.specs.Prelude.{◌≡◌, Err, IfOk};
+ghost use Rattle.std.specs.Prelude.{◌≡◌, ℕ, List, Err, IfOk};
+ghost use Rattle.mq_frame.specs.Range.{IsHost, IsRun};
 ghost use Rattle.mq_frame.specs.declared.message.Request.TheVariants.{Limit};
 ghost use Rattle.mq_command.specs.Orders.{IsLimit};
 ghost use Rattle.mq_arguments.specs.Arguments.{IsLimitArguments};
-ghost use Rattle.mq_program.specs.Refusals.{LimitRefuses};
+ghost use Rattle.mq_program.specs.Refusals.{Names, NamesLogin, OrderRefuses};
 
-use super::{address_of, first_id, link_to};
+use super::{checked, first_id, link_to, login_of};
 use crate::clock::run_number;
 use crate::fault::ProgramFault;
 use log::sink::Console;
 use log::{LevelFilter, Logged};
 use mq_arguments::LimitArguments;
-use mq_command::run_limit;
-use mq_frame::{Login, Request, is_host, is_login};
-use std::alloc::{AllocError, Global};
+use mq_command::{run_fresh, run_limit};
+use mq_frame::Request;
+use std::alloc::Global;
 use std::io;
 use std::io::Write;
 use std::net::{Net, SocketAddr};
 use std::rt::Clock;
 
 /// The request that sets a limit, the first of its run.
-fn limit_request(alloc: Global, given: LimitArguments<'_>, run: u64) -> Result<Request, AllocError>
-    ensures { IfOk result (λ request. request
-        ≡ Limit (record { host = given.entry.host.now; run = run; seq = 1 }) given.entry.from given.entry.cap
-        given.entry.login.now) }
+fn limit_request(
+    alloc: Global,
+    given: LimitArguments<'_>,
+    run: u64,
+) -> Result<Request, ProgramFault>
+    requires given { IsLimitArguments given }
+    requires host { IsHost given.host.now }
+    requires login { NamesLogin given.login }
+    requires run { IsRun run }
+    ensures request { IfOk result (λ request. (login : List ℕ) × Names given.entry.login login × (request
+        ≡ Limit (record { host = given.entry.host.now; run = run; seq = 1 }) given.entry.from given.entry.cap login)) }
+    ensures in_range { IfOk result IsLimit }
 {
     Ok(Request::Limit {
         id: first_id(alloc, given.host, run)?,
         from_day: given.from,
         cap: given.cap,
-        login: Login::from_slice(alloc, given.login.as_bytes())?,
+        login: login_of(alloc, given.login)?,
     })
 }
 
@@ -40,30 +49,31 @@ pub fn limit<R: Clock + Net + Print + Eprint + AllocGlobal, E: Write>(
     errors: &mut E,
 ) -> Result<u8, ProgramFault>
     requires { IsLimitArguments given }
-    ensures { LimitRefuses given.entry (λ fault. result ≡ Err fault) }
+    ensures { OrderRefuses given.entry.host.now given.entry.login given.entry.server.now (λ fault. result ≡ Err fault) }
 {
-    if !is_host(given.host.as_bytes()) {
-        return Err(ProgramFault::Host);
-    }
-    if !is_login(given.login.as_bytes()) {
-        return Err(ProgramFault::Login);
-    }
-    let address = address_of(given.server)?;
+    let address = checked(given.host, given.login, given.server)?;
     let run = run_number(rt, given.run)?;
     let request = limit_request(rt.alloc(), given, run)?;
-    Ok(ask_limit(rt, address, &request, errors))
+    Ok(ask_limit(rt, address, request, given.run.is_some(), errors))
 }
 
-/// Asks the server at this address to set a limit, and prints what comes of it.
+/// Asks the server at this address to set a limit, and prints what comes of it. Only a number that the words give is kept
+/// where it is used already.
 fn ask_limit<R: Clock + Net + Print + Eprint + AllocGlobal, E: Write>(
     rt: &R,
     address: SocketAddr,
-    request: &Request,
+    request: Request,
+    is_given: bool,
     errors: &mut E,
 ) -> u8
-    requires { IsLimit request.now }
+    requires { IsLimit request }
 {
     let logged = Logged::new(rt, LevelFilter::Error, Console(rt));
     let mut link = link_to(rt, address, &logged);
-    run_limit(rt.alloc(), &mut link, request, &mut io::writer(rt), errors)
+    let mut output = io::writer(rt);
+    if is_given {
+        run_limit(rt.alloc(), &mut link, &request, &mut output, errors)
+    } else {
+        run_fresh(rt.alloc(), &mut link, request, &mut output, errors)
+    }
 }

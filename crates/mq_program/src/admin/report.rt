@@ -1,28 +1,33 @@
 //! `report`: prints what logins used on a day.
-ghost use Rattle.std.specs.Prelude.{◌≡◌, Err, IfOk, IfSome, option_map};
+ghost use Rattle.std.specs.Prelude.{◌≡◌, Err, IfOk, IfSome};
 ghost use Rattle.mq_frame.specs.Range.{IsDay, IsLogin};
-ghost use Rattle.mq_program.specs.Refusals.{ReportRefuses};
+ghost use Rattle.mq_program.specs.Refusals.{NamesLogin, NamesOneOrAll, ReportRefuses};
 
-use super::{address_of, link_to};
+use super::{address_of, link_to, login_of, names_login};
 use crate::fault::ProgramFault;
 use log::sink::Console;
 use log::{LevelFilter, Logged};
-use mq_arguments::ReportArguments;
+use mq_arguments::{LoginArgument, ReportArguments};
 use mq_command::run_report;
-use mq_frame::{Login, is_login};
-use std::alloc::{AllocError, Global};
+use mq_frame::Login;
+use std::alloc::Global;
 use std::io;
 use std::io::{BufWriter, Write};
 use std::net::{Net, SocketAddr};
 use std::rt::Clock;
 
 /// The login that is reported alone, where one is given.
-fn login_of(alloc: Global, given: Option<&str>) -> Result<Option<Login>, AllocError>
-    ensures { IfOk result (λ login. login ≡ option_map (λ text. text.now) given.entry) }
+fn one_login_of(
+    alloc: Global,
+    given: Option<LoginArgument<'_>>,
+) -> Result<Option<Login>, ProgramFault>
+    requires { IfSome given NamesLogin }
+    ensures named { IfOk result (NamesOneOrAll given.entry) }
+    ensures in_range { IfOk result (λ login. IfSome login IsLogin) }
 {
     match given {
         None => Ok(None),
-        Some(text) => Ok(Some(Login::from_slice(alloc, text.as_bytes())?)),
+        Some(login) => Ok(Some(login_of(alloc, login)?)),
     }
 }
 
@@ -35,11 +40,11 @@ pub fn report<R: Clock + Net + Print + Eprint + AllocGlobal, E: Write>(
     requires { IsDay given.day }
     ensures { ReportRefuses given.entry (λ fault. result ≡ Err fault) }
 {
-    if !given.login.is_none_or(|login| is_login(login.as_bytes())) {
+    if !given.login.is_none_or(|login| names_login(login)) {
         return Err(ProgramFault::Login);
     }
     let address = address_of(given.server)?;
-    let login = login_of(rt.alloc(), given.login)?;
+    let login = one_login_of(rt.alloc(), given.login)?;
     ask_report(rt, address, given.day, login.as_ref(), errors)
 }
 

@@ -1,4 +1,4 @@
-use Rattle.std.proofs.Common.{Err, ap, sym, ◌∙◌}
+use Rattle.std.proofs.Common.{Err, sym, ◌∙◌}
 use Rattle.mq_program.proofs.RefusalSteps.{zone_refused}
 use Rattle.mq_program.proofs.replay.replay.Goals as goal
 

@@ -1,0 +1,56 @@
+//! What is printed of something that is done, and what is said where it isn't.
+ghost use Rattle.std.specs.Prelude.{◌≡◌, MatchResult, string_bytes};
+ghost use Rattle.std.specs.Io.KnownBytes.{Keeps};
+ghost use Rattle.mq_command.specs.Orders.{Prints, PrintsLine};
+
+use crate::order::OrderFault;
+use crate::output::{OutputFault, write_whole};
+use std::alloc::AllocError;
+use std::fmt;
+use std::io::Write;
+
+/// Says on `errors` why something isn't done. The result is the exit status.
+pub fn say<E: Write, F: fmt::Display>(errors: &mut E, fault: &F) -> u8
+    ensures { result ≡ 1 }
+{
+    let _ = writeln!(errors, "mailquota: {fault}");
+    1
+}
+
+/// Prints the word of an order that was carried out, or says on `errors` why it wasn't. The result is the exit status,
+/// 0 or 1.
+pub fn tell<W: Write, E: Write>(
+    sent: Result<(), OrderFault>,
+    word: &str,
+    output: &mut W,
+    errors: &mut E,
+) -> u8
+    ensures prints { Prints (λ _. word.now) (W.contents output.old) (W.contents output.new) sent result }
+    ensures quiet { result ≡ 0 → errors.new ≡ errors.old }
+{
+    match sent {
+        Ok(()) => {
+            if write_whole(output, word.as_bytes()).is_err() || output.flush().is_err() {
+                return say(errors, &OutputFault::Write);
+            }
+            0
+        }
+        Err(fault) => say(errors, &fault),
+    }
+}
+
+/// Prints a line, or says on `errors` why it can't be printed. The result is the exit status.
+pub fn tell_line<W: Write, E: Write>(
+    line: Result<String, AllocError>,
+    output: &mut W,
+    errors: &mut E,
+) -> u8
+    ensures prints { MatchResult line (λ line. PrintsLine (string_bytes line) (W.contents output.old)
+        (W.contents output.new) result) (λ _. (result ≡ 1) × Keeps (W.contents output.old) (W.contents output.new)) }
+    ensures quiet { result ≡ 0 → errors.new ≡ errors.old }
+{
+    match line {
+        Ok(line) => tell(Ok(()), line.as_str(), output, errors),
+        Err(_) => say(errors, &OutputFault::Memory),
+    }
+}

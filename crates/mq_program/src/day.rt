@@ -1,0 +1,71 @@
+//! `day`: prints the day number of a moment.
+ghost use Rattle.std.specs.Prelude.{◌≡◌, ◌/◌, Ok, IfSome, IfOk, IfErr};
+ghost use Rattle.std.specs.Option.{SomeIff};
+ghost use Rattle.std.specs.Duration.{as_nanos};
+ghost use Rattle.std.specs.Time.{system_time_nanos};
+ghost use Rattle.mq_frame.specs.Range.{IsMoment};
+
+use crate::fault::ProgramFault;
+use crate::server::server_settings;
+use mq_arguments::DayArguments;
+use mq_command::run_day;
+use mq_frame::is_moment;
+use std::io;
+use std::io::Write;
+use std::rt::Clock;
+use std::time::{Duration, SystemTime, UNIX_EPOCH};
+
+/// The whole seconds of a time, where they can be a moment.
+fn moment_of(time: Duration) -> Option<u64>
+    ensures { SomeIff result (IsMoment (as_nanos time / 1_000_000_000)) (as_nanos time / 1_000_000_000) }
+{
+    let seconds = time.as_secs();
+    if is_moment(seconds) {
+        Some(seconds)
+    } else {
+        None
+    }
+}
+
+/// The seconds from 1970 to this moment, where they can be a moment.
+fn moment_at(now: SystemTime) -> Option<u64>
+    ensures { SomeIff result (IsMoment (system_time_nanos now / 1_000_000_000)) (system_time_nanos now / 1_000_000_000) }
+{
+    moment_of(now.duration_since(UNIX_EPOCH).ok()?)
+}
+
+/// The clock's moment, where it can be one.
+fn moment_of_clock(rt: &impl Clock) -> Option<u64>
+    ensures { IfSome result IsMoment }
+{
+    moment_at(SystemTime::now(rt).ok()?)
+}
+
+/// The given moment, or the clock's.
+fn moment(rt: &impl Clock, given: Option<u64>) -> Result<u64, ProgramFault>
+    requires { IfSome given IsMoment }
+    ensures moment { IfOk result IsMoment }
+    ensures given { IfSome given (λ at. result ≡ Ok at) }
+    ensures unavailable { IfErr result (λ fault. fault ≡ ProgramFault.NoMoment) }
+{
+    match given {
+        Some(at) => Ok(at),
+        None => match moment_of_clock(rt) {
+            Some(at) => Ok(at),
+            None => Err(ProgramFault::NoMoment),
+        },
+    }
+}
+
+/// `day`: prints the day number of the moment that is given, or of now, in the zone of a server's settings.
+pub fn day<E: Write>(
+    rt: &HostRuntime,
+    given: DayArguments<'_>,
+    errors: &mut E,
+) -> Result<u8, ProgramFault>
+    requires { IfSome given.at IsMoment }
+{
+    let settings = server_settings(rt, given.config)?;
+    let at = moment(rt, given.at)?;
+    Ok(run_day(rt.alloc(), &settings.zone, at, &mut io::writer(rt), errors))
+}
