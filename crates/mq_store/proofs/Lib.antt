@@ -13,3 +13,5 @@ pub mod Opened
 pub mod Recovery
 pub mod Closings
 pub mod Clearings
+pub mod Entering
+pub mod Filling

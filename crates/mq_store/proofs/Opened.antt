@@ -1,12 +1,11 @@
 -- What becomes of a store that holds the rows of a history, in whatever version, where it is opened.
-use Rattle.std.proofs.Common.{◌≡◌, ◌⊎◌, inl, inr, ℕ, ℤ, pos, length, ◌==◌, nat_le, true≢false, Option, Ok, Err, Result, List, Bool, true, false, Some, None, refl, sym, ap, ap₂, subst, ◌∙◌}
+use Rattle.std.proofs.Common.{◌≡◌, ◌⊎◌, inl, inr, ℕ, ℤ, pos, ◌==◌, nat_le, true≢false, Option, Ok, Err, Result, List, Bool, true, false, Some, None, refl, sym, ap, ap₂, subst, ◌∙◌}
 use Rattle.std.proofs.lemmas.Bool.{eqb-true}
 use Rattle.std.proofs.lemmas.Slice.Eq.{bytes_eq-Decides}
 use Rattle.std.specs.Prelude.{◌&&◌, ◌||◌, if◌then◌else◌, IfOk, IsTrue}
 use Rattle.std.specs.Ordering.{int_eq}
 use Rattle.std.specs.Cmp.{signed_Decides}
 use Rattle.sqlite.specs.Effect.{Database, IsDatabase}
-use Rattle.sqlite.specs.Schema.{Schema}
 use Rattle.sqlite.specs.State.{State}
 use Rattle.sqlite.specs.Tree.{Trees}
 use Rattle.mq_ledger.specs.declared.entry.Entry.{Entry}
@@ -18,20 +17,20 @@ use Rattle.mq_ledger.specs.Legal.{Book, IsLegalBook}
 use Rattle.mq_rows.specs.declared.audited.Audit.{Audit}
 use Rattle.mq_rows.specs.declared.audited.Audit.TheVariants.{Sound, Wrong}
 use Rattle.mq_rows.specs.declared.record.SettingRecord.{SettingRecord}
-use Rattle.mq_rows.specs.Rows.{IsSetting, is_version, older_version, setting_row}
+use Rattle.mq_rows.specs.Rows.{is_version, older_version}
 use Rattle.mq_rows.specs.Tables.{Tables, AreRows}
-use Rattle.mq_tables.specs.Ledger.{HasLedger, HasRule, HasNoFloors, HasFloors, Since, setting_in}
+use Rattle.mq_tables.specs.Ledger.{HasLedger, HasRule, Since, setting_in}
 use Rattle.mq_tables.specs.Making.{has_later_table}
 use Rattle.mq_tables.specs.Migrating.{IsMigrated, AreMigrated, migrated}
 use Rattle.mq_tables.specs.Reading.{Spares}
-use Rattle.mq_tables.specs.Settings.{SettingRow, HasSetting, shown_of}
+use Rattle.mq_tables.specs.Settings.{SettingRow, shown_of}
 use Rattle.mq_store.specs.declared.fault.OpenFault.{OpenFault}
-use Rattle.mq_store.specs.declared.fault.OpenFault.TheVariants.{ZoneDiffers, DefaultDiffers, NotOurs, Memory, Store}
+use Rattle.mq_store.specs.declared.fault.OpenFault.TheVariants.{ZoneDiffers, DefaultDiffers, Memory, Store}
 use Rattle.mq_store.specs.Auditing.{IsAuditIn, IsRightAnswer}
 use Rattle.mq_store.specs.Crash.{FindsOnly, FindsOpened}
-use Rattle.mq_store.specs.Opening.{fault_in, same_rule, audit_fault, known_version, judged_as, if_none, HasCurrent, HoldsKnown, HasSettings, IsStopped, IsOf, IsFoundOf, IsBroughtUp, IsLeftOlder, Opens, Refuses}
+use Rattle.mq_store.specs.Opening.{fault_in, same_rule, audit_fault, known_version, judged_as, if_none, HasCurrent, HoldsKnown, HasSettings, IsStopped, IsOf, IsFoundOf, IsBroughtUp, Opens, Refuses}
 use Rattle.mq_store.specs.Taking.{HasBook, book_of}
-use Rattle.mq_store.specs.Soundness.{book_in, HasKept, HasStored, HasRoom, IsSound, MeansBook, IsOpened}
+use Rattle.mq_store.specs.Soundness.{book_in, HasKept, HasStored, IsSound, MeansBook, IsOpened}
 use Rattle.mq_store.proofs.Sound.{sound_with}
 use Rattle.mq_store.proofs.Versions.{since_then, not_since}
 

@@ -1,5 +1,5 @@
 -- What is found of a store, one check behind another, and what becomes of it.
-use Rattle.std.proofs.Common.{◌≡◌, ◌⊎◌, inl, inr, true, false, nat_le, refl, ap, sym, subst, ◌∙◌}
+use Rattle.std.proofs.Common.{◌≡◌, inl, inr, true, false, nat_le, refl, sym, subst, ◌∙◌}
 use Rattle.std.specs.Prelude.{ℕ, Bool, Option, Some, None, Result, Ok, Err, IsTrue, IfOk, OnOk, IfErr}
 use Rattle.sqlite.specs.Effect.{Database}
 use Rattle.sqlite.specs.State.{State}

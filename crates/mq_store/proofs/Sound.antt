@@ -43,7 +43,7 @@ pub spelled_by : (answers : List AnswerRecord) → filter_map request_at (map (�
 spelled_by [] = refl
 spelled_by (a ∷ more) = ap (cons_option (request_at a.request)) (spelled_by more)
 
-no_floor : (h : List ℕ) → retired_row [] h ≡ None
+pub no_floor : (h : List ℕ) → retired_row [] h ≡ None
 unfolding floor
 no_floor h = refl
 

@@ -6,3 +6,5 @@ pub mod GivingUp
 pub mod Paging
 pub mod Crash
 pub mod Auditing
+pub mod Carrying
+pub mod Forgetting

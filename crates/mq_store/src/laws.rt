@@ -1,20 +1,23 @@
 //! Laws that lead from what was read and written to the ledger's history. Each function does
 //! nothing: its contract is the law.
-ghost use Rattle.std.specs.Prelude.{◌≡◌, ◌≤◌, ◌⊎◌, ◌+◌, ℕ, List, [], ◌∷◌, ◌++◌, true, false, Option, Some, None};
+ghost use Rattle.std.specs.Prelude.{◌≡◌, ◌≤◌, ◌⊎◌, ◌+◌, ℕ, List, [], ◌∷◌, ◌++◌, true, false, Option, Some, None, take};
 ghost use Rattle.sqlite.specs.Effect.{Database};
 ghost use Rattle.mq_frame.specs.declared.message.Id.{Id};
 ghost use Rattle.mq_frame.specs.declared.message.Request.{Request as AnyRequest};
 ghost use Rattle.mq_frame.specs.declared.message.Reply.{Reply as AnyReply};
 ghost use Rattle.mq_frame.specs.declared.message.Reply.TheVariants.{Old};
 ghost use Rattle.mq_frame.specs.declared.usage.UsageRow.{UsageRow as AnyUsageRow};
+ghost use Rattle.mq_forget.specs.Carried.{IsAt};
+ghost use Rattle.mq_forget.specs.Remembered.{day_named, stays, remembered};
 ghost use Rattle.mq_frame.specs.Range.{IsRequest};
 ghost use Rattle.mq_frame.specs.Same.{same_id};
+ghost use Rattle.mq_frame.specs.Spelling.{SpellsRequest};
 ghost use Rattle.mq_ledger.specs.declared.entry.Entry.{Entry as AnyEntry};
 ghost use Rattle.mq_ledger.specs.declared.zone.Zone.{Zone as AnyZone};
 ghost use Rattle.mq_ledger.specs.Answer.{appended, known_by, reply};
 ghost use Rattle.mq_ledger.specs.Arrivals.{id_of, floor, is_below, is_first};
 ghost use Rattle.mq_ledger.specs.Day.{day_of};
-ghost use Rattle.mq_ledger.specs.History.{requests};
+ghost use Rattle.mq_ledger.specs.History.{requests, Transaction, named};
 ghost use Rattle.mq_ledger.specs.Page.{row};
 ghost use Rattle.mq_ledger.specs.Legal.{Book, IsLegalBook};
 ghost use Rattle.mq_rows.specs.declared.audited.Audit.{Audit as AnyAudit};
@@ -22,22 +25,28 @@ ghost use Rattle.mq_rows.specs.declared.record.AnswerRecord.{AnswerRecord};
 ghost use Rattle.mq_rows.specs.declared.record.UsageRecord.{UsageRecord};
 ghost use Rattle.mq_rows.specs.declared.record.CeilingRecord.{CeilingRecord};
 ghost use Rattle.mq_rows.specs.declared.record.RetiredRecord.{RetiredRecord};
+ghost use Rattle.mq_rows.specs.declared.record.TransactionRecord.{TransactionRecord};
 ghost use Rattle.mq_rows.specs.declared.plan.Found.{Found};
 ghost use Rattle.mq_rows.specs.Found.{IsFound, IsGoverning};
 ghost use Rattle.mq_rows.specs.Plan.{floor_by, planned};
 ghost use Rattle.mq_rows.specs.Listing.{IsNext, page_row_by, usage_reply_by};
-ghost use Rattle.mq_rows.specs.Rows.{is_usage, is_host};
+ghost use Rattle.mq_rows.specs.Rows.{is_usage, is_host, is_transaction};
 ghost use Rattle.mq_rows.specs.Repeat.{IsRepeatOf};
-ghost use Rattle.mq_rows.specs.Tables.{Tables, AreRows};
+ghost use Rattle.mq_rows.specs.Tables.{Tables, AreRows, AreTransactions};
+ghost use Rattle.mq_tables.specs.declared.entry.Bodies.{Bodies};
+ghost use Rattle.mq_tables.specs.Entries.{IsAnswerAt};
 ghost use Rattle.mq_tables.specs.Finding.{AreKeyed};
 ghost use Rattle.mq_tables.specs.Ledger.{HasLedger};
 ghost use Rattle.mq_tables.specs.Records.{IsOneOf};
 ghost use Rattle.mq_store.specs.Paging.{IsNextRow, IsPageOf, IsBegunIn};
 ghost use Rattle.mq_store.specs.Auditing.{IsAuditIn, IsRightAnswer};
+ghost use Rattle.mq_store.specs.Carrying.{day_by, SpellsWhereKnown, IsAnswered};
 ghost use Rattle.mq_store.specs.Soundness.{book_in};
 ghost use Rattle.mq_store.specs.Taking.{HasRows, HasBook, book_of, book_after, IsKnown, AppliesOver, IsPlannedOver};
 
-use mq_ledger::laws::replies_in_range;
+use mq_forget::laws::{fronts_are_legal, next_place_is_carried_over};
+use mq_frame::laws::one_spelling;
+use mq_ledger::laws::{one_more_arrival, replies_in_range};
 use mq_rows::laws::{
     floors_are_found, histories_are_right, nothing_is_added, one_more_answer, pages_go_by_login,
     repeats_are_answered, rows_by_key, rows_mean_their_history, usage_is_answered,
@@ -157,4 +166,54 @@ pub(crate) fn books_are_right()
         AreRows b t → IsAuditIn b.zone b.default db a → IsRightAnswer a }
 {
     histories_are_right();
+}
+
+/// What is read of an answer by its place is the entry at that place.
+pub(crate) fn answers_are_entries()
+    ensures { (zone : AnyZone) (default : ℕ) (H : List AnyEntry) (t : Tables) (place : ℕ) (b : Bodies)
+        (r : AnyRequest) (a : Option AnyReply) → IsLegalBook (book_of zone default H) →
+        AreRows (book_of zone default H) t → IsAnswerAt (place + 1) t.answers (Some b) →
+        SpellsRequest b.request r → SpellsWhereKnown b.reply a →
+        IsAnswered H place (record { request = r; reply = a }) }
+{
+    one_spelling();
+    replies_in_range();
+}
+
+/// A transaction has the day of its row, and without a row it has no entry.
+pub(crate) fn transactions_have_days()
+    ensures { (day : ℕ → ℕ) (H : List AnyEntry) (rows : List TransactionRecord) (t : Transaction) (at : ℕ)
+        (found : Option TransactionRecord) → AreTransactions day H rows →
+        IsOneOf (is_transaction t) rows found →
+        day_by day at found ≡ day_named day at (named H t) }
+{}
+
+/// Over a front of a history the next request gets the reply of its entry, and leads to the front with it.
+pub(crate) fn entries_are_followed()
+    ensures reply { (zone : AnyZone) (default : ℕ) (H : List AnyEntry) (place : ℕ) (e : AnyEntry) →
+        IsLegalBook (book_of zone default H) → IsAt H place e →
+        reply (day_of zone) default (take place H) e.request ≡ e.reply }
+    ensures follows { (zone : AnyZone) (default : ℕ) (H : List AnyEntry) (place : ℕ) (e : AnyEntry)
+        (db : Database) → IsLegalBook (book_of zone default H) → IsAt H place e →
+        HasBook (book_after zone default (take place H) e.request) db →
+        HasBook (book_of zone default (take (place + 1) H)) db }
+{
+    one_more_arrival();
+    fronts_are_legal();
+}
+
+/// With the next entry the new tables are the rows of what is remembered of a front with it.
+pub(crate) fn entries_are_carried()
+    ensures stays { (zone : AnyZone) (default D : ℕ) (H : List AnyEntry) (place : ℕ) (e : AnyEntry)
+        (db : Database) → IsLegalBook (book_of zone default H) → IsAt H place e →
+        stays (day_of zone) D H e ≡ true →
+        HasBook (book_after zone default (remembered (day_of zone) D (take place H)) e.request) db →
+        HasBook (book_of zone default (remembered (day_of zone) D (take (place + 1) H))) db }
+    ensures goes { (zone : AnyZone) (default D : ℕ) (H : List AnyEntry) (place : ℕ) (e : AnyEntry)
+        (db : Database) → IsLegalBook (book_of zone default H) → IsAt H place e →
+        stays (day_of zone) D H e ≡ false →
+        HasBook (book_of zone default (remembered (day_of zone) D (take place H))) db →
+        HasBook (book_of zone default (remembered (day_of zone) D (take (place + 1) H))) db }
+{
+    next_place_is_carried_over();
 }

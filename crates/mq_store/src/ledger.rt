@@ -40,10 +40,10 @@ use std::marker::Model;
 /// A ledger in seven tables of a store, which may hold others too.
 #[derive(Drop)]
 pub struct SqlLedger<S: Alter> {
-    alloc: Global,
-    connection: Connection<S>,
-    zone: Zone,
-    default: u32,
+    pub(crate) alloc: Global,
+    pub(crate) connection: Connection<S>,
+    pub(crate) zone: Zone,
+    pub(crate) default: u32,
 }
 
 impl<S: Alter> Model for SqlLedger<S> {
@@ -59,7 +59,7 @@ impl<S: Alter> Model for SqlLedger<S> {
 }
 
 /// What the tables are made with.
-fn new_setting(zone: Zone, default: u32) -> NewSetting
+pub(crate) fn new_setting(zone: Zone, default: u32) -> NewSetting
     ensures value { result ≡ made_with zone default }
     ensures in_range { IsZone zone }
 {

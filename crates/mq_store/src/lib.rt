@@ -3,14 +3,18 @@
 
 mod apply;
 mod auditing;
+mod carry;
 mod counting;
 mod fault;
+mod fill;
+mod forgetting;
 mod giving_up;
 mod laws;
 mod ledger;
 mod listing;
 mod memory;
 mod opening;
+mod recall;
 mod take;
 mod write;
 

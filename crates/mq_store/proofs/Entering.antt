@@ -1,0 +1,144 @@
+-- The rows of answers and of transactions, read one by one, and the entries of a history one after another.
+use Rattle.std.proofs.Common.{◌≡◌, ℕ, suc, ◌+◌, ◌<◌, List, [], ◌∷◌, ◌++◌, length, get_or, take, drop, map, filter, Bool, true, false, refl, ◌∙◌, ap, sym, subst, inl, inr, arith, add-one, drop-cons}
+use Rattle.std.specs.Prelude.{◌⊎◌, Option, Some, None, All, if◌then◌else◌}
+use Rattle.std.specs.List.{AllByRecursion, enumerate_from}
+use Rattle.std.proofs.lemmas.Bool.{cases_Bool}
+use Rattle.std.proofs.lemmas.List.{get_or_default, map-append, take-append-drop, take_more}
+use Rattle.sqlite_rules.specs.Lists.{Has}
+use Rattle.mq_frame.specs.declared.message.Id.{Id}
+use Rattle.mq_frame.specs.declared.message.Request.{Request}
+use Rattle.mq_frame.specs.declared.message.Request.TheVariants.{Reserve, Settle, Release, Limit, Usage, List as ListRequest, Retire}
+use Rattle.mq_frame.specs.declared.message.Reply.{Reply}
+use Rattle.mq_frame.specs.declared.message.Reply.TheVariants.{Retry}
+use Rattle.mq_frame.specs.Range.{IsRequest, IsReply}
+use Rattle.mq_frame.specs.Spelling.{SpellsRequest, SpellsReply, reply_body}
+use Rattle.mq_ledger.specs.declared.entry.Entry.{Entry}
+use Rattle.mq_ledger.specs.Answer.{answer, history_of, known_by, reply, reply_to, reply_by}
+use Rattle.mq_ledger.specs.Arrivals.{id_of, is_below}
+use Rattle.mq_ledger.specs.History.{Transaction, requests, named}
+use Rattle.mq_ledger.specs.Legal.{IsLegal}
+use Rattle.mq_rows.specs.declared.record.AnswerRecord.{AnswerRecord}
+use Rattle.mq_rows.specs.declared.record.TransactionRecord.{TransactionRecord}
+use Rattle.mq_rows.specs.Rows.{answer_row, answer_rows, number_of, transaction_row, transaction_of, is_transaction, moment_of}
+use Rattle.mq_rows.specs.Tables.{AreTransactions, those}
+use Rattle.mq_forget.specs.Remembered.{day_named, moment_of as moment_in}
+use Rattle.mq_forget.specs.Carried.{IsAt}
+use Rattle.mq_tables.specs.declared.entry.Bodies.{Bodies}
+use Rattle.mq_tables.specs.Entries.{AreBodiesAt}
+use Rattle.mq_tables.specs.Records.{IsOneOf}
+use Rattle.mq_store.specs.Carrying.{day_by, SpellsWhereKnown, IsWhereKnown, IsAnswered}
+use Rattle.mq_store.proofs.Firsts.{not_below, not_stored}
+
+-- Answers.
+
+record Placed (H : List Entry) (k : ℕ) (rest : List Entry) (a : AnswerRecord) : Type 0 where
+  place : ℕ
+  within : place < length rest
+  is : (d : Entry) → a ≡ answer_row H (k + place) (get_or rest place d)
+
+placed : (H : List Entry) (k : ℕ) (rest : List Entry) (a : AnswerRecord) → Has (map (λ p. answer_row H p.0 p.1) (enumerate_from k rest)) a → Placed H k rest a
+placed H k [] a h = absurd h
+placed H k (x ∷ rest) a (inl e) = (let z : k ≡ k + 0 = omega arith in record { place = 0; within = omega arith; is = λ d. e ∙ ap (λ n. answer_row H n x) z })
+placed H k (x ∷ rest) a (inr h) =
+    let r = placed H (k + 1) rest a h in
+    let z : k + 1 + r.place ≡ k + suc r.place = omega arith in
+    record { place = suc r.place; within = omega (arith, r.within); is = λ d. r.is d ∙ ap (λ n. answer_row H n (get_or rest r.place d)) z }
+
+-- what a row keeps of a reply is empty where its run is given up
+where_known : ((body : List ℕ) (a b : Reply) → SpellsReply body a → SpellsReply body b → a ≡ b)
+    → (below : Bool) (body : List ℕ) (a : Reply) (o : Option Reply) → body ≡ (if below then [] else reply_body a) → IsReply a → SpellsWhereKnown body o → IsWhereKnown o a
+where_known one below body a None are range known = tt
+where_known one true body a (Some b) are range known = absurd (omega (arith, known.0, ap length are))
+where_known one false body a (Some b) are range known = one body a b (record { bytes = are; in_range = range }) known.1
+
+pub entry_is : ((body : List ℕ) (r s : Request) → SpellsRequest body r → SpellsRequest body s → r ≡ s) → ((body : List ℕ) (a b : Reply) → SpellsReply body a → SpellsReply body b → a ≡ b)
+    → (H : List Entry) (answers : List AnswerRecord) (place : ℕ) (b : Bodies) (r : Request) (o : Option Reply) → All (λ x. IsRequest x.request) H → All (λ x. IsReply x.reply) H → answers ≡ answer_rows H
+    → AreBodiesAt (place + 1) answers b → SpellsRequest b.request r → SpellsWhereKnown b.reply o → IsAnswered H place (record { request = r; reply = o })
+entry_is one_request one_reply H answers place b r o requests_in replies_in rows at spelled known =
+    let d : Entry = record { request = r; reply = Retry } in
+    let there : Has (answer_rows H) at.answer = subst (λ all. Has all at.answer) rows at.among in
+    let p = placed H 1 H at.answer there in
+    let same : p.place ≡ place = omega (arith, ap (λ (a : AnswerRecord). a.n) (p.is d), at.place) in
+    let row : at.answer ≡ answer_row H (1 + place) (get_or H place d) = subst (λ k. at.answer ≡ answer_row H (1 + k) (get_or H k d)) same (p.is d) in
+    let within : place < length H = subst (λ k. k < length H) same p.within in
+    let x : Entry = get_or H place d in
+    let asked : r ≡ x.request = one_request b.request r x.request spelled (record { bytes = sym at.request ∙ ap (λ (a : AnswerRecord). a.request) row; in_range = requests_in place d within }) in
+    let e : Entry = record { request = r; reply = x.reply } in
+    let whole : e ≡ x = λ i. record { request = asked i; reply = x.reply } in
+    record {
+      reply = x.reply;
+      at = record { within = within; is = whole ∙ get_or_default H place d e within };
+      is = where_known one_reply (is_below (requests H) (number_of x.request)) b.reply x.reply o (sym at.reply ∙ ap (λ (a : AnswerRecord). a.reply) row) (replies_in place d within) known;
+    }
+
+-- Transactions.
+
+none_left : {R : Type 0} (p : R → Bool) (rows : List R) → AllByRecursion (λ r. p r ≡ false) rows → filter p rows ≡ []
+none_left p [] all = refl
+none_left p (r ∷ rows) all = rw all.0 (none_left p rows all.1)
+
+has_left : {R : Type 0} (p : R → Bool) (rows : List R) (r : R) → Has rows r → p r ≡ true → Has (filter p rows) r
+has_left p [] r h k = h
+has_left p (x ∷ rows) r (inl e) k = (let t : p x ≡ true = ap p (sym e) ∙ k in rw t (inl e))
+has_left p (x ∷ rows) r (inr h) k = elim (cases_Bool (p x)) [ inl t ↦ rw t (inr (has_left p rows r h k)) | inr f ↦ rw f (has_left p rows r h k) ]
+
+same_moment : (r : Request) → moment_of r ≡ moment_in r
+same_moment (Reserve id txn at login count) = refl
+same_moment (Settle id txn at login count) = refl
+same_moment (Release id txn at login) = refl
+same_moment (Limit id from c login) = refl
+same_moment (Usage login d) = refl
+same_moment (ListRequest d after) = refl
+same_moment (Retire id) = refl
+
+unnamed_day : (day : ℕ → ℕ) (H : List Entry) (t : Transaction) (at : ℕ) (o : Option Entry) → named H t ≡ o → those (transaction_row day H t) ≡ [] → day at ≡ day_named day at o
+unnamed_day day H t at None h empty = refl
+unnamed_day day H t at (Some e) h empty = absurd (let b : transaction_of day H t e ∷ [] ≡ [] = rw h at empty in cc b)
+
+named_day : (day : ℕ → ℕ) (H : List Entry) (t : Transaction) (at : ℕ) (row : TransactionRecord) (o : Option Entry) → named H t ≡ o → Has (those (transaction_row day H t)) row → row.day ≡ day_named day at o
+named_day day H t at row None h there = absurd (let b : ⊥ = rw h at there in b)
+named_day day H t at row (Some e) h there =
+    let k : Has (transaction_of day H t e ∷ []) row = rw h at there in
+    elim k [
+      | inl is ↦ ap (λ (r : TransactionRecord). r.day) is ∙ ap day (same_moment e.request)
+      | inr none ↦ absurd none
+    ]
+
+pub day_is : (day : ℕ → ℕ) (H : List Entry) (rows : List TransactionRecord) (t : Transaction) (at : ℕ) (found : Option TransactionRecord) → AreTransactions day H rows → IsOneOf (is_transaction t) rows found → day_by day at found ≡ day_named day at (named H t)
+day_is day H rows t at None are none = unnamed_day day H t at (named H t) refl (sym (are t) ∙ none_left (is_transaction t) rows none)
+day_is day H rows t at (Some row) are found = named_day day H t at row (named H t) refl (subst (λ all. Has all row) (are t) (has_left (is_transaction t) rows row found.0 found.1))
+
+-- The next entry.
+
+-- a new number's reply is its answer
+new_reply : (day : ℕ → ℕ) (default : ℕ) (H : List Entry) (r : Request) (o : Option Id) → known_by H o ≡ false → reply_to day default H r o ≡ answer day default H r
+new_reply day default H r None new = refl
+new_reply day default H r (Some id) new = rw (not_below H id new) (ap (reply_by day default H r id) (not_stored H id new))
+
+module _ (day : ℕ → ℕ) (default : ℕ) (H : List Entry) (place : ℕ) (e : Entry) (at : IsAt H place e) (legal : IsLegal day default H)
+    (fronts : (F S : List Entry) → IsLegal day default (F ++ S) → IsLegal day default F) where
+  more : take (place + 1) H ≡ take place H ++ e ∷ []
+  more = take_more H place e at.within ∙ ap (λ x. take place H ++ x ∷ []) (sym at.is)
+
+  split : take place H ++ e ∷ drop (place + 1) H ≡ H
+  split = let less : place < length H = at.within in ap (λ x. take place H ++ x ∷ drop (place + 1) H) at.is ∙ ap (λ xs. take place H ++ xs) (sym (rw (add-one, drop-cons H place e) refl)) ∙ take-append-drop place H
+
+  pub followed : ((K : List Entry) → IsLegal day default K → history_of day default (requests K) ≡ K) → history_of day default (requests (take place H) ++ e.request ∷ []) ≡ take (place + 1) H
+  followed again =
+      let front : IsLegal day default (take (place + 1) H) = fronts (take (place + 1) H) (drop (place + 1) H) (subst (IsLegal day default) (sym (take-append-drop (place + 1) H)) legal) in
+      ap (history_of day default) (sym (ap requests more ∙ map-append (λ (x : Entry). x.request) (take place H) (e ∷ []))) ∙ again (take (place + 1) H) front
+
+  pub replied : ((F S : List Entry) (x : Entry) → IsLegal day default (F ++ x ∷ S) → (known_by F (id_of x.request) ≡ false) × (x.reply ≡ answer day default F x.request)) → reply day default (take place H) e.request ≡ e.reply
+  replied next =
+      let n = next (take place H) (drop (place + 1) H) e (subst (IsLegal day default) (sym split) legal) in
+      new_reply day default (take place H) e.request (id_of e.request) n.0 ∙ sym n.1
+
+-- Cases.
+
+pub option_cases : {A : Type 0} (o : Option A) → (o ≡ None) ⊎ ((x : A) × (o ≡ Some x))
+option_cases None = inl refl
+option_cases (Some x) = inr (x, refl)
+
+pub take_all : {X : Type 0} (xs : List X) → take (length xs) xs ≡ xs
+take_all [] = refl
+take_all (x ∷ xs) = ap (λ ys. x ∷ ys) (take_all xs)

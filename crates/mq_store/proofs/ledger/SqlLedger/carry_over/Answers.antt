@@ -1,0 +1,25 @@
+use Rattle.sqlite.specs.Held.{state}
+use Rattle.mq_ledger.specs.Legal.{Book}
+use Rattle.mq_store.specs.Taking.{HasBook}
+use Rattle.mq_store.proofs.Filling.{remembered_by, found_filled, found_filled_or}
+use Rattle.mq_store.proofs.ledger.SqlLedger.carry_over.Goals as goal
+
+pub returns-clause-remembered : goal.returns-clause-remembered
+returns-clause-remembered g c = rw (← c.old.view_is) (λ clean clean_new sound free.
+    let l = c.old.inside in
+    let old = state g.T.Store l.connection in
+    let new = state g.S.Store c.fill_store.new.into in
+    remembered_by (λ (b : Book) db (has : HasBook b db). c.tables_mean_their_book.ensures b has.has.tables db has.legal has.has.holds has.has.rows) l.zone l.default c.args.day old new (state g.S.Store c.args.connection).now
+    (record { clean = clean_new; is_open = c.in-Ok.ensures.open clean_new }) sound free (rw c.set_step_limit.ensures at (c.in-Ok.ensures.filled clean clean_new)))
+
+pub returns-clause-found_ok : goal.returns-clause-found_ok
+returns-clause-found_ok g c = rw (← c.old.view_is) (λ clean clean_new.
+    let l = c.old.inside in
+    found_filled c.trees_have_one_schema.ensures l.zone l.default c.args.day (state g.T.Store l.connection).now (state g.S.Store c.args.connection).now (state g.S.Store c.fill_store.new.into)
+    (rw c.set_step_limit.ensures at (c.in-Ok.ensures.filled clean clean_new)) (c.in-Ok.ensures.crash_ok clean_new))
+
+pub returns-in-Err-clause-found_err : goal.returns-in-Err-clause-found_err
+returns-in-Err-clause-found_err g c = rw (← c.old.view_is) (λ clean clean_new.
+    let l = c.old.inside in
+    found_filled_or c.trees_have_one_schema.ensures l.zone l.default c.args.day (state g.T.Store l.connection).now (state g.S.Store c.args.connection) (state g.S.Store c.fill_store.new.into)
+    (rw c.set_step_limit.ensures at (c.in-Err.ensures.crash_err clean clean_new)))

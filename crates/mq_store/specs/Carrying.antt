@@ -1,0 +1,115 @@
+-- What a new store takes over from an old one.
+use Rattle.std.specs.Prelude.{◌≡◌, ◌+◌, ◌<◌, ℕ, List, [], take, length, Bool, true, false, Option, Some, None}
+use Rattle.sqlite.specs.Effect.{Database}
+use Rattle.mq_frame.specs.declared.message.Request.{Request}
+use Rattle.mq_frame.specs.declared.message.Reply.{Reply}
+use Rattle.mq_frame.specs.Spelling.{SpellsReply}
+use Rattle.mq_ledger.specs.declared.entry.Entry.{Entry}
+use Rattle.mq_ledger.specs.declared.zone.Zone.{Zone}
+use Rattle.mq_ledger.specs.Day.{day_of}
+use Rattle.mq_ledger.specs.History.{Transaction, named}
+use Rattle.mq_rows.specs.declared.record.TransactionRecord.{TransactionRecord}
+use Rattle.mq_forget.specs.Remembered.{day_named, is_set, stays, remembered}
+use Rattle.mq_forget.specs.Carried.{IsAt}
+use Rattle.mq_store.specs.declared.recall.Answered.{Answered}
+use Rattle.mq_store.specs.declared.carry.Judged.{Judged}
+use Rattle.mq_store.specs.declared.carry.Next.{Next}
+use Rattle.mq_store.specs.Taking.{HasBook, book_of}
+
+-- What is read of the old store, whatever the history is of which its tables are the rows.
+
+-- the day of a transaction by its row, or of the moment where it has none
+abbrev pub day_by : (ℕ → ℕ) → ℕ → Option TransactionRecord → ℕ
+day_by day at None = day at
+day_by day at (Some row) = row.day
+
+-- this is the day of the transaction, or of the moment where no entry names it
+abbrev pub Names : Zone → Transaction → ℕ → Database → ℕ → Type 0
+Names zone t at db d =
+    (default : ℕ) (H : List Entry) → HasBook (book_of zone default H) db → d ≡ day_named (day_of zone) at (named H t)
+
+-- a body that isn't empty spells the reply, where there is one
+abbrev pub SpellsWhereKnown : List ℕ → Option Reply → Type 0
+SpellsWhereKnown body None = Unit {0}
+SpellsWhereKnown body (Some a) = (0 < length body) × SpellsReply body a
+
+-- it is that reply, where there is one
+abbrev pub IsWhereKnown : Option Reply → Reply → Type 0
+IsWhereKnown None reply = Unit {0}
+IsWhereKnown (Some a) reply = reply ≡ a
+
+-- the entry at that place has the request, and the reply where there is one
+pub record IsAnswered (H : List Entry) (place : ℕ) (a : Answered) : Type 0 where
+  pub reply : Reply
+  pub at : IsAt H place (record { request = a.request; reply = reply })
+  pub is : IsWhereKnown a.reply reply
+
+abbrev pub IsAnsweredAt : ℕ → Database → Answered → Type 0
+IsAnsweredAt place db a =
+    (zone : Zone) (default : ℕ) (H : List Entry) → HasBook (book_of zone default H) db → IsAnswered H place a
+
+-- whether the entry stays; with nothing told, it stays where it is a limit that was set
+abbrev pub IsTold : (ℕ → ℕ) → ℕ → List Entry → Entry → Option Bool → Type 0
+IsTold day D H e None = stays day D H e ≡ is_set e.request e.reply
+IsTold day D H e (Some b) = stays day D H e ≡ b
+
+-- so it is of an entry with that request, and with that reply where there is one
+abbrev pub TellsStaying : Zone → ℕ → Answered → Database → Option Bool → Type 0
+TellsStaying zone D a db told =
+    (default : ℕ) (H : List Entry) → HasBook (book_of zone default H) db
+    → (reply : Reply) → IsWhereKnown a.reply reply
+    → IsTold (day_of zone) D H (record { request = a.request; reply = reply }) told
+
+-- What is applied again. A scratch store has the rows of a front of the old history.
+
+-- with as many entries more, the scratch store has the rows of that front
+abbrev pub Follows : Zone → ℕ → ℕ → ℕ → Database → Database → Database → Type 0
+Follows zone default followed place from old new =
+    (H : List Entry) → HasBook (book_of zone default H) from → HasBook (book_of zone default (take followed H)) old
+    → HasBook (book_of zone default (take place H)) new
+
+-- the entry at that place has the reply, and the scratch store the rows of the front that ends with it
+abbrev pub RepliesAt : Zone → ℕ → ℕ → ℕ → Request → Database → Database → Database → Reply → Type 0
+RepliesAt zone default followed place r from old new a =
+    (H : List Entry) → HasBook (book_of zone default H) from → HasBook (book_of zone default (take followed H)) old
+    → (reply : Reply) → IsAt H place (record { request = r; reply = reply })
+    → (reply ≡ a) × HasBook (book_of zone default (take (place + 1) H)) new
+
+-- it is told of the entry at that place whether it stays, and the scratch store has the rows of the front that it follows
+abbrev pub IsJudgedAt : Zone → ℕ → ℕ → ℕ → ℕ → Answered → Database → Database → Database → Judged → Type 0
+IsJudgedAt zone default D followed place a from old new judged =
+    (H : List Entry) → HasBook (book_of zone default H) from → HasBook (book_of zone default (take followed H)) old
+    → (reply : Reply) → IsWhereKnown a.reply reply → IsAt H place (record { request = a.request; reply = reply })
+    → (stays (day_of zone) D H (record { request = a.request; reply = reply }) ≡ judged.is_staying)
+    × HasBook (book_of zone default (take judged.followed H)) new
+
+-- What is carried over.
+
+-- the entry at a place goes, or stays and has that request
+abbrev pub IsNextIn : (ℕ → ℕ) → ℕ → ℕ → List Entry → Option Request → Type 0
+IsNextIn day D place H None = (e : Entry) × IsAt H place e × (stays day D H e ≡ false)
+IsNextIn day D place H (Some r) = (e : Entry) × IsAt H place e × (stays day D H e ≡ true) × (e.request ≡ r)
+
+-- so it is, and the scratch store has the rows of the front that it follows
+abbrev pub IsNextOf : Zone → ℕ → ℕ → ℕ → ℕ → Database → Database → Database → Next → Type 0
+IsNextOf zone default D followed place from old new next =
+    (H : List Entry) → HasBook (book_of zone default H) from → HasBook (book_of zone default (take followed H)) old
+    → IsNextIn (day_of zone) D place H next.request × HasBook (book_of zone default (take next.followed H)) new
+
+-- where the new tables are the rows of what is remembered of a front, they are those of one with one entry more
+abbrev pub CarriesOne : Zone → ℕ → ℕ → ℕ → List Entry → Database → Database → Type 0
+CarriesOne zone default D place H old new =
+    HasBook (book_of zone default (remembered (day_of zone) D (take place H))) old
+    → HasBook (book_of zone default (remembered (day_of zone) D (take (place + 1) H))) new
+
+-- where the new tables are a new ledger's, they are the rows of what is remembered of the first entries
+abbrev pub CarriesFront : Zone → ℕ → ℕ → ℕ → List Entry → Database → Database → Type 0
+CarriesFront zone default D count H old new =
+    HasBook (book_of zone default []) old
+    → HasBook (book_of zone default (remembered (day_of zone) D (take count H))) new
+
+-- where the new tables are a new ledger's, they are the rows of what is remembered of the old history
+abbrev pub Carries : Zone → ℕ → ℕ → Database → Database → Database → Type 0
+Carries zone default D from old new =
+    (H : List Entry) → HasBook (book_of zone default H) from → HasBook (book_of zone default []) old
+    → HasBook (book_of zone default (remembered (day_of zone) D H)) new

@@ -1,0 +1,145 @@
+//! A new store made a ledger that has what is remembered of an old one, in one transaction.
+
+ghost use Rattle.std.specs.Prelude.{◌≡◌, ◌⊎◌, false, IsTrue, OnOk, OnErr};
+ghost use Rattle.sqlite.specs.Held.{state};
+ghost use Rattle.sqlite.specs.State.{HasCleanDisk, KeepsCommit, Survives};
+ghost use Rattle.sqlite.specs.Tree.{Trees};
+ghost use Rattle.mq_frame.specs.Range.{IsAmount};
+ghost use Rattle.mq_store.specs.Carrying.{Carries};
+ghost use Rattle.mq_store.specs.Forgetting.{MakesBlank, Fills, AreFilled};
+ghost use Rattle.mq_store.specs.Soundness.{HasKept};
+ghost use Rattle.mq_store.specs.Taking.{Stays};
+
+use crate::carry::{Terms, carry_all};
+use crate::fault::Refused;
+use crate::ledger::new_setting;
+use mq_tables::create::make_tables;
+use sqlite::{Alter, Connection, Error, Transaction};
+use std::alloc::Global;
+
+/// Makes the tables of a ledger with that zone and default.
+fn make<S: Alter>(tx: &mut Transaction<'_, S>, terms: &Terms) -> Result<usize, Error>
+    requires in_range { IsAmount terms.now.default }
+    requires inside { HasCleanDisk (state S.Store tx.old.conn.now)
+        → IsTrue (state S.Store tx.old.conn.now).in_transaction }
+    ensures same_reference { tx.new.conn.ghost_name ≡ tx.old.conn.ghost_name }
+    ensures inside { HasCleanDisk (state S.Store tx.new.conn.now)
+        → OnOk result (IsTrue (state S.Store tx.new.conn.now).in_transaction) }
+    ensures blank { HasCleanDisk (state S.Store tx.new.conn.now)
+        → OnOk result (MakesBlank terms.now.zone terms.now.default (state S.Store tx.old.conn.now).now
+        (state S.Store tx.new.conn.now).now) }
+    ensures kept { HasCleanDisk (state S.Store tx.new.conn.now)
+        → KeepsCommit (state S.Store tx.old.conn.now) (state S.Store tx.new.conn.now) }
+    ensures survives { Survives (state S.Store tx.old.conn.now) (state S.Store tx.new.conn.now) (λ _. ⊥) }
+{
+    let made_with = new_setting(terms.zone, terms.default);
+    make_tables(tx, &made_with)
+}
+
+/// Takes over what stays of all answers, with a scratch ledger in memory.
+fn carry_apart<S: Alter, T: Alter>(
+    alloc: Global,
+    from: &mut Transaction<'_, S>,
+    into: &mut Transaction<'_, T>,
+    terms: &Terms,
+) -> Result<(), Refused>
+    requires in_range { IsAmount terms.now.default }
+    requires into_inside { HasCleanDisk (state T.Store into.old.conn.now)
+        → IsTrue (state T.Store into.old.conn.now).in_transaction }
+    ensures same_from { from.new.conn.ghost_name ≡ from.old.conn.ghost_name }
+    ensures same_into { into.new.conn.ghost_name ≡ into.old.conn.ghost_name }
+    ensures stays { HasCleanDisk (state S.Store from.new.conn.now)
+        → OnOk result (Stays (state S.Store from.old.conn.now) (state S.Store from.new.conn.now)) }
+    ensures into_inside { HasCleanDisk (state T.Store into.new.conn.now)
+        → OnOk result (IsTrue (state T.Store into.new.conn.now).in_transaction) }
+    ensures carried { HasCleanDisk (state S.Store from.new.conn.now)
+        → HasCleanDisk (state T.Store into.new.conn.now)
+        → OnOk result (Carries terms.now.zone terms.now.default terms.now.day (state S.Store from.old.conn.now).now
+        (state T.Store into.old.conn.now).now (state T.Store into.new.conn.now).now) }
+    ensures from_kept { HasCleanDisk (state S.Store from.new.conn.now)
+        → KeepsCommit (state S.Store from.old.conn.now) (state S.Store from.new.conn.now) }
+    ensures from_survives { Survives (state S.Store from.old.conn.now) (state S.Store from.new.conn.now) (λ _. ⊥) }
+    ensures into_kept { HasCleanDisk (state T.Store into.new.conn.now)
+        → KeepsCommit (state T.Store into.old.conn.now) (state T.Store into.new.conn.now) }
+    ensures into_survives { Survives (state T.Store into.old.conn.now) (state T.Store into.new.conn.now) (λ _. ⊥) }
+{
+    let mut memory = Connection::open_in_memory(alloc)?;
+    let _settled = memory.is_autocommit();
+    let mut scratch = memory.transaction();
+    make(&mut scratch, terms)?;
+    carry_all(alloc, from, into, &mut scratch, terms)
+}
+
+/// Makes the tables of the new ledger and takes over what stays.
+#[tactic(auto, using(crate::proofs::Chain::calls))]
+fn fill<S: Alter, T: Alter>(
+    alloc: Global,
+    from: &mut Transaction<'_, S>,
+    into: &mut Transaction<'_, T>,
+    terms: &Terms,
+) -> Result<(), Refused>
+    requires in_range { IsAmount terms.now.default }
+    requires into_inside { HasCleanDisk (state T.Store into.old.conn.now)
+        → IsTrue (state T.Store into.old.conn.now).in_transaction }
+    ensures same_from { from.new.conn.ghost_name ≡ from.old.conn.ghost_name }
+    ensures same_into { into.new.conn.ghost_name ≡ into.old.conn.ghost_name }
+    ensures stays { HasCleanDisk (state S.Store from.new.conn.now)
+        → OnOk result (Stays (state S.Store from.old.conn.now) (state S.Store from.new.conn.now)) }
+    ensures into_inside { HasCleanDisk (state T.Store into.new.conn.now)
+        → OnOk result (IsTrue (state T.Store into.new.conn.now).in_transaction) }
+    ensures filled { HasCleanDisk (state S.Store from.new.conn.now)
+        → HasCleanDisk (state T.Store into.new.conn.now)
+        → OnOk result (Fills terms.now.zone terms.now.default terms.now.day (state S.Store from.old.conn.now).now
+        (state T.Store into.old.conn.now).now (state T.Store into.new.conn.now).now) }
+    ensures from_kept { HasCleanDisk (state S.Store from.new.conn.now)
+        → KeepsCommit (state S.Store from.old.conn.now) (state S.Store from.new.conn.now) }
+    ensures from_survives { Survives (state S.Store from.old.conn.now) (state S.Store from.new.conn.now) (λ _. ⊥) }
+    ensures into_kept { HasCleanDisk (state T.Store into.new.conn.now)
+        → KeepsCommit (state T.Store into.old.conn.now) (state T.Store into.new.conn.now) }
+    ensures into_survives { Survives (state T.Store into.old.conn.now) (state T.Store into.new.conn.now) (λ _. ⊥) }
+{
+    make(into, terms)?;
+    carry_apart(alloc, from, into, terms)
+}
+
+/// Makes the new store a ledger that has what is remembered of the old one, in one transaction. The old one is
+/// read in a transaction that writes nothing.
+pub(crate) fn fill_store<S: Alter, T: Alter>(
+    alloc: Global,
+    from: &mut Connection<S>,
+    into: &mut Connection<T>,
+    terms: &Terms,
+) -> Result<(), Refused>
+    requires in_range { IsAmount terms.now.default }
+    requires from_autocommit { from.old.in_transaction ≡ false }
+    requires into_autocommit { into.old.in_transaction ≡ false }
+    ensures from_autocommit { from.new.in_transaction ≡ false }
+    ensures into_autocommit { into.new.in_transaction ≡ false }
+    ensures from_limit { from.new.step_limit ≡ from.old.step_limit }
+    ensures into_limit { into.new.step_limit ≡ into.old.step_limit }
+    ensures from_kept { HasKept (state S.Store from.new) → HasKept (state S.Store from.old) }
+    ensures into_kept { HasKept (state T.Store into.new) → HasKept (state T.Store into.old) }
+    ensures from_same { HasKept (state S.Store from.new)
+        → (state S.Store from.new).now ≡ (state S.Store from.old).now }
+    ensures from_crash { HasCleanDisk (state S.Store from.new) → (db : Trees)
+        → (state S.Store from.new).may_leave db → (state S.Store from.old).may_leave db }
+    ensures filled { HasCleanDisk (state S.Store from.new) → HasCleanDisk (state T.Store into.new)
+        → OnOk result (Fills terms.now.zone terms.now.default terms.now.day (state S.Store from.old).now
+        (state T.Store into.old).now (state T.Store into.new).now) }
+    ensures open { HasCleanDisk (state T.Store into.new) → OnOk result (IsTrue (state T.Store into.new).is_open) }
+    ensures err { HasCleanDisk (state T.Store into.new) → IsTrue (state T.Store into.new).is_open
+        → OnErr result ((state T.Store into.new).now ≡ (state T.Store into.old).now) }
+    ensures crash_ok { HasCleanDisk (state T.Store into.new) → OnOk result ((db : Trees)
+        → (state T.Store into.new).may_leave db → db ≡ (state T.Store into.new).now.trees) }
+    ensures crash_err { HasCleanDisk (state S.Store from.new) → HasCleanDisk (state T.Store into.new)
+        → OnErr result ((db : Trees) → (state T.Store into.new).may_leave db → (state T.Store into.old).may_leave db
+        ⊎ AreFilled terms.now.zone terms.now.default terms.now.day (state S.Store from.old).now (state T.Store into.old).now db) }
+{
+    let _from_settled = from.is_autocommit();
+    let _into_settled = into.is_autocommit();
+    let mut reading = from.transaction();
+    let mut writing = into.transaction();
+    fill(alloc, &mut reading, &mut writing, terms)?;
+    writing.commit()?;
+    Ok(())
+}

@@ -1,0 +1,168 @@
+//! What an old store shows of its answers, one by one, and which of them a new store takes over.
+
+ghost use Rattle.std.specs.Prelude.{◌≡◌, ◌<◌, ◌+◌, ◌^◌, ℕ, List, IfOk, OnOk};
+ghost use Rattle.sqlite.specs.Held.{state};
+ghost use Rattle.sqlite.specs.State.{HasCleanDisk, KeepsCommit, Survives};
+ghost use Rattle.mq_frame.specs.Range.{IsRequest, IsId, IsMoment};
+ghost use Rattle.mq_frame.specs.Spelling.{SpellsRequest};
+ghost use Rattle.mq_ledger.specs.History.{transaction};
+ghost use Rattle.mq_forget.specs.Remembered.{is_set};
+ghost use Rattle.mq_store.specs.Carrying.{Names, SpellsWhereKnown, IsAnsweredAt, TellsStaying};
+ghost use Rattle.mq_store.specs.Taking.{Stays};
+
+use crate::fault::Refused;
+use crate::laws::{answers_are_entries, transactions_have_days};
+use mq_frame::{DecodeFault, Id, Reply, Request, decode_reply, decode_request};
+use mq_ledger::{LedgerFault, Zone};
+use mq_rows::Body;
+use mq_tables::entry::read_answer;
+use mq_tables::transaction::find_transaction;
+use sqlite::{Alter, Transaction};
+use std::alloc::Global;
+
+/// An answer as its row shows it: without its reply where its run was given up.
+#[derive(Drop)]
+pub(crate) struct Answered {
+    pub request: Request,
+    pub reply: Option<Reply>,
+}
+
+/// A body that spells nothing is no ledger's.
+fn refused(fault: DecodeFault) -> Refused {
+    let fault = match fault {
+        DecodeFault::Bad => LedgerFault::Store,
+        DecodeFault::Memory => LedgerFault::Memory,
+    };
+    Refused { fault }
+}
+
+fn request_in(alloc: Global, body: &Body) -> Result<Request, Refused>
+    ensures { IfOk result (λ request. SpellsRequest body.now request) }
+{
+    match decode_request(alloc, body.as_slice()) {
+        Ok(request) => Ok(request),
+        Err(fault) => Err(refused(fault)),
+    }
+}
+
+/// The reply that the body spells, or none where it is empty.
+fn reply_in(alloc: Global, body: &Body) -> Result<Option<Reply>, Refused>
+    ensures { IfOk result (SpellsWhereKnown body.now) }
+{
+    let bytes = body.as_slice();
+    if bytes.is_empty() {
+        return Ok(None);
+    }
+    match decode_reply(alloc, bytes) {
+        Ok(reply) => Ok(Some(reply)),
+        Err(fault) => Err(refused(fault)),
+    }
+}
+
+/// The answer at a place, counted from 0.
+#[tactic(auto, using(crate::proofs::Chain::calls))]
+pub(crate) fn answered_at<S: Alter>(
+    alloc: Global,
+    tx: &mut Transaction<'_, S>,
+    place: u64,
+) -> Result<Answered, Refused>
+    requires { place + 1 < 2 ^ 63 }
+    ensures same_reference { tx.new.conn.ghost_name ≡ tx.old.conn.ghost_name }
+    ensures stays { HasCleanDisk (state S.Store tx.new.conn.now)
+        → OnOk result (Stays (state S.Store tx.old.conn.now) (state S.Store tx.new.conn.now)) }
+    ensures read { HasCleanDisk (state S.Store tx.new.conn.now)
+        → IfOk result (IsAnsweredAt place (state S.Store tx.old.conn.now).now) }
+    ensures in_range { IfOk result (λ answered. IsRequest answered.request) }
+    ensures kept { HasCleanDisk (state S.Store tx.new.conn.now)
+        → KeepsCommit (state S.Store tx.old.conn.now) (state S.Store tx.new.conn.now) }
+    ensures survives { Survives (state S.Store tx.old.conn.now) (state S.Store tx.new.conn.now) (λ _. ⊥) }
+{
+    answers_are_entries();
+    let Some(bodies) = read_answer(tx, place + 1)? else {
+        return Err(Refused {
+            fault: LedgerFault::Store,
+        });
+    };
+    let request = request_in(alloc, &bodies.request)?;
+    let reply = reply_in(alloc, &bodies.reply)?;
+    Ok(Answered { request, reply })
+}
+
+/// The day of the transaction, or of the moment where it has no row.
+#[tactic(auto, using(crate::proofs::Chain::calls))]
+fn day_named<S: Alter>(
+    tx: &mut Transaction<'_, S>,
+    zone: Zone,
+    id: &Id,
+    txn: u32,
+    at: u64,
+) -> Result<u32, Refused>
+    requires id { IsId id.now }
+    requires moment { IsMoment at }
+    ensures same_reference { tx.new.conn.ghost_name ≡ tx.old.conn.ghost_name }
+    ensures stays { HasCleanDisk (state S.Store tx.new.conn.now)
+        → OnOk result (Stays (state S.Store tx.old.conn.now) (state S.Store tx.new.conn.now)) }
+    ensures named { HasCleanDisk (state S.Store tx.new.conn.now)
+        → IfOk result (Names zone (transaction id.now txn) at (state S.Store tx.old.conn.now).now) }
+    ensures kept { HasCleanDisk (state S.Store tx.new.conn.now)
+        → KeepsCommit (state S.Store tx.old.conn.now) (state S.Store tx.new.conn.now) }
+    ensures survives { Survives (state S.Store tx.old.conn.now) (state S.Store tx.new.conn.now) (λ _. ⊥) }
+{
+    transactions_have_days();
+    match find_transaction(tx, &id.host, id.run, txn)? {
+        Some(row) => Ok(row.day),
+        None => Ok(zone.day_at(at)),
+    }
+}
+
+/// Whether it is a limit that was set.
+pub(crate) fn is_set(request: &Request, reply: &Reply) -> bool
+    ensures { result ≡ is_set request.now reply.now }
+{
+    match (request, reply) {
+        (Request::Limit { .. }, Reply::LimitSet { .. }) => true,
+        _ => false,
+    }
+}
+
+/// Whether the answer stays. Of a limit from an earlier day that its reply alone could tell: `None` where it
+/// has none.
+pub(crate) fn stays<S: Alter>(
+    tx: &mut Transaction<'_, S>,
+    zone: Zone,
+    day: u32,
+    answered: &Answered,
+) -> Result<Option<bool>, Refused>
+    requires { IsRequest answered.now.request }
+    ensures same_reference { tx.new.conn.ghost_name ≡ tx.old.conn.ghost_name }
+    ensures stays { HasCleanDisk (state S.Store tx.new.conn.now)
+        → OnOk result (Stays (state S.Store tx.old.conn.now) (state S.Store tx.new.conn.now)) }
+    ensures told { HasCleanDisk (state S.Store tx.new.conn.now)
+        → IfOk result (TellsStaying zone day answered.now (state S.Store tx.old.conn.now).now) }
+    ensures kept { HasCleanDisk (state S.Store tx.new.conn.now)
+        → KeepsCommit (state S.Store tx.old.conn.now) (state S.Store tx.new.conn.now) }
+    ensures survives { Survives (state S.Store tx.old.conn.now) (state S.Store tx.new.conn.now) (λ _. ⊥) }
+{
+    let request = &answered.request;
+    match request {
+        Request::Reserve { id, txn, at, .. }
+        | Request::Settle { id, txn, at, .. }
+        | Request::Release { id, txn, at, .. } => {
+            let named = day_named(tx, zone, id, *txn, *at)?;
+            Ok(Some(day <= named))
+        }
+        Request::Limit { from_day, .. } => {
+            if day <= *from_day {
+                return Ok(Some(true));
+            }
+            match &answered.reply {
+                Some(reply) => Ok(Some(is_set(request, reply))),
+                None => Ok(None),
+            }
+        }
+        Request::Usage { day: asked, .. } | Request::List { day: asked, .. } => Ok(Some(
+            day <= *asked,
+        )),
+        Request::Retire { .. } => Ok(Some(true)),
+    }
+}
