@@ -32,6 +32,7 @@ fn front_of(rest: &[u8], searched: usize) -> Front
     requires { IsSearched rest.now searched }
     ensures { IsFront rest.now result }
 {
+    // One byte more than a line has: without an LF up to there, none that comes later can end this line.
     let end = rest.len().min(MAX_LINE + 1);
     let unsearched = &rest[searched..end];
     match unsearched.find_byte(b'\n') {
@@ -104,6 +105,7 @@ impl LineFeed {
         ensures full { OnErr result (self.old.room < length self.old.rest + length piece.now) }
         ensures room { self.old.room ≤ self.new.room }
     {
+        // What was taken leaves first, so that memory is asked for only for the rest and the piece.
         self.bytes.drain(..self.start);
         self.start = 0;
         self.bytes.extend_from_slice(piece)?;

@@ -81,6 +81,7 @@ fn seconds_of(time: &[u8]) -> Option<u64>
                 None
             };
         }
+        // (a number of 18 digits can't overflow)
         if place == MAX_SECOND_DIGITS || !byte.is_ascii_digit() {
             return None;
         }

@@ -98,6 +98,7 @@ pub fn write_result(
     match push_result(out, session, token, decision) {
         Ok(()) => Ok(()),
         Err(refused) => {
+            // All or nothing: smtpd would read a cut line together with the next one.
             out.truncate(before);
             Err(refused)
         }
