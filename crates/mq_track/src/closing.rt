@@ -1,3 +1,5 @@
+//! The end of a transaction: which one, and whether smtpd took its message.
+
 /// How a transaction ended.
 #[derive(Clone, Copy, Debug, PartialEq, Eq)]
 pub enum CloseEnd {

@@ -1,3 +1,4 @@
+//! What a line reports of a session, read off its event's name and parameters.
 ghost use Rattle.std.specs.Prelude.{◌≡◌, ◌≢◌, List, ℕ, MatchResult, IfErr, Some, None};
 ghost use Rattle.mq_line.specs.Grammar.{meaning};
 ghost use Rattle.mq_line.specs.Parameters.{message};

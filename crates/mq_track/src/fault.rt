@@ -1,3 +1,4 @@
+//! Why a line isn't accepted.
 ghost use Rattle.std.specs.Prelude.{◌≡◌};
 ghost use Rattle.mq_track.specs.declared.fault.TrackFault.TheVariants.{Memory};
 

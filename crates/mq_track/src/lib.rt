@@ -1,7 +1,16 @@
 //! Who sends in a session of smtpd, and in which transaction.
 //!
-//! A [`Tracker`] takes the reports of smtpd-filters(7) line by line. Its answers are those that one
-//! finds by looking back over all lines that it accepted.
+//! A [`Tracker`] takes the reports of smtpd-filters(7) line by line. `apply` answers the closing that a line brings,
+//! and `standing` says which login and open transaction a session has. Its answers are those that one finds by looking
+//! back over all lines that it accepted. From `mq_client/src/filter.rt`:
+//!
+//!     match tracker.apply(line) {
+//!         Ok(closing) => close(rt, closing, link, client),
+//!         Err(fault) => Err(fault_of(fault)),
+//!     }
+//!
+//! It stands on `mq_line`, and knows what a line says; it knows nothing of recipients, requests and limits. Begin with
+//! `specs/Sessions.antt`, the login and the open transaction of a session, and `tracker.rt`.
 #![tactic(auto)]
 
 mod closing;

@@ -1,3 +1,4 @@
+//! The map of sessions: of each its login, its open transaction, or both.
 ghost use Rattle.std.specs.Prelude.{◌≡◌, [], ℕ, Some, None, OnOk, OnErr, is_some, IsTrue, ◌||◌, ◌<◌};
 ghost use Rattle.std.specs.Option.{option_copied};
 
@@ -120,6 +121,7 @@ impl Sessions {
         ensures { Learns self.old self.new session.now
             (record { login = (known self.old session.now).login; transaction = None }) }
     {
+        // (of a session without a login and a transaction there is no record)
         if !self.has_login(session) {
             self.forget(session);
             return;

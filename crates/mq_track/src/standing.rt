@@ -1,3 +1,5 @@
+//! How a session stands: with a login or without, with a transaction or without.
+
 /// How a session stands.
 #[derive(Clone, Copy, Debug, PartialEq, Eq)]
 pub enum Standing<'a> {

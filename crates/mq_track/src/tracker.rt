@@ -1,3 +1,4 @@
+//! The tracker: one line after another, each with the closing that it brings.
 use crate::closing::{CloseEnd, Closing};
 use crate::event::{Event, event_of};
 use crate::fault::TrackFault;
@@ -148,6 +149,7 @@ impl Tracker {
         if self.begins == u32::MAX {
             return Err(TrackFault::Exhausted);
         }
+        // What it ends is found before anything changes, and so is the memory: an `Err` leaves all as it was.
         let closing = self.closing(session, None, CloseEnd::Drop);
         let transaction = Transaction {
             txn: self.begins + 1,
