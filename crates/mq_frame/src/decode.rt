@@ -73,6 +73,7 @@ fn own_page(alloc: Global, parts: PageParts<'_>) -> Result<UsageRows, AllocError
     let mut rows = Vec::with_capacity(alloc, parts.count as usize)?;
     let mut rest = parts.bytes;
     for done in 0..parts.count {
+        // (`page_at` has read each of them already, so none is missing)
         let Some((row, after)) = row_at(rest) else {
             break;
         };

@@ -258,6 +258,7 @@ fn append_frame(body: &[u8], out: &mut Vec<u8>) -> Result<(), AllocError>
     ensures err { OnErr result (out.new.items ≡ out.old.items) }
 {
     let length = body.len() as u16;
+    // The one growth comes before anything is appended: a frame is there whole or not at all.
     out.reserve(HEAD_BYTES + body.len())?;
     out.extend_from_slice(&length.to_be_bytes())?;
     out.extend_from_slice(body)?;

@@ -1,3 +1,4 @@
+//! What can go wrong: a growth that is refused, a device that failed.
 use std::alloc::AllocError;
 use thiserror::Error;
 

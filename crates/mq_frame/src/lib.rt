@@ -1,6 +1,17 @@
 //! Requests and replies of the quota server, and the frames in which they travel.
 //!
-//! `docs/FRAMES.md` has the format.
+//! A [`Request`] or [`Reply`] in range has one spelling as a body: [`encode_request`], [`decode_request`] and their
+//! like go both ways. A [`FrameFeed`] gives the bodies of a stream that comes in pieces. [`Source`] and [`Sink`] are
+//! the ends of a stream, over std's readers and writers. From `mq_server/src/answer.rt`:
+//!
+//!     match decode_request(alloc, body) {
+//!         Ok(request) => apply(&request, ledger),
+//!         Err(DecodeFault::Bad) => Ok(None),
+//!         Err(DecodeFault::Memory) => Err(ServeFault::Memory),
+//!     }
+//!
+//! It stands on no crate of ours, and doesn't know what a request does. Begin with `specs/Spelling.antt`, the bytes of
+//! each kind, and `message.rt`; for streams with `specs/Feed.antt` and `feed.rt`. docs/FRAMES.md has the format.
 #![tactic(auto)]
 
 mod borrowed;

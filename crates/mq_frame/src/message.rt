@@ -1,3 +1,4 @@
+//! Requests and replies as values, and the id of a request.
 ghost use Rattle.std.specs.Prelude.{◌≡◌, IfOk};
 ghost use Rattle.mq_frame.specs.Same.{same_id, same_request};
 
@@ -5,21 +6,21 @@ use crate::text::{Host, Login};
 use crate::usage::UsageRows;
 use std::alloc::AllocError;
 
-/// The number of a request: which host sent it, in which run of its filter, and which request of
-/// that run it is. A frame that is sent again carries the same number.
+/// The id of a request: which host sent it, in which run of its filter, and the request's number in
+/// that run. A frame that is sent again carries the same id.
 #[derive(Clone, Debug, Drop, PartialEq)]
 pub struct Id {
     pub host: Host,
     /// The run of the host's filter, 1 to 281,474,976,710,655.
     pub run: u64,
-    /// The place among the requests of the run, 1 to 4,294,967,295.
+    /// The number of the request in the run, 1 to 4,294,967,295.
     pub seq: u32,
 }
 
 /// What a host or an administrator asks of the quota server.
 ///
-/// `txn` names a transaction within the run of a host, 1 to 4,294,967,295; `at` is the second of
-/// its beginning since 1970-01-01T00:00:00Z, 86,400 to 32,503,680,000; `count` is a number of
+/// `txn` names a transaction within the run of a host, 1 to 4,294,967,295; `at` is the moment of
+/// its beginning, 86,400 to 32,503,680,000 seconds since 1970-01-01T00:00:00Z; `count` is a number of
 /// recipients, 1 to 1,000; a day is a day number since 1970-01-01, 0 to 376,200.
 #[derive(Debug, Drop, PartialEq)]
 pub enum Request {

@@ -99,6 +99,7 @@ impl<W: Write> Sink for ToWrite<W> {
             return Err(Failed);
         }
         match self.writer.write(piece) {
+            // (a writer that takes nothing would be asked without end)
             Ok(count) if count > 0 || piece.is_empty() => Ok(count),
             _ => {
                 self.failed = true;

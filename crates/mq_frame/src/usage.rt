@@ -1,3 +1,4 @@
+//! The rows of a list's page: what a login has used on a day.
 ghost use Rattle.std.specs.Prelude.{◌≡◌, IfOk};
 
 use crate::text::Login;
