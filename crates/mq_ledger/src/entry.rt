@@ -1,3 +1,4 @@
+//! An entry of the history.
 use mq_frame::{Reply, Request};
 
 /// A numbered request and its reply.

@@ -242,6 +242,7 @@ pub fn replies_suit()
     ensures reply { (day : ℕ → ℕ) (default : ℕ) (H : List AnyEntry) (r : AnyRequest) →
         IsLegal day default H → Suits r (reply day default H r) }
 {
+    // (a number is looked up by a test that is true of equal ids alone)
     same_is_equal();
 }
 

@@ -145,6 +145,7 @@ impl Ledger for PlainLedger {
             return Ok(reply);
         }
         let reply = self.answer(request)?;
+        // A usage and a list have no number, and leave the history alone.
         if id_of(request).is_some() {
             append(&mut self.entries, request, &reply)?;
         }

@@ -1,3 +1,4 @@
+//! The zone of a ledger: on which day a moment lies, by a fixed offset or by a zone rule.
 ghost use Rattle.std.specs.Prelude.{◌≡◌, ◌↔◌, ◌≤◌, ◌-◌, ◌++◌, ◌+ℤ◌, ◌*ℤ◌, length, replicate, pos, IsOk, IfOk, IfErr, IsUtf8};
 ghost use Rattle.std.specs.Prelude.{option_map};
 ghost use Rattle.jiff.specs.Words.{civil_nanos, epoch_day, nanos_of_seconds};
@@ -91,6 +92,7 @@ fn shown_at_offset(minutes: i32, instant: Timestamp) -> DateTime
     requires { IsOffset minutes }
     ensures { civil_nanos result ≡ instant.nanosecond +ℤ nanos_of_seconds (pos 60 *ℤ minutes) }
 {
+    // (less than a day, and `jiff` takes a little more)
     let offset = Offset::from_seconds(minutes * 60).unwrap();
     offset.to_datetime(instant)
 }
@@ -100,6 +102,7 @@ fn shown_by_rule(text: &str, instant: Timestamp) -> DateTime
     requires { IsRule text.now }
     ensures { civil_nanos result ≡ instant.nanosecond +ℤ nanos_of_seconds (ahead text.now instant.nanosecond) }
 {
+    // (`Zone::of_rule` took the text only as `jiff` read it)
     let zone = TimeZone::posix(text).unwrap();
     zone.to_datetime(instant)
 }
@@ -109,6 +112,7 @@ fn day_number(date: Date) -> i64
     ensures { result ≡ epoch_day date }
 {
     let first = Offset::UTC.to_datetime(Timestamp::UNIX_EPOCH).date();
+    // (between two dates lie whole days)
     let since = date.duration_since(first);
     since.as_hours() / 24
 }

@@ -77,6 +77,7 @@ pub fn over(entries: &[Entry], zone: Zone, login: &Login, from: u32, cap: u32) -
     ensures { result ≡ over (day_of zone) entries.now login.now from cap }
 {
     let mut start = from;
+    // (the label is the loop's name in its proof)
     'days: while let Some(day) = next_day(entries, zone, login, start) {
         if cap < used(entries, zone, login, day) {
             return Some(day);

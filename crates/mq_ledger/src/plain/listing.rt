@@ -103,6 +103,7 @@ pub fn page(
 {
     let mut rows = Vec::new(alloc);
     let mut last = after;
+    // (the label is the loop's name in its proof)
     'rows: for _ in 0..ROW_LIMIT {
         let Some(login) = next_login(entries, zone, day, last) else {
             return Ok(rows);

@@ -47,6 +47,7 @@ fn reserved_of(entries: &[Entry], zone: Zone, login: &Login, day: u32, entry: &E
     requires { IsRequest entry.now.request }
     ensures { result ≡ reserved_of (day_of zone) entries.now login.now day entry.now }
 {
+    // (in this order, since to look back for a closing costs a walk over all entries)
     let count = granted(entry);
     if 0 < count && concerns(&entry.request, zone, login, day) && is_open(entries, &entry.request) {
         count
