@@ -119,6 +119,7 @@ fn ask<L: Ledger>(ledger: &mut L, request: &Request) -> Result<(), LedgerFault>
         OnErr result ((L.book ledger.new).history ≡ (L.book ledger.old).history) }
     ensures sound { L.has_kept ledger.new → L.is_sound ledger.old → L.is_sound ledger.new }
 {
+    // (by `remembered_is_legal` it is the reply that the entry has; nobody waits for it)
     let _reply = ledger.apply(request)?;
     Ok(())
 }
@@ -142,6 +143,7 @@ pub fn carry_over<L: Ledger>(history: &[Entry], day: u32, ledger: &mut L) -> Res
         OnErr result ((front : List AnyEntry) × IsFront front history.now
         × ((L.book ledger.new).history ≡ remembered (day_of (L.book ledger.old).zone) day front)) }
 {
+    // One entry more of the history, and what the ledger then has.
     next_place_is_carried_over();
     let zone = *ledger.zone();
     for entry in history {

@@ -40,6 +40,7 @@ pub fn fronts_are_legal()
     ensures replies { (day : ℕ → ℕ) (default : ℕ) (H : List AnyEntry) → IsLegal day default H →
         replies day default (requests H) ≡ map (λ e. e.reply) H }
 {
+    // A legal history is what its requests make, one after another.
     built_is_legal();
     one_more_arrival();
 }
@@ -49,6 +50,7 @@ fn remembered_keeps()
     ensures { (day : ℕ → ℕ) (default D : ℕ) (H : List AnyEntry) → IsLegal day default H →
         Keeps day default D (remembered day D H) H }
 {
+    // Arrival by arrival; the day that `Over` names is the least and a page has the first logins, in both histories alike.
     built_is_legal();
     one_more_arrival();
     over_is_least();
@@ -65,6 +67,7 @@ pub fn remembered_is_legal()
     ensures replies { (day : ℕ → ℕ) (default D : ℕ) (H : List AnyEntry) → IsLegal day default H →
         replies day default (requests (remembered day D H)) ≡ map (λ e. e.reply) (remembered day D H) }
 {
+    // What is remembered of the entries before one gives it the reply that it got.
     remembered_keeps();
     one_more_arrival();
     fronts_are_legal();
@@ -89,6 +92,7 @@ pub fn days_are_kept()
         IsLegal day default H → d < D →
         (used day (remembered day D H) l d ≡ 0) × (has_reserve day (remembered day D H) d l ≡ false) }
 {
+    // (what a page is, by its logins alone)
     remembered_keeps();
     page_is_first();
 }
@@ -114,6 +118,7 @@ fn a_later_request_is_answered_alike()
         (reply day default (remembered day D H) r ≡ reply day default H r)
         × (with_arrival day default (remembered day D H) r ≡ remembered day D (with_arrival day default H r)) }
 {
+    // (as above)
     built_is_legal();
     one_more_arrival();
     over_is_least();
@@ -138,6 +143,7 @@ pub fn later_requests_are_answered_alike()
         history_of day default (requests (remembered day D H) ++ A)
         ≡ remembered day D (history_of day default (requests H ++ A)) }
 {
+    // One request after another, and what is remembered stays a legal history between them.
     a_later_request_is_answered_alike();
     remembered_is_legal();
     built_is_legal();
@@ -185,6 +191,7 @@ pub fn earlier_limits_are_from_then()
         answer day default (remembered day D H) (Limit id from c login)
         ≡ answer day default H (Limit id (greater from D) c login) }
 {
+    // On the days before D nothing is used, so the first day with more than the cap is D or later.
     built_is_legal();
     one_more_arrival();
     over_is_least();
@@ -209,6 +216,7 @@ pub fn one_more_is_carried_over()
         IsLegal day default (H ++ e ∷ S) → stays day D (H ++ e ∷ S) e ≡ false →
         remembered day D (H ++ e ∷ []) ≡ remembered day D H }
 {
+    // (what was carried over so far gives the next entry the reply that it got)
     remembered_is_legal();
     fronts_are_legal();
 }
@@ -223,5 +231,6 @@ pub fn next_place_is_carried_over()
         IsLegal day default H → IsAt H place e → stays day D H e ≡ false →
         remembered day D (take place H) ≡ remembered day D (take (place + 1) H) }
 {
+    // (the history, cut at the place)
     one_more_is_carried_over();
 }
