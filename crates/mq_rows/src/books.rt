@@ -121,6 +121,7 @@ pub(crate) fn cap_of(caps: &BTreeMap<Pair, i64>, default: u32, pair: &Pair) -> i
     ensures { (limits : List AnyLimit) → HasCaps limits caps.now
         → result ≡ cap_or default (governing pair.now limits) }
 {
+    // (pairs go by login and then by day, so the last one up to it is the login's latest, or another login's)
     let Some((from, cap)) = caps.range(..=pair).next_back() else {
         return i64::from(default);
     };

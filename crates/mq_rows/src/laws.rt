@@ -85,6 +85,7 @@ pub fn transactions_follow()
         Leads same_key set_transaction (transaction_write day r (answer day default H r) f.transaction)
         t.transactions (AreTransactions day (appended day default H r)) }
 {
+    // What one entry more does to its transaction, by the replies that its kind can get.
     one_more_of_a_transaction();
     open_transactions();
     replies_suit();
@@ -99,6 +100,7 @@ pub fn usage_follows()
         Leads same_day set_usage (usage_write day r (answer day default H r) (held_by f.transaction) f.usage)
         t.usage (AreUsage day (appended day default H r)) }
 {
+    // What one entry more does to its transaction and to the sums of its day, by the replies that its kind can get.
     one_more_of_a_transaction();
     open_transactions();
     one_more_on_a_day();
@@ -114,6 +116,7 @@ pub fn ceilings_follow()
         Leads same_from set_ceiling (ceiling_write r (answer day default H r) f.ceiling)
         t.ceilings (AreCeilings (appended day default H r)) }
 {
+    // (which limit one entry more sets)
     one_more_limit();
 }
 
@@ -124,6 +127,7 @@ pub fn floors_follow()
         Leads same_host set_run (retired_write r f.floor) t.retired
         (AreRetired (appended day default H r)) }
 {
+    // (which floor one entry more raises)
     one_more_floor();
 }
 
@@ -139,6 +143,7 @@ pub fn answers_follow()
         ++ answer_of (length H + 1) (retire_entry id) ∷ [] }
     ensures count { (H : List AnyEntry) → length (answer_rows H) ≡ length H }
 {
+    // (whose replies the new floor clears)
     one_more_floor();
 }
 
@@ -157,6 +162,8 @@ pub fn retired_runs_follow()
         IsPermutation (done ++ was ∷ rest) (filter (is_open_in (runs_below H id)) rows) →
         LeadsAll done rows usage (CanBeClosed was) }
 {
+    // The sums of a day are those of its transactions, so each closing moves in both what the transaction held; and all
+    // numbers stay in range.
     sums_over_transactions();
     used_where_reserved();
     open_transactions();
@@ -172,6 +179,7 @@ pub fn reply_follows()
         AreCeilings H t.ceilings → IsFound day t r f → is_some (id_of r) ≡ true →
         decided default r f ≡ answer day default H r }
 {
+    // The rows have what the answer is read off: the transaction, the day's sums, the first day over, the limit.
     one_more_of_a_transaction();
     open_transactions();
     one_more_on_a_day();
@@ -212,21 +220,25 @@ pub fn one_more_answer()
         IsLegal day default H → IsRequest r → id_of r ≡ Some id → is_below (requests H) id ≡ false →
         stored H id ≡ None → IsLegal day default (appended day default H r) }
 {
+    // Table by table, with what a retire closes and clears before.
     transactions_follow();
     usage_follows();
     ceilings_follow();
     floors_follow();
     answers_follow();
     retired_runs_follow();
+    // The reply is the ledger's, and the history grows by this one entry.
     floors_are_found();
     reply_follows();
     one_more_arrival();
+    // What is found is in range, as the sums of a legal history are.
     open_transactions();
     one_more_of_a_transaction();
     one_more_on_a_day();
     used_where_reserved();
     latest_limit_governs();
     amounts_in_range();
+    // And the history with the entry is legal.
     replies_in_range();
     built_is_legal();
 }
@@ -241,6 +253,7 @@ pub fn nothing_is_added()
         IsLegal day default H → known_by H (id_of r) ≡ true →
         build day default (first (requests H ++ r ∷ [])) ≡ H }
 {
+    // (such an arrival leaves the history as it is)
     one_more_arrival();
 }
 
@@ -270,6 +283,7 @@ pub fn repeats_are_answered()
         AllByRecursion (λ row. same_id id row.id ≡ true →
         find (λ x. same_id id x.id) (answer_rows H) ≡ Some row) (answer_rows H) }
 {
+    // The bodies of an entry in range spell its request and its reply, and nothing else.
     replies_in_range();
     one_spelling();
 }
@@ -281,6 +295,7 @@ pub fn floors_are_found()
     ensures old { (day : ℕ → ℕ) (default : ℕ) (H : List AnyEntry) (r : AnyRequest) (id : Id) →
         id_of r ≡ Some id → is_below (requests H) id ≡ true → reply day default H r ≡ Old id }
 {
+    // (the row of a host is the history's)
     rows_by_key();
 }
 
@@ -304,6 +319,8 @@ pub fn rows_mean_their_history()
         is_version b.zone version ≡ true →
         AreRows b (record t { setting = record t.setting { version = version } }) }
 {
+    // The stored bodies give back the requests, and these the history; the replies of a retired run, which are cleared,
+    // aren't needed for it.
     bodies_are_read_back();
     one_spelling();
     one_more_floor();
@@ -322,6 +339,7 @@ pub fn usage_is_answered()
         Some u ≡ find (is_usage l d) t.usage → IsGoverning l d t.ceilings g →
         page_row_by default u g ≡ row day default H d l }
 {
+    // (where a login has no row of the day, nothing is used)
     one_more_on_a_day();
     used_where_reserved();
     latest_limit_governs();
@@ -338,6 +356,7 @@ pub fn pages_go_by_login()
         (length us ≡ 100) ⊎ IsNext d (behind after us) rows None →
         map (λ u. u.login) us ≡ page day H d after }
 {
+    // (what a page is, by its logins alone)
     page_is_first();
 }
 
@@ -362,6 +381,7 @@ pub fn histories_are_right()
         IsPermutation (figures t).limits f.limits →
         AllByRecursion (λ p. is_right (day_of b.zone) b.default f p ≡ true) (pairs f) }
 {
+    // The sums of a day are those of its transactions, and at most the limit that governs.
     sums_over_transactions();
     used_where_reserved();
     within_limits();

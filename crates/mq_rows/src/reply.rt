@@ -193,6 +193,7 @@ impl Found {
         if !self.is_open(at, login) {
             return Ok(self.refusal(id, at, login)?);
         }
+        // (what is used isn't asked: rows that no legal history has are `Store` here as at a reserve)
         let _used = self.fitting()?;
         let held = self.held();
         if held < count {
@@ -219,6 +220,7 @@ impl Found {
         if !self.is_open(at, login) {
             return Ok(self.refusal(id, at, login)?);
         }
+        // (as at a settle)
         let _used = self.fitting()?;
         Ok(Reply::Released {
             id: id.clone()?,

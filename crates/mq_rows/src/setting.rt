@@ -1,3 +1,4 @@
+//! The versions of the tables.
 ghost use Rattle.std.specs.Prelude.{◌≡◌};
 ghost use Rattle.mq_rows.specs.Rows.{older_version};
 

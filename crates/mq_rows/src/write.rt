@@ -492,6 +492,7 @@ pub fn close_abandoned(
         → fits (Some was.now) usage ≡ false) }
 {
     let held = was.held;
+    // (for its fault: what the transaction held has to be in the row of its day)
     let _used = fitting(held, &usage)?;
     let row = abandoned(was)?;
     Ok((Write::Update(row), freed(held, held, usage)))
