@@ -182,8 +182,10 @@ impl Client {
             return Ok(Asked::Unavailable);
         }
         let seq = self.numbers + 1;
+        // All memory comes first: where there is none, no number is used and nothing was sent.
         let reserve = framed_reserve(self.alloc, &self.host, self.run, seq, txn, at, login)?;
         self.held.hold(txn, at, login)?;
+        // The number is used from here on, whatever comes of it: the server may have seen it.
         self.numbers = seq;
         let answer = ask(rt, self.alloc, link, reserve, self.tries);
         self.held.count(txn, answer);
@@ -234,6 +236,7 @@ impl Client {
         };
         let seq = self.numbers + 1;
         let framed = framed_closing(self.alloc, &self.host, self.run, seq, closing, known)?;
+        // It waits before the transaction goes, so that no closing is lost where memory runs out.
         self.outbox.push_back(framed)?;
         self.held.release(closing.txn);
         self.numbers = seq;

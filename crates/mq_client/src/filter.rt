@@ -308,6 +308,7 @@ fn take_lines<R: Log, W: Sink, K: Link>(
         (around (W.contents output.old) (K.told link.old) client.old)
         (around (W.contents output.new) (K.told link.new) client.new) (W.has_failed output.new)) }
 {
+    // (the label is the loop's name in its proof)
     'lines: loop {
         match feed.next_line() {
             Ok(Some(line)) => match handle(rt, alloc, filter, line, output, link, client) {
@@ -345,6 +346,7 @@ fn finish<R: Log, K: Link>(
     if !filter.is_ready {
         return Err(FilterFault::EndedEarly);
     }
+    // The last chance of what waits: no run after this one knows of it.
     let left = client.drain(rt, link);
     Ok(Ended {
         answers: filter.answers,

@@ -17,7 +17,7 @@ use std::alloc::{AllocError, Global};
 pub struct Held {
     /// Whose it is.
     pub login: Login,
-    /// The second of its beginning since 1970-01-01T00:00:00Z.
+    /// The moment of its beginning: seconds since 1970-01-01T00:00:00Z.
     pub at: u64,
     /// How many recipients were let through.
     pub granted: u32,

@@ -56,6 +56,7 @@ pub fn in_turn()
         ArePlayed s tries P others →
         actions steps ≡ actions others → all_outcomes steps ≡ all_outcomes others → steps ≡ others }
 {
+    // (a frame is that of one request)
     one_spelling();
 }
 
@@ -89,6 +90,7 @@ pub fn closed_is_not_asked_for()
     ensures none_returns { (s : Source) (L : List Meaning) (P : List Step) → actions P ≡ actions_of L →
         NoneReturns s P }
 {
+    // (the tracker never gives the number of a closed transaction again)
     closed_stays_closed();
 }
 
@@ -118,6 +120,7 @@ pub fn one_run()
         StopsAt p others (Some more) last read_failed write_failed g → bytes ≡ concat others ++ more →
         is_of_input g ≡ false }
 {
+    // However it is cut, an input has one list of lines, each line one meaning, and each frame is that of one request.
     one_spelling();
     one_meaning();
     one_splitting();

@@ -1,7 +1,15 @@
-//! The client of the quota server: numbered requests, each sent again unchanged until a reply
-//! decides it, and the filter loop that asks before a recipient is let through.
+//! The client of the quota server: numbered requests, each sent again unchanged until a reply decides it, and the
+//! filter's loop, which asks before a recipient is let through.
 //!
-//! `docs/CLIENT.md` has the rules.
+//! A [`Client`] is one run's: `reserve` asks for a recipient, `close` ends a transaction, `drain` sends what waits.
+//! [`run_filter`] reads smtpd's lines and answers them by it. From `mq_program/src/filter.rt`:
+//!
+//!     match run_filter(log, rt.alloc(), &mut input, &mut output, link, client) {
+//!         Ok(_) => Ok(0),
+//!
+//! It stands on `mq_line`, `mq_track`, `mq_frame` and `mq_link`: it knows lines, sessions, requests and any link, and
+//! nothing of a ledger or of TCP. Begin with `specs/Past.antt`, what a client did and what stands after it, then
+//! `client.rt`, `tries.rt`, where a request is sent again, and `filter.rt`. docs/CLIENT.md has the rules.
 #![tactic(auto)]
 
 mod answer;

@@ -110,8 +110,10 @@ impl Warned {
             return false;
         }
         if self.given.len() == REMEMBERED {
+            // (the oldest makes room)
             let _ = self.given.pop_front();
         }
+        // (without memory for it the next such recipient is warned of once more)
         let _ = self.given.push_back(warning);
         true
     }

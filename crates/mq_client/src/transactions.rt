@@ -94,6 +94,7 @@ impl Transactions {
     {
         let live = self.records.len();
         let unused = (u32::MAX - numbers) as usize;
+        // A number is kept for the closing of each live transaction, and of this one where it is new.
         match self.records.get(&txn) {
             Some(known) => {
                 if is_other(known, at, login) {

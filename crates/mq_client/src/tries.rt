@@ -121,6 +121,7 @@ fn drop_front(outbox: &mut VecDeque<Framed>)
     requires { 0 < length outbox.old.items }
     ensures { (x : AFramed) × (outbox.old.items ≡ x ∷ outbox.new.items) }
 {
+    // (it is decided, and nobody asks for it again)
     let _ = outbox.pop_front();
 }
 
@@ -139,6 +140,7 @@ pub fn send_all<R: Log, L: Link>(
     ensures len { length outbox.new.items ≤ length outbox.old.items }
 {
     while let Some(closing) = outbox.front() {
+        // What stands after an undecided closing waits with it, so that closings go out in order.
         if !send(rt, alloc, link, closing, tries) {
             return;
         }
