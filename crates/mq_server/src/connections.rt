@@ -98,6 +98,7 @@ pub fn serve_all<S: Source, W: Sink, L: Ledger>(
     let mut ends = Vec::with_capacity(alloc, inputs.len())?;
     for i in 0..inputs.len() {
         let end = end_of(serve(alloc, &mut inputs[i], &mut outputs[i], ledger))?;
+        // (there is room, so nothing that was served is left out)
         ends.push(end).unwrap();
     }
     Ok(ends)

@@ -1,3 +1,4 @@
+//! Why the serving of a connection breaks off.
 ghost use Rattle.std.specs.Prelude.{◌≡◌};
 
 use mq_frame::Memory;

@@ -43,6 +43,7 @@ pub fn any_cutting()
     ensures more { (input more : List ℕ) (came : List Delivery) (e : Served) →
         (e ≡ BadFrame) ⊎ (e ≡ Enough) → IsServed input came e → IsServed (input ++ more) came e }
 {
+    // Bytes that come later change no frame that is there, and a frame is that of one request.
     frames_stay();
     one_spelling();
 }
@@ -84,6 +85,7 @@ pub fn any_cuttings()
         AreServedWhole b earlier inputs written stops others → LosesAlike all others →
         (texts ≡ written) × (ends ≡ stops) × (all ≡ others) }
 {
+    // (as on one connection)
     frames_stay();
     one_spelling();
 }

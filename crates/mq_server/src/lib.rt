@@ -1,7 +1,17 @@
-//! The engine of the quota server: one connection without its socket, and one or several in turn over any source, sink
-//! and ledger.
+//! The engine of the quota server: one connection without its socket, and one or several over any source, sink and
+//! ledger.
 //!
-//! `docs/FRAMES.md` has the format of requests and replies.
+//! A [`Connection`] takes bytes as they come, answers the whole frames among them and holds the replies until they are
+//! taken. [`serve`] is a loop over it that reads and writes, [`serve_all`] goes through several. From
+//! `mq_demo/src/answer.rt`:
+//!
+//!     let mut output = ToWrite::new(Vec::new(alloc));
+//!     serve(alloc, &mut FromRead::new(sent), &mut output, ledger)?;
+//!     Ok(output.into_inner())
+//!
+//! It stands on `mq_frame` and `mq_ledger`: it knows frames and any ledger through its trait, and neither sockets nor
+//! time. Begin with `specs/Text.antt`, the bytes that a connection carries, and `connection.rt`; `laws.rt` says that
+//! how the bytes are cut changes nothing. docs/FRAMES.md has the format of requests and replies.
 #![tactic(auto)]
 
 mod answer;

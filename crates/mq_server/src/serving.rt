@@ -53,8 +53,10 @@ pub fn serve<S: Source, W: Sink, L: Ledger>(
         × Tells (L.told ledger.old) (L.told ledger.new) (calls_of s) }
 {
     let mut connection = Connection::new(alloc);
+    // (the label is the loop's name in its proof)
     'frames: loop {
         let progress = connection.answer_next(alloc, ledger);
+        // A reply goes out before the next read, which may wait for a peer that waits for it.
         hand_on(&mut connection, output)?;
         match progress {
             Progress::Answered => {}
