@@ -63,6 +63,7 @@ pub fn never_past_the_limit()
     ensures bounded { (site : Site) (start w : World) → IsStart site start → Reaches site start w →
         (s : Source) → site.is_run s ≡ true → IsBounded (view s (w.runs s).past) }
 {
+    // (the law over a forgetting, where nothing is forgotten)
     never_past_the_limit_over_a_forgetting();
 }
 
@@ -91,21 +92,27 @@ pub fn never_past_the_limit_over_a_forgetting()
         ReachesForgetting site start F w →
         (s : Source) → site.is_run s ≡ true → IsBounded (view s (w.runs s).past) }
 {
+    // A frame on its way is that of one request.
     one_spelling();
     same_is_equal();
+    // A client: one request for a number, a settle of what was let through, nothing asked for after a close.
     few_at_a_time();
     readings();
     one_request_for_a_number();
     settles_are_of_what_was_let();
     closed_is_not_asked_for();
+    // A tracker: no two sessions of a host have one transaction.
     open_numbers_differ();
+    // The ledger: what one more arrival changes, and that its reply is one to that very request.
     built_is_legal();
     one_more_arrival();
     open_transactions();
     replies_in_range();
     replies_suit();
+    // So what was let through is at most the sums of the day, and these are at most the limit.
     sums_over_transactions();
     within_limits();
+    // What is remembered at a forgetting is a legal history again.
     remembered_is_legal();
 }
 
@@ -152,6 +159,7 @@ pub fn each_run_is_of_a_world()
         × GoesOn site w s (after_stop (ran lines (push h.step h.steps) false))
         (frames_of (exchanges_in (push h.step h.steps))) }
 {
+    // (each exchange of a step is the next one)
     in_turn();
 }
 
@@ -168,6 +176,8 @@ pub fn what_may_happen()
     ensures forgotten { (b : Book) (minutes : ℤ) → b.zone ≡ ByOffset minutes → IsLegalBook (unused b) →
         1 ≤ b.default → IsReachable b WentOnThoughForgotten }
 {
+    // (the frames of these worlds are read as the requests that were sent)
     one_spelling();
+    // (on which days their moments lie)
     day_is_the_floor();
 }
