@@ -39,6 +39,7 @@ pub fn read_limited<S: Read + Drop>(alloc: Global, source: S) -> Result<Vec<u8>,
     ensures too_large { result ≡ Err FileFault.TooLarge → IfSome (S.remaining source) (λ all. 65536 < length all) }
 {
     let mut bytes = Vec::new(alloc);
+    // One byte more than may be there shows that there is too much.
     match source.take(LIMIT + 1).read_to_end(&mut bytes) {
         Ok(_) if bytes.len() as u64 <= LIMIT => Ok(bytes),
         Ok(_) => Err(FileFault::TooLarge),

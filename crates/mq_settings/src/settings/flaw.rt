@@ -36,6 +36,7 @@ impl Flaw {
     /// The flaw that the reader of a text found.
     pub fn new(text: &[u8], cause: toml::de::Error) -> Flaw {
         let at = match cause.span() {
+            // (no clause of `toml` says that its spans lie in the text)
             Some(span) => span.start.min(text.len()),
             None => 0,
         };
