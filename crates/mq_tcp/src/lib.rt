@@ -1,4 +1,13 @@
-//! The link to the quota server over TCP, and a link that logs why no reply comes.
+//! The link to the quota server over TCP, a new connection for each exchange, and a link that logs why no reply comes.
+//!
+//! [`TcpLink`] is a link over whatever makes its connections ([`Connect`]), the program's [`Connector`] over sockets.
+//! [`LoggedLink`] is any link with a log of its troubles. From `mq_program/src/filter.rt`:
+//!
+//!     let link = TcpLink::new(rt, settings.server, timeout);
+//!     let mut link = LoggedLink::new(link, &logged, settings.tries);
+//!
+//! It stands on `mq_frame`, `mq_link` and `mq_deadline`: it knows what a link means and which replies answer, and
+//! doesn't know what is asked. Begin with `specs/Exchange.antt`, what an exchange writes and reads, and `tcp.rt`.
 #![tactic(auto)]
 
 mod connect;

@@ -78,6 +78,7 @@ impl<'a, L: Link + Explain, G: Log> LoggedLink<'a, L, G> {
     {
         match read_reply(body) {
             None | Some(ReplyParts::Retry | ReplyParts::Bad) => {
+                // (a link that is away for long counts to the last number and stays there)
                 self.failed = self.failed.saturating_add(1);
                 if self.failed == self.patience {
                     self.log_trouble(body);

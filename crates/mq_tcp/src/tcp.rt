@@ -39,6 +39,7 @@ fn write_frame<K: Clock, S: Write + OpenStream + Drop>(
 {
     stream.write_all(frame)?;
     let stream = stream.into_inner();
+    // The server ends the connection once it has answered, as nothing more comes.
     stream.shutdown(Shutdown::Write)?;
     Ok(stream)
 }
@@ -121,6 +122,7 @@ impl<'a, K: Clock, C: Connect> TcpLink<'a, K, C> {
         ensures no_memory { IfErr result (λ fault. fault ≢ LinkFault.Memory) }
         ensures tried { C.tried self.new.connector ≡ option_map suc (C.tried self.old.connector) }
     {
+        // (what an exchange before it left is none of this one's)
         self.stream = None;
         self.trouble = None;
         match self.connect_and_write(frame) {
