@@ -15,6 +15,7 @@ pub fn answer<L: Ledger>(alloc: Global, sent: &[u8], ledger: &mut L) -> Result<V
     ensures { L.has_kept ledger.new → L.is_sound ledger.old →
         IfOk result (λ written. IsAnswered (L.book ledger.old) (L.book ledger.new) sent.now written.items) }
 {
+    // What is served is that of all bytes, however `serve` reads them.
     any_cutting();
     let mut output = ToWrite::new(Vec::new(alloc));
     serve(alloc, &mut FromRead::new(sent), &mut output, ledger)?;
