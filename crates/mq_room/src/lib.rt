@@ -1,5 +1,16 @@
-//! The connections of a server that are open at once, over streams that don't block: each has its turns, and none waits for
-//! another's peer.
+//! The connections of a server that are open at once, over streams that don't block: each has its turns, and none waits
+//! for another's peer.
+//!
+//! [`serve_connections`] accepts so many connections over sockets and serves each to its end: what came is held, whole
+//! frames are answered through a ledger, and the peer takes the replies as it can. [`serve_network`] does so over any
+//! [`Network`]. From `mq_program/src/server.rt`:
+//!
+//!     let timeout = Duration::from_millis(u64::from(settings.timeout));
+//!     serve_connections(rt, log, alloc, &listener, timeout, ledger, connections)?;
+//!
+//! It stands on `mq_frame`, `mq_ledger`, `mq_server` and `mq_deadline`: it knows how a connection is answered and when
+//! it is late, over any ledger, and nothing of tables. Begin with `serving.rt`, the rounds over all that is open, and
+//! `specs/Sessions.antt`, what came on each connection and what it was answered.
 #![tactic(auto)]
 
 mod accept;
