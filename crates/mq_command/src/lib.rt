@@ -1,4 +1,13 @@
-//! What the subcommands `limit`, `retire`, `report` and `replay` do, over any link, ledger, text and output.
+//! What the subcommands of an administrator and `replay` do, over any link, ledger, text and output.
+//!
+//! [`run_limit`], [`run_retire`] and [`run_report`] ask the server and print what comes of it; the result is the exit
+//! status. [`replay_over`] answers the connections of a text over a ledger. From `mq_program/src/admin/report.rt`:
+//!
+//!     Ok(run_report(rt.alloc(), &mut link, day, login, &mut output, errors))
+//!
+//! It stands on `mq_frame`, `mq_ledger`, `mq_server` and `mq_link`: it knows requests, any link and any ledger, and
+//! neither sockets, files nor the words of a command line. Begin with `ask.rt`, one question, and `report.rt`; their
+//! definitions are `specs/Asking.antt` and `specs/Report.antt`.
 #![tactic(auto)]
 
 mod allow;
