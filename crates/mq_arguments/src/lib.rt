@@ -1,4 +1,13 @@
-//! What the words of a command line ask for: what each subcommand is given.
+//! What the words of a command line ask for, as types: what each subcommand is given.
+//!
+//! `mq_words` makes an [`Arguments`] of words, and `mq_program` does what it asks for, so that only the one pays for
+//! `clap` and only the other for sockets and files. From `mq_program/src/server.rt`:
+//!
+//!     let settings = server_settings(rt, given.config)?;
+//!     serve(rt, &settings, given.create, given.connections)
+//!
+//! It stands on `mq_frame`, for the ranges of a request's numbers, and knows nothing else. It is this one file;
+//! `specs/Arguments.antt` has the ranges that `mq_words` proves.
 #![tactic(auto)]
 
 /// What `replay` is given.
