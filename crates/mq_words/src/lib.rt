@@ -1,4 +1,13 @@
-//! The words of mailquota's command line: its subcommands with their options, and what given words ask for.
+//! The words of mailquota's command line: its subcommands with their options and help, and what given words ask for.
+//!
+//! [`read_arguments`] gives the arguments that the words ask for, or the help or usage fault to print. From
+//! `mailquota/src/program.rt`:
+//!
+//!     match read_arguments(rt.alloc(), words) {
+//!         Ok(given) => run_subcommand(rt, given, errors),
+//!
+//! It stands on `mq_arguments` and `mq_frame`, and is the one crate with `clap`; it doesn't know what a subcommand
+//! does. Begin with `subcommands.rt`, the options as a table, and `words.rt`; `mailquota(8)` has them in words.
 #![tactic(auto)]
 
 mod subcommands;
