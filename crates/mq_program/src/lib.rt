@@ -1,4 +1,15 @@
 //! What the subcommands do with the files, the streams, the clock and the network of the process.
+//!
+//! [`run_subcommand`] runs the one that the arguments ask for, prints why it isn't done, and gives the exit status.
+//! From `mailquota/src/program.rt`:
+//!
+//!     match read_arguments(rt.alloc(), words) {
+//!         Ok(given) => run_subcommand(rt, given, errors),
+//!
+//! It stands on all that a subcommand needs: `mq_arguments`, `mq_frame`, `mq_ledger`, `mq_rows`, `mq_tables`,
+//! `mq_server`, `mq_link`, `mq_client`, `mq_settings`, `mq_tcp`, `mq_room`, `mq_command` and `mq_store`. It knows no
+//! words of the command line, and decides nothing by itself. Begin with `subcommand.rt`, then `filter.rt` and
+//! `server.rt`, where the program is put together.
 #![tactic(auto)]
 
 mod admin;
