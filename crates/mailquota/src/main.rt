@@ -1,4 +1,12 @@
-//! A sending-quota filter for smtpd, and the quota server that its hosts share.
+//! The program: a sending-quota filter for smtpd, and the quota server that its hosts share.
+//!
+//! `main` hands the words of its process to `mq_words`, and what they ask for to `mq_program`. From
+//! `mailquota/src/main.rt`:
+//!
+//!     ExitCode::from(program::run(&rt, &mut rt.stderr()))
+//!
+//! It stands on `mq_program` and `mq_words`, and knows nothing but the exit status. Begin with `program.rt`;
+//! docs/ARCHITECTURE.md shows how the data flows from there.
 #![tactic(auto)]
 
 mod program;
