@@ -16,7 +16,7 @@ none_before c bytes k le none i d lt =
     let same : get_or (take k bytes) i d ≡ get_or bytes i 0 = get_or-take k bytes i d small ∙ get_or_default bytes i d 0 (omega arith) in
     rw same (false_from_ne_true _ (none i (omega arith) small))
 
--- what stands behind place k, where no byte after it is c
+-- what stands after place k, where no byte after it is c
 none_after : (c : ℕ) (bytes : List ℕ) (k : ℕ) → k < length bytes → Nowhere (Passes (is_byte c) bytes) (k + 1) (length bytes) → All (λ b. eqb b c ≡ false) (drop (k + 1) bytes)
 none_after c bytes k lt none i d small =
     let inside : k + 1 + i < length bytes = omega (arith, length-drop (k + 1) bytes) in
@@ -49,7 +49,7 @@ pieces-append c (x ∷ front) y back e = elim (cases_Bool (eqb x c)) [
   | inr f ↦ rw (f, pieces-append c front y back e) (onto_first-append x (pieces c front) (pieces c back) (omega (arith, length-slice_split (λ b. eqb b c) front)))
 ]
 
--- what stands behind the last byte c is the last piece
+-- what stands after the last byte c is the last piece
 pub last_piece : (c : ℕ) (bytes : List ℕ) (k : ℕ) → NoneAfter (Passes (is_byte c) bytes) 0 (length bytes) k × Passes (is_byte c) bytes k → pieces c bytes ≡ pieces c (take k bytes) ++ drop (k + 1) bytes ∷ []
 last_piece c bytes k h =
     let last : pieces c (drop (k + 1) bytes) ≡ drop (k + 1) bytes ∷ [] = slice_split_none (λ b. eqb b c) (drop (k + 1) bytes) (none_after c bytes k (omega (arith, h.0.high)) h.0.after) in

@@ -94,7 +94,7 @@ at_point time k lt point =
     split_around time k lt ∙ ap (λ (b : ℕ). take k time ++ b ∷ drop (k + 1) time) point
     ∙ ap (λ (l : List ℕ). take k time ++ 46 ∷ l) (sym (take_rest time (k + 1)))
 
--- the digits before place k, a point there and a fraction behind it
+-- the digits before place k, a point there and a fraction after it
 pub fraction_behind : (time : List ℕ) (k : ℕ) → k < length time → get_or time k 0 ≡ 46 → list_all is_ascii_digit (take k time) ≡ true → 0 < k → k ≤ 18 → is_number 9 (take (length time - (k + 1)) (drop (k + 1) time)) ≡ true → seconds_of time ≡ Some (digits_value 10 (take k time))
 fraction_behind time k lt point digits some few fraction =
     let n : length (take k time) ≡ k = length-take-le k time (omega arith) in

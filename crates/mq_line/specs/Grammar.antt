@@ -33,7 +33,7 @@ meaning Other = OtherLine
 abbrev pub max_second_digits : ℕ
 max_second_digits = 18
 
--- and behind it
+-- and after it
 abbrev pub max_fraction_digits : ℕ
 max_fraction_digits = 9
 

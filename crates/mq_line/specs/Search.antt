@@ -1,4 +1,4 @@
--- The search for the LF behind the line in front.
+-- The search for the LF after the line in front.
 use Rattle.std.specs.Prelude.{◌≡◌, ◌+◌, ◌<◌, ◌≤◌, ℕ, List, ◌∷◌, ◌++◌, length, take, drop}
 use Rattle.mq_line.specs.Pieces.{Lacks}
 use Rattle.mq_line.specs.Text.{IsLine, IsTooLong, max_line}

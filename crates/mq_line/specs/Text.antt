@@ -45,7 +45,7 @@ left_among (piece ∷ next ∷ more) =
 abbrev pub lines : List ℕ → List (List ℕ)
 lines text = lines_among (pieces 10 text)
 
--- what follows the lines of a text: what stands behind its last LF, or all from a piece that is too long on
+-- what follows the lines of a text: what stands after its last LF, or all from a piece that is too long on
 abbrev pub left : List ℕ → List ℕ
 left text = left_among (pieces 10 text)
 
@@ -70,7 +70,7 @@ pub record Leaves (old : List ℕ) (answer : Result (Option (Bor (List ℕ))) Fe
   pub bytes : old ≡ text_of (given answer) ++ rest
   pub holds : (text : List ℕ) (taken : List (List ℕ)) → Holds text taken old → Holds text (taken ++ given answer) rest
 
--- the lines that come where pieces are fed behind a rest, and all lines are taken after each piece
+-- the lines that come where pieces are fed after a rest, and all lines are taken after each piece
 abbrev pub lines_by_piece : List ℕ → List (List ℕ) → List (List ℕ)
 lines_by_piece rest [] = []
 lines_by_piece rest (piece ∷ more) = lines (rest ++ piece) ++ lines_by_piece (left (rest ++ piece)) more

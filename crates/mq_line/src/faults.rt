@@ -30,7 +30,7 @@ pub enum FeedFault {
     CutLine,
 }
 
-/// A growth was refused for want of memory.
+/// A growth was refused: memory ran out.
 #[derive(Clone, Copy, Debug, PartialEq, Eq, Error)]
 #[error("out of memory")]
 pub struct Memory;

@@ -125,7 +125,7 @@ impl LineFeed {
     /// `TooLong` where 65,537 bytes stand in front without an LF. The feed is then as before, and each later
     /// call answers the same.
     pub fn next_line(&mut self) -> Result<Option<&[u8]>, FeedFault>
-        // Of whatever text was fed: the line behind those that were taken, where there is one.
+        // Of whatever text was fed: the line after those that were taken, where there is one.
         ensures next { (text : List ℕ) (taken : List (List ℕ)) → Holds text taken self.old.rest →
             IfOk result (λ next. option_copied next ≡ slice_get (lines text) (length taken)) }
 

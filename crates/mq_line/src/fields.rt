@@ -6,7 +6,7 @@ ghost use Rattle.mq_line.specs.declared.faults.LineFault.TheVariants.{Short};
 use crate::faults::LineFault;
 use bstr::ByteSlice;
 
-/// The first field, and what stands behind its bar where it has one.
+/// The first field, and what stands after its bar where it has one.
 pub(crate) fn first_field<'a>(text: &'a [u8]) -> (&'a [u8], Option<&'a [u8]>)
     ensures { fields text.now ≡ result.0.now ∷ fields_left result.1 }
 {
@@ -27,7 +27,7 @@ pub(crate) fn last_field<'a>(text: &'a [u8]) -> (&'a [u8], &'a [u8])
     }
 }
 
-/// The next field of what is left of a line, and what is left behind it. `Short` where nothing is left.
+/// The next field of what is left of a line, and what is left after it. `Short` where nothing is left.
 pub(crate) fn next_field<'a>(
     left: Option<&'a [u8]>,
 ) -> Result<(&'a [u8], Option<&'a [u8]>), LineFault>
@@ -40,7 +40,7 @@ pub(crate) fn next_field<'a>(
     }
 }
 
-/// The next three fields of what is left of a line, and what is left behind them. `Short` where fewer are left.
+/// The next three fields of what is left of a line, and what is left after them. `Short` where fewer are left.
 pub(crate) fn next_three<'a>(
     left: Option<&'a [u8]>,
 ) -> Result<(&'a [u8], &'a [u8], &'a [u8], Option<&'a [u8]>), LineFault>
@@ -54,7 +54,7 @@ pub(crate) fn next_three<'a>(
     Ok((first, second, third, left))
 }
 
-/// What is left of a line, with the bars in it: nothing behind its last field.
+/// What is left of a line, with the bars in it: nothing after its last field.
 pub(crate) fn rest_of<'a>(left: Option<&'a [u8]>) -> &'a [u8]
     ensures { result.now ≡ joined (fields_left left.entry) }
 {

@@ -28,7 +28,7 @@ pub enum Line<'a> {
         subsystem: &'a [u8],
         event: &'a [u8],
         session: &'a [u8],
-        /// The fields behind the session, with the bars between them.
+        /// The fields after the session, with the bars between them.
         params: &'a [u8],
     },
     /// `filter|0.7|TIME|SUBSYSTEM|PHASE|SESSION|TOKEN|REST`, where nothing may follow the token.
@@ -39,7 +39,7 @@ pub enum Line<'a> {
         phase: &'a [u8],
         session: &'a [u8],
         token: &'a [u8],
-        /// The fields behind the token, with the bars between them.
+        /// The fields after the token, with the bars between them.
         rest: &'a [u8],
     },
     /// A line that begins with another word, or with none.
@@ -49,7 +49,7 @@ pub enum Line<'a> {
 /// The most digits before the point of a time. Such a number fits a `u64`.
 const MAX_SECOND_DIGITS: usize = 18;
 
-/// The most digits behind the point.
+/// The most digits after the point.
 const MAX_FRACTION_DIGITS: usize = 9;
 
 fn are_digits(bytes: &[u8]) -> bool
@@ -58,7 +58,7 @@ fn are_digits(bytes: &[u8]) -> bool
     bytes.iter().all(|byte| byte.is_ascii_digit())
 }
 
-/// Whether these may stand behind the point of a time.
+/// Whether these may stand after the point of a time.
 fn is_fraction(digits: &[u8]) -> bool
     ensures { result ≡ is_number max_fraction_digits digits.now }
 {
@@ -68,7 +68,7 @@ fn is_fraction(digits: &[u8]) -> bool
     are_digits(digits)
 }
 
-/// The seconds of a time such as `1576146008.006099`. The part behind the point isn't used.
+/// The seconds of a time such as `1576146008.006099`. The part after the point isn't used.
 fn seconds_of(time: &[u8]) -> Option<u64>
     ensures { result ≡ seconds_lem time.now }
 {
@@ -115,7 +115,7 @@ fn read_stamp(version: &[u8], time: &[u8], names: &[&[u8]]) -> Result<u64, LineF
     Ok(seconds)
 }
 
-/// A config line, by what is left behind its first field.
+/// A config line, by what is left after its first field.
 fn read_config<'a>(left: Option<&'a [u8]>) -> Result<Line<'a>, LineFault>
     ensures { MatchResult result
         (λ line. Means (codes "config" ∷ fields_left left.entry) (meaning line))
@@ -129,7 +129,7 @@ fn read_config<'a>(left: Option<&'a [u8]>) -> Result<Line<'a>, LineFault>
     }
 }
 
-/// A report line, by what is left behind its first field.
+/// A report line, by what is left after its first field.
 fn read_report<'a>(left: Option<&'a [u8]>) -> Result<Line<'a>, LineFault>
     ensures { MatchResult result
         (λ line. Means (codes "report" ∷ fields_left left.entry) (meaning line))
@@ -148,7 +148,7 @@ fn read_report<'a>(left: Option<&'a [u8]>) -> Result<Line<'a>, LineFault>
     })
 }
 
-/// A filter line, by what is left behind its first field.
+/// A filter line, by what is left after its first field.
 fn read_filter<'a>(left: Option<&'a [u8]>) -> Result<Line<'a>, LineFault>
     ensures { MatchResult result
         (λ line. Means (codes "filter" ∷ fields_left left.entry) (meaning line))

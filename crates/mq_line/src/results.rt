@@ -49,7 +49,7 @@ pub fn write_registration(out: &mut Vec<u8>) -> Result<(), Memory>
     Ok(())
 }
 
-/// Appends these parts in a row, or a front of them where memory runs out.
+/// Appends these parts in a row, or a prefix of them where memory runs out.
 fn push_parts(out: &mut Vec<u8>, parts: &[&[u8]]) -> Result<(), Memory>
     ensures ok { OnOk result (out.new.items ≡ out.old.items ++ in_a_row parts.now) }
     ensures front { take (vec_len out.old) out.new.items ≡ out.old.items }
@@ -61,7 +61,7 @@ fn push_parts(out: &mut Vec<u8>, parts: &[&[u8]]) -> Result<(), Memory>
     Ok(())
 }
 
-/// Appends a result line, or a front of it where memory runs out.
+/// Appends a result line, or a prefix of it where memory runs out.
 fn push_result<'a>(
     out: &mut Vec<u8>,
     session: &'a [u8],
