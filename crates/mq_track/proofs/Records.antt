@@ -28,7 +28,7 @@ known_cond : (b : Bool) (r : Session) (more : Option Known) (rest : Option Sessi
 known_cond true r more rest e = refl
 known_cond false r more rest e = e
 
--- what is known of s is what its record tells
+-- what is known of s is what its record reports
 pub known-entry : (es : List (Vec ℕ Global × Session)) (s : List ℕ) → known (map entry es) s ≡ known_in (lookup (is_at (key_cmp s)) es)
 known-entry [] s = refl
 known-entry (e ∷ es) s = rw (is_eq-slice_cmp s e.0.items) (known_cond (bytes_eq s e.0.items) e.1 _ _ (known-entry es s))
@@ -50,7 +50,7 @@ learns m n s w h q = either_known (bytes_eq s q) (known_in w) _ _
     (λ y. known-entry n.entries q ∙ subst (λ l. known_in (get_by (key_cmp l) n) ≡ known_in w) ((bytes_decides s q).0 y) (ap known_in h.1))
     (λ y. known-entry n.entries q ∙ (ap known_in (others _ _ m.entries n.entries h.3 (is_at (key_cmp q)) (λ a b. (eq_by_cmp_equiv nat_list_cmp_total).congr q a.items b.items) (λ k. apart s q k.items y)) ∙ sym (known-entry m.entries q)))
 
--- the same, where the new record tells `what`
+-- the same, where the new record reports `what`
 pub learned : (m n : Records) (w : Option Session) (key s : List ℕ) (sessions : List (List ℕ × Known)) (what : Known) → map entry m.entries ≡ sessions → key ≡ s → known_in w ≡ what
     → UpdatesBy (λ x y. slice_cmp nat_cmp x.items y.items) (key_cmp key) m n w → Learns sessions (map entry n.entries) s what
 learned m n w key s sessions what is same e h = subst (λ (l : List (List ℕ × Known)). Learns l (map entry n.entries) s what) is

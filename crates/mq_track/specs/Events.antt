@@ -1,4 +1,4 @@
--- What a line tells of sessions, and which fault it has where it can't be told.
+-- What a line reports of sessions, and which fault it has where it can't be read.
 use Rattle.std.specs.Prelude.{ℕ, List, codes, Bool, ◌||◌, is_none, if◌then◌else◌, Option, None, Some}
 use Rattle.std.specs.Str.{bytes_eq}
 use Rattle.mq_line.specs.Grammar.{Meaning, ReportLine}
@@ -18,14 +18,14 @@ pub data Event : Type 0 where
   Left : (session : List ℕ) → Event
   Nothing : Event
 
--- a link-auth tells something where it can be read and passed
+-- a link-auth says something where it can be read and passed
 abbrev pub auth_event : List ℕ → Option (AuthResult × List ℕ) → Event
 auth_event session None = Nothing
 auth_event session (Some (Pass, name)) = Passed session name
 auth_event session (Some (Fail, name)) = Nothing
 auth_event session (Some (Error, name)) = Nothing
 
--- a tx-begin tells something where it has a message id
+-- a tx-begin says something where it has a message id
 abbrev pub begin_event : List ℕ → ℕ → Option (List ℕ) → Event
 begin_event session seconds None = Nothing
 begin_event session seconds (Some message) = Began session message seconds
@@ -35,7 +35,7 @@ abbrev pub end_event : List ℕ → CloseEnd → Option (List ℕ) → Event
 end_event session end None = Nothing
 end_event session end (Some message) = Ended session (Some message) end
 
--- what a report tells, by its event's name
+-- what a report says, by its event's name
 abbrev pub report_event : ℕ → List ℕ → List ℕ → List ℕ → Event
 report_event seconds name session params =
     if bytes_eq name (codes "link-auth") then auth_event session (auth params)
@@ -46,7 +46,7 @@ report_event seconds name session params =
     else (if bytes_eq name (codes "tx-reset") then Ended session (message params) Drop
     else Nothing)))))
 
--- what a line tells: only reports of the subsystem smtp-in tell something
+-- what a line says: only reports of the subsystem smtp-in say something
 abbrev pub event : Meaning → Event
 event (ReportLine seconds subsystem name session params) =
     if bytes_eq subsystem (codes "smtp-in") then report_event seconds name session params else Nothing

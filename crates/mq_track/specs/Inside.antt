@@ -17,7 +17,7 @@ kept t = record { txn = t.txn; message = t.message.items; at = t.at }
 abbrev pub known_by : Session → Known
 known_by s = record { login = option_map bytes s.login; transaction = option_map kept s.transaction }
 
--- what a record tells, where there is one
+-- what a record reports, where there is one
 abbrev pub known_in : Option Session → Known
 known_in None = nothing
 known_in (Some s) = known_by s

@@ -1,4 +1,4 @@
--- What an event in the code tells, by the bytes of its parts.
+-- What an event in the code reports, by the bytes of its parts.
 use Rattle.std.specs.Option.{option_map}
 use Rattle.mq_track.specs.Events.{Event, Passed, Began, Ended, Left, Nothing}
 use Rattle.mq_track.specs.declared.event.Event.{Event as CodeEvent}

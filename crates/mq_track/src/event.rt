@@ -9,7 +9,7 @@ use crate::closing::CloseEnd;
 use crate::fault::TrackFault;
 use mq_line::{AuthResult, Line, auth_of, message_of};
 
-/// What a line tells of a session.
+/// What a line reports of a session.
 #[derive(Clone, Copy)]
 pub(crate) enum Event<'a> {
     /// A login passed.
@@ -36,7 +36,7 @@ pub(crate) enum Event<'a> {
     Nothing,
 }
 
-/// What a line tells.
+/// What a line reports.
 pub(crate) fn event_of<'a>(line: &Line<'a>) -> Result<Event<'a>, TrackFault>
     ensures told { MatchResult result
         (λ e. (unreadable (meaning line.now) ≡ None) × (told e ≡ event (meaning line.now)))
@@ -59,7 +59,7 @@ pub(crate) fn event_of<'a>(line: &Line<'a>) -> Result<Event<'a>, TrackFault>
     report_event(seconds, event, session, params)
 }
 
-/// What a report of the subsystem smtp-in tells, by its event's name.
+/// What a report of the subsystem smtp-in says, by its event's name.
 fn report_event<'a>(
     seconds: u64,
     name: &'a [u8],

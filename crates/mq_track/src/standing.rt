@@ -7,7 +7,7 @@ pub enum Standing<'a> {
     Anonymous,
     /// It has a login and no open transaction.
     Login { name: &'a [u8] },
-    /// It has both. `txn` counts the transactions of all sessions, and `at` is the whole seconds
-    /// of the time at which this one began.
+    /// It has both. `txn` counts the transactions of all sessions, and `at` is the moment
+    /// at which this one began, in whole seconds.
     Open { name: &'a [u8], txn: u32, at: u64 },
 }

@@ -92,7 +92,7 @@ impl Tracker {
         }
     }
 
-    /// Takes what a line tells.
+    /// Takes what a line reports.
     fn take(&mut self, event: Event<'_>) -> Result<Option<Closing>, TrackFault>
         ensures ok { MatchBool (is_exhausted self.old.begins (told event.entry))
             (result ≡ Err TrackFault.Exhausted)
