@@ -35,7 +35,7 @@ reply_frame body after reply h =
     let size = reply_length body reply h in
     frame_front 65535 body after (omega arith) (record { from = size.from; to = omega (arith, size.to) })
 
--- ---- what a frame tells
+-- ---- what a frame reports
 
 pub frame_body : (body : List ℕ) → drop 2 (frame body) ≡ body
 frame_body body = refl

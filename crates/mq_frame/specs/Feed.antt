@@ -13,7 +13,7 @@ pub record Feed : Type 0 where
   pub room : ℕ
 
 -- what stands at the front of some bytes: nothing; a part of a frame; the head of a frame with an empty body, or with a
--- body above the limit; or a whole frame, with its body and the bytes behind it
+-- body above the limit; or a whole frame, with its body and the bytes after it
 pub data Front : Type 0 where
   Nothing : Front
   Cut : Front
@@ -21,7 +21,7 @@ pub data Front : Type 0 where
   LongHead : Front
   Whole : (body after : List ℕ) → Front
 
--- a head that says n, and the bytes behind it
+-- a head that says n, and the bytes after it
 abbrev pub front_behind : ℕ → ℕ → List ℕ → Front
 front_behind limit n bytes =
     if n == 0 then EmptyHead

@@ -6,21 +6,21 @@ pub record Device (D : Type 0) : Type 0 where
   pub inner : D
   pub has_failed : Bool
 
--- all that a sink took was handed on, where it tells
+-- all that a sink took was handed on, where it reports that
 abbrev pub IsFlushed : Option Bool → Type 0
 IsFlushed None = ⊤
 IsFlushed (Some flushed) = flushed ≡ true
 
--- known bytes grow by a front of these
+-- known bytes grow by a prefix of these
 abbrev pub AppendsFront : Option (List ℕ) → Option (List ℕ) → List ℕ → Type 0
 AppendsFront old new bytes = (front : List ℕ) × (rest : List ℕ) × (bytes ≡ front ++ rest) × Appends old new front
 
--- what a read gave: a front of the piece, and nothing where it failed
+-- what a read gave: a prefix of the piece, and nothing where it failed
 abbrev pub read_bytes : {E : Type 0} → Result ℕ E → List ℕ → List ℕ
 read_bytes (Ok count) piece = take count piece
 read_bytes (Err fault) piece = []
 
--- the reads that a source tells have grown by these, where it still tells them afterwards
+-- the reads that a source reports have grown by these, where it still reports them afterwards
 abbrev pub TellsReads : Option (List (List ℕ)) → Option (List (List ℕ)) → List (List ℕ) → Type 0
 TellsReads (Some before) (Some after) more = after ≡ before ++ more
 TellsReads None (Some after) more = ⊥

@@ -32,7 +32,7 @@ pub record IsHost (host : List ℕ) : Type 0 where
 abbrev pub IsLogin : List ℕ → Type 0
 IsLogin login = IsWithin 1 LOGIN_LIMIT (length login)
 
--- a login, or nothing: a page of a list begins behind it
+-- a login, or nothing: a page of a list begins after it
 abbrev pub IsAfter : List ℕ → Type 0
 IsAfter after = IsWithin 0 LOGIN_LIMIT (length after)
 
@@ -40,7 +40,7 @@ IsAfter after = IsWithin 0 LOGIN_LIMIT (length after)
 abbrev pub IsRun : ℕ → Type 0
 IsRun run = IsWithin 1 LAST_RUN run
 
--- a place among the requests or the transactions of a run: of 32 bits, and not 0
+-- the number of a request or a transaction in its run: of 32 bits, and not 0
 abbrev pub IsOrdinal : ℕ → Type 0
 IsOrdinal n = IsWithin 1 LAST_ORDINAL n
 

@@ -27,7 +27,7 @@ in_4_bytes n = to_be_bytes w32 n
 abbrev pub in_8_bytes : ℕ → List ℕ
 in_8_bytes n = to_be_bytes w64 n
 
--- a text behind one byte of its length
+-- a text after one byte of its length
 abbrev pub with_length : List ℕ → List ℕ
 with_length text = length text ∷ text
 
@@ -41,7 +41,7 @@ transaction_bytes id txn at login = id_bytes id ++ (in_4_bytes txn ++ (in_8_byte
 abbrev pub row_bytes : UsageRow → List ℕ
 row_bytes row = with_length row.login ++ (in_4_bytes row.settled ++ (in_4_bytes row.reserved ++ in_4_bytes row.cap))
 
--- the rows of a page behind one byte of their count
+-- the rows of a page after one byte of their count
 abbrev pub page_bytes : List UsageRow → List ℕ
 page_bytes rows = length rows ∷ flat_map row_bytes rows
 

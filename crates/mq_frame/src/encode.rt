@@ -168,7 +168,7 @@ fn put_request(out: &mut Vec<u8>, request: &Request) -> Result<(), AllocError>
     }
 }
 
-/// The kind, the id and the numbers behind it.
+/// The kind, the id and the numbers after it.
 fn put_numbered(out: &mut Vec<u8>, kind: u8, id: &Id, numbers: &[u32]) -> Result<(), AllocError>
     requires { IsId id.now }
     ensures { OnOk result (out.new.items
@@ -180,7 +180,7 @@ fn put_numbered(out: &mut Vec<u8>, kind: u8, id: &Id, numbers: &[u32]) -> Result
     Ok(())
 }
 
-/// The kind, the login and the numbers behind it.
+/// The kind, the login and the numbers after it.
 fn put_named(out: &mut Vec<u8>, kind: u8, login: &Login, numbers: &[u32]) -> Result<(), AllocError>
     requires { IsLogin login.now }
     ensures { OnOk result (out.new.items

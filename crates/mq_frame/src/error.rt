@@ -2,7 +2,7 @@
 use std::alloc::AllocError;
 use thiserror::Error;
 
-/// A growth was refused for want of memory.
+/// A growth was refused: memory ran out.
 #[derive(Clone, Copy, Debug, PartialEq, Eq, Error)]
 #[error("out of memory")]
 pub struct Memory;

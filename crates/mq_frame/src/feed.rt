@@ -39,8 +39,8 @@ pub enum FrameFault {
 ///
 /// The bytes of a frame that was taken are given up at the next `feed`, which then moves those
 /// that are left to the front. So a caller that takes until `None` before it feeds holds at most
-/// one byte more than the limit beside the piece, and has each byte moved at most once. One that
-/// leaves frames behind has them moved again at each `feed` that comes after a frame was taken.
+/// the piece and one byte more than the limit; each byte is moved at most once. One that
+/// leaves frames there has them moved again at each `feed` that comes after a frame was taken.
 #[derive(Drop)]
 pub struct FrameFeed {
     limit: u16,

@@ -54,7 +54,7 @@ fn u64_at(bytes: &[u8], low: u64, high: u64) -> Option<(u64, &[u8])>
     }
 }
 
-/// A text of `low` to `high` bytes behind its length.
+/// A text of `low` to `high` bytes after its length.
 fn text_at(bytes: &[u8], low: u8, high: u8) -> Option<(&[u8], &[u8])>
     ensures { Reads (λ x. (x.0.now, x.1.now)) result (text_at low high bytes.now) }
 {

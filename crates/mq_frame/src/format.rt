@@ -60,7 +60,7 @@ pub const LOGIN_LIMIT: u8 = 255;
 /// The last run of a host's filter: of 48 bits.
 pub const LAST_RUN: u64 = 281_474_976_710_655;
 
-/// The last place among the requests or the transactions of a run: of 32 bits.
+/// The last number of a request or a transaction in its run: of 32 bits.
 pub const LAST_ORDINAL: u32 = 4_294_967_295;
 
 /// 1970-01-02T00:00:00Z, in seconds since 1970-01-01T00:00:00Z.

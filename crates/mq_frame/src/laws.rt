@@ -58,7 +58,7 @@ pub fn one_spelling()
     ensures one_reply_body { (body other : List ℕ) (reply : Reply) → SpellsReply body reply
         → SpellsReply other reply → body ≡ other }
 
-    // So a frame tells its request and its reply.
+    // So a frame is that of one request, or of one reply.
     ensures one_request_frame { (request other : Request) → IsRequest request → IsRequest other
         → frame (request_body request) ≡ frame (request_body other) → request ≡ other }
     ensures one_reply_frame { (reply other : Reply) → IsReply reply → IsReply other
@@ -125,7 +125,7 @@ pub fn frames_are_read_back()
     ensures long { (limit size : ℕ) (after : List ℕ) → limit < size → size ≤ 65535
         → front limit (in_2_bytes size ++ after) ≡ LongHead }
 
-    // A list of frames, one behind another.
+    // A list of frames, one after another.
     ensures list { (limit : ℕ) (bodies : List (List ℕ)) (rest : List ℕ) → limit ≤ 65535
         → All (λ body. IsWithin 1 limit (length body)) bodies
         → BeginsWith limit (flat_map frame bodies ++ rest) bodies rest }
@@ -159,7 +159,7 @@ pub fn frames_stay()
     ensures long { (limit : ℕ) (bytes more : List ℕ) → front limit bytes ≡ LongHead
         → front limit (bytes ++ more) ≡ LongHead }
 
-    // A body that a call for the next one gives stood in a whole frame, and what is left stood behind it.
+    // A body that a call for the next one gives stood in a whole frame, and what is left stood after it.
     ensures gives { (bytes body : List ℕ) (at : Front) → next_answer at ≡ Ok (Some body)
         → at ≡ Whole body (left_by_next at bytes) }
 

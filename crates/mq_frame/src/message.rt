@@ -59,7 +59,7 @@ pub enum Request {
         login: Login,
         day: u32,
     },
-    /// Which logins have a granted reserve on that day? `after` is the login behind which the page
+    /// Which logins have a granted reserve on that day? `after` is the login after which the page
     /// begins, 0 to 255 bytes; the empty one asks for the first page.
     List {
         day: u32,

@@ -14,13 +14,13 @@ pub trait Sink {
     // The bytes that it holds, where they are known.
     ghost contents: { Self → Option (List ℕ) } = { λ _. None };
 
-    // Whether all that it took was handed on, where it tells.
+    // Whether all that it took was handed on, where it reports that.
     ghost has_flushed: { Self → Option Bool } = { λ _. None };
 
     // Whether a call has failed.
     ghost has_failed: { Self → Bool };
 
-    /// Takes a front of `piece` and says how many bytes; at least one where there is one. Once a
+    /// Takes a prefix of `piece` and says how many bytes; at least one where there is one. Once a
     /// call has failed, every later one fails.
     fn write(&mut self, piece: &[u8]) -> Result<usize, Failed>
         ensures bound { WritesAtMost result piece.now }
@@ -38,7 +38,7 @@ pub trait Sink {
         ensures for_good { has_failed self.old ≡ true → IsErr result };
 }
 
-/// Writes all of the bytes and hands them on, or writes a front of them before the sink fails.
+/// Writes all of the bytes and hands them on, or writes a prefix of them before the sink fails.
 pub fn write_and_flush<S: Sink>(sink: &mut S, bytes: &[u8]) -> Result<(), Failed>
     ensures ok { OnOk result (Appends (S.contents sink.old) (S.contents sink.new) bytes.now) }
     ensures err { OnErr result (AppendsFront (S.contents sink.old) (S.contents sink.new) bytes.now) }

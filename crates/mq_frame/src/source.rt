@@ -16,7 +16,7 @@ pub trait Source {
     // The bytes that are still to come, where they are known.
     ghost remaining: { Self → Option (List ℕ) } = { λ _. None };
 
-    // What each read gave so far, the oldest first, where the source tells it.
+    // What each read gave so far, the oldest first, where the source reports it.
     ghost reads: { Self → Option (List (List ℕ)) } = { λ _. None };
 
     // Whether a call has failed.
