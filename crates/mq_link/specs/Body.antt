@@ -9,7 +9,7 @@ pub record IsReceived (old new : Option (List ℕ)) (body : List ℕ) : Type 0 w
   pub fits : length body ≤ 65535
   pub read : Consumes old new (frame body)
 
--- a length above 0 was read, and nothing behind it
+-- a length above 0 was read, and nothing after it
 pub record IsHeadOnly (old new : Option (List ℕ)) : Type 0 where
   pub announced : ℕ
   pub some : 1 ≤ announced

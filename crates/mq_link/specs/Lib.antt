@@ -1,4 +1,4 @@
--- what a link tells of its exchanges
+-- what a link reports of its exchanges
 pub mod Link
 -- what was read of one frame
 pub mod Body

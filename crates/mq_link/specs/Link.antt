@@ -1,4 +1,4 @@
--- The exchanges that a link tells.
+-- The exchanges that a link reports.
 use Rattle.std.specs.Prelude.{◌≡◌, ℕ, List, ◌++◌, ⊤, Option, None, Some, Result, Ok, Err}
 use Rattle.mq_link.specs.declared.link.LinkFault.{LinkFault}
 use Rattle.mq_link.specs.declared.link.Outcome.{Outcome}
@@ -10,7 +10,7 @@ abbrev pub outcome_of : {X : Type 0} → Result X LinkFault → List ℕ → Out
 outcome_of (Ok x) body = Answered body
 outcome_of (Err fault) body = Faulted fault
 
--- the exchanges that a link tells have grown by these, where it still tells them afterwards
+-- the exchanges that a link reports have grown by these, where it still reports them afterwards
 abbrev pub Tells : Option (List Told) → Option (List Told) → List Told → Type 0
 Tells (Some before) (Some after) more = after ≡ before ++ more
 Tells None (Some after) more = ⊥

@@ -25,8 +25,8 @@ fn length_of(high: u8, low: u8) -> usize
     usize::from(u16::from_be_bytes([high, low]))
 }
 
-/// Reads one frame, and leaves its body of 1 to 65,535 bytes in `reply`. On a fault `reply` is empty. Want of memory
-/// is met behind the head, before any byte of the body.
+/// Reads one frame, and leaves its body of 1 to 65,535 bytes in `reply`. On a fault `reply` is empty. Where
+/// memory runs out, the head was read and no byte of the body.
 pub fn read_body<S: Read>(stream: &mut S, reply: &mut Vec<u8>) -> Result<(), BodyFault>
     ensures body { OnOk result (IsReceived (S.remaining stream.old) (S.remaining stream.new) reply.new.items) }
     ensures empty { OnErr result (reply.new.items ≡ []) }

@@ -65,7 +65,7 @@ pub enum Outcome {
     Faulted(LinkFault),
 }
 
-/// One exchange, as a link tells it: the frame that was sent, and how it ended.
+/// One exchange, as a link reports it: the frame that was sent, and how it ended.
 #[derive(Debug, Drop)]
 pub struct Told {
     pub frame: Bytes,
@@ -78,7 +78,7 @@ pub trait Link {
     ghost use Rattle.mq_link.specs.Link.{Tells, outcome_of};
     ghost use Rattle.mq_link.specs.declared.link.Told.{Told};
 
-    // The exchanges so far, the oldest first, where the link tells them.
+    // The exchanges so far, the oldest first, where the link reports them.
     ghost told: { Self → Option (List Told) } = { λ _. None };
 
     /// Sends a frame, length included, and waits for the body of one reply. On a fault `reply` is
