@@ -175,7 +175,7 @@ sums_swap f (x ∷ xs) ys =
     let both = two_sums_are (λ _. Unit {0}) (f x) (λ y. sum_by (λ x. f x y) xs) (λ y. sum_by (λ x. f x y) (x ∷ xs)) (λ y _. sym (sum_by-cons (λ x. f x y) x xs)) ys (always ys) in
     omega (arith, sum_by-cons (λ x. sum_by (f x) ys) x xs, sums_swap f xs ys, both)
 
--- from the empty list on, by one element behind
+-- from the empty list on, by one element more at the end
 pub by_pushes : {X : Type 0} (P : List X → Type 0) → P [] → ((xs : List X) (x : X) → P xs → P (xs ++ x ∷ [])) → (xs : List X) → P xs
 by_pushes P none more xs = by_pushes_from P more [] xs none where
   by_pushes_from : {X : Type 0} (P : List X → Type 0) → ((xs : List X) (x : X) → P xs → P (xs ++ x ∷ [])) → (done xs : List X) → P done → P (done ++ xs)

@@ -34,7 +34,7 @@ take_ascending zero ls up = tt
 take_ascending (suc n) [] up = up
 take_ascending (suc n) (x ∷ ls) up = (all_of (λ m. below x m ≡ true) (take n ls) (λ m i. all_at (λ m. below x m ≡ true) ls m up.0 (in_take n ls m i)), take_ascending n ls up.1)
 
--- a login is in the front, or behind all of a full one
+-- a login is in the prefix, or after all of a full one
 abbrev IsPlaced : ℕ → List (List ℕ) → List ℕ → Type 0
 IsPlaced n front l = In l front ⊎ ((length front ≡ n) × AllByRecursion (λ m. below m l ≡ true) front)
 
@@ -126,7 +126,7 @@ part_le (x ∷ xs) (z ∷ zs) up up' h =
     ] in
     omega (arith, part_le xs zs up.1 up'.1 behind)
   where
-    -- x isn't behind z, which is x or behind it
+    -- x isn't after z, which is x or after it
     before_first : (w : List ℕ) → x ≡ w → In w zs → (x ≡ z) ⊎ In z xs → ⊥
     before_first w e i (inl same) = not_below_itself x (let P : List ℕ → Type 0 = λ v. below v x ≡ true in subst P (sym same) (let Q : List ℕ → Type 0 = λ v. below z v ≡ true in subst Q (sym e) (all_at (λ m. below z m ≡ true) zs w up'.0 i)))
     before_first w e i (inr j) = not_below_itself x (below_trans x z x (all_at (λ m. below x m ≡ true) xs z up.0 j) (let Q : List ℕ → Type 0 = λ v. below z v ≡ true in subst Q (sym e) (all_at (λ m. below z m ≡ true) zs w up'.0 i)))

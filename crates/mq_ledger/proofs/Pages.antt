@@ -182,7 +182,7 @@ in_above day H d after l i = elim (fold_adds [] (filter (below after) (logins_on
   | inr j ↦ (let k = filter_in (below after) (logins_on day H d) l j in record { above = k.passes; there = k.among })
 ]
 
--- behind the first of them stand those above it
+-- after the first of them stand those above it
 pub above_first : (day : ℕ → ℕ) (H : List Entry) (d : ℕ) (after m : List ℕ) (ms : List (List ℕ)) → logins_above day H d after ≡ m ∷ ms → logins_above day H d m ≡ ms
 above_first day H d after m ms h =
     let all : List (List ℕ) = logins_above day H d after in

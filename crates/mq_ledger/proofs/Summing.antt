@@ -357,7 +357,7 @@ part_le f [] x i = absurd i
 part_le f (y ∷ xs) x (inl e) = (let same : f y ≡ f x = ap f e in omega (arith, same, sum_by-cons f y xs))
 part_le f (y ∷ xs) x (inr i) = omega (arith, part_le f xs x i, sum_by-cons f y xs)
 
--- a settled settle of that login and day has a granted reserve behind it
+-- a settled settle of that login and day is backed by a granted reserve
 settled_has : (day : ℕ → ℕ) (H : List Entry) (l : List ℕ) (d : ℕ) → IsUniform H → IsBacked H → AllByRecursion (HasNone day l d) H → (x : Entry) → In x H → 0 < counted x.request x.reply → concerns day l d x.request ≡ true → ⊥
 settled_has day H l d uniform backed all x i some here =
     let m = moves x.request x.reply (omega (arith, some)) in

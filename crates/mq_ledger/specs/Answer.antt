@@ -83,12 +83,12 @@ reply_to day default H r (Some id) =
 abbrev pub reply : (ℕ → ℕ) → ℕ → List Entry → Request → Reply
 reply day default H r = reply_to day default H r (id_of r)
 
--- an arrival of that number isn't answered anew: its run is below the floor, or it is stored
+-- an arrival of that number isn't answered as new: its run is below the floor, or it is stored
 abbrev pub known_by : List Entry → Option Id → Bool
 known_by H None = false
 known_by H (Some id) = is_below (requests H) id || is_some (stored H id)
 
--- H after an arrival: a numbered request that is answered anew stands behind it, with its answer
+-- H after an arrival: a numbered request that is answered as new stands last in it, with its answer
 abbrev pub with_arrival_by : (ℕ → ℕ) → ℕ → List Entry → Request → Option Id → List Entry
 with_arrival_by day default H r None = H
 with_arrival_by day default H r (Some id) = if known_by H (Some id) then H else appended day default H r

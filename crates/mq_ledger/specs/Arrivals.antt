@@ -49,7 +49,7 @@ pub record IsFloor (rs : List Request) (h : List ℕ) (n : ℕ) : Type 0 where
 abbrev pub is_below : List Request → Id → Bool
 is_below rs id = nat_lt id.run (floor rs id.host)
 
--- those kept, with the request behind them where it is numbered, its run isn't below the floor that they give its
+-- those kept, with the request after them where it is numbered, its run isn't below the floor that they give its
 -- host, and none of them has its number
 abbrev pub kept_with : List Request → Request → Option Id → List Request
 kept_with kept r None = kept

@@ -160,7 +160,7 @@ settled day H l d = sum_by (settled_of day H l d) H
 abbrev pub used : (ℕ → ℕ) → List Entry → List ℕ → ℕ → ℕ
 used day H l d = reserved day H l d + settled day H l d
 
--- what an entry behind H grants to that login on that day
+-- what an entry after H grants to that login on that day
 abbrev pub gained : (ℕ → ℕ) → List ℕ → ℕ → Request → Reply → ℕ
 gained day l d r a = if concerns day l d r then granted r a else 0
 
@@ -173,7 +173,7 @@ is_retired_by r _ = false
 abbrev pub reserved_by_retired : (ℕ → ℕ) → List Entry → List ℕ → ℕ → Request → ℕ
 reserved_by_retired day H l d r = sum_by (λ e. if is_retired_by r e.request then reserved_of day H l d e else 0) H
 
--- what an entry behind H ends of what the login has reserved on that day: what its transaction holds, where it
+-- what an entry after H ends of what the login has reserved on that day: what its transaction holds, where it
 -- closes it; of a retire what the runs that it retires have reserved
 abbrev pub freed : (ℕ → ℕ) → List Entry → List ℕ → ℕ → Request → Reply → ℕ
 freed day H l d (Settle id txn at login count) (Settled id' count') =
@@ -183,7 +183,7 @@ freed day H l d (Release id txn at login) (Released id' n) =
 freed day H l d (Retire id) (Retired id') = reserved_by_retired day H l d (Retire id)
 freed day H l d _ _ = 0
 
--- what an entry behind H settles of that login and day
+-- what an entry after H settles of that login and day
 abbrev pub settles : (ℕ → ℕ) → List Entry → List ℕ → ℕ → Request → Reply → ℕ
 settles day H l d (Settle id txn at login count) (Settled id' count') =
     if same_text l login && (day at == d) then count else 0

@@ -9,7 +9,7 @@ abbrev pub days_of : Kind → Days
 days_of (Offset minutes) = ByOffset minutes
 days_of (Rule bytes len) = ByRule (take len bytes)
 
--- the text stands in front, and zeros behind it
+-- the text stands in front, and zeros after it
 pub record IsKeptText (bytes : List ℕ) (len : ℕ) : Type 0 where
   pub text : IsRule (take len bytes)
   pub utf8 : ∥ IsUtf8 (take len bytes) ∥₁

@@ -1,8 +1,8 @@
--- What a ledger tells of the requests that it was asked.
+-- What a ledger reports of the requests that it was asked.
 use Rattle.std.specs.Prelude.{◌≡◌, List, ◌++◌, ⊤, Option, None, Some}
 use Rattle.mq_ledger.specs.declared.ledger.Told.{Told}
 
--- what a ledger tells has grown by these, where it still tells it afterwards
+-- what a ledger reports has grown by these, where it still reports it afterwards
 abbrev pub Tells : Option (List Told) → Option (List Told) → List Told → Type 0
 Tells (Some before) (Some after) more = after ≡ before ++ more
 Tells None (Some after) more = ⊥

@@ -33,7 +33,7 @@ impl From<AllocError> for LedgerFault {
     }
 }
 
-/// One call of `apply`, as a ledger tells it: what was asked, and how it was answered.
+/// One call of `apply`, as a ledger reports it: what was asked, and how it was answered.
 #[derive(Debug, Drop)]
 pub struct Told {
     pub request: Request,
@@ -51,7 +51,7 @@ pub trait Ledger {
     ghost use Rattle.mq_ledger.specs.Told.{Tells};
     ghost use Rattle.mq_ledger.specs.declared.ledger.Told.{Told};
 
-    // The calls of `apply` so far, the oldest first, where the ledger tells them.
+    // The calls of `apply` so far, the oldest first, where the ledger reports them.
     ghost told: { Self → Option (List Told) } = { λ _. None };
 
     /// Its zone, its default limit and its history.

@@ -93,7 +93,7 @@ fn known_reply(entries: &[Entry], request: &Request) -> Result<Option<Reply>, Al
     }
 }
 
-/// Puts the request and its reply behind the entries.
+/// Puts the request and its reply after the entries.
 fn append(entries: &mut Vec<Entry>, request: &Request, reply: &Reply) -> Result<(), AllocError>
     ensures ok { OnOk result (entries.new.items
         ≡ entries.old.items ++ record { request = request.now; reply = reply.now } ∷ []) }

@@ -30,7 +30,7 @@ pub struct Zone {
 enum Kind {
     /// Minutes east of UTC.
     Offset(i32),
-    /// A rule's text: the first `len` bytes, and zeros behind them.
+    /// A rule's text: the first `len` bytes, and zeros after them.
     Rule { bytes: [u8; RULE_LIMIT], len: u8 },
 }
 
@@ -138,7 +138,7 @@ fn text_of(bytes: &[u8]) -> &str
     str::from_utf8(bytes).unwrap()
 }
 
-/// The bytes, and zeros behind them.
+/// The bytes, and zeros after them.
 fn filled(text: &[u8]) -> [u8; RULE_LIMIT]
     requires { length text.now ≤ 64 }
     ensures { result ≡ text.now ++ replicate (64 - length text.now) 0 }
