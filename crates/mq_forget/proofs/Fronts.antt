@@ -1,4 +1,4 @@
--- Each front of a legal history is legal.
+-- Each prefix of a legal history is legal.
 use Rattle.std.proofs.Common.{◌≡◌, ℕ, ◌≤◌, List, [], ◌∷◌, ◌++◌, true, false, refl, ◌∙◌, ap, sym, subst, inl, inr, arith, length, take, append_assoc, append-nil, length-append}
 use Rattle.std.specs.Prelude.{map, Option, Some, None, is_some, All}
 use Rattle.std.specs.List.{AllByRecursion}
@@ -22,7 +22,7 @@ pub record Builds (day : ℕ → ℕ) (default : ℕ) : Type 0 where
   pub arrived : (A : List Request) (r : Request) → history_of day default (A ++ r ∷ []) ≡ with_arrival day default (history_of day default A) r
   pub again : (H : List Entry) → IsLegal day default H → history_of day default (requests H) ≡ H
 
--- equal wholes of equally long fronts
+-- equal wholes of equally long prefixes
 same_front : {X : Type 0} (a b c d : List X) → length a ≡ length b → a ++ c ≡ b ++ d → a ≡ b
 same_front a b c d len same = sym (take-append_seam a c) ∙ ap (λ n. take n (a ++ c)) len ∙ ap (take (length b)) same ∙ take-append_seam b d
 
@@ -43,7 +43,7 @@ module _ (day : ℕ → ℕ) (default : ℕ) (laws : Builds day default) where
     | inr new ↦ record { rest = entry r (answer day default H r) ∷ []; is = rw new refl; few = omega arith }
   ]
 
-  -- more arrivals put at most as many entries behind
+  -- more arrivals add at most as many entries
   grows : (A B : List Request) → Grown (history_of day default A) (history_of day default (A ++ B)) (length B)
   grows A [] = record { rest = []; is = ap (history_of day default) (append-nil A) ∙ sym (append-nil (history_of day default A)); few = omega arith }
   grows A (r ∷ B) =
@@ -126,7 +126,7 @@ module _ (day : ℕ → ℕ) (default : ℕ) (laws : Builds day default) where
   pub own_replies : (H : List Entry) → IsLegal day default H → replies day default (requests H) ≡ map (λ e. e.reply) H
   own_replies H legal = replies_from [] H legal
 
--- an entry of a history stands behind a front
+-- an entry of a history stands after a prefix
 pub record IsBehind (H : List Entry) (x : Entry) : Type 0 where
   pub front : List Entry
   pub rest : List Entry

@@ -199,7 +199,7 @@ pub all_mapped : {X Y : Type 0} (P : Y → Type 0) (f : X → Y) (xs : List X) �
 all_mapped P f [] all = tt
 all_mapped P f (x ∷ xs) all = (all.0, all_mapped P f xs all.1)
 
--- from the empty list on, by one element behind
+-- from the empty list on, by one element more at the end
 pub by_pushes : {X : Type 0} (P : List X → Type 0) → P [] → ((xs : List X) (x : X) → P xs → P (xs ++ x ∷ [])) → (xs : List X) → P xs
 by_pushes P none more xs = by_pushes_from P more [] xs none where
   by_pushes_from : {X : Type 0} (P : List X → Type 0) → ((xs : List X) (x : X) → P xs → P (xs ++ x ∷ [])) → (done xs : List X) → P done → P (done ++ xs)

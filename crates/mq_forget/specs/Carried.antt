@@ -1,4 +1,4 @@
--- Fronts and places of a history.
+-- Prefixes and places of a history.
 use Rattle.std.specs.Prelude.{◌≡◌, ◌<◌, ℕ, List, ◌++◌, length, get_or}
 use Rattle.mq_ledger.specs.declared.entry.Entry.{Entry}
 

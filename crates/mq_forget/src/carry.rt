@@ -127,7 +127,7 @@ fn ask<L: Ledger>(ledger: &mut L, request: &Request) -> Result<(), LedgerFault>
 /// Has a new ledger apply what is remembered of a legal history from that day on, oldest first. The
 /// history is one of the ledger's zone and default.
 ///
-/// After a fault the ledger has what is remembered of a front of it.
+/// After a fault the ledger has what is remembered of a prefix of it.
 ///
 /// Each entry of a transaction costs a search for the transaction's first.
 pub fn carry_over<L: Ledger>(history: &[Entry], day: u32, ledger: &mut L) -> Result<(), LedgerFault>

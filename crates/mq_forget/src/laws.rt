@@ -19,8 +19,8 @@ ghost use Rattle.mq_forget.specs.Kept.{AreAlike, Keeps};
 
 use mq_ledger::laws::{built_is_legal, one_more_arrival, over_is_least, page_is_first};
 
-/// Whether an entry stays is told by the entries up to it: each front of a history is remembered as
-/// it is in the whole, and one more entry is put behind or isn't.
+/// Whether an entry stays is known from the entries up to it: each prefix of a history is remembered as
+/// it is in the whole, and one more entry is added or isn't.
 pub fn fronts_are_remembered()
     ensures front { (day : ℕ → ℕ) (D : ℕ) (H S : List AnyEntry) →
         filter (stays day D (H ++ S)) H ≡ remembered day D H }
@@ -29,7 +29,7 @@ pub fn fronts_are_remembered()
         ≡ remembered day D H ++ (if stays day D (H ++ e ∷ []) e then e ∷ [] else []) }
 {}
 
-/// Each front of a legal history is one, and the entry behind it has a number that is new there, and its
+/// Each prefix of a legal history is one, and the entry after it has a number that is new there, and its
 /// answer. Asked in order, its requests get the replies of its entries.
 pub fn fronts_are_legal()
     ensures front { (day : ℕ → ℕ) (default : ℕ) (H S : List AnyEntry) →
@@ -57,7 +57,7 @@ fn remembered_keeps()
     page_is_first();
 }
 
-/// What is remembered of a legal history is legal: its requests, asked anew in their order, make these
+/// What is remembered of a legal history is legal: its requests, asked again in their order, make these
 /// entries, and each gets the reply that it got.
 pub fn remembered_is_legal()
     ensures legal { (day : ℕ → ℕ) (default D : ℕ) (H : List AnyEntry) → IsLegal day default H →
@@ -204,7 +204,7 @@ pub fn forgetting_again()
         remembered day E (remembered day D H) ≡ remembered day E H }
 {}
 
-/// A ledger that has what a front of a legal history leaves has what the front with the next entry
+/// A ledger that has what a prefix of a legal history leaves has what the prefix with the next entry
 /// leaves, once it has applied that entry's request where the entry stays, and at once where it
 /// doesn't.
 pub fn one_more_is_carried_over()
