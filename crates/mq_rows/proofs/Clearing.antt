@@ -1,4 +1,4 @@
--- The rows of answers behind a retire, and the floors of hosts.
+-- The rows of answers after a retire, and the floors of hosts.
 use Rattle.std.proofs.Common.{◌≡◌, ◌≢◌, ℕ, ◌+◌, ◌-◌, ◌≤◌, List, [], ◌∷◌, ◌++◌, map, length, Bool, true, false, refl, ◌∙◌, ap, sym, inl, inr, arith}
 use Rattle.std.specs.Prelude.{find, ◌&&◌, ◌||◌, ◌==◌, nat_lt, nat_le, if◌then◌else◌, Option, Some, None}
 use Rattle.std.specs.List.{enumerate_from}

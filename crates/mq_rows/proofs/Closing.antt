@@ -26,13 +26,13 @@ use Rattle.mq_rows.proofs.RowSums.{is_on, total, summed_row, IsRowOf, row_of, ag
 abbrev pub is_to_close : Id → TransactionRecord → Bool
 is_to_close id r = not r.closed && (same_text r.host id.host && nat_lt r.run id.run)
 
--- the row of a transaction is that before the retire, or that behind it
+-- the row of a transaction is that before the retire, or that after it
 abbrev pub IsBetween : (ℕ → ℕ) → List Entry → Id → List TransactionRecord → Transaction → Type 0
 IsBetween day H id rows t =
     (filter (is_transaction t) rows ≡ those (transaction_row day H t))
     ⊎ (filter (is_transaction t) rows ≡ those (transaction_row day (H ++ retire_entry id ∷ []) t))
 
--- Each transaction stands as before the retire or as behind it; each login and day has what its transactions have, which
+-- Each transaction stands as before the retire or as after it; each login and day has what its transactions have, which
 -- together is what it had used before.
 pub record AreRetiring (day : ℕ → ℕ) (H : List Entry) (id : Id) (rows : List TransactionRecord) (usage : List UsageRecord) : Type 0 where
   pub transactions : (t : Transaction) → IsBetween day H id rows t
@@ -122,7 +122,7 @@ module _ (day : ℕ → ℕ) (H : List Entry) (id : Id) (L : Retires H id) where
       let made : transaction_of day H' k is.first ≡ abandoned_row (transaction_of day H k is.first) = same_row (transaction_of day H k is.first) _ _ _ _ _ _ h (s ∙ sym had) c in
       ap (option_map (transaction_of day H' k)) names ∙ ap Some (made ∙ ap abandoned_row is.row)
 
-  -- one that is closed in a row behind the retire isn't to be closed
+  -- one that is closed in a row after the retire isn't to be closed
   closed_behind : (was : TransactionRecord) → transaction_row day H' (key_of was) ≡ Some was → is_to_close id was ≡ true → ⊥
   closed_behind was here open_so =
       let is = row_of day H' was here in
@@ -131,7 +131,7 @@ module _ (day : ℕ → ℕ) (H : List Entry) (id : Id) (L : Retires H id) where
       let c : closed H' (key_of was) ≡ true = L.closed_more (key_of was) ∙ ap (λ b. b || (closed H (key_of was) || false)) gone in
       let clash : true ≡ false = sym c ∙ ap (λ (x : TransactionRecord). x.closed) is.row ∙ still in cc
 
-  -- a row that is there is its transaction's, before the retire or behind it
+  -- a row that is there is its transaction's, before the retire or after it
   among : (rows : List TransactionRecord) (was : TransactionRecord) (o : Option TransactionRecord) → filter (is_transaction (key_of was)) rows ≡ those o → Has rows was → o ≡ Some was
   among rows was o are i =
       let k : Transaction = key_of was in

@@ -58,7 +58,7 @@ grows kept (r ∷ A) = omega (arith, grows (step kept r) A, one_longer kept r (i
 too_short : (kept A : List Request) (r : Request) → fold step kept A ≡ kept ++ r ∷ A → ⊥
 too_short kept A r same = omega (arith, grows kept A, ap length same, length-append kept (r ∷ A))
 
--- where all are kept, each is put behind those before
+-- where all are kept, each is put after those before
 step_by : (kept : List Request) (r : Request) (A : List Request) (o : Option Id) → fold step (kept_with kept r o) A ≡ kept ++ r ∷ A → kept_with kept r o ≡ kept ++ r ∷ []
 step_by kept r A None same = absurd (too_short kept A r same)
 step_by kept r A (Some id) same = elim (either (is_below kept id || list_any (has_id id) kept)) [

@@ -68,7 +68,7 @@ those_are_found {R} p (x ∷ rows) o h = elim (either (p x)) [
       ((λ t. absurd (cc (f, t))), subst (λ (q : Option R). AllByRecursion (λ r. p r ≡ true → Some r ≡ q) rows) passed (those_are_found p rows o h')))
 ]
 
--- An order of rows tells nothing of those that pass, where there is one at most.
+-- An order of rows says nothing of those that pass, where there is one at most.
 module _ {R : Type 0} (p : R → Bool) where
   abbrev Follows : List R → List R → Type 0
   Follows xs ys = (o : Option R) → filter p xs ≡ those o → filter p ys ≡ those o

@@ -107,7 +107,7 @@ module _ (day : ℕ → ℕ) (H : List Entry) (rows : List UsageRecord) (are : A
         there = (reserve_there after u next.0.0 next.0.1, r.there);
       }
 
-  -- a login of the day that is above: it is among them, or behind all of them
+  -- a login of the day that is above: it is among them, or after all of them
   data Place (after l : List ℕ) (us : List UsageRecord) : Type 0 where
     Among : Contains (logins us) l → Place after l us
     Behind : AllByRecursion (λ m. below m l ≡ true) (logins us) → below (behind after us) l ≡ true → Place after l us

@@ -1,4 +1,4 @@
--- What an audit keeps by pair, and what it tells of the rows.
+-- What an audit keeps by pair, and what it reports of the rows.
 use Rattle.std.specs.Prelude.{◌≡◌, ℕ, ◌*◌, ℤ, pos, ◌+ℤ◌, ◌≤ℤ◌, List, Bool, true, ◌&&◌, Option, Some, None}
 use Rattle.std.specs.Prelude.{option_map, find, fold, if◌then◌else◌}
 use Rattle.std.specs.BTreeMap.{BTreeMap, get}

@@ -44,12 +44,12 @@ IsNextLogin after rows (Some login) =
     Contains (map (λ u. u.login) rows) login × (below after login ≡ true)
     × AllByRecursion (λ other. below after other.login ≡ true → below other.login login ≡ false) rows
 
--- the last login of a page, and what it begins behind where it has none
+-- the last login of a page, and what it begins after where it has none
 abbrev pub behind : List ℕ → List UsageRecord → List ℕ
 behind after [] = after
 behind after (u ∷ us) = behind u.login us
 
--- each of them is the next one behind the one before
+-- each of them is the next one after the one before
 abbrev pub AreNext : ℕ → List ℕ → List UsageRecord → List UsageRecord → Type 0
 AreNext day after rows [] = Unit {0}
 AreNext day after rows (u ∷ us) = IsNext day after rows (Some u) × AreNext day u.login rows us

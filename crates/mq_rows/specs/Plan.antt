@@ -144,7 +144,7 @@ abbrev pub set_ceiling_to : List ℕ → ℕ → ℕ → Option CeilingRecord �
 set_ceiling_to login day cap None = Insert (record { login = login; day = day; cap = cap })
 set_ceiling_to login day cap (Some c) = Update (record c { cap = cap })
 
--- ceiling
+-- `ceiling`
 abbrev pub ceiling_write : Request → Reply → Option CeilingRecord → Write CeilingRecord
 ceiling_write (Limit id from_day asked login) (LimitSet id') c = set_ceiling_to login from_day asked c
 ceiling_write _ _ c = Keep

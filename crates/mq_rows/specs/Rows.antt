@@ -112,7 +112,7 @@ usage_row day H l d =
     then Some (record { login = l; day = d; settled = settled day H l d; reserved = reserved day H l d })
     else None
 
--- ceiling: a row for each login and day from which a limit was set, with the cap of the last of them
+-- `ceiling`: a row for each login and day from which a limit was set, with the cap of the last of them
 abbrev pub ceiling_row : List Entry → List ℕ → ℕ → Option CeilingRecord
 ceiling_row H l d = option_map (λ c. record { login = l; day = d; cap = c }) (set_cap H l d)
 

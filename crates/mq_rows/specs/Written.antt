@@ -16,7 +16,7 @@ pub record MovesLead (b : Book) (p : Plan) (rows : List TransactionRecord) (used
   pub usage : Leads same_day set_usage p.usage used (AreUsage (day_of b.zone) b.history)
 
 -- With the open transactions of the runs that are retired closed, in any order, with the replies of these runs
--- cleared, with the planned answer behind the others, the count of answers set and the planned writes made, the tables
+-- cleared, with the planned answer after the others, the count of answers set and the planned writes made, the tables
 -- are the rows of the book.
 pub record LeadTo (b : Book) (t : Tables) (p : Plan) : Type 0 where
   pub setting : IsSetting b (record t.setting { arrivals = p.arrivals })
