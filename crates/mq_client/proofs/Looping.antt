@@ -267,7 +267,7 @@ count_noted L (line.Report seconds subsystem event session params) apart = refl
 count_noted L (line.Filter seconds subsystem phase session token rest) apart = absurd (apart seconds subsystem phase session token rest refl)
 count_noted L line.Other apart = refl
 
--- a request tells nothing of sessions
+-- a request says nothing of sessions
 pub tracks_filter : (t : State') (L : List Meaning) (seconds : ℕ) (subsystem phase session token rest : List ℕ) → TracksAt t L → TracksAt t (FilterLine seconds subsystem phase session token rest ∷ L)
 tracks_filter t L seconds subsystem phase session token rest st = record { sessions = st.sessions; begins = st.begins }
 

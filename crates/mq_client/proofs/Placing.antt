@@ -20,7 +20,7 @@ pub record Grammar : Type 0 where
   pub unique : (line : List ℕ) (m n : Meaning) → Reads line m → Reads line n → m ≡ n
   pub no_fault : (line : List ℕ) (m : Meaning) → Reads line m → fault line ≡ None
 
--- ---- how a run ends that no device and no want of memory ends
+-- ---- how a run ends that no device and no lack of memory ends
 
 -- at the line in front
 pub data Front (stage : Stage) (line : List ℕ) (o : Option FilterFault) : Type 0 where
@@ -28,7 +28,7 @@ pub data Front (stage : Stage) (line : List ℕ) (o : Option FilterFault) : Type
   Untracked : (m : Meaning) (L : List Meaning) (f : TrackFault) → stage ≡ AfterReady L → Reads line m → track_fault L m ≡ Some f → o ≡ Some (at.Track f) → Front stage line o
   TooEarly : (m : Meaning) → stage ≡ BeforeReady → Reads line m → is_stamped m ≡ true → o ≡ Some at.NotReady → Front stage line o
 
--- behind the last line
+-- after the last line
 pub data End (stage : Stage) (last : List ℕ) (o : Option FilterFault) : Type 0 where
   NeverReady : stage ≡ BeforeReady → last ≡ [] → o ≡ Some at.EndedEarly → End stage last o
   Over : (L : List Meaning) → stage ≡ AfterReady L → last ≡ [] → o ≡ None → End stage last o
@@ -145,7 +145,7 @@ all_front : (P : List ℕ → Type 0) (ls d : List (List ℕ)) → AllByRecursio
 all_front P [] d h = tt
 all_front P (x ∷ ls) d h = (h.0, all_front P ls d h.1)
 
--- the line behind early ones is early, or it is the first `config|ready`
+-- the line after early ones is early, or it is the first `config|ready`
 early_or_ready : (G : Grammar) (before ls : List (List ℕ)) (r y : List ℕ) (after d : List (List ℕ)) → AllByRecursion IsEarly before → AllByRecursion IsEarly ls → Reads r ReadyLine → ls ++ y ∷ d ≡ before ++ r ∷ after → Passed BeforeReady y
 early_or_ready G [] [] r y after d hb hl hr e =
     let F : List ℕ → Type 0 = λ l. Reads l ReadyLine in

@@ -17,7 +17,7 @@ use Rattle.mq_client.specs.Loop.{IsRefused, filter_fault}
 use Rattle.mq_client.specs.declared.faults.FilterFault.{FilterFault}
 use Rattle.mq_client.specs.declared.faults.FilterFault.TheVariants as at
 
--- no want of memory
+-- no lack of memory
 abbrev IsTold : Option TrackFault → Type 0
 IsTold o = o ≡ Some track.Memory → ⊥
 
@@ -54,7 +54,7 @@ told_unreadable (ReportLine seconds subsystem name session params) = told_if (by
 told_unreadable (FilterLine seconds subsystem phase session token rest) = told_none
 told_unreadable OtherLine = told_none
 
--- what a line says is never refused as a want of memory
+-- what a line says is never refused as a lack of memory
 told_fault : (L : List Meaning) (m : Meaning) → IsTold (fault L m)
 told_fault L m = told_or (unreadable m) _ (told_unreadable m) (told_if (is_exhausted (begin_count L) (event m)) (Some track.Exhausted) None told_exhausted told_none)
 

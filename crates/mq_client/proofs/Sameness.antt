@@ -26,7 +26,7 @@ early_apart U line (m, reads, early) ready =
     let no_early : is_early ReadyLine ≡ true = subst (λ (x : Meaning). is_early x ≡ true) same early in
     cc (no_early)
 
--- what stands behind the first ready line
+-- what stands after the first ready line
 pub same_after : (U : (line : List ℕ) (m n : Meaning) → Reads line m → Reads line n → m ≡ n) (b c : List (List ℕ)) (r q : List ℕ) (xs ys : List (List ℕ)) → AllByRecursion IsEarly b → AllByRecursion IsEarly c → Reads r ReadyLine → Reads q ReadyLine → b ++ r ∷ xs ≡ c ++ q ∷ ys → xs ≡ ys
 same_after U [] [] r q xs ys eb ec hr hq e = cons_tail r q xs ys e
 same_after U [] (y ∷ c) r q xs ys eb ec hr hq e = absurd (early_apart U y ec.0 (subst (λ (l : List ℕ). Reads l ReadyLine) (cons_head r y xs (c ++ q ∷ ys) e) hr))

@@ -1,4 +1,4 @@
--- What a link tells of several exchanges, and how tries add up.
+-- What a link reports of several exchanges, and how tries add up.
 use Rattle.std.proofs.Common.{◌≡◌, ℕ, ◌<◌, Bool, true, false, List, [], ◌∷◌, ◌++◌, length, refl, sym, ap, ◌∙◌, subst, append_assoc, append-nil, Option, None, Some, if◌then◌else◌}
 use Rattle.mq_frame.specs.Spelling.{SpellsReply}
 use Rattle.mq_frame.specs.declared.message.Request.{Request}

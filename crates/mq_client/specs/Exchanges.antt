@@ -109,11 +109,11 @@ IsSent n request tries false = IsUndecided n request tries
 abbrev pub request_frame : Request → List ℕ
 request_frame request = frame (request_body request)
 
--- an exchange as the link tells it
+-- an exchange as the link reports it
 abbrev pub told_of : Exchange → Told
 told_of x = record { frame = request_frame x.request; outcome = x.outcome }
 
--- the exchanges of a group as the link tells them, the oldest first
+-- the exchanges of a group as the link reports them, the oldest first
 abbrev pub told_all : List Exchange → List Told
 told_all [] = []
 told_all (x ∷ group) = told_all group ++ told_of x ∷ []

@@ -91,7 +91,7 @@ IsRefused (fault.Track f) L m = track_fault L m ≡ Some f
 IsRefused fault.Memory L m = (track_fault L m ≡ None) × (may_ask_for_memory L m ≡ true)
 IsRefused f L m = ⊥
 
--- a run that stopped while lines were handled: for want of memory only at the work of a line
+-- a run that stopped while lines were handled: where memory ran out, only at the work of a line
 abbrev pub StopsWithin : Outside → (pieces : List (List ℕ)) → (source : Option (List ℕ)) → Outside
     → (read_failed write_failed : Bool) → FilterFault → Type 0
 StopsWithin o pieces source now read_failed write_failed f =

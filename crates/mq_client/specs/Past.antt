@@ -231,7 +231,7 @@ pub record MakesAll (old new : State) (steps : List Step) : Type 0 where
   pub plays : (P : List Step) → StandsAt old P → ArePlayed old.source old.tries P steps
   pub stands : (P : List Step) → StandsAt old P → StandsAt new (steps ++ P)
 
--- the exchanges of some steps as the link tells them, the oldest first
+-- the exchanges of some steps as the link reports them, the oldest first
 abbrev pub told_steps : List Step → List Told
 told_steps [] = []
 told_steps (x ∷ steps) = told_steps steps ++ told_all x.group

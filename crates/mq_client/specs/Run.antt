@@ -21,7 +21,7 @@ use Rattle.mq_link.specs.declared.link.Told.{Told}
 
 -- ---- the input
 
--- a source, as far as it tells: the bytes that are still to come, and what each read gave so far
+-- a source, as far as it reports them: the bytes that are still to come, and what each read gave so far
 pub record Supply : Type 0 where
   pub remaining : Option (List ℕ)
   pub reads : Option (List (List ℕ))
@@ -120,7 +120,7 @@ pub record StandsFirst (line left : List ℕ) : Type 0 where
   pub rest : List ℕ
   pub whole : left ≡ line ++ 10 ∷ rest
 
--- all that the last read gave is left, behind the beginning of a line
+-- all that the last read gave is left, after the beginning of a line
 pub record IsFed (pieces : List (List ℕ)) (left : List ℕ) : Type 0 where
   pub before : List (List ℕ)
   pub piece : List ℕ
@@ -164,7 +164,7 @@ abbrev pub Goes : Stage → (line : List ℕ) → Option Step → List ℕ → T
 Goes BeforeReady line step next = Reads line ReadyLine × (step ≡ None) × (next ≡ registration)
 Goes (AfterReady L) line step next = (m : Meaning) × Reads line m × Takes L m step next
 
--- at a failed write and for want of memory the line in hand may have made its step
+-- at a failed write and where memory ran out the line in hand may have made its step
 abbrev pub MayGo : Stage → (left : List ℕ) → Option Step → List ℕ → Type 0
 MayGo stage left step next = ((step ≡ None) × (next ≡ []))
     ⊎ ((line : List ℕ) × StandsFirst line left × Goes stage line step next)
@@ -175,7 +175,7 @@ IsInHand at.Memory stage left step next = MayGo stage left step next
 IsInHand f stage left step next = (step ≡ None) × (next ≡ [])
 
 -- The lines before the place where a run stopped were handled, and the rest is left: steps and exchanges were made
--- as the lines ask, and their text was written. The line in hand may have made its step, and a front of its text
+-- as the lines ask, and their text was written. The line in hand may have made its step, and a prefix of its text
 -- may have been written.
 pub record StopsAt (o : Outside) (pieces : List (List ℕ)) (source : Option (List ℕ)) (now : Outside)
     (read_failed write_failed : Bool) (f : FilterFault) : Type 0 where

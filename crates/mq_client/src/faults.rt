@@ -33,7 +33,7 @@ pub enum FilterFault {
     /// A line that can't be read.
     #[error("{0}")]
     Line(LineFault),
-    /// A report that can't be accepted; want of memory is `Memory`.
+    /// A report that can't be accepted; where memory ran out it is `Memory`.
     #[error("{0}")]
     Track(TrackFault),
     /// A report or a request before `config|ready`.

@@ -133,7 +133,7 @@ fn close<R: Log, K: Link>(
     }
 }
 
-/// Notes what a line tells of its session, and passes on the closing that it brings.
+/// Notes what a line reports of its session, and passes on the closing that it brings.
 fn note<R: Log, K: Link>(
     rt: &R,
     tracker: &mut Tracker,

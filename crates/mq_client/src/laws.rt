@@ -94,7 +94,7 @@ pub fn closed_is_not_asked_for()
     closed_stays_closed();
 }
 
-/// A run of the filter that no device and no want of memory ended follows from its whole input, from
+/// A run of the filter that neither a device nor a lack of memory ended follows from its whole input, from
 /// the client at its start and from how its exchanges ended, one after another. In which pieces the
 /// input came doesn't matter.
 pub fn one_run()

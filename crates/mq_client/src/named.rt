@@ -19,7 +19,7 @@ fn write_name<W: fmt::Write>(
 }
 
 /// A request of a client by its kind and number, with the transaction, the host and the login, so that one line of a
-/// log tells whose recipients it is about. A login has at most 255 bytes, and so 1,020 characters.
+/// log says whose recipients it is about. A login has at most 255 bytes, and so 1,020 characters.
 #[derive(Clone, Copy)]
 pub struct Named<'a>(pub &'a Request);
 

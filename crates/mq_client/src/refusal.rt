@@ -82,7 +82,7 @@ struct Given {
 }
 
 /// The latest warnings, so that each cause is warned of once in a session. Sessions whose names begin with the same 16
-/// bytes count as one, and behind 64 other warnings a session is warned of again.
+/// bytes count as one, and after 64 other warnings a session is warned of again.
 #[derive(Drop)]
 pub struct Warned {
     given: VecDeque<Given>,

@@ -66,7 +66,7 @@ fn tell<R: Log, T: Display>(rt: &R, level: Level, text: &T) {
     log!(rt; level, "{text}");
 }
 
-/// Tells of a limit that is reached, and warns where the server refused a request.
+/// Reports a limit that is reached, and warns where the server refused a request.
 fn tell_verdict<R: Log>(rt: &R, request: &Request, verdict: Verdict) {
     if let Verdict::Full { used, cap } = verdict {
         tell(rt, Level::Info, &LimitReached { request, used, cap });
