@@ -1,4 +1,4 @@
--- A filter run on its way through worlds, as its contract tells it. Of lines, steps, exchanges and frames the newest
+-- A filter run on its way through worlds, as its contract says. Of lines, steps, exchanges and frames the newest
 -- comes first.
 use Rattle.std.specs.Prelude.{◌≡◌, ◌⊎◌, ℕ, List, [], ◌∷◌, ◌++◌, Bool, true, false, map, Option, None, Some}
 use Rattle.std.specs.List.{AllByRecursion}
