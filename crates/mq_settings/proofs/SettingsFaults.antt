@@ -17,7 +17,7 @@ pub of_error : {T : Type 0} (P : SettingsFault → Type 0) (r : Result T Setting
 of_error P (Ok x) e h p = tt
 of_error P (Err f) e h p = subst P (sym h) p
 
--- a host is refused for its text, or for want of memory
+-- a host is refused for its text, or since memory ran out
 pub host_fault : (table : Members) (e : SettingsFault) → (e ≢ Memory → IsHostAt table (Err e)) → (e ≡ Memory) ⊎ IsHostAt table (Err e)
 host_fault table (Text why) h = inr (h (λ q. cc))
 host_fault table (Unknown name) h = inr (h (λ q. cc))
@@ -46,7 +46,7 @@ pub filter_at_log : (text : List ℕ) (table : Members) (host : List ℕ) (serve
     → IsHostAt table (Ok host) → IsAddressAt Server table (Ok server) → tries_at table ≡ Ok tries → timeout_at table ≡ Ok timeout → level_at table ≡ Err e → IsFilterRefusal text e
 filter_at_log text table host server tries timeout e spells names h s t m bad = inr (table, spells, names, inr (host, h, inr (server, s, inr (tries, t, inr (timeout, m, bad)))))
 
--- a place is refused for its text, or for want of memory
+-- a place is refused for its text, or since memory ran out
 pub place_fault : (table : Members) (e : SettingsFault) → (e ≢ Memory → IsPlaceAt table (Err e)) → (e ≡ Memory) ⊎ IsPlaceAt table (Err e)
 place_fault table (Text why) h = inr (h (λ q. cc))
 place_fault table (Unknown name) h = inr (h (λ q. cc))

@@ -31,7 +31,7 @@ pub record Spells (text : List ℕ) (table : Members) : Type 0 where
   pub utf8 : IsUtf8 text
   pub document : parse_document text ≡ Some table
 
--- why no table of these keys alone is read; want of memory may come before any other cause
+-- why no table of these keys alone is read; that memory ran out may come before any other cause
 pub data IsTableRefusal (keys : List Key) (text : List ℕ) : SettingsFault → Type 0 where
   memory : IsTableRefusal keys text Memory
   no_table : (why : Flaw) → ((table : Members) → ¬ Spells text table) → IsTableRefusal keys text (Text why)
@@ -87,7 +87,7 @@ zone_by_offset (Some minutes) =
 abbrev pub IsZoneByRule : Option Data → Result Zone SettingsFault → Type 0
 IsZoneByRule rule r = TextAs Rule (λ text zone. (zone ≡ ByRule text) × IsRule text) rule r
 
--- where a rule stands beside an offset: the rule is too much, unless the offset is refused before it
+-- where a rule stands alongside an offset: the rule is too much, unless the offset is refused before it
 abbrev pub beside_a_rule : Result Zone SettingsFault → Result Zone SettingsFault
 beside_a_rule (Ok zone) = Err (Bad Rule)
 beside_a_rule (Err e) = Err e

@@ -61,7 +61,7 @@ const SERVER_KEYS: [Key; 7] = [
 
 /// Reads the filter's settings.
 ///
-/// Want of memory may be met before any other cause of refusal.
+/// That memory runs out may be met before any other cause of refusal.
 pub fn read_filter_settings(alloc: Global, text: &[u8]) -> Result<FilterSettings, SettingsFault>
     ensures settings { IfOk result (λ settings. (table : Members) × Spells text.now table
         × IsFilterSettings table settings) }
@@ -84,7 +84,7 @@ pub fn read_filter_settings(alloc: Global, text: &[u8]) -> Result<FilterSettings
 
 /// Reads the server's settings.
 ///
-/// Want of memory may be met before any other cause of refusal.
+/// That memory runs out may be met before any other cause of refusal.
 pub fn read_server_settings(alloc: Global, text: &[u8]) -> Result<ServerSettings, SettingsFault>
     ensures settings { IfOk result (λ settings. (table : Members) × Spells text.now table
         × IsServerSettings table settings) }
