@@ -36,7 +36,7 @@ pub record Standing (C S : Type 0) : Type 0 where
   pub connector : C
   pub stream : Option S
 
--- Of the streams of a kind, some are new, and each tells the bytes that were written to it.
+-- Of the streams of a kind, some are new, and each reports the bytes that were written to it.
 
 -- the frame was written, whole and alone, over a connection that was new, and left it so
 pub record IsSent {S : Type 0} (is_new : S → Type 0) (contents : S → Option (List ℕ)) (frame : List ℕ) (sent : S)

@@ -5,7 +5,7 @@ use std::io::{Read, Write};
 use std::net::{Net, OpenStream, SocketAddr, TcpStream};
 use std::time::Duration;
 
-/// Makes connections to the quota server. What a connection carried is what its stream tells.
+/// Makes connections to the quota server. What a connection carried is what its stream reports.
 pub trait Connect {
     ghost use Rattle.std.specs.Prelude.{◌≡◌, ℕ, Option, None, IfOk, option_map, suc, ⊤};
 

@@ -134,7 +134,7 @@ impl<'a, K: Clock, C: Connect> TcpLink<'a, K, C> {
         }
     }
 
-    /// Keeps why an exchange brought no reply, and gives it as a link tells it.
+    /// Keeps why an exchange brought no reply, and gives it as a link reports it.
     fn fail(&mut self, trouble: Trouble) -> LinkFault
         ensures fault { result ≡ trouble_fault trouble }
         ensures memory { result ≡ LinkFault.Memory → trouble ≡ Trouble.Memory }

@@ -43,7 +43,7 @@ impl From<BodyFault> for Trouble {
 }
 
 impl Trouble {
-    /// The same, as a link tells it.
+    /// The same, as a link reports it.
     pub fn fault(&self) -> LinkFault
         ensures fault { result ≡ trouble_fault self.now }
         ensures memory { result ≡ LinkFault.Memory → self.now ≡ Trouble.Memory }
