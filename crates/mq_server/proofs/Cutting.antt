@@ -17,9 +17,9 @@ use Rattle.mq_server.specs.Text.{Asks, IsBad, IsEnd, IsServed, LosesAlike, Spell
 use Rattle.mq_server.proofs.Heads.{whole_more}
 use Rattle.mq_server.proofs.Running.{asks_more}
 
--- ---- bytes behind the end
+-- ---- bytes after the end
 
--- heads that are refused stay as bytes come behind them
+-- heads that are refused stay as bytes come after them
 pub record Stay : Type 0 where
   pub empty : (limit : ℕ) (bytes more : List ℕ) → front limit bytes ≡ EmptyHead → front limit (bytes ++ more) ≡ EmptyHead
   pub long : (limit : ℕ) (bytes more : List ℕ) → front limit bytes ≡ LongHead → front limit (bytes ++ more) ≡ LongHead
@@ -124,7 +124,7 @@ OneRequest = (body : List ℕ) (request other : Request) → SpellsRequest body 
 whole_is : (a b c d : List ℕ) → Whole a b ≡ Whole c d → (a ≡ c) × (b ≡ d)
 whole_is a b c d e = (cc, cc)
 
--- the deliveries of some bytes, behind so many others, and the end
+-- the deliveries of some bytes, after so many others, and the end
 pub record Reads (count : ℕ) (bytes : List ℕ) (bodies : List (List ℕ)) (came : List Delivery) (rest : List ℕ) (e : Served) : Type 0 where
   pub frames : BeginsWith 512 bytes bodies rest
   pub each : AllZip SpellsRequest bodies (asked came)

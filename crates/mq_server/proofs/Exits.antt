@@ -356,7 +356,7 @@ ended b k t u v old mid holds c now (Err Store) history few short none left f s 
 ended b k t u v old mid holds c now (Err Read) history few short none left f s goes steps sent = absurd steps
 ended b k t u v old mid holds c now (Err Write) history few short none left f s goes steps sent = absurd steps
 
--- ---- a connection behind a read
+-- ---- a connection after a read
 
 not_both : false ≡ true → ⊥
 not_both e = cc

@@ -91,7 +91,7 @@ left_behind limit n bytes body after e =
       ]
     ]
 
--- fewer bytes are left behind a frame
+-- fewer bytes are left after a frame
 pub left_short : (limit : ℕ) (bytes body after : List ℕ) → front limit bytes ≡ Whole body after → length after < length bytes
 left_short limit [] body after e = absurd (nothing_whole _ _ e)
 left_short limit (a ∷ []) body after e = absurd (cut_whole _ _ e)

@@ -1,4 +1,4 @@
--- What a ledger tells of one delivery after another.
+-- What a ledger reports of one delivery after another.
 use Rattle.std.proofs.Common.{◌≡◌, List, [], ◌∷◌, ◌++◌, refl, sym, ap, subst, ◌∙◌, append-nil, append_assoc, Option, Some, None}
 use Rattle.mq_frame.specs.declared.message.Reply.{Reply}
 use Rattle.mq_ledger.specs.declared.ledger.Told.{Told}
@@ -57,7 +57,7 @@ calls_split answer earlier (x ∷ xs) ys =
     ap (λ (q : List Told). call x (answer earlier x) ∷ q) (calls_split answer (earlier ++ x ∷ []) xs ys
     ∙ ap (λ (q : List Delivery). calls_after answer (earlier ++ x ∷ []) xs ++ calls_after answer q ys) (append_assoc earlier (x ∷ []) xs))
 
--- the calls of more deliveries behind those of earlier ones
+-- the calls of more deliveries after those of earlier ones
 pub calls_more : (answer : List Delivery → Delivery → Reply) (seen came : List Delivery) → calls answer (seen ++ came) ≡ calls answer seen ++ calls (behind answer seen) came
 calls_more answer seen came =
     calls_split answer [] seen came

@@ -18,7 +18,7 @@ pub record Wire : Type 0 where
   pub remaining : Option (List ℕ)
   pub contents : Option (List ℕ)
 
--- the text that was written when the serving ended so, with this behind the frames of the deliveries
+-- the text that was written when the serving ended so, with this after the frames of the deliveries
 abbrev pub Leaves : (List Delivery → Delivery → Reply) → List Delivery → Front → List ℕ
     → Option (List ℕ) → Result Served ServeFault → Type 0
 Leaves answer came behind text left (Ok e) = (text ≡ served answer came e) × IsEnd e (length came) behind left
@@ -40,7 +40,7 @@ pub record Serves (answer : List Delivery → Delivery → Reply) (came : List D
   pub ahead : length rest < REQUEST_LIMIT + 2 + PIECE
   pub leaves : Leaves answer came (next rest) text new.remaining result
 
--- the call behind those of the deliveries: the one at which the store failed, where it did
+-- the call after those of the deliveries: the one at which the store failed, where it did
 abbrev pub last_call : (answer : List Delivery → Delivery → Reply) (came : List Delivery) (behind : Front)
     (text : List ℕ) (left : Option (List ℕ)) (result : Result Served ServeFault)
     → Leaves answer came behind text left result → List Told

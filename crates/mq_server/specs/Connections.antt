@@ -28,7 +28,7 @@ result_of ends.Read = Err Read
 result_of ends.Write = Err Write
 result_of ends.Memory = Err Memory
 
--- Connections were served in turn, one for each result, and the wires behind those stayed as they were. A ledger that
+-- Connections were served in turn, one for each result, and the wires after those stayed as they were. A ledger that
 -- meant this book, and to which the earlier deliveries had come, has then seen all of these.
 abbrev pub AreServed : Book → List Delivery → List Wire → List Wire → List (Result Served ServeFault)
     → List Delivery → Type 0
@@ -39,8 +39,8 @@ AreServed b earlier (old ∷ olds) (new ∷ news) (result ∷ results) all =
     (came : List Delivery) × Serves (λ ds d. answer_to b (earlier ++ ds) d) came old new result
     × AreServed b (earlier ++ came) olds news results all
 
--- The ledger's store failed at a connection, behind others that were served in turn. It stands behind theirs, the wires
--- behind it stayed as they were, and the ledger that it found is the one that their deliveries had left.
+-- The ledger's store failed at a connection, after others that were served in turn. It stands after theirs, the wires
+-- after it stayed as they were, and the ledger that it found is the one that their deliveries had left.
 pub record AreStopped (b : Book) (olds news : List Wire) (ends : List ConnectionEnd)
     (seen : List Delivery) : Type 0 where
   pub before : List Delivery

@@ -28,7 +28,7 @@ arrivals ds = asked (filter (λ d. d.taken) ds)
 abbrev pub history_after : Book → List Delivery → List Entry
 history_after b ds = history_of (day_of b.zone) b.default (requests b.history ++ arrivals ds)
 
--- between these books some deliveries came, and nothing else: the later history is the one behind them
+-- between these books some deliveries came, and nothing else: the later history is the one after them
 abbrev pub HasGrown : Book → Book → Type 0
 HasGrown old new = (came : List Delivery) × (new.history ≡ history_after old came)
 

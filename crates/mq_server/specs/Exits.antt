@@ -39,7 +39,7 @@ pub record LeavesAtWrite (answer : List Delivery → Delivery → Reply) (came :
   pub told : text ≡ frames_of (answers answer done) ++ part
 
 -- A growth was refused: all answers before went out. Where there is a last delivery the ledger has seen it, and there
--- was no room for its answer. Where there is none some bytes were read behind them, and it was they that found no room,
+-- was no room for its answer. Where there is none some bytes were read after them, and it was they that found no room,
 -- or the request that they spell, or Bad.
 pub record LeavesAtMemory (answer : List Delivery → Delivery → Reply) (came : List Delivery) (behind : Front)
     (text : List ℕ) : Type 0 where

@@ -32,7 +32,7 @@ deliveries xs = map (λ x. x.delivery) xs
 abbrev pub replies_of : List Exchange → List Reply
 replies_of xs = map (λ x. x.answer) xs
 
--- a life so far: all bytes that came, the exchanges, the bytes behind their frames, and all bytes of replies that were
+-- a life so far: all bytes that came, the exchanges, the bytes after their frames, and all bytes of replies that were
 -- taken
 pub record Life : Type 0 where
   pub bytes : List ℕ
@@ -49,7 +49,7 @@ abbrev pub with_bytes : Life → List ℕ → Life
 with_bytes l piece =
     record { bytes = l.bytes ++ piece; exchanges = l.exchanges; rest = l.rest ++ piece; taken = l.taken }
 
--- more exchanges, with these bytes behind them
+-- more exchanges, with these bytes after them
 abbrev pub with_exchanges : Life → List Exchange → List ℕ → Life
 with_exchanges l xs rest = record { bytes = l.bytes; exchanges = l.exchanges ++ xs; rest = rest; taken = l.taken }
 
@@ -86,7 +86,7 @@ HasReplies l text c (Some (Err Store)) = (text ≡ frames_of (replies_of l.excha
 HasReplies l text c (Some (Err Read)) = ⊥
 HasReplies l text c (Some (Err Write)) = ⊥
 
--- A connection has this life: the frames of its requests came, with the rest behind them, and the replies that were
+-- A connection has this life: the frames of its requests came, with the rest after them, and the replies that were
 -- taken and those that wait are, together, all that it has answered.
 pub record Lives (l : Life) (c : State) : Type 0 where
   pub asks : Asks l.bytes (asked (deliveries l.exchanges)) l.rest

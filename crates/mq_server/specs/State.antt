@@ -68,7 +68,7 @@ Ends b told closed rest replies (Err Read) rest' replies' history tells = ⊥
 Ends b told closed rest replies (Err Write) rest' replies' history tells = ⊥
 
 -- What an attempt does to the bytes that weren't answered and to the replies, and to a ledger of that book, which then
--- has this history and tells that more.
+-- has this history and reports that more.
 abbrev pub Steps : Book → Option (List Told) → Bool → List ℕ → List ℕ → Progress
     → List ℕ → List ℕ → List Entry → Option (List Told) → Type 0
 Steps b told closed rest replies Answered rest' replies' history tells =

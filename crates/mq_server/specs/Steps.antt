@@ -29,7 +29,7 @@ Refills old new piece left (Err Memory) = (0 < length piece) × (new ≡ old)
 Refills old new piece left (Err Write) = ⊥
 Refills old new piece left (Err Store) = ⊥
 
--- A body was put to a ledger of that book, which then has this history and tells that more: its request came and has
+-- A body was put to a ledger of that book, which then has this history and reports that more: its request came and has
 -- an answer; or it spells none; or the request had no room, and wasn't put; or the store failed at it.
 abbrev pub AnswersBody : Book → Option (List Told) → List ℕ → Result (Option Reply) ServeFault
     → List Entry → Option (List Told) → Type 0
@@ -44,7 +44,7 @@ AnswersBody b told body (Err Store) history tells =
 AnswersBody b told body (Err Read) history tells = ⊥
 AnswersBody b told body (Err Write) history tells = ⊥
 
--- how a connection ends whose input does, by what stands behind the frames that were answered
+-- how a connection ends whose input does, by what stands after the frames that were answered
 abbrev pub end_at : Front → Served
 end_at Nothing = InputEnd
 end_at _ = CutFrame

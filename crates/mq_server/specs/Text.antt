@@ -43,7 +43,7 @@ IsBad EmptyHead = Unit {0}
 IsBad LongHead = Unit {0}
 IsBad (Whole body after) = SpellsNone body
 
--- how a connection ends whose frames were answered so far: by their count, by what stands behind them, and by
+-- how a connection ends whose frames were answered so far: by their count, by what stands after them, and by
 -- what the input has left
 abbrev pub IsEnd : Served → ℕ → Front → Option (List ℕ) → Type 0
 IsEnd InputEnd count behind left = (count < ENOUGH) × (behind ≡ Nothing) × IsAtEnd left

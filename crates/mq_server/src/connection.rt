@@ -17,7 +17,7 @@ use std::marker::Model;
 /// How a connection ended.
 #[derive(Clone, Copy, Debug, PartialEq, Eq)]
 pub enum Served {
-    /// The input ended behind whole frames, or was empty.
+    /// The input ended after whole frames, or was empty.
     InputEnd,
     /// 10,000 frames were answered; nothing more is read.
     Enough,

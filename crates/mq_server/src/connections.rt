@@ -84,7 +84,7 @@ pub fn serve_all<S: Source, W: Sink, L: Ledger>(
         × ((L.book ledger.new).history ≡ history_after (L.book ledger.old) seen)
         × Tells (L.told ledger.old) (L.told ledger.new) (calls (answer_to (L.book ledger.old)) seen)) }
 
-    // Where the store failed: how the connections before ended, and behind them the one at which it did.
+    // Where the store failed: how the connections before ended, and after them the one at which it did.
     ensures store { result ≡ Err ServeFault.Store → (ends : List AnEnd)
         × DevicesAgree S.has_failed W.has_failed W.has_flushed inputs.old inputs.new outputs.old outputs.new
         (map result_of ends ++ Err ServeFault.Store ∷ [])

@@ -39,7 +39,7 @@ pub fn any_cutting()
     ensures only { (input : List ℕ) (came others : List Delivery) (e f : Served) →
         IsServed input came e → IsServed input others f → LosesAlike came others → (came ≡ others) × (e ≡ f) }
 
-    // What stands behind Bad and behind the last answer changes nothing.
+    // What stands after Bad and after the last answer changes nothing.
     ensures more { (input more : List ℕ) (came : List Delivery) (e : Served) →
         (e ≡ BadFrame) ⊎ (e ≡ Enough) → IsServed input came e → IsServed (input ++ more) came e }
 {
@@ -98,14 +98,14 @@ pub fn arrivals_get_their_replies()
         ≡ replies_after (day_of b.zone) b.default (requests b.history) (arrivals came) }
 {}
 
-/// Deliveries to a ledger that others came to before are deliveries behind those.
+/// Deliveries to a ledger that others came to before are deliveries after those.
 pub fn more_deliveries()
     ensures none { (b : Book) → IsLegalBook b → HasGrown b b }
     ensures more { (b k c : Book) → IsLegalBook k → k.zone ≡ b.zone → k.default ≡ b.default →
         HasGrown b k → HasGrown k c → HasGrown b c }
 {}
 
-/// Exchanges with a ledger that others came to before are exchanges behind those.
+/// Exchanges with a ledger that others came to before are exchanges after those.
 pub fn more_exchanges()
     ensures none { (b : Book) → IsLegalBook b → AreAnswered b [] b.history }
     ensures more { (b k : Book) (xs ys : List Exchange) (history : List Entry) → IsLegalBook k →

@@ -10,7 +10,7 @@ use mq_frame::{Failed, Sink, write_and_flush};
 
 /// Writes and flushes the replies that wait, where there are any.
 ///
-/// After a `Write` a front of them went out.
+/// After a `Write` a prefix of them went out.
 pub fn hand_on<W: Sink>(connection: &mut Connection, output: &mut W) -> Result<(), ServeFault>
     ensures ok { OnOk result (Appends (W.contents output.old) (W.contents output.new) connection.old.replies
         × (connection.new ≡ with_replies connection.old [])) }
