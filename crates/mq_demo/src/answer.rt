@@ -10,7 +10,7 @@ use std::alloc::Global;
 
 /// What a server over this ledger writes on a connection that sends these bytes and no more.
 ///
-/// A fault is the ledger's store, or want of memory: over memory a read or a write fails for nothing else.
+/// A fault is the ledger's store, or that memory ran out: over memory a read or a write fails for nothing else.
 pub fn answer<L: Ledger>(alloc: Global, sent: &[u8], ledger: &mut L) -> Result<Vec<u8>, ServeFault>
     ensures { L.has_kept ledger.new → L.is_sound ledger.old →
         IfOk result (λ written. IsAnswered (L.book ledger.old) (L.book ledger.new) sent.now written.items) }
