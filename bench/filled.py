@@ -1,4 +1,4 @@
-"""Database files of many answers, as a server leaves them, with the tables and rows that docs/STORE.md tells."""
+"""Database files of many answers, as a server leaves them, with the tables and rows that docs/STORE.md has."""
 import collections
 import os
 import sqlite3

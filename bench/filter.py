@@ -1,5 +1,5 @@
 #!/usr/bin/env python3
-"""Filter requests per second through `run_filter` over memory with a link that grants at once, beside filter_twin.rs (the
+"""Filter requests per second through `run_filter` over memory with a link that grants at once, compared with filter_twin.rs (the
 same lines, sessions and numbers in plain Rust), by turns.
 
 usage: filter.py [PROGRAM]
@@ -16,7 +16,7 @@ from turns import built, medians
 FRONT = ["config|smtpd-version|7.6.0-portable", "config|protocol|0.7", "config|smtp-session-timeout|300",
          "config|subsystem|smtp-in", "config|admd|vm", "config|ready"]
 
-# what is told of a mix, its mails, the recipients of each, and how many sessions stay open beside them
+# what is said of a mix, its mails, the recipients of each, and how many sessions stay open meanwhile
 MIXES = [("three recipients a mail", 20_000, 3, 0), ("the same with 1,000 open sessions", 20_000, 3, 1_000),
          ("fifty recipients a mail", 2_000, 50, 0), ("the same with 1,000 open sessions", 2_000, 50, 1_000)]
 
@@ -37,7 +37,7 @@ def mail(n, session, recipients):
 
 
 def sittings(mails, recipients, open_sessions=0):
-    """Mails of one session each, with some sessions that stay open beside them."""
+    """Mails of one session each, with some sessions that stay open meanwhile."""
     lines = list(FRONT)
     for k in range(open_sessions):
         s = f"{10**9 + k:016x}"
@@ -51,7 +51,7 @@ def sittings(mails, recipients, open_sessions=0):
 
 
 def built_bench(here, folder):
-    """The program of filter_bench, built beside a copy of the crates: were it a crate of the repository, the gate would prove it."""
+    """The program of filter_bench, built with a copy of the crates: were it a crate of the repository, the gate would prove it."""
     top, room = here.parent, Path(folder) / "repository"
     shutil.copytree(top / "crates", room / "crates", ignore=shutil.ignore_patterns("incremental", "must-fail"))
     shutil.copy(top / "HANDLES", room)

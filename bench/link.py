@@ -1,5 +1,5 @@
 #!/usr/bin/env python3
-"""Reserves per second over loopback, one a connection, over memory and over a file, beside a peer that only echoes (echo.rs).
+"""Reserves per second over loopback, one a connection, over memory and over a file, compared with a peer that only echoes (echo.rs).
 
 usage: link.py PROGRAM [RESERVES]
 

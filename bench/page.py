@@ -1,5 +1,5 @@
 #!/usr/bin/env python3
-"""Times reports over many logins, of the day on which all of them wrote and of one on which nobody did, and reserves beside them.
+"""Times reports over many logins, of the day on which all of them wrote and of one on which nobody did, and reserves meanwhile.
 
 usage: page.py PROGRAM [LOGINS..]
 

@@ -1,5 +1,5 @@
 #!/usr/bin/env python3
-"""Frames per second of `mailquota replay`, beside the same work in plain Rust (twin.rs).
+"""Frames per second of `mailquota replay`, compared with the same work in plain Rust (twin.rs).
 
 usage: replay.py PROGRAM
 """

@@ -43,7 +43,7 @@ class Ledger:
         return int(re.search(r"VmHWM:\s+(\d+) kB", status)[1])
 
     def log_size(self):
-        """The bytes of the log beside the file."""
+        """The bytes of the file's log."""
         log = self.path + "-wal"
         return os.path.getsize(log) if os.path.exists(log) else 0
 

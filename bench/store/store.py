@@ -1,8 +1,8 @@
 #!/usr/bin/env python3
-"""Time of requests to the ledger in SQL tables, beside twin.c, the same tables, statements and pragmas over libsqlite3, by turns.
+"""Time of requests to the ledger in SQL tables, compared with twin.c, the same tables, statements and pragmas over libsqlite3, by turns.
 
 usage: store.py [--folder FOLDER] [--only WORD] [PROGRAM]
-Without PROGRAM it proves and builds main.rattle first, with rt on the PATH. Files are made in FOLDER, by default beside other temporary
+Without PROGRAM it proves and builds main.rattle first, with rt on the PATH. Files are made in FOLDER, by default with other temporary
 ones. It wants cc, libsqlite3's header and strace. WORD is one of: twin, flat, growth, open, syncs.
 """
 import argparse
@@ -32,7 +32,7 @@ def built_twin(folder):
 
 
 def built_ledger(folder):
-    """The program of main.rattle, built beside a copy of the crates: were it a crate of the repository, the gate would prove it."""
+    """The program of main.rattle, built with a copy of the crates: were it a crate of the repository, the gate would prove it."""
     top, room = HERE.parent.parent, Path(folder) / "repository"
     shutil.copytree(top / "crates", room / "crates", ignore=shutil.ignore_patterns("must-fail"))
     shutil.copy(top / "HANDLES", room)
@@ -56,7 +56,7 @@ class Bench:
         return f"{self.folder}/{next(self.files)}.db"
 
     def compare(self, title, paths, batch):
-        """Ours beside the twin, on the same numbered requests."""
+        """Ours compared with the twin, on the same numbered requests."""
         with Ledger(self.program, paths[0]) as ours, Ledger(self.twin, paths[1]) as twin:
             frames = requests.mails()
             batches = []
@@ -85,7 +85,7 @@ class Bench:
         return ledger, frames
 
     def flat(self):
-        """10,000 reserves behind 100,000 answers, beside those behind 1,000."""
+        """10,000 reserves after 100,000 answers, compared with those after 1,000."""
         kinds = [("of 50 logins", requests.reserves), ("of one login, transaction and day", requests.reserves_of_one)]
         for (title, kind), place in itertools.product(kinds, ("file", "memory")):
             long, many = self.behind(kind, place, 100_000)

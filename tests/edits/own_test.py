@@ -96,7 +96,7 @@ TRIPLES = "old: u16::from(number) + u16\nnew: if number > 2 { return u16::from(n
 # What is said of which case refuses an edit's body.
 CASES = {"has_a_case.edit": "`cases`: a case"}
 
-# Each group of edits is a crate's: the name, its text behind the file's line, whether it must count as refused, and words of
+# Each group of edits is a crate's: the name, its text after the file's line, whether it must count as refused, and words of
 # what must be said of it.
 GROUPS = [
     [
@@ -115,7 +115,7 @@ GROUPS = [
         ("most", None, False, "refused, though no edit of its round changes it"),
     ],
     [
-        # With fewer levels it still tells the truth: the goal has another name, and the answer fits it.
+        # With fewer levels it still says the truth: the goal has another name, and the answer fits it.
         ("gives_up_above_ten", "old: levels.len() < 100\nnew: levels.len() < 10", False, "is true, and only without an answer"),
         ("adds_a_wrong_way", "old: if number < LAST\nnew: if number == 7 { return 101; } if number < LAST", True, "one can't hold there"),
         # (of 3 it is right)

@@ -271,7 +271,7 @@ class Told:
 
 
 def is_part(told, function):
-    """Returns whether what the prover tells of is the function, or a closure in it."""
+    """Returns whether what the prover speaks of is the function, or a closure in it."""
     plain = told.replace("::fn::", "::").partition("+")[0]
     ends = lambda it: it == function or it.endswith("::" + function)
     return ends(told) or "::fn::" in told and any(ends(plain[:at.start()]) for at in re.finditer("::", plain))

@@ -80,7 +80,7 @@ class Rounds:
         return {**texts, **(more or {})}
 
     def planned(self, edits):
-        """Returns the edits in rounds, in each of which none changes what another is to spoil and they can stand beside one another.
+        """Returns the edits in rounds, in each of which none changes what another is to spoil and they can stand together.
         An edit outside functions may spoil any, and is alone."""
         rounds = []
         for edit in edits:

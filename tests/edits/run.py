@@ -159,7 +159,7 @@ def run_ci(tree, sum_):
 
 
 def try_edits(crates, place_of, proved, sum_, others=(), cases=None, looks_at_all=False):
-    """Tries the edits of each crate in rounds, some crates side by side, and other tasks beside them. What was killed is tried
+    """Tries the edits of each crate in rounds, some crates side by side, and other tasks with them. What was killed is tried
     once more, alone. `cases` says by crate and edit which case refuses a body."""
     tasks = [*others]
     for crate in crates:
@@ -222,7 +222,7 @@ def gate(names, sum_):
         own = OwnTest()
         crates = [Crate(tree, it) for it in rows_of(tree) if it not in refused]
         try_edits(crates, lambda it: f"{edits}/{it}", proved, sum_, [Task(own, 0, 1e9, own.run)], cases_in(TOP, sum_))
-        # (last, with nothing beside them: they wait for what others do)
+        # (last, with nothing else running: they wait for what others do)
         if "mailquota" in rows_of(tree):
             run_cases(tree, sum_)
         run_near_the_end(tree, sum_)
@@ -249,7 +249,7 @@ def run_near_the_end(tree, sum_):
 
 
 def add_cases(name, ran, sum_):
-    """Adds what a run of the cases counted, tells those that failed, and returns how many it tried."""
+    """Adds what a run of the cases counted, prints those that failed, and returns how many it tried."""
     lines = ran.said.rstrip("\n").split("\n")
     counts = COUNTS.match(lines[-1])
     passed, failed = map(int, counts.groups()) if counts else (0, 0)

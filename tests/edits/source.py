@@ -3,7 +3,7 @@ import os
 import re
 from collections import namedtuple
 
-# A function with a body: its first place, that of its body, the place behind its last, its names from the outermost module or type
+# A function with a body: its first place, that of its body, the place after its last, its names from the outermost module or type
 # on, and whether it stands in an impl without a trait.
 Function = namedtuple("Function", "begins body ends names is_of_type")
 
@@ -59,7 +59,7 @@ def impl_name(head):
 
 
 def name_of(head):
-    """Returns the name of what a brace opens behind such a text, if it is a function, a type's functions or a module."""
+    """Returns the name of what a brace opens after such a text, if it is a function, a type's functions or a module."""
     function, type_, module = FUNCTION.search(head), TYPE.search(head), re.search(r"\bmod\s+(\w+)\s*\Z", head)
     if function:
         return function[1]
@@ -75,7 +75,7 @@ def functions(text):
         at, in_clause = it.start(), bool(open_) and open_[-1] is None
         said = text[head:at]
         if it[0] == "{" and (in_clause or CLAUSE.search(said)):
-            # what a function's head says goes on behind its clauses
+            # what a function's head says goes on after its clauses
             open_.append(None)
             continue
         if in_clause:

@@ -57,7 +57,7 @@ class Books:
         return reply
 
     def answer(self, request):
-        """The kind and the fields behind the id."""
+        """The kind and the fields after the id."""
         if request["kind"] == RETIRE:
             return self.retire(request)
         return self.limit(request) if request["kind"] == LIMIT else self.recipients(request)

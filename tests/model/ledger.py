@@ -164,7 +164,7 @@ class Ledger:
         return [r["cap"] for r in limits if r["from_day"] == latest][-1]
 
     def answer(self, r):
-        """The kind and the fields behind the id of the answer to a numbered request."""
+        """The kind and the fields after the id of the answer to a numbered request."""
         if r["kind"] == RETIRE:
             return 0x8f, b""
         if r["kind"] == 4:

@@ -142,7 +142,7 @@ def by_server(world, dice, connections, default, zone):
         count = dice.randint(1, len(rest)) if dice.random() < 0.5 else len(rest)
         with Server(world, words=options, store=path, default=default, timeout=20_000, **zone.settings) as server:
             came += [server.ask(stream) for stream in rest[:count]]
-            # behind its reply the ends of all before are logged
+            # after its reply the ends of all before are logged
             server.ask(ANY_USAGE)
             came.append([line.rsplit(": ", 1)[1] for line in server.log_lines()])
             server.process.kill()

@@ -83,7 +83,7 @@ def wait_for_listener(process):
 
 
 def wait_until(holds):
-    """Waits until this holds; tells whether it does."""
+    """Waits until this holds; returns whether it does."""
     end = time.monotonic() + SECONDS
     while not holds():
         if time.monotonic() > end:
@@ -107,7 +107,7 @@ def soon(what, enough):
 
 
 def apart(errors):
-    """The log's lines of what came on standard error, and what is printed behind them."""
+    """The log's lines of what came on standard error, and what is printed after them."""
     lines = errors.splitlines(keepends=True)
     log = [line for line in lines if line.startswith("[")]
     return log, "".join(line for line in lines if not line.startswith("["))

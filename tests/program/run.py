@@ -1,5 +1,5 @@
 #!/usr/bin/env python3
-"""Runs the program as an administrator, smtpd and a peer would, over loopback, and tells what was expected and what came.
+"""Runs the program as an administrator, smtpd and a peer would, over loopback, and prints what was expected and what came.
 
 usage: run.py PROGRAM [WORD..]     with words: the groups of cases whose names have one of them
        run.py --gate PROGRAM       the groups that the gate runs
@@ -72,7 +72,7 @@ def unlisted():
 
 
 def run_groups(program, groups):
-    """Runs these groups, each as it is ready, and tells of them in this order."""
+    """Runs these groups, each as it is ready, and prints of them in this order."""
     passed, failed, running = 0, 0, []
     for group in unlisted():
         print(f"NOT {group}: no list names it")

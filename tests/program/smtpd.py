@@ -50,7 +50,7 @@ class Smtpd:
         return self.process.stdout.readline()
 
     def end(self):
-        """The status, what is still printed, and what was said beside the log."""
+        """The status, what is still printed, and what was said in addition to the log."""
         self.process.stdin.close()
         rest = self.process.stdout.read()
         status = self.process.wait(timeout=SECONDS)

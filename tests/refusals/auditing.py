@@ -1,4 +1,4 @@
-"""A file that a server left, opened and audited: the file's answer or want of memory, and nothing in it is changed."""
+"""A file that a server left, opened and audited: the file's answer or `out of memory`, and nothing in it is changed."""
 import contextlib
 import os
 import shutil
@@ -13,7 +13,7 @@ from wire import RETRY as RETRY_FRAME
 from wire import frame, number, text, usage
 
 FILES = ("ledger", "ledger-wal")
-# login u on day 1 behind the two reserves and the settle
+# login u on day 1 after the two reserves and the settle
 SETTLED_ONE = frame(b"\x8b" + text(b"u") + b"".join(map(number, (1, 1, 0, 3))))
 
 

@@ -37,7 +37,7 @@ def untaken_of(came, requests):
 
 
 def possible(came, requests):
-    """The ledgers that may stand behind these replies: the request that got none may be taken or not."""
+    """The ledgers that may lie under these replies: the request that got none may be taken or not."""
     untaken = untaken_of(came, requests)
     books = []
     for taken in {len(came), min(len(came) + 1, len(requests))}:

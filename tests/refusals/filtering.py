@@ -43,7 +43,7 @@ class Link:
 def filtered(refusals, link, more, exchanges, counted):
     """Runs of the filter over one recipient and these lines, each with a run and a login of its own.
 
-    With nothing refused there are so many exchanges, and so much is counted behind it, where there is a server.
+    With nothing refused there are so many exchanges, and so much is counted after it, where there is a server.
     """
     def one(number, folder):
         unused = refusals.unused()

@@ -1,5 +1,5 @@
 #!/usr/bin/env python3
-"""Refuses the program's allocations one after the other, a run for each, and tells how the runs ended.
+"""Refuses the program's allocations one after the other, a run for each, and prints how the runs ended.
 
 usage: run.py PROGRAM [--whole] [WORD..]
 

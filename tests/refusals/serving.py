@@ -28,7 +28,7 @@ class Served:
         return not self.replies and (self.status, self.text) == (1, "mailquota: out of memory\n")
 
     def went_on(self):
-        """Whether it ended behind its one connection, as it does with all memory."""
+        """Whether it ended after its one connection, as it does with all memory."""
         return self.replies is not None and (self.status, self.text) == (0, "")
 
 

@@ -49,7 +49,7 @@ class Refusals:
             return self.made
 
     def port(self):
-        """A free port that no run had lately, so that runs beside each other don't take each other's."""
+        """A free port that no run had lately, so that runs at the same time don't take each other's."""
         with self.guard:
             while (port := free_port()) in self.ports:
                 pass

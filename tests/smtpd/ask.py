@@ -31,7 +31,7 @@ def usage(login):
 
 
 def note_usage(what, login, wanted):
-    """What is reported of a login, once it is this: smtpd tells the filter of a message's end behind its answer to the client."""
+    """What is reported of a login, once it is this: smtpd reports a message's end to the filter after its answer to the client."""
     for _ in range(100):
         if usage(login).startswith(wanted):
             break

@@ -1,7 +1,7 @@
 """The program as it is used: a server over a file and the filters of two hosts, started as the manual says.
 
 Runs and limits have the clock's number, since nothing gives them another; hosts have long names and logins the longest. The mails are of
-today and of days behind 2038. Each answer, what is reported, and each row of the file is what the ledger of tests/model makes of the same
+today and of days after 2038. Each answer, what is reported, and each row of the file is what the ledger of tests/model makes of the same
 requests.
 """
 import random
@@ -39,7 +39,7 @@ def run(world, checks):
 
 
 class Play:
-    """Two hosts, a server and a file, and beside them the books of what was asked."""
+    """Two hosts, a server and a file, and with them the books of what was asked."""
 
     def __init__(self, world, checks, what, at):
         self.world, self.checks, self.what, self.at = world, checks, what, at

@@ -29,7 +29,7 @@ def audit(world, path, output=None, **more):
 
 
 def left_by_a_server(world, name, frames, end=None):
-    """The path of a file that took these frames on one connection; its server ended behind it, or by this signal."""
+    """The path of a file that took these frames on one connection; its server ended after it, or by this signal."""
     path = f"{world.folder}/{name}"
     with Server(world, words=["--create"], store=path, connections=1 if end is None else 9) as server:
         server.ask(frames)

@@ -8,7 +8,7 @@ from rows import same_rows
 
 LONGEST = 512
 LONGEST_SPELLED = 350
-# what a body has beside its host and its login
+# what a body has in addition to its host and its login
 NUMBERED = {wire.reserve: 31, wire.settle: 31, wire.release: 27, wire.limit: 23}
 HOSTS = [1, 22, 64]
 TOGETHER = 10

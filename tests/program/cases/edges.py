@@ -21,7 +21,7 @@ EVERY_BYTE = bytes(range(256))
 
 VALUES = {
     "host": [b"a", b"-", b"Z" * 22, b"9" * 63, LONGEST_HOST, b"." * 64],
-    # beside the ends those that a clock gives in 2001, 2026, 2038 and 2100, and those about powers of two
+    # with the ends those that a clock gives in 2001, 2026, 2038 and 2100, and those about powers of two
     "run": [1, 2, 2**31 - 1, 2**31, 2**32 - 1, 2**32, 10**12, 1_795_674_158_000, 2**31 * 1_000, 4_102_444_800_000, 2**47, GREATEST_RUN],
     "sequence": [1, 2, 999, 1_000, 65_535, 65_536, 2**31 - 1, 2**31, GREATEST_NUMBER - 1, GREATEST_NUMBER],
     "txn": [1, 2, 999, 1_000, 65_535, 65_536, 2**31 - 1, 2**31, GREATEST_NUMBER - 1, GREATEST_NUMBER],
@@ -72,7 +72,7 @@ def run(world, checks):
 
 
 class Sent:
-    """The requests of a row, those before and those behind a restart."""
+    """The requests of a row, those before and those after a restart."""
 
     def __init__(self, offset, host, run, sequence, txn, login, at, count, cap):
         self.offset = offset
@@ -124,7 +124,7 @@ def replayed(world, checks, what, offset, connections):
 
 
 def over_a_file(world, checks, offset, all_sent):
-    """All rows over one file, which is closed behind the first half of each, and opened again; then each half once more."""
+    """All rows over one file, which is closed after the first half of each, and opened again; then each half once more."""
     path, books = f"{world.folder}/edges{offset}", Books(offset, MOST)
     settings = {"store": path, "default": MOST, "offset": offset}
     with Server(world, words=["--create"], **settings) as server:

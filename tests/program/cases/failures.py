@@ -124,7 +124,7 @@ def replies_of(server, frames):
 
 
 def how_it_ended(server):
-    """The status of a server that ended, and what it printed behind its log."""
+    """The status of a server that ended, and what it printed after its log."""
     return server.status(), apart("".join(f"{line}\n" for line in server.log_lines()))[1]
 
 

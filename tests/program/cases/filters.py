@@ -164,14 +164,14 @@ def warnings(world, checks):
 
 
 def told(checks, what, errors, count, words):
-    """So many lines with these words, beside what the link says of the server."""
+    """So many lines with these words, next to what the link says of the server."""
     lines = [line for line in errors.splitlines() if not line.startswith("[ERROR mq_tcp::logged] quota server ")]
     good = len(lines) == count and all(word in line for word in words for line in lines)
     checks.holds(f"{what}: the log", good, f"{count} lines, each with {', '.join(words)}", lines)
 
 
 def refusals(world, checks):
-    """What is logged beside a 550, and beside the 451s that the filter gives by itself: the first of a cause in a session."""
+    """What is logged with a 550, and with the 451s that the filter gives by itself: the first of a cause in a session."""
     errors = scripted(world, checks, 'a full answer with log = "info"', INPUT, [FULL], results=[answer(LIMIT)], frames=[RESERVE], log="info")
     told(checks, 'a full answer with log = "info"', errors, 1, ["INFO ", "mx1", "alice", "transaction 1", "3 used of 3"])
     for what, body in [("closed", b"\x87"), ("mismatch", b"\x88"), ("conflict", b"\x8a")]:

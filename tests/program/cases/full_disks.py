@@ -51,7 +51,7 @@ def grows_no_further(world, checks, room):
         checks.equal(f"{what}: status and text", how_it_ended(server), (1, "mailquota: store failed\n"))
         came = world.filter(server.address, INPUT)[:2]
         checks.equal(f"{what}: a filter then", came, (0, REGISTRATION + answer(SERVICE)))
-    # What stands behind the last reply isn't stored, or it is: then it gets the reply that it would have had.
+    # What stands after the last reply isn't stored, or it is: then it gets the reply that it would have had.
     with Server(world, store=path, default=DEFAULT) as server:
         asked = [request(n) for n in range(1, 21 + MANY)]
         checks.equal(f"{what}, and room again: old and new requests", replies_of(server, asked), [books.serve(it) for it in asked])

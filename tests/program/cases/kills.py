@@ -49,7 +49,7 @@ class FileServer:
             self.process = subprocess.Popen(words, stdin=subprocess.DEVNULL, stdout=log, stderr=log)
 
     def serve(self, *options):
-        """Starts it, and tells the port once it listens."""
+        """Starts it, and returns the port once it listens."""
         self.start(*options)
         self.port = wait_for_listener(self.process)
         if self.process.poll() is not None:

@@ -44,7 +44,7 @@ def run(world, checks):
 
 
 def lines(world, checks):
-    """Lines of each length before and behind a request, in kinds that are passed over and in those that are kept."""
+    """Lines of each length before and after a request, in kinds that are passed over and in those that are kept."""
     lengths = about(LONGEST_LINE)
     kinds = {
         "another line": (b"", b"x"),

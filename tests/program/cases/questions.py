@@ -30,7 +30,7 @@ SET = frame(bytes.fromhex("85 0161 0000000000000004 00000001"))
 USAGE = bytes.fromhex("0007 05 0175 00000001")
 OTHER_USAGE = bytes.fromhex("0009 05 03762077 00000001")
 ESCAPED_USAGE = bytes.fromhex("000a 05 046120625c 00000001")
-# the first page of day 1 is asked, and those behind logins u0100 and u0200
+# the first page of day 1 is asked, and those after logins u0100 and u0200
 FIRST_PAGE = bytes.fromhex("0006 06 00000001 00")
 BEHIND_100 = bytes.fromhex("000b 06 00000001 05 7530313030")
 BEHIND_200 = bytes.fromhex("000b 06 00000001 05 7530323030")

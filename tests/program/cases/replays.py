@@ -256,7 +256,7 @@ def expect(world, checks, what, default, text, printed, said):
 
 
 def a_reserve_on_two_lines(world, checks):
-    """A line break may stand behind any whole byte."""
+    """A line break may stand after any whole byte."""
     for cut in range(1, 35):
         text = f"{ONE_RESERVE[:2 * cut]}\n{ONE_RESERVE[2 * cut:]}\n"
         expect(world, checks, f"a reserve with a line break behind {cut} bytes", 3, text, ITS_REPLY, "")

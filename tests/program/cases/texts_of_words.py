@@ -1,4 +1,4 @@
-"""What the program tells of its words: whole texts of help, and of faults of usage."""
+"""What the program says of its words: whole texts of help, and of faults of usage."""
 
 # words and the help for them
 HELPS = [

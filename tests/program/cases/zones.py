@@ -83,7 +83,7 @@ def a_day_of_23_hours(world, checks):
 
 
 def a_file(world, checks):
-    """A ledger by a rule is made, opened again behind a kill, and audited; its rows say the rule."""
+    """A ledger by a rule is made, opened again after a kill, and audited; its rows say the rule."""
     path, books = f"{world.folder}/by-rule", Books(CENTRAL_EUROPE)
     first = b"".join(reserve(n, txn=n, login=b"v", at=at) for n, (at, _) in enumerate(WORKED_DAYS[:4], 1))
     second = b"".join(reserve(n, txn=n, login=b"v", at=at) for n, (at, _) in enumerate(WORKED_DAYS[4:], 5))
