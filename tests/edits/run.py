@@ -1,8 +1,8 @@
 #!/usr/bin/env python3
 """The gate, and the must-fail edits in rounds.
 
-usage: run.py gate [CRATE ..]        rt ci over a copy of the tree without its must-fail edits, then those edits in rounds over the
-                                     libraries that it built, the test of the rounds, and the cases of tests/program over the program
+usage: run.py gate [CRATE ..]        tests/prose; rt ci over a copy of the tree without its must-fail edits, then those edits in rounds over
+                                     the libraries that it built, the test of the rounds, and the cases of tests/program over the program
                                      as each compiler built it. With names: these crates and those below
        run.py must-fail [CRATE ..]   the gate's edits alone, over libraries that `rt lib` builds where they stand
        run.py further [CRATE ..]     the same for the edits of tests/edits/CRATE, which the gate leaves out
@@ -210,6 +210,7 @@ def cases_in(tree, sum_):
 def gate(names, sum_):
     rows = rows_of(TOP)
     wanted = {*names}.union(*(below(it, rows) for it in names)) or {*rows}
+    run_prose(sum_)
     with tempfile.TemporaryDirectory(prefix="gate-") as room:
         tree, edits = f"{room}/tree", f"{room}/edits"
         os.makedirs(edits)
@@ -228,6 +229,11 @@ def gate(names, sum_):
         run_near_the_end(tree, sum_)
     whole = resource.getrusage(resource.RUSAGE_CHILDREN)
     print("\n".join(minutes.table(sum_.seconds, whole.ru_utime + whole.ru_stime)), flush=True)
+
+
+def run_prose(sum_):
+    """Looks whether words, front pages and lists agree with the tree: over all of it, whatever crates are wanted, since that takes two seconds."""
+    add_cases("tests/prose", run([sys.executable, f"{TOP}/tests/prose/run.py"], TOP, LONGEST_CASES), sum_)
 
 
 def run_cases(tree, sum_):
