@@ -55,7 +55,7 @@ fn apply<L: Ledger>(request: &Request, ledger: &mut L) -> Result<Option<Reply>, 
 {
     match ledger.apply(request) {
         Ok(reply) => Ok(Some(reply)),
-        // The peer sends it again, and the next one may find memory; a store that failed is no use to anyone.
+        // The peer sends it again, and may find memory then; with a store that failed nothing more can be served.
         Err(LedgerFault::Memory) => Ok(Some(Reply::Retry)),
         Err(LedgerFault::Store) => Err(ServeFault::Store),
     }
