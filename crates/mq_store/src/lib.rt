@@ -2,16 +2,17 @@
 //! given.
 //!
 //! [`SqlLedger`] is a [`Ledger`](mq_ledger::Ledger): `create` makes its tables, `open` checks and audits those that a
-//! store has, and `apply` answers a request. From `mq_program/src/store.rt`:
+//! store has, `apply` answers a request, and `carry_over` makes a new ledger of what an old one remembers from a day
+//! on. From `mq_program/src/store.rt`:
 //!
 //!     if create {
 //!         return Ok(SqlLedger::create(alloc, connection, zone, default)?);
 //!     }
 //!     Ok(SqlLedger::open(alloc, connection, zone, default)?)
 //!
-//! It stands on `mq_frame`, `mq_ledger`, `mq_rows` and `mq_tables`: it knows what a ledger means, its rows and its
-//! statements, and nothing of connections or files. Begin with `specs/Soundness.antt`, when a store is a sound ledger,
-//! and `take.rt`, one request; `write.rt` is where the reply is stored. docs/STORE.md says it in words.
+//! It stands on `mq_frame`, `mq_ledger`, `mq_forget`, `mq_rows` and `mq_tables`: it knows what a ledger means, its rows
+//! and its statements, and nothing of connections or files. Begin with `specs/Soundness.antt`, when a store is a sound
+//! ledger, and `take.rt`, one request; `write.rt` is where the reply is stored. docs/STORE.md says it in words.
 #![tactic(auto)]
 
 mod apply;
