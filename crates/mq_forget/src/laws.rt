@@ -170,6 +170,7 @@ pub fn past_requests_touch_no_later_day()
         reply day default (history_of day default (requests K ++ A)) r
         ≡ reply day default (history_of day default (requests H ++ A)) r }
 {
+    // Arrival by arrival: a later one adds the same to both histories, a past one nothing that is remembered.
     a_later_request_is_answered_alike();
     built_is_legal();
     one_more_arrival();
