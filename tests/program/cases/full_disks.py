@@ -1,5 +1,6 @@
 """A ledger's file or its log that can grow no further, by the system's limit on the size of files: no reply goes out that isn't stored, the
-server ends with a text, and with room again every reply that was read is given again and counts."""
+server ends with a text, and with room again every reply that was read is given again and counts. A retire, which writes many rows, is stored
+whole or not at all."""
 import os
 import resource
 
@@ -16,14 +17,19 @@ ROOMS = [0, 1, 4_095, 4_096, 20_000, 100_000, 300_000]
 # bytes in which the tables can't be made
 TOO_SMALL = [0, 1, 4_096, 40_960, 100_000]
 MANY = 400
+# bytes in which what a retire of so many open transactions writes has no room, and in which it has
+TOO_LITTLE, ENOUGH = [0, 4_096, 20_000, 60_000, 100_000], 4_000_000
 
 
 def run(world, checks):
     for room in ROOMS:
         grows_no_further(world, checks, room)
+    for room in [*TOO_LITTLE, ENOUGH]:
+        retires_no_further(world, checks, room)
     for size in TOO_SMALL:
         too_small(world, checks, size)
-    print(f"    {len(ROOMS)} rooms to grow, {len(TOO_SMALL)} too small for the tables", flush=True)
+    rooms = f"{len(ROOMS)} rooms to grow, {len(TOO_LITTLE) + 1} for a retire"
+    print(f"    {rooms}, {len(TOO_SMALL)} too small for the tables", flush=True)
 
 
 def request(number):
@@ -58,6 +64,27 @@ def grows_no_further(world, checks, room):
     same_rows(checks, f"{what}, and room again", path, books)
     came = world.run("audit", "--config", ledger_settings(world, path, default=DEFAULT))
     checks.equal(f"{what}: audit", came, (0, f"sound days={len(books.usage)} transactions={len(books.transactions)}\n".encode(), ""))
+
+
+def retires_no_further(world, checks, room):
+    """A retire of open transactions whose rows fill many pages."""
+    what, path, books = f"a retire in a log that grows by {room:,} bytes", f"{world.folder}/retire{room}", Books(0, DEFAULT)
+    unlimited = ("RLIMIT_FSIZE", resource.RLIM_INFINITY)
+    retire = wire.retire(1, run=2)
+    with Server(world, words=["--create"], limit=unlimited, store=path, default=DEFAULT) as server:
+        sent = [request(n) for n in range(1, MANY + 1)]
+        checks.equal(f"{what}: before", replies_of(server, sent), [books.serve(it) for it in sent])
+        limited(server, path, room)
+        came = replies_of(server, [retire])
+        if room == ENOUGH:
+            checks.equal(f"{what}: its reply", came, [books.serve(retire)])
+        else:
+            checks.equal(f"{what}: its reply, status and text", (came, *how_it_ended(server)), ([], 1, "mailquota: store failed\n"))
+    same_rows(checks, what, path, books)
+    with Server(world, store=path, default=DEFAULT) as server:
+        asked = [sent[0], retire, sent[0], wire.usage(b"001" + b"x" * 100), wire.page()]
+        checks.equal(f"{what}, and room again", replies_of(server, asked), [books.serve(it) for it in asked])
+    same_rows(checks, f"{what}, and room again", path, books)
 
 
 def too_small(world, checks, size):
