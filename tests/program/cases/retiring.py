@@ -56,6 +56,7 @@ FIVE_TABLES = [
 ]
 RULE_TABLE = "CREATE TABLE rule (id INTEGER PRIMARY KEY, bytes BLOB NOT NULL) STRICT"
 RETIRED_TABLE = "CREATE TABLE retired (host BLOB PRIMARY KEY, run INTEGER NOT NULL) STRICT"
+TEXTS_FOR_FLOORS = ["DROP TABLE retired", "CREATE TABLE retired (host TEXT, run TEXT)", "INSERT INTO retired VALUES ('a', '2')"]
 # two reserves of a transaction of login u on day 1, a settle of 1, and a settle that comes too late
 FOUR = [wire.reserve(1), wire.reserve(2), wire.settle(3), wire.settle(4)]
 NAMES = ["setting", "answer", "trans", "usage", "ceiling", "rule", "retired"]
@@ -292,6 +293,7 @@ def refused(world, checks):
         ("version 2 without a table rule", written(world, "second-rule", *second, "DROP TABLE rule"), BY_RULE),
         ("version 3 without a table rule", edited(world, f"{world.folder}/third", "third-rule", "DROP TABLE rule"), {}),
         ("version 3 without a table retired", edited(world, f"{world.folder}/third", "third-retired", "DROP TABLE retired"), {}),
+        ("version 3 with texts for floors", edited(world, f"{world.folder}/third", "third-texts", *TEXTS_FOR_FLOORS), {}),
         ("version 4", edited(world, f"{world.folder}/third", "third-version", "UPDATE setting SET version = 4"), {}),
     ]):
         before = version_of(path)
