@@ -10,7 +10,7 @@ LONGEST = 512
 LONGEST_SPELLED = 350
 # what a body has beside its host and its login
 NUMBERED = {wire.reserve: 31, wire.settle: 31, wire.release: 27, wire.limit: 23}
-# what that of a retire has beside its host
+# what that of a retire has besides its host
 RETIRE = 14
 HOSTS = [1, 22, 64]
 TOGETHER = 10
