@@ -3,6 +3,7 @@ server ends with a text, and with room again every reply that was read is given 
 whole or not at all."""
 import os
 import resource
+import shutil
 
 import wire
 from books import Books
@@ -17,15 +18,14 @@ ROOMS = [0, 1, 4_095, 4_096, 20_000, 100_000, 300_000]
 # bytes in which the tables can't be made
 TOO_SMALL = [0, 1, 4_096, 40_960, 100_000]
 MANY = 400
-# bytes in which what a retire of so many open transactions writes has no room, and in which it has
-TOO_LITTLE, ENOUGH = [0, 4_096, 20_000, 60_000, 100_000], 4_000_000
+# a retire of so many open messages has no room in files of these bytes, which end before what it writes, within it and at its end; and it has in those
+OPEN, TOO_LITTLE, ENOUGH = 1_500, [4_096, 30_000, 100_000, 300_000, 500_000], 4_000_000
 
 
 def run(world, checks):
     for room in ROOMS:
         grows_no_further(world, checks, room)
-    for room in [*TOO_LITTLE, ENOUGH]:
-        retires_no_further(world, checks, room)
+    retires_no_further(world, checks)
     for size in TOO_SMALL:
         too_small(world, checks, size)
     rooms = f"{len(ROOMS)} rooms to grow, {len(TOO_LITTLE) + 1} for a retire"
@@ -66,25 +66,31 @@ def grows_no_further(world, checks, room):
     checks.equal(f"{what}: audit", came, (0, f"sound days={len(books.usage)} transactions={len(books.transactions)}\n".encode(), ""))
 
 
-def retires_no_further(world, checks, room):
-    """A retire of open transactions whose rows fill many pages."""
-    what, path, books = f"a retire in a log that grows by {room:,} bytes", f"{world.folder}/retire{room}", Books(0, DEFAULT)
-    unlimited = ("RLIMIT_FSIZE", resource.RLIM_INFINITY)
-    retire = wire.retire(1, run=2)
-    with Server(world, words=["--create"], limit=unlimited, store=path, default=DEFAULT) as server:
-        sent = [request(n) for n in range(1, MANY + 1)]
-        checks.equal(f"{what}: before", replies_of(server, sent), [books.serve(it) for it in sent])
-        limited(server, path, room)
-        came = replies_of(server, [retire])
-        if room == ENOUGH:
-            checks.equal(f"{what}: its reply", came, [books.serve(retire)])
-        else:
-            checks.equal(f"{what}: its reply, status and text", (came, *how_it_ended(server)), ([], 1, "mailquota: store failed\n"))
-    same_rows(checks, what, path, books)
-    with Server(world, store=path, default=DEFAULT) as server:
-        asked = [sent[0], retire, sent[0], wire.usage(b"001" + b"x" * 100), wire.page()]
-        checks.equal(f"{what}, and room again", replies_of(server, asked), [books.serve(it) for it in asked])
-    same_rows(checks, f"{what}, and room again", path, books)
+def retires_no_further(world, checks):
+    """A retire of open messages whose rows fill more than a hundred pages is stored whole or not at all."""
+    source, opened, retire = f"{world.folder}/open", [request(n) for n in range(1, OPEN + 1)], wire.retire(1, run=2)
+    with Server(world, words=["--create"], store=source, default=DEFAULT) as server:
+        books = Books(0, DEFAULT)
+        checks.equal(f"{OPEN:,} open messages", replies_of(server, opened), [books.serve(it) for it in opened])
+    for room in [*TOO_LITTLE, ENOUGH]:
+        what, path, books = f"a retire in a log of {room:,} bytes", f"{world.folder}/retire{room}", Books(0, DEFAULT)
+        for it in opened:
+            books.serve(it)
+        for end in ("", "-wal"):
+            shutil.copy(source + end, path + end)
+        with Server(world, limit=("RLIMIT_FSIZE", resource.RLIM_INFINITY), store=path, default=DEFAULT) as server:
+            resource.prlimit(server.process.pid, resource.RLIMIT_FSIZE, (room, resource.RLIM_INFINITY))
+            came = replies_of(server, [retire])
+            if room == ENOUGH:
+                checks.equal(f"{what}: its reply", came, [books.serve(retire)])
+            else:
+                ended = how_it_ended(server) if not came else "it goes on"
+                checks.equal(f"{what}: its reply, status and text", (came, ended), ([], (1, "mailquota: store failed\n")))
+        same_rows(checks, what, path, books)
+        with Server(world, store=path, default=DEFAULT) as server:
+            asked = [opened[0], retire, opened[0], wire.usage(b"001" + b"x" * 100), wire.page()]
+            checks.equal(f"{what}, and room again", replies_of(server, asked), [books.serve(it) for it in asked])
+        same_rows(checks, f"{what}, and room again", path, books)
 
 
 def too_small(world, checks, size):

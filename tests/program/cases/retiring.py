@@ -1,5 +1,6 @@
 """Retired runs: what a retire settles and gives up, over a list, tables and a file; files of versions 1 and 2, which an open makes version 3;
 and what a filter and an administrator are told."""
+import shutil
 import signal
 import sqlite3
 import subprocess
@@ -61,14 +62,15 @@ TEXTS_FOR_FLOORS = ["DROP TABLE retired", "CREATE TABLE retired (host TEXT, run 
 FOUR = [wire.reserve(1), wire.reserve(2), wire.settle(3), wire.settle(4)]
 NAMES = ["setting", "answer", "trans", "usage", "ceiling", "rule", "retired"]
 KILLS = 60
-# A write of a file at these bytes ends the program, as a kill does: by SIGXFSZ, which Python passes over.
+# Runs the program so that a write of a file beyond this many bytes ends it, as a kill would: by SIGXFSZ, which Python passes over.
 ENDED_AT = """import os, resource, signal, sys
 signal.signal(signal.SIGXFSZ, signal.SIG_DFL)
 resource.setrlimit(resource.RLIMIT_CORE, (0, 0))
 resource.setrlimit(resource.RLIMIT_FSIZE, (int(sys.argv[1]), int(sys.argv[1])))
 os.execv(sys.argv[2], sys.argv[2:])"""
-# no log in these tests is longer
-LONGEST_LOG = 400_000
+# Bytes of the log at which a program ends that makes a file version 3: in the log's head, in each page that it writes, and in the room that it takes
+# then, before the commit counts.
+SIZES = [0, 1, 32, 40, 41, *range(2_048, 24_577, 2_048), 65_536, 131_072, 262_144]
 # open messages of a run that is given up while its server is killed
 OPEN = 800
 KILLS_OF_A_RETIRE = 24
@@ -133,6 +135,14 @@ def of_a_run(host, run):
         wire.reserve(8, txn=5, count=1_000, **its), wire.release(9, txn=6, **its), wire.reserve(10, txn=2, login=b"w", at=172_800, **its),
         wire.limit(11, 2, 40 + run, login=b"v", **its),
     ]
+
+
+def copied(world, source, name):
+    """A copy of a file and its log, as they stand."""
+    path = f"{world.folder}/{name}"
+    for end in ("", "-wal"):
+        shutil.copy(source + end, path + end)
+    return path
 
 
 def written(world, name, *statements):
@@ -225,24 +235,14 @@ def killed_as_it_opens(world, checks):
 
 
 def ended_as_it_opens(world, checks):
-    """A file of version 1 whose program ends at a write of the log is of version 1 or 3, whole, and opens: each length of the log in turn."""
+    """A file of version 1 whose program ends while it writes the log of version 3 is of version 1 still, whole, and opens."""
     source = written(world, "version-1-ended", *of_version(1, of_the_four()))
-    found, wrong, size = [], [], 0
-    while size < LONGEST_LOG:
-        path = edited(world, source, f"version-1-ended{size}")
+    for size in SIZES:
+        what, path = f"a program that ends after {size:,} bytes of the log of version 3", edited(world, source, f"version-1-ended{size}")
         words = [sys.executable, "-I", "-S", "-c", ENDED_AT, str(size), world.program, "audit", "--config", ledger_settings(world, path)]
         status = subprocess.run(words, stdin=subprocess.DEVNULL, stdout=subprocess.DEVNULL, stderr=subprocess.DEVNULL).returncode
-        before = version_of(path)
-        if status == 0:
-            break
-        found.append(before)
-        if status != -signal.SIGXFSZ or before not in (OF_VERSION_1, OF_VERSION_3) or audit(world, path) != SOUND or version_of(path) != OF_VERSION_3:
-            wrong.append((size, status, before))
-        size += 512
-    checks.equal("ends at a write of the log: files that are of neither version, or don't open", wrong, [])
-    checks.equal("ends at a write of the log: the last has room enough, and is version 3", (status, before), (0, OF_VERSION_3))
-    checks.equal("ends at a write of the log: those of version 1 come first", found, sorted(found, key=lambda it: it == OF_VERSION_3))
-    print(f"    {len(found)} ends of a program that opens a file of version 1, at each 512 bytes of its log up to {size:,}", flush=True)
+        checks.equal(f"{what}: its status, and the file", (status, version_of(path)), (-signal.SIGXFSZ, OF_VERSION_1))
+        checks.equal(f"{what}: the next audit, and the file", (audit(world, path), version_of(path)), (SOUND, OF_VERSION_3))
 
 
 def killed_within_a_retire(world, checks):
@@ -252,17 +252,17 @@ def killed_within_a_retire(world, checks):
     with Server(world, words=["--create"], store=source, default=books.default) as server:
         checks.equal(f"{OPEN} open messages", answers(server, b"".join(opened)), books.serve(b"".join(opened)))
     before, retire = books.rows(), wire.retire(1, run=2)
-    with Server(world, store=edited(world, source, "open-timed"), default=books.default) as server:
+    with Server(world, store=copied(world, source, "open-timed"), default=books.default) as server:
         start = time.monotonic()
         checks.equal(f"a retire of {OPEN} open messages", answers(server, retire), books.serve(retire))
         took = time.monotonic() - start
     after, found, wrong = books.rows(), [], []
     for turn in range(KILLS_OF_A_RETIRE):
-        path = edited(world, source, f"open-killed{turn}")
+        path = copied(world, source, f"open-killed{turn}")
         with Server(world, store=path, default=books.default) as server:
             asking = threading.Thread(target=answers, args=(server, retire), daemon=True)
             asking.start()
-            time.sleep(took * turn / KILLS_OF_A_RETIRE)
+            time.sleep(2 * took * turn / KILLS_OF_A_RETIRE)
             server.process.kill()
             server.status()
             asking.join()
@@ -273,7 +273,7 @@ def killed_within_a_retire(world, checks):
         if rows not in (before, after) or not replied or rows_in(path, before) != after:
             wrong.append(turn)
     checks.equal(f"{KILLS_OF_A_RETIRE} kills within a retire: files with a part of it", wrong, [])
-    checks.holds("what these kills leave", False in found, "some files without it", found)
+    checks.equal("what these kills leave: files with it and without it", {*found}, {False, True})
     print(f"    {KILLS_OF_A_RETIRE} kills within a retire of {OPEN} open messages: {found.count(False)} files without it, {found.count(True)} with it", flush=True)
 
 
