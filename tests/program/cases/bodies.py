@@ -10,6 +10,8 @@ LONGEST = 512
 LONGEST_SPELLED = 350
 # what a body has in addition to its host and its login
 NUMBERED = {wire.reserve: 31, wire.settle: 31, wire.release: 27, wire.limit: 23}
+# what that of a retire has besides its host
+RETIRE = 14
 HOSTS = [1, 22, 64]
 TOGETHER = 10
 
@@ -35,6 +37,9 @@ def requests_of(length):
                 sequence += 1
                 more = {"from_day": 1, "cap": MOST} if spelled is wire.limit else {"txn": length}
                 frames.append(spelled(sequence, host=LONGEST_HOST[:host], login=name_of(length - rest - host), **more))
+    if 1 <= length - RETIRE <= len(LONGEST_HOST):
+        # (no run is below the first)
+        frames.append(wire.retire(sequence + 1, host=LONGEST_HOST[:length - RETIRE]))
     if 1 <= length - 6 <= 255:
         frames.append(wire.usage(name_of(length - 6)))
     if 0 <= length - 6 <= 255:

@@ -67,6 +67,7 @@ def run(world, checks):
         over_a_file(world, checks, offset, all_sent)
     values = sum(map(len, VALUES.values()))
     print(f"    {len(rows())} rows, {values} values of {len(VALUES)} fields; each over a list, tables in memory and two files", flush=True)
+    retires(world, checks)
     beyond_the_edges(world, checks)
     up_to_a_million(world, checks)
 
@@ -140,6 +141,44 @@ def over_a_file(world, checks, offset, all_sent):
     checks.equal(f"offset {offset}: audit", came, (0, f"sound days={len(books.usage)} transactions={len(books.transactions)}\n".encode(), ""))
 
 
+def retires(world, checks):
+    """A retire with each host, run and number, among requests of its run, of the runs next to it and of the last run."""
+    edges = [{field: value} for field in ("host", "run", "sequence") for value in VALUES[field]]
+    edges += [{field: it[field] for field in ("host", "run", "sequence")} for it in (LEAST, GREATEST)]
+    # (over the file two rows may have one host: the ledger of tests/model knows what is answered then, too)
+    names = [f"a retire, {', '.join(f'{field} {shown(it)}' for field, it in edge.items())}" for edge in edges]
+    all_sent = [(what, retired(place, **edge)) for place, (what, edge) in enumerate(zip(names, edges))]
+    for what, (before, behind) in all_sent:
+        replayed(world, checks, what, 0, [before, behind])
+    path, books = f"{world.folder}/edges-of-retires", Books(0, MOST)
+    settings = {"store": path, "default": MOST}
+    for turn, words in enumerate((["--create"], [], [])):
+        with Server(world, words=words, **settings) as server:
+            asked(checks, f"a file, start {turn + 1}", server, books, [(what, sent[turn % 2]) for what, sent in all_sent])
+            server.process.kill()
+            server.status()
+    same_rows(checks, "a file with retires", path, books)
+    came = world.run("audit", "--config", ledger_settings(world, path, default=MOST))
+    checks.equal("a file with retires: audit", came, (0, f"sound days={len(books.usage)} transactions={len(books.transactions)}\n".encode(), ""))
+    print(f"    {len(edges)} retires, each over a list, tables in memory and a file", flush=True)
+
+
+def retired(place, host=None, run=1_795_674_158_000, sequence=7):
+    """The requests before a retire, and it with those after it."""
+    host, login = host or b"retired%d.example.org" % place, b"of%d" % place
+    runs = sorted({max(run - 1, 1), run, min(run + 1, GREATEST_RUN), GREATEST_RUN})
+    its = [{"host": host, "run": it, "txn": 1 + place, "login": login, "at": FIRST_SECOND} for it in runs]
+    # (none of these has the retire's number)
+    first = 1_000 if sequence < 1_000 else 1
+    before = [*(wire.reserve(first, count=3, **it) for it in its), wire.usage(login)]
+    retire = wire.retire(sequence, host=host, run=run)
+    behind = [
+        retire, wire.usage(login), wire.page(login[:-1]), *before, retire, wire.retire(sequence, host=host, run=runs[0]),
+        wire.reserve(sequence, **its[runs.index(run)]), *(wire.settle(first + 1, count=2, **it) for it in its), wire.usage(login),
+    ]
+    return before, behind
+
+
 def asked(checks, where, server, books, parts):
     for what, frames in parts:
         sent = b"".join(frames)
@@ -177,6 +216,12 @@ BEYOND = [
     ("usage of day 376,201", wire.usage(day=LAST_DAY + 1)),
     ("the list of day 376,201", wire.page(day=LAST_DAY + 1)),
     ("usage of an empty login", wire.usage(b"")),
+    ("a retire of an empty host", wire.retire(1, host=b"")),
+    ("a retire of a host of 65 bytes", wire.retire(1, host=b"a" * 65)),
+    ("a retire of run 0", wire.retire(1, run=0)),
+    ("a retire of run 2^48", wire.retire(1, run=2**48)),
+    ("a retire under number 0", wire.retire(0)),
+    ("a retire and a byte", wire.frame(wire.retire(1)[2:] + b"\0")),
 ]
 
 

@@ -1,4 +1,4 @@
-"""Each value of a filter, of `limit` and of `report` at its least and its greatest: the frames that are sent, byte for byte, and what is made
+"""Each value of a filter, of `limit`, `retire` and `report` at its least and its greatest: the frames that are sent, byte for byte, and what is made
 of replies with such values. The ledger of tests/model answers, or a row says the reply."""
 import wire
 from books import Books
@@ -26,6 +26,7 @@ def run(world, checks):
     print(f"    {len(rows)} values of a filter", flush=True)
     of_replies(world, checks)
     of_limits(world, checks)
+    of_retires(world, checks)
     of_reports(world, checks)
 
 
@@ -87,6 +88,16 @@ def of_limits(world, checks):
         else:
             checks.equal(f"limit, {field} {shown(value)}", (came, server.heard), ((2, b"", "mailquota: arguments are not text\n"), []))
     print(f"    {len(rows)} values of limits", flush=True)
+
+
+def of_retires(world, checks):
+    rows = [("host", it) for it in VALUES["host"]] + [("run", it) for it in VALUES["run"]]
+    for field, value in rows:
+        fields = {"host": b"mx1", "run": 7, field: value}
+        with Script([Books().serve]) as server:
+            came = world.run("retire", f"--server={server.address}", *(f"--{key}=".encode() + as_word(it) for key, it in fields.items()))
+        checks.equal(f"retire, {field} {shown(value)}", (came, server.heard), ((0, b"retired\n", ""), [wire.retire(1, **fields)]))
+    print(f"    {len(rows)} values of retires", flush=True)
 
 
 def as_word(value):

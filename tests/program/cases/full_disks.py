@@ -1,7 +1,9 @@
 """A ledger's file or its log that can grow no further, by the system's limit on the size of files: no reply goes out that isn't stored, the
-server ends with a text, and with room again every reply that was read is given again and counts."""
+server ends with a text, and with room again every reply that was read is given again and counts. A retire, which writes many rows, is stored
+whole or not at all."""
 import os
 import resource
+import shutil
 
 import wire
 from books import Books
@@ -16,14 +18,18 @@ ROOMS = [0, 1, 4_095, 4_096, 20_000, 100_000, 300_000]
 # bytes in which the tables can't be made
 TOO_SMALL = [0, 1, 4_096, 40_960, 100_000]
 MANY = 400
+# a retire of so many open messages has no room in files of these bytes, which end before what it writes, within it and at its end; and it has in those
+OPEN, TOO_LITTLE, ENOUGH = 1_500, [4_096, 30_000, 100_000, 300_000, 500_000], 4_000_000
 
 
 def run(world, checks):
     for room in ROOMS:
         grows_no_further(world, checks, room)
+    retires_no_further(world, checks)
     for size in TOO_SMALL:
         too_small(world, checks, size)
-    print(f"    {len(ROOMS)} rooms to grow, {len(TOO_SMALL)} too small for the tables", flush=True)
+    rooms = f"{len(ROOMS)} rooms to grow, {len(TOO_LITTLE) + 1} for a retire"
+    print(f"    {rooms}, {len(TOO_SMALL)} too small for the tables", flush=True)
 
 
 def request(number):
@@ -58,6 +64,33 @@ def grows_no_further(world, checks, room):
     same_rows(checks, f"{what}, and room again", path, books)
     came = world.run("audit", "--config", ledger_settings(world, path, default=DEFAULT))
     checks.equal(f"{what}: audit", came, (0, f"sound days={len(books.usage)} transactions={len(books.transactions)}\n".encode(), ""))
+
+
+def retires_no_further(world, checks):
+    """A retire of open messages whose rows fill more than a hundred pages is stored whole or not at all."""
+    source, opened, retire = f"{world.folder}/open", [request(n) for n in range(1, OPEN + 1)], wire.retire(1, run=2)
+    with Server(world, words=["--create"], store=source, default=DEFAULT) as server:
+        books = Books(0, DEFAULT)
+        checks.equal(f"{OPEN:,} open messages", replies_of(server, opened), [books.serve(it) for it in opened])
+    for room in [*TOO_LITTLE, ENOUGH]:
+        what, path, books = f"a retire in a log of {room:,} bytes", f"{world.folder}/retire{room}", Books(0, DEFAULT)
+        for it in opened:
+            books.serve(it)
+        for end in ("", "-wal"):
+            shutil.copy(source + end, path + end)
+        with Server(world, limit=("RLIMIT_FSIZE", resource.RLIM_INFINITY), store=path, default=DEFAULT) as server:
+            resource.prlimit(server.process.pid, resource.RLIMIT_FSIZE, (room, resource.RLIM_INFINITY))
+            came = replies_of(server, [retire])
+            if room == ENOUGH:
+                checks.equal(f"{what}: its reply", came, [books.serve(retire)])
+            else:
+                ended = how_it_ended(server) if not came else "it goes on"
+                checks.equal(f"{what}: its reply, status and text", (came, ended), ([], (1, "mailquota: store failed\n")))
+        same_rows(checks, what, path, books)
+        with Server(world, store=path, default=DEFAULT) as server:
+            asked = [opened[0], retire, opened[0], wire.usage(b"001" + b"x" * 100), wire.page()]
+            checks.equal(f"{what}, and room again", replies_of(server, asked), [books.serve(it) for it in asked])
+        same_rows(checks, f"{what}, and room again", path, books)
 
 
 def too_small(world, checks, size):

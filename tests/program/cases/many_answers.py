@@ -1,4 +1,5 @@
-"""Tens of thousands of answers in one ledger, over tables in memory and over a file, of connections of one server, and days of one login."""
+"""Tens of thousands of answers in one ledger, over tables in memory and over a file, all given up at last; of connections of one server; days of
+one login."""
 import socket
 import threading
 
@@ -63,12 +64,16 @@ def many_answers(world, checks, what, store):
             sent = b"".join(frames[first:first + PORTION])
             checks.equal(f"{what}: answers {first + 1:,} to {first + PORTION:,}", outcome(server, sent), books.serve(sent))
         again(checks, what, server, books, frames)
-    if store == "memory":
-        return
+        if store == "memory":
+            given_up(checks, what, server, books, frames)
+            return
     with Server(world, **settings) as server:
         again(checks, f"{what} opened again", server, books, frames)
         checks.equal(f"{what} opened again: one more", outcome(server, request(MANY + 1)), books.serve(request(MANY + 1)))
     same_rows(checks, what, store, books)
+    with Server(world, **settings) as server:
+        given_up(checks, what, server, books, frames)
+    same_rows(checks, f"{what}, all given up", store, books)
     came = world.run("audit", "--config", ledger_settings(world, store, default=DEFAULT))
     checks.equal(f"{what}: audit", came, (0, f"sound days={len(books.usage)} transactions={len(books.transactions)}\n".encode(), ""))
     print(f"    {MANY:,} answers, {len(books.transactions):,} transactions, {sum(map(len, books.limits.values())):,} limits", flush=True)
@@ -81,15 +86,23 @@ def again(checks, what, server, books, frames):
         checks.equal(f"{what}: the answer {place:,} again, and another request under its number", outcome(server, sent), books.serve(sent))
 
 
+def given_up(checks, what, server, books, frames):
+    """One retire of the run of all answers."""
+    sent = wire.retire(1, run=2)
+    checks.equal(f"{what}: a retire of the run of all answers", outcome(server, sent), books.serve(sent))
+    again(checks, f"{what}, all given up", server, books, frames)
+
+
 def a_long_list(world, checks):
-    """More answers than a connection has, of a few for each login, since a list is gone through for each."""
+    """More answers than a connection has, of a few for each login, since a list is gone through for each; then all are given up."""
     frames = [wire.reserve(n, txn=n, login=b"%d" % (n // 3)) for n in range(1, 10_101)]
-    sent = [b"".join(frames[:9_000]), b"".join(frames[9_000:] + frames[9_990:10_010]) + wire.usage(b"3333")]
+    given_up = wire.retire(1, run=2) + wire.usage(b"3333") + frames[9_999]
+    sent = [b"".join(frames[:9_000]), b"".join(frames[9_000:] + frames[9_990:10_010]) + wire.usage(b"3333") + given_up]
     for words in ([], ["--sql"]):
         books = Books(0, DEFAULT)
         printed = "".join(f"{books.serve(it).hex()}\n" for it in sent)
         came = world.run("replay", "--default", str(DEFAULT), *words, text="\n\n".join(it.hex() for it in sent).encode())
-        checks.equal(" ".join(["10,100 answers: replay", *words]), came, (0, printed.encode(), ""))
+        checks.equal(" ".join(["10,100 answers, and a retire of all: replay", *words]), came, (0, printed.encode(), ""))
 
 
 def many_days(world, checks):

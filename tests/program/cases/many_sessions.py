@@ -8,6 +8,7 @@ from cases.edges import answers
 from cases.filters import AUTH, BEGIN, CONFIG, PROCEED, RCPT, REGISTRATION, SERVICE, answer
 from cases.many_numbers import MOMENT, Filter
 from ends import SECONDS, Script, Server, read_to_end
+from rows import same_rows
 
 SESSION = b"7641df9771b4ed00"
 # A client has places for so many transactions, open or with closings that wait.
@@ -84,23 +85,25 @@ def open_transactions(world, checks):
 
 
 def open_in_a_ledger(world, checks):
-    """The same number of them for one login, over a list, over tables and over a file, with a limit and a page between."""
+    """The same number of them for one login, over a list, over tables and over a file, with a limit and a page between; then a retire of all."""
     opened = [reserve(n, n) for n in range(1, PLACES + 1)]
     login = {"login": b"alice"}
     day = MOMENT // 86_400
     asked = [wire.usage(b"alice", day), wire.page(day=day), wire.limit(1, 0, PLACES - 1, host=b"admin", **login), wire.limit(2, 0, PLACES, host=b"admin", **login)]
     more = [reserve(PLACES + 1, PLACES + 1), *(settle(2 * PLACES + n, n) for n in range(1, PLACES + 1, 7)), reserve(PLACES + 2, PLACES + 2)]
-    sent = [b"".join(it) for it in (opened, asked, more, asked[:2])]
+    retired = [wire.retire(1, run=2, host=b"mx1"), *asked[:2], opened[0], opened[-1]]
+    sent = [b"".join(it) for it in (opened, asked, more, asked[:2], retired)]
     path, books = f"{world.folder}/open", Books(0, DEFAULT)
     with Server(world, words=["--create"], store=path, default=DEFAULT) as server:
         checks.equal(f"{PLACES:,} open transactions of a login, a file", [answers(server, it) for it in sent], [books.serve(it) for it in sent])
+    same_rows(checks, f"{PLACES:,} open transactions, retired", path, books)
     for words in ([], ["--sql"]):
         # (a list goes through all for each)
-        few = [b"".join(opened[:1_000]), sent[1], sent[3]]
+        few = [b"".join(opened[:1_000]), sent[1], sent[3], sent[4]]
         books = Books(0, DEFAULT)
         printed = "".join(f"{books.serve(it).hex()}\n" for it in few)
         came = world.run("replay", "--default", str(DEFAULT), *words, text="\n\n".join(it.hex() for it in few).encode())
-        checks.equal(" ".join(["1,000 open transactions of a login: replay", *words]), came, (0, printed.encode(), ""))
+        checks.equal(" ".join(["1,000 open transactions of a login, and a retire: replay", *words]), came, (0, printed.encode(), ""))
 
 
 def waiting_closings(world, checks):

@@ -1,16 +1,22 @@
 """Retired runs: what a retire settles and gives up, over a list, tables and a file; files of versions 1 and 2, which an open makes version 3;
 and what a filter and an administrator are told."""
+import shutil
+import signal
 import sqlite3
 import subprocess
+import sys
+import threading
 import time
 
 import wire
 from books import Books
 from cases.audits import SOUND, audit, edited
-from cases.filters import COMMIT, INPUT, MX1, RELEASE, RESERVE, SERVICE, answer, scripted, told
+from cases.edges import answers
+from cases.filters import COMMIT, INPUT, LIMIT, MX1, PROCEED, RELEASE, RESERVE, SERVICE, answer, scripted, told
 from cases.rules import CENTRAL_EUROPE
 from ends import SILENCE, Script, Server, fault, ledger_settings, without_log
 from rows import answers_of, rows_in, same_rows
+from smtpd import Smtpd, result
 
 # a number of run 1 of host a, and the retire of the runs below 2
 I = "0161 0000000000000001 %08x"
@@ -51,10 +57,23 @@ FIVE_TABLES = [
 ]
 RULE_TABLE = "CREATE TABLE rule (id INTEGER PRIMARY KEY, bytes BLOB NOT NULL) STRICT"
 RETIRED_TABLE = "CREATE TABLE retired (host BLOB PRIMARY KEY, run INTEGER NOT NULL) STRICT"
+TEXTS_FOR_FLOORS = ["DROP TABLE retired", "CREATE TABLE retired (host TEXT, run TEXT)", "INSERT INTO retired VALUES ('a', '2')"]
 # two reserves of a transaction of login u on day 1, a settle of 1, and a settle that comes too late
 FOUR = [wire.reserve(1), wire.reserve(2), wire.settle(3), wire.settle(4)]
 NAMES = ["setting", "answer", "trans", "usage", "ceiling", "rule", "retired"]
 KILLS = 60
+# Runs the program so that a write of a file beyond this many bytes ends it, as a kill would: by SIGXFSZ, which Python passes over.
+ENDED_AT = """import os, resource, signal, sys
+signal.signal(signal.SIGXFSZ, signal.SIG_DFL)
+resource.setrlimit(resource.RLIMIT_CORE, (0, 0))
+resource.setrlimit(resource.RLIMIT_FSIZE, (int(sys.argv[1]), int(sys.argv[1])))
+os.execv(sys.argv[2], sys.argv[2:])"""
+# Bytes of the log at which a program ends that makes a file version 3: in the log's head, in each page that it writes, and in the room that it takes
+# then, before the commit counts.
+SIZES = [0, 1, 32, 40, 41, *range(2_048, 24_577, 2_048), 65_536, 131_072, 262_144]
+# open messages of a run that is given up while its server is killed
+OPEN = 800
+KILLS_OF_A_RETIRE = 24
 ANOTHER_ZONE, NOT_OURS = "store has another zone", "store is not this ledger"
 BY_RULE = {"offset": None, "rule": CENTRAL_EUROPE}
 
@@ -64,8 +83,11 @@ def run(world, checks):
     a_file(world, checks)
     older_files(world, checks)
     killed_as_it_opens(world, checks)
+    ended_as_it_opens(world, checks)
+    killed_within_a_retire(world, checks)
     refused(world, checks)
     a_retired_filter(world, checks)
+    a_host_that_is_restarted(world, checks)
     commands(world, checks)
 
 
@@ -113,6 +135,14 @@ def of_a_run(host, run):
         wire.reserve(8, txn=5, count=1_000, **its), wire.release(9, txn=6, **its), wire.reserve(10, txn=2, login=b"w", at=172_800, **its),
         wire.limit(11, 2, 40 + run, login=b"v", **its),
     ]
+
+
+def copied(world, source, name):
+    """A copy of a file and its log, as they stand."""
+    path = f"{world.folder}/{name}"
+    for end in ("", "-wal"):
+        shutil.copy(source + end, path + end)
+    return path
 
 
 def written(world, name, *statements):
@@ -204,6 +234,49 @@ def killed_as_it_opens(world, checks):
     print(f"    {KILLS} kills: {found.count(OF_VERSION_1)} files of version 1, {found.count(OF_VERSION_3)} of version 3", flush=True)
 
 
+def ended_as_it_opens(world, checks):
+    """A file of version 1 whose program ends while it writes the log of version 3 is of version 1 still, whole, and opens."""
+    source = written(world, "version-1-ended", *of_version(1, of_the_four()))
+    for size in SIZES:
+        what, path = f"a program that ends after {size:,} bytes of the log of version 3", edited(world, source, f"version-1-ended{size}")
+        words = [sys.executable, "-I", "-S", "-c", ENDED_AT, str(size), world.program, "audit", "--config", ledger_settings(world, path)]
+        status = subprocess.run(words, stdin=subprocess.DEVNULL, stdout=subprocess.DEVNULL, stderr=subprocess.DEVNULL).returncode
+        checks.equal(f"{what}: its status, and the file", (status, version_of(path)), (-signal.SIGXFSZ, OF_VERSION_1))
+        checks.equal(f"{what}: the next audit, and the file", (audit(world, path), version_of(path)), (SOUND, OF_VERSION_3))
+
+
+def killed_within_a_retire(world, checks):
+    """A server that is killed within a retire of many open messages has all of it or nothing."""
+    source, books = f"{world.folder}/open", Books(0, 1_000_000)
+    opened = [wire.reserve(n, txn=n, login=b"%03d" % (n % 50) + b"x" * 100, at=86_400 * (1 + n % 3)) for n in range(1, OPEN + 1)]
+    with Server(world, words=["--create"], store=source, default=books.default) as server:
+        checks.equal(f"{OPEN} open messages", answers(server, b"".join(opened)), books.serve(b"".join(opened)))
+    before, retire = books.rows(), wire.retire(1, run=2)
+    with Server(world, store=copied(world, source, "open-timed"), default=books.default) as server:
+        start = time.monotonic()
+        checks.equal(f"a retire of {OPEN} open messages", answers(server, retire), books.serve(retire))
+        took = time.monotonic() - start
+    after, found, wrong = books.rows(), [], []
+    for turn in range(KILLS_OF_A_RETIRE):
+        path = copied(world, source, f"open-killed{turn}")
+        with Server(world, store=path, default=books.default) as server:
+            asking = threading.Thread(target=answers, args=(server, retire), daemon=True)
+            asking.start()
+            time.sleep(2 * took * turn / KILLS_OF_A_RETIRE)
+            server.process.kill()
+            server.status()
+            asking.join()
+        rows = rows_in(path, before)
+        found.append(rows == after)
+        with Server(world, store=path, default=books.default) as server:
+            replied = answers(server, retire + opened[0]) == books.serve(retire + opened[0])
+        if rows not in (before, after) or not replied or rows_in(path, before) != after:
+            wrong.append(turn)
+    checks.equal(f"{KILLS_OF_A_RETIRE} kills within a retire: files with a part of it", wrong, [])
+    checks.equal("what these kills leave: files with it and without it", {*found}, {False, True})
+    print(f"    {KILLS_OF_A_RETIRE} kills within a retire of {OPEN} open messages: {found.count(False)} files without it, {found.count(True)} with it", flush=True)
+
+
 def refused(world, checks):
     for name in NAMES:
         path = written(world, f"only-{name}", f"CREATE TABLE {name} (a INTEGER) STRICT")
@@ -220,6 +293,7 @@ def refused(world, checks):
         ("version 2 without a table rule", written(world, "second-rule", *second, "DROP TABLE rule"), BY_RULE),
         ("version 3 without a table rule", edited(world, f"{world.folder}/third", "third-rule", "DROP TABLE rule"), {}),
         ("version 3 without a table retired", edited(world, f"{world.folder}/third", "third-retired", "DROP TABLE retired"), {}),
+        ("version 3 with texts for floors", edited(world, f"{world.folder}/third", "third-texts", *TEXTS_FOR_FLOORS), {}),
         ("version 4", edited(world, f"{world.folder}/third", "third-version", "UPDATE setting SET version = 4"), {}),
     ]):
         before = version_of(path)
@@ -234,6 +308,52 @@ def a_retired_filter(world, checks):
 
     errors = scripted(world, checks, "a retired filter", INPUT + COMMIT, [is_old] * 2, results=[answer(SERVICE)], frames=[RESERVE, RELEASE])
     told(checks, "a retired filter", errors, 2, ["WARN ", "mx1", "alice", "transaction 1"])
+
+
+def a_host_that_is_restarted(world, checks):
+    """As the example for systemd does it: the filter is killed within a message, `retire` runs without a number, the next filter starts; and what
+    a retire does to a filter that runs."""
+    host, at, login = "mx1.example.org", int(time.time()), b"alice"
+    path = f"{world.folder}/restarted"
+
+    def report():
+        return world.run("report", "--server", server.address, "--day", str(at // 86_400))[1].split()
+
+    def retire():
+        checks.equal("retire without a number", world.run("retire", "--server", server.address, "--host", host), (0, b"retired\n", ""))
+        # (the next filter reads another millisecond)
+        time.sleep(0.01)
+
+    def asked(filter_, session, count):
+        filter_.login(at, session, login)
+        filter_.begin(at, session, b"m-" + session)
+        return [filter_.recipient(at, session) for _ in range(count)]
+
+    with Server(world, words=["--create"], store=path, default=4) as server:
+        first = Smtpd(world, host, server.address)
+        checks.equal("a message of two recipients", asked(first, b"s1", 2), [result(PROCEED, b"s1")] * 2)
+        first.process.kill()
+        first.process.wait()
+        checks.equal("a filter that was killed: its message is reserved", report(), [b"0", b"2", b"4", b"alice"])
+        retire()
+        checks.equal("its host's runs retired: it counts as sent", report(), [b"2", b"0", b"4", b"alice"])
+        second = Smtpd(world, host, server.address)
+        checks.equal("the next filter", asked(second, b"s2", 3), [result(it, b"s2") for it in (PROCEED, PROCEED, LIMIT)])
+        second.commit(at, b"s2", b"m-s2")
+        checks.equal("the next filter has sent its settle", second.is_done(), True)
+        checks.equal("what is used after its message", report(), [b"4", b"0", b"4", b"alice"])
+        words = ["--server", server.address, "--host", "admin", "--login", "alice", "--from", "0", "--cap", "9"]
+        checks.equal("a limit of 9", world.run("limit", *words), (0, b"set\n", ""))
+        checks.equal("the next message", asked(second, b"s3", 1), [result(PROCEED, b"s3")])
+        retire()
+        checks.equal("a filter that runs, retired", second.recipient(at, b"s3"), result(SERVICE, b"s3"))
+        checks.equal("what is used then", report(), [b"5", b"0", b"9", b"alice"])
+        second.commit(at, b"s3", b"m-s3")
+        checks.equal("a filter that runs, retired: its end", second.end(), (0, b"", ""))
+        third = Smtpd(world, host, server.address)
+        checks.equal("a filter that is started after that", asked(third, b"s4", 1), [result(PROCEED, b"s4")])
+        checks.equal("a filter that is started after that: its end", third.end(), (0, b"", ""))
+        checks.equal("what is used at last", report(), [b"5", b"1", b"9", b"alice"])
 
 
 def commands(world, checks):
