@@ -11,8 +11,11 @@
 
 mod program;
 
+use sqlite::Unknown;
 use std::process::ExitCode;
 
+/// `Unknown` is what a database file and its log hold: all that is proved of a server is proved whatever that is, and this is
+/// the one place that names it. A write that the disk tears leaves each byte old or new.
 fn main(rt: HostRuntime) -> ExitCode {
-    ExitCode::from(program::run(&rt, &mut rt.stderr()))
+    ExitCode::from(program::run(&rt, Unknown, &mut rt.stderr()))
 }

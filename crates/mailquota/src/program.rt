@@ -2,15 +2,18 @@
 
 use mq_program::{ProgramFault, or_memory, refuse, run_subcommand};
 use mq_words::{WordsFault, read_arguments};
+use sqlite::Start;
 use std::env;
 use std::io::Write;
 use std::rt::Env;
 
 /// Runs the program by the words of the process and gives its exit status: 0 done, 1 fault,
 /// 2 usage.
-pub fn run<E: Write>(rt: &HostRuntime, errors: &mut E) -> u8 {
+///
+/// `start` stands for what the file of a server's ledger and its log hold before the call.
+pub fn run<E: Write, S: Start>(rt: &HostRuntime, start: S, errors: &mut E) -> u8 {
     match words_of(rt) {
-        Ok(words) => run_words(rt, words.as_slice(), errors),
+        Ok(words) => run_words(rt, words.as_slice(), start, errors),
         Err(fault) => refuse(&fault, errors),
     }
 }
@@ -25,9 +28,14 @@ fn words_of<R: Env + AllocGlobal>(rt: &R) -> Result<Vec<String>, ProgramFault> {
 }
 
 /// Runs the program by these words, the program's name first, and gives its exit status.
-fn run_words<E: Write>(rt: &HostRuntime, words: &[String], errors: &mut E) -> u8 {
+fn run_words<E: Write, S: Start>(
+    rt: &HostRuntime,
+    words: &[String],
+    start: S,
+    errors: &mut E,
+) -> u8 {
     match read_arguments(rt.alloc(), words) {
-        Ok(given) => run_subcommand(rt, given, errors),
+        Ok(given) => run_subcommand(rt, given, start, errors),
         Err(WordsFault::Memory) => refuse(&ProgramFault::Memory, errors),
         Err(WordsFault::Words(error)) => match error.print(rt) {
             Err(_) if !error.use_stderr() => refuse(&ProgramFault::Write, errors),

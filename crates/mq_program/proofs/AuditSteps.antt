@@ -1,11 +1,14 @@
 -- What an audit leads to.
-use Rattle.std.proofs.Common.{◌≡◌, ℕ, List, Option, Result, Ok, Err, sym, subst}
+use Rattle.std.proofs.Common.{◌≡◌, ℕ, List, Option, Result, Ok, Err, sym, subst, subst₂}
 use Rattle.std.specs.Prelude.{IfOk, IfErr, OnOk, IsErrAnd}
 use Rattle.std.specs.Io.KnownBytes.{Appends}
+use Rattle.sqlite.specs.Effect.{Database}
+use Rattle.mq_ledger.specs.declared.zone.Zone.{Zone}
 use Rattle.mq_rows.specs.declared.audited.Audit.{Audit}
 use Rattle.mq_rows.specs.declared.audited.Audit.TheVariants.{Sound, Wrong}
 use Rattle.mq_command.specs.Output.{AppendsFront}
-use Rattle.mq_program.specs.Auditing.{Audits, PrintsSound, right, unprinted, wrong, no_memory, unread, sound_line}
+use Rattle.mq_store.specs.Auditing.{IsAuditIn}
+use Rattle.mq_program.specs.Auditing.{Audits, PrintsAudit, PrintsSound, right, unprinted, wrong, no_memory, unread, sound_line}
 use Rattle.mq_program.specs.declared.fault.ProgramFault.{ProgramFault}
 use Rattle.mq_program.specs.declared.fault.ProgramFault.TheVariants as fault
 
@@ -41,3 +44,17 @@ done Finds old new _ (unprinted days transactions found front) = tt
 done Finds old new _ (wrong login day found kept) = tt
 done Finds old new _ (no_memory kept) = tt
 done Finds old new _ (unread cause kept) = tt
+
+-- and it is that of an audit of these rows
+pub done_with : (zone : Zone) (default : ℕ) (db : Database) (Kept : Type 0) (old new : Option (List ℕ)) (ended : Result (Unit {0}) ProgramFault)
+    → Audits (λ a. Kept → IsAuditIn zone default db a) old new ended → IfOk ended (λ _. Kept → PrintsAudit zone default db old new)
+done_with zone default db Kept old new _ (right days transactions found printed) = λ kept. (days, transactions, found kept, printed)
+done_with zone default db Kept old new _ (unprinted days transactions found front) = tt
+done_with zone default db Kept old new _ (wrong login day found kept) = tt
+done_with zone default db Kept old new _ (no_memory kept) = tt
+done_with zone default db Kept old new _ (unread cause kept) = tt
+
+-- of this zone, default and rows
+pub audit_of : (zone z : Zone) (default d : ℕ) (db now : Database) (old new : Option (List ℕ)) → z ≡ zone → d ≡ default → now ≡ db → PrintsAudit z d db old new → PrintsAudit zone default now old new
+audit_of zone z default d db now old new zone_is default_is same prints =
+    subst (λ x. PrintsAudit zone default x old new) (sym same) (subst₂ (λ k n. PrintsAudit k n db old new) zone_is default_is prints)

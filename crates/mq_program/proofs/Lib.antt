@@ -1,3 +1,5 @@
 pub mod AuditSteps
+pub mod OpenedFiles
 pub mod RefusalSteps
 pub mod ReplaySteps
+pub mod ServingSteps

@@ -2,10 +2,13 @@
 use Rattle.std.specs.Prelude.{ℕ, ℤ, List, [], ◌∷◌, ◌++◌, codes, Option, Result, Ok, Err}
 use Rattle.std.specs.Fmt.{decimal}
 use Rattle.std.specs.Io.KnownBytes.{Appends, Keeps}
+use Rattle.sqlite.specs.Effect.{Database}
 use Rattle.mq_rows.specs.declared.audited.Audit.{Audit}
 use Rattle.mq_rows.specs.declared.audited.Audit.TheVariants.{Sound, Wrong}
 use Rattle.mq_ledger.specs.declared.ledger.LedgerFault.{LedgerFault}
+use Rattle.mq_ledger.specs.declared.zone.Zone.{Zone}
 use Rattle.mq_command.specs.Output.{AppendsFront}
+use Rattle.mq_store.specs.Auditing.{IsAuditIn}
 use Rattle.mq_store.specs.declared.fault.OpenFault.TheVariants.{Damaged}
 use Rattle.mq_program.specs.declared.fault.ProgramFault.{ProgramFault}
 use Rattle.mq_program.specs.declared.fault.ProgramFault.TheVariants as fault
@@ -18,6 +21,12 @@ sound_line days transactions =
 -- some line of books that are right was printed
 abbrev pub PrintsSound : Option (List ℕ) → Option (List ℕ) → Type 0
 PrintsSound old new = (days transactions : ℕ) × Appends old new (sound_line days transactions)
+
+-- the line of right books was printed that an audit of these rows finds, with its counts
+abbrev pub PrintsAudit : Zone → ℕ → Database → Option (List ℕ) → Option (List ℕ) → Type 0
+PrintsAudit zone default db old new =
+    (days transactions : ℕ) × IsAuditIn zone default db (Sound days transactions)
+    × Appends old new (sound_line days transactions)
 
 -- What an audit that may find this leads to. That the books are right is printed, or a front of it where the output
 -- fails; the least login and day that are wrong are the fault, and then nothing is printed, as where memory or rows

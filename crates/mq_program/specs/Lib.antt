@@ -1,3 +1,4 @@
 pub mod Auditing
 pub mod Faults
+pub mod Opened
 pub mod Refusals

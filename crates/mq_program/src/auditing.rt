@@ -1,84 +1,100 @@
 //! `audit`: checks the books of the ledger in the server's file.
 ghost use Rattle.std.specs.Prelude.{◌≡◌, IfOk, IfErr, OnOk, string_bytes};
 ghost use Rattle.std.specs.Io.KnownBytes.{Appends};
+ghost use Rattle.sqlite.specs.Files.{file_state};
 ghost use Rattle.sqlite.specs.Held.{state};
-ghost use Rattle.mq_frame.specs.Range.{IsAmount};
+ghost use Rattle.sqlite.specs.WalFiles.{image_at};
 ghost use Rattle.mq_command.specs.Output.{AppendsFront};
 ghost use Rattle.mq_store.specs.Auditing.{IsAuditIn, IsRightAnswer};
 ghost use Rattle.mq_store.specs.Soundness.{HasKept, IsSound};
-ghost use Rattle.mq_program.specs.Auditing.{Audits, PrintsSound, sound_line};
+ghost use Rattle.mq_program.specs.Auditing.{Audits, PrintsAudit, PrintsSound, sound_line};
+ghost use Rattle.mq_program.specs.Opened.{MeansFile};
 ghost use Rattle.mq_program.specs.Refusals.{AreInRange};
 
 use crate::fault::ProgramFault;
 use crate::server::server_settings;
-use crate::store::{connect, ledger_over};
+use crate::store::file_ledger;
 use log::Logged;
 use log::sink::Console;
 use mq_arguments::AuditArguments;
 use mq_command::write_whole;
-use mq_ledger::Zone;
 use mq_settings::{Place, ServerSettings};
 use mq_store::{Audit, OpenFault, SqlLedger};
-use sqlite::{Alter, Connection};
+use sqlite::{Alter, FileFrom, FileStore, Start};
 use std::alloc::{AllocError, Global};
 use std::io::Write;
 
 /// Opens the ledger in the file of the settings, checks its books, and prints how much they hold.
 ///
-/// An open ledger has been checked already, and doesn't tell what it holds: so the rows are read once more.
-pub fn audit<W: Write>(
+/// An open ledger has been checked already, and doesn't tell what it holds: so the rows are read once more. `start` stands
+/// for what the file and its log hold before the call.
+pub fn audit<W: Write, S: Start>(
     rt: &HostRuntime,
     given: AuditArguments<'_>,
+    start: S,
     output: &mut W,
 ) -> Result<u8, ProgramFault>
     ensures status { IfOk result (λ status. status ≡ 0) }
     ensures printed { IfOk result (λ _. PrintsSound (W.contents output.old) (W.contents output.new)) }
 {
     let settings = server_settings(rt, given.config)?;
-    audit_file(rt, &settings, output)
+    let _ledger = audit_file(rt, &settings, start, output)?;
+    Ok(0)
 }
 
-/// Audits the ledger in the file of these settings.
-fn audit_file<W: Write>(
+/// Audits the ledger in the file of these settings, which comes back.
+fn audit_file<W: Write, S: Start>(
     rt: &HostRuntime,
     settings: &ServerSettings,
+    start: S,
     output: &mut W,
-) -> Result<u8, ProgramFault>
+) -> Result<SqlLedger<FileStore<FileFrom<S>>>, ProgramFault>
     requires { AreInRange settings.now }
-    ensures status { IfOk result (λ status. status ≡ 0) }
     ensures printed { IfOk result (λ _. PrintsSound (W.contents output.old) (W.contents output.new)) }
+
+    // It is the ledger whose rows the files hold, and the counts are those of an audit of its rows.
+    ensures rows { IfOk result (λ ledger. HasKept (file_state ledger.connection)
+        → MeansFile settings.now.zone settings.now.default (image_at S.Start) (file_state ledger.connection)) }
+    ensures audited { IfOk result (λ ledger. HasKept (file_state ledger.connection)
+        → PrintsAudit settings.now.zone settings.now.default (file_state ledger.connection).now
+        (W.contents output.old) (W.contents output.new)) }
 {
     let path = match &settings.store {
         Place::Memory => return Err(ProgramFault::MemoryStore),
         Place::File(path) => path.as_str(),
     };
     let logged = Logged::new(rt, settings.log, Console(rt));
-    let connection = connect(rt, &logged, path, false)?;
-    audit_whole(
-        rt.alloc(),
-        connection,
+    let ledger = file_ledger(
+        rt,
+        &logged,
+        path,
+        false,
         settings.zone,
         settings.default,
-        output,
-    )
+        start,
+    )?;
+    let ledger = audit_whole(rt.alloc(), ledger, output)?;
+    Ok(ledger)
 }
 
-/// Opens the ledger in a database, audits it and lets it go; the status is 0. `default` is 0 to 1,000,000. It goes over any
-/// store, since a proof over the file's own takes far longer.
+/// Audits a ledger, which comes back as it was. It goes over any store, since a proof over the file's own takes far longer.
 fn audit_whole<S: Alter + Drop, W: Write>(
     alloc: Global,
-    connection: Connection<S>,
-    zone: Zone,
-    default: u32,
+    ledger: SqlLedger<S>,
     output: &mut W,
-) -> Result<u8, ProgramFault>
-    requires { IsAmount default }
-    ensures status { IfOk result (λ status. status ≡ 0) }
+) -> Result<SqlLedger<S>, ProgramFault>
     ensures printed { IfOk result (λ _. PrintsSound (W.contents output.old) (W.contents output.new)) }
+    ensures audited { IfOk result (λ back. HasKept (state S.Store back.connection)
+        → PrintsAudit ledger.zone ledger.default (state S.Store ledger.connection).now
+        (W.contents output.old) (W.contents output.new)) }
+    ensures same { IfOk result (λ back. HasKept (state S.Store back.connection)
+        → (state S.Store back.connection).now ≡ (state S.Store ledger.connection).now) }
+    ensures kept { IfOk result (λ back. HasKept (state S.Store back.connection)
+        → HasKept (state S.Store ledger.connection)) }
 {
-    let mut ledger = ledger_over(alloc, connection, false, zone, default)?;
+    let mut ledger = ledger;
     audit_ledger(alloc, &mut ledger, output)?;
-    Ok(0)
+    Ok(ledger)
 }
 
 /// Checks the books of a ledger and prints, where they are right, how many days of logins and how many transactions
@@ -98,6 +114,8 @@ pub fn audit_ledger<S: Alter, W: Write>(
         → Audits IsRightAnswer (W.contents output.old) (W.contents output.new) result }
     ensures same { HasKept (state S.Store ledger.new.connection)
         → (state S.Store ledger.new.connection).now ≡ (state S.Store ledger.old.connection).now }
+    ensures kept { HasKept (state S.Store ledger.new.connection)
+        → HasKept (state S.Store ledger.old.connection) }
 {
     let found = ledger.audit()?;
     tell(alloc, found, output)

@@ -1,17 +1,25 @@
 //! `server`: serves a ledger to filters.
-ghost use Rattle.std.specs.Prelude.{◌≡◌, IfOk};
+ghost use Rattle.std.specs.Prelude.{◌≡◌, false, IfOk, IsTrue};
+ghost use Rattle.sqlite.specs.Files.{file_state};
+ghost use Rattle.sqlite.specs.Held.{state};
+ghost use Rattle.sqlite.specs.WalFiles.{image_at};
 ghost use Rattle.mq_server.specs.Delivery.{HasGrown};
+ghost use Rattle.mq_store.specs.Soundness.{book_in, HasKept, IsSound};
+ghost use Rattle.mq_program.specs.Opened.{GrowsFrom, GrowsFromNothing};
 ghost use Rattle.mq_program.specs.Refusals.{AreInRange};
 
 use crate::fault::{ProgramFault, logged_of};
-use crate::store::{connect, ledger_over, memory_ledger};
+use crate::store::{file_ledger, memory_ledger};
 use log::sink::Console;
 use log::{Log, Logged, error, info};
 use mq_arguments::ServerArguments;
+use mq_frame::Escaped;
 use mq_ledger::Ledger;
 use mq_room::serve_connections;
+use mq_server::laws::more_deliveries;
 use mq_settings::{Place, ServerSettings, read_file, read_server_settings};
-use sqlite::{Alter, Connection};
+use mq_store::SqlLedger;
+use sqlite::{Alter, FileFrom, FileStore, Start};
 use std::alloc::Global;
 use std::net::{Net, TcpListener, TcpStream};
 use std::rt::Clock;
@@ -29,18 +37,24 @@ pub fn server_settings(rt: &HostRuntime, file: &str) -> Result<ServerSettings, P
     ))
 }
 
-/// Serves so many connections: the settings first, then the ledger, then the port.
-pub fn server(rt: &HostRuntime, given: ServerArguments<'_>) -> Result<u8, ProgramFault> {
+/// Serves so many connections: the settings first, then the ledger, then the port. `start` stands for what the ledger's file
+/// and its log hold before the call.
+pub fn server<S: Start>(
+    rt: &HostRuntime,
+    given: ServerArguments<'_>,
+    start: S,
+) -> Result<u8, ProgramFault> {
     let settings = server_settings(rt, given.config)?;
-    serve(rt, &settings, given.create, given.connections)
+    serve(rt, &settings, given.create, given.connections, start)
 }
 
 /// Serves so many connections by these settings.
-fn serve(
+fn serve<S: Start>(
     rt: &HostRuntime,
     settings: &ServerSettings,
     create: bool,
     connections: u32,
+    start: S,
 ) -> Result<u8, ProgramFault>
     requires { AreInRange settings.now }
 {
@@ -48,10 +62,26 @@ fn serve(
     match &settings.store {
         Place::Memory => listen_in_memory(rt, &logged, settings, connections),
         Place::File(path) => {
-            let connection = connect(rt, &logged, path.as_str(), create)?;
-            listen_over(rt, &logged, settings, connection, create, connections)
+            let path = path.as_str();
+            let Served { ledger: _, outcome } = listen_over_file(
+                rt,
+                &logged,
+                settings,
+                path,
+                create,
+                connections,
+                start,
+            )?;
+            outcome
         }
     }
+}
+
+/// A server that has ended: its ledger, and how it ended.
+#[derive(Drop)]
+struct Served<S: Alter> {
+    ledger: SqlLedger<S>,
+    outcome: Result<u8, ProgramFault>,
 }
 
 /// Serves so many connections over a new ledger in memory.
@@ -63,30 +93,117 @@ fn listen_in_memory<G: Log>(
 ) -> Result<u8, ProgramFault>
     requires { AreInRange settings.now }
 {
-    let mut ledger = memory_ledger(rt.alloc(), settings.zone, settings.default)?;
-    listen(rt, log, rt.alloc(), settings, &mut ledger, connections)
+    let ledger = memory_ledger(rt.alloc(), settings.zone, settings.default)?;
+    let Served { ledger: _, outcome } = listen_over(rt, log, settings, ledger, connections);
+    outcome
 }
 
-/// Serves so many connections over the ledger in a database; with `create` over a new one. It goes over any store, since a
-/// proof over the file's own takes far longer.
+/// Serves so many connections over the ledger in the file at a path; with `create` over a new one.
+fn listen_over_file<G: Log, S: Start>(
+    rt: &HostRuntime,
+    log: &G,
+    settings: &ServerSettings,
+    path: &str,
+    create: bool,
+    connections: u32,
+    start: S,
+) -> Result<Served<FileStore<FileFrom<S>>>, ProgramFault>
+    requires { AreInRange settings.now }
+
+    // A server begins with the history whose rows the files hold, and adds to it what it was sent; so does one that makes
+    // its ledger, with no history.
+    ensures begun { create ≡ false → IfOk result (λ served. HasKept (file_state served.ledger.connection)
+        → GrowsFrom settings.now.zone settings.now.default (image_at S.Start)
+        (file_state served.ledger.connection)) }
+    ensures made { IsTrue create → IfOk result (λ served. HasKept (file_state served.ledger.connection)
+        → GrowsFromNothing settings.now.zone settings.now.default (image_at S.Start)
+        (file_state served.ledger.connection)) }
+{
+    let ledger = file_ledger(
+        rt,
+        log,
+        path,
+        create,
+        settings.zone,
+        settings.default,
+        start,
+    )?;
+    Ok(listen_over(rt, log, settings, ledger, connections))
+}
+
+/// Serves so many connections over a ledger. It goes over any store, since a proof over the file's own takes far longer.
 fn listen_over<G: Log, S: Alter + Drop>(
     rt: &HostRuntime,
     log: &G,
     settings: &ServerSettings,
-    connection: Connection<S>,
-    create: bool,
+    ledger: SqlLedger<S>,
+    connections: u32,
+) -> Served<S>
+    ensures same { (result.ledger.zone ≡ ledger.zone) × (result.ledger.default ≡ ledger.default) }
+    ensures kept { HasKept (state S.Store result.ledger.connection) → HasKept (state S.Store ledger.connection) }
+    ensures sound { HasKept (state S.Store result.ledger.connection)
+        → IsSound ledger.zone ledger.default (state S.Store ledger.connection)
+        → IsSound ledger.zone ledger.default (state S.Store result.ledger.connection) }
+    ensures grown { HasKept (state S.Store result.ledger.connection)
+        → IsSound ledger.zone ledger.default (state S.Store ledger.connection)
+        → HasGrown (book_in ledger.zone ledger.default (state S.Store ledger.connection).now)
+        (book_in ledger.zone ledger.default (state S.Store result.ledger.connection).now) }
+{
+    let mut ledger = ledger;
+    let outcome = begin(rt, log, settings, &mut ledger, connections);
+    Served { ledger, outcome }
+}
+
+/// Logs what a ledger holds, and serves so many connections over it.
+fn begin<G: Log, S: Alter + Drop>(
+    rt: &HostRuntime,
+    log: &G,
+    settings: &ServerSettings,
+    ledger: &mut SqlLedger<S>,
     connections: u32,
 ) -> Result<u8, ProgramFault>
-    requires { AreInRange settings.now }
+    ensures lent { (ledger.new.zone ≡ ledger.old.zone) × (ledger.new.default ≡ ledger.old.default) }
+    ensures kept { HasKept (state S.Store ledger.new.connection) → HasKept (state S.Store ledger.old.connection) }
+    ensures sound { HasKept (state S.Store ledger.new.connection)
+        → IsSound ledger.old.zone ledger.old.default (state S.Store ledger.old.connection)
+        → IsSound ledger.old.zone ledger.old.default (state S.Store ledger.new.connection) }
+    ensures grown { HasKept (state S.Store ledger.new.connection)
+        → IsSound ledger.old.zone ledger.old.default (state S.Store ledger.old.connection)
+        → HasGrown (book_in ledger.old.zone ledger.old.default (state S.Store ledger.old.connection).now)
+        (book_in ledger.old.zone ledger.old.default (state S.Store ledger.new.connection).now) }
 {
-    let mut ledger = ledger_over(
-        rt.alloc(),
-        connection,
-        create,
-        settings.zone,
-        settings.default,
-    )?;
-    listen(rt, log, rt.alloc(), settings, &mut ledger, connections)
+    more_deliveries();
+    log_ledger(log, settings, ledger)?;
+    listen(rt, log, rt.alloc(), settings, ledger, connections)
+}
+
+/// Logs what a ledger holds as a server begins with it.
+fn log_ledger<G: Log, S: Alter>(
+    log: &G,
+    settings: &ServerSettings,
+    ledger: &mut SqlLedger<S>,
+) -> Result<(), ProgramFault>
+    ensures lent { (ledger.new.zone ≡ ledger.old.zone) × (ledger.new.default ≡ ledger.old.default) }
+    ensures kept { HasKept (state S.Store ledger.new.connection) → HasKept (state S.Store ledger.old.connection) }
+    ensures sound { HasKept (state S.Store ledger.new.connection)
+        → IsSound ledger.old.zone ledger.old.default (state S.Store ledger.old.connection)
+        → IsSound ledger.new.zone ledger.new.default (state S.Store ledger.new.connection) }
+    ensures same { HasKept (state S.Store ledger.new.connection)
+        → (state S.Store ledger.new.connection).now ≡ (state S.Store ledger.old.connection).now }
+{
+    let answers = ledger.count_answers()?;
+    let default = settings.default;
+    match settings.zone.rule() {
+        Some(rule) => {
+            let rule = Escaped(rule);
+            info!(log; "ledger with {answers} answers, default {default}, rule {rule}");
+        }
+        None => {
+            let minutes = settings.zone.minutes();
+            info!(log; "ledger with {answers} answers, default {default}, offset {minutes}");
+        }
+    }
+    Ok(())
 }
 
 /// Listens at the address of the settings, and serves so many connections over the ledger. The start,

@@ -1,18 +1,24 @@
 //! The store of the server's ledger: opened, or made.
-ghost use Rattle.std.specs.Prelude.{◌≡◌, false, IsTrue, IfOk};
-ghost use Rattle.sqlite.specs.Held.{state};
+ghost use Rattle.std.specs.Prelude.{◌≡◌, ◌⊎◌, [], false, true, IsTrue, IfOk, IfErr};
+ghost use Rattle.sqlite.specs.Files.{file_state, IsOpened};
+ghost use Rattle.sqlite.specs.FileStore.{view};
+ghost use Rattle.sqlite.specs.Held.{state, IsNew as IsUnused};
+ghost use Rattle.sqlite.specs.Start.{FindsIn};
 ghost use Rattle.sqlite.specs.State.{HasCleanDisk};
 ghost use Rattle.sqlite.specs.Steps.{over_memory};
+ghost use Rattle.sqlite.specs.WalFiles.{image_at};
 ghost use Rattle.mq_frame.specs.Range.{IsAmount};
-ghost use Rattle.mq_tables.specs.Making.{IsMadeOver};
+ghost use Rattle.mq_tables.specs.Making.{AreUnnamed, HasCounters, IsMadeOver};
 ghost use Rattle.mq_store.specs.Opening.{IsFound, Opens, made_with};
-ghost use Rattle.mq_store.specs.Soundness.{IsNew};
+ghost use Rattle.mq_store.specs.Soundness.{HasKept, IsNew, IsOpened as IsFoundSound, MeansBook};
+ghost use Rattle.mq_program.specs.Opened.{IsMadeIn, MeansFile};
 
 use crate::fault::ProgramFault;
 use log::{Log, error};
 use mq_ledger::Zone;
 use mq_store::SqlLedger;
-use sqlite::{Alter, Connection, Error, ErrorCode, File, FileStore, MemStore};
+use mq_tables::laws::{empty_databases_have_no_table, trees_have_one_schema};
+use sqlite::{Alter, Connection, Error, ErrorCode, FileFrom, FileStore, MemStore, Start};
 use std::alloc::Global;
 use std::fs::OpenOptions;
 use std::io::ErrorKind;
@@ -36,7 +42,9 @@ pub fn memory_ledger(
 }
 
 /// Logs why a database file can't be opened.
-fn unopened<G: Log, C: std::fmt::Display + Drop>(log: &G, path: &str, cause: C) -> ProgramFault {
+fn unopened<G: Log, C: std::fmt::Display + Drop>(log: &G, path: &str, cause: C) -> ProgramFault
+    ensures { result ≡ ProgramFault.Store }
+{
     error!(log; "{path}: {cause}");
     ProgramFault::Store
 }
@@ -61,7 +69,9 @@ fn find_or_make_file<G: Log>(
     log: &G,
     path: &str,
     create: bool,
-) -> Result<(), ProgramFault> {
+) -> Result<(), ProgramFault>
+    ensures { IfErr result (λ fault. (fault ≡ ProgramFault.Memory) ⊎ (fault ≡ ProgramFault.Store)) }
+{
     let is_there = if create {
         make_file(rt, path)
     } else {
@@ -74,24 +84,35 @@ fn find_or_make_file<G: Log>(
     }
 }
 
-/// A connection to the database file at a path. A file that isn't there is made where a ledger is made, with mode 0600. The
-/// cause of `ProgramFault::Store` is logged.
-pub fn connect<G: Log>(
+/// A connection to the database file at a path. A file that isn't there is made where a ledger is made, with mode 0600; a
+/// file that is empty gets a sum at the end of each page, and one with such sums is refused where one is wrong. The cause of
+/// `ProgramFault::Store` is logged.
+///
+/// `start` stands for what the two files, the database and its log, hold before the call.
+fn connect<G: Log, S: Start>(
     rt: &HostRuntime,
     log: &G,
     path: &str,
     create: bool,
-) -> Result<Connection<FileStore<File>>, ProgramFault> {
+    start: S,
+) -> Result<Connection<FileStore<FileFrom<S>>>, ProgramFault>
+    ensures opened { IfOk result (λ c. HasCleanDisk (file_state c) → IsOpened c) }
+    ensures found { IfOk result (λ c. HasCleanDisk (file_state c) → FindsIn (image_at S.Start) (file_state c)) }
+    ensures sums { IfOk result (λ c. HasCleanDisk (file_state c) → (image_at S.Start).db ≡ []
+        → (view c.store).has_sums ≡ true) }
+    ensures unused { IfOk result IsUnused }
+    ensures fault { IfErr result (λ fault. (fault ≡ ProgramFault.Memory) ⊎ (fault ≡ ProgramFault.Store)) }
+{
     find_or_make_file(rt, log, path, create)?;
-    match Connection::open(rt, path) {
+    match Connection::open_from(rt, path, true, start) {
         Ok(connection) => Ok(connection),
-        Err(Error::SqliteFailure(ErrorCode::OutOfMemory)) => Err(ProgramFault::Memory),
-        Err(cause) => Err(unopened(log, path, cause)),
+        Err((Error::SqliteFailure(ErrorCode::OutOfMemory), _)) => Err(ProgramFault::Memory),
+        Err((cause, _)) => Err(unopened(log, path, cause)),
     }
 }
 
 /// The ledger in a database; with `create` a new one. `default` is 0 to 1,000,000.
-pub fn ledger_over<S: Alter + Drop>(
+fn ledger_over<S: Alter + Drop>(
     alloc: Global,
     connection: Connection<S>,
     create: bool,
@@ -102,12 +123,51 @@ pub fn ledger_over<S: Alter + Drop>(
     ensures lent { IfOk result (λ ledger. (ledger.zone ≡ zone) × (ledger.default ≡ default)) }
     ensures made { IsTrue create → IfOk result (λ ledger. HasCleanDisk (state S.Store ledger.connection)
         → IsMadeOver (made_with zone default) (state S.Store connection).now (state S.Store ledger.connection).now) }
+    ensures new { IsTrue create → IfOk result (λ ledger. HasCleanDisk (state S.Store ledger.connection)
+        → HasCounters (state S.Store connection) → AreUnnamed (state S.Store connection).now.schema
+        → IsNew zone default (state S.Store ledger.connection)) }
     ensures opened { create ≡ false → IfOk result (λ ledger. HasCleanDisk (state S.Store ledger.connection)
         → Opens (IsFound S.Store zone default connection ledger.connection)
         (state S.Store connection) (state S.Store ledger.connection)) }
+    ensures rows { create ≡ false → IfOk result (λ ledger. HasKept (state S.Store ledger.connection)
+        → MeansBook zone default (state S.Store connection).now (state S.Store ledger.connection)) }
+    ensures sound { create ≡ false → IfOk result (λ ledger. HasKept (state S.Store ledger.connection)
+        → IsFoundSound zone default (state S.Store connection) (state S.Store ledger.connection)) }
+
+    // Kept at the end, it was kept at the entry.
+    ensures kept { IfOk result (λ ledger. HasKept (state S.Store ledger.connection)
+        → HasKept (state S.Store connection)) }
 {
     if create {
         return Ok(SqlLedger::create(alloc, connection, zone, default)?);
     }
     Ok(SqlLedger::open(alloc, connection, zone, default)?)
+}
+
+/// The ledger in the database file at a path; with `create` a new one. `default` is 0 to 1,000,000.
+///
+/// `start` stands for what the two files, the database and its log, hold before the call.
+pub fn file_ledger<G: Log, S: Start>(
+    rt: &HostRuntime,
+    log: &G,
+    path: &str,
+    create: bool,
+    zone: Zone,
+    default: u32,
+    start: S,
+) -> Result<SqlLedger<FileStore<FileFrom<S>>>, ProgramFault>
+    requires { IsAmount default }
+    ensures lent { IfOk result (λ ledger. (ledger.zone ≡ zone) × (ledger.default ≡ default)) }
+
+    // The ledger that is opened is the one whose rows the files hold.
+    ensures rows { create ≡ false → IfOk result (λ ledger. HasKept (file_state ledger.connection)
+        → MeansFile zone default (image_at S.Start) (file_state ledger.connection)) }
+    ensures made { IsTrue create → IfOk result (λ ledger. HasKept (file_state ledger.connection)
+        → IsMadeIn zone default (image_at S.Start) (file_state ledger.connection)) }
+{
+    trees_have_one_schema();
+    empty_databases_have_no_table();
+    let connection = connect(rt, log, path, create, start)?;
+    let ledger = ledger_over(rt.alloc(), connection, create, zone, default)?;
+    Ok(ledger)
 }

@@ -15,16 +15,24 @@ use crate::filter::filter;
 use crate::replay::replay;
 use crate::server::server;
 use mq_arguments::Arguments;
+use sqlite::Start;
 use std::io;
 use std::io::Write;
 
 /// Runs a subcommand, prints on `errors` why it isn't done, and gives the exit status: 0 done,
 /// 1 fault, 2 usage.
-pub fn run_subcommand<E: Write>(rt: &HostRuntime, given: Arguments<'_>, errors: &mut E) -> u8
+///
+/// `start` stands for what the file of a server's ledger and its log hold before the call.
+pub fn run_subcommand<E: Write, S: Start>(
+    rt: &HostRuntime,
+    given: Arguments<'_>,
+    start: S,
+    errors: &mut E,
+) -> u8
     requires { IsArguments given }
     ensures { Refuses given.entry (λ fault. result ≡ fault_status fault) }
 {
-    match status_of(rt, given, errors) {
+    match status_of(rt, given, start, errors) {
         Ok(status) => status,
         Err(fault) => refuse(&fault, errors),
     }
@@ -38,9 +46,10 @@ pub fn refuse<E: Write>(fault: &ProgramFault, errors: &mut E) -> u8
     fault.status()
 }
 
-fn status_of<E: Write>(
+fn status_of<E: Write, S: Start>(
     rt: &HostRuntime,
     given: Arguments<'_>,
+    start: S,
     errors: &mut E,
 ) -> Result<u8, ProgramFault>
     requires { IsArguments given }
@@ -49,13 +58,13 @@ fn status_of<E: Write>(
     match given {
         Arguments::Replay(given) => replay(rt, given, errors),
         Arguments::Filter(given) => filter(rt, given),
-        Arguments::Server(given) => server(rt, given),
+        Arguments::Server(given) => server(rt, given, start),
         Arguments::Limit(given) => limit(rt, given, errors),
         Arguments::Stop(given) => stop(rt, given, errors),
         Arguments::Resume(given) => resume(rt, given, errors),
         Arguments::Day(given) => day(rt, given, errors),
         Arguments::Retire(given) => retire(rt, given, errors),
         Arguments::Report(given) => report(rt, given, errors),
-        Arguments::Audit(given) => audit(rt, given, &mut io::writer(rt)),
+        Arguments::Audit(given) => audit(rt, given, start, &mut io::writer(rt)),
     }
 }

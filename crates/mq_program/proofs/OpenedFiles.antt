@@ -1,0 +1,88 @@
+-- What a connection that was opened over files shows, and what a ledger in it begins with.
+use Rattle.std.proofs.Common.{arith, ◌≡◌, ℕ, [], length, sym, ap, subst, ◌∙◌, inl, inr}
+use Rattle.std.specs.Prelude.{false}
+use Rattle.sqlite_trees.specs.Objects.{catalog_tree}
+use Rattle.sqlite_trees.specs.Tree.{Trees}
+use Rattle.sqlite.specs.Does.{lacks_sequence}
+use Rattle.sqlite.specs.Effect.{Database, IsDatabase}
+use Rattle.sqlite.specs.Files.{AreFoundIn, HoldsDatabase}
+use Rattle.sqlite.specs.Recovery.{Image}
+use Rattle.sqlite.specs.Start.{FindsIn}
+use Rattle.sqlite.specs.State.{State, IsLive, Opens}
+use Rattle.mq_ledger.specs.declared.zone.Zone.{Zone}
+use Rattle.mq_ledger.specs.Answer.{build}
+use Rattle.mq_ledger.specs.Day.{day_of}
+use Rattle.mq_ledger.specs.Legal.{Book, IsLegalBook}
+use Rattle.mq_rows.specs.Tables.{AreRows}
+use Rattle.mq_server.specs.Delivery.{HasGrown}
+use Rattle.mq_tables.specs.Ledger.{HasLedger}
+use Rattle.mq_tables.specs.Making.{AreUnnamed}
+use Rattle.mq_store.specs.Soundness.{book_in, HasKept, HasStored, IsNew, IsSound, MeansBook}
+use Rattle.mq_store.specs.Taking.{book_of}
+use Rattle.mq_program.specs.Opened.{MeansFile, IsMadeIn, GrowsFrom, GrowsFromNothing}
+
+abbrev pub HaveOneSchema : Type 0
+HaveOneSchema = (a b : Database) → IsDatabase a → IsDatabase b → a.trees ≡ b.trees → a ≡ b
+
+abbrev pub EmptyAreReady : Type 0
+EmptyAreReady = (db : Database) → IsDatabase db → db.trees catalog_tree ≡ [] → (lacks_sequence db.schema ≡ false) × AreUnnamed db.schema
+
+-- an empty database file holds nothing, whatever its log does
+listed_in : (image : Image) (db : Trees) → image.db ≡ [] → AreFoundIn image db → db catalog_tree ≡ []
+listed_in image db none (inl (size, pages, wanted, adopts, ours, is)) = absurd (omega (arith, ap length none, adopts.found.present))
+listed_in image db none (inr (nothing, empty)) = empty.1
+
+module _ (image : Image) (s : State) (one : HaveOneSchema) (opens : Opens s) (live : IsLive s) (found : FindsIn image s) where
+  sound : IsDatabase s.now
+  sound = (live opens.is_open).0
+
+  -- the connection shows the database that the files hold
+  shows : (db : Database) → IsDatabase db → HoldsDatabase image db.trees → db ≡ s.now
+  shows db is holds = one db s.now is sound (sym (found.holds db.trees holds) ∙ sym (ap (λ (d : Database). d.trees) opens.clean))
+
+  pub means : (zone : Zone) (default : ℕ) (new : State) → MeansBook zone default s.now new → MeansFile zone default image new
+  means zone default new book b keeps = book b (subst (HasStored b) (shows keeps.db keeps.stored.holds.sound keeps.holds) keeps.stored)
+
+  pub made : (zone : Zone) (default : ℕ) (new : State) → EmptyAreReady → (lacks_sequence s.now.schema ≡ false → AreUnnamed s.now.schema → IsNew zone default new) → IsMadeIn zone default image new
+  made zone default new ready new_there = record {
+    empty = λ none.
+        let listed : s.now.trees catalog_tree ≡ [] = subst (λ (d : Database). d.trees catalog_tree ≡ []) (sym opens.clean) (listed_in image s.committed.trees none found.reads) in
+        let it = ready s.now sound listed in
+        new_there it.0 it.1;
+    beside = λ db is holds counters unnamed.
+        let same = shows db is holds in
+        new_there (subst (λ (d : Database). lacks_sequence d.schema ≡ false) same counters) (subst (λ (d : Database). AreUnnamed d.schema) same unnamed);
+  }
+
+-- what came since is what came
+module _ (zone : Zone) (default : ℕ) (image : Image) (old new : State) (sound_then : IsSound zone default old → IsSound zone default new)
+    (grown : IsSound zone default old → HasGrown (book_in zone default old.now) (book_in zone default new.now)) where
+  pub grows : MeansFile zone default image old → GrowsFrom zone default image new
+  grows means b keeps =
+      let (of_zone, of_default, is, book) = means b keeps in
+      (of_zone, of_default, sound_then is, subst (λ (x : Book). HasGrown x (book_in zone default new.now)) book (grown is))
+
+  pub grows_from_nothing : IsMadeIn zone default image old → GrowsFromNothing zone default image new
+  grows_from_nothing made none =
+      let it = made.empty none in
+      (sound_then it.sound, subst (λ (x : Book). HasGrown x (book_in zone default new.now)) (blank_book it) (grown it.sound))
+    where
+      blank_book : IsNew zone default old → book_in zone default old.now ≡ book_of zone default []
+      blank_book it = ap (λ rs. book_of zone default (build (day_of zone) default rs)) it.blank
+
+-- a store whose tables stay is as sound as before
+sound_still : (zone : Zone) (default : ℕ) (old new : State) → IsSound zone default old → HasKept new → new.now ≡ old.now → IsSound zone default new
+sound_still zone default old new sound kept now = record {
+  kept = kept;
+  legal = subst (λ (db : Database). IsLegalBook (book_in zone default db)) (sym now) sound.legal;
+  tables = sound.tables;
+  holds = subst (λ (db : Database). HasLedger db sound.tables) (sym now) sound.holds;
+  rows = subst (λ (db : Database). AreRows (book_in zone default db) sound.tables) (sym now) sound.rows;
+  current = sound.current;
+}
+
+-- an audit leaves the ledger as it was
+pub means_still : (zone : Zone) (default : ℕ) (image : Image) (old new : State) → HasKept new → new.now ≡ old.now → MeansFile zone default image old → MeansFile zone default image new
+means_still zone default image old new kept now means b keeps =
+    let (of_zone, of_default, is, book) = means b keeps in
+    (of_zone, of_default, sound_still zone default old new is kept now, subst (λ (db : Database). book_in zone default db ≡ b) (sym now) book)
