@@ -15,6 +15,7 @@
 
 mod accept;
 mod fault;
+pub mod laws;
 mod network;
 mod opened;
 mod room;
