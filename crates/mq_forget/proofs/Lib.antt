@@ -6,4 +6,3 @@ pub mod Answers
 pub mod Carrying
 pub mod Growing
 pub mod Replying
-pub mod Past

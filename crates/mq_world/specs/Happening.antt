@@ -1,5 +1,5 @@
 -- What has happened on the way from a start to a world, and that worlds are reached in which it has.
-use Rattle.std.specs.Prelude.{◌≡◌, ℕ, List, [], ◌∷◌, ◌++◌, count_by, is_some, slice_get, true, false, Option, None, Some}
+use Rattle.std.specs.Prelude.{◌≡◌, ◌<◌, ℕ, List, [], ◌∷◌, ◌++◌, count_by, is_some, slice_get, true, false, Option, None, Some}
 use Rattle.std.specs.List.{list_any}
 use Rattle.mq_frame.specs.Same.{same_text, same_request}
 use Rattle.mq_frame.specs.Spelling.{reply_body, frame}
@@ -11,6 +11,8 @@ use Rattle.mq_frame.specs.declared.message.Reply.TheVariants.{Old}
 use Rattle.mq_ledger.specs.Day.{day_of}
 use Rattle.mq_ledger.specs.History.{Transaction, requests, held, settled_in}
 use Rattle.mq_ledger.specs.Legal.{Book}
+use Rattle.mq_ledger.specs.Limits.{cap}
+use Rattle.mq_ledger.specs.Sums.{AreDistinct}
 use Rattle.mq_client.specs.Exchanges.{Exchange, decides, request_frame}
 use Rattle.mq_client.specs.Past.{Source, Step, view}
 use Rattle.mq_client.specs.Numbered.{exchanges_in}
@@ -18,7 +20,7 @@ use Rattle.mq_link.specs.declared.link.LinkFault.{LinkFault}
 use Rattle.mq_link.specs.declared.link.Outcome.TheVariants.{Answered, Faulted}
 use Rattle.mq_world.specs.World.{Site, World, IsStart, Next, Reaches, with_run, after_exchange, same_source, source_of}
 use Rattle.mq_client.specs.declared.held.Held.{Held}
-use Rattle.mq_world.specs.Law.{run_of, standing_of, counting, let_by}
+use Rattle.mq_world.specs.Law.{run_of, standing_of, counting, let_by, let_together}
 use Rattle.mq_world.specs.Forgetting.{forgotten, ReachesForgetting}
 
 -- ---- reaching
@@ -155,3 +157,17 @@ pub record WentOnThoughForgotten (site : Site) (start w : World) : Type 0 where
   pub is_first_day : day_of now.ledger.zone asked.at ≡ day
   pub request : Request
   pub taken_again : requests now.ledger.history ≡ request ∷ reserve ∷ []
+
+-- A run let one recipient through, and the ledger forgot that day. Then it let the run have the day once more: what its
+-- transactions of that day let through together passes the limit.
+pub record PassedOnAForgottenDay (site : Site) (start w : World) : Type 0 where
+  pub day : ℕ
+  pub over : ℕ
+  pub is_earlier : over < day
+  pub now : World
+  pub went_on : Reaches site (forgotten day w) now
+  pub reached : ReachesForgetting site start day now
+  pub login : List ℕ
+  pub transactions : List Transaction
+  pub distinct : AreDistinct transactions
+  pub passes : cap now.ledger.default now.ledger.history login over < let_together now login over transactions

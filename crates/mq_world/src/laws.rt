@@ -25,6 +25,7 @@ ghost use Rattle.mq_world.specs.World.{MayCome};
 ghost use Rattle.mq_world.specs.Forgetting.{forgotten, ReachesForgetting};
 ghost use Rattle.mq_world.specs.Happening.{unused, IsReachable, HasLetOneThrough, WasAnsweredAgain, WasTakenTwice};
 ghost use Rattle.mq_world.specs.Happening.{CameLate, HasStopped, WasRetired, WentOnThoughForgotten};
+ghost use Rattle.mq_world.specs.Happening.{PassedOnAForgottenDay};
 ghost use Rattle.mq_world.specs.Running.{ran, step_of, unsent, amid, frames_of, AllMayCome, GoesOn, IsNew, lines_at, IsOrOneMore};
 ghost use Rattle.mq_world.specs.Law.{standing_of, counting, let_by, let_together, IsPastOf};
 
@@ -175,6 +176,8 @@ pub fn what_may_happen()
     ensures retired { (b : Book) → IsLegalBook (unused b) → 1 ≤ b.default → IsReachable b WasRetired }
     ensures forgotten { (b : Book) (minutes : ℤ) → b.zone ≡ ByOffset minutes → IsLegalBook (unused b) →
         1 ≤ b.default → IsReachable b WentOnThoughForgotten }
+    // Of forgotten days no law speaks, since there the limit may be passed.
+    ensures passed { (b : Book) → IsLegalBook (unused b) → b.default ≡ 1 → IsReachable b PassedOnAForgottenDay }
 {
     // (the frames of these worlds are read as the requests that were sent)
     one_spelling();

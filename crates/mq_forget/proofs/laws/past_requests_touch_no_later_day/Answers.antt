@@ -1,6 +1,105 @@
+-- What is asked about earlier days changes nothing of what is remembered.
+use Rattle.std.proofs.Common.{◌≡◌, ℕ, List, [], ◌∷◌, ◌++◌, Bool, true, false, refl, ◌∙◌, ap, sym, subst, inl, inr, append_assoc, append-nil}
+use Rattle.std.specs.Prelude.{◌⊎◌, ◌||◌, not, if◌then◌else◌, All, Option, Some, None, is_some}
+use Rattle.std.specs.List.{AllByRecursion}
+use Rattle.std.proofs.lemmas.List.Elements.{recursion_from_All, All-from_recursion}
+use Rattle.mq_frame.specs.Range.{IsRequest}
+use Rattle.mq_frame.specs.declared.message.Id.{Id}
+use Rattle.mq_frame.specs.declared.message.Request.{Request}
+use Rattle.mq_ledger.specs.declared.entry.Entry.{Entry}
+use Rattle.mq_ledger.specs.Answer.{answer, stored, known_by, reply, reply_to, reply_by, with_arrival, with_arrival_by, history_of}
+use Rattle.mq_ledger.specs.Arrivals.{id_of, is_below}
+use Rattle.mq_ledger.specs.History.{requests}
+use Rattle.mq_ledger.specs.Legal.{IsLegal}
+use Rattle.mq_forget.specs.Remembered.{is_about, is_set, stays, remembered, is_later, is_past, AreLaterOrPast}
+use Rattle.mq_forget.proofs.Lists.{either, neither, not_some, all_mapped, all_push}
+use Rattle.mq_forget.proofs.Staying.{entry, one_more}
 use Rattle.mq_forget.proofs.Fronts.{Builds}
-use Rattle.mq_forget.proofs.Past.{past, alike, replied_alike}
 use Rattle.mq_forget.proofs.laws.past_requests_touch_no_later_day.Goals as goal
+
+is_not : (b : Bool) → not b ≡ true → b ≡ false
+is_not true e = absurd (cc e)
+is_not false e = refl
+
+-- a number that isn't known gets the answer
+unknown_reply : (day : ℕ → ℕ) (default : ℕ) (H : List Entry) (r : Request) (id : Id) → known_by H (Some id) ≡ false → reply_to day default H r (Some id) ≡ answer day default H r
+unknown_reply day default H r id new =
+    let parts = neither (is_below (requests H) id) (is_some (stored H id)) new in
+    let above : is_below (requests H) id ≡ false = parts.0 in
+    let none : stored H id ≡ None = not_some (stored H id) parts.1 in
+    rw above (ap (reply_by day default H r id) none)
+
+-- an entry that goes leaves all as it is
+goes : (day : ℕ → ℕ) (D : ℕ) (H : List Entry) (e : Entry) → stays day D H e ≡ false → remembered day D (H ++ e ∷ []) ≡ remembered day D H
+goes day D H e off = one_more day D H e ∙ ap (λ b. remembered day D H ++ (if b then e ∷ [] else [])) off ∙ append-nil (remembered day D H)
+
+past_by : (day : ℕ → ℕ) (default D : ℕ) (H : List Entry) (r : Request) (o : Option Id) → is_about day D H r ≡ false → is_set r (reply_to day default H r o) ≡ false → remembered day D (with_arrival_by day default H r o) ≡ remembered day D H
+past_by day default D H r None about set = refl
+past_by day default D H r (Some id) about set = elim (either (known_by H (Some id))) [
+  | inl known ↦ rw known refl
+  | inr new ↦ (let answered : is_set r (answer day default H r) ≡ false = ap (is_set r) (sym (unknown_reply day default H r id new)) ∙ set in
+      let off : stays day D H (entry r (answer day default H r)) ≡ false = rw (about, answered) refl in
+      let gone : remembered day D (H ++ entry r (answer day default H r) ∷ []) ≡ remembered day D H = goes day D H (entry r (answer day default H r)) off in
+      rw new gone)
+]
+
+past : (day : ℕ → ℕ) (default D : ℕ) (H : List Entry) (r : Request) → is_past day default D H r ≡ true → remembered day D (with_arrival day default H r) ≡ remembered day D H
+past day default D H r e =
+    let parts = neither (is_about day D H r) (is_set r (reply day default H r)) (is_not (is_about day D H r || is_set r (reply day default H r)) e) in
+    past_by day default D H r (id_of r) parts.0 parts.1
+
+all_join : {X : Type 0} (P : X → Type 0) (xs ys : List X) → AllByRecursion P xs → AllByRecursion P ys → AllByRecursion P (xs ++ ys)
+all_join P [] ys all more = more
+all_join P (x ∷ xs) ys all more = (all.0, all_join P xs ys all.1 more)
+
+-- two histories of which the same is remembered, by what is said of one request
+module _ (day : ℕ → ℕ) (default : ℕ) (laws : Builds day default) (D : ℕ)
+    (one : (H : List Entry) (r : Request) → IsLegal day default H → is_later day D H r ≡ true → (reply day default (remembered day D H) r ≡ reply day default H r) × (with_arrival day default (remembered day D H) r ≡ remembered day D (with_arrival day default H r))) where
+  one_alike : (H K : List Entry) (r : Request) → IsLegal day default H → IsLegal day default K → remembered day D K ≡ remembered day D H
+      → ((is_later day D H r ≡ true) × (is_later day D K r ≡ true)) ⊎ ((is_past day default D H r ≡ true) × (is_past day default D K r ≡ true))
+      → remembered day D (with_arrival day default K r) ≡ remembered day D (with_arrival day default H r)
+  one_alike H K r legal_H legal_K same (inl late) = sym (one K r legal_K late.1).1 ∙ ap (λ x. with_arrival day default x r) same ∙ (one H r legal_H late.0).1
+  one_alike H K r legal_H legal_K same (inr gone) = past day default D K r gone.1 ∙ same ∙ sym (past day default D H r gone.0)
+
+  alike_by : (A B : List Request) → AllByRecursion IsRequest A → AllByRecursion IsRequest B → (rs : List Request) → AllByRecursion IsRequest rs → AreLaterOrPast day default D (history_of day default A) (history_of day default B) rs
+      → remembered day D (history_of day default B) ≡ remembered day D (history_of day default A) → remembered day D (history_of day default (B ++ rs)) ≡ remembered day D (history_of day default (A ++ rs))
+  alike_by A B in_A in_B [] more each same = ap (λ x. remembered day D (history_of day default x)) (append-nil B) ∙ same ∙ ap (λ x. remembered day D (history_of day default x)) (sym (append-nil A))
+  alike_by A B in_A in_B (r ∷ rs) more each same =
+      let H : List Entry = history_of day default A in
+      let K : List Entry = history_of day default B in
+      let step = one_alike H K r (laws.legal A (All-from_recursion IsRequest A in_A)) (laws.legal B (All-from_recursion IsRequest B in_B)) same each.0 in
+      let next : remembered day D (history_of day default (B ++ r ∷ [])) ≡ remembered day D (history_of day default (A ++ r ∷ [])) =
+      ap (remembered day D) (laws.arrived B r) ∙ step ∙ ap (remembered day D) (sym (laws.arrived A r)) in
+      let left : AreLaterOrPast day default D (history_of day default (A ++ r ∷ [])) (with_arrival day default K r) rs = subst (λ x. AreLaterOrPast day default D x (with_arrival day default K r) rs) (sym (laws.arrived A r)) each.1 in
+      let both : AreLaterOrPast day default D (history_of day default (A ++ r ∷ [])) (history_of day default (B ++ r ∷ [])) rs = subst (λ x. AreLaterOrPast day default D (history_of day default (A ++ r ∷ [])) x rs) (sym (laws.arrived B r)) left in
+      let rest = alike_by (A ++ r ∷ []) (B ++ r ∷ []) (all_push IsRequest A r in_A more.0) (all_push IsRequest B r in_B more.0) rs more.1 both next in
+      ap (λ x. remembered day D (history_of day default x)) (sym (append_assoc B (r ∷ []) rs)) ∙ rest ∙ ap (λ x. remembered day D (history_of day default x)) (append_assoc A (r ∷ []) rs)
+
+  in_range : (H : List Entry) → IsLegal day default H → AllByRecursion IsRequest (requests H)
+  in_range H legal = all_mapped IsRequest (λ e. e.request) H (recursion_from_All (λ e. IsRequest e.request) H legal.range)
+
+  alike : (H K : List Entry) (A : List Request) → IsLegal day default H → IsLegal day default K → remembered day D K ≡ remembered day D H → All IsRequest A → AreLaterOrPast day default D H K A
+      → remembered day D (history_of day default (requests K ++ A)) ≡ remembered day D (history_of day default (requests H ++ A))
+  alike H K A legal_H legal_K same range each =
+      let left : AreLaterOrPast day default D (history_of day default (requests H)) K A = subst (λ x. AreLaterOrPast day default D x K A) (sym (laws.again H legal_H)) each in
+      let both : AreLaterOrPast day default D (history_of day default (requests H)) (history_of day default (requests K)) A = subst (λ x. AreLaterOrPast day default D (history_of day default (requests H)) x A) (sym (laws.again K legal_K)) left in
+      alike_by (requests H) (requests K) (in_range H legal_H) (in_range K legal_K) A (recursion_from_All IsRequest A range) both
+      (ap (remembered day D) (laws.again K legal_K) ∙ same ∙ ap (remembered day D) (sym (laws.again H legal_H)))
+
+  legal_after : (H : List Entry) (A : List Request) → IsLegal day default H → All IsRequest A → IsLegal day default (history_of day default (requests H ++ A))
+  legal_after H A legal range = laws.legal (requests H ++ A) (All-from_recursion IsRequest (requests H ++ A) (all_join IsRequest (requests H) A (in_range H legal) (recursion_from_All IsRequest A range)))
+
+  replied_alike : (H K : List Entry) (A : List Request) (r : Request) → IsLegal day default H → IsLegal day default K → remembered day D K ≡ remembered day D H → All IsRequest A → AreLaterOrPast day default D H K A
+      → is_later day D (history_of day default (requests H ++ A)) r ≡ true → is_later day D (history_of day default (requests K ++ A)) r ≡ true
+      → reply day default (history_of day default (requests K ++ A)) r ≡ reply day default (history_of day default (requests H ++ A)) r
+  replied_alike H K A r legal_H legal_K same range each late_H late_K =
+      let after_H : List Entry = history_of day default (requests H ++ A) in
+      let after_K : List Entry = history_of day default (requests K ++ A) in
+      sym (one after_K r (legal_after K A legal_K range) late_K).0
+      ∙ ap (λ x. reply day default x r) (alike H K A legal_H legal_K same range each)
+      ∙ (one after_H r (legal_after H A legal_H range) late_H).0
+
+-- ---- the clauses
 
 pub returns-clause-past : goal.returns-clause-past
 returns-clause-past c = past

@@ -1,6 +1,6 @@
 -- A world of two runs, step by step.
 use Rattle.std.proofs.Common.{◌≡◌, ℕ, ◌≤◌, List, [], ◌∷◌, ◌++◌, Bool, true, false, refl, ap, sym, subst, inl, inr, arith, None, Some, if◌then◌else◌}
-use Rattle.std.specs.Prelude.{codes, nat_lt, nat_le, ◌||◌, ◌⊎◌, count_by, ◌<◌, ◌+◌, ◌*◌, ℤ, pos, ◌≤ℤ◌, ◌<ℤ◌}
+use Rattle.std.specs.Prelude.{codes, nat_lt, nat_le, ◌||◌, ◌⊎◌, count_by, ◌<◌, ◌+◌, ◌*◌, ◌==◌, ℤ, pos, ◌≤ℤ◌, ◌<ℤ◌}
 use Rattle.std.proofs.lemmas.Int.{ints}
 use Rattle.mq_frame.specs.Same.{same_text}
 use Rattle.std.proofs.lemmas.Bool.Decides.{nat_tests}
@@ -23,9 +23,11 @@ use Rattle.mq_client.specs.Past.{Source, Ask, IsPlayed, id_of, reserve_of}
 use Rattle.mq_client.specs.Numbered.{id_in}
 use Rattle.mq_link.specs.declared.link.LinkFault.TheVariants.{TimedOut}
 use Rattle.mq_world.specs.World.{Site, World, fresh, IsStart, after_line, with_on_way, after_exchange, after_stop, same_source, with_run, with_sent, after_arrival, reply_from, Next, Reads, Sends, Ends, Takes, OthersSend, Stops, Reaches, AtOnce, Later, IsOfOthers, IsFrameOfOthers, source_of}
-use Rattle.mq_world.specs.Happening.{unused, times_written, IsReachable, failed, brought, HasLetOneThrough, WasAnsweredAgain, WasTakenTwice, CameLate, HasStopped, WasRetired, WentOnThoughForgotten}
+use Rattle.mq_world.specs.Happening.{unused, times_written, IsReachable, failed, brought, HasLetOneThrough, WasAnsweredAgain, WasTakenTwice, CameLate, HasStopped, WasRetired, WentOnThoughForgotten, PassedOnAForgottenDay}
+use Rattle.mq_ledger.specs.Limits.{cap}
+use Rattle.mq_world.specs.Law.{let_together}
 use Rattle.mq_world.specs.Forgetting.{forgotten, FromStart, Forgets}
-use Rattle.mq_world.proofs.Basics.{some_is}
+use Rattle.mq_world.proofs.Basics.{some_is, number_itself}
 use Rattle.mq_world.proofs.Runs.{step}
 use Rattle.mq_world.proofs.Ways.{with_steps}
 use Rattle.mq_world.proofs.Worlds.{source_is}
@@ -410,69 +412,93 @@ retires_it one b legal le =
 abbrev pub afterwards : ℕ
 afterwards = 1700172800
 
-abbrev pub later_login : Meaning
-later_login = ReportLine afterwards (codes "smtp-in") (codes "link-auth") (codes "v") (codes "pass|u")
+-- the mail of another session: its login, the beginning of a transaction, a recipient
+abbrev pub login_at : ℕ → Meaning
+login_at at = ReportLine at (codes "smtp-in") (codes "link-auth") (codes "v") (codes "pass|u")
 
-abbrev pub later_begin : Meaning
-later_begin = ReportLine afterwards (codes "smtp-in") (codes "tx-begin") (codes "v") (codes "n")
+abbrev pub begin_at : ℕ → Meaning
+begin_at at = ReportLine at (codes "smtp-in") (codes "tx-begin") (codes "v") (codes "n")
 
-abbrev pub later_recipient : Meaning
-later_recipient = FilterLine afterwards (codes "smtp-in") (codes "rcpt-to") (codes "v") (codes "t") (codes "r")
+abbrev pub recipient_at : ℕ → Meaning
+recipient_at at = FilterLine at (codes "smtp-in") (codes "rcpt-to") (codes "v") (codes "t") (codes "r")
 
-abbrev pub second_request : Request
-second_request = reserve_of here 2 2 afterwards (codes "u")
+abbrev pub request_at : ℕ → Request
+request_at at = reserve_of here 2 2 at (codes "u")
 
 abbrev pub second_reply : Reply
 second_reply = Granted (id_of here 2) 1
 
-abbrev pub second_answered : Exchange
-second_answered = brought second_request second_reply (Some second_reply)
+abbrev pub answered_at : ℕ → Exchange
+answered_at at = brought (request_at at) second_reply (Some second_reply)
 
 -- the ledger as it is then: with no answer
 abbrev pub cleared : Book → World
 cleared b = record { runs = (granted b).runs; ledger = unused b; sent = (granted b).sent; written = (granted b).written }
 
-abbrev pub asks_later : Book → World
-asks_later b = reads (reads (reads (cleared b) here later_login) here later_begin) here later_recipient
+abbrev pub logged_in_at : ℕ → Book → World
+logged_in_at at b = reads (cleared b) here (login_at at)
 
-abbrev pub sent_later : Book → World
-sent_later b = with_sent (with_run (asks_later b) here (with_on_way (Some second_request) ((asks_later b).runs here))) (request_frame second_request)
+abbrev pub begun_at : ℕ → Book → World
+begun_at at b = reads (logged_in_at at b) here (begin_at at)
 
-abbrev pub granted_later : Book → World
-granted_later b = ends (after_arrival (sent_later b) second_request) here second_answered
+abbrev pub asked_at : ℕ → Book → World
+asked_at at b = reads (begun_at at b) here (recipient_at at)
+
+abbrev pub sent_at : ℕ → Book → World
+sent_at at b = with_sent (with_run (asked_at at b) here (with_on_way (Some (request_at at)) ((asked_at at b).runs here))) (request_frame (request_at at))
+
+abbrev pub taken_at : ℕ → Book → World
+taken_at at b = after_arrival (sent_at at b) (request_at at)
+
+abbrev pub granted_at : ℕ → Book → World
+granted_at at b = ends (taken_at at b) here (answered_at at)
 
 -- a frame of the forgotten reserve comes once more
 abbrev pub taken_later : Book → World
-taken_later b = takes (granted_later b)
+taken_later b = takes (granted_at afterwards b)
 
-second_request_range : IsRequest second_request
-second_request_range = (second_range, record { from = omega arith; to = omega arith }, record { from = omega arith; to = omega arith }, record { from = omega arith; to = omega arith }, record { from = omega arith; to = omega arith })
+request_at_range : (at : ℕ) → IsMoment at → IsRequest (request_at at)
+request_at_range at moment = (second_range, record { from = omega arith; to = omega arith }, moment, record { from = omega arith; to = omega arith }, record { from = omega arith; to = omega arith })
 
 second_granted : (b : Book) (t : Bool) → t ≡ false → (if t then Full (id_of here 2) 0 b.default else second_reply) ≡ second_reply
 second_granted b t e = rw e refl
 
-later_reply : (b : Book) → 1 ≤ b.default → reply_from (sent_later b).ledger second_request ≡ second_reply
+reply_at : (at : ℕ) (b : Book) → 1 ≤ b.default → reply_from (sent_at at b).ledger (request_at at) ≡ second_reply
 unfolding floor
-later_reply b le = second_granted b (nat_lt b.default 1) (grind (arith, nat_tests, le))
+reply_at at b le = second_granted b (nat_lt b.default 1) (grind (arith, nat_tests, le))
+
+-- once it is sent
+sent_on : (at : ℕ) (b : Book) → IsMoment at → 1 ≤ b.default → Reaches site (cleared b) (sent_at at b) → Reaches site (cleared b) (granted_at at b)
+sent_on at b moment le r =
+    let taken : Reaches site (cleared b) (taken_at at b) = Later (sent_at at b) (taken_at at b) r (Takes 0 (request_body (request_at at)) (request_at at) refl (record { bytes = refl; in_range = request_at_range at moment })) in
+    Later (taken_at at b) (granted_at at b) taken (Ends here (answered_at at) (record { is_run = refl; is_up = refl }) refl
+    (inr (inr (0, ap (λ a. Some (frame (reply_body a))) (reply_at at b le))))
+    (record { bytes = refl; in_range = (second_range, record { from = omega arith; to = omega arith }) }, refl))
+
+to_begun_at : (at : ℕ) (b : Book) → Reaches site (cleared b) (begun_at at b)
+to_begun_at at b =
+    let r1 : Reaches site (cleared b) (logged_in_at at b) = Later (cleared b) (logged_in_at at b) AtOnce (Reads here (login_at at) (record { up = record { is_run = refl; is_up = refl }; before_end = refl; none_on_way = refl; played = asked_once }) refl) in
+    Later (logged_in_at at b) (begun_at at b) r1 (Reads here (begin_at at) (record { up = record { is_run = refl; is_up = refl }; before_end = refl; none_on_way = refl; played = asked_once }) refl)
+
+moment_then : IsMoment afterwards
+moment_then = record { from = omega arith; to = omega arith }
+
+moment_now : IsMoment noon
+moment_now = record { from = omega arith; to = omega arith }
+
+to_granted_later : (b : Book) → 1 ≤ b.default → Reaches site (cleared b) (granted_at afterwards b)
+to_granted_later b le =
+    let asked : Reaches site (cleared b) (asked_at afterwards b) = Later (begun_at afterwards b) (asked_at afterwards b) (to_begun_at afterwards b) (Reads here (recipient_at afterwards) (record { up = record { is_run = refl; is_up = refl }; before_end = refl; none_on_way = refl; played = asked_once }) refl) in
+    sent_on afterwards b moment_then le (Later (asked_at afterwards b) (sent_at afterwards b) asked (Sends here (request_at afterwards) (record { is_run = refl; is_up = refl }) refl refl))
+
+to_granted_again : (b : Book) → 1 ≤ b.default → Reaches site (cleared b) (granted_at noon b)
+to_granted_again b le =
+    let asked : Reaches site (cleared b) (asked_at noon b) = Later (begun_at noon b) (asked_at noon b) (to_begun_at noon b) (Reads here (recipient_at noon) (record { up = record { is_run = refl; is_up = refl }; before_end = refl; none_on_way = refl; played = asked_once }) refl) in
+    sent_on noon b moment_now le (Later (asked_at noon b) (sent_at noon b) asked (Sends here (request_at noon) (record { is_run = refl; is_up = refl }) refl refl))
 
 to_taken_later : (b : Book) → 1 ≤ b.default → Reaches site (cleared b) (taken_later b)
 to_taken_later b le =
-    let w0 = cleared b in
-    let w1 = reads w0 here later_login in
-    let w2 = reads w1 here later_begin in
-    let w3 = reads w2 here later_recipient in
-    let w4 = sent_later b in
-    let w5 = after_arrival w4 second_request in
-    let w6 = granted_later b in
-    let r1 : Reaches site w0 w1 = Later w0 w1 AtOnce (Reads here later_login (record { up = record { is_run = refl; is_up = refl }; before_end = refl; none_on_way = refl; played = asked_once }) refl) in
-    let r2 : Reaches site w0 w2 = Later w1 w2 r1 (Reads here later_begin (record { up = record { is_run = refl; is_up = refl }; before_end = refl; none_on_way = refl; played = asked_once }) refl) in
-    let r3 : Reaches site w0 w3 = Later w2 w3 r2 (Reads here later_recipient (record { up = record { is_run = refl; is_up = refl }; before_end = refl; none_on_way = refl; played = asked_once }) refl) in
-    let r4 : Reaches site w0 w4 = Later w3 w4 r3 (Sends here second_request (record { is_run = refl; is_up = refl }) refl refl) in
-    let r5 : Reaches site w0 w5 = Later w4 w5 r4 (Takes 0 (request_body second_request) second_request refl (record { bytes = refl; in_range = second_request_range })) in
-    let r6 : Reaches site w0 w6 = Later w5 w6 r5 (Ends here second_answered (record { is_run = refl; is_up = refl }) refl
-    (inr (inr (0, ap (λ a. Some (frame (reply_body a))) (later_reply b le))))
-    (record { bytes = refl; in_range = (second_range, record { from = omega arith; to = omega arith }) }, refl)) in
-    Later w6 (taken_later b) r6 (Takes 1 (request_body (request here)) (request here) refl (record { bytes = refl; in_range = request_range }))
+    Later (granted_at afterwards b) (taken_later b) (to_granted_later b le) (Takes 1 (request_body (request here)) (request here) refl (record { bytes = refl; in_range = request_range }))
 
 -- noon's reserve goes with its day
 one_goes : (e : Entry) (t : Bool) → t ≡ false → (if (t || false) then e ∷ [] else []) ≡ []
@@ -493,12 +519,12 @@ Floors = (minutes : ℤ) (at : ℕ) → IsOffset minutes → IsMoment at → (po
 
 noon_is_earlier : Floors → (minutes : ℤ) → IsOffset minutes → nat_le (day_of (ByOffset minutes) afterwards) (day_of (ByOffset minutes) noon) ≡ false
 noon_is_earlier floors minutes offset =
-    let first = (floors minutes noon offset (record { from = omega arith; to = omega arith })).0 in
-    let second = (floors minutes afterwards offset (record { from = omega arith; to = omega arith })).1 in
+    let first = (floors minutes noon offset moment_now).0 in
+    let second = (floors minutes afterwards offset moment_then).1 in
     let less : day_of (ByOffset minutes) noon < day_of (ByOffset minutes) afterwards = omega (arith, ints, first, second) in
     grind (arith, nat_tests, less)
 
-requests_later : (b : Book) → requests (taken_later b).ledger.history ≡ second_request ∷ request here ∷ []
+requests_later : (b : Book) → requests (taken_later b).ledger.history ≡ request_at afterwards ∷ request here ∷ []
 unfolding floor
 requests_later b = refl
 
@@ -532,13 +558,41 @@ goes_on b before legal le =
       counts = refl;
       is_one = refl;
       is_first_day = refl;
-      request = second_request;
+      request = request_at afterwards;
       taken_again = requests_later b;
     })
 
 goes_on_at : Floors → (b : Book) (minutes : ℤ) → b.zone ≡ ByOffset minutes → IsLegalBook (unused b) → 1 ≤ b.default → IsReachable b WentOnThoughForgotten
 goes_on_at floors b minutes is legal le =
     goes_on b (subst (λ z. nat_le (day_of z afterwards) (day_of z noon) ≡ false) (sym is) (noon_is_earlier floors minutes (subst IsZone is legal.zone))) legal le
+
+-- ---- a forgotten day is used once more
+
+together_twice : (b : Book) → let_together (granted_at noon b) (codes "u") (day_of b.zone noon) (record { host = codes "a"; run = 1; txn = 1 } ∷ record { host = codes "a"; run = 1; txn = 2 } ∷ []) ≡ 2
+together_twice b = let same : (day_of b.zone noon == day_of b.zone noon) ≡ true = number_itself (day_of b.zone noon) in rw same refl
+
+cap_again : (b : Book) → cap (granted_at noon b).ledger.default (granted_at noon b).ledger.history (codes "u") (day_of b.zone noon) ≡ b.default
+unfolding floor
+cap_again b = refl
+
+passes_limit : (b : Book) → IsLegalBook (unused b) → b.default ≡ 1 → IsReachable b PassedOnAForgottenDay
+passes_limit b legal one =
+    let D : ℕ = day_of b.zone noon + 1 in
+    let le : 1 ≤ b.default = omega (arith, one) in
+    let before : nat_le D (day_of b.zone noon) ≡ false = grind (arith, nat_tests) in
+    let went : Reaches site (forgotten D (granted b)) (granted_at noon b) = subst (λ w. Reaches site w (granted_at noon b)) (sym (is_cleared b D before)) (to_granted_again b le) in
+    reachable b legal PassedOnAForgottenDay (granted b) (to_granted b le) (record {
+      day = D;
+      over = day_of b.zone noon;
+      is_earlier = omega arith;
+      now = granted_at noon b;
+      went_on = went;
+      reached = with_steps site D (start b) (forgotten D (granted b)) (granted_at noon b) (Forgets (granted b) D (with_steps site D (start b) (start b) (granted b) FromStart (to_granted b le)) (omega arith)) went;
+      login = codes "u";
+      transactions = record { host = codes "a"; run = 1; txn = 1 } ∷ record { host = codes "a"; run = 1; txn = 2 } ∷ [];
+      distinct = (refl, (refl, tt));
+      passes = (let a = together_twice b in let c = cap_again b in omega (arith, a, c, one));
+    })
 
 pub returns : goal.returns
 returns c = record {
@@ -549,4 +603,5 @@ returns c = record {
   stopped = stops;
   retired = retires_it c.one_spelling.ensures.one_request_frame;
   forgotten = goes_on_at c.day_is_the_floor.ensures;
+  passed = passes_limit;
 }
