@@ -1,14 +1,12 @@
 -- The query of an answer by its place, over any schema that has the table at some place.
-use Rattle.std.proofs.Common.{pos, negsuc, ◌≡◌, ◌&&◌, ℕ, ◌^◌, nat_le, List, [], ◌∷◌, ◌==◌, find, map, filter, length, Bool, true, false, Option, Some, None, Ok, Err, Result, codes, slice_get, refl, sym, ap, subst, ◌∙◌}
+use Rattle.std.proofs.Common.{pos, negsuc, ◌≡◌, ℕ, ◌^◌, nat_le, List, [], ◌∷◌, ◌==◌, find, map, filter, length, Bool, true, false, Option, Some, None, Ok, Err, Result, codes, slice_get, refl, sym, ap, subst, ◌∙◌}
 use Rattle.std.specs.Prelude.{Vec, IfOk}
 use Rattle.std.specs.declared.alloc.Global.{Global}
 use Rattle.std.specs.List.{AllByRecursion, list_all}
 use Rattle.std.specs.List.Sorted.{IsPermutation}
 use Rattle.std.specs.Cmp.{unsigned_Decides}
 use Rattle.std.proofs.Math.Bool.{and-true}
-use Rattle.std.proofs.lemmas.Bool.{and_parts}
 use Rattle.std.proofs.lemmas.List.Sorted.{length_permutation}
-use Rattle.std.proofs.lemmas.Slice.Eq.{slice_eq-Decides}
 use Rattle.sqlite_ast.specs.declared.Expr.{Expr, out-Expr}
 use Rattle.sqlite_ast.specs.declared.Expr.TheOpen.{Expr-F, Shown-F}
 use Rattle.sqlite_ast.specs.declared.Shown.{Shown as ShownExpr, out-Shown}
@@ -24,11 +22,11 @@ use Rattle.sqlite.specs.Tree.{Trees}
 use Rattle.sqlite.specs.Program.{overlay}
 use Rattle.sqlite.specs.declared.types.Value.TheVariants.{Int, Blob}
 use Rattle.sqlite.specs.declared.error.Error.{Error}
-use Rattle.sqlite.specs.Kind.TheVariants.{Integer, Blob as Bytes}
+use Rattle.sqlite.specs.Kind.TheVariants.{Blob as Bytes}
 use Rattle.sqlite_schema.specs.Names.{same_name, table_named, column_named}
 use Rattle.sqlite.specs.Term.{Term, lit, col, op2, eval_all, holds}
 use Rattle.sqlite_value.specs.declared.keys.Collation.TheVariants.{Binary}
-use Rattle.sqlite_sql.specs.declared.ops.BinaryOp.TheVariants.{Compare, And}
+use Rattle.sqlite_sql.specs.declared.ops.BinaryOp.TheVariants.{Compare}
 use Rattle.sqlite_sql.specs.declared.ops.CompareOp.TheVariants.{Eq}
 use Rattle.sqlite_draft.specs.declared.join.Step.TheVariants.{Inner}
 use Rattle.sqlite_resolve.specs.declared.scope.Bound.{Bound}
@@ -51,24 +49,21 @@ use Rattle.sqlite.proofs.Callers.{IsPlain, command_of}
 use Rattle.sqlite_rules.specs.Lists.{Has}
 use Rattle.sqlite_tied.specs.Compute.{everything}
 use Rattle.sqlite_trees.proofs.ListLemmas.{all-permutation}
-use Rattle.mq_frame.specs.Same.{same_text}
 use Rattle.mq_rows.specs.declared.record.AnswerRecord.{AnswerRecord}
 use Rattle.mq_rows.specs.Tables.{Tables}
 use Rattle.mq_tables.specs.Tables.{answer_table, required, keyed}
 use Rattle.mq_tables.specs.Written.{plain_query, chosen as chosen_rows}
-use Rattle.mq_tables.specs.Records.{answer_fields, IsOneOf}
+use Rattle.mq_tables.specs.Records.{answer_fields}
 use Rattle.mq_tables.specs.Ledger.{HasLedger}
 use Rattle.mq_tables.specs.Lent.{bodies_row}
 use Rattle.mq_tables.specs.declared.entry.Bodies.{Bodies}
 use Rattle.mq_tables.specs.Entries.{IsFirstBodies, IsAnswerAt}
-use Rattle.mq_frame.specs.declared.message.Id.{Id}
-use Rattle.mq_frame.specs.Same.{same_id}
 use Rattle.sqlite_trees.proofs.ListLemmas.{map-map, filter-map}
 use Rattle.mq_tables.proofs.Plain.{parsed_in, IsQuery, any_apart}
 use Rattle.mq_tables.proofs.Queries.{selects}
-use Rattle.mq_tables.proofs.Tests.{text_test, nat_test}
+use Rattle.mq_tables.proofs.Tests.{nat_test}
 use Rattle.mq_tables.proofs.Finds.{none_of, empty_mapped, shown_of}
-use Rattle.mq_tables.proofs.Selecting.{bound_one, column_shown, column_lowered, parameter_lowered, and_lowered, equal_lowered, tested, join_one, outputs_end, outputs_next, body_is, parts_are, named_is, query_is, plan_selects}
+use Rattle.mq_tables.proofs.Selecting.{bound_one, column_shown, column_lowered, parameter_lowered, equal_lowered, tested, join_one, outputs_end, outputs_next, body_is, parts_are, named_is, query_is, plan_selects}
 
 abbrev pub select_text : List ℕ
 select_text = codes "SELECT n, request, reply FROM answer WHERE n = ?1"
