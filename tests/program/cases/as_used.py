@@ -36,6 +36,7 @@ def run(world, checks):
     checks.equal("bytes of the hosts, of the administrator's and of the logins", lengths, [22, 64, 63, 255, 255])
     for what, at in MOMENTS.items():
         Play(world, checks, what, at).play()
+    print(f"    mails of {len(MOMENTS)} moments, {len(HOSTS)} hosts and {len(LOGINS)} logins, each with a limit and a restart", flush=True)
 
 
 class Play:

@@ -14,6 +14,7 @@ def run(world, checks):
     many_requests(world, checks)
     many_long_requests(world, checks)
     silent_peers(world, checks)
+    print("    10,001 and 9,999 requests of a connection, 10,000 pages that nobody reads, 500 peers that send nothing, 905 connections at once", flush=True)
 
 
 def a_peer_that_reads_nothing(world, checks):
