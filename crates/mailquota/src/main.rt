@@ -3,7 +3,7 @@
 //! `main` hands the words of its process to `mq_words`, and what they ask for to `mq_program`. From
 //! `mailquota/src/main.rt`:
 //!
-//!     ExitCode::from(program::run(&rt, &mut rt.stderr()))
+//!     ExitCode::from(program::run(&rt, Unknown, &mut rt.stderr()))
 //!
 //! It stands on `mq_program` and `mq_words`, and knows nothing but the exit status. Begin with `program.rt`;
 //! docs/ARCHITECTURE.md shows how the data flows from there.

@@ -4,7 +4,7 @@
 //! `clap` and only the other for sockets and files. From `mq_program/src/server.rt`:
 //!
 //!     let settings = server_settings(rt, given.config)?;
-//!     serve(rt, &settings, given.create, given.connections)
+//!     serve(rt, &settings, given.create, given.connections, start)
 //!
 //! It stands on `mq_frame`, for the ranges of a request's numbers, and knows nothing else. It is this one file;
 //! `specs/Arguments.antt` has the ranges that `mq_words` proves.

@@ -4,7 +4,7 @@
 //! From `mailquota/src/program.rt`:
 //!
 //!     match read_arguments(rt.alloc(), words) {
-//!         Ok(given) => run_subcommand(rt, given, errors),
+//!         Ok(given) => run_subcommand(rt, given, start, errors),
 //!
 //! It stands on all that a subcommand needs: `mq_arguments`, `mq_frame`, `mq_ledger`, `mq_rows`, `mq_tables`,
 //! `mq_server`, `mq_link`, `mq_client`, `mq_settings`, `mq_tcp`, `mq_room`, `mq_command` and `mq_store`. It knows no

@@ -4,7 +4,7 @@
 //! `mailquota/src/program.rt`:
 //!
 //!     match read_arguments(rt.alloc(), words) {
-//!         Ok(given) => run_subcommand(rt, given, errors),
+//!         Ok(given) => run_subcommand(rt, given, start, errors),
 //!
 //! It stands on `mq_arguments` and `mq_frame`, and is the one crate with `clap`; it doesn't know what a subcommand
 //! does. Begin with `subcommands.rt`, the options as a table, and `words.rt`; `mailquota(8)` has them in words.
