@@ -8,6 +8,7 @@ from ends import apart
 from replaying import TWO_AND_A_SETTLE
 from serving import served, settings
 from storing import BY_RULE, SOUND
+from sums import renew
 from sweeping import CUT, OUT_OF_MEMORY, RETRY, RIGHT, Run, sweep
 from wire import RETRY as RETRY_FRAME
 from wire import frame, number, text, usage
@@ -52,6 +53,7 @@ def make_wrong(source, folder):
     with contextlib.closing(sqlite3.connect(f"{folder}/ledger")) as database:
         database.execute("UPDATE usage SET reserved = 9")
         database.commit()
+    renew(f"{folder}/ledger")
 
 
 def copied(source, folder):

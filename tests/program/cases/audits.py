@@ -5,6 +5,7 @@ import signal
 import sqlite3
 
 from ends import Server, apart, fault, ledger_settings, without_log
+from sums import renew
 from wire import granted, limit, release, reserve, settle, usage
 
 # two reserves of a transaction of login u on day 1, a settle of 1, and a settle that comes too late
@@ -74,7 +75,7 @@ def contents(world, name):
 
 
 def edited(world, source, name, *statements):
-    """A copy of a file with these statements run over it, its log written back into it."""
+    """A copy of a file with these statements run over it, its log written back into it, and its pages with their sums."""
     path = f"{world.folder}/{name}"
     for end in ("", "-wal"):
         if os.path.exists(source + end):
@@ -84,6 +85,7 @@ def edited(world, source, name, *statements):
         database.execute(statement)
     database.commit()
     database.close()
+    renew(path)
     return path
 
 

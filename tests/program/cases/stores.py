@@ -6,6 +6,7 @@ import sqlite3
 import stat
 
 from ends import Server, apart, fault, ledger_settings, without_log
+from sums import renew
 from wire import full, granted, page, page_reply, reserve, row, settle, settled
 
 
@@ -107,6 +108,8 @@ def a_ledger_in_a_file(world, checks, port):
     database.execute("UPDATE usage SET reserved = 9")
     database.commit()
     database.close()
+    it.server("a ledger that SQLite wrote without sums", "store can't be opened")
+    renew(path)
     it.server("a ledger with another count", "store is damaged: login u day 1")
     it.audit_in_vain("a ledger with another count", "store is damaged: login u day 1")
 

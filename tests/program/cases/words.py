@@ -192,8 +192,9 @@ def words_of_a_server_and_an_audit(world, checks):
     for name in ("s", "s.toml"):
         os.rename(world.new_file(toml(settings)), f"{folder}/{name}")
     with Server.of_words(world, "--config=s", "--create", folder=folder) as server:
-        wait_until(server.log_lines)
-        lines = ["[INFO  mq_program::server] listening on 127.0.0.1:0 for 1000000 connections"]
+        wait_until(lambda: len(server.log_lines()) > 1)
+        lines = [f"[INFO  mq_program::server] {line}" for line in (
+            "ledger with 0 answers, default 3, offset 0", "listening on 127.0.0.1:0 for 1000000 connections")]
         came = server.log_lines(), server.ask(page())
         checks.equal("server --config=s --create: the log, and its ledger", came, (lines, page_reply([])))
     came = world.run("audit", "--config", "s.toml", folder=folder)
