@@ -99,7 +99,7 @@ def changed_bits(world, checks, path, books):
 
 
 def changed_bits_of_the_log(world, checks, frames):
-    """The answers before the changed bit are there, and perhaps none behind it: as SQLite itself takes such a log."""
+    """The answers before the changed bit are there, and perhaps none after it: as SQLite itself takes such a log."""
     path = f"{world.folder}/killed"
     with Server(world, words=["--create"], store=path, default=DEFAULT) as server:
         server.ask(b"".join(frames[:40]))
