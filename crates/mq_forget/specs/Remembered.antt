@@ -2,7 +2,8 @@
 --
 -- `day` gives the day of a moment. Limits that were set stay, and retires, and each entry that is about D or a later
 -- day: a limit by the day from which it is to hold, all else by the day of its transaction.
-use Rattle.std.specs.Prelude.{◌≡◌, ◌⊎◌, ℕ, List, [], ◌∷◌, filter, Bool, true, false, not, ◌||◌, nat_le, Option, Some, None}
+use Rattle.std.specs.Prelude.{◌≡◌, ◌⊎◌, ℕ, List, [], ◌∷◌, filter, Bool, true, false, not, ◌&&◌, ◌||◌, nat_le, Option, Some, None}
+use Rattle.mq_frame.specs.Same.{same_request}
 use Rattle.mq_frame.specs.declared.message.Id.{Id}
 use Rattle.mq_frame.specs.declared.message.Request.{Request}
 use Rattle.mq_frame.specs.declared.message.Request.TheVariants.{Reserve, Settle, Release, Limit, Usage}
@@ -83,3 +84,32 @@ AreLaterOrPast day default D H K (r ∷ rs) =
     (((is_later day D H r ≡ true) × (is_later day D K r ≡ true))
     ⊎ ((is_past day default D H r ≡ true) × (is_past day default D K r ≡ true)))
     × AreLaterOrPast day default D (with_arrival day default H r) (with_arrival day default K r) rs
+
+-- a reserve, settle or release with a moment before D, or a usage or list of an earlier day
+abbrev pub names_earlier : (ℕ → ℕ) → ℕ → Request → Bool
+names_earlier day D (Reserve id txn at login count) = not (nat_le D (day at))
+names_earlier day D (Settle id txn at login count) = not (nat_le D (day at))
+names_earlier day D (Release id txn at login) = not (nat_le D (day at))
+names_earlier day D (Limit id from_day cap login) = false
+names_earlier day D (Usage login d) = not (nat_le D d)
+names_earlier day D (ListRequest d after) = not (nat_le D d)
+names_earlier day D (Retire id) = false
+
+-- no other request has the number of the request: its entry is this very one, or there is none
+abbrev pub is_itself : Request → Option Entry → Bool
+is_itself r None = true
+is_itself r (Some e) = same_request r e.request
+
+abbrev pub is_itself_by : List Entry → Request → Option Id → Bool
+is_itself_by H r None = true
+is_itself_by H r (Some id) = is_itself r (stored H id)
+
+-- the request is about an earlier day, by its own words and by its transaction, and comes for the first time or again
+abbrev pub is_late : (ℕ → ℕ) → ℕ → List Entry → Request → Bool
+is_late day D H r = (names_earlier day D r && not (is_about day D H r)) && is_itself_by H r (id_of r)
+
+-- each arrival is later or late over the history as it comes
+abbrev pub AreLaterOrLate : (ℕ → ℕ) → (default : ℕ) → ℕ → List Entry → List Request → Type 0
+AreLaterOrLate day default D H [] = Unit {0}
+AreLaterOrLate day default D H (r ∷ rs) = ((is_later day D H r ≡ true) ⊎ (is_late day D H r ≡ true))
+    × AreLaterOrLate day default D (with_arrival day default H r) rs

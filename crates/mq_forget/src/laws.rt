@@ -14,9 +14,11 @@ ghost use Rattle.mq_ledger.specs.Legal.{IsLegal};
 ghost use Rattle.mq_ledger.specs.Limits.{cap};
 ghost use Rattle.mq_ledger.specs.Page.{page, has_reserve};
 ghost use Rattle.mq_forget.specs.Remembered.{moment_of, stays, remembered, is_later, AreLater, is_past, AreLaterOrPast};
+ghost use Rattle.mq_forget.specs.Remembered.{AreLaterOrLate};
 ghost use Rattle.mq_forget.specs.Carried.{IsAt};
 ghost use Rattle.mq_forget.specs.Kept.{AreAlike, Keeps};
 
+use mq_frame::laws::same_is_equal;
 use mq_ledger::laws::{built_is_legal, one_more_arrival, over_is_least, page_is_first};
 
 /// Whether an entry stays is known from the entries up to it: each prefix of a history is remembered as
@@ -172,6 +174,29 @@ pub fn past_requests_touch_no_later_day()
 {
     // Arrival by arrival: a later one adds the same to both histories, a past one nothing that is remembered.
     a_later_request_is_answered_alike();
+    built_is_legal();
+    one_more_arrival();
+}
+
+/// The same by what the whole history says alone, for whoever sends what he sent: where each arrival is a
+/// later one, or a request of an earlier day that comes for the first time or again as it was, later ones
+/// get from what is remembered the replies that they get from the whole.
+pub fn late_requests_touch_no_later_day()
+    ensures each { (day : ℕ → ℕ) (default D : ℕ) (H : List AnyEntry) (A : List AnyRequest) →
+        IsLegal day default H → All IsRequest A → AreLaterOrLate day default D H A →
+        AreLaterOrPast day default D H (remembered day D H) A }
+    ensures reply { (day : ℕ → ℕ) (default D : ℕ) (H : List AnyEntry) (A : List AnyRequest) (r : AnyRequest) →
+        IsLegal day default H → All IsRequest A → AreLaterOrLate day default D H A →
+        is_later day D (history_of day default (requests H ++ A)) r ≡ true →
+        reply day default (history_of day default (requests (remembered day D H) ++ A)) r
+        ≡ reply day default (history_of day default (requests H ++ A)) r }
+{
+    // (a request that comes again is the one that was sent)
+    same_is_equal();
+    a_later_request_is_answered_alike();
+    past_requests_touch_no_later_day();
+    remembered_is_legal();
+    forgetting_again();
     built_is_legal();
     one_more_arrival();
 }
