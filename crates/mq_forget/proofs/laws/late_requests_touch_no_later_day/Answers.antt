@@ -1,6 +1,6 @@
 -- A history and what is remembered of it, while later requests come, and those of earlier days late or again.
 use Rattle.std.proofs.Common.{◌≡◌, ℕ, List, [], ◌∷◌, ◌++◌, Bool, true, false, refl, ◌∙◌, ap, sym, subst, inl, inr, arith, append_assoc, append-nil}
-use Rattle.std.specs.Prelude.{◌⊎◌, ◌&&◌, ◌||◌, ◌↔◌, not, nat_le, find, filter, if◌then◌else◌, All, Option, Some, None, is_some}
+use Rattle.std.specs.Prelude.{◌⊎◌, ◌&&◌, not, nat_le, find, filter, if◌then◌else◌, All, Option, Some, None, is_some}
 use Rattle.std.specs.List.{AllByRecursion}
 use Rattle.std.specs.Option.{option_or}
 use Rattle.std.proofs.lemmas.List.Elements.{recursion_from_All, All-from_recursion}
@@ -12,13 +12,13 @@ use Rattle.mq_frame.specs.declared.message.Request.{Request}
 use Rattle.mq_frame.specs.declared.message.Request.TheVariants.{Reserve, Settle, Release, Limit, Usage, List as ListRequest, Retire}
 use Rattle.mq_frame.specs.declared.message.Reply.{Reply}
 use Rattle.mq_ledger.specs.declared.entry.Entry.{Entry}
-use Rattle.mq_ledger.specs.Answer.{answer, stored, known_by, reply, reply_to, with_arrival, with_arrival_by, history_of}
+use Rattle.mq_ledger.specs.Answer.{answer, stored, known_by, reply, with_arrival, with_arrival_by, history_of}
 use Rattle.mq_ledger.specs.Arrivals.{id_of, has_id, is_below}
 use Rattle.mq_ledger.specs.History.{Transaction, transaction, is_of, named, requests}
 use Rattle.mq_ledger.specs.Legal.{IsLegal}
 use Rattle.mq_forget.specs.Remembered.{moment_of, day_named, is_about, is_set, stays, remembered, is_remembered, is_later, is_later_by, is_past, AreLaterOrPast, names_earlier, is_itself, is_itself_by, is_late, AreLaterOrLate}
 use Rattle.mq_forget.proofs.Lists.{either, neither, first_so, second_so, not_some, option_cases, In, filter_in, find_none, find_some, all_mapped, all_push}
-use Rattle.mq_forget.proofs.Staying.{entry, same_below, stays_before, stays_itself, named_in, later_alike, early_lost, unheard_alike}
+use Rattle.mq_forget.proofs.Staying.{entry, same_below, stays_before, stays_itself, later_alike, early_lost, unheard_alike}
 use Rattle.mq_forget.proofs.Fronts.{Builds, new_reply}
 use Rattle.mq_forget.proofs.laws.late_requests_touch_no_later_day.Goals as goal
 
