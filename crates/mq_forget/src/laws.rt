@@ -178,9 +178,9 @@ pub fn past_requests_touch_no_later_day()
     one_more_arrival();
 }
 
-/// The same by what the whole history says alone, for whoever sends what he sent: where each arrival is a
-/// later one, or a request of an earlier day that comes for the first time or again as it was, later ones
-/// get from what is remembered the replies that they get from the whole.
+/// The same, by what the whole history says alone: where each arrival is a later one, or a request of an
+/// earlier day that comes for the first time or again as it was, later ones get the same replies from
+/// what is remembered as from the whole.
 pub fn late_requests_touch_no_later_day()
     ensures each { (day : ℕ → ℕ) (default D : ℕ) (H : List AnyEntry) (A : List AnyRequest) →
         IsLegal day default H → All IsRequest A → AreLaterOrLate day default D H A →

@@ -68,8 +68,8 @@ pub fn never_past_the_limit()
     never_past_the_limit_over_a_forgetting();
 }
 
-/// The same for days from F on, where the ledger forgets days before F while runs go on, once or again:
-/// what runs asked about a forgotten day may then be applied once more, and touches no day from F on.
+/// The same for days from F on, where the ledger forgets days before F while runs go on, once or more
+/// often: what runs ask about a forgotten day may then be applied once more, and touches no day from F on.
 ///
 /// A transaction is of the day of its first ask's moment.
 pub fn never_past_the_limit_over_a_forgetting()
@@ -166,7 +166,7 @@ pub fn each_run_is_of_a_world()
 
 /// Worlds are reached in which mail goes through and the network does its worst: a law of all worlds
 /// speaks of such ones too. The start's ledger may have any zone, and any default of at least one; where
-/// it forgets, any offset for a zone.
+/// a run goes on to a later day over a forgetting, any zone with an offset.
 pub fn what_may_happen()
     ensures let_through { (b : Book) → IsLegalBook (unused b) → 1 ≤ b.default → IsReachable b HasLetOneThrough }
     ensures answered_again { (b : Book) → IsLegalBook (unused b) → 1 ≤ b.default → IsReachable b WasAnsweredAgain }
