@@ -24,8 +24,8 @@ def run(world, checks):
     a_file_with_sums(checks, path, books)
     changed_bits(world, checks, path, books)
     changed_bits_of_the_log(world, checks, frames)
-    a_file_without_sums(world, checks, path, frames, books)
     what_a_start_logs(world, checks, path, books)
+    a_file_without_sums(world, checks, path, frames, books)
 
 
 def of_some_answers(world, checks):
@@ -135,6 +135,14 @@ def changed_bits_of_the_log(world, checks, frames):
     checks.holds("changed bits of a log: answers that are left", len(found) > 4 and min(found) < 40, "fewer than 40 in one of several", found)
 
 
+def what_a_start_logs(world, checks, path, books):
+    with Server(world, connections=1, store=path, default=DEFAULT, log="info") as server:
+        server.ask(page())
+        server.status()
+        wanted = f"[INFO  mq_program::server] ledger with {len(books.answers)} answers, default {DEFAULT}, offset 0"
+        checks.equal("the first line of the log", server.log_lines()[0], wanted)
+
+
 def a_file_without_sums(world, checks, path, frames, books):
     """As earlier programs made it, and as SQLite makes one: it is opened and written as before."""
     plain = f"{world.folder}/plain"
@@ -150,11 +158,3 @@ def a_file_without_sums(world, checks, path, frames, books):
         checks.equal("a file without sums: replies", server.ask(frames[0] + frames[-1] + more + page()), books.serve(frames[0] + frames[-1] + more + page()))
     same_rows(checks, "a file without sums, by SQLite", plain, books)
     checks.equal("a file without sums: whether it has some then", has_sums(content_of(plain)), False)
-
-
-def what_a_start_logs(world, checks, path, books):
-    with Server(world, connections=1, store=path, default=DEFAULT, log="info") as server:
-        server.ask(page())
-        server.status()
-        wanted = f"[INFO  mq_program::server] ledger with {len(books.answers)} answers, default {DEFAULT}, offset 0"
-        checks.equal("the first line of the log", server.log_lines()[0], wanted)
