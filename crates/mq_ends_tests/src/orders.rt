@@ -1,9 +1,18 @@
-//! `limit` and `retire` over a ledger in memory: what they print, what they say on errors, and their statuses.
+//! `limit`, `retire`, `stop`, `resume` and `day` over a ledger in memory: what they print, what they say on errors, and
+//! their statuses. And which texts are printed logins.
 //!
-//! The helpers have no clauses, so that a test stays cheap to prove.
+//! The helpers have no clauses but the one that its caller needs, so that a test stays cheap to prove.
+ghost use Rattle.std.specs.Prelude.{IfOk};
+ghost use Rattle.mq_command.specs.Allowing.{IsSetter};
 
-use mq_command::{run_limit, run_retire};
-use mq_frame::{FromRead, Request, ToWrite, decode_request, is_request};
+use mq_command::{
+    Setter, is_login_text, login_of_text, login_text, run_day, run_fresh, run_limit, run_resume,
+    run_retire, run_stop,
+};
+use mq_frame::{
+    FromRead, Host, Login, Request, ToWrite, decode_request, encode_request, is_host, is_login,
+    is_moment, is_request,
+};
 use mq_ledger::{PlainLedger, Zone};
 use mq_link::{Link, LinkFault};
 use mq_server::serve;
@@ -43,8 +52,39 @@ fn request_of(alloc: Global, digits: &str) -> Result<Request, Fail> {
     }
 }
 
+/// What is done.
+#[derive(Clone, Copy)]
+enum Act {
+    /// This order is sent, or this frame of a filter.
+    Send(&'static str),
+    /// This order is sent under the first number that isn't used.
+    SendFresh(&'static str),
+    /// Login `u` is stopped on this day.
+    Stop(u32),
+    /// Login `u` may have so many more on this day and on each later one.
+    Resume(u32, u32),
+    /// The day of a moment is told.
+    Day(u64),
+}
+
+/// Run 7 of host `c`, which sets limits of login `u`.
+fn setter(alloc: Global) -> Result<Setter, Fail>
+    ensures { IfOk result IsSetter }
+{
+    let host = Host::from_slice(alloc, b"c")?;
+    let login = Login::from_slice(alloc, b"u")?;
+    if !is_host(host.as_slice()) || !is_login(login.as_slice()) {
+        return Err("no setter".into());
+    }
+    Ok(Setter {
+        host,
+        run: 7,
+        login,
+    })
+}
+
 /// The status of an order, or of a frame that a filter sends.
-fn ordered(
+fn sent(
     alloc: Global,
     link: &mut Near,
     digits: &str,
@@ -60,24 +100,107 @@ fn ordered(
         Request::Retire { .. } => Ok(run_retire(alloc, link, &request, output, errors)),
         _ => {
             let mut frame = Vec::new(alloc);
-            mq_frame::encode_request(alloc, &request, &mut frame)?;
+            encode_request(alloc, &request, &mut frame)?;
             let mut reply = Vec::new(alloc);
             Ok(u8::from(link.exchange(frame.as_slice(), &mut reply).is_err()))
         }
     }
 }
 
-/// Asserts what an order prints, says and ends with, with a `|` between.
+/// The status of an order that is sent under the first number that isn't used.
+fn sent_fresh(
+    alloc: Global,
+    link: &mut Near,
+    digits: &str,
+    output: &mut Vec<u8>,
+    errors: &mut Vec<u8>,
+) -> Result<u8, Fail> {
+    let request = request_of(alloc, digits)?;
+    if !is_request(&request) {
+        return Err("a request out of range".into());
+    }
+    match request {
+        Request::Limit { .. } => Ok(run_fresh(alloc, link, request, output, errors)),
+        Request::Retire { .. } => Ok(run_fresh(alloc, link, request, output, errors)),
+        _ => Err("no order".into()),
+    }
+}
+
+/// The status of a stop on this day.
+fn stopped(
+    alloc: Global,
+    link: &mut Near,
+    day: u32,
+    output: &mut Vec<u8>,
+    errors: &mut Vec<u8>,
+) -> Result<u8, Fail> {
+    if day > 376_199 {
+        return Err("a day out of range".into());
+    }
+    let whose = setter(alloc)?;
+    Ok(run_stop(alloc, link, &whose, day, output, errors))
+}
+
+/// The status of a resume on this day, with so many recipients more.
+fn resumed(
+    alloc: Global,
+    link: &mut Near,
+    day: u32,
+    more: u32,
+    output: &mut Vec<u8>,
+    errors: &mut Vec<u8>,
+) -> Result<u8, Fail> {
+    if day > 376_199 || more > 1_000_000 {
+        return Err("numbers out of range".into());
+    }
+    let whose = setter(alloc)?;
+    Ok(run_resume(alloc, link, &whose, day, more, output, errors))
+}
+
+/// The status of the day of a moment.
+fn printed_day(
+    alloc: Global,
+    at: u64,
+    output: &mut Vec<u8>,
+    errors: &mut Vec<u8>,
+) -> Result<u8, Fail> {
+    if !is_moment(at) {
+        return Err("a moment out of range".into());
+    }
+    match Zone::of_rule(RULE) {
+        Ok(zone) => Ok(run_day(alloc, &zone, at, output, errors)),
+        Err(_) => Err("no rule".into()),
+    }
+}
+
+/// The status of what is done.
+fn done(
+    alloc: Global,
+    link: &mut Near,
+    act: Act,
+    output: &mut Vec<u8>,
+    errors: &mut Vec<u8>,
+) -> Result<u8, Fail> {
+    match act {
+        Act::Send(digits) => sent(alloc, link, digits, output, errors),
+        Act::SendFresh(digits) => sent_fresh(alloc, link, digits, output, errors),
+        Act::Stop(day) => stopped(alloc, link, day, output, errors),
+        Act::Resume(day, more) => resumed(alloc, link, day, more, output, errors),
+        Act::Day(at) => printed_day(alloc, at, output, errors),
+    }
+}
+
+/// Asserts what is printed, said and ended with, with a `|` between.
 fn assert_told(
     rt: &(impl Abort + AllocGlobal),
     link: &mut Near,
-    digits: &str,
+    act: Act,
     wanted: &str,
 ) -> Result<(), Fail> {
     let alloc = rt.alloc();
     let mut output = Vec::new(alloc);
     let mut errors = Vec::new(alloc);
-    let status = ordered(alloc, link, digits, &mut output, &mut errors)?;
+    let status = done(alloc, link, act, &mut output, &mut errors)?;
     let printed = str::from_utf8(output.as_slice())?;
     let said = str::from_utf8(errors.as_slice())?;
     let found = format!(in alloc; "{printed}|{said}|{status}")?;
@@ -85,46 +208,75 @@ fn assert_told(
     Ok(())
 }
 
-/// What is sent in turn, and what is told of it.
-const ORDERS: [(&str, &str); 10] = [
+/// The rule of the days that are told.
+const RULE: &str = "CET-1CEST,M3.5.0,M10.5.0/3";
+
+/// What is done in turn, and what is told of it.
+const ACTS: [(Act, &str); 20] = [
     // Reserves of 1 and of 2 recipients for login `u` on day 1, under numbers 1 and 2 of run 1 of host `a`.
     (
-        "010161000000000000000100000001000000010000000000015180017500000001",
+        Act::Send("010161000000000000000100000001000000010000000000015180017500000001"),
         "||0",
     ),
     (
-        "010161000000000000000100000002000000010000000000015180017500000002",
+        Act::Send("010161000000000000000100000002000000010000000000015180017500000002"),
         "||0",
     ),
-    // Limits from day 1 on: below what is used; what is used; another one under the same number.
+    // Limits from day 1 on: below what is used; what is used; another one under the same number, and under the next
+    // run's.
     (
-        "04016200000000000000020000000100000001000000020175",
+        Act::Send("04016200000000000000020000000100000001000000020175"),
         "|mailquota: over day 1 used 3\n|1",
     ),
     (
-        "04016200000000000000020000000200000001000000030175",
+        Act::Send("04016200000000000000020000000200000001000000030175"),
         "set\n||0",
     ),
     (
-        "04016200000000000000020000000200000001000000040175",
+        Act::Send("04016200000000000000020000000200000001000000040175"),
         "|mailquota: number used with another limit\n|1",
     ),
-    // The runs of host `a` below 2, twice, and below 1; then under a number that a limit has.
-    ("070161000000000000000200000001", "retired\n||0"),
-    ("070161000000000000000200000001", "retired\n||0"),
     (
-        "070161000000000000000100000009",
+        Act::SendFresh("04016200000000000000020000000200000001000000040175"),
+        "set\n||0",
+    ),
+    (
+        Act::Send("04016200000000000000030000000200000001000000050175"),
+        "|mailquota: number used with another limit\n|1",
+    ),
+    // The runs of host `a` below 2, twice, and below 1; then under a number that a limit has, and under the next run's.
+    (Act::Send("070161000000000000000200000001"), "retired\n||0"),
+    (Act::Send("070161000000000000000200000001"), "retired\n||0"),
+    (
+        Act::Send("070161000000000000000100000009"),
         "|mailquota: run is retired\n|1",
     ),
     (
-        "070162000000000000000200000001",
+        Act::Send("070162000000000000000200000001"),
         "|mailquota: number used with another request\n|1",
+    ),
+    (
+        Act::SendFresh("070162000000000000000200000001"),
+        "retired\n||0",
     ),
     // A limit under a number of a run that was given up.
     (
-        "04016100000000000000010000000900000001000000040175",
+        Act::Send("04016100000000000000010000000900000001000000040175"),
         "|mailquota: run is retired\n|1",
     ),
+    // A limit of 4 is what is used, and 1 more; then it is what is used, and nothing more.
+    (Act::Resume(1, 1), "resumed: u may use 4 on day 1\n||0"),
+    (
+        Act::Send("010161000000000000000200000002000000010000000000015180017500000001"),
+        "||0",
+    ),
+    (Act::Stop(1), "stopped: u used 4 on day 1\n||0"),
+    (Act::Stop(2), "stopped: u used 0 on day 2\n||0"),
+    // What is used on the next day is above the limit of nothing.
+    (Act::Stop(0), "|mailquota: over day 1 used 4\n|1"),
+    // The last second of a day of winter, and the first of the next.
+    (Act::Day(1576105199), "18241\n||0"),
+    (Act::Day(1576105200), "18242\n||0"),
 ];
 
 #[test]
@@ -134,8 +286,50 @@ fn orders(rt: HostRuntime) -> Result<(), Fail> {
         alloc,
         ledger: PlainLedger::new(alloc, Zone::of_offset(0).expect(&rt, "UTC"), 3),
     };
-    for (digits, wanted) in ORDERS {
-        assert_told(&rt, &mut link, digits, wanted)?;
+    for (act, wanted) in ACTS {
+        assert_told(&rt, &mut link, act, wanted)?;
+    }
+    Ok(())
+}
+
+/// Texts, and the logins that are printed so.
+const TEXTS: [(&str, Option<&[u8]>); 10] = [
+    ("alice", Some(b"alice")),
+    ("a\\x5cb\\x20\\xc3\\xa9\\xff", Some(b"a\\b \xc3\xa9\xff")),
+    // A digit is in lower case, and only what isn't visible is told by digits.
+    ("\\xC3", None),
+    ("\\x41", None),
+    ("\\xf", None),
+    ("\\xfg", None),
+    ("\\", None),
+    ("a b", None),
+    ("\u{e9}", None),
+    // No login has no bytes.
+    ("", None),
+];
+
+/// The login that is printed so, if there is one.
+fn read_back(alloc: Global, text: &str) -> Result<Option<Login>, Fail> {
+    if is_login_text(text) {
+        Ok(login_of_text(alloc, text)?)
+    } else {
+        Ok(None)
+    }
+}
+
+#[test]
+fn printed_logins(rt: HostRuntime) -> Result<(), Fail> {
+    let alloc = rt.alloc();
+    for (text, wanted) in TEXTS {
+        let found = read_back(alloc, text)?;
+        match (&found, wanted) {
+            (Some(login), Some(bytes)) => {
+                assert_eq!(&rt; login.as_slice(), bytes);
+                assert_eq!(&rt; login_text(alloc, bytes)?.as_str(), text);
+            }
+            (None, None) => {}
+            _ => return Err("another login".into()),
+        }
     }
     Ok(())
 }
