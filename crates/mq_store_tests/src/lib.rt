@@ -16,6 +16,8 @@
 #[cfg(test)]
 mod asks;
 #[cfg(test)]
+mod forgetting;
+#[cfg(test)]
 mod program;
 #[cfg(test)]
 mod store;
