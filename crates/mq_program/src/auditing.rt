@@ -42,9 +42,8 @@ pub fn audit<W: Write, S: Start>(
     Ok(0)
 }
 
-/// Audits the ledger in the file of these settings, which comes back. `start` stands for what the file and its log hold
-/// before the call.
-pub fn audit_file<W: Write, S: Start>(
+/// Audits the ledger in the file of these settings, which comes back.
+fn audit_file<W: Write, S: Start>(
     rt: &HostRuntime,
     settings: &ServerSettings,
     start: S,

@@ -79,9 +79,9 @@ fn serve<S: Start>(
 
 /// A server that has ended: its ledger, and how it ended.
 #[derive(Drop)]
-pub struct Served<S: Alter> {
-    pub ledger: SqlLedger<S>,
-    pub outcome: Result<u8, ProgramFault>,
+struct Served<S: Alter> {
+    ledger: SqlLedger<S>,
+    outcome: Result<u8, ProgramFault>,
 }
 
 /// Serves so many connections over a new ledger in memory.
@@ -98,11 +98,8 @@ fn listen_in_memory<G: Log>(
     outcome
 }
 
-/// Serves so many connections over the ledger in the file at a path; with `create` over a new one. A fault is why there is no
-/// ledger to serve.
-///
-/// `start` stands for what the two files, the database and its log, hold before the call.
-pub fn listen_over_file<G: Log, S: Start>(
+/// Serves so many connections over the ledger in the file at a path; with `create` over a new one.
+fn listen_over_file<G: Log, S: Start>(
     rt: &HostRuntime,
     log: &G,
     settings: &ServerSettings,
