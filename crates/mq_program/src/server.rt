@@ -6,6 +6,10 @@ ghost use Rattle.sqlite.specs.WalFiles.{image_at};
 ghost use Rattle.mq_server.specs.Delivery.{HasGrown};
 ghost use Rattle.mq_store.specs.Soundness.{book_in, HasKept, IsSound};
 ghost use Rattle.mq_program.specs.Opened.{GrowsFrom, GrowsFromNothing};
+ghost use Rattle.mq_room.specs.declared.fault.RoomFault.TheVariants.{Store as store_failed};
+ghost use Rattle.mq_room.specs.Sessions.{EndsServing};
+ghost use Rattle.mq_room.specs.Wires.{unknown};
+ghost use Rattle.mq_program.specs.declared.fault.ProgramFault.TheVariants.{Serve};
 ghost use Rattle.mq_program.specs.Refusals.{AreInRange};
 
 use crate::fault::{ProgramFault, logged_of};
@@ -15,6 +19,7 @@ use log::{Log, Logged, error, info};
 use mq_arguments::ServerArguments;
 use mq_frame::Escaped;
 use mq_ledger::Ledger;
+use mq_room::laws::nothing_is_served;
 use mq_room::serve_connections;
 use mq_server::laws::more_deliveries;
 use mq_settings::{Place, ServerSettings, read_file, read_server_settings};
@@ -224,7 +229,11 @@ where
     ensures sound { L.has_kept ledger.new → L.is_sound ledger.old → L.is_sound ledger.new }
     ensures history { L.has_kept ledger.new → L.is_sound ledger.old →
         HasGrown (L.book ledger.old) (L.book ledger.new) }
+    ensures serves { L.has_kept ledger.new → L.is_sound ledger.old → EndsServing
+        (record { book = L.book ledger.old; told = L.told ledger.old; wires = unknown })
+        (record { book = L.book ledger.new; told = L.told ledger.new; wires = unknown }) (Serve store_failed) result }
 {
+    nothing_is_served();
     let address = settings.listen;
     let listener = match TcpListener::bind(rt, address) {
         Ok(listener) => listener,

@@ -1,0 +1,42 @@
+-- The end of a serving, as the program reports it.
+use Rattle.std.proofs.Common.{◌≡◌, ◌∙◌, ℕ, Result, Ok, Err, sym}
+use Rattle.mq_room.specs.declared.fault.RoomFault.{RoomFault}
+use Rattle.mq_room.specs.declared.fault.RoomFault.TheVariants.{Store}
+use Rattle.mq_room.specs.Sessions.{EndsServing, Outside}
+use Rattle.mq_program.specs.declared.fault.ProgramFault.{ProgramFault}
+use Rattle.mq_program.specs.declared.fault.ProgramFault.TheVariants.{Listen, Serve}
+
+-- a failed store under another name
+ends_as : {A B E F : Type 0} (old new : Outside) (store : E) (r : Result A E) (failed : F) (q : Result B F) → EndsServing old new store r → (r ≡ Err store → q ≡ Err failed) → (q ≡ Err failed → r ≡ Err store) → EndsServing old new failed q
+ends_as old new store r failed q e to back = record {
+  failed = e.failed;
+  served = e.served;
+  stops = λ some. to (e.stops some);
+  only = λ is. e.only (back is);
+  at = e.at;
+  offered = e.offered;
+}
+
+ok_not : {A E : Type 0} (x : A) (e : E) → Ok x ≡ Err e → ⊥
+ok_not x e is = cc
+
+listen_not : {A : Type 0} (q : Result A ProgramFault) → q ≡ Err Listen → q ≡ Err (Serve Store) → ⊥
+listen_not q listen is = cc
+
+served_to : {A B : Type 0} (r : Result A RoomFault) (q : Result B ProgramFault) (cause : RoomFault) (fault : ProgramFault) → r ≡ Err cause → q ≡ Err fault → fault ≡ Serve cause → r ≡ Err Store → q ≡ Err (Serve Store)
+served_to r q cause fault is so gives store = cc
+
+served_back : {A B : Type 0} (r : Result A RoomFault) (q : Result B ProgramFault) (cause : RoomFault) (fault : ProgramFault) → r ≡ Err cause → q ≡ Err fault → fault ≡ Serve cause → q ≡ Err (Serve Store) → r ≡ Err Store
+served_back r q cause fault is so gives store = cc
+
+-- the port can't be had
+pub ends_unheard : (o : Outside) (q : Result ℕ ProgramFault) → q ≡ Err Listen → EndsServing o o Store (Ok (tt {0})) → EndsServing o o (Serve Store) q
+ends_unheard o q is e = ends_as o o Store (Ok (tt {0})) (Serve Store) q e (λ so. absurd (ok_not (tt {0}) Store so)) (λ so. absurd (listen_not q is so))
+
+-- the serving ended by a fault
+pub ends_faulty : {A : Type 0} (old new : Outside) (r : Result A RoomFault) (q : Result ℕ ProgramFault) (cause : RoomFault) (fault : ProgramFault) → r ≡ Err cause → q ≡ Err fault → fault ≡ Serve cause → EndsServing old new Store r → EndsServing old new (Serve Store) q
+ends_faulty old new r q cause fault is so gives e = ends_as old new Store r (Serve Store) q e (served_to r q cause fault is so gives) (served_back r q cause fault is so gives)
+
+-- or well
+pub ends_well : {A : Type 0} (old new : Outside) (r : Result A RoomFault) (x : A) (n : ℕ) → r ≡ Ok x → EndsServing old new Store r → EndsServing old new (Serve Store) (Ok n)
+ends_well old new r x n is e = ends_as old new Store r (Serve Store) (Ok n) e (λ so. absurd (ok_not x Store (sym is ∙ so))) (λ so. absurd (ok_not n (Serve Store) so))
