@@ -1,11 +1,11 @@
--- The numbers that an order is sent under.
+-- The numbers that a limit is sent under.
 use Rattle.std.proofs.Common.{◌≡◌, ◌≤◌, ◌+◌, ◌*◌, ℕ, suc, List, Option, Err, ap, refl, inl, ◌∙◌, arith}
 use Rattle.std.proofs.lemmas.Bool.{false≢true}
 use Rattle.mq_frame.specs.declared.format.TheConstants.{LAST_RUN}
 use Rattle.mq_frame.specs.declared.message.Id.{Id}
 use Rattle.mq_frame.specs.declared.message.Request.{Request}
 use Rattle.mq_frame.specs.declared.message.Request.TheVariants as asks
-use Rattle.mq_command.specs.Orders.{IsOrder, OrdersFresh, ahead, later, later_id, no_number}
+use Rattle.mq_command.specs.Orders.{IsLimit, OrdersFresh, ahead, later, later_id, no_number}
 use Rattle.mq_command.specs.declared.ask.AskFault.TheVariants.{Memory}
 use Rattle.mq_command.specs.declared.order.OrderFault.TheVariants.{Unanswered}
 use Rattle.mq_link.specs.declared.link.Told.{Told}
@@ -28,7 +28,7 @@ later_none (asks.Release id txn at login) = refl
 later_none (asks.Limit id from_day cap login) = ap (λ i. asks.Limit i from_day cap login) (id_none id)
 later_none (asks.Usage login day) = refl
 later_none (asks.List day after) = refl
-later_none (asks.Retire id) = ap asks.Retire (id_none id)
+later_none (asks.Retire id) = refl
 
 pub later_more : (runs : ℕ) (request : Request) → later (runs + 1) (later runs request) ≡ later (runs * 2 + 1) request
 later_more runs (asks.Reserve id txn at login count) = refl
@@ -37,24 +37,24 @@ later_more runs (asks.Release id txn at login) = refl
 later_more runs (asks.Limit id from_day cap login) = ap (λ i. asks.Limit i from_day cap login) (id_more runs id)
 later_more runs (asks.Usage login day) = refl
 later_more runs (asks.List day after) = refl
-later_more runs (asks.Retire id) = ap asks.Retire (id_more runs id)
+later_more runs (asks.Retire id) = refl
 
 pub ahead_more : (taken runs : ℕ) → runs ≡ ahead taken → runs * 2 + 1 ≡ ahead (taken + 1)
 ahead_more taken runs is =
     let next : suc taken ≡ taken + 1 = omega arith in
     ap (λ r. r * 2 + 1) is ∙ ap ahead next
 
--- an order in range is not so far ahead
-pub ahead_small : (runs : ℕ) (request : Request) → IsOrder (later runs request) → runs ≤ LAST_RUN
+-- a limit in range is not so far ahead
+pub ahead_small : (runs : ℕ) (request : Request) → IsLimit (later runs request) → runs ≤ LAST_RUN
 ahead_small runs (asks.Reserve id txn at login count) is = absurd is
 ahead_small runs (asks.Settle id txn at login count) is = absurd is
 ahead_small runs (asks.Release id txn at login) is = absurd is
 ahead_small runs (asks.Limit id from_day cap login) is = omega (arith, is.0.run.to)
 ahead_small runs (asks.Usage login day) is = absurd is
 ahead_small runs (asks.List day after) is = absurd is
-ahead_small runs (asks.Retire id) is = omega (arith, is.run.to)
+ahead_small runs (asks.Retire id) is = absurd is
 
--- an order that memory is refused for isn't sent
+-- a limit that memory is refused for isn't sent
 pub not_sent : (request : Request) (told : Option (List Told)) → OrdersFresh request told told (Err (Unanswered Memory))
 not_sent request told = record {
   count = 0;

@@ -10,6 +10,7 @@ use Rattle.mq_frame.specs.declared.message.Reply.{Reply}
 use Rattle.mq_frame.specs.declared.message.Reply.TheVariants as says
 use Rattle.mq_command.specs.Asking.{Asks, IsAnswered}
 use Rattle.mq_command.specs.Orders.{OrdersFresh}
+use Rattle.mq_command.specs.declared.allow.DayUsage.{DayUsage}
 use Rattle.mq_command.specs.declared.allow.Setter.{Setter}
 use Rattle.mq_command.specs.declared.ask.AskFault.{AskFault}
 use Rattle.mq_command.specs.declared.order.OrderFault.{OrderFault}
@@ -31,65 +32,82 @@ abbrev pub room : ℕ → ℕ
 room zero = 0
 room (suc refused) = min (room refused * 2 + 8) 1000000
 
--- the limit of a day: what is used and so many more, with room
-abbrev pub allowed : ℕ → ℕ → ℕ → ℕ
-allowed used more room = min (used + more + room) 1000000
+-- the limit of a day: what is used and so many more, with room, and never above the most
+abbrev pub allowed : ℕ → ℕ → ℕ → ℕ → ℕ
+allowed most used more room = min (used + more + room) most
 
--- the reply says that so much is used, settled and reserved
-abbrev pub IsUsed : Reply → ℕ → Type 0
-IsUsed reply used =
-    (login : List ℕ) × (day settled reserved cap : ℕ) × (reply ≡ says.Usage login day settled reserved cap)
-    × (used ≡ settled + reserved)
+-- the reply says that so much is used, settled and reserved, under this limit
+abbrev pub IsUsed : Reply → DayUsage → Type 0
+IsUsed reply usage =
+    (login : List ℕ) × (day settled reserved : ℕ) × (reply ≡ says.Usage login day settled reserved usage.cap)
+    × (usage.used ≡ settled + reserved)
 
 -- What asking for what a login used on a day leads to.
-abbrev pub AsksUsed : List ℕ → ℕ → Option (List Told) → Option (List Told) → Result ℕ AskFault → Type 0
-AsksUsed login day old new (Ok used) = (reply : Reply) × IsAnswered (asks.Usage login day) reply old new × IsUsed reply used
+abbrev pub AsksUsed : List ℕ → ℕ → Option (List Told) → Option (List Told) → Result DayUsage AskFault → Type 0
+AsksUsed login day old new (Ok usage) =
+    (reply : Reply) × IsAnswered (asks.Usage login day) reply old new × IsUsed reply usage
 AsksUsed login day old new (Err fault) = Asks (asks.Usage login day) old new (Err fault)
 
--- so many limits of a day were sent, each of what was used then, and refused since more is used by now
-pub data AreRefused (setter : Setter) (day more first : ℕ) (start : Option (List Told)) : ℕ → ℕ → Option (List Told)
-    → Type 0 where
-  no_limit : AreRefused setter day more first start 0 first start
-  limit : (refused used over now : ℕ) (mid new : Option (List Told))
-      → AreRefused setter day more first start refused used mid
-      → OrdersFresh (limit_of setter (refused + 1) day (allowed used more (room refused))) mid new (Err (Over over now))
-      → AreRefused setter day more first start (refused + 1) now new
+-- so many limits of a day were sent, each of what was used then, and refused since more is used on that day by now
+pub data AreRefused (setter : Setter) (day most more first : ℕ) (start : Option (List Told))
+    : ℕ → ℕ → Option (List Told) → Type 0 where
+  no_limit : AreRefused setter day most more first start 0 first start
+  limit : (refused used now : ℕ) (mid new : Option (List Told))
+      → AreRefused setter day most more first start refused used mid
+      → OrdersFresh (limit_of setter (refused + 1) day (allowed most used more (room refused))) mid new (Err (Over day now))
+      → AreRefused setter day most more first start (refused + 1) now new
 
 -- What sending the limit of a day leads to: the limit, where it is set.
 abbrev pub SetsTo : Setter → ℕ → ℕ → ℕ → Option (List Told) → Option (List Told) → Result ℕ OrderFault → Type 0
 SetsTo setter seq day cap old new (Ok set) = OrdersFresh (limit_of setter seq day cap) old new (Ok tt) × (set ≡ cap)
 SetsTo setter seq day cap old new (Err fault) = OrdersFresh (limit_of setter seq day cap) old new (Err fault)
 
--- more is used than the limit would allow
-abbrev pub IsOver : Result ℕ OrderFault → Type 0
-IsOver (Err (Over day used)) = ⊤
-IsOver _ = ⊥
+-- more is used on that very day than the limit would allow
+abbrev pub IsOver : ℕ → Result ℕ OrderFault → Type 0
+IsOver day (Err (Over over used)) = over ≡ day
+IsOver day _ = ⊥
 
--- What setting the limit of a day to what is used and so many more leads to. It is sent again while more is used, 18
--- times in all.
-abbrev pub SetsAbove : Setter → ℕ → ℕ → ℕ → Option (List Told) → Option (List Told) → Result ℕ OrderFault → Type 0
-SetsAbove setter day more first old new ended =
+-- What setting the limit of a day to what is used and so many more leads to, with none above the most. It is sent again
+-- while more is used on that day, 18 times in all; where more is used on another day, that ends it.
+abbrev pub SetsAbove : Setter → ℕ → ℕ → ℕ → ℕ → Option (List Told) → Option (List Told) → Result ℕ OrderFault → Type 0
+SetsAbove setter day most more first old new ended =
     (refused used : ℕ) × (mid : Option (List Told)) × (refused < 18)
-    × AreRefused setter day more first old refused used mid
-    × SetsTo setter (refused + 1) day (allowed used more (room refused)) mid new ended × (IsOver ended → refused ≡ 17)
+    × AreRefused setter day most more first old refused used mid
+    × SetsTo setter (refused + 1) day (allowed most used more (room refused)) mid new ended
+    × (IsOver day ended → refused ≡ 17)
 
 -- what the login used wasn't answered
 abbrev pub FailsToAsk : Setter → ℕ → Option (List Told) → Option (List Told) → OrderFault → Type 0
 FailsToAsk setter day old new fault =
     (cause : AskFault) × AsksUsed setter.login day old new (Err cause) × (fault ≡ Unanswered cause)
 
--- What letting a login have so many more leads to: the limit of the day, where it and that of the next day are set.
-abbrev pub Allows : Setter → ℕ → ℕ → Option (List Told) → Option (List Told) → Result ℕ OrderFault → Type 0
-Allows setter day more old new (Ok cap) =
-    (used : ℕ) × (asked set : Option (List Told)) × AsksUsed setter.login day old asked (Ok used)
-    × SetsAbove setter day more used asked set (Ok cap)
+-- What setting the limits of a day and of each later day leads to: the limit of the day, where both are set.
+abbrev pub SetsBoth : Setter → ℕ → ℕ → ℕ → ℕ → Option (List Told) → Option (List Told) → Result ℕ OrderFault → Type 0
+SetsBoth setter day most more used old new (Ok cap) =
+    (set : Option (List Told)) × SetsAbove setter day most more used old set (Ok cap)
     × OrdersFresh (limit_of setter 19 (day + 1) more) set new (Ok tt)
-Allows setter day more old new (Err fault) =
+SetsBoth setter day most more used old new (Err fault) =
+    SetsAbove setter day most more used old new (Err fault)
+    ⊎ ((cap : ℕ) × (set : Option (List Told)) × SetsAbove setter day most more used old set (Ok cap)
+    × OrdersFresh (limit_of setter 19 (day + 1) more) set new (Err fault))
+
+-- What letting a login have so many more leads to, with the most that the day's limit may be by the limit that it had.
+abbrev pub Allows : Setter → ℕ → (ℕ → ℕ) → ℕ → Option (List Told) → Option (List Told) → Result ℕ OrderFault → Type 0
+Allows setter day most more old new (Ok cap) =
+    (usage : DayUsage) × (asked : Option (List Told)) × AsksUsed setter.login day old asked (Ok usage)
+    × SetsBoth setter day (most usage.cap) more usage.used asked new (Ok cap)
+Allows setter day most more old new (Err fault) =
     FailsToAsk setter day old new fault
-    ⊎ ((used : ℕ) × (asked : Option (List Told)) × AsksUsed setter.login day old asked (Ok used)
-    × (SetsAbove setter day more used asked new (Err fault)
-    ⊎ ((cap : ℕ) × (set : Option (List Told)) × SetsAbove setter day more used asked set (Ok cap)
-    × OrdersFresh (limit_of setter 19 (day + 1) more) set new (Err fault))))
+    ⊎ ((usage : DayUsage) × (asked : Option (List Told)) × AsksUsed setter.login day old asked (Ok usage)
+    × SetsBoth setter day (most usage.cap) more usage.used asked new (Err fault))
+
+-- What stopping a login leads to: nothing more, and no limit above the one that it had.
+abbrev pub Stops : Setter → ℕ → Option (List Told) → Option (List Told) → Result ℕ OrderFault → Type 0
+Stops setter day old new ended = Allows setter day (λ cap. cap) 0 old new ended
+
+-- What letting a login go again leads to: so many more, up to the most that a limit may be.
+abbrev pub Resumes : Setter → ℕ → ℕ → Option (List Told) → Option (List Told) → Result ℕ OrderFault → Type 0
+Resumes setter day more old new ended = Allows setter day (λ cap. 1000000) more old new ended
 
 -- a line of how much a login used, or may use, on a day
 abbrev pub day_line : List ℕ → List ℕ → List ℕ → ℕ → ℕ → List ℕ

@@ -73,38 +73,35 @@ Orders request told told' ended = (reply : Reply) × IsAnswered request reply to
 abbrev pub later_id : ℕ → Id → Id
 later_id runs id = record { host = id.host; run = id.run + runs; seq = id.seq }
 
--- an order under the number of the run that many later
+-- a limit under the number of the run that many later
 abbrev pub later : ℕ → Request → Request
 later runs (asks.Limit id from_day cap login) = asks.Limit (later_id runs id) from_day cap login
-later runs (asks.Retire id) = asks.Retire (later_id runs id)
 later runs request = request
 
--- the run of an order's number
+-- the run of a limit's number
 abbrev pub run_of : Request → ℕ
 run_of (asks.Limit id from_day cap login) = id.run
-run_of (asks.Retire id) = id.run
 run_of request = 0
 
--- whether the number of an order was used with another request
+-- whether the number of a limit was used with another request
 abbrev pub is_taken : Result (Unit {0}) OrderFault → Bool
 is_taken (Err OtherLimit) = true
-is_taken (Err OtherRequest) = true
 is_taken _ = false
 
--- how many runs after its own an order's number is where so many were used: 0, 1, 3, 7 and so on
+-- how many runs after its own a limit's number is where so many were used: 0, 1, 3, 7 and so on
 abbrev pub ahead : ℕ → ℕ
 ahead zero = 0
 ahead (suc taken) = ahead taken * 2 + 1
 
--- an order was sent under so many numbers that were used with other requests
+-- a limit was sent under so many numbers that were used with other requests
 pub data AreTaken (request : Request) (start : Option (List Told)) : ℕ → Option (List Told) → Type 0 where
   no_number : AreTaken request start 0 start
   number : (count : ℕ) (mid new : Option (List Told)) (sent : Result (Unit {0}) OrderFault)
       → AreTaken request start count mid → Orders (later (ahead count) request) mid new sent → is_taken sent ≡ true
       → AreTaken request start (count + 1) new
 
--- What sending an order under the first number that isn't used leads to, of 16 in all: there is none where all are used,
--- or where there is no further run.
+-- What sending a limit under the first number that isn't used leads to, of 16 in all: there is none where all are used,
+-- or where there is no further run. A retire has no other number: its run says which runs are given up.
 pub record OrdersFresh (request : Request) (old new : Option (List Told)) (sent : Result (Unit {0}) OrderFault) : Type 0 where
   pub count : ℕ
   pub mid : Option (List Told)

@@ -1,8 +1,8 @@
 //! `stop` and `resume`: how many recipients more a login may have, today and on each later day.
 ghost use Rattle.std.specs.Prelude.{◌≡◌, ◌+◌, ℕ, IfOk, string_bytes, Result as AResult};
 ghost use Rattle.mq_frame.specs.Range.{IsAmount, IsDay, IsLogin, IsReply, IsWithin};
-ghost use Rattle.mq_command.specs.Allowing.{Allows, AsksUsed, IsSetter, IsUsed, SetsAbove, allowed, day_line, limit_of};
-ghost use Rattle.mq_command.specs.Allowing.{resumed_line, stopped_line};
+ghost use Rattle.mq_command.specs.Allowing.{AsksUsed, IsSetter, IsUsed, Resumes, SetsAbove, SetsBoth, Stops, allowed};
+ghost use Rattle.mq_command.specs.Allowing.{day_line, limit_of, resumed_line, stopped_line};
 ghost use Rattle.mq_command.specs.Orders.{OrdersFresh, Prints};
 ghost use Rattle.mq_command.specs.Report.{AnswersUsage};
 ghost use Rattle.mq_command.specs.declared.order.OrderFault.{OrderFault as AnOrderFault};
@@ -17,8 +17,8 @@ use mq_link::Link;
 use std::alloc::{AllocError, Global};
 use std::io::Write;
 
-/// How often the limit of a day is sent where the login uses more meanwhile. The last is of the most that a login can
-/// use.
+/// How often the limit of a day is sent where the login uses more meanwhile. The last is the most that a limit may be, or
+/// the one that the login had, if it is to have nothing more; no login uses more than its limit.
 const LIMITS: u32 = 18;
 
 /// A login whose limits are set, and the run of the host that sets them.
@@ -27,6 +27,13 @@ pub struct Setter {
     pub host: Host,
     pub run: u64,
     pub login: Login,
+}
+
+/// What a login used on a day, settled and reserved, and its limit.
+#[derive(Clone, Copy)]
+struct DayUsage {
+    used: u32,
+    cap: u32,
 }
 
 /// A limit, under a number of the run.
@@ -72,80 +79,139 @@ fn set_limit<L: Link>(
     }
 }
 
-/// What a login used on a day, settled and reserved.
-fn used_of(reply: &Reply) -> u32
+/// What a reply says that a login used on a day.
+fn usage_of(reply: &Reply) -> DayUsage
     requires answers { AnswersUsage reply.now }
     requires in_range { IsReply reply.now }
-    ensures { IsUsed reply.now result }
+    ensures used { IsUsed reply.now result }
+    ensures in_range { IsAmount result.cap }
 {
     match reply {
         Reply::Usage {
             settled,
             reserved,
+            cap,
             ..
-        } => *settled + *reserved,
+        } => DayUsage {
+            used: *settled + *reserved,
+            cap: *cap,
+        },
         _ => unreachable!(),
     }
 }
 
 /// Asks what a login used on a day.
-fn ask_used<L: Link>(alloc: Global, link: &mut L, login: &Login, day: u32) -> Result<u32, AskFault>
+fn ask_used<L: Link>(
+    alloc: Global,
+    link: &mut L,
+    login: &Login,
+    day: u32,
+) -> Result<DayUsage, AskFault>
     requires login { IsLogin login.now }
     requires day { IsDay day }
-    ensures { AsksUsed login.now day (L.told link.old) (L.told link.new) result }
+    ensures asked { AsksUsed login.now day (L.told link.old) (L.told link.new) result }
+    ensures in_range { IfOk result (λ usage. IsAmount usage.cap) }
 {
     let login = match login.clone() {
         Ok(login) => login,
         Err(_) => return Err(AskFault::Memory),
     };
     match ask(alloc, link, &Request::Usage { login, day }) {
-        Ok(reply) => Ok(used_of(&reply)),
+        Ok(reply) => Ok(usage_of(&reply)),
         Err(fault) => Err(fault),
     }
 }
 
-/// The limit of a day on which so much is used: so many more, and room for what is used meanwhile.
-fn allowed(used: u32, more: u32, room: u32) -> u32
-    ensures { result ≡ allowed used more room }
+/// The limit of a day on which so much is used: so many more, and room for what is used meanwhile, but never above the
+/// most.
+fn allowed(most: u32, used: u32, more: u32, room: u32) -> u32
+    requires { IsAmount most }
+    ensures { result ≡ allowed most used more room }
 {
-    used.saturating_add(more)
-        .saturating_add(room)
-        .min(AMOUNT_LIMIT)
+    used.saturating_add(more).saturating_add(room).min(most)
 }
 
-/// Sets the limit of a day to what is used and so many more. Where more is used meanwhile it is sent again with what is
-/// used then, and with room for what is used meanwhile, which grows to twice as much each time.
+/// Sets the limit of a day to what is used and so many more, but never above the most. Where more is used on that day
+/// meanwhile it is sent again with what is used then, and with room for what is used meanwhile, which grows to twice as much
+/// each time. More that is used on a later day is no reason to add room on this one: then it ends, as a limit does.
 fn set_above<L: Link>(
     alloc: Global,
     link: &mut L,
     setter: &Setter,
     day: u32,
+    most: u32,
     more: u32,
     mut used: u32,
 ) -> Result<u32, OrderFault>
     requires setter { IsSetter setter.now }
     requires day { IsDay day }
-    ensures { SetsAbove setter.now day more used (L.told link.old) (L.told link.new) result }
+    requires most { IsAmount most }
+    ensures { SetsAbove setter.now day most more used (L.told link.old) (L.told link.new) result }
 {
     let mut room = 0;
     for refused in 0..LIMITS - 1 {
-        let cap = allowed(used, more, room);
+        let cap = allowed(most, used, more, room);
         match set_limit(alloc, link, setter, refused + 1, day, cap) {
             Ok(()) => return Ok(cap),
-            Err(OrderFault::Over(_, now)) => used = now,
+            Err(OrderFault::Over(over, now)) => {
+                if over != day {
+                    return Err(OrderFault::Over(over, now));
+                }
+                used = now;
+            }
             Err(fault) => return Err(fault),
         }
         room = (room * 2 + 8).min(AMOUNT_LIMIT);
     }
-    let cap = allowed(used, more, room);
+    let cap = allowed(most, used, more, room);
     match set_limit(alloc, link, setter, LIMITS, day, cap) {
         Ok(()) => Ok(cap),
         Err(fault) => Err(fault),
     }
 }
 
+/// Sets the limit of a day to what is used and so many more, but never above the most, and then that of each later day to so
+/// many. The result is the day's limit.
+fn set_both<L: Link>(
+    alloc: Global,
+    link: &mut L,
+    setter: &Setter,
+    day: u32,
+    most: u32,
+    more: u32,
+    used: u32,
+) -> Result<u32, OrderFault>
+    requires setter { IsSetter setter.now }
+    requires day { IsDay (day + 1) }
+    requires most { IsAmount most }
+    requires more { IsAmount more }
+    ensures { SetsBoth setter.now day most more used (L.told link.old) (L.told link.new) result }
+{
+    let cap = match set_above(alloc, link, setter, day, most, more, used) {
+        Ok(cap) => cap,
+        Err(fault) => return Err(fault),
+    };
+    match set_limit(alloc, link, setter, LIMITS + 1, day + 1, more) {
+        Ok(()) => Ok(cap),
+        Err(fault) => Err(fault),
+    }
+}
+
+/// Lets a login have nothing more on a day and on each later day. The result is the day's limit, which is never above the
+/// one that it had.
+fn stop<L: Link>(alloc: Global, link: &mut L, setter: &Setter, day: u32) -> Result<u32, OrderFault>
+    requires setter { IsSetter setter.now }
+    requires day { IsDay (day + 1) }
+    ensures { Stops setter.now day (L.told link.old) (L.told link.new) result }
+{
+    match ask_used(alloc, link, &setter.login, day) {
+        Ok(usage) => set_both(alloc, link, setter, day, usage.cap, 0, usage.used),
+        Err(fault) => Err(OrderFault::Unanswered(fault)),
+    }
+}
+
 /// Lets a login have so many recipients more on a day, and so many on each later day. The result is the day's limit.
-fn allow<L: Link>(
+fn resume<L: Link>(
     alloc: Global,
     link: &mut L,
     setter: &Setter,
@@ -155,19 +221,11 @@ fn allow<L: Link>(
     requires setter { IsSetter setter.now }
     requires day { IsDay (day + 1) }
     requires more { IsAmount more }
-    ensures { Allows setter.now day more (L.told link.old) (L.told link.new) result }
+    ensures { Resumes setter.now day more (L.told link.old) (L.told link.new) result }
 {
-    let used = match ask_used(alloc, link, &setter.login, day) {
-        Ok(used) => used,
-        Err(fault) => return Err(OrderFault::Unanswered(fault)),
-    };
-    let cap = match set_above(alloc, link, setter, day, more, used) {
-        Ok(cap) => cap,
-        Err(fault) => return Err(fault),
-    };
-    match set_limit(alloc, link, setter, LIMITS + 1, day + 1, more) {
-        Ok(()) => Ok(cap),
-        Err(fault) => Err(fault),
+    match ask_used(alloc, link, &setter.login, day) {
+        Ok(usage) => set_both(alloc, link, setter, day, AMOUNT_LIMIT, more, usage.used),
+        Err(fault) => Err(OrderFault::Unanswered(fault)),
     }
 }
 
@@ -192,8 +250,11 @@ fn line_of(
     Ok(line)
 }
 
-/// Lets a login have nothing more on a day and on each later day, and prints on `output` how much it used, or says on
+/// Lets a login have nothing more on a day and on each later day, and prints on `output` the day's limit, or says on
 /// `errors` why not both limits are set. The result is the exit status, 0 or 1.
+///
+/// No limit that it sets is above the one that the login had on that day. A limit that was set from a day after the next
+/// stays in force, and governs from that day on.
 pub fn run_stop<L: Link, W: Write, E: Write>(
     alloc: Global,
     link: &mut L,
@@ -205,12 +266,12 @@ pub fn run_stop<L: Link, W: Write, E: Write>(
     requires setter { IsSetter setter.now }
     requires day { IsDay (day + 1) }
     ensures stops { (ended : AResult ℕ AnOrderFault)
-        × Allows setter.now day 0 (L.told link.old) (L.told link.new) ended
+        × Stops setter.now day (L.told link.old) (L.told link.new) ended
         × Prints (λ used. stopped_line setter.now.login used day) (W.contents output.old) (W.contents output.new) ended
         result }
     ensures quiet { result ≡ 0 → errors.new ≡ errors.old }
 {
-    match allow(alloc, link, setter, day, 0) {
+    match stop(alloc, link, setter, day) {
         Ok(used) => {
             let line = line_of(alloc, "stopped: ", &setter.login, " used ", used, day);
             tell_line(line, output, errors)
@@ -234,12 +295,12 @@ pub fn run_resume<L: Link, W: Write, E: Write>(
     requires day { IsDay (day + 1) }
     requires more { IsAmount more }
     ensures resumes { (ended : AResult ℕ AnOrderFault)
-        × Allows setter.now day more (L.told link.old) (L.told link.new) ended
+        × Resumes setter.now day more (L.told link.old) (L.told link.new) ended
         × Prints (λ cap. resumed_line setter.now.login cap day) (W.contents output.old) (W.contents output.new) ended
         result }
     ensures quiet { result ≡ 0 → errors.new ≡ errors.old }
 {
-    match allow(alloc, link, setter, day, more) {
+    match resume(alloc, link, setter, day, more) {
         Ok(cap) => {
             let line = line_of(alloc, "resumed: ", &setter.login, " may use ", cap, day);
             tell_line(line, output, errors)

@@ -14,7 +14,7 @@ use std::alloc::Global;
 use std::io::Write;
 use thiserror::Error;
 
-/// How many numbers an order is sent under, where those of its runs may be used already.
+/// How many numbers a limit is sent under, where those of its runs may be used already.
 pub const NUMBERS: u32 = 16;
 
 /// Why an order isn't known to be carried out.
@@ -81,11 +81,11 @@ fn order<L: Link>(alloc: Global, link: &mut L, request: &Request) -> Result<(), 
     }
 }
 
-/// Whether the number of an order was used with another request.
+/// Whether the number of a limit was used with another request.
 fn is_taken(sent: Result<(), OrderFault>) -> bool
     ensures { result ≡ is_taken sent }
 {
-    matches!(sent, Err(OrderFault::OtherLimit | OrderFault::OtherRequest))
+    matches!(sent, Err(OrderFault::OtherLimit))
 }
 
 /// Moves a number on by so many runs, where there is such a run.
@@ -101,28 +101,27 @@ fn move_on(id: &mut Id, runs: u64) -> bool
     true
 }
 
-/// Puts an order under the number of the run that many later, where there is one.
+/// Puts a limit under the number of the run that many later, where there is one.
 fn renumber(request: &mut Request, runs: u64) -> bool
-    requires { IsOrder request.old }
-    ensures next { result ≡ true → IsOrder request.new × (request.new ≡ later runs request.old) }
+    requires { IsLimit request.old }
+    ensures next { result ≡ true → IsLimit request.new × (request.new ≡ later runs request.old) }
     ensures last { result ≡ false → LAST_RUN < run_of request.old + runs }
 {
     match request {
         Request::Limit { id, .. } => move_on(id, runs),
-        Request::Retire { id } => move_on(id, runs),
         _ => unreachable!(),
     }
 }
 
-/// Sends an order under its number and, where that is used with another request, under those of the runs 1, 3, 7 and so
-/// on after it, up to `NUMBERS` in all. So a number is found soon that isn't used, however many orders a millisecond
-/// others send.
+/// Sends a limit under its number and, where that is used with another request, under those of the runs 1, 3, 7 and so
+/// on after it, up to `NUMBERS` in all. So a number is found soon that isn't used, however many limits a millisecond
+/// others send. A retire is never sent so: under a later run it would give up other runs.
 pub fn order_fresh<L: Link>(
     alloc: Global,
     link: &mut L,
     request: &mut Request,
 ) -> Result<(), OrderFault>
-    requires { IsOrder request.old }
+    requires { IsLimit request.old }
     ensures { OrdersFresh request.old (L.told link.old) (L.told link.new) result }
 {
     let mut ahead = 0;
@@ -194,11 +193,11 @@ pub fn run_retire<L: Link, W: Write, E: Write>(
     run_order(alloc, link, request, output, errors)
 }
 
-/// Sends an order up to three times under its number and, where that is used with another request, under those of the
-/// runs 1, 3, 7 and so on after it, up to `NUMBERS` in all. It prints the order's word on `output` where it is carried
-/// out, or says on `errors` why it isn't. The result is the exit status, 0 or 1.
+/// Sends a limit up to three times under its number and, where that is used with another request, under those of the
+/// runs 1, 3, 7 and so on after it, up to `NUMBERS` in all. It prints `set` on `output` where it is set, or says on
+/// `errors` why it isn't. The result is the exit status, 0 or 1.
 ///
-/// The request is a limit or a retire whose fields are in range.
+/// The request is a limit whose fields are in range.
 pub fn run_fresh<L: Link, W: Write, E: Write>(
     alloc: Global,
     link: &mut L,
@@ -206,8 +205,8 @@ pub fn run_fresh<L: Link, W: Write, E: Write>(
     output: &mut W,
     errors: &mut E,
 ) -> u8
-    requires { IsOrder request }
-    ensures orders { (sent : AResult (Unit {0}) AnOrderFault)
+    requires { IsLimit request }
+    ensures limits { (sent : AResult (Unit {0}) AnOrderFault)
         × OrdersFresh request (L.told link.old) (L.told link.new) sent
         × Prints (λ _. word request) (W.contents output.old) (W.contents output.new) sent result }
     ensures quiet { result ≡ 0 → errors.new ≡ errors.old }

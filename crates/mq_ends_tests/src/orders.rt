@@ -57,7 +57,7 @@ fn request_of(alloc: Global, digits: &str) -> Result<Request, Fail> {
 enum Act {
     /// This order is sent, or this frame of a filter.
     Send(&'static str),
-    /// This order is sent under the first number that isn't used.
+    /// This limit is sent under the first number that isn't used.
     SendFresh(&'static str),
     /// Login `u` is stopped on this day.
     Stop(u32),
@@ -107,7 +107,7 @@ fn sent(
     }
 }
 
-/// The status of an order that is sent under the first number that isn't used.
+/// The status of a limit that is sent under the first number that isn't used.
 fn sent_fresh(
     alloc: Global,
     link: &mut Near,
@@ -121,8 +121,7 @@ fn sent_fresh(
     }
     match request {
         Request::Limit { .. } => Ok(run_fresh(alloc, link, request, output, errors)),
-        Request::Retire { .. } => Ok(run_fresh(alloc, link, request, output, errors)),
-        _ => Err("no order".into()),
+        _ => Err("no limit".into()),
     }
 }
 
@@ -212,7 +211,7 @@ fn assert_told(
 const RULE: &str = "CET-1CEST,M3.5.0,M10.5.0/3";
 
 /// What is done in turn, and what is told of it.
-const ACTS: [(Act, &str); 20] = [
+const ACTS: [(Act, &str); 19] = [
     // Reserves of 1 and of 2 recipients for login `u` on day 1, under numbers 1 and 2 of run 1 of host `a`.
     (
         Act::Send("010161000000000000000100000001000000010000000000015180017500000001"),
@@ -244,7 +243,7 @@ const ACTS: [(Act, &str); 20] = [
         Act::Send("04016200000000000000030000000200000001000000050175"),
         "|mailquota: number used with another limit\n|1",
     ),
-    // The runs of host `a` below 2, twice, and below 1; then under a number that a limit has, and under the next run's.
+    // The runs of host `a` below 2, twice, and below 1; then under a number that a limit has.
     (Act::Send("070161000000000000000200000001"), "retired\n||0"),
     (Act::Send("070161000000000000000200000001"), "retired\n||0"),
     (
@@ -254,10 +253,6 @@ const ACTS: [(Act, &str); 20] = [
     (
         Act::Send("070162000000000000000200000001"),
         "|mailquota: number used with another request\n|1",
-    ),
-    (
-        Act::SendFresh("070162000000000000000200000001"),
-        "retired\n||0",
     ),
     // A limit under a number of a run that was given up.
     (

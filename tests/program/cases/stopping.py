@@ -92,8 +92,8 @@ def of_the_real_server(world, checks):
         checks.equal("stop under a host whose runs are retired", stop(world, address), fault("run is retired"))
 
 
-def usage_reply(in_settled, in_reserved, login=b"u", day=1):
-    return frame(b"\x8b" + text(login) + number(day) + number(in_settled) + number(in_reserved) + number(9))
+def usage_reply(in_settled, in_reserved, login=b"u", day=1, cap=9):
+    return frame(b"\x8b" + text(login) + number(day) + number(in_settled) + number(in_reserved) + number(cap))
 
 
 def said(heard, kind, more=b""):
@@ -137,8 +137,13 @@ def stop_by_script(world, checks):
     asked = frame(b"\x05" + text(b"u") + number(1))
     for what, script, limits, wanted in [
         ("all answered at once", [usage_reply(2, 3), is_set, is_set], [(1, 0, 1, 5), (19, 0, 2, 0)], stopped(5)),
-        ("more is used meanwhile", [usage_reply(2, 3), over(6), over(9), is_set, is_set], [(1, 0, 1, 5), (2, 0, 1, 14), (3, 0, 1, 33), (19, 0, 2, 0)], stopped(33)),
-        ("more is used on a later day", [usage_reply(2, 3), over(6, day=4), over(6, day=4)] + [over(6, day=4)] * 16, None, fault("over day 4 used 6")),
+        ("more is used meanwhile", [usage_reply(2, 3, cap=200), over(6), over(9), is_set, is_set], [(1, 0, 1, 5), (2, 0, 1, 14), (3, 0, 1, 33), (19, 0, 2, 0)], stopped(33)),
+        ("199 of 200 used, and one more meanwhile", [usage_reply(190, 9, cap=200), over(200), is_set, is_set], [(1, 0, 1, 199), (2, 0, 1, 200), (19, 0, 2, 0)], stopped(200)),
+        ("room up to the limit that it had", [usage_reply(2, 3), over(6), over(9), is_set, is_set], [(1, 0, 1, 5), (2, 0, 1, 9), (3, 0, 1, 9), (19, 0, 2, 0)], stopped(9)),
+        ("all used", [usage_reply(9, 0), is_set, is_set], [(1, 0, 1, 9), (19, 0, 2, 0)], stopped(9)),
+        ("a greater limit is set meanwhile, and used", [usage_reply(2, 3), over(6)] + [over(12)] * 17, [(1, 0, 1, 5)] + [(place, 0, 1, 9) for place in range(2, 19)], fault("over day 1 used 12")),
+        ("more is used on a later day", [usage_reply(2, 3), over(6, day=4)], [(1, 0, 1, 5)], fault("over day 4 used 6")),
+        ("more is used meanwhile, and then on a later day", [usage_reply(2, 3), over(6), over(20, day=2)], [(1, 0, 1, 5), (2, 0, 1, 9)], fault("over day 2 used 20")),
         ("more is used on the next day", [usage_reply(0, 0), is_set, over(1, day=2)], [(1, 0, 1, 0), (19, 0, 2, 0)], fault("over day 2 used 1")),
         ("a used number", [usage_reply(0, 1), is_taken, is_set, is_taken, is_taken, is_set], [(1, 0, 1, 1), (1, 1, 1, 1), (19, 0, 2, 0), (19, 1, 2, 0), (19, 3, 2, 0)], stopped(1)),
         ("a run that is retired", [usage_reply(0, 1), lambda heard: said(heard, OLD)], [(1, 0, 1, 1)], fault("run is retired")),
@@ -150,24 +155,27 @@ def stop_by_script(world, checks):
         with Script(script) as server:
             came = without_log(stop(world, server.address))
         checks.equal(f"stop, {what}", (came, server.heard[0]), (wanted, asked))
-        if limits is not None:
-            checks.equal(f"stop, {what}: the limits", orders_of(server), limits)
+        checks.equal(f"stop, {what}: the limits", orders_of(server), limits)
     with Script([b""] * 3) as server:
         came = without_log(stop(world, server.address))
     checks.equal("stop, no answer to what is used", (came, server.heard), (unavailable, [asked] * 3))
     with Script([usage_reply(2, 3), over(6), is_set, is_set]) as server:
         came = without_log(resume(world, server.address, 50))
     checks.equal("resume where more is used meanwhile", (came, orders_of(server)), (resumed(64), [(1, 0, 1, 55), (2, 0, 1, 64), (19, 0, 2, 50)]))
+    with Script([usage_reply(2, 3), over(60, day=3)]) as server:
+        came = without_log(resume(world, server.address, 50))
+    checks.equal("resume where more is used on a later day", (came, orders_of(server)), (fault("over day 3 used 60"), [(1, 0, 1, 55)]))
 
 
 def room_by_script(world, checks):
-    """After each refusal there is room for 8 recipients, and for twice as many and 8 more each time, up to the most that a limit may be."""
+    """After each refusal there is room for 8 recipients, and for twice as many and 8 more each time, up to the limit that the login had, which
+    is here the most that a limit may be."""
     room, rooms = 0, []
     for _ in range(18):
         rooms.append(room)
         room = min(room * 2 + 8, MOST)
     for what, used in [("nothing", 0), ("five", 5), ("all but three", MOST - 3)]:
-        with Script([usage_reply(used, 0)] + [over(used)] * 18) as server:
+        with Script([usage_reply(used, 0, cap=MOST)] + [over(used)] * 18) as server:
             came = without_log(stop(world, server.address))
         wanted = [(place, 0, 1, min(used + room, MOST)) for place, room in enumerate(rooms, start=1)]
         checks.equal(f"stop gives up after 18 limits: {what} used", came, fault(f"over day 1 used {used}"))
@@ -176,24 +184,33 @@ def room_by_script(world, checks):
 
 
 def used_numbers(world, checks):
-    """Without `--run` the next of 16 numbers is tried where one is used; with it, none."""
-    words = {
-        "limit": (["--login", "u", "--from", "1", "--cap", "5"], b"set\n", is_set, "number used with another limit"),
-        "retire": ([], b"retired\n", lambda heard: said(heard, b"\x8f"), "number used with another request"),
-    }
-    for name, (more, word, good, refused) in words.items():
-        for taken in (0, 1, 2, 15):
-            with Script([is_taken] * taken + [good]) as server:
-                came = without_log(world.run(name, "--server", server.address, "--host", "admin", *more))
-            runs = [run_of(heard) - run_of(server.heard[0]) for heard in server.heard]
-            checks.equal(f"{name}, {taken} numbers used: what it prints, and the runs", (came, runs), ((0, word, ""), AHEAD[:taken + 1]))
-        with Script([is_taken] * 16) as server:
-            came = without_log(world.run(name, "--server", server.address, "--host", "admin", *more))
-        runs = [run_of(heard) - run_of(server.heard[0]) for heard in server.heard]
-        checks.equal(f"{name}, all 16 numbers used", (came, runs), (fault(refused), AHEAD))
-        with Script([is_taken]) as server:
-            came = without_log(world.run(name, "--server", server.address, "--host", "admin", *more, "--run", "7"))
-        checks.equal(f"{name} --run, a used number", (came, [run_of(it) for it in server.heard]), (fault(refused), [7]))
+    """Without `--run` a limit tries the next of 16 numbers where one is used, and with it none; a retire never does."""
+    limiting = ["limit", "--host", "admin", "--login", "u", "--from", "1", "--cap", "5"]
+    retiring = ["retire", "--host", "admin"]
+
+    def ordered(script, words):
+        """What an order comes to over a server that answers by a script, and the runs under which it was sent."""
+        with Script(script) as server:
+            came = without_log(world.run(*words, "--server", server.address))
+        return came, [run_of(heard) for heard in server.heard]
+
+    def ahead(runs):
+        return [run - runs[0] for run in runs]
+
+    for taken in (0, 1, 2, 15):
+        came, runs = ordered([is_taken] * taken + [is_set], limiting)
+        checks.equal(f"limit, {taken} numbers used: what it prints, and the runs", (came, ahead(runs)), ((0, b"set\n", ""), AHEAD[:taken + 1]))
+    came, runs = ordered([is_taken] * 16, limiting)
+    checks.equal("limit, all 16 numbers used", (came, ahead(runs)), (fault("number used with another limit"), AHEAD))
+    checks.equal("limit --run, a used number", ordered([is_taken], [*limiting, "--run", "7"]), (fault("number used with another limit"), [7]))
+    refused = fault("number used with another request")
+    before = clock()
+    came, runs = ordered([is_taken], retiring)
+    checks.equal("retire, a used number: sent once", (came, len(runs)), (refused, 1))
+    checks.holds("retire, a used number: its run is the clock's", before <= runs[0] <= clock(), f"from {before} on, and not later", runs)
+    checks.equal("retire --run, a used number", ordered([is_taken], [*retiring, "--run", "7"]), (refused, [7]))
+    came, runs = ordered([lambda heard: said(heard, b"\x8f")], retiring)
+    checks.equal("retire, a number that isn't used", (came, len(runs)), ((0, b"retired\n", ""), 1))
     with Server(world) as server:
         numbers = range(clock(), clock() + 200)
         server.ask(b"".join(limit(1, 1, 2, login=b"other", host=b"admin", run=run) for run in numbers))

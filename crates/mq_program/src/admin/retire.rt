@@ -11,7 +11,7 @@ use crate::fault::ProgramFault;
 use log::sink::Console;
 use log::{LevelFilter, Logged};
 use mq_arguments::RetireArguments;
-use mq_command::{run_fresh, run_retire};
+use mq_command::run_retire;
 use mq_frame::{Request, is_host};
 use std::alloc::{AllocError, Global};
 use std::io;
@@ -43,16 +43,15 @@ pub fn retire<R: Clock + Net + Print + Eprint + AllocGlobal, E: Write>(
     let address = address_of(given.server)?;
     let run = run_number(rt, given.run)?;
     let request = retire_request(rt.alloc(), given.host, run)?;
-    Ok(ask_retire(rt, address, request, given.run.is_some(), errors))
+    Ok(ask_retire(rt, address, request, errors))
 }
 
-/// Asks the server at this address to give up runs, and prints what comes of it. Only a number that the words give is
-/// kept where it is used already.
+/// Asks the server at this address to give up runs, and prints what comes of it. Also a number that is the clock's is kept
+/// where it is used already: a later run would give up the filters that start until then.
 fn ask_retire<R: Clock + Net + Print + Eprint + AllocGlobal, E: Write>(
     rt: &R,
     address: SocketAddr,
     request: Request,
-    is_given: bool,
     errors: &mut E,
 ) -> u8
     requires { IsRetire request }
@@ -60,9 +59,5 @@ fn ask_retire<R: Clock + Net + Print + Eprint + AllocGlobal, E: Write>(
     let logged = Logged::new(rt, LevelFilter::Error, Console(rt));
     let mut link = link_to(rt, address, &logged);
     let mut output = io::writer(rt);
-    if is_given {
-        run_retire(rt.alloc(), &mut link, &request, &mut output, errors)
-    } else {
-        run_fresh(rt.alloc(), &mut link, request, &mut output, errors)
-    }
+    run_retire(rt.alloc(), &mut link, &request, &mut output, errors)
 }

@@ -1,5 +1,5 @@
 use Rattle.std.proofs.Common.{◌+◌, ◌*◌, sym, ap, subst, refl, ◌∙◌, arith}
-use Rattle.mq_command.specs.Orders.{IsOrder, later, no_number, number}
+use Rattle.mq_command.specs.Orders.{IsLimit, later, no_number, number}
 use Rattle.mq_command.proofs.OrderSteps.{ahead_more, ahead_small, later_none, later_more}
 use Rattle.mq_command.proofs.order.order_fresh.Goals as goal
 
@@ -13,7 +13,7 @@ loop-taken-preserved g c =
     let runs = c.loop-taken.ahead in
     let moved = next ∙ ap (later (runs + 1)) so_far ∙ later_more runs c.args.request.now in (
       in_range',
-      ahead_small (runs * 2 + 1) c.args.request.now (subst IsOrder moved in_range'),
+      ahead_small (runs * 2 + 1) c.args.request.now (subst IsLimit moved in_range'),
       ahead_more c.loop-taken._taken runs grown,
       moved,
       number _ _ _ c.order-sent.result taken (rw (so_far, grown) at c.order-sent.ensures) (sym c.is_taken.ensures ∙ c.if-not-is_taken.false),

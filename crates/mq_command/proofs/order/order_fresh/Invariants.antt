@@ -1,10 +1,10 @@
 use Rattle.std.proofs.Common.{◌≡◌, ◌≤◌}
 use Rattle.mq_frame.specs.declared.format.TheConstants.{LAST_RUN}
-use Rattle.mq_command.specs.Orders.{IsOrder, AreTaken, ahead, later}
+use Rattle.mq_command.specs.Orders.{IsLimit, AreTaken, ahead, later}
 use Rattle.mq_command.proofs.order.order_fresh.Given as goal
 
--- the order is under the number of the run that many later, and those before it are taken
+-- the limit is under the number of the run that many later, and those before it are taken
 abbrev pub invariant-loop-taken : goal.invariant-loop-taken
 invariant-loop-taken g l =
-    IsOrder l.request × (l.ahead ≤ LAST_RUN) × (l.ahead ≡ ahead l._taken) × (l.request ≡ later l.ahead l.initial.request)
+    IsLimit l.request × (l.ahead ≤ LAST_RUN) × (l.ahead ≡ ahead l._taken) × (l.request ≡ later l.ahead l.initial.request)
     × AreTaken l.initial.request (g.L.Link.told l.initial.link) l._taken (g.L.Link.told l.link)
