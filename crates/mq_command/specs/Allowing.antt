@@ -1,6 +1,6 @@
 -- What stopping a login and letting it go again leads to.
 use Rattle.std.specs.Prelude.{◌≡◌, ◌⊎◌, ◌<◌, ◌+◌, ◌*◌, ◌++◌, ℕ, zero, suc, List, [], ◌∷◌, Option}
-use Rattle.std.specs.Prelude.{Result, Ok, Err, min, codes, ⊤}
+use Rattle.std.specs.Prelude.{Result, Ok, Err, min, codes}
 use Rattle.std.specs.Fmt.{decimal}
 use Rattle.mq_frame.specs.Escaped.{escaped}
 use Rattle.mq_frame.specs.Range.{IsHost, IsRun, IsLogin}
