@@ -316,6 +316,37 @@ class Script:
             pass
 
 
+class Relay:
+    """Stands between a command and a real server, and notes what went each way: a connection at a time."""
+
+    def __init__(self, server):
+        self.server = server
+        self.told = []
+        self.listener = socket.create_server(("127.0.0.1", 0), backlog=128)
+        self.address = f"127.0.0.1:{self.listener.getsockname()[1]}"
+        self.is_over = False
+        self.thread = threading.Thread(target=self.serve, daemon=True)
+
+    def __enter__(self):
+        self.thread.start()
+        return self
+
+    def __exit__(self, *_):
+        self.is_over = True
+        self.thread.join(timeout=SECONDS)
+        self.listener.close()
+
+    def serve(self):
+        while not self.is_over:
+            if select.select([self.listener], [], [], 0.05)[0]:
+                with self.listener.accept()[0] as peer:
+                    peer.settimeout(SECONDS)
+                    heard = read_all(peer)
+                    reply = self.server.ask(heard)
+                    self.told.append((heard, reply))
+                    peer.sendall(reply)
+
+
 class World:
     """The program under test and a folder for its files."""
 

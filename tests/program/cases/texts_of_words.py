@@ -10,6 +10,9 @@ Commands:
   server  Serve the ledger to filters
   filter  Answer smtpd on standard input and output
   limit   Set the limit of a login from a day on
+  stop    Let a login have nothing more, today and on each later day
+  resume  Let a login have more again, today and on each later day
+  day     Print the day number of the ledger of a server's settings
   retire  Give up a host's earlier runs: settle what they hold, forget their replies
   report  Print what logins used on a day
   audit   Check the books of the ledger in a file
@@ -52,16 +55,51 @@ Options:
 """),
     (["limit", "--help"], """Set the limit of a login from a day on
 
-Usage: mailquota limit [OPTIONS] --server <ADDRESS> --host <HOST> --login <LOGIN> --from <DAY> --cap <N>
+Usage: mailquota limit [OPTIONS] --server <ADDRESS> --host <HOST> --from <DAY> --cap <N>
 
 Options:
-      --server <ADDRESS>  Numeric address and port of the quota server
-      --host <HOST>       Host that asks
-      --login <LOGIN>     Login, as smtpd reports it
-      --from <DAY>        Day number from which on the limit governs
-      --cap <N>           Recipients a day
-      --run <N>           Number of the run; the clock's milliseconds where it isn't given
-  -h, --help              Print help
+      --server <ADDRESS>   Numeric address and port of the quota server
+      --host <HOST>        Host that asks
+      --login <LOGIN>      Login, as smtpd reports it
+      --login-text <TEXT>  Login, as a report prints it
+      --from <DAY>         Day number from which on the limit governs
+      --cap <N>            Recipients a day
+      --run <N>            Number of the run; the clock's milliseconds where it isn't given
+  -h, --help               Print help
+"""),
+    (["stop", "--help"], """Let a login have nothing more, today and on each later day
+
+Usage: mailquota stop [OPTIONS] --server <ADDRESS> --host <HOST> --day <DAY>
+
+Options:
+      --server <ADDRESS>   Numeric address and port of the quota server
+      --host <HOST>        Host that asks
+      --login <LOGIN>      Login, as smtpd reports it
+      --login-text <TEXT>  Login, as a report prints it
+      --day <DAY>          Day number of today
+  -h, --help               Print help
+"""),
+    (["resume", "--help"], """Let a login have more again, today and on each later day
+
+Usage: mailquota resume [OPTIONS] --server <ADDRESS> --host <HOST> --day <DAY> --cap <N>
+
+Options:
+      --server <ADDRESS>   Numeric address and port of the quota server
+      --host <HOST>        Host that asks
+      --login <LOGIN>      Login, as smtpd reports it
+      --login-text <TEXT>  Login, as a report prints it
+      --day <DAY>          Day number of today
+      --cap <N>            Recipients that it may have more today, and on each later day
+  -h, --help               Print help
+"""),
+    (["day", "--help"], """Print the day number of the ledger of a server's settings
+
+Usage: mailquota day [OPTIONS] --config <FILE>
+
+Options:
+      --config <FILE>  Settings
+      --at <SECONDS>   Second since 1970-01-01 UTC; now where it isn't given
+  -h, --help           Print help
 """),
     (["retire", "--help"], """Give up a host's earlier runs: settle what they hold, forget their replies
 
@@ -78,10 +116,11 @@ Options:
 Usage: mailquota report [OPTIONS] --server <ADDRESS> --day <DAY>
 
 Options:
-      --server <ADDRESS>  Numeric address and port of the quota server
-      --day <DAY>         Day number, counted from 1970-01-01
-      --login <LOGIN>     One login, as smtpd reports it; all where it isn't given
-  -h, --help              Print help
+      --server <ADDRESS>   Numeric address and port of the quota server
+      --day <DAY>          Day number, counted from 1970-01-01
+      --login <LOGIN>      One login, as smtpd reports it; all where it isn't given
+      --login-text <TEXT>  Login, as a report prints it
+  -h, --help               Print help
 """),
     (["audit", "--help"], """Check the books of the ledger in a file
 
@@ -137,7 +176,33 @@ For more information, try '--help'.
     (["limit", "--host=mx1", "--login=u", "--from=1", "--cap=2"], """error: the following required arguments were not provided:
   --server <ADDRESS>
 
-Usage: mailquota limit --server <ADDRESS> --host <HOST> --login <LOGIN> --from <DAY> --cap <N>
+Usage: mailquota limit --server <ADDRESS> --host <HOST> --from <DAY> --cap <N> --login <LOGIN>
+
+For more information, try '--help'.
+"""),
+    (["stop", "--server=a", "--host=mx1", "--day=1"], """error: the following required arguments were not provided:
+  --login <LOGIN>
+
+Usage: mailquota stop --server <ADDRESS> --host <HOST> --day <DAY> --login <LOGIN>
+
+For more information, try '--help'.
+"""),
+    (["stop", "--server=a", "--host=mx1", "--day=1", "--login=u", "--login-text=u"], """error: the argument '--login <LOGIN>' cannot be used with '--login-text <TEXT>'
+
+Usage: mailquota stop --server <ADDRESS> --host <HOST> --day <DAY> --login <LOGIN>
+
+For more information, try '--help'.
+"""),
+    (["report", "--server=a", "--day=1", "--login-text=u", "--login=u"], """error: the argument '--login-text <TEXT>' cannot be used with '--login <LOGIN>'
+
+Usage: mailquota report --server <ADDRESS> --day <DAY> --login-text <TEXT>
+
+For more information, try '--help'.
+"""),
+    (["day", "--at=86400"], """error: the following required arguments were not provided:
+  --config <FILE>
+
+Usage: mailquota day --config <FILE> --at <SECONDS>
 
 For more information, try '--help'.
 """),

@@ -82,6 +82,10 @@ NUMBERS = [
     (ASKED + ["--cap=1"], "from", "DAY", 0, 376_200, BAD_ADDRESS),
     (ASKED + ["--from=1"], "cap", "N", 0, 1_000_000, BAD_ADDRESS),
     (ASKED + ["--from=1", "--cap=1"], "run", "N", 1, MOST_RUN, BAD_ADDRESS),
+    (["stop", "--server=a", "--host=h", "--login=u"], "day", "DAY", 0, 376_199, BAD_ADDRESS),
+    (["resume", "--server=a", "--host=h", "--login=u", "--cap=1"], "day", "DAY", 0, 376_199, BAD_ADDRESS),
+    (["resume", "--server=a", "--host=h", "--login=u", "--day=1"], "cap", "N", 0, 1_000_000, BAD_ADDRESS),
+    (["day", "--config=f"], "at", "SECONDS", 86_400, 32_503_680_000, unreadable("f")),
     (["retire", "--server=a", "--host=h"], "run", "N", 1, MOST_RUN, BAD_ADDRESS),
     (["report", "--server=a"], "day", "DAY", 0, 376_200, BAD_ADDRESS),
 ]

@@ -1,0 +1,359 @@
+"""`stop` and `resume`, `day`, logins as a report prints them, and numbers of orders that are used: over the real server, with filters that
+send, and over a server that answers by a script."""
+import threading
+import time
+
+from cases.filters import LIMIT, PROCEED
+from cases.rules import CENTRAL_EUROPE
+from cases.zones import WORKED_DAYS
+from ends import SECONDS, Relay, Script, Server, fault, ledger_settings, toml, wait_until, without_log
+from smtpd import Smtpd, clock, result
+from wire import BAD, RETRY, frame, full, granted, identity, limit, number, page, page_reply, reserve, retire, retired, row, settle, text
+
+LAST_DAY = 376_200
+# what a server says of a limit or a retire, by its frame
+SET, OVER, CONFLICT, OLD = b"\x85", b"\x86", b"\x8a", b"\x90"
+# how many runs after its own an order's number is, each time that the one before is used
+AHEAD = [2**times - 1 for times in range(16)]
+DAY = 20_780
+NOON = DAY * 86_400 + 43_200
+MOST = 1_000_000
+
+
+def run(world, checks):
+    of_the_real_server(world, checks)
+    stop_by_script(world, checks)
+    room_by_script(world, checks)
+    used_numbers(world, checks)
+    login_texts(world, checks)
+    bad_words(world, checks)
+    days(world, checks)
+    a_device_that_is_full(world, checks)
+    loops(world, checks, "limits in a loop", 1, 100)
+    loops(world, checks, "limits of two loops at once", 2, 100)
+    sessions_that_send(world, checks)
+
+
+def words_of(address, login, day, host="admin"):
+    named = ["--login", login] if isinstance(login, str) else list(login)
+    return ["--server", address, "--host", host, *named, "--day", str(day)]
+
+
+def stop(world, address, login="u", day=1, **more):
+    return world.run("stop", *words_of(address, login, day), **more)
+
+
+def resume(world, address, cap, login="u", day=1, **more):
+    return world.run("resume", *words_of(address, login, day), "--cap", str(cap), **more)
+
+
+def stopped(used, login="u", day=1):
+    return 0, f"stopped: {login} used {used} on day {day}\n".encode(), ""
+
+
+def resumed(cap, login="u", day=1):
+    return 0, f"resumed: {login} may use {cap} on day {day}\n".encode(), ""
+
+
+def caps(server, login=b"u", *asked):
+    """The limits of a login on these days."""
+    shown = b"".join(server.ask(frame(b"\x05" + text(login) + number(day))) for day in asked)
+    size = 2 + 1 + 1 + len(login) + 16
+    return [int.from_bytes(shown[at + size - 4:at + size], "big") for at in range(0, len(shown), size)]
+
+
+def of_the_real_server(world, checks):
+    with Server(world) as server:
+        address = server.address
+        checks.equal("stop of a login that never wrote", stop(world, address), stopped(0))
+        checks.equal("its limits on that day, the next and the last", caps(server, b"u", 0, 1, 2, LAST_DAY), [3, 0, 0, 0])
+        checks.equal("its next recipient", server.ask(reserve(1)), full(1, 0, 0))
+        checks.equal("stop of a stopped login", stop(world, address), stopped(0))
+        checks.equal("resume", resume(world, address, 2), resumed(2))
+        checks.equal("its limits then", caps(server, b"u", 0, 1, 2, LAST_DAY), [3, 2, 2, 2])
+        checks.equal("two recipients, one of them settled, and a third", server.ask(reserve(2) + settle(3) + reserve(4, txn=2) + reserve(5, txn=3)), granted(2, 1) + frame(b"\x83" + identity(3) + number(1)) + granted(4, 2) + full(5, 2, 2))
+        checks.equal("stop of a login that used two", stop(world, address), stopped(2))
+        checks.equal("its limits after it", caps(server, b"u", 1, 2), [2, 0])
+        checks.equal("resume: as many more on that day, and as many on each later one", resume(world, address, 5), resumed(7))
+        checks.equal("its limits after the resume", caps(server, b"u", 1, 2), [7, 5])
+        checks.equal("a recipient on the next day", server.ask(reserve(6, txn=9, at=172_800)), granted(6, 1))
+        checks.equal("stop where more is used on the next day", stop(world, address), fault("over day 2 used 1"))
+        checks.equal("then the limit of the day alone is set", caps(server, b"u", 1, 2), [2, 5])
+        checks.equal("stop from that next day on", stop(world, address, day=2), stopped(1, day=2))
+        checks.equal("resume with nothing more", resume(world, address, 0, day=2), resumed(1, day=2))
+        checks.equal("resume with the most", resume(world, address, MOST, day=2), resumed(MOST, day=2))
+        checks.equal("stop on the last day but one", stop(world, address, login="v", day=LAST_DAY - 1), stopped(0, "v", LAST_DAY - 1))
+        checks.equal("its limits there", caps(server, b"v", LAST_DAY - 2, LAST_DAY - 1, LAST_DAY), [3, 0, 0])
+        checks.equal("a limit of a later day", world.run("limit", "--server", address, "--host", "admin", "--login", "w", "--from", "9", "--cap", "4"), (0, b"set\n", ""))
+        checks.equal("a stop before that day", stop(world, address, login="w"), stopped(0, "w"))
+        checks.equal("the later limit still governs from its day on", caps(server, b"w", 1, 8, 9), [0, 0, 4])
+        checks.equal("the server's log", server.log_lines(), [])
+        world.run("retire", "--server", address, "--host", "admin", "--run", str(clock() + 3_600_000))
+        checks.equal("stop under a host whose runs are retired", stop(world, address), fault("run is retired"))
+
+
+def usage_reply(in_settled, in_reserved, login=b"u", day=1):
+    return frame(b"\x8b" + text(login) + number(day) + number(in_settled) + number(in_reserved) + number(9))
+
+
+def said(heard, kind, more=b""):
+    """A reply to the order in a frame."""
+    return frame(kind + heard[3:4 + heard[3] + 12] + more)
+
+
+def is_set(heard):
+    return said(heard, SET)
+
+
+def over(used, day=1):
+    return lambda heard: said(heard, OVER, number(day) + number(used))
+
+
+def is_taken(heard):
+    return said(heard, CONFLICT)
+
+
+def run_of(heard):
+    """The run of an order's number."""
+    place = 4 + heard[3]
+    return int.from_bytes(heard[place:place + 8], "big")
+
+
+def orders_of(script, login=b"u"):
+    """The day, cap and place of each limit that a server heard, and how many runs after the first its run is."""
+    found, first = [], None
+    for heard in script.heard[1:]:
+        first = first or run_of(heard)
+        place = 4 + heard[3] + 8
+        sequence, day, cap = (int.from_bytes(heard[at:at + 4], "big") for at in range(place, place + 12, 4))
+        assert heard == limit(sequence, day, cap, login=login, host=b"admin", run=run_of(heard))
+        found.append((sequence, run_of(heard) - first, day, cap))
+    return found
+
+
+def stop_by_script(world, checks):
+    """What is asked and ordered, in turn; (place, runs after the first, day, cap) of each limit."""
+    unavailable = fault("quota service unavailable")
+    asked = frame(b"\x05" + text(b"u") + number(1))
+    for what, script, limits, wanted in [
+        ("all answered at once", [usage_reply(2, 3), is_set, is_set], [(1, 0, 1, 5), (19, 0, 2, 0)], stopped(5)),
+        ("more is used meanwhile", [usage_reply(2, 3), over(6), over(9), is_set, is_set], [(1, 0, 1, 5), (2, 0, 1, 14), (3, 0, 1, 33), (19, 0, 2, 0)], stopped(33)),
+        ("more is used on a later day", [usage_reply(2, 3), over(6, day=4), over(6, day=4)] + [over(6, day=4)] * 16, None, fault("over day 4 used 6")),
+        ("more is used on the next day", [usage_reply(0, 0), is_set, over(1, day=2)], [(1, 0, 1, 0), (19, 0, 2, 0)], fault("over day 2 used 1")),
+        ("a used number", [usage_reply(0, 1), is_taken, is_set, is_taken, is_taken, is_set], [(1, 0, 1, 1), (1, 1, 1, 1), (19, 0, 2, 0), (19, 1, 2, 0), (19, 3, 2, 0)], stopped(1)),
+        ("a run that is retired", [usage_reply(0, 1), lambda heard: said(heard, OLD)], [(1, 0, 1, 1)], fault("run is retired")),
+        ("the next day's run is retired", [usage_reply(0, 1), is_set, lambda heard: said(heard, OLD)], [(1, 0, 1, 1), (19, 0, 2, 0)], fault("run is retired")),
+        ("lost replies", [usage_reply(0, 1), b"", RETRY, is_set, BAD, is_set], [(1, 0, 1, 1)] * 3 + [(19, 0, 2, 0)] * 2, stopped(1)),
+        ("no answer to the second limit", [usage_reply(0, 1), is_set, b"", b"", b""], [(1, 0, 1, 1)] + [(19, 0, 2, 0)] * 3, unavailable),
+        ("no answer to the first limit", [usage_reply(0, 1), b"", b"", b""], [(1, 0, 1, 1)] * 3, unavailable),
+    ]:
+        with Script(script) as server:
+            came = without_log(stop(world, server.address))
+        checks.equal(f"stop, {what}", (came, server.heard[0]), (wanted, asked))
+        if limits is not None:
+            checks.equal(f"stop, {what}: the limits", orders_of(server), limits)
+    with Script([b""] * 3) as server:
+        came = without_log(stop(world, server.address))
+    checks.equal("stop, no answer to what is used", (came, server.heard), (unavailable, [asked] * 3))
+    with Script([usage_reply(2, 3), over(6), is_set, is_set]) as server:
+        came = without_log(resume(world, server.address, 50))
+    checks.equal("resume where more is used meanwhile", (came, orders_of(server)), (resumed(64), [(1, 0, 1, 55), (2, 0, 1, 64), (19, 0, 2, 50)]))
+
+
+def room_by_script(world, checks):
+    """After each refusal there is room for 8 recipients, and for twice as many and 8 more each time, up to the most that a limit may be."""
+    room, rooms = 0, []
+    for _ in range(18):
+        rooms.append(room)
+        room = min(room * 2 + 8, MOST)
+    for what, used in [("nothing", 0), ("five", 5), ("all but three", MOST - 3)]:
+        with Script([usage_reply(used, 0)] + [over(used)] * 18) as server:
+            came = without_log(stop(world, server.address))
+        wanted = [(place, 0, 1, min(used + room, MOST)) for place, room in enumerate(rooms, start=1)]
+        checks.equal(f"stop gives up after 18 limits: {what} used", came, fault(f"over day 1 used {used}"))
+        checks.equal(f"the 18 limits: {what} used", orders_of(server), wanted)
+    checks.equal("the room of the last", rooms[-1], MOST)
+
+
+def used_numbers(world, checks):
+    """Without `--run` the next of 16 numbers is tried where one is used; with it, none."""
+    words = {
+        "limit": (["--login", "u", "--from", "1", "--cap", "5"], b"set\n", is_set, "number used with another limit"),
+        "retire": ([], b"retired\n", lambda heard: said(heard, b"\x8f"), "number used with another request"),
+    }
+    for name, (more, word, good, refused) in words.items():
+        for taken in (0, 1, 2, 15):
+            with Script([is_taken] * taken + [good]) as server:
+                came = without_log(world.run(name, "--server", server.address, "--host", "admin", *more))
+            runs = [run_of(heard) - run_of(server.heard[0]) for heard in server.heard]
+            checks.equal(f"{name}, {taken} numbers used: what it prints, and the runs", (came, runs), ((0, word, ""), AHEAD[:taken + 1]))
+        with Script([is_taken] * 16) as server:
+            came = without_log(world.run(name, "--server", server.address, "--host", "admin", *more))
+        runs = [run_of(heard) - run_of(server.heard[0]) for heard in server.heard]
+        checks.equal(f"{name}, all 16 numbers used", (came, runs), (fault(refused), AHEAD))
+        with Script([is_taken]) as server:
+            came = without_log(world.run(name, "--server", server.address, "--host", "admin", *more, "--run", "7"))
+        checks.equal(f"{name} --run, a used number", (came, [run_of(it) for it in server.heard]), (fault(refused), [7]))
+    with Server(world) as server:
+        numbers = range(clock(), clock() + 200)
+        server.ask(b"".join(limit(1, 1, 2, login=b"other", host=b"admin", run=run) for run in numbers))
+        came = world.run("limit", "--server", server.address, "--host", "admin", "--login", "u", "--from", "1", "--cap", "5")
+        checks.equal("limit where the clock's next 200 numbers are used", (came, caps(server, b"u", 1)), ((0, b"set\n", ""), [5]))
+
+
+def login_texts(world, checks):
+    """What a report prints can be given as it is, also bytes that are no UTF-8."""
+    logins = [b"alice", b"a b\\", b"\xff\xfe", b"\x1b[2J", b"\xc3\xa9", b"\\x41", b"~", b"\x7f", b"a" * 255, b"\x00" * 255]
+    with Server(world) as server:
+        server.ask(b"".join(reserve(n, txn=n, login=login) for n, login in enumerate(logins, start=1)))
+        shown = world.run("report", "--server", server.address, "--day", "1")[1].decode().splitlines()
+        texts = [line.split(" ")[-1] for line in shown]
+        checks.equal("a report of all", len(texts), len(logins))
+        for line, printed, login in zip(shown, texts, sorted(logins)):
+            words = ["--login-text", printed]
+            what = printed if len(printed) < 20 else f"{printed[:8]}.. of {len(login)} bytes"
+            came = world.run("report", "--server", server.address, "--day", "1", *words)
+            checks.equal(f"report --login-text {what}", came, (0, f"{line}\n".encode(), ""))
+            came = world.run("limit", "--server", server.address, "--host", "admin", *words, "--from", "1", "--cap", "7")
+            checks.equal(f"limit --login-text {what}", (came, caps(server, login, 1)), ((0, b"set\n", ""), [7]))
+            checks.equal(f"stop --login-text {what}", (stop(world, server.address, words), caps(server, login, 1, 2)), (stopped(1, printed), [1, 0]))
+            checks.equal(f"resume --login-text {what}", (resume(world, server.address, 4, words), caps(server, login, 1, 2)), (resumed(5, printed), [5, 4]))
+        checks.equal("stop --login prints it as a report does", stop(world, server.address, "a b\\"), stopped(1, r"a\x20b\x5c"))
+
+
+def bad_words(world, checks):
+    """A bad host, login or address, in this order, before anything is sent; and texts that are no printed login."""
+    bad = lambda name: (2, b"", f"mailquota: bad {name}\n")
+    for name, more in [("stop", []), ("resume", ["--cap", "1"])]:
+        for server, host, login, wrong in [
+            ("nowhere", "a_b", "", "host"), ("127.0.0.1:1", "", "u", "host"), ("127.0.0.1:1", "a" * 65, "u", "host"),
+            ("nowhere", "a", "", "login"), ("127.0.0.1:1", "a", "u" * 256, "login"),
+            ("nowhere", "a", "u", "address"), ("localhost:7025", "a" * 64, "u" * 255, "address"), ("127.0.0.1", "a", "u", "address"),
+        ]:
+            shown = f"{name} --server {server} --host ({len(host)} bytes) --login ({len(login)} bytes)"
+            checks.equal(shown, world.run(name, *words_of(server, login, 1, host=host), *more), bad(wrong))
+    texts = ["", "a b", "\\", "\\x", "\\x4", "\\x41", "\\x2f", "\\xC3", "\\xFF", "\\x5C", "\\xfg", "a\\", "\u00e9", "\\\\", "\\x00" * 256, "a" * 256]
+    for given in texts:
+        shown = given if len(given) < 20 else f"({len(given)} bytes)"
+        for name, more in [("stop", ["--day", "1"]), ("resume", ["--day", "1", "--cap", "1"]), ("limit", ["--from", "1", "--cap", "1"])]:
+            came = world.run(name, "--server", "127.0.0.1:1", "--host", "a", f"--login-text={given}", *more)
+            checks.equal(f"{name} --login-text={shown}", came, bad("login"))
+        came = world.run("report", "--server", "127.0.0.1:1", "--day", "1", f"--login-text={given}")
+        checks.equal(f"report --login-text={shown}", came, bad("login"))
+
+
+def days(world, checks):
+    """The day number of a moment, by an offset and by a rule, whether or not there is a ledger."""
+    def day(config, *words):
+        return world.run("day", "--config", config, *words)
+
+    def said_of(number_of):
+        return 0, f"{number_of}\n".encode(), ""
+
+    files = {minutes: ledger_settings(world, f"{world.folder}/nowhere/ledger", offset=minutes) for minutes in (0, 60, -60, 1_439, -1_439)}
+    for minutes, config in files.items():
+        for at in (86_400, 172_799, 172_800, NOON, 1_576_105_199, 1_576_105_200, 32_503_680_000):
+            wanted = min(max((at + 60 * minutes) // 86_400, 0), LAST_DAY)
+            checks.equal(f"day at {at}, {minutes} minutes east", day(config, "--at", str(at)), said_of(wanted))
+    rule = ledger_settings(world, "memory", offset=None, rule=CENTRAL_EUROPE)
+    for at, wanted in WORKED_DAYS:
+        checks.equal(f"day at {at} by a rule", day(rule, f"--at={at}"), said_of(wanted))
+    before = int(time.time()) // 86_400
+    came = day(files[0])
+    checks.holds("day now", came in [said_of(it) for it in range(before, int(time.time()) // 86_400 + 1)], f"{before}", came)
+    with open("/dev/full", "wb") as device:
+        came = world.run("day", "--config", files[0], "--at", "86400", output=device)
+    checks.equal("day to a full device", (came[0], came[2]), (1, "mailquota: write failed\n"))
+    came = day(world.new_file(toml({"listen": "127.0.0.1:1"})))
+    checks.equal("day of settings that lack one", without_log(came), fault("setting store: missing"))
+    checks.equal("day of settings that aren't there", without_log(day(f"{world.folder}/nothing")), fault("settings can't be read"))
+    with Server(world, offset=60) as server:
+        server.ask(reserve(1, at=1_576_105_200))
+        today = day(files[60], "--at", "1576105200")[1].decode().strip()
+        checks.equal("a report of the day of a moment", world.run("report", "--server", server.address, "--day", today), (0, b"      0       1       3 u\n", ""))
+
+
+def a_device_that_is_full(world, checks):
+    with Server(world) as server, open("/dev/full", "wb") as device:
+        for what, came in [("stop", stop(world, server.address, output=device)), ("resume", resume(world, server.address, 1, output=device))]:
+            checks.equal(f"{what} to a full device", (came[0], came[2]), (1, "mailquota: write failed\n"))
+        checks.equal("both limits are set all the same", caps(server, b"u", 1, 2), [1, 1])
+
+
+def loops(world, checks, what, many, times):
+    """So many loops at once, each of which sets the limits of so many logins, one after another, under the clock's numbers."""
+    with Server(world, default=3) as server:
+        came = [[] for _ in range(many)]
+
+        def loop(place):
+            for n in range(times):
+                words = ["--server", server.address, "--host", "admin", "--login", f"u{place}-{n}", "--from", "1", "--cap", str(n % 1_000)]
+                came[place].append(world.run("limit", *words))
+
+        threads = [threading.Thread(target=loop, args=(place,)) for place in range(many)]
+        for thread in threads:
+            thread.start()
+        for thread in threads:
+            thread.join()
+        other = [it for each in came for it in each if it != (0, b"set\n", "")]
+        checks.equal(f"{what}, {times} each: those that weren't set", (sum(map(len, came)), other), (many * times, []))
+        wrong = [(place, n) for place in range(many) for n in range(times) if caps(server, b"u%d-%d" % (place, n), 1) != [n % 1_000]]
+        checks.equal(f"{what}, {times} each: logins with another limit", wrong, [])
+        checks.equal(f"{what}: the server's log", server.log_lines(), [])
+
+
+class Sender(threading.Thread):
+    """A session that writes to one recipient after another, message by message, as fast as it is answered."""
+
+    def __init__(self, filter_, session):
+        super().__init__(daemon=True)
+        self.filter, self.session = filter_, session
+        # when each recipient was asked for, and what was answered
+        self.answers = []
+        self.is_over = False
+
+    def run(self):
+        for message in range(1_000_000):
+            name = self.session + b"-%d" % message
+            self.filter.begin(NOON, self.session, name)
+            for _ in range(100):
+                if self.is_over:
+                    return
+                asked = time.monotonic()
+                self.answers.append((asked, self.filter.recipient(NOON, self.session)))
+            self.filter.commit(NOON, self.session, name)
+
+
+def sessions_that_send(world, checks):
+    """A login that sends in four sessions, over the filters of two hosts, is stopped by one command, whose limit is refused twice at most."""
+    with Server(world, default=MOST) as server, Relay(server) as relay:
+        filters = [Smtpd(world, f"mx{n}", server.address) for n in (1, 2, 3, 4)]
+        senders = [Sender(filter_, b"s%d" % n) for n, filter_ in enumerate(filters)]
+        for sender in senders:
+            sender.filter.login(NOON, sender.session, b"alice")
+            sender.start()
+        checks.holds("each session has sent a hundred", wait_until(lambda: all(len(it.answers) >= 100 for it in senders)), "soon", [len(it.answers) for it in senders])
+        status, output, errors = stop(world, relay.address, "alice", day=DAY)
+        end = time.monotonic()
+        words = output.decode().split()
+        good = (status, errors) == (0, "") and len(words) == 7 and output.decode() == f"stopped: alice used {words[3]} on day {DAY}\n"
+        checks.holds("stop of a login that sends in four sessions", good, "status 0, and one line", (status, output, errors))
+        refused = [reply for _, reply in relay.told if reply[2:3] == OVER]
+        checks.holds("how often the limit was refused", len(refused) <= 2, "twice at most", len(refused))
+        most = int(words[3]) if good else 0
+
+        def are_refused():
+            return all([it for at, it in sender.answers if at > end][-3:] == [result(LIMIT, sender.session)] * 3 for sender in senders)
+
+        checks.holds("each session is refused soon", wait_until(are_refused), "its last three recipients", [it.answers[-1] for it in senders])
+        for sender in senders:
+            sender.is_over = True
+        for sender in senders:
+            sender.join(SECONDS)
+        passed = sum(it == result(PROCEED, sender.session) for sender in senders for _, it in sender.answers)
+        checks.equal("only granted or refused", {it.split(b"|")[-1] for sender in senders for _, it in sender.answers} - {b"proceed\n", b"550 daily recipient limit reached\n"}, set())
+        checks.holds("those that were let through in all", 400 <= passed <= most, f"no more than the {most} that stop printed", passed)
+        late = sum(it == result(PROCEED, sender.session) for sender in senders for at, it in sender.answers if at > end)
+        checks.holds("those that were asked for after stop ended and let through", late <= 24, "no more than the room of a third limit", late)
+        checks.equal("the limits", caps(server, b"alice", DAY - 1, DAY, DAY + 1), [MOST, most, 0])
+        checks.equal("all filters end at their input's end", [it.end() for it in filters], [(0, b"", "")] * 4)
