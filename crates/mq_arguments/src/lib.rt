@@ -25,6 +25,13 @@ pub struct ReplayArguments<'a> {
     pub sql: bool,
 }
 
+/// What `init` is given.
+#[derive(Clone, Copy, Debug, PartialEq)]
+pub struct InitArguments<'a> {
+    /// The file of the server's settings.
+    pub config: &'a str,
+}
+
 /// What `filter` is given.
 #[derive(Clone, Copy, Debug, PartialEq)]
 pub struct FilterArguments<'a> {
@@ -32,6 +39,8 @@ pub struct FilterArguments<'a> {
     pub config: &'a str,
     /// The number of the run, or the clock's.
     pub run: Option<u64>,
+    /// Whether it only looks at the settings and asks whether the server answers.
+    pub check: bool,
 }
 
 /// What `server` is given.
@@ -43,6 +52,21 @@ pub struct ServerArguments<'a> {
     pub create: bool,
     /// How many connections are served, 1 to 1,000,000.
     pub connections: u32,
+}
+
+/// How the server is named that is asked whether it answers.
+#[derive(Clone, Copy, Debug, PartialEq)]
+pub enum ServerArgument<'a> {
+    /// Its numeric address and port.
+    Address(&'a str),
+    /// The file of its settings.
+    Config(&'a str),
+}
+
+/// What `status` is given.
+#[derive(Clone, Copy, Debug, PartialEq)]
+pub struct StatusArguments<'a> {
+    pub server: ServerArgument<'a>,
 }
 
 /// What `audit` is given.
@@ -129,6 +153,8 @@ pub struct ReportArguments<'a> {
 /// What the words ask for.
 #[derive(Clone, Copy, Debug, PartialEq)]
 pub enum Arguments<'a> {
+    Init(InitArguments<'a>),
+    Status(StatusArguments<'a>),
     Replay(ReplayArguments<'a>),
     Filter(FilterArguments<'a>),
     Server(ServerArguments<'a>),

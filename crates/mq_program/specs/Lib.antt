@@ -1,4 +1,5 @@
 pub mod Auditing
 pub mod Faults
+pub mod Making
 pub mod Opened
 pub mod Refusals

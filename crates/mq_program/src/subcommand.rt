@@ -7,11 +7,13 @@ ghost use Rattle.mq_program.specs.Refusals.{Refuses};
 use crate::admin::limit::limit;
 use crate::admin::report::report;
 use crate::admin::retire::retire;
+use crate::admin::status::status;
 use crate::admin::stop::{resume, stop};
 use crate::auditing::audit;
 use crate::day::day;
 use crate::fault::ProgramFault;
 use crate::filter::filter;
+use crate::init::init;
 use crate::replay::replay;
 use crate::server::server;
 use mq_arguments::Arguments;
@@ -57,7 +59,9 @@ fn status_of<E: Write, S: Start>(
 {
     match given {
         Arguments::Replay(given) => replay(rt, given, errors),
-        Arguments::Filter(given) => filter(rt, given),
+        Arguments::Init(given) => init(rt, given, start, &mut io::writer(rt)),
+        Arguments::Filter(given) => filter(rt, given, errors),
+        Arguments::Status(given) => status(rt, given, errors),
         Arguments::Server(given) => server(rt, given, start),
         Arguments::Limit(given) => limit(rt, given, errors),
         Arguments::Stop(given) => stop(rt, given, errors),

@@ -53,6 +53,33 @@ const CONFIG: CommandOption = CommandOption {
     default: None,
 };
 
+const CHECK: CommandOption = CommandOption {
+    name: "check",
+    value: "",
+    help: "Only look at the settings and ask whether the server answers",
+    takes: Takes::Nothing,
+    need: Need::Optional,
+    default: None,
+};
+
+const ONE_SERVER: CommandOption = CommandOption {
+    name: "server",
+    value: "ADDRESS",
+    help: "Numeric address and port of the quota server",
+    takes: Takes::Text,
+    need: Need::Unless("config"),
+    default: None,
+};
+
+const ITS_SETTINGS: CommandOption = CommandOption {
+    name: "config",
+    value: "FILE",
+    help: "Settings of the quota server, whose address is asked",
+    takes: Takes::Text,
+    need: Need::InsteadOf("server"),
+    default: None,
+};
+
 const CREATE: CommandOption = CommandOption {
     name: "create",
     value: "",
@@ -243,7 +270,12 @@ const RULE: CommandOption = CommandOption {
 };
 
 /// The subcommands, in the order in which people need them.
-pub const SUBCOMMANDS: [Subcommand; 10] = [
+pub const SUBCOMMANDS: [Subcommand; 12] = [
+    Subcommand {
+        name: "init",
+        about: "Make the ledger of a server's settings",
+        options: &[CONFIG],
+    },
     Subcommand {
         name: "server",
         about: "Serve the ledger to filters",
@@ -252,7 +284,12 @@ pub const SUBCOMMANDS: [Subcommand; 10] = [
     Subcommand {
         name: "filter",
         about: "Answer smtpd on standard input and output",
-        options: &[CONFIG, RUN],
+        options: &[CONFIG, RUN, CHECK],
+    },
+    Subcommand {
+        name: "status",
+        about: "Ask once whether the quota server answers",
+        options: &[ONE_SERVER, ITS_SETTINGS],
     },
     Subcommand {
         name: "limit",

@@ -7,9 +7,9 @@ use crate::subcommands::{CommandOption, Need, SUBCOMMANDS, Subcommand, Takes, VE
 use clap::error::ErrorKind;
 use clap::{Arg, ArgAction, ArgMatches, Command, Error, value_parser};
 use mq_arguments::{
-    Arguments, AuditArguments, DayArguments, FilterArguments, LimitArguments, LoginArgument,
-    ReplayArguments, ReportArguments, ResumeArguments, RetireArguments, ServerArguments,
-    StopArguments,
+    Arguments, AuditArguments, DayArguments, FilterArguments, InitArguments, LimitArguments,
+    LoginArgument, ReplayArguments, ReportArguments, ResumeArguments, RetireArguments,
+    ServerArgument, ServerArguments, StatusArguments, StopArguments,
 };
 use std::alloc::{AllocError, Global};
 
@@ -63,6 +63,13 @@ fn arguments_of<'a>(name: &str, found: &ArgMatches<'a>) -> Arguments<'a>
         "filter" => Arguments::Filter(FilterArguments {
             config: text_of(found, "config"),
             run: run_of(found),
+            check: found.get_flag("check"),
+        }),
+        "init" => Arguments::Init(InitArguments {
+            config: text_of(found, "config"),
+        }),
+        "status" => Arguments::Status(StatusArguments {
+            server: server_of(found),
         }),
         "server" => Arguments::Server(ServerArguments {
             config: text_of(found, "config"),
@@ -182,6 +189,14 @@ fn one_login_of<'a>(found: &ArgMatches<'a>) -> Option<LoginArgument<'a>> {
         (Some(login), _) => Some(LoginArgument::Reported(login)),
         (None, Some(text)) => Some(LoginArgument::Printed(text)),
         (None, None) => None,
+    }
+}
+
+/// The server, which has to be given by its address or its settings.
+fn server_of<'a>(found: &ArgMatches<'a>) -> ServerArgument<'a> {
+    match found.get_str("config") {
+        Some(file) => ServerArgument::Config(file),
+        None => ServerArgument::Address(text_of(found, "server")),
     }
 }
 
