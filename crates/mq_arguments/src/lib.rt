@@ -52,6 +52,17 @@ pub struct AuditArguments<'a> {
     pub config: &'a str,
 }
 
+/// What `forget` is given.
+#[derive(Clone, Copy, Debug, PartialEq)]
+pub struct ForgetArguments<'a> {
+    /// The file of the server's settings.
+    pub config: &'a str,
+    /// The first day that is remembered, 0 to 376,200.
+    pub before: u32,
+    /// The database file that is made.
+    pub into: &'a str,
+}
+
 /// How a login is named.
 #[derive(Clone, Copy, Debug, PartialEq)]
 pub enum LoginArgument<'a> {
@@ -139,4 +150,5 @@ pub enum Arguments<'a> {
     Day(DayArguments<'a>),
     Report(ReportArguments<'a>),
     Audit(AuditArguments<'a>),
+    Forget(ForgetArguments<'a>),
 }

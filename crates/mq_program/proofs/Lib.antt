@@ -3,3 +3,4 @@ pub mod OpenedFiles
 pub mod RefusalSteps
 pub mod ReplaySteps
 pub mod ServingSteps
+pub mod Forgot

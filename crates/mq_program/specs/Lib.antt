@@ -1,4 +1,5 @@
 pub mod Auditing
 pub mod Faults
 pub mod Opened
+pub mod Forgetting
 pub mod Refusals

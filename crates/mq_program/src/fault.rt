@@ -54,9 +54,15 @@ pub enum ProgramFault {
     Store,
     #[error("{0}")]
     Open(OpenFault),
-    /// There is no file to audit.
+    /// There is no file to audit, or to forget days of.
     #[error("store is memory")]
     MemoryStore,
+    /// The file of the ledger that is to be made is there.
+    #[error("file exists")]
+    Exists,
+    /// The day up to which is forgotten is after today.
+    #[error("day is after today")]
+    Later,
     /// The rows of an open ledger weren't read to their end.
     #[error("{0}")]
     Audit(LedgerFault),

@@ -18,7 +18,7 @@ use log::{Log, error};
 use mq_ledger::Zone;
 use mq_store::SqlLedger;
 use mq_tables::laws::{empty_databases_have_no_table, trees_have_one_schema};
-use sqlite::{Alter, Connection, Error, ErrorCode, FileFrom, FileStore, MemStore, Start};
+use sqlite::{Alter, Connection, Error, ErrorCode, FileFrom, FileStore, MemStore, Start, Unknown};
 use std::alloc::Global;
 use std::fs::OpenOptions;
 use std::io::ErrorKind;
@@ -108,6 +108,28 @@ fn connect<G: Log, S: Start>(
         Ok(connection) => Ok(connection),
         Err((Error::SqliteFailure(ErrorCode::OutOfMemory), _)) => Err(ProgramFault::Memory),
         Err((cause, _)) => Err(unopened(log, path, cause)),
+    }
+}
+
+/// A connection to a new database file at a path, with mode 0600. A file that is there is refused as
+/// `ProgramFault::Exists`. The cause of `ProgramFault::Store` is logged.
+///
+/// `Unknown` holds nothing, like a file that was just made.
+pub fn connect_new<G: Log>(
+    rt: &HostRuntime,
+    log: &G,
+    path: &str,
+) -> Result<Connection<FileStore<FileFrom<Unknown>>>, ProgramFault> {
+    match OpenOptions::new()
+        .write(true)
+        .create_new(true)
+        .mode(MODE)
+        .open(rt, path)
+    {
+        Ok(_file) => connect(rt, log, path, false, Unknown),
+        Err(cause) if cause.kind() == ErrorKind::AlreadyExists => Err(ProgramFault::Exists),
+        Err(cause) if cause.kind() == ErrorKind::OutOfMemory => Err(ProgramFault::Memory),
+        Err(cause) => Err(unopened(log, path, cause)),
     }
 }
 

@@ -12,6 +12,7 @@ use crate::auditing::audit;
 use crate::day::day;
 use crate::fault::ProgramFault;
 use crate::filter::filter;
+use crate::forgetting::forget;
 use crate::replay::replay;
 use crate::server::server;
 use mq_arguments::Arguments;
@@ -66,5 +67,6 @@ fn status_of<E: Write, S: Start>(
         Arguments::Retire(given) => retire(rt, given, errors),
         Arguments::Report(given) => report(rt, given, errors),
         Arguments::Audit(given) => audit(rt, given, start, &mut io::writer(rt)),
+        Arguments::Forget(given) => forget(rt, given, start, &mut io::writer(rt)),
     }
 }

@@ -242,8 +242,26 @@ const RULE: CommandOption = CommandOption {
     default: None,
 };
 
+const BEFORE: CommandOption = CommandOption {
+    name: "before",
+    value: "DAY",
+    help: "First day number that is kept; earlier days are forgotten",
+    takes: Takes::Number(0, 376_200),
+    need: Need::Required,
+    default: None,
+};
+
+const INTO: CommandOption = CommandOption {
+    name: "into",
+    value: "FILE",
+    help: "Database file to make, which must not be there",
+    takes: Takes::Text,
+    need: Need::Required,
+    default: None,
+};
+
 /// The subcommands, in the order in which people need them.
-pub const SUBCOMMANDS: [Subcommand; 10] = [
+pub const SUBCOMMANDS: [Subcommand; 11] = [
     Subcommand {
         name: "server",
         about: "Serve the ledger to filters",
@@ -288,6 +306,11 @@ pub const SUBCOMMANDS: [Subcommand; 10] = [
         name: "audit",
         about: "Check the books of the ledger in a file",
         options: &[CONFIG],
+    },
+    Subcommand {
+        name: "forget",
+        about: "Make a new ledger file without the days before a day",
+        options: &[CONFIG, BEFORE, INTO],
     },
     Subcommand {
         name: "replay",

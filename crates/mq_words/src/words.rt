@@ -7,9 +7,9 @@ use crate::subcommands::{CommandOption, Need, SUBCOMMANDS, Subcommand, Takes, VE
 use clap::error::ErrorKind;
 use clap::{Arg, ArgAction, ArgMatches, Command, Error, value_parser};
 use mq_arguments::{
-    Arguments, AuditArguments, DayArguments, FilterArguments, LimitArguments, LoginArgument,
-    ReplayArguments, ReportArguments, ResumeArguments, RetireArguments, ServerArguments,
-    StopArguments,
+    Arguments, AuditArguments, DayArguments, FilterArguments, ForgetArguments, LimitArguments,
+    LoginArgument, ReplayArguments, ReportArguments, ResumeArguments, RetireArguments,
+    ServerArguments, StopArguments,
 };
 use std::alloc::{AllocError, Global};
 
@@ -88,6 +88,11 @@ fn arguments_of<'a>(name: &str, found: &ArgMatches<'a>) -> Arguments<'a>
         }),
         "audit" => Arguments::Audit(AuditArguments {
             config: text_of(found, "config"),
+        }),
+        "forget" => Arguments::Forget(ForgetArguments {
+            config: text_of(found, "config"),
+            before: number_of(found, "before", 0, 376_200),
+            into: text_of(found, "into"),
         }),
         _ => Arguments::Replay(replay_of(found)),
     }
