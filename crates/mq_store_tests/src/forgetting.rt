@@ -11,7 +11,7 @@ use std::alloc::Global;
 use std::test::*;
 
 /// How many histories there are.
-const HISTORIES: u64 = 20;
+const HISTORIES: u64 = 150;
 
 /// How many requests come before the forgetting.
 const BEFORE: u32 = 60;
@@ -483,7 +483,7 @@ fn forgets_and_is_asked_the_same(rt: HostRuntime) -> Result<(), Fail> {
         told(rt.alloc(), seed, verdict)?;
     }
     assert!(rt;
-        1 <= cleared.set && 1 <= cleared.refused,
+        50 <= cleared.set && 20 <= cleared.refused,
         "few limits without a reply"
     );
     Ok(())
