@@ -1,6 +1,7 @@
 pub mod Escaped
 pub mod Feed
 pub mod Flow
+pub mod Owned
 pub mod Parts
 pub mod Range
 pub mod Reading

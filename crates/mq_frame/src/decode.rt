@@ -1,7 +1,8 @@
 //! Requests and replies of their bodies.
-ghost use Rattle.std.specs.Prelude.{◌≡◌, Err, IfOk, MatchResult};
+ghost use Rattle.std.specs.Prelude.{◌≡◌, Err, IfOk, OnErr, MatchResult};
 ghost use Rattle.mq_frame.specs.Reading.{Reads};
 ghost use Rattle.mq_frame.specs.Shown.{shown_id, shown_row};
+ghost use Rattle.mq_frame.specs.Owned.{RequestHoldsBytes, ReplyHoldsBytes};
 ghost use Rattle.mq_frame.specs.Parts.{shown_page, shown_request, shown_reply};
 ghost use Rattle.mq_frame.specs.Spelling.{SpellsRequest, SpellsReply};
 ghost use Rattle.mq_frame.specs.declared.message.Request.{Request};
@@ -84,7 +85,8 @@ fn own_page(alloc: Global, parts: PageParts<'_>) -> Result<UsageRows, AllocError
 }
 
 fn own_request(alloc: Global, parts: RequestParts<'_>) -> Result<Request, AllocError>
-    ensures { IfOk result (λ request. request ≡ shown_request parts.entry) }
+    ensures ok { IfOk result (λ request. request ≡ shown_request parts.entry) }
+    ensures full { OnErr result (RequestHoldsBytes (shown_request parts.entry)) }
 {
     Ok(match parts {
         RequestParts::Reserve {
@@ -148,7 +150,8 @@ fn own_request(alloc: Global, parts: RequestParts<'_>) -> Result<Request, AllocE
 }
 
 fn own_reply(alloc: Global, parts: ReplyParts<'_>) -> Result<Reply, AllocError>
-    ensures { IfOk result (λ reply. reply ≡ shown_reply parts.entry) }
+    ensures ok { IfOk result (λ reply. reply ≡ shown_reply parts.entry) }
+    ensures full { OnErr result (ReplyHoldsBytes (shown_reply parts.entry)) }
 {
     Ok(match parts {
         ReplyParts::Granted { id, used } => Reply::Granted {
@@ -232,6 +235,10 @@ pub fn decode_request(alloc: Global, body: &[u8]) -> Result<Request, DecodeFault
     ensures memory { result ≡ Err DecodeFault.Memory → (request : Request)
         × SpellsRequest body.now request }
 
+    // And only for bytes that it holds.
+    ensures full { result ≡ Err DecodeFault.Memory → (request : Request)
+        → SpellsRequest body.now request → RequestHoldsBytes request }
+
     // A body that spells no request is bad, however little memory there is.
     ensures bad { ((request : Request) → SpellsRequest body.now request → ⊥)
         → result ≡ Err DecodeFault.Bad }
@@ -256,6 +263,10 @@ pub fn decode_reply(alloc: Global, body: &[u8]) -> Result<Reply, DecodeFault>
     // A growth is asked for only where something is spelled so.
     ensures memory { result ≡ Err DecodeFault.Memory → (reply : Reply)
         × SpellsReply body.now reply }
+
+    // And only for bytes that it holds.
+    ensures full { result ≡ Err DecodeFault.Memory → (reply : Reply)
+        → SpellsReply body.now reply → ReplyHoldsBytes reply }
 
     // A body that spells no reply is bad, however little memory there is.
     ensures bad { ((reply : Reply) → SpellsReply body.now reply → ⊥)

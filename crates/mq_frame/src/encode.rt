@@ -1,10 +1,10 @@
 //! Requests and replies as frames.
-#![tactic(auto, using(std::proofs::Common::append_assoc))]
+#![tactic(auto, using(std::proofs::Common::append_assoc, crate::proofs::Appends::lengths))]
 
-ghost use Rattle.std.specs.Prelude.{◌≡◌, ◌≤◌, [], ◌∷◌, ◌++◌, length, OnOk, OnErr};
+ghost use Rattle.std.specs.Prelude.{◌≡◌, ◌≤◌, ◌<◌, ◌+◌, [], ◌∷◌, ◌++◌, length, vec_capacity, vec_len, OnOk, OnErr};
 ghost use Rattle.std.specs.List.{flat_map};
-ghost use Rattle.mq_frame.specs.Range.{IsId, IsOrdinal, IsMoment, IsLogin, IsRow, IsPage, IsRequest, IsReply};
-ghost use Rattle.mq_frame.specs.Spelling.{in_4_bytes, in_8_bytes, with_length, id_bytes, transaction_bytes};
+ghost use Rattle.mq_frame.specs.Range.{IsId, IsOrdinal, IsMoment, IsLogin, IsAfter, IsRow, IsPage, IsRequest, IsReply};
+ghost use Rattle.mq_frame.specs.Spelling.{in_2_bytes, in_4_bytes, in_8_bytes, with_length, id_bytes, transaction_bytes};
 ghost use Rattle.mq_frame.specs.Spelling.{row_bytes, page_bytes, request_body, reply_body, frame};
 
 use crate::error::Memory;
@@ -18,18 +18,11 @@ use crate::text::{Host, Login};
 use crate::usage::{UsageRow, UsageRows};
 use std::alloc::{AllocError, Global};
 
-/// The bytes of the longest body of a request.
-const LONGEST_REQUEST: usize = 350;
-
-/// The bytes of the longest row of a page.
-const LONGEST_ROW: usize = 268;
-
-/// The bytes of the longest body of a reply that is no page.
-const LONGEST_PLAIN_REPLY: usize = 273;
-
 fn put_text(out: &mut Vec<u8>, text: &[u8]) -> Result<(), AllocError>
     requires { length text.now ≤ 255 }
-    ensures { OnOk result (out.new.items ≡ out.old.items ++ with_length text.now) }
+    ensures ok { OnOk result (out.new.items ≡ out.old.items ++ with_length text.now) }
+    ensures room { vec_capacity out.old ≤ vec_capacity out.new }
+    ensures full { OnErr result (vec_capacity out.old < vec_len out.old + length (with_length text.now)) }
 {
     out.push(text.len() as u8)?;
     out.extend_from_slice(text)
@@ -37,32 +30,42 @@ fn put_text(out: &mut Vec<u8>, text: &[u8]) -> Result<(), AllocError>
 
 fn put_host(out: &mut Vec<u8>, host: &Host) -> Result<(), AllocError>
     requires { length host.now ≤ 255 }
-    ensures { OnOk result (out.new.items ≡ out.old.items ++ with_length host.now) }
+    ensures ok { OnOk result (out.new.items ≡ out.old.items ++ with_length host.now) }
+    ensures room { vec_capacity out.old ≤ vec_capacity out.new }
+    ensures full { OnErr result (vec_capacity out.old < vec_len out.old + length (with_length host.now)) }
 {
     put_text(out, host.as_slice())
 }
 
 fn put_login(out: &mut Vec<u8>, login: &Login) -> Result<(), AllocError>
     requires { length login.now ≤ 255 }
-    ensures { OnOk result (out.new.items ≡ out.old.items ++ with_length login.now) }
+    ensures ok { OnOk result (out.new.items ≡ out.old.items ++ with_length login.now) }
+    ensures room { vec_capacity out.old ≤ vec_capacity out.new }
+    ensures full { OnErr result (vec_capacity out.old < vec_len out.old + length (with_length login.now)) }
 {
     put_text(out, login.as_slice())
 }
 
 fn put_u32(out: &mut Vec<u8>, number: u32) -> Result<(), AllocError>
-    ensures { OnOk result (out.new.items ≡ out.old.items ++ in_4_bytes number) }
+    ensures ok { OnOk result (out.new.items ≡ out.old.items ++ in_4_bytes number) }
+    ensures room { vec_capacity out.old ≤ vec_capacity out.new }
+    ensures full { OnErr result (vec_capacity out.old < vec_len out.old + length (in_4_bytes number)) }
 {
     out.extend_from_slice(&number.to_be_bytes())
 }
 
 fn put_u64(out: &mut Vec<u8>, number: u64) -> Result<(), AllocError>
-    ensures { OnOk result (out.new.items ≡ out.old.items ++ in_8_bytes number) }
+    ensures ok { OnOk result (out.new.items ≡ out.old.items ++ in_8_bytes number) }
+    ensures room { vec_capacity out.old ≤ vec_capacity out.new }
+    ensures full { OnErr result (vec_capacity out.old < vec_len out.old + length (in_8_bytes number)) }
 {
     out.extend_from_slice(&number.to_be_bytes())
 }
 
 fn put_numbers(out: &mut Vec<u8>, numbers: &[u32]) -> Result<(), AllocError>
-    ensures { OnOk result (out.new.items ≡ out.old.items ++ flat_map in_4_bytes numbers.now) }
+    ensures ok { OnOk result (out.new.items ≡ out.old.items ++ flat_map in_4_bytes numbers.now) }
+    ensures room { vec_capacity out.old ≤ vec_capacity out.new }
+    ensures full { OnErr result (vec_capacity out.old < vec_len out.old + length (flat_map in_4_bytes numbers.now)) }
 {
     for number in numbers {
         put_u32(out, *number)?;
@@ -72,7 +75,9 @@ fn put_numbers(out: &mut Vec<u8>, numbers: &[u32]) -> Result<(), AllocError>
 
 fn put_id(out: &mut Vec<u8>, id: &Id) -> Result<(), AllocError>
     requires { IsId id.now }
-    ensures { OnOk result (out.new.items ≡ out.old.items ++ id_bytes id.now) }
+    ensures ok { OnOk result (out.new.items ≡ out.old.items ++ id_bytes id.now) }
+    ensures room { vec_capacity out.old ≤ vec_capacity out.new }
+    ensures full { OnErr result (vec_capacity out.old < vec_len out.old + length (id_bytes id.now)) }
 {
     put_host(out, &id.host)?;
     put_u64(out, id.run)?;
@@ -91,7 +96,9 @@ fn put_transaction(
 ) -> Result<(), AllocError>
     requires id { IsId id.now }
     requires login { IsLogin login.now }
-    ensures { OnOk result (out.new.items ≡ out.old.items ++ kind ∷ transaction_bytes id.now txn at login.now) }
+    ensures ok { OnOk result (out.new.items ≡ out.old.items ++ kind ∷ transaction_bytes id.now txn at login.now) }
+    ensures room { vec_capacity out.old ≤ vec_capacity out.new }
+    ensures full { OnErr result (vec_capacity out.old < vec_len out.old + length (kind ∷ transaction_bytes id.now txn at login.now)) }
 {
     out.push(kind)?;
     put_id(out, id)?;
@@ -103,7 +110,9 @@ fn put_transaction(
 
 fn put_row(out: &mut Vec<u8>, row: &UsageRow) -> Result<(), AllocError>
     requires { IsRow row.now }
-    ensures { OnOk result (out.new.items ≡ out.old.items ++ row_bytes row.now) }
+    ensures ok { OnOk result (out.new.items ≡ out.old.items ++ row_bytes row.now) }
+    ensures room { vec_capacity out.old ≤ vec_capacity out.new }
+    ensures full { OnErr result (vec_capacity out.old < vec_len out.old + length (row_bytes row.now)) }
 {
     put_login(out, &row.login)?;
     put_numbers(out, &[row.settled, row.reserved, row.cap])?;
@@ -112,7 +121,9 @@ fn put_row(out: &mut Vec<u8>, row: &UsageRow) -> Result<(), AllocError>
 
 fn put_page(out: &mut Vec<u8>, rows: &UsageRows) -> Result<(), AllocError>
     requires { IsPage rows.now }
-    ensures { OnOk result (out.new.items ≡ out.old.items ++ page_bytes rows.now) }
+    ensures ok { OnOk result (out.new.items ≡ out.old.items ++ page_bytes rows.now) }
+    ensures room { vec_capacity out.old ≤ vec_capacity out.new }
+    ensures full { OnErr result (vec_capacity out.old < vec_len out.old + length (page_bytes rows.now)) }
 {
     let rows = rows.as_slice();
     out.push(rows.len() as u8)?;
@@ -124,7 +135,9 @@ fn put_page(out: &mut Vec<u8>, rows: &UsageRows) -> Result<(), AllocError>
 
 fn put_request(out: &mut Vec<u8>, request: &Request) -> Result<(), AllocError>
     requires { IsRequest request.now }
-    ensures { OnOk result (out.new.items ≡ out.old.items ++ request_body request.now) }
+    ensures ok { OnOk result (out.new.items ≡ out.old.items ++ request_body request.now) }
+    ensures room { vec_capacity out.old ≤ vec_capacity out.new }
+    ensures full { OnErr result (vec_capacity out.old < vec_len out.old + length (request_body request.now)) }
 {
     match request {
         Request::Reserve {
@@ -171,8 +184,10 @@ fn put_request(out: &mut Vec<u8>, request: &Request) -> Result<(), AllocError>
 /// The kind, the id and the numbers after it.
 fn put_numbered(out: &mut Vec<u8>, kind: u8, id: &Id, numbers: &[u32]) -> Result<(), AllocError>
     requires { IsId id.now }
-    ensures { OnOk result (out.new.items
+    ensures ok { OnOk result (out.new.items
         ≡ out.old.items ++ kind ∷ (id_bytes id.now ++ flat_map in_4_bytes numbers.now)) }
+    ensures room { vec_capacity out.old ≤ vec_capacity out.new }
+    ensures full { OnErr result (vec_capacity out.old < vec_len out.old + length (kind ∷ (id_bytes id.now ++ flat_map in_4_bytes numbers.now))) }
 {
     out.push(kind)?;
     put_id(out, id)?;
@@ -183,8 +198,10 @@ fn put_numbered(out: &mut Vec<u8>, kind: u8, id: &Id, numbers: &[u32]) -> Result
 /// The kind, the login and the numbers after it.
 fn put_named(out: &mut Vec<u8>, kind: u8, login: &Login, numbers: &[u32]) -> Result<(), AllocError>
     requires { IsLogin login.now }
-    ensures { OnOk result (out.new.items
+    ensures ok { OnOk result (out.new.items
         ≡ out.old.items ++ kind ∷ (with_length login.now ++ flat_map in_4_bytes numbers.now)) }
+    ensures room { vec_capacity out.old ≤ vec_capacity out.new }
+    ensures full { OnErr result (vec_capacity out.old < vec_len out.old + length (kind ∷ (with_length login.now ++ flat_map in_4_bytes numbers.now))) }
 {
     out.push(kind)?;
     put_login(out, login)?;
@@ -194,7 +211,9 @@ fn put_named(out: &mut Vec<u8>, kind: u8, login: &Login, numbers: &[u32]) -> Res
 
 /// The kind and the day.
 fn put_dated(out: &mut Vec<u8>, kind: u8, day: u32) -> Result<(), AllocError>
-    ensures { OnOk result (out.new.items ≡ out.old.items ++ kind ∷ in_4_bytes day) }
+    ensures ok { OnOk result (out.new.items ≡ out.old.items ++ kind ∷ in_4_bytes day) }
+    ensures room { vec_capacity out.old ≤ vec_capacity out.new }
+    ensures full { OnErr result (vec_capacity out.old < vec_len out.old + length (kind ∷ in_4_bytes day)) }
 {
     out.push(kind)?;
     put_u32(out, day)
@@ -202,7 +221,9 @@ fn put_dated(out: &mut Vec<u8>, kind: u8, day: u32) -> Result<(), AllocError>
 
 /// The kind alone.
 fn put_kind(out: &mut Vec<u8>, kind: u8) -> Result<(), AllocError>
-    ensures { OnOk result (out.new.items ≡ out.old.items ++ kind ∷ []) }
+    ensures ok { OnOk result (out.new.items ≡ out.old.items ++ kind ∷ []) }
+    ensures room { vec_capacity out.old ≤ vec_capacity out.new }
+    ensures full { OnErr result (vec_capacity out.old < vec_len out.old + length (kind ∷ [])) }
 {
     out.push(kind)?;
     Ok(())
@@ -210,7 +231,9 @@ fn put_kind(out: &mut Vec<u8>, kind: u8) -> Result<(), AllocError>
 
 fn put_reply(out: &mut Vec<u8>, reply: &Reply) -> Result<(), AllocError>
     requires { IsReply reply.now }
-    ensures { OnOk result (out.new.items ≡ out.old.items ++ reply_body reply.now) }
+    ensures ok { OnOk result (out.new.items ≡ out.old.items ++ reply_body reply.now) }
+    ensures room { vec_capacity out.old ≤ vec_capacity out.new }
+    ensures full { OnErr result (vec_capacity out.old < vec_len out.old + length (reply_body reply.now)) }
 {
     match reply {
         Reply::Granted { id, used } => put_numbered(out, GRANTED, id, &[*used]),
@@ -241,56 +264,124 @@ fn put_reply(out: &mut Vec<u8>, reply: &Reply) -> Result<(), AllocError>
     }
 }
 
-/// Room for the reply's body, so that writing it never has to grow the buffer.
-fn room(reply: &Reply) -> usize
-    requires { IsReply reply.now }
+/// How many bytes an id takes.
+fn id_length(id: &Id) -> usize
+    requires { IsId id.now }
+    ensures { result ≡ length (id_bytes id.now) }
 {
-    match reply {
-        Reply::List { day: _, rows } => 6 + LONGEST_ROW * rows.as_slice().len(),
-        _ => LONGEST_PLAIN_REPLY,
+    id.host.as_slice().len() + 13
+}
+
+/// How many bytes a login takes, with the byte of its length.
+fn login_length(login: &Login) -> usize
+    requires { IsAfter login.now }
+    ensures exact { result ≡ length (with_length login.now) }
+    ensures few { result ≤ 256 }
+{
+    login.as_slice().len() + 1
+}
+
+/// How many bytes the rows of a page take.
+fn rows_length(rows: &[UsageRow]) -> usize
+    requires { IsPage rows.now }
+    ensures exact { result ≡ length (flat_map row_bytes rows.now) }
+    ensures few { result ≤ 26800 }
+{
+    let mut length = 0;
+    for row in rows {
+        length += login_length(&row.login) + 12;
+    }
+    length
+}
+
+/// How many bytes the request's body has.
+fn request_length(request: &Request) -> usize
+    requires { IsRequest request.now }
+    ensures { result ≡ length (request_body request.now) }
+{
+    match request {
+        Request::Reserve { id, login, .. } => id_length(id) + login_length(login) + 17,
+        Request::Settle { id, login, .. } => id_length(id) + login_length(login) + 17,
+        Request::Release { id, login, .. } => id_length(id) + login_length(login) + 13,
+        Request::Limit { id, login, .. } => id_length(id) + login_length(login) + 9,
+        Request::Usage { login, .. } => login_length(login) + 5,
+        Request::List { after, .. } => login_length(after) + 5,
+        Request::Retire { id } => id_length(id) + 1,
     }
 }
 
-/// Appends the frame of this body.
-fn append_frame(body: &[u8], out: &mut Vec<u8>) -> Result<(), AllocError>
-    requires { length body.now ≤ 65535 }
-    ensures ok { OnOk result (out.new.items ≡ out.old.items ++ frame body.now) }
-    ensures err { OnErr result (out.new.items ≡ out.old.items) }
+/// How many bytes the reply's body has.
+fn reply_length(reply: &Reply) -> usize
+    requires { IsReply reply.now }
+    ensures { result ≡ length (reply_body reply.now) }
 {
-    let length = body.len() as u16;
-    // The one growth comes before anything is appended: a frame is there whole or not at all.
-    out.reserve(HEAD_BYTES + body.len())?;
-    out.extend_from_slice(&length.to_be_bytes())?;
-    out.extend_from_slice(body)?;
-    Ok(())
+    match reply {
+        Reply::Granted { id, .. } => id_length(id) + 5,
+        Reply::Full { id, .. } => id_length(id) + 9,
+        Reply::Settled { id, .. } => id_length(id) + 5,
+        Reply::Released { id, .. } => id_length(id) + 5,
+        Reply::LimitSet { id } => id_length(id) + 1,
+        Reply::Over { id, .. } => id_length(id) + 9,
+        Reply::Closed { id } => id_length(id) + 1,
+        Reply::Mismatch { id } => id_length(id) + 1,
+        Reply::TooMany { id, .. } => id_length(id) + 5,
+        Reply::Conflict { id } => id_length(id) + 1,
+        Reply::Usage { login, .. } => login_length(login) + 17,
+        Reply::List { rows, .. } => rows_length(rows.as_slice()) + 6,
+        Reply::Retry => 1,
+        Reply::Bad => 1,
+        Reply::Retired { id } => id_length(id) + 1,
+        Reply::Old { id } => id_length(id) + 1,
+    }
+}
+
+/// Appends the length of a body, the head of its frame.
+fn put_head(out: &mut Vec<u8>, length: usize) -> Result<(), AllocError>
+    requires { length ≤ 65535 }
+    ensures ok { OnOk result (out.new.items ≡ out.old.items ++ in_2_bytes length) }
+    ensures room { vec_capacity out.old ≤ vec_capacity out.new }
+    ensures full { OnErr result (vec_capacity out.old < vec_len out.old + 2) }
+{
+    let length = length as u16;
+    out.extend_from_slice(&length.to_be_bytes())
 }
 
 /// Appends the request's frame: the length of its body in two bytes, and its body.
 ///
 /// The format is in `docs/FRAMES.md`; `is_request` tests whether the request is in range. After an
-/// `Err` nothing was appended.
-pub fn encode_request(alloc: Global, request: &Request, out: &mut Vec<u8>) -> Result<(), Memory>
+/// `Err` nothing was appended. `out` grows by itself: of `alloc` nothing is asked.
+pub fn encode_request(_alloc: Global, request: &Request, out: &mut Vec<u8>) -> Result<(), Memory>
     requires { IsRequest request.now }
     ensures ok { OnOk result (out.new.items ≡ out.old.items ++ frame (request_body request.now)) }
     ensures err { OnErr result (out.new.items ≡ out.old.items) }
+    // Memory is answered only where the vector had to grow.
+    ensures full { OnErr result
+        (vec_capacity out.old < vec_len out.old + length (frame (request_body request.now))) }
 {
-    let mut body = Vec::with_capacity(alloc, LONGEST_REQUEST)?;
-    put_request(&mut body, request)?;
-    append_frame(body.as_slice(), out)?;
+    let request_bytes = request_length(request);
+    // The one growth comes before anything is appended: a frame is there whole or not at all.
+    out.reserve(HEAD_BYTES + request_bytes)?;
+    put_head(out, request_bytes)?;
+    put_request(out, request)?;
     Ok(())
 }
 
 /// Appends the reply's frame: the length of its body in two bytes, and its body.
 ///
 /// The format is in `docs/FRAMES.md`; `is_reply` tests whether the reply is in range. After an
-/// `Err` nothing was appended.
-pub fn encode_reply(alloc: Global, reply: &Reply, out: &mut Vec<u8>) -> Result<(), Memory>
+/// `Err` nothing was appended. `out` grows by itself: of `alloc` nothing is asked.
+pub fn encode_reply(_alloc: Global, reply: &Reply, out: &mut Vec<u8>) -> Result<(), Memory>
     requires { IsReply reply.now }
     ensures ok { OnOk result (out.new.items ≡ out.old.items ++ frame (reply_body reply.now)) }
     ensures err { OnErr result (out.new.items ≡ out.old.items) }
+    // Memory is answered only where the vector had to grow.
+    ensures full { OnErr result
+        (vec_capacity out.old < vec_len out.old + length (frame (reply_body reply.now))) }
 {
-    let mut body = Vec::with_capacity(alloc, room(reply))?;
-    put_reply(&mut body, reply)?;
-    append_frame(body.as_slice(), out)?;
+    let reply_bytes = reply_length(reply);
+    // (as of a request)
+    out.reserve(HEAD_BYTES + reply_bytes)?;
+    put_head(out, reply_bytes)?;
+    put_reply(out, reply)?;
     Ok(())
 }

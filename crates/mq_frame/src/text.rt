@@ -1,5 +1,5 @@
 //! Texts of bytes, whose kinds aren't mixed up.
-ghost use Rattle.std.specs.Prelude.{◌≡◌, List, ℕ, IfOk, nat_eq};
+ghost use Rattle.std.specs.Prelude.{◌≡◌, ◌<◌, List, ℕ, IfOk, OnErr, length, nat_eq};
 ghost use Rattle.std.specs.Cmp.Lexicographic.{pointwise, lists_per};
 ghost use Rattle.std.specs.Cmp.{partial_equiv_from_equiv, nat_eq_equiv};
 
@@ -51,9 +51,13 @@ impl<K> Text<K> {
 
     /// A copy of these bytes.
     pub fn from_slice(alloc: Global, bytes: &[u8]) -> Result<Text<K>, AllocError>
-        ensures { IfOk result (λ text. text ≡ bytes.now) }
+        ensures ok { IfOk result (λ text. text ≡ bytes.now) }
+        // No memory is asked for where there is no byte.
+        ensures full { OnErr result (0 < length bytes.now) }
     {
-        Ok(Text::new(Vec::from_slice(alloc, bytes)?))
+        let mut copy = Vec::with_capacity(alloc, bytes.len())?;
+        copy.extend_from_slice(bytes)?;
+        Ok(Text::new(copy))
     }
 
     pub fn into_bytes(self) -> Vec<u8>

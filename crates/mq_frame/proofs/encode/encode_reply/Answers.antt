@@ -2,7 +2,12 @@ use Rattle.std.proofs.Common.{arith}
 use Rattle.mq_frame.proofs.Lengths.{longest_reply}
 use Rattle.mq_frame.proofs.encode.encode_reply.Goals as goal
 
-pub append_frame-requires : goal.append_frame-requires
-append_frame-requires c =
+pub overflow_add-reply_bytes : goal.overflow_add-reply_bytes
+overflow_add-reply_bytes c =
     let small = longest_reply c.args.reply.now c.requires in
-    rw (c.as_slice.ensures.value, c.in_ok-put_reply.ensures, c.in_ok-body.ensures.items) (omega (arith, small))
+    omega (arith, small, c.reply_length-reply_bytes.ensures)
+
+pub put_head-requires : goal.put_head-requires
+put_head-requires c =
+    let small = longest_reply c.args.reply.now c.requires in
+    omega (arith, small, c.reply_length-reply_bytes.ensures)
