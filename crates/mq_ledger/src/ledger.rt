@@ -1,5 +1,5 @@
 //! What every ledger keeps to.
-ghost use Rattle.std.specs.Prelude.{◌≡◌, [], ◌∷◌, ◌++◌, IfOk, OnOk, OnErr};
+ghost use Rattle.std.specs.Prelude.{◌≡◌, [], ◌∷◌, ◌++◌, Err, ⊤, IfOk, OnOk, OnErr};
 ghost use Rattle.mq_frame.specs.Range.{IsRequest, IsReply};
 ghost use Rattle.mq_ledger.specs.Answer.{build, reply};
 ghost use Rattle.mq_ledger.specs.Arrivals.{first};
@@ -64,6 +64,9 @@ pub trait Ledger {
     /// It has kept it, and its history is legal.
     ghost is_sound: { Self → Type 0 };
 
+    /// It has a store, which may fail.
+    ghost has_store: { Self → Type 0 } = { λ _. ⊤ };
+
     /// What its days go by.
     fn zone(&self) -> &Zone
         ensures { result.now ≡ (book self.now).zone };
@@ -87,6 +90,10 @@ pub trait Ledger {
         ensures same_zone { (book self.new).zone ≡ (book self.old).zone }
         ensures same_default { (book self.new).default ≡ (book self.old).default }
         ensures kept { has_kept self.new → has_kept self.old }
+
+        // A ledger without a store has none later, and never answers `Store`.
+        ensures no_store { has_store self.new → has_store self.old }
+        ensures store { result ≡ Err LedgerFault.Store → has_store self.old }
 
         // Of a sound one that has kept its premise.
         ensures reply { has_kept self.new → is_sound self.old → (let b = book self.old in

@@ -114,6 +114,8 @@ impl Ledger for PlainLedger {
 
     ghost is_sound = { IsLegalBook };
 
+    ghost has_store = { λ _. ⊥ };
+
     ghost sound_is_kept = { λ _ _. tt };
 
     ghost sound_is_legal = { λ _ sound. sound };
