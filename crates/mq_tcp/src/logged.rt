@@ -1,5 +1,6 @@
 //! A link that logs why no reply comes.
 
+use crate::outage::Outage;
 use crate::trouble::Trouble;
 use log::{Level, Log, log};
 use mq_frame::{ReplyParts, read_reply};
@@ -7,6 +8,7 @@ use mq_link::{Link, LinkFault};
 use std::fmt;
 use std::marker::Model;
 use std::net::SocketAddr;
+use std::time::Instant;
 
 /// A link that says why its last exchange brought no reply.
 pub trait Explain {
@@ -15,20 +17,20 @@ pub trait Explain {
 
     /// Why the last exchange brought no reply, if it brought none.
     fn trouble(&self) -> Option<&Trouble>;
+
+    /// The time by its clock, if that can be read.
+    fn now(&self) -> Option<Instant>;
 }
 
-/// A link with a log of its troubles: an error line once so many exchanges in a row brought no answer, with
-/// what the last one met, and an info line where an answer comes again. So a server that is away costs one line,
-/// however often it is asked. Each of its exchanges is one of the link's, with the same frame and the same end; contracts
-/// see the link.
+/// A link with a log of its outages: an error line once all exchanges of a request brought no answer, with what the last
+/// one met, and a warning where an answer comes again, with how many requests got none. So a server that is away costs
+/// two lines, however often it is asked, and at most one outage is logged in a second (`outage.rt`). Each of its
+/// exchanges is one of the link's, with the same frame and the same end; contracts see the link.
 #[derive(Drop)]
 pub struct LoggedLink<'a, L, G> {
     link: L,
     log: &'a G,
-    /// How many exchanges in a row may bring no answer before a line is logged.
-    patience: u32,
-    /// How many brought none so far.
-    failed: u32,
+    outage: Outage,
 }
 
 impl<'a, L, G> Model for LoggedLink<'a, L, G> {
@@ -57,18 +59,30 @@ impl fmt::Display for Unanswered<'_> {
     }
 }
 
+/// An answer that came after so many requests that got none.
+#[derive(Clone, Copy)]
+struct Answers {
+    requests: u32,
+}
+
+impl fmt::Display for Answers {
+    fn fmt<W: fmt::Write>(&self, f: &mut fmt::Formatter<W>) -> fmt::Result {
+        let requests = self.requests;
+        write!(f, "answers again, requests without an answer: {requests}")
+    }
+}
+
 impl<'a, L: Link + Explain, G: Log> LoggedLink<'a, L, G> {
     ghost use Rattle.std.specs.Prelude.{◌≡◌};
 
-    /// The link with a log of its troubles. `patience` is how often a request is sent.
-    pub fn new(link: L, log: &'a G, patience: u32) -> LoggedLink<'a, L, G>
+    /// The link with a log of its outages. `tries` is how often a request is sent that gets no answer.
+    pub fn new(link: L, log: &'a G, tries: u32) -> LoggedLink<'a, L, G>
         ensures { result ≡ link }
     {
         LoggedLink {
             link,
             log,
-            patience,
-            failed: 0,
+            outage: Outage::new(tries),
         }
     }
 
@@ -77,19 +91,26 @@ impl<'a, L: Link + Explain, G: Log> LoggedLink<'a, L, G> {
         ensures { self.new ≡ self.old }
     {
         match read_reply(body) {
-            None | Some(ReplyParts::Retry | ReplyParts::Bad) => {
-                // (a link that is away for long counts to the last number and stays there)
-                self.failed = self.failed.saturating_add(1);
-                if self.failed == self.patience {
-                    self.log_trouble(body);
-                }
-            }
-            Some(_) => {
-                if self.failed >= self.patience {
-                    self.tell(Level::Info, &"answers again");
-                }
-                self.failed = 0;
-            }
+            None | Some(ReplyParts::Retry | ReplyParts::Bad) => self.note_none(body),
+            Some(_) => self.note_answer(),
+        }
+    }
+
+    /// Notes that an exchange brought no answer.
+    fn note_none(&mut self, body: &[u8])
+        ensures { self.new ≡ self.old }
+    {
+        if self.outage.miss() && self.outage.begin(self.link.now()) {
+            self.log_trouble(body);
+        }
+    }
+
+    /// Notes that an exchange brought an answer.
+    fn note_answer(&mut self)
+        ensures { self.new ≡ self.old }
+    {
+        if let Some(requests) = self.outage.end(self.link.now()) {
+            self.report(Level::Warn, &Answers { requests });
         }
     }
 
@@ -99,11 +120,11 @@ impl<'a, L: Link + Explain, G: Log> LoggedLink<'a, L, G> {
             trouble: self.link.trouble(),
             body,
         };
-        self.tell(Level::Error, &unanswered);
+        self.report(Level::Error, &unanswered);
     }
 
     /// Logs a text about the quota server.
-    fn tell<T: fmt::Display>(&self, level: Level, text: &T) {
+    fn report<T: fmt::Display>(&self, level: Level, text: &T) {
         let address = self.link.address();
         log!(self.log; level, "quota server {address}: {text}");
     }

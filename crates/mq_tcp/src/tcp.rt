@@ -16,7 +16,7 @@ use std::io::{Read, Write};
 use std::marker::Model;
 use std::net::{Net, OpenStream, Shutdown, SocketAddr};
 use std::rt::Clock;
-use std::time::Duration;
+use std::time::{Duration, Instant};
 
 /// The stream with one timeout for all that is done with it from now on.
 fn timed<'a, K: Clock, S: OpenStream + Drop>(
@@ -184,6 +184,10 @@ impl<K: Clock, C: Connect> Explain for TcpLink<'_, K, C> {
 
     fn trouble(&self) -> Option<&Trouble> {
         self.trouble.as_ref()
+    }
+
+    fn now(&self) -> Option<Instant> {
+        Instant::now(self.clock).ok()
     }
 }
 
