@@ -115,3 +115,9 @@ pub record MakesCalls (was : Option (Result Served ServeFault)) (progress : Prog
   pub told : Tells before after (told_of xs ++ map failed_call (option_to_list failed))
   pub ends : IsSome failed → progress ≡ Ended (Err Store)
   pub only : was ≢ Some (Err Store) → progress ≡ Ended (Err Store) → IsSome failed
+
+-- where the store failed at a request, its frame stands next
+abbrev pub StandsNext : Option Request → List ℕ → Type 0
+StandsNext None rest = Unit {0}
+StandsNext (Some request) rest =
+    (body : List ℕ) × (after : List ℕ) × (next rest ≡ Whole body after) × SpellsRequest body request

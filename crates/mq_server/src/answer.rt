@@ -1,5 +1,5 @@
 //! Putting a request to a ledger.
-ghost use Rattle.std.specs.Prelude.{◌≡◌, ◌⊎◌, ℕ, List, IfOk, IfErr, IfSome};
+ghost use Rattle.std.specs.Prelude.{◌≡◌, ◌⊎◌, ℕ, List, Err, IfOk, IfErr, IfSome};
 ghost use Rattle.mq_frame.specs.Range.{IsRequest, IsReply};
 ghost use Rattle.mq_frame.specs.Spelling.{SpellsRequest};
 ghost use Rattle.mq_server.specs.Steps.{AnswersBody};
@@ -25,6 +25,8 @@ pub fn answer_body<L: Ledger>(
     ensures same_zone { (L.book ledger.new).zone ≡ (L.book ledger.old).zone }
     ensures same_default { (L.book ledger.new).default ≡ (L.book ledger.old).default }
     ensures kept { L.has_kept ledger.new → L.has_kept ledger.old }
+    ensures no_store { L.has_store ledger.new → L.has_store ledger.old }
+    ensures store { result ≡ Err ServeFault.Store → L.has_store ledger.old }
 
     // Of a sound one that has kept its premise.
     ensures sound { L.has_kept ledger.new → L.is_sound ledger.old → L.is_sound ledger.new }
@@ -47,6 +49,8 @@ fn apply<L: Ledger>(request: &Request, ledger: &mut L) -> Result<Option<Reply>, 
     ensures same_zone { (L.book ledger.new).zone ≡ (L.book ledger.old).zone }
     ensures same_default { (L.book ledger.new).default ≡ (L.book ledger.old).default }
     ensures kept { L.has_kept ledger.new → L.has_kept ledger.old }
+    ensures no_store { L.has_store ledger.new → L.has_store ledger.old }
+    ensures store { result ≡ Err ServeFault.Store → L.has_store ledger.old }
     ensures sound { L.has_kept ledger.new → L.is_sound ledger.old → L.is_sound ledger.new }
     ensures answers { L.has_kept ledger.new → L.is_sound ledger.old →
         (body : List ℕ) → SpellsRequest body request.now →

@@ -1,8 +1,8 @@
 //! A connection without its socket: bytes come in as they come, whole frames are answered, and the replies wait until
 //! they are taken.
-ghost use Rattle.std.specs.Prelude.{◌≡◌, ◌≤◌, length, take, drop, true, false, None, Some, List, OnOk, OnErr, ℕ};
+ghost use Rattle.std.specs.Prelude.{◌≡◌, ◌≤◌, length, take, drop, true, false, None, Some, Err, List, OnOk, OnErr, ℕ};
 ghost use Rattle.mq_server.specs.Held.{fresh, received, with_closed, with_replies};
-ghost use Rattle.mq_server.specs.Life.{AreAnswered, Counts, Exchange, Life, Lives, MakesCalls, unborn, with_bytes, with_exchanges, with_taken};
+ghost use Rattle.mq_server.specs.Life.{AreAnswered, Counts, Exchange, Life, Lives, MakesCalls, StandsNext, unborn, with_bytes, with_exchanges, with_taken};
 ghost use Rattle.mq_server.specs.State.{Goes, Steps};
 ghost use Rattle.mq_server.specs.Text.{IsPartial, next};
 ghost use Rattle.mq_server.specs.declared.connection.Progress.TheVariants.{Ended};
@@ -131,6 +131,8 @@ impl Connection {
         ensures same_zone { (L.book ledger.new).zone ≡ (L.book ledger.old).zone }
         ensures same_default { (L.book ledger.new).default ≡ (L.book ledger.old).default }
         ensures kept { L.has_kept ledger.new → L.has_kept ledger.old }
+        ensures no_store { L.has_store ledger.new → L.has_store ledger.old }
+        ensures store { self.old.end ≡ None → result ≡ Ended (Err ServeFault.Store) → L.has_store ledger.old }
 
         // Of a sound one that has kept its premise.
         ensures sound { L.has_kept ledger.new → L.is_sound ledger.old → L.is_sound ledger.new }
@@ -178,16 +180,21 @@ impl Connection {
         ensures answered { result ≡ Progress.Answered → self.new.end ≡ None }
         ensures waits { result ≡ Progress.Waits →
             (self.new.end ≡ None) × (self.new.is_closed ≡ false) × IsPartial (next self.new.rest) }
+        ensures closes_nothing { self.new.is_closed ≡ self.old.is_closed }
         ensures same_zone { (L.book ledger.new).zone ≡ (L.book ledger.old).zone }
         ensures same_default { (L.book ledger.new).default ≡ (L.book ledger.old).default }
         ensures kept { L.has_kept ledger.new → L.has_kept ledger.old }
+        ensures no_store { L.has_store ledger.new → L.has_store ledger.old }
+        ensures store { self.old.end ≡ None → result ≡ Ended (Err ServeFault.Store) → L.has_store ledger.old }
 
-        // Of a sound one that has kept its premise.
+        // Of a sound one that has kept its premise. The request at which the store failed is the one that stands next.
         ensures sound { L.has_kept ledger.new → L.is_sound ledger.old → L.is_sound ledger.new }
         ensures lives { L.has_kept ledger.new → L.is_sound ledger.old → (xs : List Exchange)
-            × Counts result most (length xs) × MakesCalls self.old.end result (L.told ledger.old) (L.told ledger.new) xs
+            × Counts result most (length xs)
+            × (calls : MakesCalls self.old.end result (L.told ledger.old) (L.told ledger.new) xs)
             × AreAnswered (L.book ledger.old) xs (L.book ledger.new).history
-            × ((l : Life) → Lives l self.old → (rest : List ℕ) × Lives (with_exchanges l xs rest) self.new) }
+            × ((l : Life) → Lives l self.old → (rest : List ℕ) × Lives (with_exchanges l xs rest) self.new
+            × StandsNext calls.failed rest) }
     {
         if let Some(end) = self.end {
             return Progress::Ended(end);

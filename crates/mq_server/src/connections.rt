@@ -74,6 +74,8 @@ pub fn serve_all<S: Source, W: Sink, L: Ledger>(
     ensures same_zone { (L.book ledger.new).zone ≡ (L.book ledger.old).zone }
     ensures same_default { (L.book ledger.new).default ≡ (L.book ledger.old).default }
     ensures kept { L.has_kept ledger.new → L.has_kept ledger.old }
+    ensures no_store { L.has_store ledger.new → L.has_store ledger.old }
+    ensures cause { result ≡ Err ServeFault.Store → L.has_store ledger.old }
 
     // Of a sound one that has kept its premise.
     ensures sound { L.has_kept ledger.new → L.is_sound ledger.old → L.is_sound ledger.new }

@@ -4,6 +4,7 @@ ghost use Rattle.mq_frame.specs.Feed.{front};
 ghost use Rattle.mq_frame.specs.Range.{IsReply};
 ghost use Rattle.mq_frame.specs.Spelling.{frame, reply_body};
 ghost use Rattle.mq_frame.specs.declared.feed.TheConstants.{REQUEST_LIMIT as request_limit};
+ghost use Rattle.mq_server.specs.declared.connection.Progress.TheVariants.{Ended};
 ghost use Rattle.mq_server.specs.State.{IsAdded, IsRefused, Moves, Steps};
 ghost use Rattle.mq_server.specs.Steps.{end_at};
 
@@ -58,6 +59,8 @@ pub fn step<L: Ledger>(
     ensures same_zone { (L.book ledger.new).zone ≡ (L.book ledger.old).zone }
     ensures same_default { (L.book ledger.new).default ≡ (L.book ledger.old).default }
     ensures kept { L.has_kept ledger.new → L.has_kept ledger.old }
+    ensures no_store { L.has_store ledger.new → L.has_store ledger.old }
+    ensures store { result ≡ Ended (Err ServeFault.Store) → L.has_store ledger.old }
 
     // Of a sound one that has kept its premise.
     ensures sound { L.has_kept ledger.new → L.is_sound ledger.old → L.is_sound ledger.new }

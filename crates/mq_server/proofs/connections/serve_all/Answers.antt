@@ -88,6 +88,7 @@ loop-i-preserved g c =
           rw (grown, outputs) (zip_push _ c.loop-i.ends.items (take c.loop-i.i c.loop-i.outputs) end c.serve.new.output (i.flushes all) (λ other. c.serve.ensures.flushed handed_on (λ e. other (write_end end (ended ∙ e)))));
       same_zone = c.serve.ensures.same_zone ∙ i.same_zone;
       same_default = c.serve.ensures.same_default ∙ i.same_default;
+      no_store = λ has. i.no_store (c.serve.ensures.no_store has);
       was_kept = λ k. i.was_kept (c.serve.ensures.kept k);
       stays_sound = λ k s. c.serve.ensures.sound k (i.stays_sound (c.serve.ensures.kept k) s);
       so_far = λ kept sound.

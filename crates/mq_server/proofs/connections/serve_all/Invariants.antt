@@ -28,6 +28,7 @@ invariant-loop-i g l =
       flushes : All (λ output. IsFlushed (g.W.Sink.has_flushed output)) l.fn.outputs → AllZip (λ end output. end ≢ ends.Write → IsFlushed (g.W.Sink.has_flushed output)) l.ends.items (take l.i l.outputs);
       same_zone : (book l.ledger).zone ≡ (book l.fn.ledger).zone;
       same_default : (book l.ledger).default ≡ (book l.fn.ledger).default;
+      no_store : g.L.Ledger.has_store l.ledger → g.L.Ledger.has_store l.fn.ledger;
       was_kept : kept l.ledger → kept l.fn.ledger;
       stays_sound : kept l.ledger → sound l.fn.ledger → sound l.ledger;
       so_far : kept l.ledger → sound l.fn.ledger → (seen : List Delivery)

@@ -21,6 +21,7 @@ invariant-frames g l =
       flushed : IsFlushed (g.W.Sink.has_flushed l.fn.output) → IsFlushed (g.W.Sink.has_flushed l.output);
       same_zone : (book l.ledger).zone ≡ (book l.fn.ledger).zone;
       same_default : (book l.ledger).default ≡ (book l.fn.ledger).default;
+      no_store : g.L.Ledger.has_store l.ledger → g.L.Ledger.has_store l.fn.ledger;
       was_kept : kept l.ledger → kept l.fn.ledger;
       stays_sound : kept l.ledger → sound l.fn.ledger → sound l.ledger;
       so_far : kept l.ledger → sound l.fn.ledger → SoFar (book l.fn.ledger) (g.L.Ledger.told l.fn.ledger) (g.L.Ledger.told l.ledger)

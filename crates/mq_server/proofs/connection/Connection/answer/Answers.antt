@@ -1,6 +1,7 @@
-use Rattle.std.proofs.Common.{◌∙◌, ◌+◌, ◌++◌, refl, sym, ap, None}
+use Rattle.std.proofs.Common.{◌∙◌, ◌+◌, ◌++◌, refl, sym, ap, None, arith}
+use Rattle.mq_server.specs.declared.connection.Progress.TheVariants.{Answered}
 use Rattle.mq_server.specs.Held.{State}
-use Rattle.mq_server.proofs.Advance.{AllAnswered, Told_so, advance_both, advance_still, answered_goes, each_said, ended_by, ended_calls, going_ended, last_told, none_answered, none_of, one_more, step_lives, told_as, waits_by}
+use Rattle.mq_server.proofs.Advance.{AllAnswered, Told_so, advance_both, advance_still, all_told, answered_goes, closed_by, each_said, ended_by, ended_calls, going_ended, last_told, none_answered, none_of, one_more, said_so, step_lives, told_as, waits_by}
 use Rattle.mq_server.proofs.connection.Connection.answer.Goals as goal
 
 pub returns-in-Some-clause-lives : goal.returns-in-Some-clause-lives
@@ -17,6 +18,8 @@ loop-frame-init g c = record {
   going = none_of c.args.self.now.end (λ r is. c.in_default.not-Some r (ap (λ (q : State). q.end) c.self.view_is ∙ is));
   same_zone = refl;
   same_default = refl;
+  closed = refl;
+  no_store = λ has. has;
   was_kept = λ k. k;
   stays_sound = λ k s. s;
   so_far = λ k s. advance_still (g.L.Ledger.book c.args.ledger.now) c.args.self.now c.args.self.now (AllAnswered (g.L.Ledger.told c.args.ledger.now) (g.L.Ledger.told c.args.ledger.now) 0) _ (none_answered (g.L.Ledger.told c.args.ledger.now)) (g.met.L.Ledger.sound_is_legal c.args.ledger.now s) refl refl;
@@ -33,6 +36,9 @@ returns-in_default-answer_next g c =
       waits = λ is. waits_by c.loop-frame.self c.answer_next.new.self c.loop-frame.ledger c.answer_next.new.ledger c.answer_next.result _ refl e.goes e.over is;
       same_zone = e.same_zone ∙ i.same_zone;
       same_default = e.same_default ∙ i.same_default;
+      closes_nothing = closed_by c.loop-frame.self c.answer_next.new.self c.loop-frame.ledger c.answer_next.new.ledger c.answer_next.result _ refl e.goes e.over ∙ i.closed;
+      no_store = λ has. i.no_store (e.no_store has);
+      store = λ none is. i.no_store (e.store i.going is);
       kept = λ k. i.was_kept (e.kept k);
       sound = λ k s. e.sound k (i.stays_sound (e.kept k) s);
       lives = λ k s.
@@ -46,7 +52,7 @@ returns-in_default-answer_next g c =
           let progress = c.answer_next.result in
           each_said (g.L.Ledger.book c.args.ledger.now) c.args.self.now c.answer_next.new.self progress t v c.args.most c.args.self.now.end _
           (advance_both (g.L.Ledger.book c.args.ledger.now) (g.L.Ledger.book c.loop-frame.ledger) c.args.self.now c.loop-frame.self c.answer_next.new.self (AllAnswered t u n) (Told_so None u v progress 1) (Told_so c.args.self.now.end t v progress c.args.most) _
-          legal i.same_zone i.same_default (λ xs ys a b. told_as t v progress c.args.most (xs ++ ys) _ i.began (last_told t u v progress n c.args.most xs ys c.loop-frame-test.true c.in_default-answer_next.not-Answered a b)) (i.so_far before s)
+          legal i.same_zone i.same_default (λ xs ys was failed a b. told_as t v progress c.args.most (xs ++ ys) failed _ i.began (last_told t u v progress n c.args.most xs ys was failed c.loop-frame-test.true c.in_default-answer_next.not-Answered a b)) (i.so_far before s)
           (step_lives (g.L.Ledger.book c.loop-frame.ledger) u v c.loop-frame.self c.answer_next.new.self progress _ legal i.going (e.goes i.going) (e.steps k (i.stays_sound before s) i.going)));
     }
 
@@ -59,6 +65,8 @@ loop-frame-preserved g c =
       going = answered_goes c.loop-frame.self c.answer_next.new.self c.answer_next.result c.in-Answered.is (e.goes i.going);
       same_zone = e.same_zone ∙ i.same_zone;
       same_default = e.same_default ∙ i.same_default;
+      closed = closed_by c.loop-frame.self c.answer_next.new.self c.loop-frame.ledger c.answer_next.new.ledger c.answer_next.result _ refl e.goes e.over ∙ i.closed;
+      no_store = λ has. i.no_store (e.no_store has);
       was_kept = λ k. i.was_kept (e.kept k);
       stays_sound = λ k s. e.sound k (i.stays_sound (e.kept k) s);
       so_far = λ k s.
@@ -70,6 +78,18 @@ loop-frame-preserved g c =
           let v = told c.answer_next.new.ledger in
           let n = c.loop-frame._frame in
           advance_both (g.L.Ledger.book c.args.ledger.now) (g.L.Ledger.book c.loop-frame.ledger) c.args.self.now c.loop-frame.self c.answer_next.new.self (AllAnswered t u n) (Told_so None u v c.answer_next.result 1) (AllAnswered t v (n + 1)) _
-          legal i.same_zone i.same_default (λ xs ys a b. one_more t u v n c.answer_next.result xs ys c.in-Answered.is a b) (i.so_far before s)
+          legal i.same_zone i.same_default (λ xs ys was failed a b. one_more t u v n c.answer_next.result xs ys was failed c.in-Answered.is a b) (i.so_far before s)
           (step_lives (g.L.Ledger.book c.loop-frame.ledger) u v c.loop-frame.self c.answer_next.new.self c.answer_next.result _ legal i.going (e.goes i.going) (e.steps k (i.stays_sound before s) i.going));
     }
+
+pub returns-clause-lives : goal.returns-clause-lives
+returns-clause-lives g c = λ k s.
+    let i = c.loop-frame.invariant in
+    let told = g.L.Ledger.told in
+    let t = told c.args.ledger.now in
+    let u = told c.loop-frame.ledger in
+    let b = g.L.Ledger.book c.args.ledger.now in
+    let was = c.args.self.now.end in
+    each_said b c.args.self.now c.loop-frame.self Answered t u c.args.most was _
+    (said_so b c.args.self.now c.loop-frame.self (AllAnswered t u c.loop-frame._frame) (Told_so was t u Answered c.args.most) _
+    (λ xs failed all. all_told t u c.loop-frame._frame c.args.most xs failed was (omega arith) all) (i.so_far k s))
