@@ -24,6 +24,8 @@ pub mod Held
 pub mod Framed
 -- a client's fields, and what its callers see of them
 pub mod Inside
+-- the logins whose limit is in the log
+pub mod Reached
 -- what a client keeps of a reply that decides
 pub mod Verdict
 -- the loop over lines: how far it has come, and what each of its parts adds

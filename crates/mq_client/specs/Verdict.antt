@@ -1,5 +1,5 @@
 -- What a client keeps of a reply that decides a request.
-use Rattle.std.specs.Prelude.{◌≡◌, Option, Some, None, if◌then◌else◌}
+use Rattle.std.specs.Prelude.{◌≡◌, Bool, true, false, Option, Some, None, if◌then◌else◌}
 use Rattle.mq_frame.specs.declared.message.Request.{Request}
 use Rattle.mq_frame.specs.declared.message.Reply.{Reply}
 use Rattle.mq_frame.specs.declared.message.Reply.TheVariants as reply
@@ -25,6 +25,12 @@ abbrev pub IsVerdict : Option Reply → Option Verdict → Type 0
 IsVerdict (Some reply) (Some v) = Says reply v
 IsVerdict None None = Unit {0}
 IsVerdict _ _ = ⊥
+
+-- whether a reply is an answer to some request, and not that none was taken
+abbrev pub is_answer : Reply → Bool
+is_answer reply.Retry = false
+is_answer reply.Bad = false
+is_answer r = true
 
 -- the reply, where it decides the request
 abbrev pub deciding : Request → Reply → Option Reply

@@ -86,6 +86,7 @@ fn ask<R: Log, K: Link>(
         return Ok(Decision::RejectService);
     }
     client.warn_before(rt, session, txn, at, name);
+    client.set_session(session);
     match client.reserve(rt, link, txn, at, name) {
         Ok(answer) => Ok(decision_of(answer)),
         Err(refused) => Err(refused),

@@ -12,7 +12,9 @@ ghost use Rattle.mq_frame.specs.declared.message.Reply.{Reply};
 
 use crate::faults::Memory;
 use crate::held::{Asked, Held, answer_to, closing_request, reserve_request};
+use crate::reached::Reached;
 use crate::refusal::{Cause, RefusedRecipient, Warned};
+use crate::session::Session;
 use crate::transactions::Transactions;
 use crate::tries::{Framed, send_all, try_all};
 use log::{Log, warn};
@@ -37,6 +39,9 @@ pub struct Client {
     numbers: u32,
     outbox: VecDeque<Framed>,
     warned: Warned,
+    reached: Reached,
+    /// The session whose requests come next.
+    session: Session,
 }
 
 impl Model for Client {
@@ -97,13 +102,22 @@ fn framed_closing(
 }
 
 /// Sends the request for a recipient, and answers whether it may go through.
-fn ask<R: Log, L: Link>(rt: &R, alloc: Global, link: &mut L, reserve: Framed, tries: u32) -> Asked
+fn ask<R: Log, L: Link>(
+    rt: &R,
+    alloc: Global,
+    link: &mut L,
+    reserve: Framed,
+    tries: u32,
+    reached: &mut Reached,
+) -> Asked
     requires { IsFramed reserve }
     ensures { (group : List Exchange) × (decided : Option Reply)
         × Tells (L.told link.old) (L.told link.new) (told_all group)
         × AreTries tries reserve.request group decided × (result ≡ answer_by decided) }
 {
-    answer_to(try_all(rt, alloc, link, &reserve, tries))
+    let verdict = try_all(rt, alloc, link, &reserve, tries);
+    reached.report(rt, &reserve, verdict);
+    answer_to(verdict)
 }
 
 impl Client {
@@ -126,6 +140,8 @@ impl Client {
             numbers: 0,
             outbox: VecDeque::new(alloc),
             warned: Warned::new(alloc),
+            reached: Reached::new(alloc),
+            session: Session::none(),
         })
     }
 
@@ -141,6 +157,13 @@ impl Client {
         ensures { (P : List Step) → StandsAt self.now P → result ≡ length (view self.now.source P).waiting }
     {
         self.outbox.len()
+    }
+
+    /// The next requests are of this session, as the log names it.
+    pub fn set_session(&mut self, session: &[u8])
+        ensures { self.new ≡ self.old }
+    {
+        self.session = Session::of(session);
     }
 
     /// Asks whether a recipient of a transaction may go through. `txn` is 1 to 4,294,967,295, `at` is
@@ -183,11 +206,13 @@ impl Client {
         }
         let seq = self.numbers + 1;
         // All memory comes first: where there is none, no number is used and nothing was sent.
-        let reserve = framed_reserve(self.alloc, &self.host, self.run, seq, txn, at, login)?;
+        let mut reserve = framed_reserve(self.alloc, &self.host, self.run, seq, txn, at, login)?;
+        reserve.session = self.session;
         self.held.hold(txn, at, login)?;
         // The number is used from here on, whatever comes of it: the server may have seen it.
         self.numbers = seq;
-        let answer = ask(rt, self.alloc, link, reserve, self.tries);
+        let reached = &mut self.reached;
+        let answer = ask(rt, self.alloc, link, reserve, self.tries, reached);
         self.held.count(txn, answer);
         Ok(answer)
     }
@@ -235,7 +260,8 @@ impl Client {
             return Ok(());
         };
         let seq = self.numbers + 1;
-        let framed = framed_closing(self.alloc, &self.host, self.run, seq, closing, known)?;
+        let mut framed = framed_closing(self.alloc, &self.host, self.run, seq, closing, known)?;
+        framed.session = self.session;
         // It waits before the transaction goes, so that no closing is lost where memory runs out.
         self.outbox.push_back(framed)?;
         self.held.release(closing.txn);

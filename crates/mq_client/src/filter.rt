@@ -21,7 +21,7 @@ ghost use Rattle.mq_client.specs.Loop.{CarriesHeld, HaltsHeld, SinkWorks, SoFar}
 use crate::answer::{Inquiry, answer};
 use crate::client::Client;
 use crate::faults::{FilterFault, Memory};
-use log::Log;
+use log::{Log, warn};
 use mq_frame::{Failed, Sink, Source, write_and_flush};
 use mq_line::{Line, LineFeed, read_line, write_registration};
 use mq_link::Link;
@@ -111,9 +111,18 @@ fn fault_of(fault: TrackFault) -> FilterFault
     }
 }
 
-/// Passes a closing on.
+/// The session of a report or a request.
+fn session_of<'a>(line: &Line<'a>) -> &'a [u8] {
+    match line {
+        Line::Report { session, .. } | Line::Filter { session, .. } => session,
+        _ => b"",
+    }
+}
+
+/// Passes a closing on that a line of this session brings.
 fn close<R: Log, K: Link>(
     rt: &R,
+    session: &[u8],
     closing: Option<Closing>,
     link: &mut K,
     client: &mut Client,
@@ -126,10 +135,13 @@ fn close<R: Log, K: Link>(
 {
     match closing {
         None => Ok(()),
-        Some(closing) => match client.close(rt, link, closing) {
-            Ok(()) => Ok(()),
-            Err(_) => Err(FilterFault::Memory),
-        },
+        Some(closing) => {
+            client.set_session(session);
+            match client.close(rt, link, closing) {
+                Ok(()) => Ok(()),
+                Err(_) => Err(FilterFault::Memory),
+            }
+        }
     }
 }
 
@@ -150,7 +162,7 @@ fn note<R: Log, K: Link>(
     ensures link { OnErr result (link.new ≡ link.old) }
 {
     match tracker.apply(line) {
-        Ok(closing) => close(rt, closing, link, client),
+        Ok(closing) => close(rt, session_of(line), closing, link, client),
         Err(fault) => Err(fault_of(fault)),
     }
 }
@@ -321,6 +333,13 @@ fn take_lines<R: Log, W: Sink, K: Link>(
     }
 }
 
+/// Warns of closings that got no answer until the end: what their transactions hold stays reserved.
+fn warn_left<R: Log>(rt: &R, left: u32) {
+    if left > 0 {
+        warn!(rt; "the input ends, closings without an answer: {left}");
+    }
+}
+
 /// Ends a run at the end of its input: what waits is sent once more.
 fn finish<R: Log, K: Link>(
     rt: &R,
@@ -348,6 +367,7 @@ fn finish<R: Log, K: Link>(
     }
     // The last chance of what waits: no run after this one knows of it.
     let left = client.drain(rt, link);
+    warn_left(rt, left);
     Ok(Ended {
         answers: filter.answers,
         left,

@@ -1,10 +1,13 @@
 //! How a warning names a request.
+use crate::session::Session;
+use crate::tries::Framed;
 use mq_frame::{Escaped, Id, Login, Request};
 use std::fmt;
 
 fn write_name<W: fmt::Write>(
     f: &mut fmt::Formatter<W>,
     kind: &str,
+    session: Session,
     id: &Id,
     txn: u32,
     login: &Login,
@@ -13,23 +16,25 @@ fn write_name<W: fmt::Write>(
     let login = Escaped(login.as_slice());
     write!(
         f,
-        "{kind} {} of transaction {txn} (host {host}, login {login})",
+        "{kind} {} of transaction {txn} (host {host}{session}, login {login})",
         id.seq
     )
 }
 
-/// A request of a client by its kind and number, with the transaction, the host and the login, so that one line of a
-/// log says whose recipients it is about. A login has at most 255 bytes, and so 1,020 characters.
+/// A request of a client by its kind and number, with the transaction, the host, smtpd's session where there is one, and
+/// the login, so that one line of a log says whose recipients it is about. A login has at most 255 bytes, and so 1,020 characters.
 #[derive(Clone, Copy)]
-pub struct Named<'a>(pub &'a Request);
+pub struct Named<'a>(pub &'a Framed);
 
 impl fmt::Display for Named<'_> {
     fn fmt<W: fmt::Write>(&self, f: &mut fmt::Formatter<W>) -> fmt::Result {
-        match self.0 {
-            Request::Reserve { id, txn, login, .. } => write_name(f, "reserve", id, *txn, login),
-            Request::Settle { id, txn, login, .. } => write_name(f, "settle", id, *txn, login),
-            Request::Release { id, txn, login, .. } => write_name(f, "release", id, *txn, login),
-            _ => Ok(()),
-        }
+        let session = self.0.session;
+        let (kind, id, txn, login) = match &self.0.request {
+            Request::Reserve { id, txn, login, .. } => ("reserve", id, *txn, login),
+            Request::Settle { id, txn, login, .. } => ("settle", id, *txn, login),
+            Request::Release { id, txn, login, .. } => ("release", id, *txn, login),
+            _ => return Ok(()),
+        };
+        write_name(f, kind, session, id, txn, login)
     }
 }

@@ -1,6 +1,7 @@
 //! Why the filter refuses a recipient by itself, and of which of these causes it has warned.
 ghost use Rattle.std.specs.Prelude.{◌≡◌, ◌≤◌, length};
 
+use crate::session::Session;
 use mq_frame::Escaped;
 use std::alloc::Global;
 use std::collections::VecDeque;
@@ -9,13 +10,10 @@ use std::fmt;
 /// The most warnings that are remembered.
 const REMEMBERED: usize = 64;
 
-/// How many bytes of a session's name tell it from others. smtpd gives each a name of 16.
-const NAME: usize = 16;
-
 /// Why a recipient is refused without asking the server.
 #[derive(Clone, Copy, Debug, PartialEq, Eq)]
 pub enum Cause {
-    /// smtpd told of no transaction in the session.
+    /// smtpd reported no transaction in the session.
     NoTransaction,
     /// The login is empty or longer than 255 bytes.
     Login,
@@ -34,7 +32,7 @@ pub enum Cause {
 impl fmt::Display for Cause {
     fn fmt<W: fmt::Write>(&self, f: &mut fmt::Formatter<W>) -> fmt::Result {
         f.write_str(match self {
-            Cause::NoTransaction => "smtpd told of no transaction",
+            Cause::NoTransaction => "smtpd reported no transaction",
             Cause::Login => "the login is empty or longer than 255 bytes",
             Cause::Moment => "the transaction's second is out of range",
             Cause::Changed => "the transaction began with another login or at another second",
@@ -77,7 +75,7 @@ fn front(text: &[u8], most: usize) -> &[u8] {
 /// A warning that was given.
 #[derive(Clone, Copy, PartialEq, Eq, Drop)]
 struct Given {
-    session: [u8; NAME],
+    session: Session,
     cause: Cause,
 }
 
@@ -98,12 +96,8 @@ impl Warned {
 
     /// Whether this is the first warning of the session for this cause; it is remembered, unless memory is wanted.
     pub fn is_first(&mut self, session: &[u8], cause: Cause) -> bool {
-        let mut name = [0u8; NAME];
-        for (place, byte) in name.iter_mut().zip(session) {
-            *place = *byte;
-        }
         let warning = Given {
-            session: name,
+            session: Session::of(session),
             cause,
         };
         if self.given.contains(&warning) {

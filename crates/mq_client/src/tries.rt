@@ -10,8 +10,9 @@ ghost use Rattle.mq_client.specs.declared.tries.Framed.{Framed as AFramed};
 ghost use Rattle.mq_client.specs.Framed.{IsFramed, requests_of};
 
 use crate::faults::Memory;
-use crate::verdict::{Verdict, verdict_in};
-use crate::warnings::{LimitReached, Refused, Unanswered, is_refusal};
+use crate::session::Session;
+use crate::verdict::{Verdict, is_other_reply, verdict_in};
+use crate::warnings::{Refused, Unanswered, is_refusal};
 use log::{Level, Log, log};
 use mq_frame::{Request, encode_request};
 use mq_link::Link;
@@ -19,11 +20,12 @@ use std::alloc::Global;
 use std::collections::VecDeque;
 use std::fmt::Display;
 
-/// A request with its frame, so that sending it asks for no memory.
+/// A request with its frame, so that sending it asks for no memory, and with smtpd's session, for the log.
 #[derive(Drop)]
 pub struct Framed {
     pub request: Request,
     pub frame: Vec<u8>,
+    pub session: Session,
 }
 
 /// The frame of a request.
@@ -43,7 +45,11 @@ impl Framed {
         ensures frame { IfOk result IsFramed }
     {
         match frame_of(alloc, &request) {
-            Ok(frame) => Ok(Framed { request, frame }),
+            Ok(frame) => Ok(Framed {
+                request,
+                frame,
+                session: Session::none(),
+            }),
             Err(refused) => Err(refused),
         }
     }
@@ -62,18 +68,30 @@ fn try_once<L: Link>(link: &mut L, framed: &Framed, body: &mut Vec<u8>) -> Optio
 }
 
 /// Logs a text.
-fn tell<R: Log, T: Display>(rt: &R, level: Level, text: &T) {
+pub fn report<R: Log, T: Display>(rt: &R, level: Level, text: &T) {
     log!(rt; level, "{text}");
 }
 
-/// Reports a limit that is reached, and warns where the server refused a request.
-fn tell_verdict<R: Log>(rt: &R, request: &Request, verdict: Verdict) {
-    if let Verdict::Full { used, cap } = verdict {
-        tell(rt, Level::Info, &LimitReached { request, used, cap });
-    }
+/// Warns where the server refused a request for another cause than the limit.
+fn report_verdict<R: Log>(rt: &R, framed: &Framed, verdict: Verdict) {
     if is_refusal(verdict) {
-        tell(rt, Level::Warn, &Refused { request, verdict });
+        report(rt, Level::Warn, &Refused { framed, verdict });
     }
+}
+
+/// Reports a request that no reply decided: by a warning where the server answered, since the link logs it else.
+fn report_unanswered<R: Log>(rt: &R, framed: &Framed, tries: u32, is_answered: bool) {
+    let level = if is_answered {
+        Level::Warn
+    } else {
+        Level::Info
+    };
+    let unanswered = Unanswered {
+        framed,
+        tries,
+        is_answered,
+    };
+    report(rt, level, &unanswered);
 }
 
 /// Exchanges a framed request until a reply decides it, up to so many times.
@@ -90,17 +108,15 @@ pub fn try_all<R: Log, L: Link>(
         × AreTries tries framed.now.request group decided × IsVerdict decided result }
 {
     let mut body = Vec::new(alloc);
+    let mut is_answered = false;
     for _attempt in 0..tries {
         if let Some(verdict) = try_once(link, framed, &mut body) {
-            tell_verdict(rt, &framed.request, verdict);
+            report_verdict(rt, framed, verdict);
             return Some(verdict);
         }
+        is_answered = is_answered || is_other_reply(body.as_slice());
     }
-    let unanswered = Unanswered {
-        request: &framed.request,
-        tries,
-    };
-    tell(rt, Level::Warn, &unanswered);
+    report_unanswered(rt, framed, tries, is_answered);
     None
 }
 

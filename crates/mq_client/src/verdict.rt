@@ -1,11 +1,12 @@
 //! What a reply decides.
-ghost use Rattle.std.specs.Prelude.{◌≡◌, Option, Some, None, if◌then◌else◌};
+ghost use Rattle.std.specs.Prelude.{◌≡◌, Option, Some, None, false, if◌then◌else◌};
 ghost use Rattle.mq_frame.specs.declared.message.Reply.{Reply};
 ghost use Rattle.mq_frame.specs.Parts.{shown_reply};
 ghost use Rattle.mq_frame.specs.Shown.{shown_id};
 ghost use Rattle.mq_frame.specs.Same.{same_id};
 ghost use Rattle.mq_client.specs.Exchanges.{answers_reserve, answers_closing, IsDecision};
-ghost use Rattle.mq_client.specs.Verdict.{IsVerdict, deciding};
+ghost use Rattle.mq_client.specs.Verdict.{IsVerdict, deciding, is_answer as is_answer_lem};
+ghost use Rattle.mq_frame.specs.Spelling.{SpellsReply};
 ghost use Rattle.mq_link.specs.declared.link.Outcome.TheVariants.{Answered};
 
 use mq_frame::{Id, IdParts, ReplyParts, Request, read_reply};
@@ -86,6 +87,24 @@ fn verdict_of(request: &Request, reply: ReplyParts<'_>) -> Option<Verdict>
         Request::Reserve { id, .. } => reserve_verdict(id, reply),
         Request::Settle { id, .. } | Request::Release { id, .. } => closing_verdict(id, reply),
         _ => None,
+    }
+}
+
+/// Whether this reply is an answer to some request.
+fn is_answer(reply: ReplyParts<'_>) -> bool
+    ensures { result ≡ is_answer_lem (shown_reply reply.entry) }
+{
+    !matches!(reply, ReplyParts::Retry | ReplyParts::Bad)
+}
+
+/// Whether a body that decides nothing is yet an answer to some request.
+pub fn is_other_reply(body: &[u8]) -> bool
+    ensures spelled { (reply : Reply) → SpellsReply body.now reply → result ≡ is_answer_lem reply }
+    ensures other { ((reply : Reply) → SpellsReply body.now reply → ⊥) → result ≡ false }
+{
+    match read_reply(body) {
+        Some(reply) => is_answer(reply),
+        None => false,
     }
 }
 

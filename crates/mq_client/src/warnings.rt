@@ -1,5 +1,6 @@
 //! What the warnings of a client say.
 use crate::named::Named;
+use crate::tries::Framed;
 use crate::verdict::Verdict;
 use mq_frame::Request;
 use std::fmt;
@@ -7,26 +8,33 @@ use std::fmt;
 /// A request that no reply decided in so many tries. A closing then waits.
 #[derive(Clone, Copy)]
 pub struct Unanswered<'a> {
-    pub request: &'a Request,
+    pub framed: &'a Framed,
     pub tries: u32,
+    /// A reply came that answers another request.
+    pub is_answered: bool,
 }
 
 impl fmt::Display for Unanswered<'_> {
     fn fmt<W: fmt::Write>(&self, f: &mut fmt::Formatter<W>) -> fmt::Result {
-        let named = Named(self.request);
+        let named = Named(self.framed);
         let tries = self.tries;
-        let waits = match self.request {
+        let other = if self.is_answered {
+            ", but a reply of another kind or number"
+        } else {
+            ""
+        };
+        let waits = match &self.framed.request {
             Request::Settle { .. } | Request::Release { .. } => ", it waits",
             _ => "",
         };
-        write!(f, "{named}: no answer in {tries} tries{waits}")
+        write!(f, "{named}: no answer in {tries} tries{other}{waits}")
     }
 }
 
 /// A recipient that the login's limit doesn't allow.
 #[derive(Clone, Copy)]
 pub struct LimitReached<'a> {
-    pub request: &'a Request,
+    pub reserve: &'a Framed,
     /// Recipients of the login on that day.
     pub used: u32,
     pub cap: u32,
@@ -34,7 +42,7 @@ pub struct LimitReached<'a> {
 
 impl fmt::Display for LimitReached<'_> {
     fn fmt<W: fmt::Write>(&self, f: &mut fmt::Formatter<W>) -> fmt::Result {
-        let named = Named(self.request);
+        let named = Named(self.reserve);
         let used = self.used;
         let cap = self.cap;
         write!(f, "{named}: refused by the limit, {used} used of {cap}")
@@ -52,17 +60,17 @@ pub fn is_refusal(verdict: Verdict) -> bool {
 /// Writes that the server holds less of a transaction than a request settles.
 fn write_too_many<W: fmt::Write>(
     f: &mut fmt::Formatter<W>,
-    request: &Request,
+    framed: &Framed,
     held: u32,
 ) -> fmt::Result {
-    let named = Named(request);
+    let named = Named(framed);
     write!(f, "{named}: the transaction holds {held} only")
 }
 
 /// A request that the server refused for another cause than the limit.
 #[derive(Clone, Copy)]
 pub struct Refused<'a> {
-    pub request: &'a Request,
+    pub framed: &'a Framed,
     pub verdict: Verdict,
 }
 
@@ -71,11 +79,11 @@ impl fmt::Display for Refused<'_> {
         let why = match self.verdict {
             Verdict::Closed => "the transaction was closed before",
             Verdict::Mismatch => "the transaction has another login or moment",
-            Verdict::TooMany(held) => return write_too_many(f, self.request, held),
+            Verdict::TooMany(held) => return write_too_many(f, self.framed, held),
             Verdict::Conflict => "the number was used by another request",
             Verdict::Old => "the run is retired",
             _ => return Ok(()),
         };
-        write!(f, "{}: {why}", Named(self.request))
+        write!(f, "{}: {why}", Named(self.framed))
     }
 }

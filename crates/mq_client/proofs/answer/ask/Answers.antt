@@ -1,10 +1,11 @@
-use Rattle.std.proofs.Common.{◌≡◌, ◌&&◌, true, refl, ap, ◌∙◌, rules, Some}
-use Rattle.mq_client.specs.Past.{Ask}
+use Rattle.std.proofs.Common.{◌≡◌, ◌&&◌, true, refl, ap, ◌∙◌, subst, rules, Some}
+use Rattle.mq_client.specs.Past.{Ask, State, Makes}
 use Rattle.mq_client.specs.Filter.{is_login, is_moment, decision_of}
 use Rattle.mq_client.proofs.answer.ask.Goals as goal
 
 pub returns-in-Ok-clause-ok : goal.returns-in-Ok-clause-ok
 returns-in-Ok-clause-ok g c =
-    let (group, told, answer, made) = rw c.warn_before.ensures at c.in-Ok.ensures.ok in
+    let (group, told, answer, made) = c.in-Ok.ensures.ok in
+    let F : State → Type 0 = λ s. Makes s c.reserve.new.self (record { action = Ask c.args.txn c.args.at c.args.name.now; group = group }) in
     let may : (is_login c.args.name.now && is_moment c.args.at) ≡ true = search rules in
-    (Some (record { action = Ask c.args.txn c.args.at c.args.name.now; group = group }), told, made, rw may (group, refl, c.decision_of.ensures ∙ ap decision_of answer))
+    (Some (record { action = Ask c.args.txn c.args.at c.args.name.now; group = group }), told, subst F (c.set_session.ensures ∙ c.warn_before.ensures) made, rw may (group, refl, c.decision_of.ensures ∙ ap decision_of answer))

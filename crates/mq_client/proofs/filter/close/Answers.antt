@@ -1,6 +1,6 @@
 use Rattle.std.proofs.Common.{refl, sym, subst, Some, Option}
 use Rattle.mq_track.specs.declared.closing.Closing.{Closing}
-use Rattle.mq_client.specs.Past.{Close}
+use Rattle.mq_client.specs.Past.{Close, State, Makes}
 use Rattle.mq_client.specs.Filter.{Closes}
 use Rattle.mq_client.proofs.filter.close.Goals as goal
 
@@ -10,4 +10,5 @@ returns-in-Ok-clause-ok g c =
     let k = c.in-Some.closing in
     let step = Some (record { action = Close k.txn k.end; group = group }) in
     let F : Option Closing → Type 0 = λ x. Closes x step in
-    (step, told, made, subst F (sym c.in-Some.is) (group, refl))
+    let M : State → Type 0 = λ s. Makes s c.close.new.self (record { action = Close k.txn k.end; group = group }) in
+    (step, told, subst M c.set_session.ensures made, subst F (sym c.in-Some.is) (group, refl))

@@ -1,0 +1,45 @@
+//! The session that a line of the log names.
+
+use mq_frame::Escaped;
+use std::fmt;
+
+/// How many bytes of a session's name are kept. smtpd gives each a name of 16.
+const NAME: usize = 16;
+
+/// The first bytes of a session's name, with bytes of 0 after a shorter one; or none.
+#[derive(Clone, Copy, PartialEq, Eq, Drop)]
+pub struct Session([u8; NAME]);
+
+impl Session {
+    pub fn none() -> Session {
+        Session([0; NAME])
+    }
+
+    pub fn of(name: &[u8]) -> Session {
+        let mut kept = [0; NAME];
+        for (place, byte) in kept.iter_mut().zip(name) {
+            *place = *byte;
+        }
+        Session(kept)
+    }
+
+    /// The bytes before the first 0.
+    fn name(&self) -> &[u8] {
+        let name = self.0.as_slice();
+        match name.iter().position(|byte| *byte == 0) {
+            Some(end) => name.get(..end).unwrap_or(name),
+            None => name,
+        }
+    }
+}
+
+/// With a comma before it, where there is one.
+impl fmt::Display for Session {
+    fn fmt<W: fmt::Write>(&self, f: &mut fmt::Formatter<W>) -> fmt::Result {
+        let name = self.name();
+        if name.is_empty() {
+            return Ok(());
+        }
+        write!(f, ", session {}", Escaped(name))
+    }
+}
