@@ -5,7 +5,7 @@
 //! back over all lines that it accepted. From `mq_client/src/filter.rt`:
 //!
 //!     match tracker.apply(line) {
-//!         Ok(closing) => close(rt, closing, link, client),
+//!         Ok(closing) => close(rt, session_of(line), closing, link, client),
 //!         Err(fault) => Err(fault_of(fault)),
 //!     }
 //!
