@@ -24,6 +24,8 @@ pub mod Held
 pub mod Framed
 -- a client's fields, and what its callers see of them
 pub mod Inside
+-- why a recipient is refused with no exchange
+pub mod Causes
 -- the logins whose limit is in the log
 pub mod Reached
 -- what a client keeps of a reply that decides

@@ -32,6 +32,15 @@ is_answer reply.Retry = false
 is_answer reply.Bad = false
 is_answer r = true
 
+-- whether the server refused a request for another cause than the limit
+abbrev pub is_refusal : Verdict → Bool
+is_refusal verdict.Closed = true
+is_refusal verdict.Mismatch = true
+is_refusal (verdict.TooMany held) = true
+is_refusal verdict.Conflict = true
+is_refusal verdict.Old = true
+is_refusal v = false
+
 -- the reply, where it decides the request
 abbrev pub deciding : Request → Reply → Option Reply
 deciding request reply = if decides request reply then Some reply else None

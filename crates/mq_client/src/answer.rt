@@ -9,6 +9,7 @@ ghost use Rattle.mq_line.specs.Grammar.{Meaning};
 ghost use Rattle.mq_line.specs.Results.{result_text};
 ghost use Rattle.mq_link.specs.Link.{Tells};
 ghost use Rattle.mq_client.specs.Past.{Step};
+ghost use Rattle.mq_client.specs.Causes.{cause_of as cause_of_lem};
 ghost use Rattle.mq_client.specs.Filter.{is_login, is_moment, query_at, query, decision_of as decision_lem, Answers};
 ghost use Rattle.mq_client.specs.Run.{around};
 ghost use Rattle.mq_client.specs.Loop.{MakesOne, told_one, Does, Replies, IsCut};
@@ -41,7 +42,9 @@ fn may_ask(name: &[u8], at: u64) -> bool
 }
 
 /// Why a recipient of this login can't be asked for.
-fn cause_of(name: &[u8]) -> Cause {
+fn cause_of(name: &[u8]) -> Cause
+    ensures { result ≡ cause_of_lem name.now }
+{
     if is_login(name) {
         Cause::Moment
     } else {

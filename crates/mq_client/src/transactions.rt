@@ -4,6 +4,7 @@ ghost use Rattle.std.specs.Prelude.{IfOk, OnOk, OnErr, IfSome, if◌then◌else�
 ghost use Rattle.std.specs.Option.{option_copied};
 ghost use Rattle.mq_client.specs.Past.{find, is_other as is_other_lem, refuses as refuses_lem, let_through};
 ghost use Rattle.mq_client.specs.Past.{opened as opened_lem};
+ghost use Rattle.mq_client.specs.Causes.{cause_by};
 ghost use Rattle.mq_client.specs.declared.held.Held.{Held as AHeld};
 
 use crate::held::{Asked, Held};
@@ -90,7 +91,9 @@ impl Transactions {
         login: &[u8],
     ) -> Option<Cause>
         requires { waiting < 2 ^ 32 }
-        ensures { is_some result ≡ refuses_lem (find self.now txn) (length self.now) numbers waiting at login.now }
+        ensures refuses { is_some result ≡ refuses_lem (find self.now txn) (length self.now) numbers waiting at
+            login.now }
+        ensures cause { result ≡ cause_by (find self.now txn) (length self.now) numbers waiting at login.now }
     {
         let live = self.records.len();
         let unused = (u32::MAX - numbers) as usize;

@@ -1,4 +1,7 @@
 //! What the warnings of a client say.
+ghost use Rattle.std.specs.Prelude.{◌≡◌};
+ghost use Rattle.mq_client.specs.Verdict.{is_refusal as is_refusal_lem};
+
 use crate::named::Named;
 use crate::tries::Framed;
 use crate::verdict::Verdict;
@@ -50,7 +53,9 @@ impl fmt::Display for LimitReached<'_> {
 }
 
 /// Whether the server refused a request for another cause than the limit.
-pub fn is_refusal(verdict: Verdict) -> bool {
+pub fn is_refusal(verdict: Verdict) -> bool
+    ensures { result ≡ is_refusal_lem verdict }
+{
     matches!(
         verdict,
         Verdict::Closed | Verdict::Mismatch | Verdict::TooMany(_) | Verdict::Conflict | Verdict::Old

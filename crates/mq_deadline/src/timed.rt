@@ -1,7 +1,8 @@
 //! A stream that is waited for until a deadline and no longer.
-ghost use Rattle.std.specs.Prelude.{◌≡◌, ◌-◌, ◌≤◌, ◌↔◌, IsNone, IfSome, IfOk, min};
+ghost use Rattle.std.specs.Prelude.{◌≡◌, ◌-◌, ◌≤◌, ◌<◌, ◌↔◌, IsNone, IfSome, IfOk, min};
 ghost use Rattle.std.specs.Duration.{as_nanos};
 ghost use Rattle.std.specs.Time.{instant_nanos};
+ghost use Rattle.std.specs.declared.time.Instant.{Instant};
 
 use std::io;
 use std::io::{ErrorKind, Read, Write};
@@ -22,6 +23,17 @@ fn wait_at(now: Instant, deadline: Instant, timeout: Duration) -> Option<Duratio
         return None;
     }
     Some(if timeout <= left { timeout } else { left })
+}
+
+/// How long a call may wait that begins now; it fails as timed out from the deadline on.
+fn wait_until(clock: &impl Clock, deadline: Instant, timeout: Duration) -> io::Result<Duration>
+    ensures { IfOk result (λ wait. (now : Instant) × (instant_nanos now < instant_nanos deadline)
+        × (as_nanos wait ≡ min (as_nanos timeout) (instant_nanos deadline - instant_nanos now))) }
+{
+    match wait_at(Instant::now(clock)?, deadline, timeout) {
+        Some(wait) => Ok(wait),
+        None => Err(io::Error::from(ErrorKind::TimedOut)),
+    }
 }
 
 /// The moment that is so long from now.
@@ -78,10 +90,7 @@ impl<'a, C: Clock, S: OpenStream> Timed<'a, C, S> {
 
     /// How long the next call may wait.
     fn wait(&self) -> io::Result<Duration> {
-        match wait_at(Instant::now(self.clock)?, self.deadline, self.timeout) {
-            Some(wait) => Ok(wait),
-            None => Err(io::Error::from(ErrorKind::TimedOut)),
-        }
+        wait_until(self.clock, self.deadline, self.timeout)
     }
 }
 

@@ -1,11 +1,13 @@
 //! The server's end: frames, the ledger, the engine, and a link to it.
 
 mod asserts;
+mod deadlines;
 mod fails_once;
 mod fixtures;
 mod frame;
 mod ledger;
 mod link;
+mod outages;
 mod room;
 mod server;
 mod serving;

@@ -9,6 +9,10 @@ pub record IsReceived (old new : Option (List ℕ)) (body : List ℕ) : Type 0 w
   pub fits : length body ≤ 65535
   pub read : Consumes old new (frame body)
 
+-- a length of 0 was read, and nothing after it
+abbrev pub IsEmptyHead : Option (List ℕ) → Option (List ℕ) → Type 0
+IsEmptyHead old new = Consumes old new (in_2_bytes 0)
+
 -- a length above 0 was read, and nothing after it
 pub record IsHeadOnly (old new : Option (List ℕ)) : Type 0 where
   pub announced : ℕ

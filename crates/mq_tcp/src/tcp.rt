@@ -3,7 +3,7 @@ ghost use Rattle.std.specs.Prelude.{◌≡◌, ◌≢◌, ℕ, List, [], ◌∷�
 ghost use Rattle.std.specs.Prelude.{OnErr, IfErr, MatchOption};
 ghost use Rattle.std.specs.Io.KnownBytes.{Appends};
 ghost use Rattle.mq_link.specs.Link.{Tells, outcome_of};
-ghost use Rattle.mq_link.specs.Body.{IsReceived, IsHeadOnly};
+ghost use Rattle.mq_link.specs.Body.{IsReceived, IsHeadOnly, IsEmptyHead};
 ghost use Rattle.mq_tcp.specs.Exchange.{Standing, IsSent, IsExchange, trouble_fault};
 
 use crate::connect::{Connect, Connector};
@@ -54,6 +54,8 @@ fn read_within<K: Clock, S: Read + OpenStream + Drop>(
     ensures body { OnOk result ((left : Option (List ℕ)) × IsReceived (S.remaining stream) left reply.new.items) }
     ensures empty { OnErr result (reply.new.items ≡ []) }
     ensures memory { result ≡ Err Trouble.Memory → (left : Option (List ℕ)) × IsHeadOnly (S.remaining stream) left }
+    ensures no_bytes { result ≡ Err Trouble.Empty → (left : Option (List ℕ)) × IsEmptyHead (S.remaining stream) left }
+    ensures connected { result ≢ Err Trouble.Unconnected }
 {
     reply.clear();
     match timed(stream, clock, timeout) {

@@ -4,6 +4,7 @@ mod causes;
 mod devices;
 mod faults;
 mod flushing;
+mod limits;
 mod long;
 mod retires;
 mod rows;
@@ -95,6 +96,8 @@ enum Reply<'a> {
     Transactions(u32),
     /// So many recipients of one transaction.
     Recipients(u32),
+    /// The limit refuses so many recipients.
+    Full(u32),
 }
 
 /// The bytes of hexadecimal digits. Spaces are passed over.
@@ -143,6 +146,15 @@ fn add_numbered(
     add(rt, script, Outcome::Answered(Bytes::new(body)));
 }
 
+/// Adds the refusal of the request with that number, with 1 used of 1.
+fn add_full(rt: &impl Abort, alloc: Global, script: &mut VecDeque<Outcome>, seq: u32) {
+    let mut body = bytes_of(rt, alloc, "82 036d7831 0000000000000001");
+    for number in [seq, 1, 1] {
+        append(rt, &mut body, &number.to_be_bytes());
+    }
+    add(rt, script, Outcome::Answered(Bytes::new(body)));
+}
+
 fn add_reply(rt: &impl Abort, alloc: Global, script: &mut VecDeque<Outcome>, reply: Reply<'_>) {
     match reply {
         Reply::Body(text) => {
@@ -158,6 +170,11 @@ fn add_reply(rt: &impl Abort, alloc: Global, script: &mut VecDeque<Outcome>, rep
         Reply::Recipients(last) => {
             for seq in 1..=last {
                 add_numbered(rt, alloc, script, GRANT, seq, seq);
+            }
+        }
+        Reply::Full(last) => {
+            for seq in 1..=last {
+                add_full(rt, alloc, script, seq);
             }
         }
     }

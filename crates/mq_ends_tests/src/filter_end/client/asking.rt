@@ -200,7 +200,8 @@ const SENT_IN_ORDER: Case<'static> = Case {
         RESERVE_1, RESERVE_2, SETTLE_1, SETTLE_1, SETTLE_1, SETTLE_1, SETTLE_1, SETTLE_2,
     ]),
     log: Some(&[
-        "settle 3 of transaction 1 (host mx1, login u): no answer in 3 tries, it waits",
+        "settle 3 of transaction 1 (host mx1, login u): \
+            no answer in 3 tries, but a reply of another kind or number, it waits",
         "settle 3 of transaction 1 (host mx1, login u): the transaction was closed before",
         "settle 4 of transaction 2 (host mx1, login u): the transaction holds 0 only",
     ]),

@@ -11,7 +11,7 @@ const EARLY: &str = "report|0.7|0000086399.000000|smtp-in|tx-begin|7641df9771b4e
 ";
 
 const NO_TRANSACTION: &str = "session 7641df9771b4ed00 (login alice): recipients are refused, \
-    smtpd told of no transaction";
+    smtpd reported no transaction";
 
 const NO_LOGIN: &str = "session 7641df9771b4ed00 (login ): recipients are refused, \
     the login is empty or longer than 255 bytes";
@@ -22,7 +22,9 @@ const NO_DAY: &str = "session 7641df9771b4ed00 (login alice): recipients are ref
 const ANOTHER: &str = "session 7641df9771b4ed00 (login bob): recipients are refused, \
     the transaction began with another login or at another second";
 
-const UNANSWERED: &str = "reserve 1 of transaction 1 (host mx1, login alice): no answer in 1 tries";
+const UNANSWERED: &str =
+    "reserve 1 of transaction 1 (host mx1, session 7641df9771b4ed00, login alice): \
+    no answer in 1 tries";
 
 const REFUSES_TWO: &[&str] = &[REGISTRATION, SERVICE, SERVICE];
 

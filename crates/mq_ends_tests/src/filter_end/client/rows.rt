@@ -108,8 +108,8 @@ const OTHER_REPLIES: &[Row<'static>] = &[
         sent: Sent::Frames(&[RESERVE, RELEASE]),
         held: 0,
         log: Some(&[
-            "reserve 1 of transaction 1 (host mx1, login alice): the run is retired",
-            "release 2 of transaction 1 (host mx1, login alice): the run is retired",
+            "reserve 1 of transaction 1 (host mx1, session 7641df9771b4ed00, login alice): the run is retired",
+            "release 2 of transaction 1 (host mx1, session 7641df9771b4ed00, login alice): the run is retired",
         ]),
         ..PLAIN
     },
