@@ -24,6 +24,7 @@ use mq_room::serve_connections;
 use mq_server::laws::more_deliveries;
 use mq_settings::{Place, ServerSettings, read_file, read_server_settings};
 use mq_store::SqlLedger;
+use mq_watch::Watched;
 use sqlite::{Alter, FileFrom, FileStore, Start};
 use std::alloc::Global;
 use std::net::{Net, TcpListener, TcpStream};
@@ -154,32 +155,41 @@ fn listen_over<G: Log, S: Alter + Drop>(
         → HasGrown (book_in ledger.zone ledger.default (state S.Store ledger.connection).now)
         (book_in ledger.zone ledger.default (state S.Store result.ledger.connection).now) }
 {
+    more_deliveries();
     let mut ledger = ledger;
-    let outcome = begin(rt, log, settings, &mut ledger, connections);
-    Served { ledger, outcome }
+    match log_ledger(log, settings, &mut ledger) {
+        Ok(()) => begin(rt, log, settings, ledger, connections),
+        Err(fault) => Served {
+            ledger,
+            outcome: Err(fault),
+        },
+    }
 }
 
-/// Logs what a ledger holds, and serves so many connections over it.
+/// Serves so many connections over a ledger, and logs what an administrator has to see of their requests.
 fn begin<G: Log, S: Alter + Drop>(
     rt: &HostRuntime,
     log: &G,
     settings: &ServerSettings,
-    ledger: &mut SqlLedger<S>,
+    ledger: SqlLedger<S>,
     connections: u32,
-) -> Result<u8, ProgramFault>
-    ensures lent { (ledger.new.zone ≡ ledger.old.zone) × (ledger.new.default ≡ ledger.old.default) }
-    ensures kept { HasKept (state S.Store ledger.new.connection) → HasKept (state S.Store ledger.old.connection) }
-    ensures sound { HasKept (state S.Store ledger.new.connection)
-        → IsSound ledger.old.zone ledger.old.default (state S.Store ledger.old.connection)
-        → IsSound ledger.old.zone ledger.old.default (state S.Store ledger.new.connection) }
-    ensures grown { HasKept (state S.Store ledger.new.connection)
-        → IsSound ledger.old.zone ledger.old.default (state S.Store ledger.old.connection)
-        → HasGrown (book_in ledger.old.zone ledger.old.default (state S.Store ledger.old.connection).now)
-        (book_in ledger.old.zone ledger.old.default (state S.Store ledger.new.connection).now) }
+) -> Served<S>
+    ensures same { (result.ledger.zone ≡ ledger.zone) × (result.ledger.default ≡ ledger.default) }
+    ensures kept { HasKept (state S.Store result.ledger.connection) → HasKept (state S.Store ledger.connection) }
+    ensures sound { HasKept (state S.Store result.ledger.connection)
+        → IsSound ledger.zone ledger.default (state S.Store ledger.connection)
+        → IsSound ledger.zone ledger.default (state S.Store result.ledger.connection) }
+    ensures grown { HasKept (state S.Store result.ledger.connection)
+        → IsSound ledger.zone ledger.default (state S.Store ledger.connection)
+        → HasGrown (book_in ledger.zone ledger.default (state S.Store ledger.connection).now)
+        (book_in ledger.zone ledger.default (state S.Store result.ledger.connection).now) }
 {
-    more_deliveries();
-    log_ledger(log, settings, ledger)?;
-    listen(rt, log, rt.alloc(), settings, ledger, connections)
+    let mut watched = Watched::new(rt, log, rt.alloc(), ledger);
+    let outcome = listen(rt, log, rt.alloc(), settings, &mut watched, connections);
+    Served {
+        ledger: watched.into_inner(),
+        outcome,
+    }
 }
 
 /// Logs what a ledger holds as a server begins with it.
@@ -218,7 +228,7 @@ pub fn listen<R, G: Log, L: Ledger>(
     log: &G,
     alloc: Global,
     settings: &ServerSettings,
-    ledger: &mut L,
+    ledger: &mut Watched<'_, L, R, G>,
     connections: u32,
 ) -> Result<u8, ProgramFault>
 where

@@ -22,7 +22,7 @@ use Rattle.mq_server.specs.Life.{AreAnswered, Exchange, Life, Lives, MakesCalls,
 use Rattle.mq_room.specs.Turns.{Offers, Turns, lived}
 use Rattle.mq_room.specs.Wires.{AreOffered, IsKnownAs, Leaves, Wire}
 
--- ---- what a ledger tells
+-- ---- what a ledger reports
 
 pub Tells-none : (t : Option (List Told)) → Tells t t []
 Tells-none None = tt
@@ -156,7 +156,7 @@ pub nothing_done : (b : Book) (t : Option (List Told)) (p : Progress) (wire : Wi
 nothing_done b t p wire c works none =
     turned b b.history t t p wire wire c c c [] [] [] [] none (no_calls t c.end p works) (extends_none c) none_few (λ _. refl) (Consumes-nil wire.remaining) (Appends-nil wire.contents) (carries_none c)
 
--- exchanges behind others, by the law of mq_server
+-- exchanges after others, by the law of mq_server
 abbrev pub Follow : Type 0
 Follow = (b k : Book) (xs ys : List Exchange) (history : List Entry) → IsLegalBook k → k.zone ≡ b.zone → k.default ≡ b.default → AreAnswered b xs k.history → AreAnswered k ys history → AreAnswered b (xs ++ ys) history
 

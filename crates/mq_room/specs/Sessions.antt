@@ -28,7 +28,7 @@ all_of ps = map (λ p. p.exchange) ps
 abbrev pub those_of : ℕ → List Placed → List Exchange
 those_of n ps = all_of (filter (λ p. eqb p.number n) ps)
 
--- what a server stands between: a ledger's book and the calls that it tells, and the wires of the connections
+-- what a server stands between: a ledger's book and the calls that it reports, and the wires of the connections
 pub record Outside : Type 0 where
   pub book : Book
   pub told : Option (List Told)

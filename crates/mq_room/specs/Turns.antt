@@ -18,7 +18,7 @@ lived l read xs rest written =
     record { bytes = l.bytes ++ read; exchanges = l.exchanges ++ xs; rest = rest; taken = l.taken ++ written }
 
 -- Bytes were read from the wire, and those of one read that found no room are lost; requests were answered by the ledger,
--- which then has this history and tells their calls, and nothing else came to it; and bytes of replies were written. Each
+-- which then has this history and reports their calls, and nothing else came to it; and bytes of replies were written. Each
 -- life of the connection goes on by them.
 pub record Turns (b : Book) (history : List Entry) (before after : Option (List Told)) (turn : Progress)
     (old new : Wire) (c now : State) : Type 0 where

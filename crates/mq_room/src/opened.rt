@@ -8,10 +8,12 @@ ghost use Rattle.mq_server.specs.Life.{Life, Lives, with_bytes, with_taken};
 ghost use Rattle.mq_room.specs.Turns.{Offers, Turns};
 
 use crate::network::Network;
+use log::Log;
 use mq_deadline::deadline_after;
 use mq_ledger::Ledger;
 use mq_server::laws::more_exchanges;
 use mq_server::{Connection, PIECE, Progress, ServeFault, Served};
+use mq_watch::Watched;
 use std::alloc::Global;
 use std::io;
 use std::io::ErrorKind;
@@ -224,7 +226,7 @@ fn read_stop(error: &io::Error) -> Progress
 }
 
 /// Gives a connection turns, as long as it has something to do and no other has waited for long.
-pub fn take_turns<N: Network, C: Clock, L: Ledger>(
+fn take_turns<N: Network, C: Clock, L: Ledger>(
     clock: &C,
     alloc: Global,
     network: &mut N,
@@ -253,4 +255,30 @@ pub fn take_turns<N: Network, C: Clock, L: Ledger>(
         }
     }
     Progress::Answered
+}
+
+/// Gives a connection turns. What it asks of the ledger comes from its peer.
+pub fn give_turns<N: Network, C: Clock, G: Log, L: Ledger>(
+    clock: &C,
+    alloc: Global,
+    network: &mut N,
+    number: usize,
+    opened: &mut OpenConnection,
+    timeout: Duration,
+    ledger: &mut Watched<'_, L, C, G>,
+) -> Progress
+    ensures others { (n : ℕ) → n ≢ number → N.wire network.new n ≡ N.wire network.old n }
+    ensures store { result ≡ Ended (Err ServeFault.Store) → opened.new.connection.end ≡ Some (Err ServeFault.Store) }
+    ensures works { opened.old.connection.end ≢ Some (Err ServeFault.Store) →
+        result ≢ Ended (Err ServeFault.Store) → opened.new.connection.end ≢ Some (Err ServeFault.Store) }
+    ensures same_zone { (L.book ledger.new).zone ≡ (L.book ledger.old).zone }
+    ensures same_default { (L.book ledger.new).default ≡ (L.book ledger.old).default }
+    ensures kept { L.has_kept ledger.new → L.has_kept ledger.old }
+    ensures sound { L.has_kept ledger.new → L.is_sound ledger.old → L.is_sound ledger.new }
+    ensures turns { L.has_kept ledger.new → L.is_sound ledger.old →
+        Turns (L.book ledger.old) (L.book ledger.new).history (L.told ledger.old) (L.told ledger.new) result
+        (N.wire network.old number) (N.wire network.new number) opened.old.connection opened.new.connection }
+{
+    ledger.hear(opened.peer);
+    take_turns(clock, alloc, network, number, opened, timeout, ledger)
 }

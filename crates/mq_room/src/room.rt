@@ -7,11 +7,12 @@ ghost use Rattle.mq_room.specs.Turns.{Closes};
 
 use crate::fault::RoomFault;
 use crate::network::Network;
-use crate::opened::{OpenConnection, take_turns};
+use crate::opened::{OpenConnection, give_turns};
 use log::{Log, error, warn};
 use mq_ledger::Ledger;
 use mq_server::laws::{a_life_is_served, more_exchanges};
 use mq_server::{PIECE, Progress, ServeFault, Served};
+use mq_watch::Watched;
 use std::alloc::Global;
 use std::collections::BTreeMap;
 use std::net::SocketAddr;
@@ -140,7 +141,7 @@ impl Room {
         network: &mut N,
         ready: &[usize],
         timeout: Duration,
-        ledger: &mut L,
+        ledger: &mut Watched<'_, L, C, G>,
     ) -> Result<(), RoomFault>
         ensures same_zone { (L.book ledger.new).zone ≡ (L.book ledger.old).zone }
         ensures same_default { (L.book ledger.new).default ≡ (L.book ledger.old).default }
@@ -167,7 +168,7 @@ impl Room {
         network: &mut N,
         number: usize,
         timeout: Duration,
-        ledger: &mut L,
+        ledger: &mut Watched<'_, L, C, G>,
     ) -> Result<(), RoomFault>
         ensures same_zone { (L.book ledger.new).zone ≡ (L.book ledger.old).zone }
         ensures same_default { (L.book ledger.new).default ≡ (L.book ledger.old).default }
@@ -185,7 +186,7 @@ impl Room {
             return Ok(());
         };
         let peer = open.peer;
-        match take_turns(clock, self.alloc, network, number, open, timeout, ledger) {
+        match give_turns(clock, self.alloc, network, number, open, timeout, ledger) {
             Progress::Waits => Ok(()),
             Progress::Answered => {
                 self.watch_again(log, network, number, &peer);

@@ -12,6 +12,7 @@ use log::{Log, error};
 use mio::Events;
 use mq_ledger::Ledger;
 use mq_server::laws::{a_life_is_served, more_exchanges};
+use mq_watch::Watched;
 use std::alloc::Global;
 use std::io;
 use std::net::{Net, TcpListener};
@@ -28,7 +29,7 @@ pub fn serve_connections<R: Clock + Net, G: Log, L: Ledger>(
     alloc: Global,
     listener: &TcpListener,
     timeout: Duration,
-    ledger: &mut L,
+    ledger: &mut Watched<'_, L, R, G>,
     connections: u32,
 ) -> Result<(), RoomFault>
     // Of any ledger, sound or not.
@@ -62,7 +63,7 @@ pub fn serve_network<N: Network, C: Clock, G: Log, L: Ledger>(
     alloc: Global,
     network: &mut N,
     timeout: Duration,
-    ledger: &mut L,
+    ledger: &mut Watched<'_, L, C, G>,
 ) -> Result<(), RoomFault>
     // Of any ledger, sound or not.
     ensures same_zone { (L.book ledger.new).zone ≡ (L.book ledger.old).zone }
@@ -92,7 +93,7 @@ fn serve_rounds<N: Network, C: Clock, G: Log, L: Ledger>(
     room: &mut Room,
     ready: &mut Vec<usize>,
     timeout: Duration,
-    ledger: &mut L,
+    ledger: &mut Watched<'_, L, C, G>,
 ) -> Result<(), RoomFault>
     ensures same_zone { (L.book ledger.new).zone ≡ (L.book ledger.old).zone }
     ensures same_default { (L.book ledger.new).default ≡ (L.book ledger.old).default }

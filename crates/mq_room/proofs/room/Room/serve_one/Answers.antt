@@ -22,41 +22,41 @@ returns-in_default-clause-goes g c = λ k s old start.
 -- it waits for its peer
 pub returns-in-Waits-clause-goes : goal.returns-in-Waits-clause-goes
 returns-in-Waits-clause-goes g c = λ k s old start.
-    let e = c.take_turns.ensures in
+    let e = c.give_turns.ensures in
     let was = c.args.self.now.opened in
-    let turned = c.take_turns.new.opened in
+    let turned = c.give_turns.new.opened in
     let now = c.get_mut.follows.lender turned in
     let number = c.args.number in
     let last = c.args.self.now.last in
     let o : Outside = record { book = g.L.Ledger.book c.args.ledger.now; told = g.L.Ledger.told c.args.ledger.now; wires = g.N.Network.wire c.args.network.now } in
-    let mid : Outside = record { book = g.L.Ledger.book c.take_turns.new.ledger; told = g.L.Ledger.told c.take_turns.new.ledger; wires = g.N.Network.wire c.take_turns.new.network } in
+    let mid : Outside = record { book = g.L.Ledger.book c.give_turns.new.ledger; told = g.L.Ledger.told c.give_turns.new.ledger; wires = g.N.Network.wire c.give_turns.new.network } in
     let found : Some c.in-Some.«open».now ≡ get nat_cmp was number = search rules in
-    let turn : TurnOf o mid number c.take_turns.result c.in-Some.«open».now.connection turned.connection =
+    let turn : TurnOf o mid number c.give_turns.result c.in-Some.«open».now.connection turned.connection =
     record { zone = e.same_zone; default = e.same_default; legal = g.met.L.Ledger.sound_is_legal c.args.ledger.now s; turn = e.turns k s; others_same = e.others } in
-    let works = λ (is : c.take_turns.result ≡ Ended (Err ends.Store)). waits_works (sym c.in-Waits.is ∙ is) in
+    let works = λ (is : c.give_turns.result ≡ Ended (Err ends.Store)). waits_works (sym c.in-Waits.is ∙ is) in
     let updates = (c.get_mut.follows.holds turned).3 (search rules) in
     goes_so old mid last (held now) faults.Store (Ok tt) (ok_not tt faults.Store)
-    (goes_open old o mid number last c.take_turns.result c.in-Some.«open».now.connection turned.connection (held was) start (held_here was number c.in-Some.«open».now found) turn c.more_exchanges.ensures.more (held now)
+    (goes_open old o mid number last c.give_turns.result c.in-Some.«open».now.connection turned.connection (held was) start (held_here was number c.in-Some.«open».now found) turn c.more_exchanges.ensures.more (held now)
     works (λ is. waits_room (sym c.in-Waits.is ∙ is)) (λ not. e.works not works) (held_beside was now number (Some turned) updates) (held_now was now number (Some turned) updates))
 
 -- it may have more
 pub returns-in-Answered-clause-goes : goal.returns-in-Answered-clause-goes
 returns-in-Answered-clause-goes g c = λ k s old start.
-    let e = c.take_turns.ensures in
+    let e = c.give_turns.ensures in
     let was = c.args.self.now.opened in
-    let turned = c.take_turns.new.opened in
+    let turned = c.give_turns.new.opened in
     let now = c.get_mut.follows.lender turned in
     let number = c.args.number in
     let last = c.args.self.now.last in
     let o : Outside = record { book = g.L.Ledger.book c.args.ledger.now; told = g.L.Ledger.told c.args.ledger.now; wires = g.N.Network.wire c.args.network.now } in
-    let mid : Outside = record { book = g.L.Ledger.book c.take_turns.new.ledger; told = g.L.Ledger.told c.take_turns.new.ledger; wires = g.N.Network.wire c.take_turns.new.network } in
+    let mid : Outside = record { book = g.L.Ledger.book c.give_turns.new.ledger; told = g.L.Ledger.told c.give_turns.new.ledger; wires = g.N.Network.wire c.give_turns.new.network } in
     let after : Outside = record { book = mid.book; told = mid.told; wires = g.N.Network.wire c.watch_again.new.network } in
     let found : Some c.in-Some.«open».now ≡ get nat_cmp was number = search rules in
-    let turn : TurnOf o mid number c.take_turns.result c.in-Some.«open».now.connection turned.connection =
+    let turn : TurnOf o mid number c.give_turns.result c.in-Some.«open».now.connection turned.connection =
     record { zone = e.same_zone; default = e.same_default; legal = g.met.L.Ledger.sound_is_legal c.args.ledger.now s; turn = e.turns k s; others_same = e.others } in
-    let works = λ (is : c.take_turns.result ≡ Ended (Err ends.Store)). answered_works (sym c.in-Answered.is ∙ is) in
+    let works = λ (is : c.give_turns.result ≡ Ended (Err ends.Store)). answered_works (sym c.in-Answered.is ∙ is) in
     let updates = (c.get_mut.follows.holds turned).3 (search rules) in
-    let goes = goes_open old o mid number last c.take_turns.result c.in-Some.«open».now.connection turned.connection (held was) start (held_here was number c.in-Some.«open».now found) turn c.more_exchanges.ensures.more (held now)
+    let goes = goes_open old o mid number last c.give_turns.result c.in-Some.«open».now.connection turned.connection (held was) start (held_here was number c.in-Some.«open».now found) turn c.more_exchanges.ensures.more (held now)
     works (λ is. answered_room (sym c.in-Answered.is ∙ is)) (λ not. e.works not works) (held_beside was now number (Some turned) updates) (held_now was now number (Some turned) updates) in
     let still = held c.watch_again.new.self.opened in
     goes_so old after c.watch_again.new.self.last still faults.Store (Ok tt) (ok_not tt faults.Store)
@@ -65,16 +65,16 @@ returns-in-Answered-clause-goes g c = λ k s old start.
 -- it has ended
 pub returns-in-Ended-clause-goes : goal.returns-in-Ended-clause-goes
 returns-in-Ended-clause-goes g c = λ k s old start.
-    let e = c.take_turns.ensures in
-    let p = c.take_turns.result in
+    let e = c.give_turns.ensures in
+    let p = c.give_turns.result in
     let was = c.args.self.now.opened in
-    let turned = c.take_turns.new.opened in
+    let turned = c.give_turns.new.opened in
     let now = c.get_mut.follows.lender turned in
     let number = c.args.number in
     let last = c.args.self.now.last in
     let wires = g.N.Network.wire c.close.new.network in
     let o : Outside = record { book = g.L.Ledger.book c.args.ledger.now; told = g.L.Ledger.told c.args.ledger.now; wires = g.N.Network.wire c.args.network.now } in
-    let mid : Outside = record { book = g.L.Ledger.book c.take_turns.new.ledger; told = g.L.Ledger.told c.take_turns.new.ledger; wires = g.N.Network.wire c.take_turns.new.network } in
+    let mid : Outside = record { book = g.L.Ledger.book c.give_turns.new.ledger; told = g.L.Ledger.told c.give_turns.new.ledger; wires = g.N.Network.wire c.give_turns.new.network } in
     let after : Outside = record { book = mid.book; told = mid.told; wires = wires } in
     let found : Some c.in-Some.«open».now ≡ get nat_cmp was number = search rules in
     let here = held_here was number c.in-Some.«open».now found in

@@ -1,0 +1,89 @@
+//! Of which hosts a line was logged within an hour.
+ghost use Rattle.std.specs.Prelude.{◌≡◌, ◌≢◌, ◌↔◌, ◌<◌, [], ◌∷◌, ◌++◌, length, All, IsTrue, false};
+ghost use Rattle.mq_watch.specs.Hours.{AreFar, IsOver};
+
+use mq_frame::Host;
+use std::alloc::Global;
+
+/// The seconds of an hour.
+const HOUR: u64 = 3_600;
+
+/// The most hosts that are named in an hour: each is a line of the log, and who sends chooses the names.
+const NAMES: usize = 1_000;
+
+/// Whether there is a day or more between two days.
+pub fn are_far(day: u32, today: u32) -> bool
+    ensures { IsTrue result ↔ AreFar day today }
+{
+    day.abs_diff(today) > 1
+}
+
+/// Whether an hour that began at the one moment is over at the other. A clock that was put back ends it too. In seconds.
+fn is_over(since: u64, now: u64) -> bool
+    ensures { IsTrue result ↔ IsOver since now }
+{
+    now < since || HOUR <= now - since
+}
+
+/// The hosts that were named in an hour.
+#[derive(Drop)]
+pub struct NamedHosts {
+    /// When the hour began, in seconds.
+    since: u64,
+    hosts: Vec<Host>,
+}
+
+impl NamedHosts {
+    /// None was named yet.
+    pub fn new(alloc: Global) -> NamedHosts
+        ensures { result.hosts.items ≡ [] }
+    {
+        NamedHosts {
+            since: 0,
+            hosts: Vec::new(alloc),
+        }
+    }
+
+    /// Begins a new hour, where the last one is over.
+    fn begin(&mut self, now: u64)
+        ensures over { IsOver self.old.since now → (self.new.since ≡ now) × (self.new.hosts.items ≡ []) }
+        ensures runs { (IsOver self.old.since now → ⊥) → self.new ≡ self.old }
+    {
+        if is_over(self.since, now) {
+            self.since = now;
+            self.hosts.clear();
+        }
+    }
+
+    /// Whether the host is one to name, and was none of the hour so far. It counts as named then. One that finds no
+    /// memory isn't named.
+    fn add(&mut self, host: &Host) -> bool
+        ensures since { self.new.since ≡ self.old.since }
+        ensures added { IsTrue result → (self.new.hosts.items ≡ self.old.hosts.items ++ host.now ∷ [])
+            × (length self.old.hosts.items < 1000) × All (λ h. h ≢ host.now) self.old.hosts.items }
+        ensures same { result ≡ false → self.new.hosts.items ≡ self.old.hosts.items }
+    {
+        if NAMES <= self.hosts.len() || self.hosts.contains(host) {
+            return false;
+        }
+        match host.clone() {
+            Ok(host) => self.hosts.push(host).is_ok(),
+            Err(_) => false,
+        }
+    }
+
+    /// Whether a line that names the host is due at a moment: none named it within the hour that runs, and fewer than
+    /// 1,000 were logged. The host counts as named then.
+    pub fn is_due(&mut self, host: &Host, now: u64) -> bool
+        ensures first { IsTrue result → IsOver self.old.since now →
+            (self.new.since ≡ now) × (self.new.hosts.items ≡ host.now ∷ []) }
+        ensures more { IsTrue result → (IsOver self.old.since now → ⊥) → (self.new.since ≡ self.old.since)
+            × (self.new.hosts.items ≡ self.old.hosts.items ++ host.now ∷ [])
+            × (length self.old.hosts.items < 1000) × All (λ h. h ≢ host.now) self.old.hosts.items }
+        ensures same { result ≡ false → (IsOver self.old.since now → ⊥) →
+            self.new.hosts.items ≡ self.old.hosts.items }
+    {
+        self.begin(now);
+        self.add(host)
+    }
+}

@@ -1,0 +1,59 @@
+//! What the lines say.
+
+use mq_frame::{Escaped, Host, Login, Reply};
+use mq_ledger::LedgerFault;
+use std::fmt;
+
+/// A limit that came, and what it was answered. One that comes again is answered as it was the first time.
+#[derive(Clone, Copy)]
+pub struct LimitLine<'a> {
+    pub login: &'a Login,
+    pub from_day: u32,
+    pub cap: u32,
+    pub answer: &'a Result<Reply, LedgerFault>,
+}
+
+impl fmt::Display for LimitLine<'_> {
+    fn fmt<W: fmt::Write>(&self, f: &mut fmt::Formatter<W>) -> fmt::Result {
+        let cap = self.cap;
+        let login = Escaped(self.login.as_slice());
+        let from_day = self.from_day;
+        write!(f, "limit {cap} of login {login} from day {from_day}: ")?;
+        write_answer(f, self.answer)
+    }
+}
+
+/// What a limit was answered.
+fn write_answer<W: fmt::Write>(
+    f: &mut fmt::Formatter<W>,
+    answer: &Result<Reply, LedgerFault>,
+) -> fmt::Result {
+    match answer {
+        Ok(Reply::LimitSet { .. }) => f.write_str("set"),
+        Ok(Reply::Over { day, used, .. }) => { write!(f, "refused, {used} used on day {day}") }
+        Ok(Reply::Conflict { .. }) => f.write_str("refused, another request has its number"),
+        Ok(Reply::Old { .. }) => f.write_str("refused, its run is retired"),
+        Ok(_) => f.write_str("answered"),
+        Err(fault) => write!(f, "{fault}"),
+    }
+}
+
+/// A host that reserves for another day than today.
+#[derive(Clone, Copy)]
+pub struct DayLine<'a> {
+    pub host: &'a Host,
+    pub day: u32,
+    pub today: u32,
+}
+
+impl fmt::Display for DayLine<'_> {
+    fn fmt<W: fmt::Write>(&self, f: &mut fmt::Formatter<W>) -> fmt::Result {
+        let host = Escaped(self.host.as_slice());
+        let day = self.day;
+        let today = self.today;
+        write!(
+            f,
+            "host {host} reserves for day {day}, and today is day {today}: its clock or the server's is wrong"
+        )
+    }
+}
