@@ -143,6 +143,10 @@ def is_stopped(process):
         return stat.read().rpartition(") ")[2][0] == "T"
 
 
+# How the server's warning ends that a host reserves for a day that isn't near today.
+CLOCK_DIFFERS = ": its clock or the server's is wrong"
+
+
 class Server:
     """The real server in a process of its own, at a port that the system chooses."""
 
@@ -196,6 +200,10 @@ class Server:
             return read_all(peer)
 
     def log_lines(self):
+        """What it logged, but for the hosts of other days: the moments of most cases are of years long past."""
+        return [line for line in self.all_log_lines() if not line.endswith(CLOCK_DIFFERS)]
+
+    def all_log_lines(self):
         with open(self.log.name, errors="replace") as log:
             return log.read().splitlines()
 
