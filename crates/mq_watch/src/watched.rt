@@ -140,6 +140,8 @@ impl<L: Ledger, C: Clock, G: Log> Ledger for Watched<'_, L, C, G> {
 
     ghost is_sound = { λ watched. L.is_sound watched };
 
+    ghost has_store = { λ watched. L.has_store watched };
+
     ghost sound_is_kept = { λ watched. L.sound_is_kept watched };
 
     ghost sound_is_legal = { λ watched. L.sound_is_legal watched };
