@@ -1,5 +1,8 @@
-"""`replay`: frames in hexadecimal, answered over a list and over tables (`--sql`) alike."""
+"""`replay`: frames in hexadecimal, answered over a list and over tables (`--sql`) alike. That tables are used shows by the memory that they take."""
 import collections
+import os
+
+import wire
 
 # What a text prints over a new ledger with such a default, where spaces are for the reader alone, and what is said on standard error.
 Example = collections.namedtuple("Example", "what default text printed said")
@@ -236,6 +239,22 @@ TEXTS = [
 MOST_BYTES = 1_048_576
 MOST_REQUESTS = 10_000
 
+# Each kind of request often enough that the pages of tables take more memory than a list of the same requests: a list has room for a power of two.
+MANY = 257
+LONG = {
+    "reserves of a transaction": [wire.reserve(n) for n in range(1, MANY)],
+    "reserves of logins": [wire.reserve(n, txn=n, login=b"%d" % n) for n in range(1, MANY)],
+    "settles": [wire.settle(n, txn=n) for n in range(1, MANY)],
+    "releases": [wire.release(n, txn=n) for n in range(1, MANY)],
+    "limits": [wire.limit(n, from_day=n, cap=n) for n in range(1, MANY)],
+    "retires": [wire.retire(1, run=n) for n in range(1, MANY)],
+    "one reserve, and what is used": [wire.reserve(1), *(wire.usage(day=n) for n in range(1, MANY))],
+    "one reserve, and pages": [wire.reserve(1), *(wire.page(day=n) for n in range(1, MANY))],
+}
+# glibc gives what is larger back to the system at once, so that a limit on the address space shows each page that is in use
+EACH_PAGE = "glibc.malloc.mmap_threshold=2048:glibc.malloc.top_pad=0"
+PAGE = 4_096
+
 
 def run(world, checks):
     for example in EXAMPLES:
@@ -246,6 +265,8 @@ def run(world, checks):
     largest_text(world, checks)
     enough(world, checks)
     outputs(world, checks)
+    for what, requests in LONG.items():
+        over_tables(world, checks, what, requests)
 
 
 def expect(world, checks, what, default, text, printed, said):
@@ -281,3 +302,30 @@ def outputs(world, checks):
         came = world.run_with_room(room, "replay", "--default", "3", text=ONE_RESERVE.encode())
         wanted = (1, ITS_REPLY[:room].encode(), "mailquota: write failed\n")
         checks.equal(f"replay over an output with room for {room} bytes", came, wanted)
+
+
+def over_tables(world, checks, what, requests):
+    """In so much memory as a list of these requests needs, and four pages more, their tables have no room."""
+    text = b"".join(requests).hex().encode()
+    few, enough = 1 << 22, 1 << 24
+    while enough - few > PAGE:
+        middle = (few + enough) // 2 // PAGE * PAGE
+        if is_enough(world, middle, text):
+            enough = middle
+        else:
+            few = middle
+    checks.holds(f"replay --sql, {what}: in the memory of a list", not is_enough(world, enough + 4 * PAGE, text, "--sql"), "out of memory", "no fault")
+    checks.holds(f"replay --sql, {what}: in ample memory", is_enough(world, 1 << 28, text, "--sql"), "no fault", "a fault")
+
+
+def is_enough(world, memory, text, *words):
+    """Whether the program answers the text in an address space of so many bytes."""
+    old = os.environ.get("GLIBC_TUNABLES")
+    os.environ["GLIBC_TUNABLES"] = EACH_PAGE
+    try:
+        return world.run("replay", "--default", "1000", *words, text=text, limit=("RLIMIT_AS", memory))[0] == 0
+    finally:
+        if old is None:
+            del os.environ["GLIBC_TUNABLES"]
+        else:
+            os.environ["GLIBC_TUNABLES"] = old
