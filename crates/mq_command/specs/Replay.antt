@@ -1,5 +1,5 @@
 -- What a replay of connections over a new ledger writes, and how it ends.
-use Rattle.std.specs.Prelude.{◌≡◌, ◌<◌, ℕ, List, [], map, length, Option, Some, None, option_map, Result, Ok, Err}
+use Rattle.std.specs.Prelude.{◌≡◌, ◌<◌, ◌⊎◌, ℕ, List, [], map, length, Option, Some, None, option_map, Result, Ok, Err}
 use Rattle.std.specs.List.{filter_map, enumerate_from, slice_get}
 use Rattle.std.specs.Io.KnownBytes.{Appends, Keeps}
 use Rattle.mq_ledger.specs.Legal.{Book}
@@ -9,6 +9,7 @@ use Rattle.mq_server.specs.Delivery.{Delivery}
 use Rattle.mq_server.specs.declared.connection.Served.TheVariants as served
 use Rattle.mq_server.specs.declared.connections.ConnectionEnd.{ConnectionEnd}
 use Rattle.mq_server.specs.declared.connections.ConnectionEnd.TheVariants as ends
+use Rattle.mq_server.specs.declared.fault.ServeFault.TheVariants as serving
 use Rattle.mq_command.specs.Connections.{connections_of, first_not_hex}
 use Rattle.mq_command.specs.Output.{AppendsFront, hex_lines}
 use Rattle.mq_command.specs.declared.replay.Ending.{Ending}
@@ -18,7 +19,7 @@ use Rattle.mq_command.specs.declared.replay.ReplayFault.TheVariants.{Text, Serve
 use Rattle.mq_command.specs.declared.connections.TextFault.{TextFault}
 use Rattle.mq_command.specs.declared.connections.TextFault.TheVariants as refused
 
--- what is wrong with the end of a connection, if anything; over memory a read or a write fails for want of memory alone
+-- what is wrong with the end of a connection, if anything; over memory a read or a write fails only where memory runs out
 abbrev pub ending_of : ConnectionEnd → Option Ending
 ending_of (ends.Served served.InputEnd) = None
 ending_of (ends.Served served.Enough) = Some Enough
@@ -69,7 +70,12 @@ ReplaysOver zone default connections old new ended =
     (written : List (List ℕ)) × (all : List ConnectionEnd) × IsReplay zone default connections written all
     × Prints written all old new ended
 
--- why a text is refused; want of memory may come before another cause but its size
+-- connections weren't served only for memory, or for the store where there is one
+abbrev pub IsForCause : Type 0 → Result (Unit {0}) ReplayFault → Type 0
+IsForCause store (Err (Serve fault)) = (fault ≡ serving.Memory) ⊎ ((fault ≡ serving.Store) × store)
+IsForCause store ended = Unit {0}
+
+-- why a text is refused; that memory ran out may come before another cause but its size
 abbrev pub IsTextRefusal : List ℕ → TextFault → Type 0
 IsTextRefusal text refused.TooLarge = 1048576 < length text
 IsTextRefusal text (refused.NotHex number) = first_not_hex text ≡ Some number

@@ -1,8 +1,8 @@
 //! `replay`: frames in hexadecimal, answered over a ledger.
-ghost use Rattle.std.specs.Prelude.{◌≡◌, ℕ, ℤ, [], map, IfOk};
+ghost use Rattle.std.specs.Prelude.{◌≡◌, ◌⊎◌, ℕ, ℤ, [], map, IfOk, IfErr};
 ghost use Rattle.std.specs.List.{slice_get};
 ghost use Rattle.mq_ledger.specs.declared.zone.Zone.{Zone as AnyZone};
-ghost use Rattle.mq_command.specs.Replay.{empty_book, ending_of, faults_of, IsReplay, Prints, ReplaysOver};
+ghost use Rattle.mq_command.specs.Replay.{empty_book, ending_of, faults_of, IsForCause, IsReplay, Prints, ReplaysOver};
 
 use crate::connections::TextFault;
 use crate::output::{OutputFault, write_hex_lines};
@@ -13,7 +13,7 @@ use std::alloc::{AllocError, Global};
 use std::io::Write;
 use thiserror::Error;
 
-/// An end of a connection that isn't the end of its input behind a whole frame.
+/// An end of a connection that isn't the end of its input after a whole frame.
 #[derive(Clone, Copy, Debug, PartialEq, Error)]
 pub enum Ending {
     #[error("bad frame")]
@@ -48,7 +48,7 @@ struct Answered {
 }
 
 /// What is wrong with the end of a connection over memory, if anything: there a read or a write
-/// fails for want of memory alone.
+/// fails only where memory runs out.
 fn ending_of(end: ConnectionEnd) -> Option<Ending>
     ensures { result ≡ ending_of end }
 {
@@ -104,7 +104,9 @@ fn serve_over<L: Ledger>(
     connections: &[Vec<u8>],
     ledger: &mut L,
 ) -> Result<Answered, ServeFault>
-    ensures { L.has_kept ledger.new → L.is_sound ledger.old → (zone : AnyZone) (default : ℕ)
+    ensures faults { IfErr result (λ fault. (fault ≡ ServeFault.Memory)
+        ⊎ ((fault ≡ ServeFault.Store) × L.has_store ledger.old)) }
+    ensures answered { L.has_kept ledger.new → L.is_sound ledger.old → (zone : AnyZone) (default : ℕ)
         → L.book ledger.old ≡ empty_book zone default
         → IfOk result (λ answered. IsReplay zone default (map (λ c. c.items) connections.now)
         (map (λ s. s.inner.items) answered.written.items) answered.ends.items) }
@@ -115,7 +117,7 @@ fn serve_over<L: Ledger>(
     Ok(Answered { written, ends })
 }
 
-/// Prints what was written on each connection, a line of hexadecimal for each, and tells the first that didn't end as it
+/// Prints what was written on each connection, a line of hexadecimal for each, and gives the first that didn't end as it
 /// should.
 fn print_answers<W: Write>(
     alloc: Global,
@@ -139,6 +141,7 @@ fn print_answers<W: Write>(
 
 /// Answers connections in turn over a ledger, a line of hexadecimal for each.
 ///
+/// No connection is served only where a growth was refused, or where the ledger has a store and it failed.
 /// What is printed is told of a sound ledger that keeps its premise and has applied nothing.
 pub fn replay_over<L: Ledger, W: Write>(
     alloc: Global,
@@ -146,7 +149,8 @@ pub fn replay_over<L: Ledger, W: Write>(
     ledger: &mut L,
     output: &mut W,
 ) -> Result<(), ReplayFault>
-    ensures { L.has_kept ledger.new → L.is_sound ledger.old → (zone : AnyZone) (default : ℕ)
+    ensures cause { IsForCause (L.has_store ledger.old) result }
+    ensures replays { L.has_kept ledger.new → L.is_sound ledger.old → (zone : AnyZone) (default : ℕ)
         → L.book ledger.old ≡ empty_book zone default
         → ReplaysOver zone default (map (λ c. c.items) connections.now) (W.contents output.old)
         (W.contents output.new) result }

@@ -35,6 +35,10 @@ IsPartial (Whole body after) = ⊥
 abbrev pub SpellsNone : List ℕ → Type 0
 SpellsNone body = (request : Request) → SpellsRequest body request → ⊥
 
+-- some request is spelled so
+abbrev pub SpellsOne : List ℕ → Type 0
+SpellsOne body = (request : Request) × SpellsRequest body request
+
 -- it is an empty head, a long head or a frame of no request: each is answered by Bad
 abbrev pub IsBad : Front → Type 0
 IsBad Nothing = ⊥

@@ -1,8 +1,9 @@
 //! Putting a request to a ledger.
-ghost use Rattle.std.specs.Prelude.{◌≡◌, ◌⊎◌, ℕ, List, Err, IfOk, IfErr, IfSome};
+ghost use Rattle.std.specs.Prelude.{◌≡◌, ◌⊎◌, ℕ, List, Err, IfOk, IfErr, IfSome, IsSome, MatchOption, MatchResult};
 ghost use Rattle.mq_frame.specs.Range.{IsRequest, IsReply};
 ghost use Rattle.mq_frame.specs.Spelling.{SpellsRequest};
 ghost use Rattle.mq_server.specs.Steps.{AnswersBody};
+ghost use Rattle.mq_server.specs.Text.{SpellsNone, SpellsOne};
 
 use crate::fault::ServeFault;
 use mq_frame::{DecodeFault, Reply, Request, decode_request};
@@ -22,6 +23,8 @@ pub fn answer_body<L: Ledger>(
     // Of any ledger, sound or not.
     ensures in_range { IfOk result (λ answer. IfSome answer IsReply) }
     ensures faults { IfErr result (λ fault. (fault ≡ ServeFault.Memory) ⊎ (fault ≡ ServeFault.Store)) }
+    ensures asks { MatchResult result (λ answer. MatchOption answer (SpellsNone body.now) (λ _. SpellsOne body.now))
+        (λ _. SpellsOne body.now) }
     ensures same_zone { (L.book ledger.new).zone ≡ (L.book ledger.old).zone }
     ensures same_default { (L.book ledger.new).default ≡ (L.book ledger.old).default }
     ensures kept { L.has_kept ledger.new → L.has_kept ledger.old }
@@ -44,6 +47,7 @@ pub fn answer_body<L: Ledger>(
 /// The ledger's reply to the request, or `Retry` where it had no memory for it.
 fn apply<L: Ledger>(request: &Request, ledger: &mut L) -> Result<Option<Reply>, ServeFault>
     requires { IsRequest request.now }
+    ensures some { IfOk result IsSome }
     ensures in_range { IfOk result (λ answer. IfSome answer IsReply) }
     ensures faults { IfErr result (λ fault. fault ≡ ServeFault.Store) }
     ensures same_zone { (L.book ledger.new).zone ≡ (L.book ledger.old).zone }

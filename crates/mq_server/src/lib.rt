@@ -3,11 +3,11 @@
 //!
 //! A [`Connection`] takes bytes as they come, answers the whole frames among them and holds the replies until they are
 //! taken. [`serve`] is a loop over it that reads and writes, [`serve_all`] goes through several. From
-//! `mq_demo/src/answer.rt`:
+//! `mq_command/src/replay.rt`:
 //!
-//!     let mut output = ToWrite::new(Vec::new(alloc));
-//!     serve(alloc, &mut FromRead::new(sent), &mut output, ledger)?;
-//!     Ok(output.into_inner())
+//!     let mut inputs = inputs_of(alloc, connections)?;
+//!     let mut written = outputs_for(alloc, connections)?;
+//!     let ends = serve_all(alloc, inputs.as_mut_slice(), written.as_mut_slice(), ledger)?;
 //!
 //! It stands on `mq_frame` and `mq_ledger`: it knows frames and any ledger through its trait, and neither sockets nor
 //! time. Begin with `specs/Text.antt`, the bytes that a connection carries, and `connection.rt`; `laws.rt` says that

@@ -1,12 +1,14 @@
 //! One step of a connection: what stands at the front of what came is answered.
-ghost use Rattle.std.specs.Prelude.{◌≡◌, ◌++◌, ℕ, List, OnOk, OnErr, Ok, Err};
+ghost use Rattle.std.specs.Prelude.{◌≡◌, ◌<◌, ◌+◌, ◌++◌, ℕ, List, OnOk, OnErr, Ok, Err, length, vec_capacity, vec_len};
 ghost use Rattle.mq_frame.specs.Feed.{front};
 ghost use Rattle.mq_frame.specs.Range.{IsReply};
 ghost use Rattle.mq_frame.specs.Spelling.{frame, reply_body};
+ghost use Rattle.mq_frame.specs.declared.message.Reply.TheVariants.{Bad};
 ghost use Rattle.mq_frame.specs.declared.feed.TheConstants.{REQUEST_LIMIT as request_limit};
 ghost use Rattle.mq_server.specs.declared.connection.Progress.TheVariants.{Ended};
 ghost use Rattle.mq_server.specs.State.{IsAdded, IsRefused, Moves, Steps};
 ghost use Rattle.mq_server.specs.Steps.{end_at};
+ghost use Rattle.mq_server.specs.Text.{IsBad, next};
 
 use crate::answer::answer_body;
 use crate::connection::{Progress, Served};
@@ -27,7 +29,8 @@ fn input_end(feed: &FrameFeed) -> Served
 
 /// Answers what is no request, which ends the connection.
 fn refuse(alloc: Global, replies: &mut Vec<u8>) -> Result<Served, ServeFault>
-    ensures { IsRefused replies.old.items result replies.new.items }
+    ensures refused { IsRefused replies.old.items result replies.new.items }
+    ensures full { OnErr result (vec_capacity replies.old < vec_len replies.old + length (frame (reply_body Bad))) }
 {
     encode_reply(alloc, &Reply::Bad, replies)?;
     Ok(Served::BadFrame)
@@ -36,7 +39,9 @@ fn refuse(alloc: Global, replies: &mut Vec<u8>) -> Result<Served, ServeFault>
 /// Adds a reply to those that wait.
 fn add(alloc: Global, reply: &Reply, replies: &mut Vec<u8>) -> Progress
     requires { IsReply reply.now }
-    ensures { IsAdded replies.old.items (frame (reply_body reply.now)) result replies.new.items }
+    ensures added { IsAdded replies.old.items (frame (reply_body reply.now)) result replies.new.items }
+    ensures full { (end : _) → result ≡ Ended end →
+        vec_capacity replies.old < vec_len replies.old + length (frame (reply_body reply.now)) }
 {
     match encode_reply(alloc, reply, replies) {
         Ok(()) => Progress::Answered,
@@ -56,6 +61,9 @@ pub fn step<L: Ledger>(
     // Of any ledger, sound or not.
     ensures limit { feed.new.limit ≡ request_limit }
     ensures moves { Moves is_closed feed.old.rest replies.old.items result feed.new.rest replies.new.items }
+    // What is no request ends it for memory only where Bad had no room.
+    ensures full { result ≡ Ended (Err ServeFault.Memory) → IsBad (next feed.old.rest) →
+        vec_capacity replies.old < vec_len replies.old + length (frame (reply_body Bad)) }
     ensures same_zone { (L.book ledger.new).zone ≡ (L.book ledger.old).zone }
     ensures same_default { (L.book ledger.new).default ≡ (L.book ledger.old).default }
     ensures kept { L.has_kept ledger.new → L.has_kept ledger.old }

@@ -2,8 +2,8 @@ use Rattle.std.proofs.Common.{◌≡◌, ap, ◌∙◌, length, arith}
 use Rattle.mq_command.proofs.ReplaySteps.{of_serving, written_back}
 use Rattle.mq_command.proofs.replay.serve_over.Goals as goal
 
-pub returns : goal.returns
-returns g c = λ has_kept sound zone default book.
+pub returns-clause-answered : goal.returns-clause-answered
+returns-clause-answered g c = λ has_kept sound zone default book.
     let (seen, served, after, told) = c.in_ok-ends.ensures.served has_kept sound in
     let same : length c.serve_all.new.outputs ≡ length c.in_ok-written.written.items = c.serve_all.auto.outputs ∙ ap length c.as_mut_slice-2.ensures.value in
     let kept : c.in_ok-written.written.len ≡ length c.serve_all.new.outputs = omega (arith, same, c.in_ok-written.written.ok.0) in
