@@ -12,4 +12,5 @@ mod room;
 mod server;
 mod serving;
 mod texts;
+mod watching;
 mod wires;

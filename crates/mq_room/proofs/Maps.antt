@@ -1,5 +1,5 @@
 -- What is held of the connections as their map changes.
-use Rattle.std.proofs.Common.{◌≡◌, ◌≢◌, ◌⊎◌, ℕ, List, [], refl, sym, ap, subst, ◌∙◌, Bool, true, false, Option, Some, None, inl, inr}
+use Rattle.std.proofs.Common.{◌≡◌, ◌≢◌, ◌⊎◌, ℕ, List, [], refl, sym, ap, subst, ◌∙◌, true, false, Option, Some, None, inl, inr}
 use Rattle.std.specs.Prelude.{eqb, option_map}
 use Rattle.std.specs.BTreeMap.{BTreeMap, UpdatesBy, get, is_at}
 use Rattle.std.specs.Cmp.{unsigned_tied}

@@ -21,13 +21,13 @@ use Rattle.mq_server.specs.declared.fault.ServeFault.TheVariants.{Memory, Store}
 use Rattle.mq_server.specs.declared.input.TheConstants.{PIECE}
 use Rattle.mq_server.specs.Delivery.{HasGrown, failed_call}
 use Rattle.mq_server.specs.Held.{State, fresh}
-use Rattle.mq_server.specs.Life.{AreAnswered, Exchange, Life, Lives, deliveries, told_of, unborn, with_taken}
+use Rattle.mq_server.specs.Life.{AreAnswered, Exchange, Life, Lives, StandsNext, deliveries, told_of, unborn, with_taken}
 use Rattle.mq_room.specs.declared.fault.RoomFault.{RoomFault}
 use Rattle.mq_room.specs.declared.fault.RoomFault.TheVariants as faults
 use Rattle.mq_room.specs.Sessions.{EndsServing, GoesOn, GoesOnOrStops, HaveServed, Outside, Placed, Session, all_of, those_of}
 use Rattle.mq_room.specs.Turns.{Closes, Offers, Turns, lived}
 use Rattle.mq_room.specs.Wires.{AreOffered, IsKnownAs, Wire}
-use Rattle.mq_room.proofs.Turning.{Follow, Tells-none, Works, ended_inj, few_of, none_few, none_some, some_of, told_on, turned_out, worked_calls}
+use Rattle.mq_room.proofs.Turning.{Follow, Tells-none, Works, ended_inj, few_of, none_few, none_some, session_shuts, some_of, told_on, turned_out, worked_calls}
 
 -- ---- exchanges of one connection after those of all
 
@@ -87,6 +87,7 @@ session_as n ps qs old mid new s is same =
       lost = s.lost;
       few = s.few;
       consumed = subst P (sym is) s.consumed;
+      closed = s.closed;
       sent = subst Q (sym is) s.sent;
     }
 
@@ -96,6 +97,7 @@ session_at m n ps old new is s =
     let P : ℕ → Type 0 = λ k. s.life.exchanges ≡ those_of k ps in
     let Q : ℕ → Type 0 = λ k. Consumes (old k).remaining (new k).remaining (s.life.bytes ++ s.lost) in
     let R : ℕ → Type 0 = λ k. Appends (old k).contents (new k).contents s.life.taken in
+    let S : ℕ → Type 0 = λ k. s.state.is_closed ≡ true → IsKnownAs (old k).remaining s.life.bytes in
     record {
       life = s.life;
       state = s.state;
@@ -104,6 +106,7 @@ session_at m n ps old new is s =
       lost = s.lost;
       few = s.few;
       consumed = subst Q (sym is) s.consumed;
+      closed = subst S (sym is) s.closed;
       sent = subst R (sym is) s.sent;
     }
 
@@ -120,6 +123,7 @@ session_new n ps old new lives none is =
       lost = [];
       few = none_few;
       consumed = subst P (sym is) (Consumes-nil old.remaining);
+      closed = λ closed. absurd (none_some closed);
       sent = subst Q (sym is) (Appends-nil old.contents);
     }
 
@@ -142,6 +146,13 @@ picked : (m n : ℕ) (ps qs : List Placed) (old mid new : ℕ → Wire) (each : 
     → (apart : Told_apart n m) → (let s = pick m n ps qs old mid new each mine same apart in P s.state s.lost)
 picked m n ps qs old mid new each mine same P here there (inl (t, is)) = here is
 picked m n ps qs old mid new each mine same P here there (inr (f, not)) = there not
+
+-- what is said of its life, or of another's
+picked_life : (m n : ℕ) (ps qs : List Placed) (old mid new : ℕ → Wire) (each : (k : ℕ) → Session k ps (old k) (mid k)) (mine : Session m qs (old m) (new m))
+    (same : (k : ℕ) → k ≢ m → (new k ≡ mid k) × (those_of k qs ≡ those_of k ps)) (P : Life → Type 0) → (n ≡ m → P mine.life) → (n ≢ m → P (each n).life)
+    → (apart : Told_apart n m) → P (pick m n ps qs old mid new each mine same apart).life
+picked_life m n ps qs old mid new each mine same P here there (inl (t, is)) = here is
+picked_life m n ps qs old mid new each mine same P here there (inr (f, not)) = there not
 
 -- ---- the start
 
@@ -271,6 +282,11 @@ turned_session number ps old mid new b history t u p c now s is none turn =
     let lived_on = turn.lives s.life (subst P is s.lives) in
     let Q : List ℕ → Type 0 = λ x. Consumes old.remaining mid.remaining (s.life.bytes ++ x) in
     let R : List ℕ → Type 0 = λ x. Consumes old.remaining new.remaining x in
+    let S : List ℕ → Type 0 = λ x. Consumes old.remaining mid.remaining x in
+    let T : State → Type 0 = λ x. x.is_closed ≡ true → IsKnownAs old.remaining s.life.bytes in
+    let before = subst Q none s.consumed in
+    let all = subst R (ap (λ (q : List ℕ). q ++ (turn.read ++ turn.lost)) (append-nil s.life.bytes) ∙ sym (append_assoc s.life.bytes turn.read turn.lost))
+    (Consumes-trans old.remaining mid.remaining new.remaining _ _ before turn.consumed) in
     record {
       life = lived s.life turn.read turn.exchanges lived_on.0 turn.written;
       state = now;
@@ -278,8 +294,8 @@ turned_session number ps old mid new b history t u p c now s is none turn =
       placed = ap (λ (q : List Exchange). q ++ turn.exchanges) s.placed ∙ sym (own_more ps number turn.exchanges);
       lost = turn.lost;
       few = turn.few;
-      consumed = subst R (ap (λ (q : List ℕ). q ++ (turn.read ++ turn.lost)) (append-nil s.life.bytes) ∙ sym (append_assoc s.life.bytes turn.read turn.lost))
-          (Consumes-trans old.remaining mid.remaining new.remaining _ _ (subst Q none s.consumed) turn.consumed);
+      consumed = all;
+      closed = λ closed. session_shuts c old.remaining mid.remaining new.remaining s.life.bytes turn.read turn.lost (subst S (append-nil s.life.bytes) before) all (subst T is s.closed) (turn.closed closed);
       sent = Appends-trans old.contents mid.contents new.contents _ _ s.sent turn.sent;
     }
 
@@ -354,8 +370,8 @@ module _ (old new now : Outside) (number last : ℕ) (p : Progress) (c after : S
       (λ not. offered_as (g.served.each n).state (new.wires n) (now.wires n) (t.others_same n not) (g.offered n (sym (others n not) ∙ none))) (eqb_tells n number)
 
   goes_turn : Follow → (still : ℕ → Option State) (failed : Option Request) → Tells new.told now.told (told_of xs ++ map failed_call (option_to_list failed)) → Others still → Here still → (still number ≡ None → AreOffered after (now.wires number))
-      → (IsSome failed → after.end ≡ Some (Err Store)) → GoesOn old now last still failed
-  goes_turn follow still failed told others hold gone end = record {
+      → (IsSome failed → after.end ≡ Some (Err Store)) → StandsNext failed mine.life.rest → GoesOn old now last still failed
+  goes_turn follow still failed told others hold gone end stands = record {
     served = served_turn follow failed told;
     beyond = λ n above.
         let not : n ≢ number = λ is. above_held n last number above is (g.are_held number c here).3 in
@@ -364,14 +380,25 @@ module _ (old new now : Outside) (number last : ℕ) (p : Progress) (c after : S
     offered = λ n none. offered_turn still others gone n none;
     at = λ some.
         let P : State → List ℕ → Type 0 = λ state lost. state.end ≡ Some (Err Store) in
-        (number, picked number number ps qs old.wires new.wires now.wires g.served.each mine kept P (λ _. end some) (λ not. absurd (not refl)) (eqb_tells number number));
+        let Q : Life → Type 0 = λ life. StandsNext failed life.rest in (
+          number,
+          picked number number ps qs old.wires new.wires now.wires g.served.each mine kept P (λ _. end some) (λ not. absurd (not refl)) (eqb_tells number number),
+          picked_life number number ps qs old.wires new.wires now.wires g.served.each mine kept Q (λ _. stands) (λ not. absurd (not refl)) (eqb_tells number number),
+        );
   }
+
+  -- the request at which the store failed stands next on that connection
+  failed_stands : StandsNext t.turn.calls.failed mine.life.rest
+  failed_stands =
+      let s = g.served.each number in
+      let P : State → Type 0 = λ x. Lives s.life x in
+      (t.turn.lives s.life (subst P (g.are_held number c here).0 s.lives)).2
 
   -- the connection is still open
   pub goes_open : Follow → (still : ℕ → Option State) → Works p → p ≢ Ended (Err Memory) → (c.end ≢ Some (Err Store) → after.end ≢ Some (Err Store)) → Others still → still number ≡ Some after → GoesOn old now last still None
   goes_open follow still works room stays others stands =
       goes_turn follow still None (told_none new.told now.told xs (worked_calls new.told now.told c.end p xs works t.turn.calls)) others
-      (λ d is. (same_some d after (sym is ∙ stands), t.turn.whole room, stays (g.are_held number c here).2)) (λ none. absurd (none_is after (sym none ∙ stands))) (λ some. absurd (none_some some))
+      (λ d is. (same_some d after (sym is ∙ stands), t.turn.whole room, stays (g.are_held number c here).2)) (λ none. absurd (none_is after (sym none ∙ stands))) (λ some. absurd (none_some some)) tt
 
 -- ---- what it comes to
 
@@ -394,7 +421,7 @@ pub closed_turn : {A F : Type 0} (old new now : Outside) (number last : ℕ) (p 
 closed_turn old new now number last p c after held still store r end g here t follow is at_end ok err others gone offered =
     let calls = t.turn.calls in record {
       failed = calls.failed;
-      goes = goes_turn old new now number last p c after held g here t follow still calls.failed calls.told others (λ d some. absurd (none_is d (sym gone ∙ some))) (λ _. offered) (λ some. at_end (calls.ends some));
+      goes = goes_turn old new now number last p c after held g here t follow still calls.failed calls.told others (λ d some. absurd (none_is d (sym gone ∙ some))) (λ _. offered) (λ some. at_end (calls.ends some)) (failed_stands old new now number last p c after held g here t);
       stops = λ some. stops_so store r end ok err (ended_inj end (Err Store) (sym is ∙ calls.ends some));
       only = λ fault. calls.only (g.are_held number c here).2 (is ∙ ap Ended (only_so store r end err fault));
     }
@@ -445,8 +472,8 @@ has_grown old new store result e = (deliveries (all_of e.served.placed), e.serve
 -- ---- a connection that is closed
 
 abbrev closed_session : (n : ℕ) (ps : List Placed) (old mid new : Wire) (c d : State) (bs written : List ℕ) → length bs ≤ PIECE → Consumes mid.remaining new.remaining bs → Appends mid.contents new.contents written → ((l : Life) → Lives l c → Lives (with_taken l written) d)
-    → (s : Session n ps old mid) → s.state ≡ c → s.lost ≡ [] → Session n ps old new
-closed_session n ps old mid new c d bs written few read sent lives s is none =
+    → d.is_closed ≡ c.is_closed → (s : Session n ps old mid) → s.state ≡ c → s.lost ≡ [] → Session n ps old new
+closed_session n ps old mid new c d bs written few read sent lives same s is none =
     let P : State → Type 0 = λ x. Lives s.life x in
     let Q : List ℕ → Type 0 = λ x. Consumes old.remaining mid.remaining x in
     record {
@@ -457,16 +484,17 @@ closed_session n ps old mid new c d bs written few read sent lives s is none =
       lost = bs;
       few = few;
       consumed = Consumes-trans old.remaining mid.remaining new.remaining _ _ (subst Q (ap (λ (q : List ℕ). s.life.bytes ++ q) none ∙ append-nil s.life.bytes) s.consumed) read;
+      closed = λ closed. s.closed (ap (λ (x : State). x.is_closed) is ∙ sym same ∙ closed);
       sent = Appends-trans old.contents mid.contents new.contents _ _ s.sent sent;
     }
 
 pub shut : (old new : Outside) (wires : ℕ → Wire) (number last : ℕ) (c d : State) (held still : ℕ → Option State) (failed : Option Request) (bs written : List ℕ) → held number ≡ Some c → length bs ≤ PIECE → Consumes (new.wires number).remaining (wires number).remaining bs
-    → Appends (new.wires number).contents (wires number).contents written → ((l : Life) → Lives l c → Lives (with_taken l written) d) → AreOffered d (wires number) → still number ≡ None → ((n : ℕ) → n ≢ number → (still n ≡ held n) × (wires n ≡ new.wires n))
+    → Appends (new.wires number).contents (wires number).contents written → ((l : Life) → Lives l c → Lives (with_taken l written) d) → d.is_closed ≡ c.is_closed → AreOffered d (wires number) → still number ≡ None → ((n : ℕ) → n ≢ number → (still n ≡ held n) × (wires n ≡ new.wires n))
     → GoesOn old new last held failed → GoesOn old (with_wires new wires) last still failed
-shut old new wires number last c d held still failed bs written here few read sent lives off gone others g =
+shut old new wires number last c d held still failed bs written here few read sent lives same off gone others g =
     let ps = g.served.placed in
     let h = g.are_held number c here in
-    let mine : Session number ps (old.wires number) (wires number) = closed_session number ps (old.wires number) (new.wires number) (wires number) c d bs written few read sent lives (g.served.each number) h.0 h.1 in
+    let mine : Session number ps (old.wires number) (wires number) = closed_session number ps (old.wires number) (new.wires number) (wires number) c d bs written few read sent lives same (g.served.each number) h.0 h.1 in
     let kept : (k : ℕ) → k ≢ number → (wires k ≡ new.wires k) × (those_of k ps ≡ those_of k ps) = λ k not. ((others k not).1, refl) in
     let P : ℕ → Type 0 = λ k. AreOffered d (wires k) in
     record {
@@ -486,11 +514,15 @@ shut old new wires number last c d held still failed bs written here few read se
           picked number n ps ps old.wires new.wires wires g.served.each mine kept (λ s _. AreOffered s (wires n)) (λ at. subst P (sym at) off)
           (λ not. offered_as (g.served.each n).state (new.wires n) (wires n) (others n not).1 (g.offered n (sym (others n not).0 ∙ none))) (eqb_tells n number);
       at = λ some.
-          let (m, is) = g.at some in
+          let (m, is, stands) = g.at some in
           let Q : ℕ → Type 0 = λ k. (g.served.each k).state.end ≡ Some (Err Store) in
           let R : State → Type 0 = λ x. x.end ≡ Some (Err Store) in
           let S : State → List ℕ → Type 0 = λ state lost. state.end ≡ Some (Err Store) in
-          (m, picked number m ps ps old.wires new.wires wires g.served.each mine kept S (λ at. absurd (h.2 (subst R h.0 (subst Q at is)))) (λ not. is) (eqb_tells m number));
+          let T : Life → Type 0 = λ life. StandsNext failed life.rest in (
+            m,
+            picked number m ps ps old.wires new.wires wires g.served.each mine kept S (λ at. absurd (h.2 (subst R h.0 (subst Q at is)))) (λ not. is) (eqb_tells m number),
+            picked_life number m ps ps old.wires new.wires wires g.served.each mine kept T (λ at. absurd (h.2 (subst R h.0 (subst Q at is)))) (λ not. stands) (eqb_tells m number),
+          );
     }
 
 still_there : (wires was : ℕ → Wire) (held still : ℕ → Option State) (number n : ℕ) → (wires number ≡ was number) → (still number ≡ held number) → ((n : ℕ) → n ≢ number → (still n ≡ held n) × (wires n ≡ was n)) → Told_apart n number → (wires n ≡ was n) × (still n ≡ held n)
@@ -505,7 +537,7 @@ closes_at old new wires number last held still failed None is e g =
 closes_at old new wires number last held still failed (Some c) is e g =
     let o = e.offers c is in
     let P : Option (List ℕ) → Type 0 = λ w. Consumes (new.wires number).remaining w [] in
-    shut old new wires number last c o.now held still failed [] o.written is none_few (subst P (sym o.remaining) (Consumes-nil (new.wires number).remaining)) o.sent o.lives o.offered e.gone e.others g
+    shut old new wires number last c o.now held still failed [] o.written is none_few (subst P (sym o.remaining) (Consumes-nil (new.wires number).remaining)) o.sent o.lives o.closed o.offered e.gone e.others g
 
 pub closes : (old new : Outside) (wires : ℕ → Wire) (number last : ℕ) (held still : ℕ → Option State) (failed : Option Request) → Closes held still new.wires wires number → GoesOn old new last held failed → GoesOn old (with_wires new wires) last still failed
 closes old new wires number last held still failed e g = closes_at old new wires number last held still failed (held number) refl e g
@@ -536,7 +568,7 @@ read_after old new mid read now number last c held still failed r buf here o off
     let Q : Option (List ℕ) → Type 0 = λ w. Appends (new.wires number).contents w o.written in
     let R : Option (List ℕ) → Type 0 = λ w. IsKnownAs w o.now.replies in
     rewired old (with_wires new read) now last still still failed same (λ n. refl)
-    (shut old new read number last c o.now held still failed bs o.written here few (subst P o.remaining consumed) (subst Q (sym contents) o.sent) o.lives (λ some. subst R (sym left) (o.offered some)) gone (λ n not. (stays n not, others n not ∙ offered_others n not)) g)
+    (shut old new read number last c o.now held still failed bs o.written here few (subst P o.remaining consumed) (subst Q (sym contents) o.sent) o.lives o.closed (λ some. subst R (sym left) (o.offered some)) gone (λ n not. (stays n not, others n not ∙ offered_others n not)) g)
 
 -- ---- ends under other names
 

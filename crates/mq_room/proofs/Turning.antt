@@ -1,10 +1,10 @@
 -- One turn after another.
-use Rattle.std.proofs.Common.{◌≡◌, ◌≢◌, ℕ, ◌≤◌, List, [], ◌++◌, length, map, take, drop, arith, refl, sym, ap, subst, ◌∙◌, append-nil, append_assoc, Option, Some, None, Result, Ok, Err, false, true}
+use Rattle.std.proofs.Common.{◌≡◌, ◌≢◌, ◌⊎◌, ℕ, ◌<◌, inl, inr, length-append, ◌≤◌, List, [], ◌++◌, length, map, take, drop, arith, refl, sym, ap, subst, ◌∙◌, append-nil, append_assoc, Option, Some, None, Result, Ok, Err, false, true}
 use Rattle.std.specs.Prelude.{IsSome}
 use Rattle.std.specs.Option.{option_to_list}
-use Rattle.std.specs.Io.KnownBytes.{Appends, Consumes, Keeps, ReadConsumes, WriteAppends}
+use Rattle.std.specs.Io.KnownBytes.{Appends, Consumes, IsAtEnd, Keeps, ReadConsumes, WriteAppends}
 use Rattle.std.proofs.KnownBytes.{Appends-nil, Appends-trans, Consumes-nil, Consumes-trans}
-use Rattle.std.proofs.lemmas.List.{length-take, map-append}
+use Rattle.std.proofs.lemmas.List.{length-take, map-append, nil_from_length}
 use Rattle.mq_frame.specs.declared.message.Request.{Request}
 use Rattle.mq_ledger.specs.declared.entry.Entry.{Entry}
 use Rattle.mq_ledger.specs.declared.ledger.Told.{Told}
@@ -18,9 +18,9 @@ use Rattle.mq_server.specs.declared.fault.ServeFault.{ServeFault}
 use Rattle.mq_server.specs.declared.input.TheConstants.{PIECE}
 use Rattle.mq_server.specs.Delivery.{call, failed_call}
 use Rattle.mq_server.specs.Held.{State}
-use Rattle.mq_server.specs.Life.{AreAnswered, Exchange, Life, Lives, MakesCalls, told_of, with_bytes, with_exchanges, with_taken}
-use Rattle.mq_room.specs.Turns.{Offers, Turns, lived}
-use Rattle.mq_room.specs.Wires.{AreOffered, IsKnownAs, Leaves, Wire}
+use Rattle.mq_server.specs.Life.{AreAnswered, Exchange, Life, Lives, MakesCalls, StandsNext, told_of, with_bytes, with_exchanges, with_taken}
+use Rattle.mq_room.specs.Turns.{ClosesAtEnd, Offers, Turns, lived}
+use Rattle.mq_room.specs.Wires.{AreOffered, IsKnownAs, Wire}
 
 -- ---- what a ledger reports
 
@@ -48,10 +48,10 @@ some_of r = refl
 abbrev pub Works : Progress → Type 0
 Works p = p ≡ Ended (Err Store) → ⊥
 
-pub no_calls : (t : Option (List Told)) (was : Option (Result Served ServeFault)) (p : Progress) → Works p → MakesCalls was p t t []
+abbrev pub no_calls : (t : Option (List Told)) (was : Option (Result Served ServeFault)) (p : Progress) → Works p → MakesCalls was p t t []
 no_calls t was p works = record { failed = None; told = Tells-none t; ends = λ some. absurd (none_some some); only = λ not is. absurd (works is) }
 
-pub calls_as : (t u : Option (List Told)) (was : Option (Result Served ServeFault)) (p q : Progress) (xs : List Exchange) → Works p → Works q → MakesCalls was p t u xs → MakesCalls was q t u xs
+abbrev pub calls_as : (t u : Option (List Told)) (was : Option (Result Served ServeFault)) (p q : Progress) (xs : List Exchange) → Works p → Works q → MakesCalls was p t u xs → MakesCalls was q t u xs
 calls_as t u was p q xs works still calls = record { failed = calls.failed; told = calls.told; ends = λ some. absurd (works (calls.ends some)); only = λ not is. absurd (still is) }
 
 -- where the store worked, the calls are those of the exchanges
@@ -67,7 +67,7 @@ told_on t u v xs ys more before after =
     let P : List Told → Type 0 = λ q. Tells t v q in
     subst P (sym (append_assoc (told_of xs) (told_of ys) more) ∙ ap (λ (q : List Told). q ++ more) (sym (told_both xs ys))) (Tells-trans t u v (told_of xs) (told_of ys ++ more) before after)
 
-calls_both : (t u v : Option (List Told)) (was mid : Option (Result Served ServeFault)) (p q : Progress) (xs ys : List Exchange) → Works p → (was ≢ Some (Err Store) → mid ≢ Some (Err Store)) → MakesCalls was p t u xs → MakesCalls mid q u v ys → MakesCalls was q t v (xs ++ ys)
+abbrev calls_both : (t u v : Option (List Told)) (was mid : Option (Result Served ServeFault)) (p q : Progress) (xs ys : List Exchange) → Works p → (was ≢ Some (Err Store) → mid ≢ Some (Err Store)) → MakesCalls was p t u xs → MakesCalls mid q u v ys → MakesCalls was q t v (xs ++ ys)
 calls_both t u v was mid p q xs ys works still first second = record {
   failed = second.failed;
   told = told_on t u v xs ys (map failed_call (option_to_list second.failed)) (worked_calls t u was p xs works first) second.told;
@@ -99,16 +99,16 @@ none_more l = λ i. named l l.bytes (sym (append-nil l.exchanges) i) l.rest l.ta
 lived_both : (l : Life) (r s : List ℕ) (xs ys : List Exchange) (rest rest' w v : List ℕ) → lived (lived l r xs rest w) s ys rest' v ≡ lived l (r ++ s) (xs ++ ys) rest' (w ++ v)
 lived_both l r s xs ys rest rest' w v = λ i. named l (append_assoc l.bytes r s i) (append_assoc l.exchanges xs ys i) rest' (append_assoc l.taken w v i)
 
--- each life of a connection goes on by exchanges
-abbrev pub Extends : State → State → List Exchange → Type 0
-Extends c now xs = (l : Life) → Lives l c → (rest : List ℕ) × Lives (with_exchanges l xs rest) now
+-- each life of a connection goes on by exchanges, and the request at which the store failed stands next
+abbrev pub Extends : State → State → List Exchange → Option Request → Type 0
+Extends c now xs failed = (l : Life) → Lives l c → (rest : List ℕ) × Lives (with_exchanges l xs rest) now × StandsNext failed rest
 
 -- each life of a connection goes on by bytes in and bytes out
 abbrev pub Carries : State → State → List ℕ → List ℕ → Type 0
 Carries c now read written = (l : Life) → Lives l c → Lives (carried l read written) now
 
-pub extends_none : (c : State) → Extends c c []
-extends_none c = λ l here. (l.rest, (let P : Life → Type 0 = λ q. Lives q c in subst P (none_more l) here))
+pub extends_none : (c : State) → Extends c c [] None
+extends_none c = λ l here. (l.rest, (let P : Life → Type 0 = λ q. Lives q c in subst P (none_more l) here), tt)
 
 pub carries_none : (c : State) → Carries c c [] []
 carries_none c = λ l here. let P : Life → Type 0 = λ q. Lives q c in subst P (carried_none l) here
@@ -134,11 +134,65 @@ still_in a b is = let P : Option (List ℕ) → Type 0 = λ q. Consumes a q [] i
 pub still_out : (a b : Option (List ℕ)) → b ≡ a → Appends a b []
 still_out a b is = let P : Option (List ℕ) → Type 0 = λ q. Appends a q [] in subst P (sym is) (Appends-nil a)
 
+-- ---- a wire of which all came
+
+-- no more came after all that was known
+none_after : (bytes more lost left : List ℕ) → bytes ≡ ((bytes ++ more) ++ lost) ++ left → length more ≡ 0
+none_after bytes more lost left is = omega (arith, ap length is, length-append ((bytes ++ more) ++ lost) left, length-append (bytes ++ more) lost, length-append bytes more)
+
+pub known_more : (a b : Option (List ℕ)) (bytes more lost : List ℕ) → IsKnownAs a bytes → Consumes a b ((bytes ++ more) ++ lost) → IsKnownAs a (bytes ++ more)
+known_more None b bytes more lost is consumed = tt
+known_more (Some x) None bytes more lost is consumed = absurd consumed
+known_more (Some x) (Some y) bytes more lost is consumed =
+    is ∙ sym (append-nil bytes) ∙ ap (λ (q : List ℕ). bytes ++ q) (sym (nil_from_length more (none_after bytes more lost y (sym is ∙ consumed))))
+
+-- all that is left comes after what came
+pub known_after : (a b : Option (List ℕ)) (bytes more : List ℕ) → Consumes a b bytes → IsKnownAs b more → IsKnownAs a (bytes ++ more)
+known_after None b bytes more consumed is = tt
+known_after (Some x) None bytes more consumed is = absurd consumed
+known_after (Some x) (Some y) bytes more consumed is = consumed ∙ ap (λ (q : List ℕ). bytes ++ q) is
+
+-- at the end nothing is left
+known_end : (a b : Option (List ℕ)) → Consumes a b [] → IsAtEnd b → IsKnownAs a []
+known_end None b consumed end = tt
+known_end (Some x) None consumed end = absurd consumed
+known_end (Some x) (Some y) consumed end = consumed ∙ end
+
+shuts_more : (c : State) (a e : Option (List ℕ)) (r s lost : List ℕ) → Consumes a e ((r ++ s) ++ lost) → (c.is_closed ≡ true) ⊎ IsKnownAs a r → (c.is_closed ≡ true) ⊎ IsKnownAs a (r ++ s)
+shuts_more c a e r s lost all (inl closed) = inl closed
+shuts_more c a e r s lost all (inr is) = inr (known_more a e r s lost is all)
+
+shuts_then : (c d : State) (a b e : Option (List ℕ)) (r s lost : List ℕ) → Consumes a b r → Consumes a e ((r ++ s) ++ lost) → ClosesAtEnd c d a r → (d.is_closed ≡ true) ⊎ IsKnownAs b s → (c.is_closed ≡ true) ⊎ IsKnownAs a (r ++ s)
+shuts_then c d a b e r s lost first all before (inl closed) = shuts_more c a e r s lost all (before closed)
+shuts_then c d a b e r s lost first all before (inr is) = inr (known_after a b r s first is)
+
+shuts_as : (c d : State) (a : Option (List ℕ)) (r : List ℕ) → d.is_closed ≡ c.is_closed → (d.is_closed ≡ true) ⊎ IsKnownAs a r → (c.is_closed ≡ true) ⊎ IsKnownAs a r
+shuts_as c d a r same (inl closed) = inl (sym same ∙ closed)
+shuts_as c d a r same (inr is) = inr is
+
+-- what was closed before is closed
+pub shuts_before : (c d now : State) (a : Option (List ℕ)) (r : List ℕ) → d.is_closed ≡ c.is_closed → ClosesAtEnd d now a r → ClosesAtEnd c now a r
+shuts_before c d now a r same shuts = λ closed. shuts_as c d a r same (shuts closed)
+
+-- and nothing else
+pub shuts_none : (c now : State) (a : Option (List ℕ)) (r : List ℕ) → now.is_closed ≡ c.is_closed → ClosesAtEnd c now a r
+shuts_none c now a r same = λ closed. inl (sym same ∙ closed)
+
+-- all bytes of a session that is closed came
+pub session_shuts : (c : State) (a b e : Option (List ℕ)) (bytes read lost : List ℕ) → Consumes a b bytes → Consumes a e ((bytes ++ read) ++ lost) → (c.is_closed ≡ true → IsKnownAs a bytes) → (c.is_closed ≡ true) ⊎ IsKnownAs b read → IsKnownAs a (bytes ++ read)
+session_shuts c a b e bytes read lost first all before (inl closed) = known_more a e bytes read lost (before closed) all
+session_shuts c a b e bytes read lost first all before (inr is) = known_after a b bytes read first is
+
+-- where the store failed nothing was read after it
+stands_on : (failed : Option Request) (rest read : List ℕ) → (IsSome failed → read ≡ []) → StandsNext failed rest → StandsNext failed (rest ++ read)
+stands_on None rest read none stands = tt
+stands_on (Some r) rest read none stands = let P : List ℕ → Type 0 = λ q. StandsNext (Some r) q in subst P (sym (append-nil rest) ∙ ap (λ (q : List ℕ). rest ++ q) (sym (none (some_of r)))) stands
+
 -- answers, and then bytes in or out
 pub turned : (b : Book) (history : List Entry) (t u : Option (List Told)) (p : Progress) (old new : Wire) (c d now : State) (xs : List Exchange) (read lost written : List ℕ)
-    → AreAnswered b xs history → MakesCalls c.end p t u xs → Extends c d xs → length lost ≤ PIECE → (p ≢ Ended (Err Memory) → lost ≡ []) → Consumes old.remaining new.remaining (read ++ lost) → Appends old.contents new.contents written
-    → Carries d now read written → Turns b history t u p old new c now
-turned b history t u p old new c d now xs read lost written right calls extends few whole consumed sent carries = record {
+    → AreAnswered b xs history → (calls : MakesCalls c.end p t u xs) → Extends c d xs calls.failed → (IsSome calls.failed → read ≡ []) → length lost ≤ PIECE → (p ≢ Ended (Err Memory) → lost ≡ []) → Consumes old.remaining new.remaining (read ++ lost) → Appends old.contents new.contents written
+    → ClosesAtEnd c now old.remaining read → Carries d now read written → Turns b history t u p old new c now
+turned b history t u p old new c d now xs read lost written right calls extends none few whole consumed sent closed carries = record {
   exchanges = xs;
   answered = right;
   calls = calls;
@@ -149,12 +203,13 @@ turned b history t u p old new c d now xs read lost written right calls extends 
   written = written;
   consumed = consumed;
   sent = sent;
-  lives = λ l here. let (rest, then) = extends l here in (rest ++ read, carries (with_exchanges l xs rest) then);
+  closed = closed;
+  lives = λ l here. let (rest, then, stands) = extends l here in (rest ++ read, carries (with_exchanges l xs rest) then, stands_on calls.failed rest read none stands);
 }
 
 pub nothing_done : (b : Book) (t : Option (List Told)) (p : Progress) (wire : Wire) (c : State) → Works p → AreAnswered b [] b.history → Turns b b.history t t p wire wire c c
 nothing_done b t p wire c works none =
-    turned b b.history t t p wire wire c c c [] [] [] [] none (no_calls t c.end p works) (extends_none c) none_few (λ _. refl) (Consumes-nil wire.remaining) (Appends-nil wire.contents) (carries_none c)
+    turned b b.history t t p wire wire c c c [] [] [] [] none (no_calls t c.end p works) (extends_none c) (λ _. refl) none_few (λ _. refl) (Consumes-nil wire.remaining) (Appends-nil wire.contents) (shuts_none c c wire.remaining [] refl) (carries_none c)
 
 -- exchanges after others, by the law of mq_server
 abbrev pub Follow : Type 0
@@ -169,6 +224,9 @@ pub both : Follow → (b k : Book) (history : List Entry) (t u v : Option (List 
 both follow b k history t u v p q old mid new c d now legal zone default works room still first second =
     let P : List ℕ → Type 0 = λ x. Consumes old.remaining mid.remaining (first.read ++ x) in
     let Q : List ℕ → Type 0 = λ x. Consumes old.remaining new.remaining x in
+    let S : List ℕ → Type 0 = λ x. Consumes old.remaining mid.remaining x in
+    let before = subst P (first.whole room) first.consumed in
+    let all = subst Q (all_read first.read second.read second.lost) (Consumes-trans old.remaining mid.remaining new.remaining _ _ before second.consumed) in
     record {
       exchanges = first.exchanges ++ second.exchanges;
       answered = follow b k first.exchanges second.exchanges history legal zone default first.answered second.answered;
@@ -178,13 +236,14 @@ both follow b k history t u v p q old mid new c d now legal zone default works r
       few = second.few;
       whole = second.whole;
       written = first.written ++ second.written;
-      consumed = subst Q (all_read first.read second.read second.lost) (Consumes-trans old.remaining mid.remaining new.remaining _ _ (subst P (first.whole room) first.consumed) second.consumed);
+      consumed = all;
       sent = Appends-trans old.contents mid.contents new.contents _ _ first.sent second.sent;
+      closed = λ is. shuts_then c d old.remaining mid.remaining new.remaining first.read second.read second.lost (subst S (append-nil first.read) before) all first.closed (second.closed is);
       lives = λ l here.
-          let (rest, then) = first.lives l here in
-          let (rest', after) = second.lives (lived l first.read first.exchanges rest first.written) then in
+          let (rest, then, stands) = first.lives l here in
+          let (rest', after, stands') = second.lives (lived l first.read first.exchanges rest first.written) then in
           let R : Life → Type 0 = λ x. Lives x now in
-          (rest', subst R (lived_both l first.read second.read first.exchanges second.exchanges rest rest' first.written second.written) after);
+          (rest', subst R (lived_both l first.read second.read first.exchanges second.exchanges rest rest' first.written second.written) after, stands');
     }
 
 -- ---- by what it came to
@@ -253,21 +312,21 @@ writes_some a b c d now bytes count is same sent lives =
 
 -- what a read leaves, where it came to this
 abbrev pub Reads : Option (List ℕ) → Option (List ℕ) → State → State → Progress → Type 0
-Reads a b c now p = (read : List ℕ) × (lost : List ℕ) × (length lost ≤ PIECE) × (p ≢ Ended (Err Memory) → lost ≡ []) × Consumes a b (read ++ lost) × ((l : Life) → Lives l c → Lives (with_bytes l read) now)
+Reads a b c now p = (read : List ℕ) × (lost : List ℕ) × (length lost ≤ PIECE) × (p ≢ Ended (Err Memory) → lost ≡ []) × Consumes a b (read ++ lost) × ClosesAtEnd c now a read × ((l : Life) → Lives l c → Lives (with_bytes l read) now)
 
-pub reads_none : (a b : Option (List ℕ)) (c now : State) (p : Progress) → Consumes a b [] → ((l : Life) → Lives l c → Lives l now) → Reads a b c now p
-reads_none a b c now p consumed lives = ([], [], none_few, (λ _. refl), consumed, λ l here. comes_none now l (lives l here))
+pub reads_none : (a b : Option (List ℕ)) (c now : State) (p : Progress) → Consumes a b [] → ClosesAtEnd c now a [] → ((l : Life) → Lives l c → Lives l now) → Reads a b c now p
+reads_none a b c now p consumed closed lives = ([], [], none_few, (λ _. refl), consumed, closed, λ l here. comes_none now l (lives l here))
 
-pub reads_some : (a b : Option (List ℕ)) (c d now : State) (p : Progress) (bytes front : List ℕ) → bytes ≡ front → now ≡ d → Consumes a b front → ((l : Life) → Lives l c → Lives (with_bytes l bytes) d) → Reads a b c now p
-reads_some a b c d now p bytes front is same consumed lives =
+pub reads_some : (a b : Option (List ℕ)) (c d now : State) (p : Progress) (bytes front : List ℕ) → bytes ≡ front → now ≡ d → d.is_closed ≡ c.is_closed → Consumes a b front → ((l : Life) → Lives l c → Lives (with_bytes l bytes) d) → Reads a b c now p
+reads_some a b c d now p bytes front is same still consumed lives =
     let P : List ℕ → Type 0 = λ q. Consumes a b q in
-    (bytes, [], none_few, (λ _. refl), subst P (sym is ∙ sym (append-nil bytes)) consumed, λ l here. lives_as d now (with_bytes l bytes) same (lives l here))
+    (bytes, [], none_few, (λ _. refl), subst P (sym is ∙ sym (append-nil bytes)) consumed, shuts_none c now a bytes (ap (λ (x : State). x.is_closed) same ∙ still), λ l here. lives_as d now (with_bytes l bytes) same (lives l here))
 
 pub reads_lost : (a b : Option (List ℕ)) (c now : State) (p : Progress) (bytes : List ℕ) → length bytes ≤ PIECE → p ≡ Ended (Err Memory) → now ≡ c → Consumes a b bytes → Reads a b c now p
-reads_lost a b c now p bytes few is same consumed = ([], bytes, few, (λ not. absurd (not is)), consumed, λ l here. comes_none now l (lives_as c now l same here))
+reads_lost a b c now p bytes few is same consumed = ([], bytes, few, (λ not. absurd (not is)), consumed, shuts_none c now a [] (ap (λ (x : State). x.is_closed) same), λ l here. comes_none now l (lives_as c now l same here))
 
 -- the calls of a progress by which the store failed alike
-pub calls_either : (t u : Option (List Told)) (was : Option (Result Served ServeFault)) (p q : Progress) (xs : List Exchange) → (p ≡ Ended (Err Store) → q ≡ Ended (Err Store)) → (q ≡ Ended (Err Store) → p ≡ Ended (Err Store)) → MakesCalls was p t u xs → MakesCalls was q t u xs
+abbrev pub calls_either : (t u : Option (List Told)) (was : Option (Result Served ServeFault)) (p q : Progress) (xs : List Exchange) → (p ≡ Ended (Err Store) → q ≡ Ended (Err Store)) → (q ≡ Ended (Err Store) → p ≡ Ended (Err Store)) → MakesCalls was p t u xs → MakesCalls was q t u xs
 calls_either t u was p q xs to back calls = record { failed = calls.failed; told = calls.told; ends = λ some. to (calls.ends some); only = λ not is. calls.only not (back is) }
 
 pub ended_inj : (a b : Result Served ServeFault) → Ended a ≡ Ended b → a ≡ b
@@ -291,6 +350,13 @@ wrote_none {E = E} a b r bytes is h = let P : Result ℕ E → Type 0 = λ q. Wr
 pub gave_none : {E : Type 0} (a b : Option (List ℕ)) (r : Result ℕ E) (bytes : List ℕ) → r ≡ Ok 0 → ReadConsumes a b r bytes → Consumes a b []
 gave_none {E = E} a b r bytes is h = let P : Result ℕ E → Type 0 = λ q. ReadConsumes a b q bytes in (subst P is h).0
 
+-- none but the last, which is known then
+pub gave_end : {E : Type 0} (a b : Option (List ℕ)) (r : Result ℕ E) (bytes : List ℕ) → r ≡ Ok 0 → 0 < length bytes → ReadConsumes a b r bytes → IsKnownAs a []
+gave_end {E = E} a b r bytes is some h =
+    let P : Result ℕ E → Type 0 = λ q. ReadConsumes a b q bytes in
+    let (consumed, end) = subst P is h in
+    known_end a b consumed (end refl some)
+
 -- ---- replies that are offered
 
 no_replies : (c : State) (wire : Wire) → c.replies ≡ [] → AreOffered c wire
@@ -300,6 +366,7 @@ pub offers_none : (c : State) (wire : Wire) → c.replies ≡ [] → Offers c wi
 offers_none c wire none = record {
   now = c;
   end = refl;
+  closed = refl;
   written = [];
   remaining = refl;
   sent = Appends-nil wire.contents;
@@ -308,14 +375,15 @@ offers_none c wire none = record {
 }
 
 -- the peer took some
-pub offers_some : (c d : State) (old new : Wire) (bytes : List ℕ) (count : ℕ) → bytes ≡ c.replies → d.end ≡ c.end → d.replies ≡ drop count c.replies → new.remaining ≡ old.remaining → Appends old.contents new.contents (take count bytes)
+pub offers_some : (c d : State) (old new : Wire) (bytes : List ℕ) (count : ℕ) → bytes ≡ c.replies → d.end ≡ c.end → d.is_closed ≡ c.is_closed → d.replies ≡ drop count c.replies → new.remaining ≡ old.remaining → Appends old.contents new.contents (take count bytes)
     → IsKnownAs new.left (drop count bytes) → ((l : Life) → Lives l c → Lives (with_taken l (take count c.replies)) d) → Offers c old new
-offers_some c d old new bytes count is end rest remaining sent left lives =
+offers_some c d old new bytes count is end closed rest remaining sent left lives =
     let P : List ℕ → Type 0 = λ q. Appends old.contents new.contents (take count q) in
     let Q : List ℕ → Type 0 = λ q. IsKnownAs new.left q in
     record {
       now = d;
       end = end;
+      closed = closed;
       written = take count c.replies;
       remaining = remaining;
       sent = subst P is sent;
@@ -330,6 +398,7 @@ offers_all c old new bytes is remaining kept left =
     record {
       now = c;
       end = refl;
+      closed = refl;
       written = [];
       remaining = remaining;
       sent = appends_kept old.contents new.contents kept;
@@ -355,8 +424,9 @@ turned_out b history t u p old mid new c d turn o =
       written = turn.written ++ o.written;
       consumed = subst P (sym o.remaining) turn.consumed;
       sent = Appends-trans old.contents mid.contents new.contents _ _ turn.sent o.sent;
+      closed = λ is. turn.closed (sym o.closed ∙ is);
       lives = λ l here.
-          let (rest, then) = turn.lives l here in
+          let (rest, then, stands) = turn.lives l here in
           let Q : Life → Type 0 = λ x. Lives x o.now in
-          (rest, subst Q (taken_both l turn.read turn.exchanges rest turn.written o.written) (o.lives (lived l turn.read turn.exchanges rest turn.written) then));
+          (rest, subst Q (taken_both l turn.read turn.exchanges rest turn.written o.written) (o.lives (lived l turn.read turn.exchanges rest turn.written) then), stands);
     }

@@ -1,5 +1,5 @@
 -- All connections of a server together: which requests came on which, and what each was answered.
-use Rattle.std.specs.Prelude.{◌≡◌, ◌≢◌, ◌⊎◌, ℕ, ◌<◌, ◌≤◌, List, [], ◌++◌, length, map, filter, eqb, Option, Some, None, IsSome, Result, Err, option_map}
+use Rattle.std.specs.Prelude.{◌≡◌, ◌≢◌, ℕ, ◌<◌, ◌≤◌, List, [], ◌++◌, length, map, filter, eqb, true, Option, Some, None, IsSome, Result, Err, option_map}
 use Rattle.std.specs.Option.{option_to_list}
 use Rattle.std.specs.Ordering.{nat_cmp}
 use Rattle.std.specs.BTreeMap.{BTreeMap, get}
@@ -11,10 +11,10 @@ use Rattle.mq_ledger.specs.Told.{Tells}
 use Rattle.mq_server.specs.declared.fault.ServeFault.TheVariants.{Store}
 use Rattle.mq_server.specs.declared.input.TheConstants.{PIECE}
 use Rattle.mq_server.specs.Delivery.{failed_call}
-use Rattle.mq_server.specs.Held.{State, fresh}
-use Rattle.mq_server.specs.Life.{AreAnswered, Exchange, Life, Lives, told_of}
+use Rattle.mq_server.specs.Held.{State}
+use Rattle.mq_server.specs.Life.{AreAnswered, Exchange, Life, Lives, StandsNext, told_of}
 use Rattle.mq_room.specs.declared.opened.OpenConnection.{OpenConnection}
-use Rattle.mq_room.specs.Wires.{AreOffered, Wire}
+use Rattle.mq_room.specs.Wires.{AreOffered, IsKnownAs, Wire}
 
 -- an exchange, and the number of the connection on which it came
 pub record Placed : Type 0 where
@@ -36,7 +36,7 @@ pub record Outside : Type 0 where
 
 -- A connection's life, whose exchanges are those of its number: its bytes in are what was read from the wire, but for the
 -- last read, which may have found no room or come too late, and the bytes of replies that were taken are what was written
--- to it.
+-- to it. Where its input is taken for ended, its bytes in are all that were to come on the wire.
 pub record Session (n : ℕ) (ps : List Placed) (old new : Wire) : Type 0 where
   pub life : Life
   pub state : State
@@ -45,6 +45,7 @@ pub record Session (n : ℕ) (ps : List Placed) (old new : Wire) : Type 0 where
   pub lost : List ℕ
   pub few : length lost ≤ PIECE
   pub consumed : Consumes old.remaining new.remaining (life.bytes ++ lost)
+  pub closed : state.is_closed ≡ true → IsKnownAs old.remaining life.bytes
   pub sent : Appends old.contents new.contents life.taken
 
 -- Connections were served: each is a session, whose answers are the ledger's over what came to it before on any of them,
@@ -57,14 +58,15 @@ pub record HaveServed (old new : Outside) (failed : Option Request) : Type 0 whe
   pub told : Tells old.told new.told (told_of (all_of placed) ++ map failed_call (option_to_list failed))
   pub each : (n : ℕ) → Session n placed (old.wires n) (new.wires n)
 
--- The serving ended so: by Store where the store failed, and only there, at the connection whose end that is. The replies
--- that any connection still holds were offered to its peer, which left them.
+-- The serving ended so: by Store where the store failed, and only there, at the connection whose end that is, and on which
+-- that request stands next. The replies that any connection still holds were offered to its peer, which left them.
 pub record EndsServing {A E : Type 0} (old new : Outside) (store : E) (result : Result A E) : Type 0 where
   pub failed : Option Request
   pub served : HaveServed old new failed
   pub stops : IsSome failed → result ≡ Err store
   pub only : result ≡ Err store → IsSome failed
   pub at : IsSome failed → (n : ℕ) × ((served.each n).state.end ≡ Some (Err Store))
+      × StandsNext failed (served.each n).life.rest
   pub offered : (n : ℕ) → AreOffered (served.each n).state (new.wires n)
 
 -- what is held of the connection under a number, where it is open
@@ -73,7 +75,7 @@ held connections n = option_map (λ o. o.connection) (get nat_cmp connections n)
 
 -- A server goes on: all that it read of the connections that are open is in their lives, and none of them has seen the
 -- store fail; what a connection that is closed still holds was offered to its peer; and nothing came yet on those that it
--- will number. Where the store failed, it was at one that is closed.
+-- will number. Where the store failed, it was at the request that stands next on one that is closed.
 pub record GoesOn (old new : Outside) (last : ℕ) (connections : ℕ → Option State) (failed : Option Request) : Type 0 where
   pub served : HaveServed old new failed
   pub beyond : (n : ℕ) → last < n → (those_of n served.placed ≡ []) × (new.wires n ≡ old.wires n)
@@ -81,6 +83,7 @@ pub record GoesOn (old new : Outside) (last : ℕ) (connections : ℕ → Option
       ((served.each n).state ≡ c) × ((served.each n).lost ≡ []) × (c.end ≢ Some (Err Store)) × (n ≤ last)
   pub offered : (n : ℕ) → connections n ≡ None → AreOffered (served.each n).state (new.wires n)
   pub at : IsSome failed → (n : ℕ) × ((served.each n).state.end ≡ Some (Err Store))
+      × StandsNext failed (served.each n).life.rest
 
 -- It goes on, or ends by Store where the store failed, and only there.
 pub record GoesOnOrStops {A E : Type 0} (old new : Outside) (last : ℕ) (connections : ℕ → Option State) (store : E)

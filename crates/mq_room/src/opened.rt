@@ -5,7 +5,7 @@ ghost use Rattle.mq_server.specs.declared.connection.Progress.TheVariants.{Ended
 ghost use Rattle.mq_server.specs.declared.input.TheConstants.{PIECE as piece_limit};
 ghost use Rattle.mq_server.specs.Held.{fresh};
 ghost use Rattle.mq_server.specs.Life.{Life, Lives, with_bytes, with_taken};
-ghost use Rattle.mq_room.specs.Turns.{Offers, Turns};
+ghost use Rattle.mq_room.specs.Turns.{ClosesAtEnd, Offers, Turns};
 
 use crate::network::Network;
 use log::Log;
@@ -147,6 +147,7 @@ impl OpenConnection {
     ) -> Progress
         ensures others { (n : ℕ) → n ≢ number → N.wire network.new n ≡ N.wire network.old n }
         ensures end { self.new.connection.end ≡ self.old.connection.end }
+        ensures closed { self.new.connection.is_closed ≡ self.old.connection.is_closed }
         ensures other { result ≢ Ended (Err ServeFault.Store) }
         ensures remaining { (N.wire network.new number).remaining ≡ (N.wire network.old number).remaining }
         ensures writes { (written : List ℕ)
@@ -181,6 +182,7 @@ impl OpenConnection {
         ensures reads { (read : List ℕ) × (lost : List ℕ) × (length lost ≤ piece_limit)
             × (result ≢ Ended (Err ServeFault.Memory) → lost ≡ [])
             × Consumes (N.wire network.old number).remaining (N.wire network.new number).remaining (read ++ lost)
+            × ClosesAtEnd self.old.connection self.new.connection (N.wire network.old number).remaining read
             × ((l : Life) → Lives l self.old.connection → Lives (with_bytes l read) self.new.connection) }
     {
         let mut piece = [0u8; PIECE];

@@ -52,21 +52,26 @@ impl Clock for Course {
 }
 
 impl Course {
-    /// Notes how long the next call may wait.
-    fn note_wait(&self, time: Option<Duration>) {
+    /// Notes how long the next call may wait, which reads or writes.
+    fn note_wait(&self, reads: bool, time: Option<Duration>) {
         let now = self.millis.get();
         let end = match self.end.get() {
             Some(end) => end,
             None => now.saturating_add(self.timeout),
         };
         self.end.set(Some(end));
-        if time != Some(Duration::from_millis(end.saturating_sub(now))) {
+        if reads != self.is_ended.get()
+            || time != Some(Duration::from_millis(end.saturating_sub(now)))
+        {
             self.is_right.set(false);
         }
     }
 
-    /// A call takes so long.
+    /// A call takes so long. It was said before how long it may wait.
     fn pass(&self, millis: u64) {
+        if self.end.get().is_none() {
+            self.is_right.set(false);
+        }
         self.millis.set(self.millis.get().saturating_add(millis));
     }
 }
@@ -111,12 +116,12 @@ impl OpenStream for Slow<'_> {
     }
 
     fn set_read_timeout(&self, time: Option<Duration>) -> io::Result<()> {
-        self.course.note_wait(time);
+        self.course.note_wait(true, time);
         Ok(())
     }
 
     fn set_write_timeout(&self, time: Option<Duration>) -> io::Result<()> {
-        self.course.note_wait(time);
+        self.course.note_wait(false, time);
         Ok(())
     }
 }

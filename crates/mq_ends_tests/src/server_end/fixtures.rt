@@ -40,7 +40,7 @@ pub fn page(rt: &impl Abort, alloc: Global, count: usize) -> UsageRows {
     UsageRows::new(vec![in alloc; row; count].expect(rt, MEMORY))
 }
 
-/// So many bytes, and those behind them.
+/// So many bytes, and those after them.
 pub fn split(bytes: &[u8], count: usize) -> (&[u8], &[u8]) {
     bytes.split_at(count.min(bytes.len()))
 }

@@ -31,15 +31,15 @@ impl Clock for At {
 
 /// What the next exchanges bring, and when: a body, or nothing where it is empty.
 #[derive(Drop)]
-struct Stage<'a> {
+struct Stage {
     millis: Cell<u64>,
-    body: Cell<&'a [u8]>,
+    body: Cell<&'static [u8]>,
 }
 
 /// A link whose exchanges bring what stands there.
 #[derive(Drop)]
 struct Staged<'a> {
-    stage: &'a Stage<'a>,
+    stage: &'a Stage,
     address: SocketAddr,
     trouble: Trouble,
 }
@@ -75,7 +75,7 @@ impl Link for Staged<'_> {
 }
 
 /// So many exchanges at a millisecond, each of which brings this body, or nothing.
-type Row<'a> = (u64, u32, &'a [u8]);
+type Row = (u64, u32, &'static [u8]);
 
 const NOTHING: &[u8] = b"";
 
@@ -91,7 +91,7 @@ const NO_REPLY: &[u8] = b"\x00";
 /// Exchanges of a link, and the lines of its log.
 #[derive(Clone, Copy)]
 struct Case<'a> {
-    rows: &'a [Row<'a>],
+    rows: &'a [Row],
     log: &'a [&'a str],
 }
 
@@ -210,12 +210,7 @@ const MANY_OUTAGES: &[Case<'static>] = &[
 ];
 
 /// Makes these exchanges.
-fn play<'a, L: Link>(
-    alloc: Global,
-    stage: &Stage<'a>,
-    link: &mut L,
-    rows: &[Row<'a>],
-) -> Result<(), Fail> {
+fn play<L: Link>(alloc: Global, stage: &Stage, link: &mut L, rows: &[Row]) -> Result<(), Fail> {
     let mut reply = Vec::new(alloc);
     for (millis, exchanges, body) in rows {
         stage.millis.set(*millis);

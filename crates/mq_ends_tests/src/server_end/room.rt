@@ -8,6 +8,7 @@ use crate::server_end::serving::ledger;
 use log::sink::Discard;
 use mq_ledger::{Ledger, LedgerFault};
 use mq_room::{RoomFault, serve_network};
+use mq_watch::Watched;
 use network::{Peer, Peers, Ticking};
 use std::alloc::Global;
 use std::cell::Cell;
@@ -150,17 +151,18 @@ fn peers_of(rt: &impl Abort, alloc: Global, rows: &[Row<'_>]) -> Result<Peers, F
 
 /// Serves the peers of these rows: it ends so, each has taken just what it should, and each connection is closed where
 /// all are served.
-fn check_rows(
+fn check_rows<L: Ledger + Drop>(
     rt: &impl Abort,
     alloc: Global,
-    ledger: &mut impl Ledger,
+    ledger: L,
     rows: &[Row<'_>],
     end: Result<(), RoomFault>,
 ) -> Result<(), Fail> {
     let mut network = peers_of(rt, alloc, rows)?;
     let clock = Ticking(Cell::new(0));
     let timeout = Duration::from_millis(1_000);
-    let ended = serve_network(&clock, &Discard, alloc, &mut network, timeout, ledger);
+    let mut watched = Watched::new(&clock, &Discard, alloc, ledger);
+    let ended = serve_network(&clock, &Discard, alloc, &mut network, timeout, &mut watched);
     assert_that(rt, ended == end, "how it ends");
     for (peer, row) in network.peers.iter().zip(rows) {
         let wanted = bytes_of(rt, alloc, row.3);
@@ -173,34 +175,34 @@ fn check_rows(
 #[test]
 fn connections_in_turns(rt: HostRuntime) -> Result<(), Fail> {
     let alloc = rt.alloc();
-    check_rows(&rt, alloc, &mut ledger(&rt, alloc, 3), IN_TURNS, Ok(()))
+    check_rows(&rt, alloc, ledger(&rt, alloc, 3), IN_TURNS, Ok(()))
 }
 
 #[test]
 fn replies_that_wait(rt: HostRuntime) -> Result<(), Fail> {
     let alloc = rt.alloc();
-    check_rows(&rt, alloc, &mut ledger(&rt, alloc, 3), REPLIES_WAIT, Ok(()))
+    check_rows(&rt, alloc, ledger(&rt, alloc, 3), REPLIES_WAIT, Ok(()))
 }
 
 #[test]
 fn a_store_that_fails(rt: HostRuntime) -> Result<(), Fail> {
     let alloc = rt.alloc();
-    let mut failing = FailsOnce {
+    let failing = FailsOnce {
         ledger: ledger(&rt, alloc, 3),
         calls_before: 2,
         fault: LedgerFault::Store,
     };
-    check_rows(&rt, alloc, &mut failing, STORE_FAILS, Err(RoomFault::Store))
+    check_rows(&rt, alloc, failing, STORE_FAILS, Err(RoomFault::Store))
 }
 
 #[test]
 fn replies_that_wait_as_a_store_fails(rt: HostRuntime) -> Result<(), Fail> {
     let alloc = rt.alloc();
-    let mut failing = FailsOnce {
+    let failing = FailsOnce {
         ledger: ledger(&rt, alloc, 3),
         calls_before: 2,
         fault: LedgerFault::Store,
     };
     let rows = REPLIES_WAIT_AS_IT_FAILS;
-    check_rows(&rt, alloc, &mut failing, rows, Err(RoomFault::Store))
+    check_rows(&rt, alloc, failing, rows, Err(RoomFault::Store))
 }

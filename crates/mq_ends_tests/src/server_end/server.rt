@@ -313,7 +313,7 @@ fn check_front(rt: &impl Abort, alloc: Global, input: &[u8], output: &[u8], coun
     check_connection(rt, alloc, &mut ledger(rt, alloc, 3), source, sink, Ok(end));
 }
 
-/// Of every front of an input just the whole frames are answered.
+/// Of every prefix of an input just the whole frames are answered.
 #[test]
 fn input_ends_anywhere(rt: HostRuntime) {
     let alloc = rt.alloc();

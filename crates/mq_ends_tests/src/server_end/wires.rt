@@ -16,7 +16,7 @@ use std::rt::Clock;
 use std::test::Fail;
 use std::time::Duration;
 
-/// The frame of the reply to `RESERVE`, and a byte behind it.
+/// The frame of the reply to `RESERVE`, and a byte after it.
 const REPLY: &str = "001381016100000000000000010000000100000001ff";
 
 /// The body of that reply.
@@ -124,7 +124,7 @@ fn brought<L: Link>(alloc: Global, link: &mut L, frame: &[u8]) -> Result<String,
     }
 }
 
-/// The same of a link to such connections, behind so many exchanges that fail.
+/// The same of a link to such connections, after so many exchanges that fail.
 fn after_failures<R: Abort + Clock>(
     rt: &R,
     alloc: Global,

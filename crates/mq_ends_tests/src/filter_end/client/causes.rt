@@ -1,4 +1,4 @@
-//! Why recipients are refused without asking, as the log tells it.
+//! Why recipients are refused without asking, as the log says.
 use super::*;
 
 const NAMELESS: &str = "report|0.7|1576146008.006099|smtp-in|link-auth|7641df9771b4ed00|pass|

@@ -91,7 +91,7 @@ impl<'a> Taker<'a> {
     }
 }
 
-/// Goes on behind this piece, and answers whether it stood there.
+/// Goes on after this piece, and answers whether it stood there.
 fn pass(wanted: &mut &[u8], piece: &[u8]) -> bool {
     match wanted.strip_prefix(piece) {
         Some(rest) => {

@@ -6,7 +6,7 @@ use super::*;
 use mq_frame::Failed;
 use std::cell::Cell;
 
-/// Gives its bytes in pieces, tells what each read gave, and notes whether what those before ask for was
+/// Gives its bytes in pieces, reports what each read gave, and notes whether what those before ask for was
 /// flushed at each read, no more and no less, and the most bytes that a read asks for.
 #[derive(Drop)]
 struct Watching<'a> {

@@ -17,6 +17,10 @@ const FULL_4: Reply<'static> = Reply::Body(
     "82 036d7831 0000000000000001 00000004 00000003 00000003",
 );
 
+const FULL_5: Reply<'static> = Reply::Body(
+    "82 036d7831 0000000000000001 00000005 00000003 00000003",
+);
+
 /// Another login in another session.
 const BOB: &str = "report|0.7|1576146008.006099|smtp-in|link-auth|7641df9771b4ed01|pass|bob
 report|0.7|1576146009.006099|smtp-in|tx-begin|7641df9771b4ed01|4c56d3a2
@@ -27,9 +31,19 @@ const BOB_LIMIT: &str =
     "filter-result|7641df9771b4ed01|1ef1c203cc576e5d|reject|550 daily recipient limit reached
 ";
 
+/// The first login in the last second of that day.
+const SAME_DAY: &str = "report|0.7|1576195199.9|smtp-in|link-auth|7641df9771b4ed02|pass|alice
+report|0.7|1576195199.9|smtp-in|tx-begin|7641df9771b4ed02|4c56d3a3
+filter|0.7|1576195200.0|smtp-in|rcpt-to|7641df9771b4ed02|1ef1c203cc576e5d|bob@example.org
+";
+
+const SAME_DAY_LIMIT: &str =
+    "filter-result|7641df9771b4ed02|1ef1c203cc576e5d|reject|550 daily recipient limit reached
+";
+
 /// The first login on the next day, in a session of which the first 16 bytes are logged.
 const NEXT_DAY: &str = "report|0.7|1576195200.0|smtp-in|link-auth|0123456789abcdefg|pass|alice
-report|0.7|1576195200.0|smtp-in|tx-begin|0123456789abcdefg|4c56d3a3
+report|0.7|1576195200.0|smtp-in|tx-begin|0123456789abcdefg|4c56d3a4
 filter|0.7|1576195200.0|smtp-in|rcpt-to|0123456789abcdefg|1ef1c203cc576e5d|bob@example.org
 ";
 
@@ -40,15 +54,24 @@ const NEXT_DAY_LIMIT: &str =
 /// The first of a login on a day by a warning.
 const FULL: Row<'static> = Row {
     name: "full logins",
-    replies: &[FULL_1, FULL_2, FULL_3, FULL_4],
-    lines: &[CONFIG, AUTH, BEGIN, RECIPIENT, RECIPIENT, BOB, NEXT_DAY],
+    replies: &[FULL_1, FULL_2, FULL_3, FULL_4, FULL_5],
+    lines: &[
+        CONFIG, AUTH, BEGIN, RECIPIENT, RECIPIENT, BOB, SAME_DAY, NEXT_DAY,
+    ],
     ended: Ok(Ended {
-        answers: 4,
+        answers: 5,
         left: 0,
     }),
-    text: &[REGISTRATION, LIMIT, LIMIT, BOB_LIMIT, NEXT_DAY_LIMIT],
-    sent: Sent::Count(4),
-    held: 3,
+    text: &[
+        REGISTRATION,
+        LIMIT,
+        LIMIT,
+        BOB_LIMIT,
+        SAME_DAY_LIMIT,
+        NEXT_DAY_LIMIT,
+    ],
+    sent: Sent::Count(5),
+    held: 4,
     log: Some(&[
         "[WARN  mq_client::tries] reserve 1 of transaction 1 \
             (host mx1, session 7641df9771b4ed00, login alice): refused by the limit, 3 used of 3",
@@ -56,7 +79,9 @@ const FULL: Row<'static> = Row {
             (host mx1, session 7641df9771b4ed00, login alice): refused by the limit, 3 used of 3",
         "[WARN  mq_client::tries] reserve 3 of transaction 2 \
             (host mx1, session 7641df9771b4ed01, login bob): refused by the limit, 7 used of 5",
-        "[WARN  mq_client::tries] reserve 4 of transaction 3 \
+        "[INFO  mq_client::tries] reserve 4 of transaction 3 \
+            (host mx1, session 7641df9771b4ed02, login alice): refused by the limit, 3 used of 3",
+        "[WARN  mq_client::tries] reserve 5 of transaction 4 \
             (host mx1, session 0123456789abcdef, login alice): refused by the limit, 3 used of 3",
     ]),
     ..PLAIN

@@ -113,7 +113,7 @@ fn assert_reply(rt: &impl Abort, alloc: Global, link: &mut Retiring, frame: &str
     assert_bytes(rt, &reply, &bytes_of(rt, alloc, wanted));
 }
 
-/// What the filter writes behind its registration where the run is retired before the exchange in the row's place, and
+/// What the filter writes after its registration where the run is retired before the exchange in the row's place, and
 /// what the login has used in the end: just those let through, and nothing is reserved.
 const PLACES: &[(&[&str], &str)] = &[
     (
@@ -133,7 +133,7 @@ const PLACES: &[(&[&str], &str)] = &[
         &[REGISTRATION, PROCEED, PROCEED, SERVICE],
         "0017 8b 05616c696365 00004742 00000002 00000000 00000064",
     ),
-    // before the second settle, and behind it
+    // before the second settle, and after it
     (
         &[REGISTRATION, PROCEED, PROCEED, PROCEED],
         "0017 8b 05616c696365 00004742 00000003 00000000 00000064",

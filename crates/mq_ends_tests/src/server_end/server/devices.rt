@@ -1,4 +1,4 @@
-//! Sources and sinks that fail where a test wants it, and a ledger that tells its calls.
+//! Sources and sinks that fail where a test wants it, and a ledger that reports its calls.
 ghost use Rattle.std.specs.Prelude.{◌≡◌, ◌∷◌, ◌++◌, [], IfOk, OnOk, OnErr};
 
 use mq_frame::{Failed, Reply, Request, Sink, Source};
@@ -26,7 +26,7 @@ impl<'a> Pieces<'a> {
         }
     }
 
-    /// A source of single bytes that fails behind so many.
+    /// A source of single bytes that fails after so many.
     pub fn failing(rest: &'a [u8], reads: usize) -> Pieces<'a> {
         Pieces {
             rest,
@@ -186,7 +186,7 @@ fn keep(
     Ok(())
 }
 
-/// A ledger that keeps its calls, and tells them as long as none was lost for want of memory.
+/// A ledger that keeps its calls, and reports them as long as none was lost as memory ran out.
 #[derive(Drop)]
 pub struct Telling<L> {
     pub inner: L,

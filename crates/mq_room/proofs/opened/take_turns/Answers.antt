@@ -1,4 +1,4 @@
-use Rattle.std.proofs.Common.{◌≡◌, ◌∙◌, refl, sym, subst}
+use Rattle.std.proofs.Common.{◌∙◌, refl, sym}
 use Rattle.mq_server.specs.declared.connection.Progress.TheVariants.{Answered}
 use Rattle.mq_room.proofs.Turning.{answered_room, answered_works, both, nothing_done, turns_as}
 use Rattle.mq_room.proofs.opened.take_turns.Goals as goal

@@ -1,4 +1,4 @@
-use Rattle.std.proofs.Common.{◌∙◌, None, refl}
+use Rattle.std.proofs.Common.{None, refl}
 use Rattle.mq_room.specs.Sessions.{Outside, held}
 use Rattle.mq_room.proofs.Standing.{goes_last, rewired}
 use Rattle.mq_room.proofs.room.Room.accept.Goals as goal

@@ -1,4 +1,4 @@
-use Rattle.std.proofs.Common.{◌≡◌, ◌∙◌, Ok, Err, refl, sym, ap}
+use Rattle.std.proofs.Common.{◌∙◌, Ok, Err, refl, sym, ap}
 use Rattle.std.proofs.lemmas.Result.{err_from_is_err_and}
 use Rattle.mq_room.specs.declared.fault.RoomFault.TheVariants as faults
 use Rattle.mq_room.specs.Sessions.{Outside, held}

@@ -4,7 +4,7 @@ use Rattle.std.specs.Ordering.{nat_cmp}
 use Rattle.mq_server.specs.declared.connection.Progress.TheVariants.{Ended}
 use Rattle.mq_server.specs.declared.fault.ServeFault.TheVariants as ends
 use Rattle.mq_room.specs.declared.fault.RoomFault.TheVariants as faults
-use Rattle.mq_room.specs.Sessions.{GoesOn, Outside, held}
+use Rattle.mq_room.specs.Sessions.{Outside, held}
 use Rattle.mq_room.proofs.Maps.{held_beside, held_here, held_now, same_map}
 use Rattle.mq_room.proofs.Standing.{TurnOf, closed_turn, goes_last, goes_open, goes_so, goes_stop_last, ok_not, rewired, turn_closed}
 use Rattle.mq_room.proofs.Turning.{answered_room, answered_works, waits_room, waits_works}
