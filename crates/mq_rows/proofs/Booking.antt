@@ -1,9 +1,11 @@
 -- One row more, kept by its pair.
-use Rattle.std.proofs.Common.{◌≡◌, ℕ, ◌+◌, ◌≤◌, List, [], ◌∷◌, ◌++◌, Bool, true, false, refl, ◌∙◌, ap, sym, subst, inl, inr, arith}
-use Rattle.std.specs.Prelude.{ℤ, ◌+ℤ◌, filter, find, ◌&&◌, cond, if◌then◌else◌, Option, Some, None, option_map, unwrap_or}
+use Rattle.std.proofs.Common.{◌≡◌, ℕ, ◌+◌, List, [], ◌∷◌, ◌++◌, map, length, Bool, true, false, refl, ◌∙◌, ap, sym, inl, inr, arith}
+use Rattle.std.specs.Prelude.{ℤ, ◌+ℤ◌, filter, find, ◌&&◌, ◌||◌, cond, if◌then◌else◌, Option, Some, None, option_map, is_some, unwrap_or}
 use Rattle.std.specs.Cmp.{signed_Decides, tied_then}
 use Rattle.std.specs.Cmp.Lexicographic.{texts_ties, nat_list_eq_equiv, slice_cmp}
-use Rattle.std.specs.List.{list_all}
+use Rattle.std.specs.BTreeMap.{BTreeMap, keys}
+use Rattle.std.specs.List.{list_all, list_any}
+use Rattle.std.specs.Map.{lookup}
 use Rattle.std.specs.Option.{option_or}
 use Rattle.std.specs.Ordering.{is_eq, int_eq, nat_cmp, int_cmp}
 use Rattle.std.proofs.lemmas.Int.{ints}
@@ -11,11 +13,13 @@ use Rattle.std.proofs.lemmas.List.Folds.{find-append}
 use Rattle.mq_frame.specs.Same.{same_text}
 use Rattle.mq_rows.specs.declared.audited.Pair.{Pair}
 use Rattle.mq_rows.specs.declared.audited.TransactionFigures.{TransactionFigures}
+use Rattle.mq_rows.specs.declared.books.Day.{Day}
 use Rattle.mq_rows.specs.declared.books.Sums.{Sums}
 use Rattle.mq_rows.specs.Audit.{total, transactions_of, is_moment_of}
-use Rattle.mq_rows.specs.Books.{sums_or, sums_of, with_row, IsSumOf, AreSumsOf}
+use Rattle.mq_rows.specs.Books.{day_or, sums_of, with_row, HasPairs}
 use Rattle.mq_rows.specs.Pair.{pair_cmp, same_pair}
 use Rattle.mq_rows.proofs.Lists.{either, text_is, text_itself}
+use Rattle.mq_rows.proofs.Rightness.{In}
 
 -- Pairs.
 
@@ -93,35 +97,131 @@ sums_more day rows x =
     let d = all_more (λ (t : TransactionFigures). is_moment_of day t.pair.day t.moment) rows x in
     λ i. record { settled = s i; held = h i; are_dated = d i }
 
-pub one_more_sum : (day : ℕ → ℕ) (rows : List TransactionFigures) (x : TransactionFigures) (old new : Pair → Option Sums)
-    → ((p : Pair) → sums_or (old p) ≡ sums_of day (transactions_of p rows))
-    → ((p : Pair) → new p ≡ cond (is_eq (pair_cmp x.pair p)) (Some (with_row day x (sums_or (old x.pair)))) (old p))
-    → (p : Pair) → sums_or (new p) ≡ sums_of day (transactions_of p (rows ++ x ∷ []))
+pub one_more_sum : (day : ℕ → ℕ) (rows : List TransactionFigures) (x : TransactionFigures) (old new : Pair → Sums)
+    → ((p : Pair) → old p ≡ sums_of day (transactions_of p rows))
+    → ((p : Pair) → new p ≡ cond (is_eq (pair_cmp x.pair p)) (with_row day x (old x.pair)) (old p))
+    → (p : Pair) → new p ≡ sums_of day (transactions_of p (rows ++ x ∷ []))
 one_more_sum day rows x old new has updates p =
     let longer : transactions_of p (rows ++ x ∷ []) ≡ transactions_of p rows ++ (if same_pair p x.pair then x ∷ [] else []) = filter_more (λ t. same_pair p t.pair) rows x in
     elim (either (same_pair p x.pair)) [
       | inl t ↦ (let t' : is_eq (pair_cmp x.pair p) ≡ true = pair_tied p x.pair ∙ t in
-          let here : new p ≡ Some (with_row day x (sums_or (old x.pair))) = updates p ∙ (rw t' refl) in
-          let was : sums_or (old x.pair) ≡ sums_of day (transactions_of p rows) = ap (λ q. sums_or (old q)) (sym (pair_is p x.pair t)) ∙ has p in
+          let here : new p ≡ with_row day x (old x.pair) = updates p ∙ (rw t' refl) in
+          let was : old x.pair ≡ sums_of day (transactions_of p rows) = ap old (sym (pair_is p x.pair t)) ∙ has p in
           let longer' : transactions_of p (rows ++ x ∷ []) ≡ transactions_of p rows ++ x ∷ [] = rw t at longer in
-          ap sums_or here ∙ ap (with_row day x) was ∙ sym (sums_more day (transactions_of p rows) x) ∙ ap (sums_of day) (sym longer'))
+          here ∙ ap (with_row day x) was ∙ sym (sums_more day (transactions_of p rows) x) ∙ ap (sums_of day) (sym longer'))
       | inr f ↦ (let f' : is_eq (pair_cmp x.pair p) ≡ false = pair_tied p x.pair ∙ f in
           let here : new p ≡ old p = updates p ∙ (rw f' refl) in
           let longer' : transactions_of p (rows ++ x ∷ []) ≡ transactions_of p rows ++ [] = rw f at longer in
-          ap sums_or here ∙ has p ∙ ap (sums_of day) (sym (longer' ∙ nothing_more (transactions_of p rows))))
+          here ∙ has p ∙ ap (sums_of day) (sym (longer' ∙ nothing_more (transactions_of p rows))))
     ]
 
--- How far from nothing.
+-- What one more day of a pair leaves of the days that are kept.
+module _ (q : Pair) (d : Day) (old new : Pair → Option Day) (updates : (p : Pair) → new p ≡ cond (is_eq (pair_cmp q p)) (Some d) (old p)) where
+  -- a part of the day of each pair
+  pub part_put : {V : Type 0} (part : Day → V) (v : V) → part d ≡ v → (p : Pair) → part (day_or (new p)) ≡ cond (is_eq (pair_cmp q p)) v (part (day_or (old p)))
+  part_put part v is p = elim (either (is_eq (pair_cmp q p))) [
+    | inl t ↦ (let here : new p ≡ Some d = updates p ∙ (rw t refl) in ap (λ o. part (day_or o)) here ∙ is ∙ (rw t refl))
+    | inr f ↦ (let here : new p ≡ old p = updates p ∙ (rw f refl) in ap (λ o. part (day_or o)) here ∙ (rw f refl))
+  ]
 
-wider : (n m : ℕ) (z : ℤ) → n ≤ m → IsSumOf n z → IsSumOf m z
-wider n m z le is = record { from = omega (arith, ints, is.from, le); to = omega (arith, ints, is.to, le) }
+  -- a part that this one has as before
+  pub part_kept : {V : Type 0} (part : Day → V) → part d ≡ part (day_or (old q)) → (p : Pair) → part (day_or (new p)) ≡ part (day_or (old p))
+  part_kept part is p = elim (either (is_eq (pair_cmp q p))) [
+    | inl t ↦ (let here : new p ≡ Some d = updates p ∙ (rw t refl) in
+        let same : p ≡ q = pair_is p q (sym (pair_tied p q) ∙ t) in
+        ap (λ o. part (day_or o)) here ∙ is ∙ ap (λ r. part (day_or (old r))) (sym same))
+    | inr f ↦ (let here : new p ≡ old p = updates p ∙ (rw f refl) in ap (λ o. part (day_or o)) here)
+  ]
 
-pub all_wider : (n m : ℕ) (s : Sums) → n ≤ m → AreSumsOf n s → AreSumsOf m s
-all_wider n m s le are = record { settled = wider n m s.settled le are.settled; held = wider n m s.held le are.held }
+  -- the pairs under which something is kept
+  pub pairs_put : (ps qs : List Pair) → ((p : Pair) → list_any (same_pair p) qs ≡ (list_any (same_pair p) ps || same_pair p q)) → ((p : Pair) → is_some (old p) ≡ list_any (same_pair p) ps)
+      → (p : Pair) → is_some (new p) ≡ list_any (same_pair p) qs
+  pairs_put ps qs longer had p = elim (either (is_eq (pair_cmp q p))) [
+    | inl t ↦ (let here : new p ≡ Some d = updates p ∙ (rw t refl) in
+        let same : same_pair p q ≡ true = sym (pair_tied p q) ∙ t in
+        ap is_some here ∙ sym (longer p ∙ ap (λ b. list_any (same_pair p) ps || b) same ∙ or_true (list_any (same_pair p) ps)))
+    | inr f ↦ (let here : new p ≡ old p = updates p ∙ (rw f refl) in
+        let other : same_pair p q ≡ false = sym (pair_tied p q) ∙ f in
+        ap is_some here ∙ had p ∙ sym (longer p ∙ ap (λ b. list_any (same_pair p) ps || b) other ∙ or_false (list_any (same_pair p) ps)))
+  ]
+    where
+      or_true : (b : Bool) → (b || true) ≡ true
+      or_true true = refl
+      or_true false = refl
 
-pub room_kept : (n : ℕ) (q : Pair) (s : Sums) (old new : Pair → Option Sums) → ((p : Pair) → AreSumsOf n (sums_or (old p))) → AreSumsOf (n + 1) s
-    → ((p : Pair) → new p ≡ cond (is_eq (pair_cmp q p)) (Some s) (old p)) → (p : Pair) → AreSumsOf (n + 1) (sums_or (new p))
-room_kept n q s old new had own updates p = elim (either (is_eq (pair_cmp q p))) [
-  | inl t ↦ (let here : new p ≡ Some s = updates p ∙ (rw t refl) in subst (λ o. AreSumsOf (n + 1) (sums_or o)) (sym here) own)
-  | inr f ↦ (let here : new p ≡ old p = updates p ∙ (rw f refl) in subst (λ o. AreSumsOf (n + 1) (sums_or o)) (sym here) (all_wider n (n + 1) _ (omega arith) (had p)))
+      or_false : (b : Bool) → (b || false) ≡ b
+      or_false true = refl
+      or_false false = refl
+
+any_joined : {X : Type 0} (p : X → Bool) (xs ys : List X) → list_any p (xs ++ ys) ≡ (list_any p xs || list_any p ys)
+any_joined p [] ys = refl
+any_joined p (x ∷ xs) ys = elim (either (p x)) [ inl t ↦ rw t refl | inr f ↦ rw f (any_joined p xs ys) ]
+
+any_one : {X : Type 0} (p : X → Bool) (x : X) → list_any p (x ∷ []) ≡ p x
+any_one p x = elim (either (p x)) [ inl t ↦ rw t refl | inr f ↦ rw f refl ]
+
+pub mapped_more : {X Y : Type 0} (f : X → Y) (xs : List X) (x : X) → map f (xs ++ x ∷ []) ≡ map f xs ++ f x ∷ []
+mapped_more f [] x = refl
+mapped_more f (y ∷ xs) x = ap (λ ys. f y ∷ ys) (mapped_more f xs x)
+
+swapped : (a b c : Bool) → ((a || b) || c) ≡ ((a || c) || b)
+swapped true b c = refl
+swapped false true true = refl
+swapped false true false = refl
+swapped false false true = refl
+swapped false false false = refl
+
+joined : (a b c : Bool) → (a || (b || c)) ≡ ((a || b) || c)
+joined true b c = refl
+joined false b c = refl
+
+-- one more pair in the middle, and one more at the end
+pub any_middle : {X : Type 0} (p : X → Bool) (xs ys : List X) (x : X) → list_any p ((xs ++ x ∷ []) ++ ys) ≡ (list_any p (xs ++ ys) || p x)
+any_middle p xs ys x =
+    any_joined p (xs ++ x ∷ []) ys ∙ ap (λ b. b || list_any p ys) (any_joined p xs (x ∷ []) ∙ ap (λ b. list_any p xs || b) (any_one p x))
+    ∙ swapped (list_any p xs) (p x) (list_any p ys) ∙ ap (λ b. b || p x) (sym (any_joined p xs ys))
+
+pub any_end : {X : Type 0} (p : X → Bool) (xs ys : List X) (x : X) → list_any p (xs ++ (ys ++ x ∷ [])) ≡ (list_any p (xs ++ ys) || p x)
+any_end p xs ys x =
+    any_joined p xs (ys ++ x ∷ []) ∙ ap (λ b. list_any p xs || b) (any_joined p ys (x ∷ []) ∙ ap (λ b. list_any p ys || b) (any_one p x))
+    ∙ joined (list_any p xs) (list_any p ys) (p x) ∙ ap (λ b. b || p x) (sym (any_joined p xs ys))
+
+pub length_more : {X : Type 0} (xs : List X) (x : X) → length (xs ++ x ∷ []) ≡ length xs + 1
+length_more [] x = refl
+length_more (y ∷ xs) x = (let more = length_more xs x in omega (arith, more))
+
+-- The pairs under which something is kept are those of the rows.
+
+among_so : (p : Pair) (ps : List Pair) → list_any (same_pair p) ps ≡ true → In p ps
+among_so p [] h = absurd (cc h)
+among_so p (q ∷ ps) h = elim (either (same_pair p q)) [
+  | inl t ↦ inl (sym (pair_is p q t))
+  | inr f ↦ inr (among_so p ps (rw f at h))
 ]
+
+so_among : (p : Pair) (ps : List Pair) → In p ps → list_any (same_pair p) ps ≡ true
+so_among p [] i = absurd i
+so_among p (q ∷ ps) (inl e) = (let t : same_pair p q ≡ true = ap (same_pair p) e ∙ pair_itself p in rw t refl)
+so_among p (q ∷ ps) (inr i) = elim (either (same_pair p q)) [ inl t ↦ rw t refl | inr f ↦ rw f (so_among p ps i) ]
+
+abbrev at : Pair → List (Pair × Day) → Option Day
+at p es = lookup (λ q. is_eq (pair_cmp p q)) es
+
+kept_so : (p : Pair) (es : List (Pair × Day)) → is_some (at p es) ≡ true → In p (map (λ (e : Pair × Day). e.0) es)
+kept_so p [] h = absurd (cc h)
+kept_so p (e ∷ es) h = elim (either (is_eq (pair_cmp p e.0))) [
+  | inl t ↦ inl (pair_is e.0 p (sym (pair_tied e.0 p) ∙ t))
+  | inr f ↦ inr (kept_so p es (rw f at h))
+]
+
+so_kept : (p : Pair) (es : List (Pair × Day)) → In p (map (λ (e : Pair × Day). e.0) es) → is_some (at p es) ≡ true
+so_kept p [] i = absurd i
+so_kept p (e ∷ es) (inl same) = (let t : is_eq (pair_cmp p e.0) ≡ true = pair_tied e.0 p ∙ ap (same_pair e.0) (sym same) ∙ pair_itself e.0 in rw t refl)
+so_kept p (e ∷ es) (inr i) = elim (either (is_eq (pair_cmp p e.0))) [ inl t ↦ rw t refl | inr f ↦ rw f (so_kept p es i) ]
+
+module _ (ps : List Pair) (m : BTreeMap Pair Day) (has : HasPairs ps m) where
+  pub keys_in_rows : (p : Pair) → In p (keys m) → In p ps
+  keys_in_rows p i = among_so p ps (sym (has p) ∙ so_kept p m.entries i)
+
+  pub rows_in_keys : (p : Pair) → In p ps → In p (keys m)
+  rows_in_keys p i = kept_so p m.entries (has p ∙ so_among p ps i)

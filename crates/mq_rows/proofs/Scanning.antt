@@ -1,5 +1,5 @@
 -- The least of the pairs that aren't right.
-use Rattle.std.proofs.Common.{◌≡◌, List, [], ◌∷◌, ◌++◌, Bool, true, false, refl, ◌∙◌, ap, sym, subst, inl, inr}
+use Rattle.std.proofs.Common.{◌≡◌, List, [], ◌∷◌, Bool, true, false, refl, ◌∙◌, ap, sym, subst, inl, inr}
 use Rattle.std.specs.Prelude.{◌⊎◌, Option, Some, None, Contains}
 use Rattle.std.specs.Cmp.{tied_itself, upto}
 use Rattle.std.specs.declared.cmp.Ordering.{Ordering}
@@ -10,7 +10,7 @@ use Rattle.mq_rows.specs.declared.audited.Pair.{Pair}
 use Rattle.mq_rows.specs.Books.{less_wrong, least_wrong}
 use Rattle.mq_rows.specs.Pair.{pair_cmp, pair_cmp_total, is_before}
 use Rattle.mq_rows.proofs.Lists.{either}
-use Rattle.mq_rows.proofs.Rightness.{In, in_contains}
+use Rattle.mq_rows.proofs.Rightness.{In, all_of, all_at, in_contains}
 
 -- The order of pairs.
 
@@ -117,24 +117,17 @@ module _ (right : Pair → Bool) where
     ]
   ]
 
-  fold_joined : (before : Option Pair) (ps qs : List Pair) → least_wrong right (least_wrong right before ps) qs ≡ least_wrong right before (ps ++ qs)
-  fold_joined before [] qs = refl
-  fold_joined before (p ∷ ps) qs = fold_joined (less_wrong right before p) ps qs
+  -- where others are among those that were scanned, and those among them
+  module _ (ps qs : List Pair) (into : (p : Pair) → In p ps → In p qs) (back : (p : Pair) → In p qs → In p ps) where
+    pub all_right : None ≡ least_wrong right None ps → AllByRecursion (λ p. right p ≡ true) qs
+    all_right is =
+        let all = (subst (IsScanned None ps) (sym is) (scanned None ps)).1 in
+        all_of (λ p. right p ≡ true) qs (λ p i. all_at (λ p. right p ≡ true) ps p all (back p i))
 
-  pub all_right : (ps qs : List Pair) (first : Option Pair) → first ≡ least_wrong right None ps → None ≡ least_wrong right first qs → AllByRecursion (λ p. right p ≡ true) (ps ++ qs)
-  all_right ps qs first one two =
-      let whole : None ≡ least_wrong right None (ps ++ qs) = two ∙ ap (λ o. least_wrong right o qs) one ∙ fold_joined None ps qs in
-      (subst (IsScanned None (ps ++ qs)) (sym whole) (scanned None (ps ++ qs))).1
-
-  pub least_of : (ps qs : List Pair) (first : Option Pair) (p : Pair) → first ≡ least_wrong right None ps → Some p ≡ least_wrong right first qs
-      → Contains (ps ++ qs) p × (right p ≡ false) × IsLeast p (ps ++ qs)
-  least_of ps qs first p one two =
-      let whole : Some p ≡ least_wrong right None (ps ++ qs) = two ∙ ap (λ o. least_wrong right o qs) one ∙ fold_joined None ps qs in
-      let it = (subst (IsScanned None (ps ++ qs)) (sym whole) (scanned None (ps ++ qs))).0 in
-      elim it.among [
-        | inl e ↦ absurd (cc e)
-        | inr i ↦ (in_contains (ps ++ qs) p i.0, i.1, it.least)
-      ]
-
-  pub one_more : (least : Option Pair) (ps : List Pair) (p : Pair) → least_wrong right least (ps ++ p ∷ []) ≡ less_wrong right (least_wrong right least ps) p
-  one_more least ps p = sym (fold_joined least ps (p ∷ []))
+    pub least_of : (p : Pair) → Some p ≡ least_wrong right None ps → Contains qs p × (right p ≡ false) × IsLeast p qs
+    least_of p is =
+        let it = (subst (IsScanned None ps) (sym is) (scanned None ps)).0 in
+        elim it.among [
+          | inl e ↦ absurd (cc e)
+          | inr i ↦ (in_contains qs p (into p i.0), i.1, all_of (λ q. right q ≡ false → is_before q p ≡ false) qs (λ q j. all_at (λ q. right q ≡ false → is_before q p ≡ false) ps q it.least (back q j)))
+        ]

@@ -1,24 +1,29 @@
-//! What an audit of the tables answers.
-ghost use Rattle.std.specs.Prelude.{◌≡◌, ℕ, map, None, IfOk};
-ghost use Rattle.std.specs.Ordering.{int_eq};
+//! The audit of the tables, over rows that are given one by one.
+ghost use Rattle.std.specs.Prelude.{◌≡◌, ℕ, map, None, IfOk, OnOk, OnErr};
+ghost use Rattle.std.specs.BTreeMap.{get, keys};
 ghost use Rattle.mq_ledger.specs.Day.{day_of};
+ghost use Rattle.mq_ledger.specs.declared.zone.Zone.{Zone as AnyZone};
 ghost use Rattle.mq_rows.specs.Audit.{Figures, is_right, IsAudited};
-ghost use Rattle.mq_rows.specs.Books.{AreBooksOf, less_wrong, least_wrong};
+ghost use Rattle.mq_rows.specs.Books.{AreBooksOf, day_or, less_wrong, least_wrong, no_rows, with_limit, with_transaction, with_usage};
 ghost use Rattle.mq_rows.specs.Inside.{are_right};
+ghost use Rattle.mq_rows.specs.Pair.{pair_cmp};
 
 use crate::audited::{Audit, LimitFigures, Pair, TransactionFigures, UsageFigures};
-use crate::books::{Amounts, Sums, cap_of, caps_by_pair, sums_by_pair, usage_by_pair};
+use crate::books::{Amounts, Day, Sums, cap_of};
 use mq_ledger::Zone;
 use std::alloc::{AllocError, Global};
 use std::collections::BTreeMap;
 
-/// What is kept of the tables by pair of a login and day.
+/// What an audit keeps of the rows of `usage`, `trans` and `ceiling`, which it is given one by one, each table's in any
+/// order: a few numbers by pair of a login and day, and no row.
 #[derive(Drop)]
-struct Books {
-    usage: BTreeMap<Pair, Amounts>,
-    sums: BTreeMap<Pair, Sums>,
-    caps: BTreeMap<Pair, i64>,
+pub struct Books {
+    zone: Zone,
     default: u32,
+    days: BTreeMap<Pair, Day>,
+    caps: BTreeMap<Pair, i64>,
+    usage_rows: u64,
+    transaction_rows: u64,
 }
 
 /// Whether what is settled and reserved is what the transactions settled and hold and is within the
@@ -41,21 +46,101 @@ fn are_right(usage: Amounts, sums: Sums, cap: i64) -> bool
 }
 
 impl Books {
-    fn is_right(&self, pair: &Pair) -> bool
-        ensures { (day : ℕ → ℕ) (f : Figures) → AreBooksOf day f self.now
-            → result ≡ is_right day self.now.default f pair.now }
+    /// Those of no row. The default is the limit of a login that has none for a day: recipients.
+    pub fn new(alloc: Global, zone: Zone, default: u32) -> Books
+        ensures { AreBooksOf zone default no_rows result }
     {
-        let usage = self.usage.get(pair).copied().unwrap_or(Amounts::NOTHING);
-        let sums = self.sums.get(pair).copied().unwrap_or(Sums::NOTHING);
-        are_right(usage, sums, cap_of(&self.caps, self.default, pair))
+        Books {
+            zone,
+            default,
+            days: BTreeMap::new(alloc),
+            caps: BTreeMap::new(alloc),
+            usage_rows: 0,
+            transaction_rows: 0,
+        }
+    }
+
+    /// What is kept of the pair.
+    fn day(&self, pair: &Pair) -> Day
+        ensures { result ≡ day_or (get pair_cmp self.now.days pair.now) }
+    {
+        self.days.get(pair).copied().unwrap_or(Day::NOTHING)
+    }
+
+    /// One row of `usage` more.
+    pub fn add_usage(&mut self, row: UsageFigures) -> Result<(), AllocError>
+        ensures ok { OnOk result ((zone : AnyZone) (default : ℕ) (f : Figures) → AreBooksOf zone default f self.old
+            → AreBooksOf zone default (with_usage f row) self.new) }
+        ensures err { OnErr result ((zone : AnyZone) (default : ℕ) (f : Figures) → AreBooksOf zone default f self.old
+            → AreBooksOf zone default f self.new) }
+    {
+        let rows = self.usage_rows.checked_add(1).ok_or(AllocError)?;
+        let amounts = Amounts {
+            settled: row.settled,
+            reserved: row.reserved,
+        };
+        let before = self.day(&row.pair);
+        let after = Day {
+            usage: Some(before.usage.unwrap_or(amounts)),
+            sums: before.sums,
+        };
+        self.days.insert(row.pair, after)?;
+        self.usage_rows = rows;
+        Ok(())
+    }
+
+    /// One row of `trans` more.
+    pub fn add_transaction(&mut self, row: TransactionFigures) -> Result<(), AllocError>
+        ensures ok { OnOk result ((zone : AnyZone) (default : ℕ) (f : Figures) → AreBooksOf zone default f self.old
+            → AreBooksOf zone default (with_transaction f row) self.new) }
+        ensures err { OnErr result ((zone : AnyZone) (default : ℕ) (f : Figures) → AreBooksOf zone default f self.old
+            → AreBooksOf zone default f self.new) }
+    {
+        let rows = self.transaction_rows.checked_add(1).ok_or(AllocError)?;
+        let before = self.day(&row.pair);
+        let sums = before.sums.with(self.zone, &row).ok_or(AllocError)?;
+        let after = Day {
+            usage: before.usage,
+            sums,
+        };
+        self.days.insert(row.pair, after)?;
+        self.transaction_rows = rows;
+        Ok(())
+    }
+
+    /// One row of `ceiling` more.
+    pub fn add_limit(&mut self, row: LimitFigures) -> Result<(), AllocError>
+        ensures ok { OnOk result ((zone : AnyZone) (default : ℕ) (f : Figures) → AreBooksOf zone default f self.old
+            → AreBooksOf zone default (with_limit f row) self.new) }
+        ensures err { OnErr result ((zone : AnyZone) (default : ℕ) (f : Figures) → AreBooksOf zone default f self.old
+            → AreBooksOf zone default f self.new) }
+    {
+        let first = self.caps.get(&row.pair).copied().unwrap_or(row.cap);
+        self.caps.insert(row.pair, first)?;
+        Ok(())
+    }
+
+    fn is_right(&self, pair: &Pair, day: Day) -> bool
+        ensures { (zone : AnyZone) (default : ℕ) (f : Figures) → AreBooksOf zone default f self.now
+            → day ≡ day_or (get pair_cmp self.now.days pair.now)
+            → result ≡ is_right (day_of zone) default f pair.now }
+    {
+        let usage = day.usage.unwrap_or(Amounts::NOTHING);
+        are_right(usage, day.sums, cap_of(&self.caps, self.default, pair))
     }
 
     /// Of the pairs that aren't right so far the least, with one pair more.
-    fn or_wrong(&self, least: Option<Pair>, pair: &Pair) -> Result<Option<Pair>, AllocError>
-        ensures { IfOk result (λ next. (day : ℕ → ℕ) (f : Figures) → AreBooksOf day f self.now
-            → next ≡ less_wrong (is_right day self.now.default f) least pair.now) }
+    fn or_wrong(
+        &self,
+        least: Option<Pair>,
+        pair: &Pair,
+        day: Day,
+    ) -> Result<Option<Pair>, AllocError>
+        ensures { IfOk result (λ next. (zone : AnyZone) (default : ℕ) (f : Figures) → AreBooksOf zone default f self.now
+            → day ≡ day_or (get pair_cmp self.now.days pair.now)
+            → next ≡ less_wrong (is_right (day_of zone) default f) least pair.now) }
     {
-        if self.is_right(pair) {
+        if self.is_right(pair, day) {
             return Ok(least);
         }
         match least {
@@ -64,67 +149,29 @@ impl Books {
         }
     }
 
-    /// Of the pairs of usage that aren't right the least.
-    fn wrong_usage(&self, rows: &[UsageFigures]) -> Result<Option<Pair>, AllocError>
-        ensures { IfOk result (λ least. (day : ℕ → ℕ) (f : Figures) → AreBooksOf day f self.now
-            → least ≡ least_wrong (is_right day self.now.default f) None (map (λ u. u.pair) rows.now)) }
+    /// Of the pairs that aren't right the least.
+    fn least_wrong(&self) -> Result<Option<Pair>, AllocError>
+        ensures { IfOk result (λ least. (zone : AnyZone) (default : ℕ) (f : Figures) → AreBooksOf zone default f self.now
+            → least ≡ least_wrong (is_right (day_of zone) default f) None (keys self.now.days)) }
     {
         let mut least = None;
-        for row in rows {
-            least = self.or_wrong(least, &row.pair)?;
+        for (pair, day) in self.days.iter() {
+            least = self.or_wrong(least, pair, *day)?;
         }
         Ok(least)
     }
 
-    /// Of the pairs of transactions that aren't right, and of what was found before, the least.
-    fn wrong_transaction(
-        &self,
-        rows: &[TransactionFigures],
-        before: Option<Pair>,
-    ) -> Result<Option<Pair>, AllocError>
-        ensures { IfOk result (λ least. (day : ℕ → ℕ) (f : Figures) → AreBooksOf day f self.now
-            → least ≡ least_wrong (is_right day self.now.default f) before (map (λ t. t.pair) rows.now)) }
+    /// Whether each pair of a login and day is right, by all rows that were given; else the least that isn't.
+    pub fn audit(&self) -> Result<Audit, AllocError>
+        ensures { IfOk result (λ audit. (zone : AnyZone) (default : ℕ) (f : Figures) → AreBooksOf zone default f self.now
+            → IsAudited (day_of zone) default f audit) }
     {
-        let mut least = before;
-        for row in rows {
-            least = self.or_wrong(least, &row.pair)?;
+        match self.least_wrong()? {
+            Some(Pair { login, day }) => Ok(Audit::Wrong { login, day }),
+            None => Ok(Audit::Sound {
+                days: self.usage_rows,
+                transactions: self.transaction_rows,
+            }),
         }
-        Ok(least)
-    }
-}
-
-/// Whether each pair of a login and day is right, by all rows of `usage`, `trans` and `ceiling`,
-/// each table's in any order; else the least that isn't. The default is the limit of a login that
-/// has none for a day: recipients.
-///
-/// It goes through the rows a few times, each time with look-ups by pair, and keeps a few numbers for
-/// each pair.
-pub fn audit(
-    alloc: Global,
-    zone: Zone,
-    default: u32,
-    usage: &[UsageFigures],
-    transactions: &[TransactionFigures],
-    limits: &[LimitFigures],
-) -> Result<Audit, AllocError>
-    ensures { IfOk result (IsAudited (day_of zone) default (record {
-      usage = usage.now;
-      transactions = transactions.now;
-      limits = limits.now;
-    })) }
-{
-    let books = Books {
-        usage: usage_by_pair(alloc, usage)?,
-        sums: sums_by_pair(alloc, zone, transactions)?,
-        caps: caps_by_pair(alloc, limits)?,
-        default,
-    };
-    let wrong = books.wrong_usage(usage)?;
-    match books.wrong_transaction(transactions, wrong)? {
-        Some(Pair { login, day }) => Ok(Audit::Wrong { login, day }),
-        None => Ok(Audit::Sound {
-            days: usage.len() as u64,
-            transactions: transactions.len() as u64,
-        }),
     }
 }

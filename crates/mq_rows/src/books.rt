@@ -1,14 +1,13 @@
 //! What an audit keeps by pair of a login and day.
-ghost use Rattle.std.specs.Prelude.{◌≡◌, ℕ, ◌+◌, List, IfOk};
+ghost use Rattle.std.specs.Prelude.{◌≡◌, List, IfSome};
 ghost use Rattle.mq_ledger.specs.Day.{day_of};
 ghost use Rattle.mq_rows.specs.Audit.{is_moment_of, cap_or, governing};
 ghost use Rattle.mq_rows.specs.declared.audited.LimitFigures.{LimitFigures as AnyLimit};
-ghost use Rattle.mq_rows.specs.Books.{with_row, sums_or, AreSumsOf, HasSums, HasUsage, HasCaps, amounts_of};
+ghost use Rattle.mq_rows.specs.Books.{with_row, HasCaps};
 
-use crate::audited::{LimitFigures, Pair, TransactionFigures, UsageFigures};
+use crate::audited::{Pair, TransactionFigures};
 use mq_frame::is_moment;
 use mq_ledger::Zone;
-use std::alloc::{AllocError, Global};
 use std::collections::BTreeMap;
 
 /// What transactions have together.
@@ -51,69 +50,31 @@ impl Sums {
         are_dated: true,
     };
 
-    /// The sums with one more transaction.
-    fn with(self, zone: Zone, row: &TransactionFigures) -> Sums
-        requires { AreSumsOf 18446744073709551614 self }
-        ensures sums { result ≡ with_row (day_of zone) row.now self }
-        ensures bound { (n : ℕ) → AreSumsOf n self → AreSumsOf (n + 1) result }
+    /// The sums with one more transaction; none where they don't fit, which takes 2^64 transactions.
+    pub(crate) fn with(self, zone: Zone, row: &TransactionFigures) -> Option<Sums>
+        ensures { IfSome result (λ sums. sums ≡ with_row (day_of zone) row.now self) }
     {
-        Sums {
-            settled: self.settled + i128::from(row.settled),
-            held: self.held + i128::from(row.held),
+        Some(Sums {
+            settled: self.settled.checked_add(i128::from(row.settled))?,
+            held: self.held.checked_add(i128::from(row.held))?,
             are_dated: self.are_dated && is_moment_of(zone, row.pair.day, row.moment),
-        }
+        })
     }
 }
 
-/// The sums of the transactions of each pair.
-pub(crate) fn sums_by_pair(
-    alloc: Global,
-    zone: Zone,
-    rows: &[TransactionFigures],
-) -> Result<BTreeMap<Pair, Sums>, AllocError>
-    ensures { IfOk result (HasSums (day_of zone) rows.now) }
-{
-    let mut sums = BTreeMap::new(alloc);
-    for row in rows {
-        let before = sums.get(&row.pair).copied().unwrap_or(Sums::NOTHING);
-        let after = before.with(zone, row);
-        sums.insert(row.pair.clone()?, after)?;
-    }
-    Ok(sums)
+/// What is kept of a pair.
+#[derive(Clone, Copy, Drop)]
+pub(crate) struct Day {
+    /// What its row of `usage` has; the first, where there are several.
+    pub(crate) usage: Option<Amounts>,
+    pub(crate) sums: Sums,
 }
 
-/// What the row of `usage` of each pair has; the first, where a pair has several.
-pub(crate) fn usage_by_pair(
-    alloc: Global,
-    rows: &[UsageFigures],
-) -> Result<BTreeMap<Pair, Amounts>, AllocError>
-    ensures { IfOk result (HasUsage rows.now) }
-{
-    let mut usage = BTreeMap::new(alloc);
-    for row in rows {
-        let amounts = Amounts {
-            settled: row.settled,
-            reserved: row.reserved,
-        };
-        let first = usage.get(&row.pair).copied().unwrap_or(amounts);
-        usage.insert(row.pair.clone()?, first)?;
-    }
-    Ok(usage)
-}
-
-/// The cap of each login and day from which a limit holds; the first, where there are several.
-pub(crate) fn caps_by_pair(
-    alloc: Global,
-    rows: &[LimitFigures],
-) -> Result<BTreeMap<Pair, i64>, AllocError>
-    ensures { IfOk result (HasCaps rows.now) }
-{
-    let mut caps = BTreeMap::new(alloc);
-    for row in rows {
-        let first = caps.get(&row.pair).copied().unwrap_or(row.cap);
-        caps.insert(row.pair.clone()?, first)?;
-    }
-    Ok(caps)
+impl Day {
+    pub(crate) const NOTHING: Day = Day {
+        usage: None,
+        sums: Sums::NOTHING,
+    };
 }
 
 /// The limit of a pair: that of the login's latest day up to the pair's, or the default.

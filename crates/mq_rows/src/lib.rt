@@ -27,7 +27,7 @@ mod usage;
 mod write;
 
 pub use audited::{Audit, LimitFigures, Pair, TransactionFigures, UsageFigures};
-pub use auditing::audit;
+pub use auditing::Books;
 pub use body::Body;
 pub use plan::{Found, Plan, Runs, Write};
 pub use record::{

@@ -23,7 +23,7 @@ abbrev whole_of : TransactionRecord → WholeTransaction
 whole_of t = record { host = t.host; run = pos t.run; txn = pos t.txn; figures = transaction_figures t; closed = pos (bit t.closed) }
 
 -- the typed rows of the tables, as figures
-has_figures : (db : Database) (t : Tables) → HasLedger db t → HasFigures db (figures t)
+pub has_figures : (db : Database) (t : Tables) → HasLedger db t → HasFigures db (figures t)
 has_figures db t l = record {
   tables = record { trans_tree = l.at.trans; usage_tree = l.at.usage; ceiling_tree = l.at.ceiling; trans = l.tables.trans; usage = l.tables.usage; ceiling = l.tables.ceiling };
   whole = map whole_of t.transactions;

@@ -1,4 +1,4 @@
--- One closing, and one more behind those before.
+-- One closing, and one more after those before.
 use Rattle.std.proofs.Common.{◌≡◌, ℕ, Bool, List, [], ◌∷◌, sym, subst}
 use Rattle.std.specs.Prelude.{Option, Some, Result, Ok, Err, OnOk}
 use Rattle.sqlite.specs.declared.error.Error.{Error}

@@ -31,7 +31,7 @@ module _ (one : (a b : Database) → IsDatabase a → IsDatabase b → a.trees �
   applied (Read a) db is all = (a, applied_by one zone default r a old.now mid.now db is.0 (sym all))
   applied (Written a) db is all = (a, applied_by one zone default r a old.now mid.now db is.0 (sym all))
 
-  -- behind the commit the store has what was written, and so has what a crash leaves
+  -- after the commit the store has what was written, and so has what a crash leaves
   pub leaves_all : (a : Reply) (db : Trees) → IsTaken zone default r old.now mid.now (Written a) → new.now ≡ mid.now → db ≡ new.now.trees → (db ≡ new.now.trees) × AreAppliedBy zone default r a old.now db
   leaves_all a db is same all = (all, applied_by one zone default r a old.now mid.now db is.0 (sym (all ∙ ap (λ (d : Database). d.trees) same)))
 

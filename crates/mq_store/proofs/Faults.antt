@@ -62,7 +62,7 @@ pub of_floors : (zone : Zone) (default : ℕ) (s : SettingRow) (rule : Option (L
 of_floors zone default s rule (Ok rows) f are is = absurd (let none : fault_by_floors (Ok rows) ≡ None = rw are refl in let both : ◌≡◌ {A = Option OpenFault} None (Some f) = sym none ∙ is in cc)
 of_floors zone default s rule (Err e) f stopped is = subst (IsFaultOf zone default s rule) is (of_store zone default s rule e stopped)
 
--- what was judged behind the floors
+-- what was judged after the floors
 module _ {S : Type 0} (g : Ghosts S) (zone : Zone) (default : ℕ) (s : Setting) where
   pub judged_some : (old new : Held S) (floors : Result (Vec Row Global) Error) (f : OpenFault) → AreFloorsRead (state g old) (state g new) floors → fault_by_floors floors ≡ Some f → IsJudgedCurrent g zone default s old new (Some f)
   judged_some old new floors f read is = record { floors = floors; between = new; are_read = read; judged = rw is (refl, refl) }
@@ -119,7 +119,7 @@ of_later zone default schema s rule version known taken = inl (rw (known, taken)
 pub of_unknown : (zone : Zone) (default : ℕ) (schema : Schema) (s : SettingRow) (rule : Option (List ℕ)) → known_version s.version ≡ None → IsOf zone default schema s rule (Err NotOurs)
 of_unknown zone default schema s rule unknown = inl (rw unknown refl)
 
--- one reading behind another
+-- one reading after another
 pub spares_both : (a b c : State) → Spares a b → Spares b c → Spares a c
 spares_both a b c p q = record {
   was_open = λ o. p.was_open (q.was_open o);

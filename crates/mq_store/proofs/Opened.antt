@@ -145,7 +145,7 @@ module _ (b : Book) (db : Database) (has : HasStored b db) where
   found_as zone default version (inr (inl e)) = absurd cc
   found_as zone default version (inr (inr e)) = absurd cc
 
-  -- ---- it is of the current version behind
+  -- ---- it is of the current version afterwards
 
   rows_again : AreRows b (migrated t)
   rows_again = record {

@@ -1,4 +1,4 @@
--- What is found of a store, one check behind another, and what becomes of it.
+-- What is found of a store, one check after another, and what becomes of it.
 use Rattle.std.proofs.Common.{◌≡◌, inl, inr, true, false, nat_le, refl, sym, subst, ◌∙◌}
 use Rattle.std.specs.Prelude.{ℕ, Bool, Option, Some, None, Result, Ok, Err, IsTrue, IfOk, OnOk, IfErr}
 use Rattle.sqlite.specs.Effect.{Database}
@@ -15,7 +15,7 @@ use Rattle.mq_store.specs.Auditing.{IsAuditIn}
 use Rattle.mq_store.specs.Opening.{audit_fault, if_none, IsChecked, IsInTurn, IsBroughtUp, IsLeftOlder, Opens, Refuses}
 use Rattle.mq_store.proofs.Faults.{spares_both}
 
--- an audit behind a reading that wrote nothing is one of the rows before it
+-- an audit after a reading that wrote nothing is one of the rows before it
 checked : (zone : Zone) (default : ℕ) (old mid : State) (found : Result Audit LedgerFault) → Spares old mid → OnOk found (IsTrue mid.is_open) → IfOk found (IsAuditIn zone default mid.now)
     → IsChecked zone default old.now (audit_fault found)
 checked zone default old mid (Ok a) spares is_open is_audit = record { found = Ok a; is_audit = subst (λ db. IsAuditIn zone default db a) (spares.now is_open) is_audit; fault_is = refl }
@@ -25,13 +25,13 @@ in_turn : (First : Result ℕ OpenFault → Type 0) (Second : Option OpenFault �
 in_turn First Second version None first second = (first, second)
 in_turn First Second version (Some f) first second = inr (version, first, second)
 
--- the settings are this ledger's, and behind them the audit found this
+-- the settings are this ledger's, and after them the audit found this
 pub audited_behind : (zone : Zone) (default : ℕ) (old mid : State) (First : Result ℕ OpenFault → Type 0) (version : ℕ) (found : Result Audit LedgerFault) (r : Result ℕ OpenFault) → r ≡ if_none version (audit_fault found) → First (Ok version)
     → Spares old mid → OnOk found (IsTrue mid.is_open) → IfOk found (IsAuditIn zone default mid.now) → IsInTurn First (IsChecked zone default old.now) r
 audited_behind zone default old mid First version found r is first spares is_open is_audit =
     subst (IsInTurn First (IsChecked zone default old.now)) (sym is) (in_turn First (IsChecked zone default old.now) version (audit_fault found) first (checked zone default old mid found spares is_open is_audit))
 
--- what becomes of a store behind a reading that wrote nothing becomes of it before that
+-- what becomes of a store after a reading that wrote nothing becomes of it before that
 module _ (version : ℕ) (a b c : State) (spares : Spares a b) where
   pub up_behind : (nat_le 3 version ≡ false → IsTrue b.is_open) → IsBroughtUp version b c → IsBroughtUp version a c
   up_behind is_open up = go (nat_le 3 version) is_open up

@@ -60,7 +60,7 @@ TellsStaying zone D a db told =
     → (reply : Reply) → IsWhereKnown a.reply reply
     → IsTold (day_of zone) D H (record { request = a.request; reply = reply }) told
 
--- What is applied again. A scratch store has the rows of a front of the old history.
+-- What is applied again. A scratch store has the rows of a prefix of the old history.
 
 -- with as many entries more, the scratch store has the rows of that front
 abbrev pub Follows : Zone → ℕ → ℕ → ℕ → Database → Database → Database → Type 0

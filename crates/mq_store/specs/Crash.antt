@@ -1,4 +1,4 @@
--- What an open may find where a crash comes behind a request, or behind another open.
+-- What an open may find where a crash comes after a request, or after another open.
 use Rattle.std.specs.Prelude.{◌≡◌, ◌⊎◌, ℕ, nat_le, List, true, false}
 use Rattle.sqlite.specs.Effect.{Database, IsDatabase}
 use Rattle.sqlite.specs.State.{State}
@@ -28,13 +28,13 @@ pub record AreAppliedBy (zone : Zone) (default : ℕ) (r : Request) (a : Reply) 
 abbrev pub AreApplied : Zone → ℕ → Request → Database → Trees → Type 0
 AreApplied zone default r old trees = (a : Reply) × AreAppliedBy zone default r a old trees
 
--- behind this reply to the first request of its number: the rows after the call
+-- after this reply to the first request of its number: the rows after the call
 abbrev pub LeavesNew : Zone → ℕ → Request → Reply → State → State → Type 0
 LeavesNew zone default r a old new =
     (H : List Entry) → HasBook (book_of zone default H) old.now → is_first (requests H) r ≡ true
     → (db : Trees) → new.may_leave db → (db ≡ new.now.trees) × AreAppliedBy zone default r a old.now db
 
--- behind any other reply: what a crash could leave before
+-- after any other reply: what a crash could leave before
 abbrev pub LeavesOld : Zone → ℕ → Request → State → State → Type 0
 LeavesOld zone default r old new =
     (H : List Entry) → HasBook (book_of zone default H) old.now → is_first (requests H) r ≡ false
@@ -46,7 +46,7 @@ LeavesOld zone default r old new =
 abbrev pub FindsOnly : State → (Database → Type 0) → Type 0
 FindsOnly s P = (db : Database) → IsDatabase db → s.may_leave db.trees → P db
 
--- behind a reply: the rows of the history with this arrival, where it was the first of its number or a crash
+-- after a reply: the rows of the history with this arrival, where it was the first of its number or a crash
 -- before left those of the history
 abbrev pub FindsNew : Zone → ℕ → Request → State → State → Type 0
 FindsNew zone default r old new =
@@ -54,13 +54,13 @@ FindsNew zone default r old new =
     → (is_first (requests H) r ≡ false → FindsOnly old (HasBook (book_of zone default H)))
     → FindsOnly new (HasBook (book_after zone default H r))
 
--- behind a fault: those, or what a crash before could leave
+-- after a fault: those, or what a crash before could leave
 abbrev pub FindsEither : Zone → ℕ → Request → State → State → Type 0
 FindsEither zone default r old new =
     (H : List Entry) → HasBook (book_of zone default H) old.now
     → FindsOnly new (λ db. old.may_leave db.trees ⊎ HasBook (book_after zone default H r) db)
 
--- behind an open of a ledger of an older version: its rows in the current version; of the current version: what could be
+-- after an open of a ledger of an older version: its rows in the current version; of the current version: what could be
 -- found before
 abbrev pub FindsOpened : State → State → Type 0
 FindsOpened old new =

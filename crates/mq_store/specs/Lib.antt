@@ -8,3 +8,4 @@ pub mod Crash
 pub mod Auditing
 pub mod Carrying
 pub mod Forgetting
+pub mod Limits

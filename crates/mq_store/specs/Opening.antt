@@ -49,7 +49,7 @@ fault_of_code Closed = Store
 fault_of_code TooBig = Store
 fault_of_code _ = NotOurs
 
--- want of memory, and any other cause, of making the tables
+-- memory that runs out, and any other cause, of making the tables
 abbrev pub create_fault : Error → OpenFault
 create_fault (SqliteFailure OutOfMemory) = Memory
 create_fault _ = Store
@@ -106,7 +106,7 @@ abbrev pub if_none : ℕ → Option OpenFault → Result ℕ OpenFault
 if_none version None = Ok version
 if_none version (Some f) = Err f
 
--- What is read behind the settings, by their version.
+-- What is read after the settings, by their version.
 
 -- the rule is read, unless there is a fault already
 abbrev pub IsJudgedBehind : {S : Type 0} (g : Ghosts S) → Option OpenFault → Zone → ℕ → Setting → Held S → Held S
@@ -116,7 +116,7 @@ IsJudgedBehind g None zone default s old new fault =
     (rule : Result Row Error) × IsRuleRead (state g old) (state g new) rule
     × (fault ≡ fault_by_any_rule zone default s rule)
 
--- version 3: the floors are read, and behind them the rule
+-- version 3: the floors are read, and after them the rule
 pub record IsJudgedCurrent {S : Type 0} (g : Ghosts S) (zone : Zone) (default : ℕ) (s : Setting) (old new : Held S)
     (fault : Option OpenFault) : Type 0 where
   pub floors : Result (Vec Row Global) Error
@@ -161,7 +161,7 @@ IsJudgedAfter g zone default (Ok (Some s)) old new r = IsJudgedAs g (known_versi
 IsJudgedAfter g zone default (Ok None) old new r = (new ≡ old) × (r ≡ Err NotOurs)
 IsJudgedAfter g zone default (Err e) old new r = (new ≡ old) × (r ≡ Err (fault_of e))
 
--- the settings are read, and behind them what their version has; the answer is the version, or why it isn't this ledger
+-- the settings are read, and after them what their version has; the answer is the version, or why it isn't this ledger
 pub record IsJudged {S : Type 0} (g : Ghosts S) (zone : Zone) (default : ℕ) (old new : Held S)
     (r : Result ℕ OpenFault) : Type 0 where
   pub read : Result (Option Setting) Error
@@ -215,7 +215,7 @@ abbrev pub IsOf : Zone → ℕ → Schema → SettingRow → Option (List ℕ) �
 IsOf zone default schema s rule r =
     (r ≡ judged_as (known_version s.version) zone default schema (shown_of s) rule) ⊎ IsStopped r
 
--- What an audit finds behind the settings.
+-- What an audit finds after the settings.
 
 -- memory or the store stopped it
 abbrev pub open_fault : LedgerFault → OpenFault
@@ -234,12 +234,12 @@ pub record IsChecked (zone : Zone) (default : ℕ) (db : Database) (fault : Opti
   pub is_audit : IfOk found (IsAuditIn zone default db)
   pub fault_is : fault ≡ audit_fault found
 
--- The first of two checks finds a version, and the second nothing; or the first that finds a fault tells it.
+-- The first of two checks finds a version, and the second nothing; or the first that finds a fault reports it.
 abbrev pub IsInTurn : (Result ℕ OpenFault → Type 0) → (Option OpenFault → Type 0) → Result ℕ OpenFault → Type 0
 IsInTurn First Second (Ok version) = First (Ok version) × Second None
 IsInTurn First Second (Err f) = First (Err f) ⊎ ((version : ℕ) × First (Ok version) × Second (Some f))
 
--- the settings are judged so: by an answer that was the last, or by one behind which the connection went on
+-- the settings are judged so: by an answer that was the last, or by one after which the connection went on
 abbrev pub IsSettled : {S : Type 0} (g : Ghosts S) → Zone → ℕ → Held S → Held S → Result ℕ OpenFault → Type 0
 IsSettled {S} g zone default old new (Ok version) = (read : Held S) × IsJudged g zone default old read (Ok version)
 IsSettled g zone default old new (Err f) = IsJudged g zone default old new (Err f)
@@ -280,7 +280,7 @@ Refuses Found old new f =
 
 -- Of a request or an audit.
 
--- want of memory, and any other cause
+-- memory that runs out, and any other cause
 abbrev pub ledger_fault : Error → LedgerFault
 ledger_fault (SqliteFailure OutOfMemory) = ledger.Memory
 ledger_fault _ = ledger.Store

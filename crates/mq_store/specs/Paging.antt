@@ -28,7 +28,7 @@ IsPageOf default d after db shown =
     (zone : Zone) (H : List Entry) → HasBook (book_of zone default H) db
     → shown ≡ map (row (day_of zone) default H d) (page (day_of zone) H d after)
 
--- The rows of the first n logins behind `after`, which follow one another, and the last of them.
+-- The rows of the first n logins beyond `after`, which follow one another, and the last of them.
 pub record IsBegun (day : ℕ → ℕ) (default : ℕ) (H : List Entry) (d : ℕ) (after : List ℕ) (rows : List UsageRecord)
     (n : ℕ) (shown : List UsageRow) (last : List ℕ) : Type 0 where
   pub us : List UsageRecord

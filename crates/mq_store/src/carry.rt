@@ -1,6 +1,6 @@
 //! What is remembered of an old store, put into a new one, inside a transaction of each.
 //!
-//! A limit from an earlier day stays where it was set. Its row tells so by the reply, which a retire clears where
+//! A limit from an earlier day stays where it was set. Its row says so by the reply, which a retire clears where
 //! it gives the run up. Such a reply is found again by a scratch ledger in memory, which applies the requests of
 //! the old store up to that one, in their order. It goes on from where it was, so that it applies each at most
 //! once, and none where no such reply is wanted.

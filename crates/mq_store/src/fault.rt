@@ -1,3 +1,5 @@
+//! Why a store is refused, by the ledger that is to be opened and by each request.
+
 ghost use Rattle.std.specs.Prelude.{◌≡◌, ◌&&◌, Some, None};
 ghost use Rattle.std.specs.Ordering.{int_eq};
 ghost use Rattle.mq_ledger.specs.Day.{minutes_in, rule_in};

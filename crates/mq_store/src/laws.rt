@@ -188,7 +188,7 @@ pub(crate) fn transactions_have_days()
         day_by day at found ≡ day_named day at (named H t) }
 {}
 
-/// Over a front of a history the next request gets the reply of its entry, and leads to the front with it.
+/// Over a prefix of a history the next request gets the reply of its entry, and leads to the prefix with it.
 pub(crate) fn entries_are_followed()
     ensures reply { (zone : AnyZone) (default : ℕ) (H : List AnyEntry) (place : ℕ) (e : AnyEntry) →
         IsLegalBook (book_of zone default H) → IsAt H place e →

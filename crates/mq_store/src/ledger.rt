@@ -1,3 +1,5 @@
+//! The ledger in tables of a store: how it is made and opened, and what it answers.
+
 ghost use Rattle.std.specs.Prelude.{◌≡◌, ◌⊎◌, ℕ, Option, true, Bool, List, [], ◌∷◌, ◌++◌, length, false, IsTrue, IfOk, IfErr, OnOk, OnErr};
 ghost use Rattle.sqlite.specs.Held.{state};
 ghost use Rattle.sqlite.specs.State.{HasCleanDisk};
@@ -125,7 +127,7 @@ impl<S: Alter> SqlLedger<S> {
             → (state S.Store e.connection).may_leave db → (state S.Store connection).may_leave db
             ⊎ AreMadeOver (made_with zone default) (state S.Store connection).now db) }
 
-        // What it does find, as a sound database: the rows of the empty history; behind a fault all
+        // What it does find, as a sound database: the rows of the empty history; after a fault all
         // tables of the ledger, or trees that could be found before.
         ensures found_ok { IfOk result (λ l. HasCleanDisk (state S.Store l.connection)
             → HasCounters (state S.Store connection) → AreUnnamed (state S.Store connection).now.schema
@@ -164,8 +166,8 @@ impl<S: Alter> SqlLedger<S> {
     /// one, in one transaction; else nothing is written. The default is 0 to 1,000,000.
     ///
     /// The faults for content come in this order: `NotOurs`, `ZoneDiffers`, `DefaultDiffers`, and
-    /// behind these the tables are audited as by [`SqlLedger::audit`], which reads all rows of three of
-    /// them into memory: `Damaged` with the least pair that isn't right. `Memory` and `Store` come
+    /// after these the tables are audited as by [`SqlLedger::audit`], which reads all rows of three of
+    /// them, one by one: `Damaged` with the least pair that isn't right. `Memory` and `Store` come
     /// wherever they stop the reading, or the writing of the current version. A connection within a
     /// transaction is `Store`. Refused, the store has the rows that it had.
     ///
@@ -181,7 +183,7 @@ impl<S: Alter> SqlLedger<S> {
         ensures lent { IfOk result (λ l. (l.zone ≡ zone) × (l.default ≡ default)) }
 
         // Over any store: what the store answers to the queries for settings, floors and rule decides, and
-        // behind them the audit. Then a ledger of an older version is given the current one.
+        // after them the audit. Then a ledger of an older version is given the current one.
         ensures ok { IfOk result (λ l. HasCleanDisk (state S.Store l.connection)
             → Opens (IsFound S.Store zone default connection l.connection)
             (state S.Store connection) (state S.Store l.connection)) }
@@ -191,7 +193,7 @@ impl<S: Alter> SqlLedger<S> {
             (state S.Store connection) (state S.Store e.connection) e.fault) }
 
         // Over a store with our table of settings and, in a version that has them, those of floors and rule,
-        // wherever they stand: their rows decide, and behind them the audit.
+        // wherever they stand: their rows decide, and after them the audit.
         ensures exact_ok { IfOk result (λ l. HasCleanDisk (state S.Store l.connection)
             → (s : SettingRow) (rule : Option (List ℕ)) → HasSettings (state S.Store connection).now s rule
             → Opens (IsFoundOf zone default (state S.Store connection).now s rule)
@@ -234,7 +236,7 @@ impl<S: Alter> SqlLedger<S> {
             → Spares (state S.Store connection) (state S.Store e.connection)
             ⊎ ((e.fault ≡ Memory) ⊎ (e.fault ≡ Store))) }
 
-        // What an open after a crash may find: behind a refusal what could be found before, or the ledger of the
+        // What an open after a crash may find: after a refusal what could be found before, or the ledger of the
         // current version; of an older ledger that is opened, that one alone.
         ensures crash_err { IfErr result (λ e. HasCleanDisk (state S.Store e.connection) → (db : Trees)
             → (state S.Store e.connection).may_leave db → (state S.Store connection).may_leave db
@@ -270,11 +272,11 @@ impl<S: Alter> SqlLedger<S> {
     ///
     /// A pair is right where what its row of `usage` has settled and reserved is what its
     /// transactions settled and hold, exactly, where both together are within its limit, and where
-    /// each of its transactions has a moment of its day. It reads all these rows into memory. The
+    /// each of its transactions has a moment of its day. It reads all these rows, one by one. The
     /// fault is `Memory`, or `Store` where a statement was refused for another cause, and says nothing
     /// of the pairs.
     ///
-    /// A crash behind it, whatever it answered, leaves what a crash before it could leave.
+    /// A crash after it, whatever it answered, leaves what a crash before it could leave.
     pub fn audit(&mut self) -> Result<Audit, LedgerFault>
         ensures lent { (self.new.zone ≡ self.old.zone) × (self.new.default ≡ self.old.default) }
 
@@ -303,7 +305,7 @@ impl<S: Alter> SqlLedger<S> {
 
     /// How many answers the ledger has: one for each number under which it took a request. Nothing is written.
     ///
-    /// The fault is `Memory`, or `Store` where the statement was refused for another cause. A crash behind it,
+    /// The fault is `Memory`, or `Store` where the statement was refused for another cause. A crash after it,
     /// whatever it answered, leaves what a crash before it could leave.
     pub fn count_answers(&mut self) -> Result<u64, LedgerFault>
         ensures lent { (self.new.zone ≡ self.old.zone) × (self.new.default ≡ self.old.default) }
@@ -378,7 +380,7 @@ impl<S: Alter> Ledger for SqlLedger<S> {
     ///
     /// The fault is `Memory`, or `Store` where a statement was refused for another cause, where the
     /// tables are the rows of no legal history, or where 4,611,686,018,427,387,904 answers are
-    /// stored. The tables are then as they were; a crash behind a fault leaves them so, or with this
+    /// stored. The tables are then as they were; a crash after a fault leaves them so, or with this
     /// request applied. Over rows of no legal history it may also reply: what it says is then in
     /// range, and no more is known of it.
     fn apply(&mut self, request: &Request) -> Result<Reply, LedgerFault>

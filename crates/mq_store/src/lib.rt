@@ -25,6 +25,7 @@ mod forgetting;
 mod giving_up;
 mod laws;
 mod ledger;
+mod limits;
 mod listing;
 mod memory;
 mod opening;

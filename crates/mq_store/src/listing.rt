@@ -104,7 +104,7 @@ fn page<S: Alter>(
     Ok(rows)
 }
 
-/// The page of a day behind `after`.
+/// The page of a day beyond `after`.
 #[tactic(auto, using(crate::proofs::Chain::calls))]
 pub(crate) fn reply_to_list<S: Alter>(
     alloc: Global,

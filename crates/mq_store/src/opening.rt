@@ -166,7 +166,7 @@ fn check_store<S: Alter>(
     }
 }
 
-/// The version of the tables, or why the store isn't opened: by its settings, and behind them by an audit of its rows.
+/// The version of the tables, or why the store isn't opened: by its settings, and after them by an audit of its rows.
 fn check_ledger<S: Alter>(
     alloc: Global,
     connection: &mut Connection<S>,

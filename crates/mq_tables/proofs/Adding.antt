@@ -164,7 +164,7 @@ was_before : (Now Before : Type 0) (b : Bool) → b ≡ false → Since b Now Be
 was_before Now Before true e h = absurd cc
 was_before Now Before false e h = h
 
--- of the tables that are there behind one more, those before it
+-- of the tables that are there after one more, those before it
 before_made : (P : Table → Type 0) (s more : Schema) (t : Table) → more ≡ created s t → AllByRecursion P more.tables → AllByRecursion P s.tables
 before_made P s more t is h = (all_split P s.tables (record t { tree = next_tree s } ∷ []) (subst (λ (x : Schema). AllByRecursion P x.tables) is h)).0
 
@@ -209,7 +209,7 @@ pub migrates : (has_rule : Bool) (a b c d : State) (r : Result ℕ Error) → Ad
 migrates has_rule a b c d (Err e) p q s = tt
 migrates has_rule a b c d (Ok count) p q s = migrates_from has_rule a b c d p q s
 
--- the transaction goes on behind either
+-- the transaction goes on after either
 pub adds_inside : (has_rule : Bool) (a b : State) → AddsRule has_rule a b → IsTrue b.in_transaction
 adds_inside true a b h = h.0
 adds_inside false a b h = h.0

@@ -1,8 +1,5 @@
 -- What the queries for an audit answer of the figures.
-use Rattle.std.proofs.Common.{◌≡◌, pos, ℕ, List, [], ◌∷◌, ◌++◌, codes, map, filter, true, None, Ok, Err, Result, refl, sym, ap, subst, subst₂, ◌∙◌}
-use Rattle.std.specs.Prelude.{Vec, IfOk}
-use Rattle.std.specs.declared.alloc.Global.{Global}
-use Rattle.sqlite.specs.declared.error.Error.{Error}
+use Rattle.std.proofs.Common.{◌≡◌, pos, ℕ, List, [], ◌∷◌, ◌++◌, codes, map, filter, true, None, refl, sym, ap, subst, subst₂, ◌∙◌}
 use Rattle.sqlite.specs.Listing.{listing_schema}
 use Rattle.sqlite.specs.Order.{Row}
 use Rattle.sqlite.specs.State.{State, Shown}
@@ -60,15 +57,10 @@ usage_select = record {
 usage_accepted : IsAccepted usage_shape
 usage_accepted s t low found = rw (low, found)
 
-usage_shown : (old new : State) (rows : List Row) → Shown usage_text [] old new rows → (f : Figures) → HasFigures old.now f → IsPermutation (map usage_cells f.usage) rows
+pub usage_shown : (old new : State) (rows : List Row) → Shown usage_text [] old new rows → (f : Figures) → HasFigures old.now f → IsPermutation (map usage_cells f.usage) rows
 usage_shown old new rows h f l =
     let all = shows_all usage_cells usage_text usage_shape usage_select usage_accepted refl [] old new l.tables.usage_tree l.tables.usage rows h f.usage refl l.holds_usage in
     subst (λ xs. IsPermutation (map usage_cells xs) rows) (all_pass f.usage) all
-
-pub usage_found : (old new : State) (outcome : Result (Vec Row Global) Error) → IfOk outcome (λ rows. Shown usage_text [] old new rows.items)
-    → IfOk outcome (λ rows. (f : Figures) → HasFigures old.now f → IsPermutation (map usage_cells f.usage) rows.items)
-usage_found old new (Ok rows) h = usage_shown old new rows.items h
-usage_found old new (Err e) h = tt
 
 abbrev usage_back : Row → UsageFigures
 usage_back (Blob l ∷ Int d ∷ Int s ∷ Int r ∷ []) = record { pair = record { login = l; day = d }; settled = s; reserved = r }
@@ -82,13 +74,12 @@ usage_again : (xs : List UsageFigures) → map usage_columns (map usage_cells xs
 usage_again [] = refl
 usage_again (x ∷ xs) = ap (λ ys. usage_cells x ∷ ys) (usage_again xs)
 
-pub usage_read : (Held : Figures → Type 0) (rows : List Row) (outcome : Result (Vec UsageFigures Global) Error) → ((f : Figures) → Held f → IsPermutation (map usage_cells f.usage) rows)
-    → IfOk outcome (λ read. map usage_columns rows ≡ map usage_cells read.items) → IfOk outcome (λ read. (f : Figures) → Held f → IsPermutation f.usage read.items)
-usage_read Held rows (Ok read) same is = λ f l.
+pub usage_read : (Held : Figures → Type 0) (rows : List Row) (read : List UsageFigures) → ((f : Figures) → Held f → IsPermutation (map usage_cells f.usage) rows)
+    → map usage_columns rows ≡ map usage_cells read → (f : Figures) → Held f → IsPermutation f.usage read
+usage_read Held rows read same is = λ f l.
     let columns = IsPermutation-map usage_columns _ _ (same f l) in
-    let cells : IsPermutation (map usage_cells f.usage) (map usage_cells read.items) = subst₂ IsPermutation (usage_again f.usage) is columns in
-    subst₂ IsPermutation (usage_back_is f.usage) (usage_back_is read.items) (IsPermutation-map usage_back _ _ cells)
-usage_read Held rows (Err e) same is = tt
+    let cells : IsPermutation (map usage_cells f.usage) (map usage_cells read) = subst₂ IsPermutation (usage_again f.usage) is columns in
+    subst₂ IsPermutation (usage_back_is f.usage) (usage_back_is read) (IsPermutation-map usage_back _ _ cells)
 
 pub usage_more : (row : Row) (x : UsageFigures) → IsUsageRead row x → usage_columns row ≡ usage_cells x
 usage_more row x is = λ i. is.login i ∷ is.day i ∷ is.settled i ∷ is.reserved i ∷ []
@@ -127,17 +118,12 @@ transactions_select = record {
 transactions_accepted : IsAccepted transactions_shape
 transactions_accepted s t low found = rw (low, found)
 
-transactions_shown : (old new : State) (rows : List Row) → Shown transactions_text [] old new rows → (f : Figures) → HasFigures old.now f → IsPermutation (map transaction_cells f.transactions) rows
+pub transactions_shown : (old new : State) (rows : List Row) → Shown transactions_text [] old new rows → (f : Figures) → HasFigures old.now f → IsPermutation (map transaction_cells f.transactions) rows
 transactions_shown old new rows h f l =
     let all = shows_all whole_cells transactions_text transactions_shape transactions_select transactions_accepted refl [] old new l.tables.trans_tree l.tables.trans rows h l.whole refl l.holds_trans in
     let kept : IsPermutation (map (λ (w : WholeTransaction). transaction_cells w.figures) l.whole) rows = subst (λ ws. IsPermutation (map (λ (w : WholeTransaction). transaction_cells w.figures) ws) rows) (all_pass l.whole) all in
     let same : map (λ (w : WholeTransaction). transaction_cells w.figures) l.whole ≡ map transaction_cells f.transactions = sym (map-map transaction_cells (λ (w : WholeTransaction). w.figures) l.whole) ∙ ap (map transaction_cells) (sym l.transactions) in
     subst (λ xs. IsPermutation xs rows) same kept
-
-pub transactions_found : (old new : State) (outcome : Result (Vec Row Global) Error) → IfOk outcome (λ rows. Shown transactions_text [] old new rows.items)
-    → IfOk outcome (λ rows. (f : Figures) → HasFigures old.now f → IsPermutation (map transaction_cells f.transactions) rows.items)
-transactions_found old new (Ok rows) h = transactions_shown old new rows.items h
-transactions_found old new (Err e) h = tt
 
 abbrev transactions_back : Row → TransactionFigures
 transactions_back (Blob l ∷ Int d ∷ Int m ∷ Int h ∷ Int s ∷ []) = record { pair = record { login = l; day = d }; moment = m; held = h; settled = s }
@@ -151,18 +137,17 @@ transactions_again : (xs : List TransactionFigures) → map transaction_columns 
 transactions_again [] = refl
 transactions_again (x ∷ xs) = ap (λ ys. transaction_cells x ∷ ys) (transactions_again xs)
 
-pub transactions_read : (Held : Figures → Type 0) (rows : List Row) (outcome : Result (Vec TransactionFigures Global) Error) → ((f : Figures) → Held f → IsPermutation (map transaction_cells f.transactions) rows)
-    → IfOk outcome (λ read. map transaction_columns rows ≡ map transaction_cells read.items) → IfOk outcome (λ read. (f : Figures) → Held f → IsPermutation f.transactions read.items)
-transactions_read Held rows (Ok read) same is = λ f l.
+pub transactions_read : (Held : Figures → Type 0) (rows : List Row) (read : List TransactionFigures) → ((f : Figures) → Held f → IsPermutation (map transaction_cells f.transactions) rows)
+    → map transaction_columns rows ≡ map transaction_cells read → (f : Figures) → Held f → IsPermutation f.transactions read
+transactions_read Held rows read same is = λ f l.
     let columns = IsPermutation-map transaction_columns _ _ (same f l) in
-    let cells : IsPermutation (map transaction_cells f.transactions) (map transaction_cells read.items) = subst₂ IsPermutation (transactions_again f.transactions) is columns in
-    subst₂ IsPermutation (transactions_back_is f.transactions) (transactions_back_is read.items) (IsPermutation-map transactions_back _ _ cells)
-transactions_read Held rows (Err e) same is = tt
+    let cells : IsPermutation (map transaction_cells f.transactions) (map transaction_cells read) = subst₂ IsPermutation (transactions_again f.transactions) is columns in
+    subst₂ IsPermutation (transactions_back_is f.transactions) (transactions_back_is read) (IsPermutation-map transactions_back _ _ cells)
 
 pub transactions_more : (row : Row) (x : TransactionFigures) → IsTransactionRead row x → transaction_columns row ≡ transaction_cells x
 transactions_more row x is = λ i. is.login i ∷ is.day i ∷ is.moment i ∷ is.held i ∷ is.settled i ∷ []
 
--- ceiling
+-- limits
 
 abbrev pub limits_text : List ℕ
 limits_text = codes "SELECT login, day, cap FROM ceiling"
@@ -196,15 +181,10 @@ limits_select = record {
 limits_accepted : IsAccepted limits_shape
 limits_accepted s t low found = rw (low, found)
 
-limits_shown : (old new : State) (rows : List Row) → Shown limits_text [] old new rows → (f : Figures) → HasFigures old.now f → IsPermutation (map limit_cells f.limits) rows
+pub limits_shown : (old new : State) (rows : List Row) → Shown limits_text [] old new rows → (f : Figures) → HasFigures old.now f → IsPermutation (map limit_cells f.limits) rows
 limits_shown old new rows h f l =
     let all = shows_all limit_cells limits_text limits_shape limits_select limits_accepted refl [] old new l.tables.ceiling_tree l.tables.ceiling rows h f.limits refl l.holds_ceiling in
     subst (λ xs. IsPermutation (map limit_cells xs) rows) (all_pass f.limits) all
-
-pub limits_found : (old new : State) (outcome : Result (Vec Row Global) Error) → IfOk outcome (λ rows. Shown limits_text [] old new rows.items)
-    → IfOk outcome (λ rows. (f : Figures) → HasFigures old.now f → IsPermutation (map limit_cells f.limits) rows.items)
-limits_found old new (Ok rows) h = limits_shown old new rows.items h
-limits_found old new (Err e) h = tt
 
 abbrev limits_back : Row → LimitFigures
 limits_back (Blob l ∷ Int d ∷ Int c ∷ []) = record { pair = record { login = l; day = d }; cap = c }
@@ -218,13 +198,12 @@ limits_again : (xs : List LimitFigures) → map limit_columns (map limit_cells x
 limits_again [] = refl
 limits_again (x ∷ xs) = ap (λ ys. limit_cells x ∷ ys) (limits_again xs)
 
-pub limits_read : (Held : Figures → Type 0) (rows : List Row) (outcome : Result (Vec LimitFigures Global) Error) → ((f : Figures) → Held f → IsPermutation (map limit_cells f.limits) rows)
-    → IfOk outcome (λ read. map limit_columns rows ≡ map limit_cells read.items) → IfOk outcome (λ read. (f : Figures) → Held f → IsPermutation f.limits read.items)
-limits_read Held rows (Ok read) same is = λ f l.
+pub limits_read : (Held : Figures → Type 0) (rows : List Row) (read : List LimitFigures) → ((f : Figures) → Held f → IsPermutation (map limit_cells f.limits) rows)
+    → map limit_columns rows ≡ map limit_cells read → (f : Figures) → Held f → IsPermutation f.limits read
+limits_read Held rows read same is = λ f l.
     let columns = IsPermutation-map limit_columns _ _ (same f l) in
-    let cells : IsPermutation (map limit_cells f.limits) (map limit_cells read.items) = subst₂ IsPermutation (limits_again f.limits) is columns in
-    subst₂ IsPermutation (limits_back_is f.limits) (limits_back_is read.items) (IsPermutation-map limits_back _ _ cells)
-limits_read Held rows (Err e) same is = tt
+    let cells : IsPermutation (map limit_cells f.limits) (map limit_cells read) = subst₂ IsPermutation (limits_again f.limits) is columns in
+    subst₂ IsPermutation (limits_back_is f.limits) (limits_back_is read) (IsPermutation-map limits_back _ _ cells)
 
 pub limits_more : (row : Row) (x : LimitFigures) → IsLimitRead row x → limit_columns row ≡ limit_cells x
 limits_more row x is = λ i. is.login i ∷ is.day i ∷ is.cap i ∷ []

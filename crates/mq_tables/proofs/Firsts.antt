@@ -88,7 +88,7 @@ module _ {R : Type 0} (fields : R → Row) (tests project : List Term) (params :
     abbrev pub before : ℕ → Output → Output → Bool
     before t x y = is_lt (output_cmp (latest_query t tests project order) x y)
 
-    -- it passes, and stands behind none that does
+    -- it passes, and stands after none that does
     pub record IsFirstOf (t : ℕ) (all : List R) (u : R) : Type 0 where
       pub there : Has all u
       pub passing : pass u ≡ true

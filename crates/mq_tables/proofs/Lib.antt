@@ -60,6 +60,8 @@ pub mod ReplyClears
 pub mod VersionSets
 pub mod Adding
 pub mod FigureReads
+pub mod FigureRows
+pub mod LimitReads
 pub mod AllFloors
 pub mod Still
 pub mod Strict

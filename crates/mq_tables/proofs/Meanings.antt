@@ -1,4 +1,4 @@
--- One more answer behind those that are there.
+-- One more answer after those that are there.
 use Rattle.std.proofs.Common.{◌≡◌, ℕ, ◌+◌, ◌<◌, pos, List, [], ◌∷◌, ◌++◌, map, length, arith, refl, ap, ◌∙◌}
 use Rattle.std.proofs.Common.{Less}
 use Rattle.std.proofs.lemmas.Bool.{lt-ltb}

@@ -17,7 +17,7 @@ abbrev pub AlwaysBare : List ℕ → Type 0
 AlwaysBare text = (s : Schema) (c : Compiled) → understood s text ≡ Ok c → IsBare c
 
 module _ (text : List ℕ) (bare : AlwaysBare text) (old new : State) where
-  shown_same : (rows : List Row) → Shown text [] old new rows → IsUnchanged old new
+  pub shown_same : (rows : List Row) → Shown text [] old new rows → IsUnchanged old new
   unfolding Shown
   shown_same rows h =
       let none = (bare old.now.schema h.0 h.1.is).0 in
@@ -28,7 +28,7 @@ module _ (text : List ℕ) (bare : AlwaysBare text) (old new : State) where
   not_run e (inl h) = inl h.1
   not_run e (inr h) = inr h.3
 
-  not_shown : (e : Error) → FailsToQuery text [] old new e → IsUnchanged old new ⊎ IsRolledBack old new
+  pub not_shown : (e : Error) → FailsToQuery text [] old new e → IsUnchanged old new ⊎ IsRolledBack old new
   unfolding FailsToQuery
   not_shown e (inl h) = not_run e h
   not_shown e (inr h) =
@@ -42,14 +42,14 @@ module _ (text : List ℕ) (bare : AlwaysBare text) (old new : State) where
   queried (Err e) (inl h) = not_shown e h
   queried (Err e) (inr h) = inl (shown_same [] h.1)
 
-  commits_none : (db : Trees) → CommitsShowing text [] old db → ⊥
+  pub commits_none : (db : Trees) → CommitsShowing text [] old db → ⊥
   unfolding CommitsShowing
   commits_none db h = true≢false (sym (subst IsSome (bare old.now.schema h.0 h.1.is).0 h.2))
 
   crash : Survives old new (CommitsShowing text [] old) → HasCleanDisk new → (db : Trees) → new.may_leave db → old.may_leave db
   crash survives clean db may = elim (survives.crash clean db may) [ inl before ↦ before | inr commits ↦ absurd (commits_none db commits) ]
 
-  spared : (IsTrue old.is_open → old.now ≡ old.committed) → IsUnchanged old new ⊎ IsRolledBack old new → ((db : Trees) → new.may_leave db → old.may_leave db) → Spares old new
+  pub spared : (IsTrue old.is_open → old.now ≡ old.committed) → IsUnchanged old new ⊎ IsRolledBack old new → ((db : Trees) → new.may_leave db → old.may_leave db) → Spares old new
   spared settled (inl h) may =
       record { was_open = λ _. h.0.was_open; now = λ _. h.0.now_is; committed = λ _. h.0.committed_is; crash = may }
   spared settled (inr h) may =

@@ -1,5 +1,5 @@
 -- The rows of the tables that an audit reads, whatever their columns hold.
-use Rattle.std.specs.Prelude.{◌≡◌, ℕ, ℤ, List, [], ◌∷◌, map, drop}
+use Rattle.std.specs.Prelude.{◌≡◌, ℕ, ℤ, List, [], ◌∷◌, ◌++◌, codes, map, drop}
 use Rattle.std.specs.List.Sorted.{IsPermutation}
 use Rattle.sqlite.specs.Effect.{Database}
 use Rattle.sqlite.specs.Order.{Row, column}
@@ -8,7 +8,12 @@ use Rattle.sqlite.specs.declared.types.Value.TheVariants.{Int, Blob}
 use Rattle.mq_rows.specs.declared.audited.LimitFigures.{LimitFigures}
 use Rattle.mq_rows.specs.declared.audited.TransactionFigures.{TransactionFigures}
 use Rattle.mq_rows.specs.declared.audited.UsageFigures.{UsageFigures}
+use Rattle.mq_ledger.specs.declared.zone.Zone.{Zone}
+use Rattle.mq_rows.specs.declared.auditing.Books.{Books}
 use Rattle.mq_rows.specs.Audit.{Figures}
+use Rattle.mq_rows.specs.Books.{AreBooksOf, no_rows}
+use Rattle.mq_tables.specs.declared.figures.Table.{Table}
+use Rattle.mq_tables.specs.declared.figures.Table.TheVariants.{Usage, Transactions, Limits}
 use Rattle.mq_tables.specs.Places.{IsTransIn, IsUsageIn, IsCeilingIn}
 
 abbrev pub usage_cells : UsageFigures → Row
@@ -87,3 +92,37 @@ transaction_columns row = column row 0 ∷ column row 1 ∷ column row 2 ∷ col
 
 abbrev pub limit_columns : Row → Row
 limit_columns row = column row 0 ∷ column row 1 ∷ column row 2 ∷ []
+
+-- What is given to the books.
+
+-- the query for all rows of the table
+abbrev pub text_of : Table → List ℕ
+text_of Usage = codes "SELECT login, day, settled, reserved FROM usage"
+text_of Transactions = codes "SELECT login, day, moment, held, settled FROM trans"
+text_of Limits = codes "SELECT login, day, cap FROM ceiling"
+
+-- books of figures are then those of longer ones
+abbrev pub Adds : (Figures → Figures) → Books → Books → Type 0
+Adds longer old new = (zone : Zone) (default : ℕ) (f : Figures) → AreBooksOf zone default f old → AreBooksOf zone default (longer f) new
+
+-- the books were given what is read of these rows of the table, in this order
+abbrev pub Took : Table → List Row → Books → Books → Type 0
+Took Usage rows old new =
+    (read : List UsageFigures) × (map usage_columns rows ≡ map usage_cells read) × Adds (λ f. record f { usage = f.usage ++ read }) old new
+Took Transactions rows old new =
+    (read : List TransactionFigures) × (map transaction_columns rows ≡ map transaction_cells read)
+    × Adds (λ f. record f { transactions = f.transactions ++ read }) old new
+Took Limits rows old new =
+    (read : List LimitFigures) × (map limit_columns rows ≡ map limit_cells read) × Adds (λ f. record f { limits = f.limits ++ read }) old new
+
+-- each table's rows are the same, in any order
+pub record HaveSameRows (f g : Figures) : Type 0 where
+  pub usage : IsPermutation f.usage g.usage
+  pub transactions : IsPermutation f.transactions g.transactions
+  pub limits : IsPermutation f.limits g.limits
+
+-- the books, where they had no row, are then those of all rows of the store
+abbrev pub AreGiven : Database → Books → Books → Type 0
+AreGiven db old new =
+    (f : Figures) → HasFigures db f → (zone : Zone) (default : ℕ) → AreBooksOf zone default no_rows old
+    → (read : Figures) × HaveSameRows f read × AreBooksOf zone default read new

@@ -145,7 +145,7 @@ is_ours name =
 abbrev pub AreUnnamed : Schema → Type 0
 AreUnnamed s = AllByRecursion (λ t. AllByRecursion (λ ref. is_ours ref.parent ≡ false) t.references) s.tables
 
--- The seven stand behind those that were there, and hold the rows of a new ledger. Each table that was there has its
+-- The seven stand after those that were there, and hold the rows of a new ledger. Each table that was there has its
 -- rows.
 pub record IsMade (made_with : NewSetting) (old new : Database) : Type 0 where
   pub sound : IsDatabase new

@@ -17,7 +17,7 @@ use mq_rows::{AnswerRecord, Body};
 use sqlite::types::ValueRef;
 use sqlite::{Alter, Error, Row, Transaction};
 
-/// Writes a row behind those that are there. Its place and its run are below 2 to the 63rd.
+/// Writes a row after those that are there. Its place and its run are below 2 to the 63rd.
 pub fn append_answer<S: Alter>(
     tx: &mut Transaction<'_, S>,
     answer: &AnswerRecord,

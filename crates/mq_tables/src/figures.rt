@@ -1,33 +1,39 @@
-//! All rows of the tables that an audit reads, whatever their columns hold.
+//! The tables that an audit reads, row by row, whatever their columns hold.
 
-ghost use Rattle.std.specs.List.Sorted.{IsPermutation};
-ghost use Rattle.std.specs.Prelude.{◌≡◌, map, OnOk, IfOk};
+ghost use Rattle.std.specs.Prelude.{◌≡◌, ◌⊎◌, ◌++◌, ◌∷◌, List, [], false, OnOk, OnErr, IfOk};
 ghost use Rattle.sqlite.specs.Effect.{Database, IsDatabase};
 ghost use Rattle.sqlite.specs.Held.{state};
-ghost use Rattle.sqlite.specs.State.{HasCleanDisk, IsUnchanged, KeepsCommit, Survives};
+ghost use Rattle.sqlite.specs.Order.{Row as Cells};
+ghost use Rattle.sqlite.specs.State.{HasCleanDisk, IsRolledBack, IsUnchanged, Shown, Survives};
+ghost use Rattle.mq_rows.specs.declared.auditing.Books.{Books as AnyBooks};
 ghost use Rattle.mq_rows.specs.Audit.{Figures};
-ghost use Rattle.mq_tables.specs.Figures.{HasAuditTables, HasFigures};
-ghost use Rattle.mq_tables.specs.Figures.{usage_cells, transaction_cells, limit_cells};
-ghost use Rattle.mq_tables.specs.Figures.{IsUsageRead, IsTransactionRead, IsLimitRead};
-ghost use Rattle.mq_tables.specs.Figures.{usage_columns, transaction_columns, limit_columns};
+ghost use Rattle.mq_tables.specs.Figures.{HasAuditTables, HasFigures, AreGiven};
+ghost use Rattle.mq_tables.specs.Figures.{IsUsageRead, IsTransactionRead, IsLimitRead, Took, text_of};
+ghost use Rattle.mq_tables.specs.Reading.{Spares};
 
 use mq_frame::Login;
-use mq_rows::{LimitFigures, Pair, TransactionFigures, UsageFigures};
-use sqlite::{Alter, Error, Row, Transaction};
-use std::alloc::Global;
+use mq_rows::{Books, LimitFigures, Pair, TransactionFigures, UsageFigures};
+use sqlite::{Alter, Connection, Error, ErrorCode, Row};
 
-fn usage_rows<S: Alter>(tx: &mut Transaction<'_, S>) -> Result<Vec<Row>, Error>
-    ensures same_reference { tx.new.conn.ghost_name ≡ tx.old.conn.ghost_name }
-    ensures same { HasCleanDisk (state S.Store tx.new.conn.now)
-        → OnOk result (IsUnchanged (state S.Store tx.old.conn.now) (state S.Store tx.new.conn.now)) }
-    ensures found { HasCleanDisk (state S.Store tx.new.conn.now)
-        → IfOk result (λ rows. (f : Figures) → HasFigures (state S.Store tx.old.conn.now).now f
-        → IsPermutation (map usage_cells f.usage) rows.items) }
-    ensures kept { HasCleanDisk (state S.Store tx.new.conn.now)
-        → KeepsCommit (state S.Store tx.old.conn.now) (state S.Store tx.new.conn.now) }
-    ensures survives { Survives (state S.Store tx.old.conn.now) (state S.Store tx.new.conn.now) (λ _. ⊥) }
-{
-    tx.query_all("SELECT login, day, settled, reserved FROM usage", &[])
+/// A table that an audit reads.
+#[derive(Clone, Copy, Drop)]
+enum Table {
+    Usage,
+    Transactions,
+    Limits,
+}
+
+impl Table {
+    /// The query for all its rows, in any order.
+    fn text(self) -> &'static str
+        ensures { result.now ≡ text_of self }
+    {
+        match self {
+            Table::Usage => "SELECT login, day, settled, reserved FROM usage",
+            Table::Transactions => "SELECT login, day, moment, held, settled FROM trans",
+            Table::Limits => "SELECT login, day, cap FROM ceiling",
+        }
+    }
 }
 
 fn usage_of(row: &Row) -> Result<UsageFigures, Error>
@@ -41,49 +47,6 @@ fn usage_of(row: &Row) -> Result<UsageFigures, Error>
         settled: row.get(2)?,
         reserved: row.get(3)?,
     })
-}
-
-fn usage_in(alloc: Global, rows: &[Row]) -> Result<Vec<UsageFigures>, Error>
-    ensures { IfOk result (λ read. map usage_columns rows.now ≡ map usage_cells read.items) }
-{
-    let mut read = Vec::new(alloc);
-    for row in rows {
-        read.push(usage_of(row)?)?;
-    }
-    Ok(read)
-}
-
-/// All rows of `usage`, in any order. An error is the store's, also for want of memory.
-pub fn read_usage<S: Alter>(
-    alloc: Global,
-    tx: &mut Transaction<'_, S>,
-) -> Result<Vec<UsageFigures>, Error>
-    ensures same_reference { tx.new.conn.ghost_name ≡ tx.old.conn.ghost_name }
-    ensures same { HasCleanDisk (state S.Store tx.new.conn.now)
-        → OnOk result (IsUnchanged (state S.Store tx.old.conn.now) (state S.Store tx.new.conn.now)) }
-    ensures found { HasCleanDisk (state S.Store tx.new.conn.now)
-        → IfOk result (λ read. (f : Figures) → HasFigures (state S.Store tx.old.conn.now).now f
-        → IsPermutation f.usage read.items) }
-    ensures kept { HasCleanDisk (state S.Store tx.new.conn.now)
-        → KeepsCommit (state S.Store tx.old.conn.now) (state S.Store tx.new.conn.now) }
-    ensures survives { Survives (state S.Store tx.old.conn.now) (state S.Store tx.new.conn.now) (λ _. ⊥) }
-{
-    let rows = usage_rows(tx)?;
-    usage_in(alloc, rows.as_slice())
-}
-
-fn transactions_rows<S: Alter>(tx: &mut Transaction<'_, S>) -> Result<Vec<Row>, Error>
-    ensures same_reference { tx.new.conn.ghost_name ≡ tx.old.conn.ghost_name }
-    ensures same { HasCleanDisk (state S.Store tx.new.conn.now)
-        → OnOk result (IsUnchanged (state S.Store tx.old.conn.now) (state S.Store tx.new.conn.now)) }
-    ensures found { HasCleanDisk (state S.Store tx.new.conn.now)
-        → IfOk result (λ rows. (f : Figures) → HasFigures (state S.Store tx.old.conn.now).now f
-        → IsPermutation (map transaction_cells f.transactions) rows.items) }
-    ensures kept { HasCleanDisk (state S.Store tx.new.conn.now)
-        → KeepsCommit (state S.Store tx.old.conn.now) (state S.Store tx.new.conn.now) }
-    ensures survives { Survives (state S.Store tx.old.conn.now) (state S.Store tx.new.conn.now) (λ _. ⊥) }
-{
-    tx.query_all("SELECT login, day, moment, held, settled FROM trans", &[])
 }
 
 fn transaction_of(row: &Row) -> Result<TransactionFigures, Error>
@@ -100,50 +63,7 @@ fn transaction_of(row: &Row) -> Result<TransactionFigures, Error>
     })
 }
 
-fn transactions_in(alloc: Global, rows: &[Row]) -> Result<Vec<TransactionFigures>, Error>
-    ensures { IfOk result (λ read. map transaction_columns rows.now ≡ map transaction_cells read.items) }
-{
-    let mut read = Vec::new(alloc);
-    for row in rows {
-        read.push(transaction_of(row)?)?;
-    }
-    Ok(read)
-}
-
-/// All rows of `trans`, in any order. An error is the store's, also for want of memory.
-pub fn read_transactions<S: Alter>(
-    alloc: Global,
-    tx: &mut Transaction<'_, S>,
-) -> Result<Vec<TransactionFigures>, Error>
-    ensures same_reference { tx.new.conn.ghost_name ≡ tx.old.conn.ghost_name }
-    ensures same { HasCleanDisk (state S.Store tx.new.conn.now)
-        → OnOk result (IsUnchanged (state S.Store tx.old.conn.now) (state S.Store tx.new.conn.now)) }
-    ensures found { HasCleanDisk (state S.Store tx.new.conn.now)
-        → IfOk result (λ read. (f : Figures) → HasFigures (state S.Store tx.old.conn.now).now f
-        → IsPermutation f.transactions read.items) }
-    ensures kept { HasCleanDisk (state S.Store tx.new.conn.now)
-        → KeepsCommit (state S.Store tx.old.conn.now) (state S.Store tx.new.conn.now) }
-    ensures survives { Survives (state S.Store tx.old.conn.now) (state S.Store tx.new.conn.now) (λ _. ⊥) }
-{
-    let rows = transactions_rows(tx)?;
-    transactions_in(alloc, rows.as_slice())
-}
-
-fn limits_rows<S: Alter>(tx: &mut Transaction<'_, S>) -> Result<Vec<Row>, Error>
-    ensures same_reference { tx.new.conn.ghost_name ≡ tx.old.conn.ghost_name }
-    ensures same { HasCleanDisk (state S.Store tx.new.conn.now)
-        → OnOk result (IsUnchanged (state S.Store tx.old.conn.now) (state S.Store tx.new.conn.now)) }
-    ensures found { HasCleanDisk (state S.Store tx.new.conn.now)
-        → IfOk result (λ rows. (f : Figures) → HasFigures (state S.Store tx.old.conn.now).now f
-        → IsPermutation (map limit_cells f.limits) rows.items) }
-    ensures kept { HasCleanDisk (state S.Store tx.new.conn.now)
-        → KeepsCommit (state S.Store tx.old.conn.now) (state S.Store tx.new.conn.now) }
-    ensures survives { Survives (state S.Store tx.old.conn.now) (state S.Store tx.new.conn.now) (λ _. ⊥) }
-{
-    tx.query_all("SELECT login, day, cap FROM ceiling", &[])
-}
-
-fn limit_of(row: &Row) -> Result<LimitFigures, Error>
+pub(crate) fn limit_of(row: &Row) -> Result<LimitFigures, Error>
     ensures { IfOk result (IsLimitRead row.now) }
 {
     Ok(LimitFigures {
@@ -155,33 +75,86 @@ fn limit_of(row: &Row) -> Result<LimitFigures, Error>
     })
 }
 
-fn limits_in(alloc: Global, rows: &[Row]) -> Result<Vec<LimitFigures>, Error>
-    ensures { IfOk result (λ read. map limit_columns rows.now ≡ map limit_cells read.items) }
+/// Gives one row of the table to the books.
+fn take(table: Table, row: &Row, books: &mut Books) -> Result<(), Error>
+    ensures { OnOk result ((rows : List Cells) (first : AnyBooks) → Took table rows first books.old
+        → Took table (rows ++ row.now ∷ []) first books.new) }
 {
-    let mut read = Vec::new(alloc);
-    for row in rows {
-        read.push(limit_of(row)?)?;
+    match table {
+        Table::Usage => books.add_usage(usage_of(row)?)?,
+        Table::Transactions => books.add_transaction(transaction_of(row)?)?,
+        Table::Limits => books.add_limit(limit_of(row)?)?,
     }
-    Ok(read)
+    Ok(())
 }
 
-/// All rows of `ceiling`, in any order. An error is the store's, also for want of memory.
-pub fn read_limits<S: Alter>(
-    alloc: Global,
-    tx: &mut Transaction<'_, S>,
-) -> Result<Vec<LimitFigures>, Error>
-    ensures same_reference { tx.new.conn.ghost_name ≡ tx.old.conn.ghost_name }
-    ensures same { HasCleanDisk (state S.Store tx.new.conn.now)
-        → OnOk result (IsUnchanged (state S.Store tx.old.conn.now) (state S.Store tx.new.conn.now)) }
-    ensures found { HasCleanDisk (state S.Store tx.new.conn.now)
-        → IfOk result (λ read. (f : Figures) → HasFigures (state S.Store tx.old.conn.now).now f
-        → IsPermutation f.limits read.items) }
-    ensures kept { HasCleanDisk (state S.Store tx.new.conn.now)
-        → KeepsCommit (state S.Store tx.old.conn.now) (state S.Store tx.new.conn.now) }
-    ensures survives { Survives (state S.Store tx.old.conn.now) (state S.Store tx.new.conn.now) (λ _. ⊥) }
+/// Gives all rows of the table to the books, one by one.
+fn read_rows<S: Alter>(
+    connection: &mut Connection<S>,
+    table: Table,
+    books: &mut Books,
+) -> Result<(), Error>
+    requires autocommit { connection.old.in_transaction ≡ false }
+    ensures autocommit { connection.new.in_transaction ≡ false }
+    ensures took { HasCleanDisk (state S.Store connection.new)
+        → OnOk result ((rows : List Cells)
+        × Shown (text_of table) [] (state S.Store connection.old) (state S.Store connection.new) rows
+        × Took table rows books.old books.new) }
+    ensures left { HasCleanDisk (state S.Store connection.new)
+        → OnErr result (IsUnchanged (state S.Store connection.old) (state S.Store connection.new)
+        ⊎ IsRolledBack (state S.Store connection.old) (state S.Store connection.new)) }
+    ensures survives { Survives (state S.Store connection.old) (state S.Store connection.new) (λ _. ⊥) }
 {
-    let rows = limits_rows(tx)?;
-    limits_in(alloc, rows.as_slice())
+    let mut rows = connection.query(table.text(), &[])?;
+    'rows: for _ in 0..u64::MAX {
+        let Some(row) = rows.next()? else {
+            return Ok(());
+        };
+        take(table, row, books)?;
+    }
+    Err(Error::SqliteFailure(ErrorCode::TooBig))
+}
+
+/// Gives all rows of the three tables to the books.
+#[tactic(auto, using(crate::proofs::FigureRows::calls))]
+fn give_rows<S: Alter>(connection: &mut Connection<S>, books: &mut Books) -> Result<(), Error>
+    requires autocommit { connection.old.in_transaction ≡ false }
+    ensures autocommit { connection.new.in_transaction ≡ false }
+    ensures given { HasCleanDisk (state S.Store connection.new)
+        → OnOk result (IsUnchanged (state S.Store connection.old) (state S.Store connection.new)
+        × AreGiven (state S.Store connection.old).now books.old books.new) }
+    ensures left { HasCleanDisk (state S.Store connection.new)
+        → OnErr result (IsUnchanged (state S.Store connection.old) (state S.Store connection.new)
+        ⊎ IsRolledBack (state S.Store connection.old) (state S.Store connection.new)) }
+    ensures survives { Survives (state S.Store connection.old) (state S.Store connection.new) (λ _. ⊥) }
+{
+    read_rows(connection, Table::Usage, books)?;
+    read_rows(connection, Table::Transactions, books)?;
+    read_rows(connection, Table::Limits, books)?;
+    Ok(())
+}
+
+/// Gives all rows of `usage`, `trans` and `ceiling` to the books, each table's in any order. Few rows are in memory at
+/// once.
+///
+/// It writes nothing. An error is the store's, also where memory runs out.
+pub fn read_figures<S: Alter>(
+    connection: &mut Connection<S>,
+    books: &mut Books,
+) -> Result<(), Error>
+    requires autocommit { connection.old.in_transaction ≡ false }
+    ensures autocommit { connection.new.in_transaction ≡ false }
+    ensures limit { connection.new.step_limit ≡ connection.old.step_limit }
+    ensures clean { HasCleanDisk (state S.Store connection.new) → HasCleanDisk (state S.Store connection.old) }
+    ensures same { HasCleanDisk (state S.Store connection.new)
+        → OnOk result (IsUnchanged (state S.Store connection.old) (state S.Store connection.new)) }
+    ensures spares { HasCleanDisk (state S.Store connection.new)
+        → Spares (state S.Store connection.old) (state S.Store connection.new) }
+    ensures given { HasCleanDisk (state S.Store connection.new)
+        → OnOk result (AreGiven (state S.Store connection.old).now books.old books.new) }
+{
+    let _settled = connection.is_autocommit();
+    give_rows(connection, books)
 }
 
 /// Each sound store that has the three tables has figures, whatever wrote its rows: their columns are

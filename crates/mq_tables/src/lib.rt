@@ -22,6 +22,7 @@ pub mod figures;
 pub mod find;
 pub mod floor;
 pub mod laws;
+pub mod limits;
 pub mod names;
 pub mod over;
 pub mod page;

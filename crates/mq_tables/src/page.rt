@@ -18,7 +18,7 @@ use sqlite::types::ValueRef;
 use sqlite::{Alter, Error, ErrorCode, Row, Transaction};
 use std::alloc::AllocError;
 
-/// The least text above that one in byte order. A query from it on begins behind all rows of `after`,
+/// The least text above that one in byte order. A query from it on begins after all rows of `after`,
 /// however many days they are of; one for logins above `after` would read each of them.
 fn just_above(after: &Login) -> Result<Vec<u8>, AllocError>
     ensures { IfOk result (λ from. from.items ≡ just_above after.now) }

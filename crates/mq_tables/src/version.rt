@@ -95,7 +95,7 @@ pub fn migrate<S: Alter>(conn: &mut Connection<S>, has_rule_table: bool) -> Resu
     ensures err { HasCleanDisk (state S.Store conn.new) → IsTrue (state S.Store conn.new).is_open
         → OnErr result ((state S.Store conn.new).now ≡ (state S.Store conn.old).now) }
 
-    // What an open after a crash may find: the new version, or behind an error the old one or the new one.
+    // What an open after a crash may find: the new version, or after an error the old one or the new one.
     ensures crash_ok { HasCleanDisk (state S.Store conn.new) → OnOk result ((db : Trees)
         → (state S.Store conn.new).may_leave db → db ≡ (state S.Store conn.new).now.trees) }
     ensures crash_err { HasCleanDisk (state S.Store conn.new) → OnErr result ((db : Trees)

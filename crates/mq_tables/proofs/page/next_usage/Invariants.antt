@@ -9,7 +9,7 @@ use Rattle.mq_tables.specs.Ledger.{HasLedger}
 use Rattle.mq_tables.proofs.Chain.{IsStill}
 use Rattle.mq_tables.proofs.page.next_usage.Given as goal
 
--- what is next behind the login that was passed last is next behind the first
+-- what is next after the login that was passed last is next after the first
 abbrev pub invariant-loop : goal.invariant-loop
 invariant-loop g l =
     let old = state g.S.Store l.fn.tx.conn.now in

@@ -1,20 +1,17 @@
-use Rattle.std.proofs.Common.{◌≡◌, ◌∙◌, ap, pos, true, refl, to_z, of_z, w64, arith}
+use Rattle.std.proofs.Common.{◌≡◌, ◌∙◌, ap, pos, refl, to_z, of_z, w64, arith}
 use Rattle.std.specs.Prelude.{find, Option, Some, None, option_map, unwrap_or}
 use Rattle.std.proofs.lemmas.Int.{ints}
+use Rattle.mq_ledger.specs.Day.{day_of}
 use Rattle.mq_rows.specs.declared.audited.UsageFigures.{UsageFigures}
 use Rattle.mq_rows.specs.declared.books.Amounts.{Amounts}
-use Rattle.mq_rows.specs.declared.books.Sums.{Sums}
 use Rattle.mq_rows.specs.Audit.{settled_by, reserved_by, cap_or, governing, transactions_of}
-use Rattle.mq_rows.specs.Books.{amounts_of, sums_or, sums_of}
+use Rattle.mq_rows.specs.Books.{amounts_of, sums_of}
 use Rattle.mq_rows.specs.Inside.{are_right}
 use Rattle.mq_rows.specs.Pair.{same_pair}
 use Rattle.mq_rows.proofs.auditing.Books.is_right.Goals as goal
 
 abbrev no_amounts : Amounts
 no_amounts = record { settled = pos 0; reserved = pos 0 }
-
-abbrev no_sums : Sums
-no_sums = record { settled = pos 0; held = pos 0; are_dated = true }
 
 abbrev amounts_by : Option UsageFigures → Amounts
 amounts_by o = record { settled = settled_by o; reserved = reserved_by o }
@@ -23,17 +20,12 @@ amounts_or : (o : Option UsageFigures) → unwrap_or (option_map amounts_of o) n
 amounts_or None = refl
 amounts_or (Some u) = refl
 
-or_no_sums : (o : Option Sums) → unwrap_or o no_sums ≡ sums_or o
-or_no_sums None = refl
-or_no_sums (Some s) = refl
-
 pub returns : goal.returns
-returns c = λ day f books.
+returns c = λ zone default f books same.
     let p = c.args.pair.now in
     let u : c.unwrap_or-usage.result ≡ amounts_by (find (λ u. same_pair p u.pair) f.usage) =
-    c.unwrap_or-usage.ensures ∙ ap (λ o. unwrap_or o no_amounts) (c.copied.ensures ∙ c.get.ensures.value ∙ books.usage p) ∙ amounts_or (find (λ u. same_pair p u.pair) f.usage) in
-    let s : c.unwrap_or-sums.result ≡ sums_of day (transactions_of p f.transactions) =
-    c.unwrap_or-sums.ensures ∙ or_no_sums c.copied-2.result ∙ ap sums_or (c.copied-2.ensures ∙ c.get-2.ensures.value) ∙ books.sums p in
+    c.unwrap_or-usage.ensures ∙ ap (λ o. unwrap_or o no_amounts) (ap (λ d. d.usage) same ∙ books.usage p) ∙ amounts_or (find (λ u. same_pair p u.pair) f.usage) in
+    let s : c.args.day.sums ≡ sums_of (day_of zone) (transactions_of p f.transactions) = ap (λ d. d.sums) same ∙ books.sums p in
     let exact : to_z w64 (of_z w64 c.cap_of.result) ≡ c.cap_of.result = omega (arith, ints) in
-    let k : to_z w64 (of_z w64 c.cap_of.result) ≡ cap_or c.args.self.now.default (governing p f.limits) = exact ∙ c.cap_of.ensures f.limits books.caps in
+    let k : to_z w64 (of_z w64 c.cap_of.result) ≡ cap_or default (governing p f.limits) = exact ∙ c.cap_of.ensures f.limits books.caps ∙ ap (λ n. cap_or n (governing p f.limits)) books.default_is in
     c.are_right.ensures ∙ (λ i. are_right (u i) (s i) (k i))

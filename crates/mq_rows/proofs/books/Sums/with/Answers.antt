@@ -11,18 +11,12 @@ sums a b d = record { settled = a; held = b; are_dated = d }
 alike : (a b a' b' : ℤ) (d d' : Bool) → a ≡ a' → b ≡ b' → d ≡ d' → sums a b d ≡ sums a' b' d'
 alike a b a' b' d d' p q r = λ i. sums (p i) (q i) (r i)
 
-pub returns-then-self-clause-sums : goal.returns-then-self-clause-sums
-returns-then-self-clause-sums c =
+pub returns-then-self : goal.returns-then-self
+returns-then-self c =
     let t = c.args.row.now in
     let d : to_z w64 (of_z w64 t.pair.day) ≡ t.pair.day = omega (arith, ints) in
     let m : to_z w64 (of_z w64 t.moment) ≡ t.moment = omega (arith, ints) in
-    alike _ _ _ _ _ _ (omega (arith, ints)) (omega (arith, ints)) (rw c.if-self.true (c.is_moment_of.ensures ∙ (λ i. is_moment_of (day_of c.args.zone) (d i) (m i))))
+    alike _ _ _ _ _ _ (omega (arith, ints, c.in_ok-checked_add.ensures.1)) (omega (arith, ints, c.in_ok-checked_add-2.ensures.1)) (rw c.if-self.true (c.is_moment_of.ensures ∙ (λ i. is_moment_of (day_of c.args.zone) (d i) (m i))))
 
-pub returns-then-self-clause-bound : goal.returns-then-self-clause-bound
-returns-then-self-clause-bound c = λ n are. record {
-  settled = record { from = omega (arith, ints, are.settled.from); to = omega (arith, ints, are.settled.to) };
-  held = record { from = omega (arith, ints, are.held.from); to = omega (arith, ints, are.held.to) };
-}
-
-pub returns-else-self-clause-sums : goal.returns-else-self-clause-sums
-returns-else-self-clause-sums c = alike _ _ _ _ _ _ (omega (arith, ints)) (omega (arith, ints)) (rw c.if-self.false refl)
+pub returns-else-self : goal.returns-else-self
+returns-else-self c = alike _ _ _ _ _ _ (omega (arith, ints, c.in_ok-checked_add.ensures.1)) (omega (arith, ints, c.in_ok-checked_add-2.ensures.1)) (rw c.if-self.false refl)

@@ -1,0 +1,15 @@
+use Rattle.std.proofs.Common.{◌≡◌, ℕ, map, None}
+use Rattle.std.specs.BTreeMap.{keys}
+use Rattle.mq_ledger.specs.Day.{day_of}
+use Rattle.mq_ledger.specs.declared.zone.Zone.{Zone}
+use Rattle.mq_rows.specs.declared.audited.Pair.{Pair}
+use Rattle.mq_rows.specs.declared.books.Day.{Day}
+use Rattle.mq_rows.specs.Audit.{Figures, is_right}
+use Rattle.mq_rows.specs.Books.{AreBooksOf, least_wrong}
+use Rattle.mq_rows.proofs.auditing.Books.least_wrong.Given as goal
+
+-- with the pairs that are left, the least of all
+abbrev pub invariant-loop-pair : goal.invariant-loop-pair
+invariant-loop-pair l =
+    (zone : Zone) (default : ℕ) (f : Figures) → AreBooksOf zone default f l.self
+    → least_wrong (is_right (day_of zone) default f) l.least (map (λ (e : Pair × Day). e.0) l.pair-iterator) ≡ least_wrong (is_right (day_of zone) default f) None (keys l.self.days)

@@ -1,0 +1,56 @@
+//! All limits that a ledger has, whatever their columns hold.
+
+ghost use Rattle.std.specs.List.Sorted.{IsPermutation};
+ghost use Rattle.std.specs.Prelude.{◌≡◌, map, OnOk, IfOk};
+ghost use Rattle.sqlite.specs.Held.{state};
+ghost use Rattle.sqlite.specs.State.{HasCleanDisk, IsUnchanged, KeepsCommit, Survives};
+ghost use Rattle.mq_rows.specs.Audit.{Figures};
+ghost use Rattle.mq_tables.specs.Figures.{HasFigures, limit_cells, limit_columns};
+
+use crate::figures::limit_of;
+use mq_rows::LimitFigures;
+use sqlite::{Alter, Error, Row, Transaction};
+use std::alloc::Global;
+
+fn limits_rows<S: Alter>(tx: &mut Transaction<'_, S>) -> Result<Vec<Row>, Error>
+    ensures same_reference { tx.new.conn.ghost_name ≡ tx.old.conn.ghost_name }
+    ensures same { HasCleanDisk (state S.Store tx.new.conn.now)
+        → OnOk result (IsUnchanged (state S.Store tx.old.conn.now) (state S.Store tx.new.conn.now)) }
+    ensures found { HasCleanDisk (state S.Store tx.new.conn.now)
+        → IfOk result (λ rows. (f : Figures) → HasFigures (state S.Store tx.old.conn.now).now f
+        → IsPermutation (map limit_cells f.limits) rows.items) }
+    ensures kept { HasCleanDisk (state S.Store tx.new.conn.now)
+        → KeepsCommit (state S.Store tx.old.conn.now) (state S.Store tx.new.conn.now) }
+    ensures survives { Survives (state S.Store tx.old.conn.now) (state S.Store tx.new.conn.now) (λ _. ⊥) }
+{
+    tx.query_all("SELECT login, day, cap FROM ceiling", &[])
+}
+
+fn limits_in(alloc: Global, rows: &[Row]) -> Result<Vec<LimitFigures>, Error>
+    ensures { IfOk result (λ read. map limit_columns rows.now ≡ map limit_cells read.items) }
+{
+    let mut read = Vec::new(alloc);
+    for row in rows {
+        read.push(limit_of(row)?)?;
+    }
+    Ok(read)
+}
+
+/// All rows of `ceiling`, in any order. An error is the store's, also where memory runs out.
+pub fn read_limits<S: Alter>(
+    alloc: Global,
+    tx: &mut Transaction<'_, S>,
+) -> Result<Vec<LimitFigures>, Error>
+    ensures same_reference { tx.new.conn.ghost_name ≡ tx.old.conn.ghost_name }
+    ensures same { HasCleanDisk (state S.Store tx.new.conn.now)
+        → OnOk result (IsUnchanged (state S.Store tx.old.conn.now) (state S.Store tx.new.conn.now)) }
+    ensures found { HasCleanDisk (state S.Store tx.new.conn.now)
+        → IfOk result (λ read. (f : Figures) → HasFigures (state S.Store tx.old.conn.now).now f
+        → IsPermutation f.limits read.items) }
+    ensures kept { HasCleanDisk (state S.Store tx.new.conn.now)
+        → KeepsCommit (state S.Store tx.old.conn.now) (state S.Store tx.new.conn.now) }
+    ensures survives { Survives (state S.Store tx.old.conn.now) (state S.Store tx.new.conn.now) (λ _. ⊥) }
+{
+    let rows = limits_rows(tx)?;
+    limits_in(alloc, rows.as_slice())
+}
