@@ -47,6 +47,16 @@ def answer(result, session=b"7641df9771b4ed00", token=b"1ef1c203cc576e5d"):
 PROCEED = b"proceed"
 LIMIT = b"reject|550 daily recipient limit reached"
 SERVICE = b"reject|451 quota service unavailable"
+# what the log has of a login whose limit is reached, and of a server that gives no answer
+NAMED = "(host mx1, session 7641df9771b4ed00, login alice)"
+REFUSED_BY_LIMIT = f"[WARN  mq_client::tries] reserve 1 of transaction 1 {NAMED}: refused by the limit, 3 used of 3\n"
+WHY_CLOSED = "[ERROR mq_tcp::logged] quota server ADDRESS: closed before its reply was whole"
+SERVER = "[WARN  mq_tcp::logged] quota server ADDRESS:"
+UNANSWERED_RESERVE = f"[INFO  mq_client::tries] reserve 1 of transaction 1 {NAMED}: no answer in 3 tries"
+UNANSWERED_RELEASE = f"[INFO  mq_client::tries] release 2 of transaction 1 {NAMED}: no answer in 3 tries, it waits"
+LEFT = "[WARN  mq_client::filter] the input ends, closings without an answer: 1"
+# replies to other requests
+OTHER_REPLIES = {"a reply of another number", "a reply of another host", "a reply of another run", "a reply of another kind"}
 # the status and lines of a filter whose reserve got no reply
 UNANSWERED = 0, REGISTRATION + answer(SERVICE)
 
@@ -77,11 +87,11 @@ def scripted(world, checks, what, text, script, *, results, frames, status=0, er
 
 def one_recipient(world, checks):
     scripted(world, checks, "one recipient, granted", INPUT, [GRANTED], results=[answer(PROCEED)], frames=[RESERVE], errors="")
-    scripted(world, checks, "one recipient, full", INPUT, [FULL], results=[answer(LIMIT)], frames=[RESERVE], errors="")
+    scripted(world, checks, "one recipient, full", INPUT, [FULL], results=[answer(LIMIT)], frames=[RESERVE], errors=REFUSED_BY_LIMIT)
     text = INPUT + COMMIT + RESET_LINE
     scripted(world, checks, "a commit settles, the reset after it does nothing", text, [GRANTED, SETTLED], results=[answer(PROCEED)], frames=[RESERVE, SETTLE], errors="")
     scripted(world, checks, "a reset releases", INPUT + RESET_LINE, [GRANTED, RELEASED], results=[answer(PROCEED)], frames=[RESERVE, RELEASE], errors="")
-    scripted(world, checks, "a commit after a full answer releases", INPUT + COMMIT, [FULL, RELEASED], results=[answer(LIMIT)], frames=[RESERVE, RELEASE], errors="")
+    scripted(world, checks, "a commit after a full answer releases", INPUT + COMMIT, [FULL, RELEASED], results=[answer(LIMIT)], frames=[RESERVE, RELEASE], errors=REFUSED_BY_LIMIT)
     swapped = INPUT.replace(b"|pass|alice", b"|alice|pass")
     scripted(world, checks, "name before result", swapped, [GRANTED], results=[answer(PROCEED)], frames=[RESERVE], errors="")
 
@@ -118,9 +128,10 @@ def tries(world, checks):
         timeout = 300 if first is SILENCE else LONG
         errors = scripted(
             world, checks, f"{what}, twice, with tries = 2", INPUT, [first, first], results=[answer(SERVICE)], frames=[RESERVE] * 2,
-            timeout=timeout, tries=2,
+            timeout=timeout, tries=2, log="info",
         )
-        told(checks, f"{what}, twice", errors, 1, ["mx1", "alice", "transaction 1"])
+        other = what in OTHER_REPLIES
+        told(checks, f"{what}, twice", errors, 1, ["WARN " if other else "INFO ", "mx1", "session 7641df9771b4ed00", "alice", "transaction 1", f"no answer in 2 tries{', but a reply of another kind or number' if other else ''}"])
     scripted(world, checks, "a grant and more bytes", INPUT, [GRANTED + b"more"], results=[answer(PROCEED)], frames=[RESERVE], errors="")
     scripted(world, checks, "ten tries, the tenth granted", INPUT, [b""] * 9 + [GRANTED], results=[answer(PROCEED)], frames=[RESERVE] * 10, errors="", tries=10)
     for what, body in [("closed", b"\x87"), ("mismatch", b"\x88"), ("conflict", b"\x8a")]:
@@ -134,8 +145,10 @@ def closings(world, checks):
     scripted(world, checks, "a settle lost twice", text, [GRANTED, b"", b"", SETTLED], results=[answer(PROCEED)], frames=[RESERVE] + [SETTLE] * 3, errors="")
     scripted(world, checks, "a settle lost three times is sent at the end", text, [GRANTED, b"", b"", b"", SETTLED], results=[answer(PROCEED)], frames=[RESERVE] + [SETTLE] * 4)
     lost = [RESERVE] * 3 + [RELEASE] * 6
-    errors = scripted(world, checks, "every reply lost", text, [b""] * 9, results=[answer(SERVICE)], frames=lost)
-    told(checks, "every reply lost", errors, 3, ["mx1", "alice", "transaction 1"])
+    errors = scripted(world, checks, "every reply lost", text, [b""] * 9, results=[answer(SERVICE)], frames=lost, log="info")
+    checks.equal("every reply lost: the log", without_address(errors), [WHY_CLOSED, UNANSWERED_RESERVE, UNANSWERED_RELEASE, UNANSWERED_RELEASE, LEFT])
+    errors = scripted(world, checks, "every reply lost, by the default level", text, [b""] * 9, results=[answer(SERVICE)], frames=lost)
+    checks.equal("every reply lost, by the default level: the log", without_address(errors), [WHY_CLOSED, LEFT])
 
 
 def warnings(world, checks):
@@ -151,16 +164,23 @@ def warnings(world, checks):
     good = re.fullmatch(r"\[ERROR mq_tcp::logged\] quota server 127.0.0.1:\d+: closed before its reply was whole\n", errors)
     checks.holds('a lost reserve with log = "error": the log', good, "one line with the address and why no answer came", errors)
     away = INPUT + RCPT * 2
+    errors = scripted(world, checks, "a server that is away for two recipients, by the default level", away, [b""] * 6 + [granted(3, 1, **MX1), RELEASED], results=[answer(SERVICE)] * 2 + [answer(PROCEED)], frames=[RESERVE] * 3 + [reserve(2, login=b"alice", at=1_576_146_009, **MX1)] * 3 + [reserve(3, login=b"alice", at=1_576_146_009, **MX1)])
+    checks.equal("a server that is away for two recipients, by the default level: its beginning and its end", without_address(errors), [WHY_CLOSED, f"{SERVER} answers again, requests without an answer: 2"])
     errors = scripted(world, checks, "a server that is away for two recipients", away, [b""] * 6 + [granted(3, 1, **MX1), RELEASED], results=[answer(SERVICE)] * 2 + [answer(PROCEED)], frames=[RESERVE] * 3 + [reserve(2, login=b"alice", at=1_576_146_009, **MX1)] * 3 + [reserve(3, login=b"alice", at=1_576_146_009, **MX1)], log="info")
     marks = [line.split("]")[0] for line in errors.splitlines()]
-    wanted = ["[ERROR mq_tcp::logged", "[WARN  mq_client::tries", "[WARN  mq_client::tries", "[INFO  mq_tcp::logged"]
+    wanted = ["[ERROR mq_tcp::logged", "[INFO  mq_client::tries", "[INFO  mq_client::tries", "[WARN  mq_tcp::logged"]
     checks.equal("a server that is away for two recipients: why once, each recipient, and that it answers again", marks, wanted)
     refusals(world, checks)
     login = b"a\x1b[2J \\" + b"x" * 200
     long = INPUT.replace(b"alice", login)
     asked = reserve(1, login=login, at=1_576_146_009, **MX1)
-    errors = scripted(world, checks, "a login with bytes for a terminal", long, [b""] * 3, results=[answer(SERVICE)], frames=[asked] * 3)
+    errors = scripted(world, checks, "a login with bytes for a terminal", long, [b""] * 3, results=[answer(SERVICE)], frames=[asked] * 3, log="info")
     checks.holds("a login with bytes for a terminal: the log", "\x1b" not in errors and "a\\x1b[2J\\x20\\x5cx" in errors, "a\\x1b[2J\\x20\\x5cx.. and no byte of it raw", errors)
+
+
+def without_address(errors):
+    """The lines of a log without the port of the server, which each run has another of."""
+    return [re.sub(r"127\.0\.0\.1:\d+", "ADDRESS", line) for line in errors.splitlines()]
 
 
 def told(checks, what, errors, count, words):
@@ -173,7 +193,13 @@ def told(checks, what, errors, count, words):
 def refusals(world, checks):
     """What is logged with a 550, and with the 451s that the filter gives by itself: the first of a cause in a session."""
     errors = scripted(world, checks, 'a full answer with log = "info"', INPUT, [FULL], results=[answer(LIMIT)], frames=[RESERVE], log="info")
-    told(checks, 'a full answer with log = "info"', errors, 1, ["INFO ", "mx1", "alice", "transaction 1", "3 used of 3"])
+    checks.equal('a full answer with log = "info": the log', errors, REFUSED_BY_LIMIT)
+    second = frame(b"\x82" + identity(2, **MX1) + number(3) + number(3))
+    for log, more in [("info", REFUSED_BY_LIMIT.replace("WARN ", "INFO ").replace("reserve 1", "reserve 2")), ("warn", "")]:
+        scripted(
+            world, checks, f'two full answers of a login with log = "{log}"', INPUT + RCPT, [FULL, second], results=[answer(LIMIT)] * 2,
+            frames=[RESERVE, reserve(2, login=b"alice", at=1_576_146_009, **MX1)], errors=REFUSED_BY_LIMIT + more, log=log,
+        )
     for what, body in [("closed", b"\x87"), ("mismatch", b"\x88"), ("conflict", b"\x8a")]:
         reply = frame(body + identity(1, **MX1))
         errors = scripted(world, checks, f"a reserve answered {what}", INPUT, [reply], results=[answer(SERVICE)], frames=[RESERVE])
@@ -191,9 +217,11 @@ def refusals(world, checks):
 def no_server(world, checks):
     text = INPUT + COMMIT
     with nobody_there() as address:
-        status, output, errors = world.filter(address, text)
+        status, output, errors = world.filter(address, text, log="info")
     checks.equal("no server: lines and status", (status, output), UNANSWERED)
-    told(checks, "no server: reserve, release at the commit, release at the end", errors, 3, ["mx1", "alice", "transaction 1"])
+    refused = "[ERROR mq_tcp::logged] quota server ADDRESS: Connection refused (os error 111)"
+    wanted = [refused, UNANSWERED_RESERVE, UNANSWERED_RELEASE, UNANSWERED_RELEASE, LEFT]
+    checks.equal("no server: reserve, release at the commit, release at the end", without_address(errors), wanted)
     came, took = soon(lambda: not_accepted(world), 4)
     checks.equal("a server that accepts nothing: lines and status", came, UNANSWERED)
     checks.holds("a server that accepts nothing: the timeout of a connect", 0.59 < took < 4, "2 tries of 300 ms", f"{took:.2f} s")
