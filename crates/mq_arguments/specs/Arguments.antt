@@ -6,7 +6,7 @@ use Rattle.mq_arguments.specs.declared.LimitArguments.{LimitArguments}
 use Rattle.mq_arguments.specs.declared.ResumeArguments.{ResumeArguments}
 use Rattle.mq_arguments.specs.declared.Arguments.{Arguments}
 use Rattle.mq_arguments.specs.declared.Arguments.TheVariants.{Replay, Filter, Server, Limit, Retire, Stop, Resume, Day}
-use Rattle.mq_arguments.specs.declared.Arguments.TheVariants.{Report, Audit}
+use Rattle.mq_arguments.specs.declared.Arguments.TheVariants.{Init, Status, Report, Limits, Audit, Forget}
 
 -- a limit of 0 to 1,000,000, and at most 1,439 minutes either way
 pub record IsReplayArguments (given : ReplayArguments) : Type 0 where
@@ -34,4 +34,8 @@ IsArguments (Resume given) = IsResumeArguments given
 IsArguments (Day given) = IfSome given.at IsMoment
 IsArguments (Retire given) = IfSome given.run IsRun
 IsArguments (Report given) = IsDay given.day
+IsArguments (Init given) = ⊤
+IsArguments (Status given) = ⊤
+IsArguments (Limits given) = ⊤
 IsArguments (Audit given) = ⊤
+IsArguments (Forget given) = IsDay given.before

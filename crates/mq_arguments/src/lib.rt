@@ -25,6 +25,13 @@ pub struct ReplayArguments<'a> {
     pub sql: bool,
 }
 
+/// What `init` is given.
+#[derive(Clone, Copy, Debug, PartialEq)]
+pub struct InitArguments<'a> {
+    /// The file of the server's settings.
+    pub config: &'a str,
+}
+
 /// What `filter` is given.
 #[derive(Clone, Copy, Debug, PartialEq)]
 pub struct FilterArguments<'a> {
@@ -32,6 +39,8 @@ pub struct FilterArguments<'a> {
     pub config: &'a str,
     /// The number of the run, or the clock's.
     pub run: Option<u64>,
+    /// Whether it only looks at the settings and asks whether the server answers.
+    pub check: bool,
 }
 
 /// What `server` is given.
@@ -45,11 +54,44 @@ pub struct ServerArguments<'a> {
     pub connections: u32,
 }
 
+/// How the server is named that is asked whether it answers.
+#[derive(Clone, Copy, Debug, PartialEq)]
+pub enum ServerArgument<'a> {
+    /// Its numeric address and port.
+    Address(&'a str),
+    /// The file of its settings.
+    Config(&'a str),
+}
+
+/// What `status` is given.
+#[derive(Clone, Copy, Debug, PartialEq)]
+pub struct StatusArguments<'a> {
+    pub server: ServerArgument<'a>,
+}
+
 /// What `audit` is given.
 #[derive(Clone, Copy, Debug, PartialEq)]
 pub struct AuditArguments<'a> {
     /// The file of the server's settings.
     pub config: &'a str,
+}
+
+/// What `limits` is given.
+#[derive(Clone, Copy, Debug, PartialEq)]
+pub struct LimitsArguments<'a> {
+    /// The file of the server's settings.
+    pub config: &'a str,
+}
+
+/// What `forget` is given.
+#[derive(Clone, Copy, Debug, PartialEq)]
+pub struct ForgetArguments<'a> {
+    /// The file of the server's settings.
+    pub config: &'a str,
+    /// The first day that is remembered, 0 to 376,200.
+    pub before: u32,
+    /// The database file that is made.
+    pub into: &'a str,
 }
 
 /// How a login is named.
@@ -129,6 +171,8 @@ pub struct ReportArguments<'a> {
 /// What the words ask for.
 #[derive(Clone, Copy, Debug, PartialEq)]
 pub enum Arguments<'a> {
+    Init(InitArguments<'a>),
+    Status(StatusArguments<'a>),
     Replay(ReplayArguments<'a>),
     Filter(FilterArguments<'a>),
     Server(ServerArguments<'a>),
@@ -138,5 +182,7 @@ pub enum Arguments<'a> {
     Resume(ResumeArguments<'a>),
     Day(DayArguments<'a>),
     Report(ReportArguments<'a>),
+    Limits(LimitsArguments<'a>),
     Audit(AuditArguments<'a>),
+    Forget(ForgetArguments<'a>),
 }

@@ -7,7 +7,7 @@ use Rattle.mq_server.specs.declared.connections.ConnectionEnd.{ConnectionEnd}
 use Rattle.mq_command.specs.Replay.{ending_of, faults_from, faults_of}
 use Rattle.mq_command.specs.declared.replay.Ending.{Ending}
 
--- the faults from a place on: that of the end there, and those behind it
+-- the faults from a place on: that of the end there, and those after it
 pub faults_step : (all : List ConnectionEnd) (i : ℕ) (end : ConnectionEnd) → i < length all → get_or all i end ≡ end
     → faults_from (i + 1) (drop i all) ≡ cons_option (option_map (λ e. (i + 1, e)) (ending_of end)) (faults_from (i + 1 + 1) (drop (i + 1) all))
 faults_step all i end below here = ap (faults_from (i + 1)) (drop_more all i end below ∙ ap (λ e. e ∷ drop (i + 1) all) here)

@@ -11,11 +11,11 @@ use Rattle.mq_command.specs.Output.{AppendsFront, hex_line, hex_lines}
 pub front_whole : (old new : Option (List ℕ)) (bytes : List ℕ) → Appends old new bytes → AppendsFront old new bytes
 front_whole old new bytes written = (bytes, [], sym (append-nil bytes), written)
 
--- a front of what comes first
+-- a prefix of what comes first
 pub front_first : (old new : Option (List ℕ)) (bytes more : List ℕ) → AppendsFront old new bytes → AppendsFront old new (bytes ++ more)
 front_first old new bytes more (front, rest, split, written) = (front, rest ++ more, ap (λ l. l ++ more) split ∙ append_assoc front rest more, written)
 
--- all of what comes first, and a front of the rest
+-- all of what comes first, and a prefix of the rest
 pub front_later : (old mid new : Option (List ℕ)) (bytes more : List ℕ) → Appends old mid bytes → AppendsFront mid new more → AppendsFront old new (bytes ++ more)
 front_later old mid new bytes more before (front, rest, split, written) =
     (bytes ++ front, rest, ap (λ l. bytes ++ l) split ∙ sym (append_assoc bytes front rest), Appends-trans old mid new bytes front before written)
@@ -24,7 +24,7 @@ front_later old mid new bytes more before (front, rest, split, written) =
 pub lines_around : (done : List (List ℕ)) (bytes : List ℕ) (rest : List (List ℕ)) → hex_lines (done ++ bytes ∷ rest) ≡ (hex_lines done ++ hex_line bytes) ++ hex_lines rest
 lines_around done bytes rest = flat_map-append hex_line done (bytes ∷ rest) ∙ sym (append_assoc (hex_lines done) (hex_line bytes) (hex_lines rest))
 
--- a front of one more line
+-- a prefix of one more line
 pub front_of_line : (old mid new : Option (List ℕ)) (all done : List (List ℕ)) (bytes : List ℕ) (rest : List (List ℕ)) → all ≡ done ++ bytes ∷ rest
     → Appends old mid (hex_lines done) → AppendsFront mid new (hex_line bytes) → AppendsFront old new (hex_lines all)
 front_of_line old mid new all done bytes rest e before now =

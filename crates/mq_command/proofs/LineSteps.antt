@@ -49,7 +49,7 @@ pub joined-line : (current line : List ℕ) (lines : List (List ℕ)) → is_emp
 joined-line current line lines h =
     ap (after_open current) (slice_split-cons_no is_empty_line line lines h) ∙ after_open-first current line (slice_split is_empty_line lines)
 
--- behind the last line
+-- after the last line
 pub joined-end : (current : List ℕ) → joined current [] ≡ filter has_bytes (current ∷ [])
 joined-end current = ap (λ c. filter has_bytes (c ∷ [])) (append-nil current)
 

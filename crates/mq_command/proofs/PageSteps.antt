@@ -14,7 +14,7 @@ use Rattle.mq_command.specs.declared.output.OutputFault.TheVariants as outputs
 use Rattle.mq_command.specs.declared.report.ReportFault.{ReportFault}
 use Rattle.mq_command.proofs.Fronts.{front_later}
 
--- so many full pages were accepted and printed, and the next begins behind this login
+-- so many full pages were accepted and printed, and the next begins after this login
 pub record ArePrinted (day : ℕ) (start told : Option (List Told)) (old new : Option (List ℕ)) (count : ℕ) (after : List ℕ) : Type 0 where
   pub rows : List UsageRow
   pub pages : AreFullPages day start count after told rows

@@ -5,7 +5,7 @@ use Rattle.mq_ledger.specs.declared.zone.Zone.{Zone}
 use Rattle.mq_server.specs.Connections.{wires, result_of, AreServed}
 use Rattle.mq_server.specs.Delivery.{Delivery}
 use Rattle.mq_server.specs.declared.connections.ConnectionEnd.{ConnectionEnd}
-use Rattle.mq_command.specs.Replay.{empty_book, IsReplay, Prints, ReplaysOver}
+use Rattle.mq_command.specs.Replay.{empty_book, IsForCause, IsReplay, Prints, ReplaysOver}
 use Rattle.mq_command.specs.declared.replay.ReplayFault.{ReplayFault}
 use Rattle.mq_command.specs.declared.replay.ReplayFault.TheVariants.{Text, Serve, Connection, Output}
 
@@ -42,3 +42,11 @@ of_printing zone default connections written all old new (Err (Connection number
 of_printing zone default connections written all old new (Err (Output fault)) replay printed = (written, all, replay, printed)
 of_printing zone default connections written all old new (Err (Text fault)) replay printed = absurd printed
 of_printing zone default connections written all old new (Err (Serve fault)) replay printed = absurd printed
+
+-- where the answers were printed, the connections were served
+pub served : (store : Type 0) (written : List (List ℕ)) (all : List ConnectionEnd) (old new : Option (List ℕ)) (ended : Result (Unit {0}) ReplayFault) → Prints written all old new ended → IsForCause store ended
+served store written all old new (Ok u) printed = tt
+served store written all old new (Err (Connection number ending)) printed = tt
+served store written all old new (Err (Output fault)) printed = tt
+served store written all old new (Err (Text fault)) printed = tt
+served store written all old new (Err (Serve fault)) printed = absurd printed

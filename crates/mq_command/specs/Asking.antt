@@ -65,7 +65,7 @@ pub record IsUnanswered (request : Request) (count : ℕ) (old new : Option (Lis
   pub missed : All (IsMissed request) group
 
 -- The request was sent up to three times; no exchange before the last brought a reply that answers it. The last one
--- brought a reply that couldn't be decoded for want of memory.
+-- brought a reply that couldn't be decoded since memory ran out.
 pub record IsUndecoded (request : Request) (old new : Option (List Told)) : Type 0 where
   pub before : List Told
   pub last : Told
@@ -76,7 +76,7 @@ pub record IsUndecoded (request : Request) (old new : Option (List Told)) : Type
   pub reply : Reply
   pub brought : Brought last.outcome reply
 
--- What asking leads to: the first reply that answers, or the fault after three exchanges without one. Want of memory
+-- What asking leads to: the first reply that answers, or the fault after three exchanges without one. That memory ran out
 -- ends it before any exchange, or at a reply that came.
 abbrev pub Asks : Request → Option (List Told) → Option (List Told) → Result Reply AskFault → Type 0
 Asks request old new (Ok reply) = IsAnswered request reply old new

@@ -5,7 +5,7 @@ use Rattle.std.specs.List.{slice_split, flat_map}
 use Rattle.std.specs.Result.{result_unwrap_or}
 use Rattle.hex.specs.Hex.{decode_of}
 
--- the lines of a text: what stands before, between and behind its line feeds
+-- the lines of a text: what stands before, between and after its line feeds
 abbrev pub lines_of : List ℕ → List (List ℕ)
 lines_of text = slice_split (λ b. b == 10) text
 

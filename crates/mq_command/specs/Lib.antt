@@ -4,5 +4,6 @@ pub mod Connections
 pub mod Orders
 pub mod Output
 pub mod Printed
+pub mod Probing
 pub mod Replay
 pub mod Report

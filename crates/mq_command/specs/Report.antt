@@ -36,12 +36,12 @@ abbrev pub IsAscendingAbove : List ℕ → List UsageRow → Type 0
 IsAscendingAbove after [] = ⊤
 IsAscendingAbove after (row ∷ rows) = (slice_cmp nat_cmp after row.login ≡ Less) × IsAscendingAbove row.login rows
 
--- the login behind which the next page begins
+-- the login after which the next page begins
 abbrev pub last_login : List ℕ → List UsageRow → List ℕ
 last_login after [] = after
 last_login after (row ∷ rows) = last_login row.login rows
 
--- The server was asked for the page of that day behind a login, and answered with these rows of that day, ascending.
+-- The server was asked for the page of that day after a login, and answered with these rows of that day, ascending.
 pub record IsPage (day : ℕ) (after : List ℕ) (old new : Option (List Told)) (rows : List UsageRow) : Type 0 where
   pub answered : IsAnswered (asks.List day after) (says.List day rows) old new
   pub ascending : IsAscendingAbove after rows
@@ -79,7 +79,7 @@ abbrev pub output_fault : OutputFault → ReportFault
 output_fault outputs.Write = Write
 output_fault outputs.Memory = Memory
 
--- so many full pages that were accepted, each behind the one before; the last ends at this login
+-- so many full pages that were accepted, each after the one before; the last ends at this login
 pub data AreFullPages (day : ℕ) (start : Option (List Told)) : ℕ → List ℕ → Option (List Told) → List UsageRow
     → Type 0 where
   no_page : AreFullPages day start 0 [] start []
@@ -93,14 +93,14 @@ AfterPages day start Next =
     (count : ℕ) × (after : List ℕ) × (mid : Option (List Told)) × (rows : List UsageRow) × (count < 100000)
     × AreFullPages day start count after mid rows × Next after mid rows
 
--- one page more was accepted, and a front of the lines of all pages is printed
+-- one page more was accepted, and a prefix of the lines of all pages is printed
 abbrev pub PrintsFront : ℕ → Option (List Told) → Option (List ℕ) → Option (List ℕ) → List ℕ → Option (List Told)
     → List UsageRow → Type 0
 PrintsFront day told old new after mid rows =
     (more : List UsageRow) × IsPage day after mid told more × AppendsFront old new (report_lines (rows ++ more))
 
 -- The report of all logins: a line for each row of the pages, of which the last alone has fewer than 100 rows. Where it
--- isn't done, the lines of the pages that were accepted; a front of them where the output or memory fails.
+-- isn't done, the lines of the pages that were accepted; a prefix of them where the output or memory fails.
 abbrev pub ReportsAll : ℕ → Option (List Told) → Option (List Told) → Option (List ℕ) → Option (List ℕ)
     → Result (Unit {0}) ReportFault → Type 0
 ReportsAll day told told' old new (Ok _) =
@@ -147,7 +147,7 @@ PrintsRow row old new (Err Write) = AppendsFront old new (row_line row)
 PrintsRow row old new (Err Memory) = AppendsFront old new (row_line row)
 PrintsRow row old new (Err _) = ⊥
 
--- The report of one login: its line. Where it isn't done, nothing; a front of the line where the output or memory
+-- The report of one login: its line. Where it isn't done, nothing; a prefix of the line where the output or memory
 -- fails.
 abbrev pub ReportsOne : ℕ → List ℕ → Option (List Told) → Option (List Told) → Option (List ℕ) → Option (List ℕ)
     → Result (Unit {0}) ReportFault → Type 0

@@ -229,7 +229,7 @@ fn resume<L: Link>(
     }
 }
 
-/// The line that tells how much a login used, or may use, on a day.
+/// The line that says how much a login used, or may use, on a day.
 fn line_of(
     alloc: Global,
     begin: &str,

@@ -63,7 +63,7 @@ fn fits(request: &Request, reply: &Reply) -> bool
 
 /// Sends a frame once, and gives the reply that answers its request, where one came. Memory may
 /// fail for a reply that came.
-fn try_once<L: Link>(
+pub(crate) fn try_once<L: Link>(
     alloc: Global,
     link: &mut L,
     request: &Request,

@@ -135,7 +135,7 @@ pub fn order_fresh<L: Link>(
     order(alloc, link, request)
 }
 
-/// Sends an order up to three times, and tells what came of it. The result is the exit status, 0 or 1.
+/// Sends an order up to three times, and prints what came of it. The result is the exit status, 0 or 1.
 fn run_order<L: Link, W: Write, E: Write>(
     alloc: Global,
     link: &mut L,

@@ -27,7 +27,7 @@ const PAGE: usize = ROW_LIMIT as usize;
 /// The most pages of a report, the last of which may not be full.
 const MOST_PAGES: u32 = 100_000;
 
-/// Why a report isn't done; what was printed is a front of it.
+/// Why a report isn't done; what was printed is a prefix of it.
 #[derive(Clone, Copy, Debug, PartialEq, Error)]
 pub enum ReportFault {
     #[error("{0}")]
@@ -106,7 +106,7 @@ fn row_of(reply: Reply) -> UsageRow
     }
 }
 
-/// Asks for the page of that day behind a login.
+/// Asks for the page of that day after a login.
 fn ask_page<L: Link>(
     alloc: Global,
     link: &mut L,
@@ -128,7 +128,7 @@ fn ask_page<L: Link>(
     }
 }
 
-/// The rows of a reply's page, where they are of that day and ascend from behind a login.
+/// The rows of a reply's page, where they are of that day and ascend from after a login.
 fn rows_of(reply: Reply, day: u32, after: &Login) -> Result<UsageRows, ReportFault>
     requires answers { AnswersList reply }
     requires in_range { IsReply reply }

@@ -18,7 +18,7 @@ pub stopped : (Finds : Audit → Type 0) (old new : Option (List ℕ)) (why : Pr
 stopped Finds old new why (Ok u) is audits = absurd is
 stopped Finds old new why (Err f) is audits = subst (λ x. Audits Finds old new (Err x)) (sym is) audits
 
--- the line of right books was printed, or a front of it
+-- the line of right books was printed, or a prefix of it
 pub told : (found : Audit) (days transactions : ℕ) (old new : Option (List ℕ)) (bytes : List ℕ) (ended : Result (Unit {0}) ProgramFault)
     → found ≡ Sound days transactions → bytes ≡ sound_line days transactions → OnOk ended (Appends old new bytes) → AppendsFront old new bytes
     → IfErr ended (λ f. f ≡ fault.Write) → Audits (λ a. a ≡ found) old new ended

@@ -4,3 +4,7 @@ pub mod RefusalSteps
 pub mod ReplaySteps
 pub mod ServingEnds
 pub mod ServingSteps
+pub mod Forgot
+pub mod ListingSteps
+pub mod CountingSteps
+pub mod DescribingSteps

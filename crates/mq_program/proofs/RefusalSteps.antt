@@ -3,11 +3,13 @@ use Rattle.std.proofs.Common.{◌≡◌, ℕ, List, Option, None, Some, Result, 
 use Rattle.std.specs.Prelude.{IfSome, IsErrAnd}
 use Rattle.std.specs.Borrow.{Bor}
 use Rattle.mq_ledger.specs.declared.zone.Zone.{Zone}
-use Rattle.mq_program.specs.Refusals.{IsRuleAlone, IsZoneOf, NamesLogin, OrderRefuses, Refuses}
+use Rattle.mq_program.specs.Refusals.{IsRuleAlone, IsZoneOf, NamesLogin, OrderRefuses, Refuses, StatusRefuses}
 use Rattle.mq_program.specs.Faults.{fault_status}
 use Rattle.mq_arguments.specs.declared.LoginArgument.{LoginArgument}
+use Rattle.mq_arguments.specs.declared.ServerArgument.{ServerArgument}
+use Rattle.mq_arguments.specs.declared.ServerArgument.TheVariants as server
 use Rattle.mq_arguments.specs.declared.Arguments.{Arguments}
-use Rattle.mq_arguments.specs.declared.Arguments.TheVariants.{Replay, Filter, Server, Limit, Stop, Resume, Day, Retire, Report, Audit}
+use Rattle.mq_arguments.specs.declared.Arguments.TheVariants.{Replay, Init, Filter, Status, Server, Limit, Stop, Resume, Day, Retire, Report, Limits, Audit, Forget}
 use Rattle.mq_program.specs.declared.fault.ProgramFault.{ProgramFault}
 use Rattle.mq_program.specs.declared.fault.ProgramFault.TheVariants.{Host, Login, Address, Rule}
 
@@ -30,6 +32,11 @@ for_order host login server A B step refuses = record {
   bad_login = λ is no. step Login (refuses.bad_login is no);
   bad_address = λ is names no. step Address (refuses.bad_address is names no);
 }
+
+-- the same for the server that is asked
+for_status : (asked : ServerArgument) (A B : ProgramFault → Type 0) → ((fault : ProgramFault) → A fault → B fault) → StatusRefuses asked A → StatusRefuses asked B
+for_status (server.Address text) A B step refuses = λ no. step Address (refuses no)
+for_status (server.Config file) A B step refuses = refuses
 
 -- an order ends by the fault of its words
 pub order_refused : {X : Type 0} (host : List ℕ) (login : LoginArgument) (server : List ℕ) (checked : Result X ProgramFault) (fault : ProgramFault)
@@ -58,6 +65,10 @@ for_refusals (Replay given) A B step refuses = for_rule given.rule given.east gi
 for_refusals (Filter given) A B step refuses = refuses
 for_refusals (Server given) A B step refuses = refuses
 for_refusals (Audit given) A B step refuses = refuses
+for_refusals (Limits given) A B step refuses = refuses
+for_refusals (Init given) A B step refuses = refuses
+for_refusals (Forget given) A B step refuses = refuses
+for_refusals (Status given) A B step refuses = for_status given.server A B step refuses
 for_refusals (Day given) A B step refuses = refuses
 for_refusals (Limit given) A B step refuses = for_order given.host.now given.login given.server.now A B step refuses
 for_refusals (Stop given) A B step refuses = for_order given.host.now given.login given.server.now A B step refuses

@@ -1,4 +1,4 @@
--- What a ledger means behind one call after another.
+-- What a ledger means after one call after another.
 use Rattle.std.proofs.Common.{◌≡◌, ℕ, sym, subst, subst₂}
 use Rattle.sqlite.specs.Effect.{Database}
 use Rattle.sqlite.specs.State.{State}

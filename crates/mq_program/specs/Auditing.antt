@@ -28,7 +28,7 @@ PrintsAudit zone default db old new =
     (days transactions : ℕ) × IsAuditIn zone default db (Sound days transactions)
     × Appends old new (sound_line days transactions)
 
--- What an audit that may find this leads to. That the books are right is printed, or a front of it where the output
+-- What an audit that may find this leads to. That the books are right is printed, or a prefix of it where the output
 -- fails; the least login and day that are wrong are the fault, and then nothing is printed, as where memory or rows
 -- are wanting.
 pub data Audits (Finds : Audit → Type 0) (old new : Option (List ℕ)) : Result (Unit {0}) ProgramFault → Type 0 where

@@ -14,7 +14,7 @@ fault_status Address = 2
 fault_status Rule = 2
 fault_status _ = 1
 
--- want of memory goes before any other fault
+-- that memory ran out goes before any other fault
 abbrev pub or_memory_of : ErrorKind → ProgramFault → ProgramFault
 or_memory_of kind.OutOfMemory fault = Memory
 or_memory_of _ fault = fault

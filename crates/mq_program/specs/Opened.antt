@@ -31,7 +31,7 @@ pub record IsMadeIn (zone : Zone) (default : ℕ) (image : Image) (new : State) 
   pub beside : (db : Database) → IsDatabase db → HoldsDatabase image db.trees → lacks_sequence db.schema ≡ false
       → AreUnnamed db.schema → IsNew zone default new
 
--- A legal history whose rows the files kept is of this zone and default; behind it, what came since, and nothing else, is what
+-- A legal history whose rows the files kept is of this zone and default; after it, what came since, and nothing else, is what
 -- the sound store means.
 abbrev pub GrowsFrom : Zone → ℕ → Image → State → Type 0
 GrowsFrom zone default image new =

@@ -9,10 +9,12 @@ use Rattle.mq_ledger.specs.Day.{ByOffset, ByRule, IsRule}
 use Rattle.mq_arguments.specs.declared.ReplayArguments.{ReplayArguments}
 use Rattle.mq_arguments.specs.declared.LoginArgument.{LoginArgument}
 use Rattle.mq_arguments.specs.declared.LoginArgument.TheVariants.{Reported, Printed}
+use Rattle.mq_arguments.specs.declared.ServerArgument.{ServerArgument}
+use Rattle.mq_arguments.specs.declared.ServerArgument.TheVariants as server
 use Rattle.mq_arguments.specs.declared.RetireArguments.{RetireArguments}
 use Rattle.mq_arguments.specs.declared.ReportArguments.{ReportArguments}
 use Rattle.mq_arguments.specs.declared.Arguments.{Arguments}
-use Rattle.mq_arguments.specs.declared.Arguments.TheVariants.{Replay, Limit, Stop, Resume, Retire, Report}
+use Rattle.mq_arguments.specs.declared.Arguments.TheVariants.{Replay, Status, Limit, Stop, Resume, Retire, Report}
 use Rattle.mq_command.specs.Printed.{IsLoginText, IsTextOf}
 use Rattle.mq_program.specs.declared.fault.ProgramFault.{ProgramFault}
 use Rattle.mq_program.specs.declared.fault.ProgramFault.TheVariants.{Host, Login, Address, Rule}
@@ -54,6 +56,11 @@ pub record OrderRefuses (host : List ℕ) (login : LoginArgument) (server : List
   pub bad_login : IsHost host → ¬ NamesLogin login → EndsBy Login
   pub bad_address : IsHost host → NamesLogin login → IsNoAddress server → EndsBy Address
 
+-- how `status` ends where a word of it is at fault
+abbrev pub StatusRefuses : ServerArgument → (ProgramFault → Type 0) → Type 0
+StatusRefuses (server.Address text) EndsBy = IsNoAddress text.now → EndsBy Address
+StatusRefuses (server.Config file) EndsBy = ⊤
+
 -- how `retire` ends where a word of it is at fault: the host goes before the address
 pub record RetireRefuses (given : RetireArguments) (EndsBy : ProgramFault → Type 0) : Type 0 where
   pub host : ¬ IsHost given.host.now → EndsBy Host
@@ -64,7 +71,7 @@ pub record ReportRefuses (given : ReportArguments) (EndsBy : ProgramFault → Ty
   pub login : IfSome given.login (λ login. ¬ NamesLogin login → EndsBy Login)
   pub address : IfSome given.login NamesLogin → IsNoAddress given.server.now → EndsBy Address
 
--- a zone rule, and no minutes beside it
+-- a zone rule, and no minutes along with it
 pub record IsRuleAlone (east west : ℕ) (text : List ℕ) : Type 0 where
   pub rule : IsRule text
   pub no_east : east ≡ 0
@@ -91,6 +98,7 @@ Refuses (Replay given) EndsBy = ReplayRefuses given EndsBy
 Refuses (Limit given) EndsBy = OrderRefuses given.host.now given.login given.server.now EndsBy
 Refuses (Stop given) EndsBy = OrderRefuses given.host.now given.login given.server.now EndsBy
 Refuses (Resume given) EndsBy = OrderRefuses given.host.now given.login given.server.now EndsBy
+Refuses (Status given) EndsBy = StatusRefuses given.server EndsBy
 Refuses (Retire given) EndsBy = RetireRefuses given EndsBy
 Refuses (Report given) EndsBy = ReportRefuses given EndsBy
 Refuses _ EndsBy = ⊤

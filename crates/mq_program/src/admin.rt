@@ -7,6 +7,7 @@ ghost use Rattle.mq_program.specs.Refusals.{IsNoAddress, Names, NamesLogin, Orde
 pub mod limit;
 pub mod report;
 pub mod retire;
+pub mod status;
 pub mod stop;
 
 use crate::fault::ProgramFault;

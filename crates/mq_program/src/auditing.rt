@@ -135,8 +135,8 @@ fn tell<W: Write>(alloc: Global, found: Audit, output: &mut W) -> Result<(), Pro
     print(output, line.as_bytes())
 }
 
-/// Writes all bytes, or a front of them before a write fails.
-fn print<W: Write>(output: &mut W, bytes: &[u8]) -> Result<(), ProgramFault>
+/// Writes all bytes, or a prefix of them before a write fails.
+pub(crate) fn print<W: Write>(output: &mut W, bytes: &[u8]) -> Result<(), ProgramFault>
     ensures whole { OnOk result (Appends (W.contents output.old) (W.contents output.new) bytes.now) }
     ensures front { AppendsFront (W.contents output.old) (W.contents output.new) bytes.now }
     ensures fault { IfErr result (λ fault. fault ≡ ProgramFault.Write) }

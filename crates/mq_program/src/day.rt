@@ -42,7 +42,7 @@ fn moment_of_clock(rt: &impl Clock) -> Option<u64>
 }
 
 /// The given moment, or the clock's.
-fn moment(rt: &impl Clock, given: Option<u64>) -> Result<u64, ProgramFault>
+pub(crate) fn moment(rt: &impl Clock, given: Option<u64>) -> Result<u64, ProgramFault>
     requires { IfSome given IsMoment }
     ensures moment { IfOk result IsMoment }
     ensures given { IfSome given (λ at. result ≡ Ok at) }

@@ -16,7 +16,7 @@ use std::io;
 use std::io::ErrorKind;
 use thiserror::Error;
 
-/// Why a subcommand isn't done. Its text is printed behind `mailquota: `.
+/// Why a subcommand isn't done. Its text is printed after `mailquota: `.
 #[derive(Debug, Drop, Error)]
 pub enum ProgramFault {
     /// A word of the command line is no UTF-8.
@@ -28,7 +28,7 @@ pub enum ProgramFault {
     Login,
     #[error("bad address")]
     Address,
-    /// No zone rule of 1 to 64 bytes, or minutes east or west beside it.
+    /// No zone rule of 1 to 64 bytes, or minutes east or west along with it.
     #[error("bad rule")]
     Rule,
     #[error("read failed")]
@@ -54,9 +54,15 @@ pub enum ProgramFault {
     Store,
     #[error("{0}")]
     Open(OpenFault),
-    /// There is no file to audit.
+    /// There is no file to audit, or to forget days of.
     #[error("store is memory")]
     MemoryStore,
+    /// The file of the ledger that is to be made is there.
+    #[error("file exists")]
+    Exists,
+    /// The day up to which is forgotten is after today.
+    #[error("day is after today")]
+    Later,
     /// The rows of an open ledger weren't read to their end.
     #[error("{0}")]
     Audit(LedgerFault),
@@ -144,7 +150,7 @@ impl From<RoomFault> for ProgramFault {
     }
 }
 
-/// Want of memory, or else this fault.
+/// That memory runs out, or else this fault.
 pub fn or_memory(error: &io::Error, fault: ProgramFault) -> ProgramFault
     ensures { result ≡ or_memory_of (error_kind error.now) fault }
 {

@@ -3,6 +3,7 @@ ghost use Rattle.std.specs.Prelude.{IfOk, IfSome};
 ghost use Rattle.mq_frame.specs.Range.{IsRun};
 ghost use Rattle.mq_program.specs.Refusals.{CanAsk};
 
+use crate::admin::status::{Question, ask_once};
 use crate::clock::run_number;
 use crate::fault::{ProgramFault, logged_of};
 use log::sink::Console;
@@ -14,6 +15,7 @@ use mq_link::Link;
 use mq_settings::{FilterSettings, read_file, read_filter_settings};
 use mq_tcp::{LoggedLink, TcpLink};
 use std::io;
+use std::io::Write;
 use std::net::Net;
 use std::rt::{Clock, Files};
 use std::time::Duration;
@@ -33,14 +35,20 @@ fn filter_settings<R: Files + Eprint + AllocGlobal>(
     ))
 }
 
-/// Runs the filter until its input ends: the settings first, then the clock.
-pub fn filter<R: Files + Clock + Net + Input + Print + Eprint + AllocGlobal>(
+/// Runs the filter until its input ends: the settings first, then the clock. With `check` it reads no input, and only asks
+/// whether the server of its settings answers.
+pub fn filter<R: Files + Clock + Net + Input + Print + Eprint + AllocGlobal, E: Write>(
     rt: &R,
     given: FilterArguments<'_>,
+    errors: &mut E,
 ) -> Result<u8, ProgramFault>
     requires { IfSome given.run IsRun }
 {
     let settings = filter_settings(rt, given.config)?;
+    if given.check {
+        let timeout = u64::from(settings.timeout);
+        return ask_once(rt, settings.server, timeout, Question::Check, errors);
+    }
     let run = run_number(rt, given.run)?;
     run_client(rt, &settings, run)
 }

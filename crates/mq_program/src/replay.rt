@@ -1,8 +1,8 @@
 //! `replay`: answers frames from standard input over a new ledger.
-ghost use Rattle.std.specs.Prelude.{◌≡◌, Err, Result as AResult, map};
+ghost use Rattle.std.specs.Prelude.{◌≡◌, ⊤, true, Err, Result as AResult, map};
 ghost use Rattle.mq_arguments.specs.Arguments.{IsReplayArguments};
 ghost use Rattle.mq_frame.specs.Range.{IsAmount};
-ghost use Rattle.mq_command.specs.Replay.{Replays, ReplaysOver, status_of};
+ghost use Rattle.mq_command.specs.Replay.{IsForCause, Replays, ReplaysOver, status_of};
 ghost use Rattle.mq_command.specs.declared.replay.ReplayFault.{ReplayFault as AReplayFault};
 ghost use Rattle.mq_program.specs.Refusals.{IsZoneByRule, IsZoneOf, ReplayRefuses};
 
@@ -25,7 +25,8 @@ fn replay_over_list<W: Write>(
     output: &mut W,
 ) -> Result<(), ReplayFault>
     requires { IsAmount default }
-    ensures { ReplaysOver zone default (map (λ c. c.items) connections.now) (W.contents output.old)
+    ensures cause { IsForCause ⊥ result }
+    ensures replays { ReplaysOver zone default (map (λ c. c.items) connections.now) (W.contents output.old)
         (W.contents output.new) result }
 {
     let mut ledger = PlainLedger::new(alloc, zone, default);
@@ -41,7 +42,8 @@ fn replay_over_tables<W: Write>(
     output: &mut W,
 ) -> Result<(), ReplayFault>
     requires { IsAmount default }
-    ensures { ReplaysOver zone default (map (λ c. c.items) connections.now) (W.contents output.old)
+    ensures cause { IsForCause ⊤ result }
+    ensures replays { ReplaysOver zone default (map (λ c. c.items) connections.now) (W.contents output.old)
         (W.contents output.new) result }
 {
     match SqlLedger::in_memory(alloc, zone, default) {
@@ -61,7 +63,8 @@ fn replay_over_new<W: Write>(
     output: &mut W,
 ) -> Result<(), ReplayFault>
     requires { IsAmount default }
-    ensures { ReplaysOver zone default (map (λ c. c.items) connections.now) (W.contents output.old)
+    ensures cause { IsForCause (sql ≡ true) result }
+    ensures replays { ReplaysOver zone default (map (λ c. c.items) connections.now) (W.contents output.old)
         (W.contents output.new) result }
 {
     if sql {
@@ -80,7 +83,8 @@ fn replay_text<W: Write>(
     output: &mut W,
 ) -> Result<(), ReplayFault>
     requires { IsAmount default }
-    ensures { Replays zone default text.now (W.contents output.old) (W.contents output.new) result }
+    ensures cause { IsForCause (sql ≡ true) result }
+    ensures replays { Replays zone default text.now (W.contents output.old) (W.contents output.new) result }
 {
     let connections = match read_connections(alloc, text) {
         Ok(connections) => connections,
@@ -106,8 +110,9 @@ pub fn run_replay<W: Write, E: Write>(
     errors: &mut E,
 ) -> u8
     requires { IsAmount default }
+    // Without `sql` there is no store that could fail.
     ensures replays { (outcome : AResult (Unit {0}) AReplayFault) × (result ≡ status_of outcome)
-        × Replays zone default text.now (W.contents output.old) (W.contents output.new) outcome }
+        × IsForCause (sql ≡ true) outcome × Replays zone default text.now (W.contents output.old) (W.contents output.new) outcome }
     ensures quiet { result ≡ 0 → errors.new ≡ errors.old }
 {
     match replay_text(alloc, text, default, zone, sql, output) {
@@ -173,7 +178,7 @@ fn replay_input<R: Input + Print + AllocGlobal, E: Write>(
     print_replay(rt, text.as_slice(), given, zone, errors)
 }
 
-/// The text on standard input, or a front of it that is too large.
+/// The text on standard input, or a prefix of it that is too large.
 fn read_text<R: Input + AllocGlobal>(rt: &R) -> Result<Vec<u8>, ProgramFault> {
     let mut text = Vec::new(rt.alloc());
     match rt

@@ -18,7 +18,7 @@ use log::{Log, error};
 use mq_ledger::Zone;
 use mq_store::SqlLedger;
 use mq_tables::laws::{empty_databases_have_no_table, trees_have_one_schema};
-use sqlite::{Alter, Connection, Error, ErrorCode, FileFrom, FileStore, MemStore, Start};
+use sqlite::{Alter, Connection, Error, ErrorCode, FileFrom, FileStore, MemStore, Start, Unknown};
 use std::alloc::Global;
 use std::fs::OpenOptions;
 use std::io::ErrorKind;
@@ -49,8 +49,8 @@ fn unopened<G: Log, C: std::fmt::Display + Drop>(log: &G, path: &str, cause: C) 
     ProgramFault::Store
 }
 
-/// Makes the file, if it isn't there.
-fn make_file(rt: &HostRuntime, path: &str) -> io::Result<()> {
+/// Makes an empty file with mode 0600. It is an error where one is there.
+fn make_empty(rt: &HostRuntime, path: &str) -> io::Result<()> {
     match OpenOptions::new()
         .write(true)
         .create_new(true)
@@ -58,8 +58,15 @@ fn make_file(rt: &HostRuntime, path: &str) -> io::Result<()> {
         .open(rt, path)
     {
         Ok(_file) => Ok(()),
-        Err(error) if error.kind() == ErrorKind::AlreadyExists => Ok(()),
         Err(error) => Err(error),
+    }
+}
+
+/// Makes the file, if it isn't there.
+fn make_file(rt: &HostRuntime, path: &str) -> io::Result<()> {
+    match make_empty(rt, path) {
+        Err(error) if error.kind() == ErrorKind::AlreadyExists => Ok(()),
+        made => made,
     }
 }
 
@@ -109,6 +116,28 @@ fn connect<G: Log, S: Start>(
         Err((Error::SqliteFailure(ErrorCode::OutOfMemory), _)) => Err(ProgramFault::Memory),
         Err((cause, _)) => Err(unopened(log, path, cause)),
     }
+}
+
+/// Makes an empty file at a path, with mode 0600. A file that is there is refused as `ProgramFault::Exists`. The cause of
+/// `ProgramFault::Store` is logged.
+pub fn make_new_file<G: Log>(rt: &HostRuntime, log: &G, path: &str) -> Result<(), ProgramFault> {
+    match make_empty(rt, path) {
+        Ok(()) => Ok(()),
+        Err(cause) if cause.kind() == ErrorKind::AlreadyExists => Err(ProgramFault::Exists),
+        Err(cause) if cause.kind() == ErrorKind::OutOfMemory => Err(ProgramFault::Memory),
+        Err(cause) => Err(unopened(log, path, cause)),
+    }
+}
+
+/// A connection to the empty file that was made at a path. The cause of `ProgramFault::Store` is logged.
+///
+/// `Unknown` holds nothing, like a file that was just made.
+pub fn connect_new<G: Log>(
+    rt: &HostRuntime,
+    log: &G,
+    path: &str,
+) -> Result<Connection<FileStore<FileFrom<Unknown>>>, ProgramFault> {
+    connect(rt, log, path, false, Unknown)
 }
 
 /// The ledger in a database; with `create` a new one. `default` is 0 to 1,000,000.

@@ -7,11 +7,15 @@ ghost use Rattle.mq_program.specs.Refusals.{Refuses};
 use crate::admin::limit::limit;
 use crate::admin::report::report;
 use crate::admin::retire::retire;
+use crate::admin::status::status;
 use crate::admin::stop::{resume, stop};
 use crate::auditing::audit;
 use crate::day::day;
 use crate::fault::ProgramFault;
 use crate::filter::filter;
+use crate::forgetting::forget;
+use crate::init::init;
+use crate::listing::limits;
 use crate::replay::replay;
 use crate::server::server;
 use mq_arguments::Arguments;
@@ -57,7 +61,9 @@ fn status_of<E: Write, S: Start>(
 {
     match given {
         Arguments::Replay(given) => replay(rt, given, errors),
-        Arguments::Filter(given) => filter(rt, given),
+        Arguments::Init(given) => init(rt, given, start, &mut io::writer(rt)),
+        Arguments::Filter(given) => filter(rt, given, errors),
+        Arguments::Status(given) => status(rt, given, start, errors),
         Arguments::Server(given) => server(rt, given, start),
         Arguments::Limit(given) => limit(rt, given, errors),
         Arguments::Stop(given) => stop(rt, given, errors),
@@ -65,6 +71,8 @@ fn status_of<E: Write, S: Start>(
         Arguments::Day(given) => day(rt, given, errors),
         Arguments::Retire(given) => retire(rt, given, errors),
         Arguments::Report(given) => report(rt, given, errors),
+        Arguments::Limits(given) => limits(rt, given, start, &mut io::writer(rt)),
         Arguments::Audit(given) => audit(rt, given, start, &mut io::writer(rt)),
+        Arguments::Forget(given) => forget(rt, given, start, &mut io::writer(rt)),
     }
 }

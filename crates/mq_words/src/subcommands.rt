@@ -1,6 +1,6 @@
 //! The subcommands and their options.
 
-/// The version that `--version` tells.
+/// The version that `--version` prints.
 pub const VERSION: &str = "0.1.0";
 
 /// What an option takes.
@@ -50,6 +50,33 @@ const CONFIG: CommandOption = CommandOption {
     help: "Settings",
     takes: Takes::Text,
     need: Need::Required,
+    default: None,
+};
+
+const CHECK: CommandOption = CommandOption {
+    name: "check",
+    value: "",
+    help: "Only look at the settings and ask whether the server answers",
+    takes: Takes::Nothing,
+    need: Need::Optional,
+    default: None,
+};
+
+const ONE_SERVER: CommandOption = CommandOption {
+    name: "server",
+    value: "ADDRESS",
+    help: "Numeric address and port of the quota server",
+    takes: Takes::Text,
+    need: Need::Unless("config"),
+    default: None,
+};
+
+const ITS_SETTINGS: CommandOption = CommandOption {
+    name: "config",
+    value: "FILE",
+    help: "Settings of the quota server: whose address is asked, and whose file is read where none answers",
+    takes: Takes::Text,
+    need: Need::InsteadOf("server"),
     default: None,
 };
 
@@ -242,8 +269,31 @@ const RULE: CommandOption = CommandOption {
     default: None,
 };
 
+const BEFORE: CommandOption = CommandOption {
+    name: "before",
+    value: "DAY",
+    help: "First day number that is kept; earlier days are forgotten",
+    takes: Takes::Number(0, 376_200),
+    need: Need::Required,
+    default: None,
+};
+
+const INTO: CommandOption = CommandOption {
+    name: "into",
+    value: "FILE",
+    help: "Database file to make, which must not be there",
+    takes: Takes::Text,
+    need: Need::Required,
+    default: None,
+};
+
 /// The subcommands, in the order in which people need them.
-pub const SUBCOMMANDS: [Subcommand; 10] = [
+pub const SUBCOMMANDS: [Subcommand; 14] = [
+    Subcommand {
+        name: "init",
+        about: "Make the ledger of a server's settings",
+        options: &[CONFIG],
+    },
     Subcommand {
         name: "server",
         about: "Serve the ledger to filters",
@@ -252,7 +302,12 @@ pub const SUBCOMMANDS: [Subcommand; 10] = [
     Subcommand {
         name: "filter",
         about: "Answer smtpd on standard input and output",
-        options: &[CONFIG, RUN],
+        options: &[CONFIG, RUN, CHECK],
+    },
+    Subcommand {
+        name: "status",
+        about: "Say whether the quota server answers, and what its ledger's file holds where none runs",
+        options: &[ONE_SERVER, ITS_SETTINGS],
     },
     Subcommand {
         name: "limit",
@@ -285,9 +340,19 @@ pub const SUBCOMMANDS: [Subcommand; 10] = [
         options: &[SERVER, DAY, ONE_LOGIN, LOGIN_TEXT],
     },
     Subcommand {
+        name: "limits",
+        about: "Print the limits that are set in the ledger in a file",
+        options: &[CONFIG],
+    },
+    Subcommand {
         name: "audit",
         about: "Check the books of the ledger in a file",
         options: &[CONFIG],
+    },
+    Subcommand {
+        name: "forget",
+        about: "Make a new ledger file without the days before a day",
+        options: &[CONFIG, BEFORE, INTO],
     },
     Subcommand {
         name: "replay",

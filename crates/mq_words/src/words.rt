@@ -7,8 +7,9 @@ use crate::subcommands::{CommandOption, Need, SUBCOMMANDS, Subcommand, Takes, VE
 use clap::error::ErrorKind;
 use clap::{Arg, ArgAction, ArgMatches, Command, Error, value_parser};
 use mq_arguments::{
-    Arguments, AuditArguments, DayArguments, FilterArguments, LimitArguments, LoginArgument,
-    ReplayArguments, ReportArguments, ResumeArguments, RetireArguments, ServerArguments,
+    Arguments, AuditArguments, DayArguments, FilterArguments, ForgetArguments, InitArguments,
+    LimitArguments, LimitsArguments, LoginArgument, ReplayArguments, ReportArguments,
+    ResumeArguments, RetireArguments, ServerArgument, ServerArguments, StatusArguments,
     StopArguments,
 };
 use std::alloc::{AllocError, Global};
@@ -63,6 +64,13 @@ fn arguments_of<'a>(name: &str, found: &ArgMatches<'a>) -> Arguments<'a>
         "filter" => Arguments::Filter(FilterArguments {
             config: text_of(found, "config"),
             run: run_of(found),
+            check: found.get_flag("check"),
+        }),
+        "init" => Arguments::Init(InitArguments {
+            config: text_of(found, "config"),
+        }),
+        "status" => Arguments::Status(StatusArguments {
+            server: server_of(found),
         }),
         "server" => Arguments::Server(ServerArguments {
             config: text_of(found, "config"),
@@ -86,8 +94,16 @@ fn arguments_of<'a>(name: &str, found: &ArgMatches<'a>) -> Arguments<'a>
             day: number_of(found, "day", 0, 376_200),
             login: one_login_of(found),
         }),
+        "limits" => Arguments::Limits(LimitsArguments {
+            config: text_of(found, "config"),
+        }),
         "audit" => Arguments::Audit(AuditArguments {
             config: text_of(found, "config"),
+        }),
+        "forget" => Arguments::Forget(ForgetArguments {
+            config: text_of(found, "config"),
+            before: number_of(found, "before", 0, 376_200),
+            into: text_of(found, "into"),
         }),
         _ => Arguments::Replay(replay_of(found)),
     }
@@ -182,6 +198,14 @@ fn one_login_of<'a>(found: &ArgMatches<'a>) -> Option<LoginArgument<'a>> {
         (Some(login), _) => Some(LoginArgument::Reported(login)),
         (None, Some(text)) => Some(LoginArgument::Printed(text)),
         (None, None) => None,
+    }
+}
+
+/// The server, which has to be given by its address or its settings.
+fn server_of<'a>(found: &ArgMatches<'a>) -> ServerArgument<'a> {
+    match found.get_str("config") {
+        Some(file) => ServerArgument::Config(file),
+        None => ServerArgument::Address(text_of(found, "server")),
     }
 }
 

@@ -1,0 +1,5 @@
+use Rattle.std.proofs.Common.{append_assoc, rules}
+use Rattle.mq_program.proofs.describing.start_line.Goals as goal
+
+pub returns : goal.returns
+returns c = search (rules, append_assoc, c.format.ensures)
