@@ -1,9 +1,8 @@
-# mailquota: `make demo` shows one request and its reply, `make check` is the gate.
-# Both need the Rattle kit, with its command rt on the PATH, and the gate Python 3, which rt needs too.
+# mailquota: `make build` proves and compiles the program, `make demo` plays a day of it, `make check` is the gate.
+# They need the Rattle kit, with its command rt on the PATH, and Python 3, which rt needs too.
 
 RT = rt
 PROGRAM = crates/mailquota/out/mailquota
-EXAMPLE = crates/mq_demo/out/mq_demo
 
 DESTDIR =
 PREFIX = /usr/local
@@ -17,15 +16,13 @@ DOCDIR = $(PREFIX)/share/doc/mailquota
 
 all: build
 
-# Proves and compiles every crate that the program stands on. With no change since, it does nothing.
+# Proves and compiles every crate that the program stands on (scripts/build.py). With no change since, it does nothing.
 build:
-	@cd crates/mailquota && $(RT) run -- --help >/dev/null
-	@echo "built $(PROGRAM)"
+	@RT=$(RT) python3 scripts/build.py
 
-# Proves and compiles what the example stands on, a quarter of what the program does.
-demo:
-	@cd crates/mq_demo && $(RT) run </dev/null >/dev/null
-	@sh examples/demo.sh $(EXAMPLE) examples/one-reserve.hex
+# A day over loopback: a server over a file, the filters of two hosts, a limit, a kill, a stop. It ends by itself.
+demo: build
+	@python3 examples/demo.py $(PROGRAM) examples/one-reserve.hex
 
 # docs/GATE.md says what it does. The last line is 'N passed, M failed'.
 check:
@@ -55,11 +52,13 @@ install:
 	install -d $(DESTDIR)$(SBINDIR) $(DESTDIR)$(LIBEXECDIR) $(DESTDIR)$(MANDIR)/man5 $(DESTDIR)$(MANDIR)/man8
 	install -d $(DESTDIR)$(EXAMPLEDIR) $(DESTDIR)$(DOCDIR)
 	install -m 755 $(PROGRAM) $(DESTDIR)$(SBINDIR)/mailquota
+	sed -e 's#/usr/local/sbin#$(SBINDIR)#g' contrib/mailquota-forget >$(DESTDIR)$(SBINDIR)/mailquota-forget
+	chmod 755 $(DESTDIR)$(SBINDIR)/mailquota-forget
 	install -m 755 contrib/one-spelling $(DESTDIR)$(LIBEXECDIR)/one-spelling
 	install -m 644 man/mailquota.8 $(DESTDIR)$(MANDIR)/man8/mailquota.8
 	install -m 644 man/mailquota.toml.5 $(DESTDIR)$(MANDIR)/man5/mailquota.toml.5
 	install -m 644 contrib/filter.toml contrib/server.toml contrib/nftables.conf $(DESTDIR)$(EXAMPLEDIR)
-	for file in smtpd.conf mailquota.service smtpd-restart.conf; do \
+	for file in smtpd.conf mailquota.service smtpd-restart.conf mailquota-forget.service mailquota-forget.timer; do \
 		sed -e 's#/usr/local/libexec/mailquota#$(LIBEXECDIR)#g' -e 's#/usr/local/sbin#$(SBINDIR)#g' contrib/$$file \
 			>$(DESTDIR)$(EXAMPLEDIR)/$$file && chmod 644 $(DESTDIR)$(EXAMPLEDIR)/$$file || exit 1; \
 	done
