@@ -123,6 +123,24 @@ class Books:
         rows = b"".join(text(login) + self.row(login, day) for login in logins)
         return b"\x8c" + number(day) + bytes([len(logins)]) + rows
 
+    def stays(self, body, reply, day):
+        """Whether this entry is remembered from this day on."""
+        request = decode(body)
+        if request["kind"] == RETIRE:
+            return True
+        if request["kind"] == LIMIT:
+            return reply[0] == 0x85 or request["from_day"] >= day
+        host, run, _ = request["id"]
+        return self.transactions[host, run, request["txn"]][2] >= day
+
+    def remembered(self, day):
+        """New books that took the requests of the entries which are remembered from this day on."""
+        again = Books(self.zone, self.default)
+        for _, body, reply in self.answers:
+            if self.stays(body, reply, day):
+                again.apply(body)
+        return again
+
     def serve(self, stream):
         """What is written on a connection for these bytes."""
         written, place, answered = [], 0, 0

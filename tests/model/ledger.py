@@ -196,6 +196,20 @@ class Ledger:
     def row(self, login, day):
         return number(self.settled(login, day)) + number(self.reserved(login, day)) + number(self.cap(login, day))
 
+    def naming_day(self, transaction):
+        """The day of a transaction's first entry."""
+        return self.day(self.of(transaction)[0][0]["at"])
+
+    def remembered(self, day):
+        """The entries that are remembered from this day on, in their order."""
+        return [
+            (r, kind, reply)
+            for r, kind, reply in self.entries
+            if r["kind"] == RETIRE
+            or (r["kind"] == 4 and (kind == 0x85 or r["from_day"] >= day))
+            or (r["kind"] <= 3 and self.naming_day(self.transaction(r)) >= day)
+        ]
+
     def apply(self, r):
         """The body of the reply."""
         if r["kind"] == 5:

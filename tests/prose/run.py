@@ -54,7 +54,7 @@ EXCEPTED = [
     (r"crates/mq_tables/src/.*\.rt", r"ceiling"),
 ]
 # The comments of these crates have some of the words still, and some of their files have no line of what they are.
-NOT_YET = ("mq_command", "mq_ends_tests", "mq_program", "mq_room", "mq_store", "mq_store_tests", "mq_tables", "mq_words")
+NOT_YET = ("mq_store_tests",)
 
 # The roots of tests say which libraries they call, and crates.txt has them.
 OF_TESTS = ("mq_ends_tests", "mq_store_tests")

@@ -19,7 +19,7 @@ for other in ("program", "model"):
 from checks import Checks
 from sweeping import Refusals
 
-GROUPS = ["replaying", "storing", "auditing", "filtering"]
+GROUPS = ["replaying", "storing", "auditing", "filtering", "forgetting"]
 # in memory where there is such a folder: the runs' files are synced again and again
 FOLDER = "/dev/shm" if os.access("/dev/shm", os.W_OK) else None
 

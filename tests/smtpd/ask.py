@@ -1,8 +1,12 @@
 """Asks several hosts by SMTP, and prints a table of what was asked and answered."""
+import itertools
 import os
+import shutil
 import signal
+import sqlite3
 import subprocess
 import sys
+import threading
 import time
 
 from host import PROGRAM, ROOT, command, log_of, session, session_at, start_server, start_smtpd, stop
@@ -10,6 +14,7 @@ from host import PROGRAM, ROOT, command, log_of, session, session_at, start_serv
 ROWS = []
 # what u03's report says once the server was started again: it had sent to 2
 U03_LATER = {"memory": "0 0 3 u03", "file": "2 0 3 u03"}
+LEDGER = ROOT / "var/lib/mailquota/tested"
 
 
 def note(what, answer, wanted):
@@ -143,16 +148,77 @@ def spellings():
     smtp.quit()
 
 
+class Sender(threading.Thread):
+    """A session that sends mail after mail as fast as it can, until a recipient is refused."""
+
+    def __init__(self, host):
+        super().__init__(daemon=True)
+        self.smtp, self.last = session(host, "u09"), ""
+
+    def run(self):
+        for number in itertools.count():
+            if number % 20 == 0:
+                if number:
+                    self.smtp.data(b"Subject: hello\r\n\r\nhello\r\n")
+                self.smtp.mail("a@quota.test")
+            self.last = recipient(self.smtp, number)
+            if not self.last.startswith("250"):
+                break
+        self.smtp.quit()
+
+
+def a_stop_of_four_that_send():
+    """A stolen password in four sessions of two hosts."""
+    words = ["--server", "127.0.0.1:7025", "--host", "admin", "--login", "u09"]
+    note("limit of u09 set to a million", command("limit", *words, "--from", day(), "--cap", "1000000")[0], "set")
+    senders = [Sender(host) for host in (1, 2, 1, 2)]
+    for it in senders:
+        it.start()
+    time.sleep(1)
+    text, _ = command("stop", *words, "--day", day())
+    note("u09, stop while four sessions send", text, "stopped: u09 used ")
+    for it in senders:
+        it.join(timeout=60)
+    note("u09, the end of each session", " ".join(it.last[:3] or "none" for it in senders), "550 550 550 550")
+    most = int(text.split()[3]) if text.startswith("stopped: ") else 0
+    settled, reserved, *_ = map(int, usage("u09").split()[:3])
+    note("u09, what is used is within what was printed", str(0 < settled + reserved <= most), "True")
+
+
+def lost_tries():
+    """How many of the administrator's limits were refused since more was used meanwhile, read off the rows of the ledger's file."""
+    for end in ("", "-wal"):
+        shutil.copy(f"{LEDGER}{end}", f"{LEDGER}.read{end}")
+    database = sqlite3.connect(f"{LEDGER}.read")
+    [(count,)] = database.execute("SELECT count(*) FROM answer WHERE host = x'61646d696e' AND substr(reply, 1, 1) = x'86'").fetchall()
+    database.close()
+    return count
+
+
+def a_forgetting():
+    """While the server is away and smtpd with its filters runs on."""
+    tries = lost_tries()
+    note(f"stop while four sessions send: {tries} tries lost, two at most", str(tries <= 2), "True")
+    words = ["--config", "/etc/mailquota/server-file.toml", "--before", day(), "--into", "/var/lib/mailquota/tested.new"]
+    note("forget", command("forget", *words)[0], "kept answers=")
+    os.rename(LEDGER, f"{LEDGER}.old")
+    os.rename(f"{LEDGER}-wal", f"{LEDGER}.old-wal")
+    os.rename(f"{LEDGER}.new", LEDGER)
+
+
 def no_server():
     smtp = session(1, "u05")
     smtp.mail("a@quota.test")
     note("u05 without a quota server", recipient(smtp, 1), "451")
+    text, status = command("status", "--server", "127.0.0.1:7025")
+    note("status without a quota server", f"{status} {text.splitlines()[-1]}", "1 mailquota: quota service unavailable")
     smtp.rset()
     note("no login without a quota server", no_login_answer(), "250")
     lines = log_of("smtpd").read_text(errors="replace").splitlines()
-    said = [line for line in lines if line.startswith("quota1: ")] + ["nothing"] * 2
+    said = [line for line in lines if line.startswith("quota1: ") and "mq_tcp" in line] + ["nothing"]
     note("smtpd's log, why there is no answer", said[0], "quota1: [ERROR mq_tcp::logged] quota server 127.0.0.1:7025: Connection refused")
-    note("smtpd's log, whose recipient it was", said[1], "quota1: [WARN")
+    full = [line for line in lines if line.startswith("quota1: [WARN  mq_client::tries] ") and "refused by the limit" in line] + ["nothing"]
+    note("smtpd's log, a login that used its limit", full[0].split(": ")[-1], "refused by the limit, ")
     return smtp
 
 
@@ -250,7 +316,11 @@ def over(store):
         a_cut_connection()
         two_messages_on_two_hosts()
         spellings()
+        a_stop_of_four_that_send()
+        note("status", command("status", "--server", "127.0.0.1:7025")[0], "quota server 127.0.0.1:7025 answers")
         stop(server)
+        if store == "file":
+            a_forgetting()
         smtp = no_server()
         server = start_server(settings)
         a_new_server(smtp, store)

@@ -11,6 +11,7 @@ SEEDS = 500
 
 def run(_world, checks):
     answers, sums, answered, kinds = [], [], 0, set()
+    forgetting, forgotten = [], 0
     for seed in range(SEEDS):
         dice = random.Random(seed)
         default, zone = dice.choice([0, 1, 3, 5, 100]), random_zone(dice)
@@ -20,11 +21,24 @@ def run(_world, checks):
             answers.append(seed)
         if sums_of(model) != sums_in(books):
             sums.append(seed)
+        day = dice.choice([*times.days])
+        forgetting += [] if remember_alike(model, books, day) else [(seed, day)]
+        forgotten += len(books.answers) - len(books.remembered(day).answers)
         answered += len(model.entries)
         kinds |= {kind for _, kind, _ in model.entries}
     checks.equal(f"{SEEDS} seeds with {answered} entries: those whose replies differ", answers, [])
     checks.equal(f"{SEEDS} seeds: those whose rows differ", sums, [])
+    checks.holds(f"{SEEDS} seeds, from a day on: entries that are forgotten", forgotten > SEEDS, "many", forgotten)
+    checks.equal(f"{SEEDS} seeds, from a day on: those that remember other entries, replies or sums", forgetting, [])
     checks.equal("the kinds of replies among them", sorted(kinds), [*range(0x81, 0x8a), 0x8f])
+
+
+def remember_alike(model, books, day):
+    """Whether both remember the same entries from this day on, with the replies that they had, and what is used on later days."""
+    again = books.remembered(day)
+    kept = [(request["id"], reply) for request, _, reply in model.remembered(day)]
+    used = {key: sums for key, sums in books.usage.items() if key[1] >= day}
+    return kept == [(number_of, reply) for number_of, _, reply in again.answers] and used == again.usage and books.limits == again.limits
 
 
 def sums_of(model):

@@ -7,15 +7,19 @@ HELPS = [
 Usage: mailquota <COMMAND>
 
 Commands:
+  init    Make the ledger of a server's settings
   server  Serve the ledger to filters
   filter  Answer smtpd on standard input and output
+  status  Say whether the quota server answers, and what its ledger's file holds where none runs
   limit   Set the limit of a login from a day on
   stop    Let a login have nothing more, today and on each later day
   resume  Let a login have more again, today and on each later day
   day     Print the day number of the ledger of a server's settings
   retire  Give up a host's earlier runs: settle what they hold, forget their replies
   report  Print what logins used on a day
+  limits  Print the limits that are set in the ledger in a file
   audit   Check the books of the ledger in a file
+  forget  Make a new ledger file without the days before a day
   replay  Answer frames in hexadecimal from standard input over a new ledger
 
 Options:
@@ -41,6 +45,7 @@ Usage: mailquota filter [OPTIONS] --config <FILE>
 Options:
       --config <FILE>  Settings
       --run <N>        Number of the run; the clock's milliseconds where it isn't given
+      --check          Only look at the settings and ask whether the server answers
   -h, --help           Print help
 """),
     (["server", "--help"], """Serve the ledger to filters
@@ -52,6 +57,41 @@ Options:
       --create           Make a new ledger; one in memory is always new
       --connections <N>  Connections to serve [default: 1000000]
   -h, --help             Print help
+"""),
+    (["init", "--help"], """Make the ledger of a server's settings
+
+Usage: mailquota init --config <FILE>
+
+Options:
+      --config <FILE>  Settings
+  -h, --help           Print help
+"""),
+    (["status", "--help"], """Say whether the quota server answers, and what its ledger's file holds where none runs
+
+Usage: mailquota status [OPTIONS]
+
+Options:
+      --server <ADDRESS>  Numeric address and port of the quota server
+      --config <FILE>     Settings of the quota server: whose address is asked, and whose file is read where none answers
+  -h, --help              Print help
+"""),
+    (["limits", "--help"], """Print the limits that are set in the ledger in a file
+
+Usage: mailquota limits --config <FILE>
+
+Options:
+      --config <FILE>  Settings
+  -h, --help           Print help
+"""),
+    (["forget", "--help"], """Make a new ledger file without the days before a day
+
+Usage: mailquota forget --config <FILE> --before <DAY> --into <FILE>
+
+Options:
+      --config <FILE>  Settings
+      --before <DAY>   First day number that is kept; earlier days are forgotten
+      --into <FILE>    Database file to make, which must not be there
+  -h, --help           Print help
 """),
     (["limit", "--help"], """Set the limit of a login from a day on
 
@@ -150,6 +190,26 @@ For more information, try '--help'.
     (["audit", "--config=s", "--create"], """error: unexpected argument '--create' found
 
 Usage: mailquota audit --config <FILE>
+
+For more information, try '--help'.
+"""),
+    (["forget", "--config=s", "--before=1"], """error: the following required arguments were not provided:
+  --into <FILE>
+
+Usage: mailquota forget --config <FILE> --before <DAY> --into <FILE>
+
+For more information, try '--help'.
+"""),
+    (["status"], """error: the following required arguments were not provided:
+  --server <ADDRESS>
+
+Usage: mailquota status --server <ADDRESS>
+
+For more information, try '--help'.
+"""),
+    (["status", "--server=a", "--config=s"], """error: the argument '--server <ADDRESS>' cannot be used with '--config <FILE>'
+
+Usage: mailquota status --server <ADDRESS>
 
 For more information, try '--help'.
 """),

@@ -88,6 +88,7 @@ NUMBERS = [
     (["day", "--config=f"], "at", "SECONDS", 86_400, 32_503_680_000, unreadable("f")),
     (["retire", "--server=a", "--host=h"], "run", "N", 1, MOST_RUN, BAD_ADDRESS),
     (["report", "--server=a"], "day", "DAY", 0, 376_200, BAD_ADDRESS),
+    (["forget", "--config=f", "--into=g"], "before", "DAY", 0, 376_200, unreadable("f")),
 ]
 
 

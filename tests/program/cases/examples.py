@@ -1,0 +1,167 @@
+"""`make demo` over the program, also over one that answers something else, what `make install` puts where, and in what order `make build` proves."""
+import os
+import re
+import shutil
+import stat
+import subprocess
+import sys
+
+TOP = os.path.join(os.path.dirname(os.path.abspath(__file__)), os.pardir, os.pardir, os.pardir)
+DAY = """init: made FOLDER/ledger
+server: quota server ADDRESS answers
+alice gets a limit of 2: set
+mx1, alice to her first recipient: proceed
+mx1, alice to her second recipient: proceed
+mx2, alice to her third recipient: reject|550 daily recipient limit reached
+mx2, bob to his first recipient: proceed
+mx1, carol to her first recipient: proceed
+what is sent, under way and allowed: 
+      2       0       2 alice
+      0       1    1000 bob
+      0       1    1000 carol
+the server is killed; mx2, bob to his next recipient: reject|451 quota service unavailable
+server: quota server ADDRESS answers
+it is started again, with the same counts: 
+      2       0       2 alice
+      0       1    1000 bob
+      0       1    1000 carol
+mx2, bob to the same recipient: proceed
+bob's password is stolen: stopped: bob used 2 on day TODAY
+mx2, bob to one more, in the same message: reject|550 daily recipient limit reached
+both filters end, with status: 0 0
+one request as it goes over the network: 0021010161000000000000000100000001000000010000000000015180017500000001
+its reply: 001381016100000000000000010000000100000001
+all as it is to be
+"""
+# what the program is in turn: a command that does nothing, with a status of its own
+OTHERWISE = {"report": "exit 0", "stop": "echo 'stopped: bob used 1 on day 1'", "filter": "exit 1", "server": "exit 1", "replay": "echo 00"}
+INSTALLED = {
+    "libexec/mailquota/one-spelling": 0o755,
+    "sbin/mailquota": 0o755,
+    "sbin/mailquota-forget": 0o755,
+    "share/doc/mailquota/CHANGELOG": 0o644,
+    "share/doc/mailquota/INSTALL.md": 0o644,
+    "share/doc/mailquota/LICENSE": 0o644,
+    "share/doc/mailquota/NOTICE": 0o644,
+    "share/doc/mailquota/OPERATING.md": 0o644,
+    "share/examples/mailquota/filter.toml": 0o644,
+    "share/examples/mailquota/mailquota-forget.service": 0o644,
+    "share/examples/mailquota/mailquota-forget.timer": 0o644,
+    "share/examples/mailquota/mailquota.service": 0o644,
+    "share/examples/mailquota/nftables.conf": 0o644,
+    "share/examples/mailquota/server.toml": 0o644,
+    "share/examples/mailquota/smtpd-restart.conf": 0o644,
+    "share/examples/mailquota/smtpd.conf": 0o644,
+    "share/man/man5/mailquota.toml.5": 0o644,
+    "share/man/man8/mailquota.8": 0o644,
+}
+
+
+def run(world, checks):
+    a_day(world, checks)
+    a_day_of_another_program(world, checks)
+    installed(world, checks)
+    a_build(world, checks)
+
+
+def demo(program):
+    words = [sys.executable, f"{TOP}/examples/demo.py", program, f"{TOP}/examples/one-reserve.hex"]
+    return subprocess.run(words, stdin=subprocess.DEVNULL, capture_output=True, text=True)
+
+
+def a_day(world, checks):
+    came = demo(world.program)
+    for pattern, name in ((r"made \S+/ledger", "made FOLDER/ledger"), (r"127\.0\.0\.1:\d+", "ADDRESS"), (r"on day \d{5}\b", "on day TODAY")):
+        came.stdout = re.sub(pattern, name, came.stdout)
+    checks.equal("the demo: status and what is said", (came.returncode, came.stderr), (0, ""))
+    checks.equal("the demo: what it prints", came.stdout.splitlines(), DAY.splitlines())
+
+
+def a_day_of_another_program(world, checks):
+    for command, does in OTHERWISE.items():
+        path = f"{world.folder}/without-{command}"
+        with open(path, "w", encoding="ascii") as file:
+            file.write(f'#!/bin/sh\nif [ "$1" = {command} ]; then {does}; else exec {world.program} "$@"; fi\n')
+        os.chmod(path, 0o755)
+        came = demo(path)
+        good = came.returncode == 1 and "not as it is to be: " in came.stderr and "all as it is to be" not in came.stdout
+        checks.holds(f"the demo over a program whose {command} is wrong", good, "status 1, and what was wanted", came.stderr[-200:])
+
+
+def installed(world, checks):
+    for prefix in ("/usr/local", "/opt/quota"):
+        tree = f"{world.folder}/tree{prefix.replace('/', '-')}"
+        words = ["make", "-s", "-C", TOP, "install", f"PROGRAM={os.path.realpath(world.program)}", f"DESTDIR={tree}", f"PREFIX={prefix}"]
+        # (`make check` may run this)
+        environment = {key: value for key, value in os.environ.items() if not key.startswith("MAKE") and key != "MFLAGS"}
+        came = subprocess.run(words, stdin=subprocess.DEVNULL, capture_output=True, text=True, env=environment)
+        checks.equal(f"make install PREFIX={prefix}", (came.returncode, came.stderr), (0, ""))
+        found = {}
+        for folder, _, names in os.walk(tree):
+            for name in names:
+                path = f"{folder}/{name}"
+                found[os.path.relpath(path, f"{tree}{prefix}")] = stat.S_IMODE(os.stat(path).st_mode)
+        checks.equal(f"make install PREFIX={prefix}: files with their modes", dict(sorted(found.items())), INSTALLED)
+        # (the manuals and documents name the folders of PREFIX=/usr/local)
+        own = [it for it in INSTALLED if it.startswith(("sbin/mailquota-", "share/examples/"))]
+        texts = {it: open(f"{tree}{prefix}/{it}", encoding="utf-8").read() for it in own if it in found}
+        wrong = [it for it, text in texts.items() if prefix != "/usr/local" and re.search(r"/usr/local/(sbin|libexec)", text)]
+        checks.equal(f"make install PREFIX={prefix}: files that name another folder's programs", wrong, [])
+
+
+# a command rt that proves nothing, and notes when it begins and ends with a crate
+RT = """#!/bin/sh
+if [ "$1" = version ]; then echo kit; exit; fi
+crate=${{PWD##*/}}
+echo "begins $crate $1" >>{folder}/noted
+sleep 0.1
+[ "$crate" = "$(cat {folder}/fails)" ] && {{ echo "no proof of $crate"; exit 3; }}
+mkdir -p out
+touch out/$crate
+echo "ends $crate" >>{folder}/noted
+"""
+CRATES = {"low": [], "left": ["low"], "right": ["low"], "mailquota": ["left", "right"], "further": ["low"]}
+
+
+def write(path, text):
+    with open(path, "w", encoding="ascii") as file:
+        file.write(text)
+
+
+def a_build(world, checks):
+    """Over crates of one line each, and a command that notes what it is asked for."""
+    folder = f"{world.folder}/build"
+    os.makedirs(f"{folder}/scripts")
+    shutil.copy(f"{TOP}/scripts/build.py", f"{folder}/scripts")
+    for crate in CRATES:
+        os.makedirs(f"{folder}/crates/{crate}/src")
+        write(f"{folder}/crates/{crate}/src/lib.rt", crate)
+    write(f"{folder}/crates.txt", "".join(f"{crate}: {' '.join([*below, 'thiserror'])}\n" for crate, below in CRATES.items()))
+    write(f"{folder}/HANDLES", "")
+    write(f"{folder}/rt", RT.format(folder=folder))
+    os.chmod(f"{folder}/rt", 0o755)
+
+    def build(fails="none"):
+        """The status, what was printed, and what was begun and ended."""
+        write(f"{folder}/fails", fails)
+        write(f"{folder}/noted", "")
+        environment = {**os.environ, "RT": f"{folder}/rt"}
+        came = subprocess.run([sys.executable, f"{folder}/scripts/build.py"], env=environment, capture_output=True, text=True)
+        with open(f"{folder}/noted", encoding="ascii") as it:
+            return came.returncode, came.stdout, came.stderr, it.read().splitlines()
+
+    def in_order(noted):
+        return all(noted.index(f"ends {low}") < place for place, it in enumerate(noted) if it.startswith("begins ") for low in CRATES[it.split()[1]])
+
+    status, output, _, noted = build()
+    checks.equal("make build: each crate of the program once", sorted(noted), ["begins left lib", "begins low lib", "begins mailquota run", "begins right lib", "ends left", "ends low", "ends mailquota", "ends right"])
+    checks.equal("make build: each after those below it", (status, in_order(noted)), (0, True))
+    said = re.sub(r" in [0-9.]+ ", " in N ", output).splitlines()
+    wanted = (["low: begun, 1 of 4", "low: done in N s, 1 of 4"], ["mailquota: begun, 4 of 4", "mailquota: done in N s, 4 of 4", "4 crates in N minutes", "built crates/mailquota/out/mailquota"])
+    checks.equal("make build: what it says first and last", (said[:2], said[-4:]), wanted)
+    checks.equal("make build again, with no change", build(), (0, "built crates/mailquota/out/mailquota\n", "", []))
+    write(f"{folder}/crates/left/src/lib.rt", "more")
+    status, _, errors, noted = build(fails="right")
+    checks.equal("make build, where one isn't proved: status, and the program isn't begun", (status, "begins mailquota run" in noted, "no proof of right" in errors), (1, False, True))
+    status, _, _, noted = build()
+    checks.equal("make build, once it is proved", (status, noted[-1:]), (0, ["ends mailquota"]))

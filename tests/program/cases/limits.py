@@ -1,0 +1,116 @@
+"""`limits`: each limit that is set in a ledger's file, printed so that `limit` can set it again."""
+import random
+
+import wire
+from cases.audits import edited
+from cases.forgetting import audit, both, left_by_a_server
+from ends import Server, apart, fault, ledger_settings, without_log
+from rows import rows_in
+from zones import random_rule
+
+# Logins of bytes that a terminal, a shell and a line's columns take for something else, and the shortest and the longest.
+LOGINS = [
+    b"alice", b"ALICE", b"a b", b" ", b"\\", b"\\x20", b"\n", b"\r\n", b"\0", b"\xff\xfe", b"\t", b"'", b'"', b"$(id)", b"-", b"--cap", b"\x7f", b"\x1b[2J",
+    "ä".encode(), b"alice@example.org", b"%s%n", b"#", b"*", b"\xff" * 255, b"a" * 255, bytes(range(255)), bytes(range(1, 256)),
+]
+LAST_DAY, MOST = 376_200, 1_000_000
+
+
+def run(world, checks):
+    none(world, checks)
+    some(world, checks)
+    random_limits(world, checks)
+    set_again(world, checks)
+    refused(world, checks)
+
+
+def limits(world, path, output=None, **settings):
+    return world.run("limits", "--config", ledger_settings(world, path, **settings), output=output)
+
+
+def shown(login):
+    return "".join(chr(byte) if 0x21 <= byte < 0x7f and byte != 0x5c else f"\\x{byte:02x}" for byte in login)
+
+
+def printed(books):
+    """What is printed of these books: by the bytes of the login, then by the day."""
+    rows = sorted((login, start, cap) for login, starts in books.limits.items() for start, cap in starts.items())
+    return 0, "".join(f"{start} {cap} {shown(login)}\n" for login, start, cap in rows).encode(), ""
+
+
+def none(world, checks):
+    path, _ = left_by_a_server(world, "no-limits", wire.reserve(1) + wire.settle(2))
+    checks.equal("limits of a ledger without any", limits(world, path), (0, b"", ""))
+
+
+def some(world, checks):
+    """Limits that are set, replaced, refused, of later days, of a retired run; and those of logins that never wrote."""
+    frames = [
+        wire.reserve(1, count=3), wire.limit(2, 1, 2), wire.limit(3, 1, 3), wire.limit(4, 2, 0), wire.limit(5, 2, 7), wire.limit(6, 0, 9, login=b"t"),
+        wire.limit(7, LAST_DAY, MOST), wire.limit(8, 0, 0, login=b"v"), wire.limit(9, 20_783, 2, login=b"uu"), wire.retire(1, run=2), wire.limit(10, 1, 1),
+    ]
+    path, books = left_by_a_server(world, "some-limits", b"".join(frames))
+    lines = b"0 9 t\n1 3 u\n2 7 u\n376200 1000000 u\n20783 2 uu\n0 0 v\n"
+    before = both(path)
+    checks.equal("limits", limits(world, path), (0, lines, ""))
+    checks.equal("limits, by the rule", printed(books), (0, lines, ""))
+    checks.equal("limits: the file and its log are as before", both(path) == before, True)
+    checks.equal("limits: audit", audit(world, path)[0], 0)
+    into = f"{path}.new"
+    world.run("forget", "--config", ledger_settings(world, path), "--before", "20000", "--into", into)
+    checks.equal("limits of a ledger that forgot", limits(world, into), (0, lines, ""))
+
+
+def random_limits(world, checks):
+    wrong, count = [], 0
+    for seed in range(6):
+        dice = random.Random(seed)
+        frames = [
+            wire.limit(n, dice.choice([0, 1, 2, 20_000, LAST_DAY]), dice.choice([0, 1, 999, MOST]), login=dice.choice(LOGINS)) for n in range(1, 120)
+        ]
+        settings = {"offset": None, "rule": random_rule(dice)} if seed % 2 else {}
+        path, books = left_by_a_server(world, f"limits{seed}", b"".join(frames), **settings)
+        came = limits(world, path, **settings)
+        count += came[1].count(b"\n")
+        wrong += [] if came == printed(books) else [(seed, came)]
+    checks.equal("limits of six ledgers, of logins of any bytes: those that are wrong", wrong, [])
+    print(f"    {count} limits of {len(LOGINS)} logins", flush=True)
+
+
+def set_again(world, checks):
+    """Each line's three words, given to `limit`, set the same limits in a new ledger."""
+    frames = [wire.limit(n, 20_000 + n % 3, n, login=login) for n, login in enumerate(LOGINS, 1)]
+    path, books = left_by_a_server(world, "set", b"".join(frames))
+    lines = limits(world, path)[1].decode().splitlines()
+    checks.equal("limits to set again: lines", len(lines), len(LOGINS))
+    said = set()
+    with Server(world, words=["--create"], store=f"{world.folder}/again") as server:
+        for line in lines:
+            start, cap, text = line.split()
+            said.add(world.run("limit", "--server", server.address, "--host", "admin", f"--login-text={text}", "--from", start, "--cap", cap))
+        server.process.kill()
+        server.status()
+    checks.equal("limits, set again by limit --login-text: what it says", said, {(0, b"set\n", "")})
+    checks.equal("limits, set again: they are the same", limits(world, f"{world.folder}/again"), printed(books))
+    tables = ["ceiling"]
+    checks.equal("limits, set again: rows", rows_in(f"{world.folder}/again", tables), rows_in(path, tables))
+
+
+def refused(world, checks):
+    path, books = left_by_a_server(world, "limits-refused", wire.reserve(1) + wire.limit(2, 1, 9))
+    for what, name, settings, wanted in [
+        ("of a ledger in memory", "memory", {}, "store is memory"), ("of a file that isn't there", f"{world.folder}/nothing", {}, "store can't be opened"),
+        ("with another zone", path, {"offset": 60}, "store has another zone"), ("with another default", path, {"default": 4}, "store has another default"),
+        ("of wrong books", edited(world, path, "limits-damaged", "UPDATE usage SET reserved = 9"), {}, "store is damaged: login u day 1"),
+    ]:
+        checks.equal(f"limits {what}", without_log(limits(world, name, **settings)), fault(wanted))
+    came = world.run("limits", "--config", f"{world.folder}/nothing")
+    checks.equal("limits without settings", without_log(came), fault("settings can't be read"))
+    with Server(world, store=path) as server:
+        came = limits(world, path)
+        checks.equal("limits of a ledger that a server has open", without_log(came), fault("store can't be opened"))
+        checks.equal("limits of a ledger that a server has open: the log", apart(came[2])[0], [f"[ERROR mq_program::store] {path}: database is locked\n"])
+        checks.equal("the server goes on", server.ask(wire.usage()), books.serve(wire.usage()))
+    with open("/dev/full", "wb") as device:
+        came = limits(world, path, output=device)
+    checks.equal("limits to a full device", (came[0], came[2]), (1, "mailquota: write failed\n"))
