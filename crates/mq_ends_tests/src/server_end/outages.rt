@@ -29,11 +29,33 @@ impl Clock for At {
     }
 }
 
-/// What the next exchanges bring, and when: a body, or nothing where it is empty.
+/// What an exchange brings.
+#[derive(Clone, Copy, PartialEq, Eq)]
+enum Brings {
+    Nothing,
+    /// A reply to some request, by which its transaction is closed.
+    Closed,
+    Retry,
+    Bad,
+    NoReply,
+}
+
+/// Its body, which is empty where nothing comes.
+fn body_of(brings: Brings) -> &'static [u8] {
+    match brings {
+        Brings::Nothing => b"",
+        Brings::Closed => { b"\x87\x01a\x00\x00\x00\x00\x00\x00\x00\x01\x00\x00\x00\x01" }
+        Brings::Retry => b"\x8d",
+        Brings::Bad => b"\x8e",
+        Brings::NoReply => b"\x00",
+    }
+}
+
+/// What the next exchanges bring, and when.
 #[derive(Drop)]
 struct Stage {
     millis: Cell<u64>,
-    body: Cell<&'static [u8]>,
+    brings: Cell<Brings>,
 }
 
 /// A link whose exchanges bring what stands there.
@@ -51,7 +73,7 @@ impl Explain for Staged<'_> {
 
     /// There is one where nothing came.
     fn trouble(&self) -> Option<&Trouble> {
-        if self.stage.body.get().is_empty() {
+        if self.stage.brings.get() == Brings::Nothing {
             Some(&self.trouble)
         } else {
             None
@@ -66,7 +88,7 @@ impl Explain for Staged<'_> {
 impl Link for Staged<'_> {
     fn exchange(&mut self, _frame: &[u8], reply: &mut Vec<u8>) -> Result<(), LinkFault> {
         reply.clear();
-        let body = self.stage.body.get();
+        let body = body_of(self.stage.brings.get());
         if body.is_empty() {
             return Err(LinkFault::Down);
         }
@@ -74,19 +96,8 @@ impl Link for Staged<'_> {
     }
 }
 
-/// So many exchanges at a millisecond, each of which brings this body, or nothing.
-type Row = (u64, u32, &'static [u8]);
-
-const NOTHING: &[u8] = b"";
-
-/// A reply to some request, by which its transaction is closed.
-const CLOSED: &[u8] = b"\x87\x01a\x00\x00\x00\x00\x00\x00\x00\x01\x00\x00\x00\x01";
-
-const RETRY: &[u8] = b"\x8d";
-
-const BAD: &[u8] = b"\x8e";
-
-const NO_REPLY: &[u8] = b"\x00";
+/// So many exchanges at a millisecond, each of which brings this.
+type Row = (u64, u32, Brings);
 
 /// Exchanges of a link, and the lines of its log.
 #[derive(Clone, Copy)]
@@ -110,34 +121,38 @@ const AFTER_4: &str =
 const ONE_OUTAGE: &[Case<'static>] = &[
     Case {
         rows: &[
-            (0, 3, CLOSED),
-            (1, 2, NOTHING),
-            (2, 1, CLOSED),
-            (3, 2, NOTHING),
-            (4, 1, CLOSED),
+            (0, 3, Brings::Closed),
+            (1, 2, Brings::Nothing),
+            (2, 1, Brings::Closed),
+            (3, 2, Brings::Nothing),
+            (4, 1, Brings::Closed),
         ],
         log: &[],
     },
     Case {
-        rows: &[(5, 3, NOTHING)],
+        rows: &[(5, 3, Brings::Nothing)],
         log: &[REFUSED],
     },
     Case {
-        rows: &[(5, 3, NOTHING), (60_000, 9, NOTHING), (60_001, 2, CLOSED)],
+        rows: &[
+            (5, 3, Brings::Nothing),
+            (60_000, 9, Brings::Nothing),
+            (60_001, 2, Brings::Closed),
+        ],
         log: &[REFUSED, AFTER_4],
     },
     // the next request is answered at its third try
     Case {
-        rows: &[(5, 5, NOTHING), (6, 1, CLOSED)],
+        rows: &[(5, 5, Brings::Nothing), (6, 1, Brings::Closed)],
         log: &[REFUSED, AFTER_1],
     },
     Case {
         rows: &[
-            (5, 3, RETRY),
-            (6, 1, CLOSED),
-            (2_000, 1, BAD),
-            (2_000, 2, NO_REPLY),
-            (2_001, 1, CLOSED),
+            (5, 3, Brings::Retry),
+            (6, 1, Brings::Closed),
+            (2_000, 1, Brings::Bad),
+            (2_000, 2, Brings::NoReply),
+            (2_001, 1, Brings::Closed),
         ],
         log: &[
             "[ERROR mq_tcp::logged] quota server 127.0.0.1:7025: it has no memory for the request",
@@ -147,7 +162,7 @@ const ONE_OUTAGE: &[Case<'static>] = &[
         ],
     },
     Case {
-        rows: &[(5, 3, BAD)],
+        rows: &[(5, 3, Brings::Bad)],
         log: &["[ERROR mq_tcp::logged] quota server 127.0.0.1:7025: it takes the request for none"],
     },
 ];
@@ -156,54 +171,54 @@ const ONE_OUTAGE: &[Case<'static>] = &[
 const MANY_OUTAGES: &[Case<'static>] = &[
     Case {
         rows: &[
-            (0, 3, NOTHING),
-            (1, 1, CLOSED),
-            (1_000, 3, NOTHING),
-            (1_000, 1, CLOSED),
+            (0, 3, Brings::Nothing),
+            (1, 1, Brings::Closed),
+            (1_000, 3, Brings::Nothing),
+            (1_000, 1, Brings::Closed),
         ],
         log: &[REFUSED, AFTER_1],
     },
     Case {
         rows: &[
-            (0, 3, NOTHING),
-            (1, 1, CLOSED),
-            (1_001, 3, NOTHING),
-            (1_001, 1, CLOSED),
+            (0, 3, Brings::Nothing),
+            (1, 1, Brings::Closed),
+            (1_001, 3, Brings::Nothing),
+            (1_001, 1, Brings::Closed),
         ],
         log: &[REFUSED, AFTER_1, REFUSED, AFTER_1],
     },
     // it goes on until a line is due
     Case {
         rows: &[
-            (0, 3, NOTHING),
-            (1, 1, CLOSED),
-            (1_000, 3, NOTHING),
-            (1_001, 3, NOTHING),
-            (1_001, 1, CLOSED),
+            (0, 3, Brings::Nothing),
+            (1, 1, Brings::Closed),
+            (1_000, 3, Brings::Nothing),
+            (1_001, 3, Brings::Nothing),
+            (1_001, 1, Brings::Closed),
         ],
         log: &[REFUSED, AFTER_1, REFUSED, AFTER_2],
     },
     // it ends before, and an answer after that counts it
     Case {
         rows: &[
-            (0, 3, NOTHING),
-            (1, 1, CLOSED),
-            (2, 6, NOTHING),
-            (1_000, 1, CLOSED),
-            (1_001, 3, CLOSED),
+            (0, 3, Brings::Nothing),
+            (1, 1, Brings::Closed),
+            (2, 6, Brings::Nothing),
+            (1_000, 1, Brings::Closed),
+            (1_001, 3, Brings::Closed),
         ],
         log: &[REFUSED, AFTER_1, AFTER_2],
     },
     Case {
         rows: &[
-            (0, 3, NOTHING),
-            (1, 1, CLOSED),
-            (2, 3, NOTHING),
-            (3, 1, CLOSED),
-            (4, 6, NOTHING),
-            (5, 1, CLOSED),
-            (2_000, 3, NOTHING),
-            (2_001, 1, CLOSED),
+            (0, 3, Brings::Nothing),
+            (1, 1, Brings::Closed),
+            (2, 3, Brings::Nothing),
+            (3, 1, Brings::Closed),
+            (4, 6, Brings::Nothing),
+            (5, 1, Brings::Closed),
+            (2_000, 3, Brings::Nothing),
+            (2_001, 1, Brings::Closed),
         ],
         log: &[REFUSED, AFTER_1, REFUSED, AFTER_4],
     },
@@ -212,12 +227,12 @@ const MANY_OUTAGES: &[Case<'static>] = &[
 /// Makes these exchanges.
 fn play<L: Link>(alloc: Global, stage: &Stage, link: &mut L, rows: &[Row]) -> Result<(), Fail> {
     let mut reply = Vec::new(alloc);
-    for (millis, exchanges, body) in rows {
+    for (millis, exchanges, brings) in rows {
         stage.millis.set(*millis);
-        stage.body.set(*body);
+        stage.brings.set(*brings);
         for _exchange in 0..*exchanges {
             let ended = link.exchange(b"frame", &mut reply);
-            if ended.is_ok() == body.is_empty() {
+            if ended.is_ok() == (*brings == Brings::Nothing) {
                 return Err("another end of an exchange".into());
             }
         }
@@ -230,7 +245,7 @@ fn assert_case(rt: &impl Abort, alloc: Global, case: &Case<'_>) -> Result<(), Fa
     let log = Kept::new(alloc);
     let stage = Stage {
         millis: Cell::new(0),
-        body: Cell::new(NOTHING),
+        brings: Cell::new(Brings::Nothing),
     };
     let staged = Staged {
         stage: &stage,
