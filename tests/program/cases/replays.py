@@ -1,6 +1,7 @@
 """`replay`: frames in hexadecimal, answered over a list and over tables (`--sql`) alike. That tables are used shows by the memory that they take."""
 import collections
 import os
+import subprocess
 
 import wire
 
@@ -239,7 +240,7 @@ TEXTS = [
 MOST_BYTES = 1_048_576
 MOST_REQUESTS = 10_000
 
-# Each kind of request often enough that the pages of tables take more memory than a list of the same requests: a list has room for a power of two.
+# Each kind of request, asked many times.
 MANY = 257
 LONG = {
     "reserves of a transaction": [wire.reserve(n) for n in range(1, MANY)],
@@ -251,9 +252,8 @@ LONG = {
     "one reserve, and what is used": [wire.reserve(1), *(wire.usage(day=n) for n in range(1, MANY))],
     "one reserve, and pages": [wire.reserve(1), *(wire.page(day=n) for n in range(1, MANY))],
 }
-# glibc gives what is larger back to the system at once, so that a limit on the address space shows each page that is in use
-EACH_PAGE = "glibc.malloc.mmap_threshold=2048:glibc.malloc.top_pad=0"
-PAGE = 4_096
+# So many pages more are touched at least where tables are made and asked: it is 38 to 200.
+MORE = 20
 
 
 def run(world, checks):
@@ -265,8 +265,12 @@ def run(world, checks):
     largest_text(world, checks)
     enough(world, checks)
     outputs(world, checks)
+    for example in EXAMPLES:
+        # (a text that is no hexadecimal gets no ledger)
+        if example.printed:
+            over_tables(world, checks, example.what, example.text)
     for what, requests in LONG.items():
-        over_tables(world, checks, what, requests)
+        over_tables(world, checks, f"many {what}", b"".join(requests).hex())
 
 
 def expect(world, checks, what, default, text, printed, said):
@@ -304,28 +308,16 @@ def outputs(world, checks):
         checks.equal(f"replay over an output with room for {room} bytes", came, wanted)
 
 
-def over_tables(world, checks, what, requests):
-    """In so much memory as a list of these requests needs, and four pages more, their tables have no room."""
-    text = b"".join(requests).hex().encode()
-    few, enough = 1 << 22, 1 << 24
-    while enough - few > PAGE:
-        middle = (few + enough) // 2 // PAGE * PAGE
-        if is_enough(world, middle, text):
-            enough = middle
-        else:
-            few = middle
-    checks.holds(f"replay --sql, {what}: in the memory of a list", not is_enough(world, enough + 4 * PAGE, text, "--sql"), "out of memory", "no fault")
-    checks.holds(f"replay --sql, {what}: in ample memory", is_enough(world, 1 << 28, text, "--sql"), "no fault", "a fault")
+def over_tables(world, checks, what, text):
+    """Both ledgers answer alike, so which one did shows by the pages of memory that the process touched."""
+    few, many = touched(world, text), touched(world, text, "--sql")
+    checks.holds(f"replay --sql, {what}: pages of tables", few + MORE < many, f"{MORE} more than of a list", f"{few} of a list, {many} of tables")
 
 
-def is_enough(world, memory, text, *words):
-    """Whether the program answers the text in an address space of so many bytes."""
-    old = os.environ.get("GLIBC_TUNABLES")
-    os.environ["GLIBC_TUNABLES"] = EACH_PAGE
-    try:
-        return world.run("replay", "--default", "1000", *words, text=text, limit=("RLIMIT_AS", memory))[0] == 0
-    finally:
-        if old is None:
-            del os.environ["GLIBC_TUNABLES"]
-        else:
-            os.environ["GLIBC_TUNABLES"] = old
+def touched(world, text, *words):
+    """How many pages of its memory the program touches as it answers the text."""
+    with open(world.new_file(text), "rb") as given:
+        process = subprocess.Popen([world.program, "replay", "--default", "1000", *words], stdin=given, stdout=subprocess.DEVNULL, stderr=subprocess.DEVNULL)
+        _, status, used = os.wait4(process.pid, 0)
+        process.returncode = os.waitstatus_to_exitcode(status)
+    return used.ru_minflt
