@@ -4,7 +4,7 @@ import subprocess
 import time
 
 import books
-from ends import apart, read_all, send_no_more, toml
+from ends import CLOCK_DIFFERS, apart, read_all, send_no_more, toml
 from sweeping import SECONDS, Told, read_told
 
 NOTHING = Told(0, 0, 0)
@@ -16,7 +16,9 @@ class Served:
     def __init__(self, replies, status, errors, told):
         self.replies = replies
         self.status = status
-        self.log, self.text = apart(errors)
+        log, self.text = apart(errors)
+        # (the moments asked about are of days long past)
+        self.log = [line for line in log if not line.rstrip("\n").endswith(CLOCK_DIFFERS)]
         self.told = told
 
     def __str__(self):

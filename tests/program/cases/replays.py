@@ -252,8 +252,8 @@ LONG = {
     "one reserve, and what is used": [wire.reserve(1), *(wire.usage(day=n) for n in range(1, MANY))],
     "one reserve, and pages": [wire.reserve(1), *(wire.page(day=n) for n in range(1, MANY))],
 }
-# So many pages more are touched at least where tables are made and asked: it is 38 to 200.
-MORE = 20
+# So many pages more are touched at least where tables are made and asked: it is 20 to 200.
+MORE = 10
 
 
 def run(world, checks):
