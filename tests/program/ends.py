@@ -10,6 +10,8 @@ import sys
 import threading
 import time
 
+# The top of the repository.
+TOP = os.path.dirname(os.path.dirname(os.path.dirname(os.path.abspath(__file__))))
 # Enough for whatever is to come, also on a machine that has much else to do.
 SECONDS = 150
 # Milliseconds of the same, where a timeout is a setting.
@@ -147,6 +149,16 @@ def is_stopped(process):
 CLOCK_DIFFERS = ": its clock or the server's is wrong"
 
 
+def of_near_days(lines):
+    """A log's lines but for those warnings: the moments of most cases are of years long past."""
+    return [line for line in lines if not line.rstrip("\n").endswith(CLOCK_DIFFERS)]
+
+
+def shown(login):
+    """A login as a report prints it: its bytes, and those that are no visible ASCII, and a backslash, by their numbers."""
+    return "".join(chr(byte) if 0x21 <= byte < 0x7f and byte != 0x5c else f"\\x{byte:02x}" for byte in login)
+
+
 class Server:
     """The real server in a process of its own, at a port that the system chooses."""
 
@@ -200,8 +212,8 @@ class Server:
             return read_all(peer)
 
     def log_lines(self):
-        """What it logged, but for the hosts of other days: the moments of most cases are of years long past."""
-        return [line for line in self.all_log_lines() if not line.endswith(CLOCK_DIFFERS)]
+        """What it logged, but for the hosts of other days."""
+        return of_near_days(self.all_log_lines())
 
     def all_log_lines(self):
         with open(self.log.name, errors="replace") as log:

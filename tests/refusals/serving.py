@@ -4,7 +4,7 @@ import subprocess
 import time
 
 import books
-from ends import CLOCK_DIFFERS, apart, read_all, send_no_more, toml
+from ends import apart, of_near_days, read_all, send_no_more, toml
 from sweeping import SECONDS, Told, read_told
 
 NOTHING = Told(0, 0, 0)
@@ -17,8 +17,7 @@ class Served:
         self.replies = replies
         self.status = status
         log, self.text = apart(errors)
-        # (the moments asked about are of days long past)
-        self.log = [line for line in log if not line.rstrip("\n").endswith(CLOCK_DIFFERS)]
+        self.log = of_near_days(log)
         self.told = told
 
     def __str__(self):

@@ -12,7 +12,7 @@ import time
 import wire
 from books import Books
 from cases.filters import LIMIT, PROCEED, REGISTRATION, SERVICE
-from ends import Server
+from ends import Server, shown
 from rows import rows_in, same_rows
 from smtpd import Smtpd, clock, result
 
@@ -162,8 +162,7 @@ class Play:
         lines = []
         for login in LOGINS:
             settled, reserved = self.books.usage.get((login, self.day()), (0, 0))
-            shown = "".join(chr(byte) if 0x21 <= byte < 0x7f and byte != 0x5c else f"\\x{byte:02x}" for byte in login)
-            lines.append(f"{settled:7} {reserved:7} {self.books.cap(login, self.day()):7} {shown}\n".encode())
+            lines.append(f"{settled:7} {reserved:7} {self.books.cap(login, self.day()):7} {shown(login)}\n".encode())
         came = self.world.run("report", "--server", self.listen, "--day", str(self.day()))
         self.equal(f"the report {when}", came, (0, b"".join(lines), ""))
 

@@ -6,7 +6,8 @@ import stat
 import subprocess
 import sys
 
-TOP = os.path.join(os.path.dirname(os.path.abspath(__file__)), os.pardir, os.pardir, os.pardir)
+from ends import TOP
+
 DAY = """init: made FOLDER/ledger
 server: quota server ADDRESS answers
 alice gets a limit of 2: set

@@ -14,11 +14,12 @@ import time
 import wire
 from books import LIMIT, RETIRE, Books
 from cases.as_used import quiet_port
-from cases.audits import edited
+from cases.audits import audit, edited
+from cases.damage import sound
 from cases.filters import PROCEED, REGISTRATION, SERVICE
 from cases.filters import LIMIT as REFUSED
 from cases.rules import CENTRAL_EUROPE
-from ends import Server, apart, fault, ledger_settings, without_log
+from ends import TOP, Server, apart, fault, ledger_settings, without_log
 from ledger import decode
 from random_inputs import Times, TimesOfRule, connections_of
 from rows import answers_of, rows_in, same_rows
@@ -35,7 +36,7 @@ ROOMS = [0, 1, 4_095, 4_096, 100_000, 266_295, 266_296, 300_000, 400_000, 4_000_
 # the head of a log that has no answer
 EMPTY_LOG = 41
 NOT_OPENED = "store can't be opened"
-SCRIPT = os.path.join(os.path.dirname(os.path.abspath(__file__)), os.pardir, os.pardir, os.pardir, "contrib", "mailquota-forget")
+SCRIPT = f"{TOP}/contrib/mailquota-forget"
 
 
 def run(world, checks):
@@ -59,14 +60,6 @@ def kept(books, again):
     """What is printed where the second of these books has what the first remembers."""
     limits = sum(len(starts) for starts in again.limits.values())
     return 0, f"kept answers={len(again.answers)} of {len(books.answers)}, limits={limits}\n".encode(), ""
-
-
-def sound(books):
-    return 0, f"sound days={len(books.usage)} transactions={len(books.transactions)}\n".encode(), ""
-
-
-def audit(world, path, **more):
-    return world.run("audit", "--config", ledger_settings(world, path, **more))
 
 
 def left_by_a_server(world, name, stream, **settings):
@@ -319,6 +312,13 @@ def copied(world, source, name):
     return path
 
 
+def remove_new(into):
+    """The new file and its log go, as far as they are there."""
+    for it in (into, f"{into}-wal"):
+        if os.path.exists(it):
+            os.remove(it)
+
+
 def is_whole_or_refused(world, into, again):
     """Whether a new file isn't there, is refused by an audit, or has exactly the rows that it is to have; and which."""
     if not os.path.exists(into):
@@ -349,9 +349,7 @@ def kills(world, checks, source, books, again, took):
     wrong, found = [], []
     for turn in range(KILLS):
         path, into = copied(world, source, "killed"), f"{world.folder}/killed.new"
-        for it in (into, f"{into}-wal"):
-            if os.path.exists(it):
-                os.remove(it)
+        remove_new(into)
         words = [world.program, "forget", "--config", ledger_settings(world, path, default=50), "--before", "3", "--into", into]
         process = subprocess.Popen(words, stdin=subprocess.DEVNULL, stdout=subprocess.DEVNULL, stderr=subprocess.DEVNULL)
         time.sleep(1.3 * took * turn / KILLS)
@@ -386,9 +384,7 @@ def rooms(world, checks, source, books, again):
             checks.holds(f"{what}: refused", (status, output) == (1, b"") and last.startswith("mailquota: store ") and said, "status 1, a text, and which files to remove", errors)
         checks.holds(f"{what}: the new file", good, "none, refused or whole", which)
         same_rows(checks, f"{what}: the old file", path, books)
-        for it in (into, f"{into}-wal"):
-            if os.path.exists(it):
-                os.remove(it)
+        remove_new(into)
         checks.equal(f"{what}, and room again", (forget(world, path, 3, into, default=50), rows_in(into, again.rows()) == again.rows()), (kept(books, again), True))
     checks.holds("how these ended", "whole" in found and len({*found}) > 1, "refused, and whole", found)
 

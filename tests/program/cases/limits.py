@@ -2,9 +2,9 @@
 import random
 
 import wire
-from cases.audits import edited
-from cases.forgetting import audit, both, left_by_a_server
-from ends import Server, apart, fault, ledger_settings, without_log
+from cases.audits import audit, edited
+from cases.forgetting import both, left_by_a_server
+from ends import Server, apart, fault, ledger_settings, shown, without_log
 from rows import rows_in
 from zones import random_rule
 
@@ -26,10 +26,6 @@ def run(world, checks):
 
 def limits(world, path, output=None, **settings):
     return world.run("limits", "--config", ledger_settings(world, path, **settings), output=output)
-
-
-def shown(login):
-    return "".join(chr(byte) if 0x21 <= byte < 0x7f and byte != 0x5c else f"\\x{byte:02x}" for byte in login)
 
 
 def printed(books):

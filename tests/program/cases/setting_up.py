@@ -4,7 +4,7 @@ import re
 import stat
 import subprocess
 
-from ends import DRIP, RESET, SILENCE, Script, Server, apart, fault, ledger_settings, nobody_there, soon, toml, without_log
+from ends import DRIP, RESET, SILENCE, TOP, Script, Server, apart, fault, ledger_settings, nobody_there, soon, toml, without_log
 from rows import rows_in
 from wire import BAD, RETRY, frame, limit, number, page_reply, reserve, settle, text
 
@@ -12,7 +12,7 @@ ASKED = frame(b"\x05" + text(b"-") + number(0))
 ANSWER = frame(b"\x8b" + text(b"-") + number(0) + number(0) * 2 + number(3))
 UNAVAILABLE = fault("quota service unavailable")
 SETTINGS_ARE_RIGHT = b"settings are right\n"
-MANUAL = os.path.join(os.path.dirname(os.path.abspath(__file__)), os.pardir, os.pardir, os.pardir, "man", "mailquota.8")
+MANUAL = f"{TOP}/man/mailquota.8"
 
 
 def run(world, checks):
