@@ -1,5 +1,5 @@
 #!/usr/bin/env python3
-"""Proves and compiles the crates that the program stands on, one after the other, each with the processors that are there.
+"""Proves and compiles the crates that the program stands on.
 
 usage: build.py              builds the program
        build.py --plan N     runs nothing: says what that costs N processors, by the minutes that docs/GATE.md has
@@ -7,14 +7,20 @@ usage: build.py              builds the program
 It says which crate of how many it begins and ends with, and how long that took; what rt says of a crate stands in crates/NAME/out/build.log.
 Where nothing has changed since the last build, it does nothing. RT in the environment is the command rt.
 
-rt keeps the folders of a crate and of all crates below it to itself, so that two crates over one library can't be proved at once in one tree. So it is
-the jobs of each crate that run side by side.
+rt keeps the folders of a crate and of all crates below it to itself, so that two crates over one library can't be proved at once in one tree. So
+there are several trees: the repository, in which the longest chain of crates is proved, with all processors, and copies of its sources, in each of which
+another crate is proved at the same time, with one job and less priority. rt takes a library that was built from the same text in another tree of this
+machine. Where it can't keep what it built, as for a user who doesn't own the kit, there is one tree.
 """
 import hashlib
 import os
 import re
+import shutil
+import signal
 import subprocess
 import sys
+import tempfile
+import threading
 import time
 
 TOP = os.path.dirname(os.path.dirname(os.path.realpath(__file__)))
@@ -71,30 +77,44 @@ def is_built(wanted):
         return file.read() == wanted
 
 
-def in_order(below):
-    """The crates, each after those below it."""
-    order, left = [], sorted(below)
-    while left:
-        ready = next(it for it in left if all(low in order for low in below[it]))
-        left.remove(ready)
-        order.append(ready)
-    return order
+def lengths_above(below):
+    """How much text there is from each crate up to the program, along the longest way: the longer, the sooner it is to be proved."""
+    sizes = {name: sum(map(os.path.getsize, files_of(name))) for name in below}
+
+    def longest(name):
+        return sizes[name] + max((longest(it) for it in below if name in below[it]), default=0)
+
+    return {name: longest(name) for name in below}
 
 
-def prove(name, jobs):
-    """Proves and compiles a crate; gives the status."""
-    folder = f"{TOP}/crates/{name}"
-    os.makedirs(f"{folder}/out", exist_ok=True)
-    words = [RT, "run", "--jobs", str(jobs), "--", "--help"] if name == PROGRAM else [RT, "lib", "--jobs", str(jobs)]
-    with open(f"{folder}/out/build.log", "wb") as log:
-        return subprocess.run(words, cwd=folder, stdin=subprocess.DEVNULL, stdout=log, stderr=log).returncode
+def chain_of(below, lengths):
+    """The crates along the longest way up to the program."""
+    chain = [max(below, key=lengths.get)]
+    while chain[-1] != PROGRAM:
+        chain.append(max((it for it in below if chain[-1] in below[it]), key=lengths.get))
+    return chain
 
 
-def jobs_of(processors):
-    """How many jobs a crate's proof gets: as many as there are processors, and memory for."""
+def keeps_libraries():
+    """Whether rt keeps where a library was built, so that another tree finds it."""
+    kit = os.path.dirname(os.path.dirname(os.path.realpath(shutil.which(RT) or f"/{RT}")))
+    kept = f"{os.path.dirname(kit)}/rattle-kept"
+    return os.stat(kept).st_uid == os.geteuid() if os.path.isdir(kept) else os.access(os.path.dirname(kit), os.W_OK)
+
+
+def trees_of(processors):
+    """How many trees there are: one for every two processors beyond the first, as far as there is memory for a check in each."""
     with open("/proc/meminfo", encoding="ascii") as lines:
         free = next(int(it.split()[1]) for it in lines if it.startswith("MemAvailable:"))
-    return max(1, min(processors, free // MEMORY))
+    return max(1, min(1 + processors // 2, free // MEMORY)) if keeps_libraries() else 1
+
+
+def copy_sources(names, tree):
+    """Copies what a build of these crates reads."""
+    for path in [f"{TOP}/crates.txt", f"{TOP}/HANDLES", *(it for name in names for it in files_of(name))]:
+        to = f"{tree}/{os.path.relpath(path, TOP)}"
+        os.makedirs(os.path.dirname(to), exist_ok=True)
+        shutil.copy(path, to)
 
 
 def failed(name, status):
@@ -103,19 +123,88 @@ def failed(name, status):
     print(f"{name}: rt ended with status {status}; the end of crates/{name}/out/build.log:", *said[-30:], sep="\n", file=sys.stderr)
 
 
+class Build:
+    """The crates that are to be proved, and those that are."""
+
+    def __init__(self, below, processors):
+        self.below, self.processors, self.lengths = below, processors, lengths_above(below)
+        self.chain = chain_of(below, self.lengths)
+        self.begun, self.done, self.running, self.has_failed = [], set(), {}, False
+        self.changed = threading.Condition()
+
+    def next(self, tree):
+        """The crate to begin with now in a tree, or None where all have begun or one has failed. Those of the chain are proved in the repository."""
+        with self.changed:
+            left = [it for it in self.below if tree == TOP or it not in self.chain]
+            while (left := [it for it in left if it not in self.begun]) and not self.has_failed:
+                ready = [it for it in left if self.done.issuperset(self.below[it])]
+                if ready:
+                    name = max(ready, key=self.lengths.get)
+                    self.begun.append(name)
+                    return name
+                self.changed.wait()
+        return None
+
+    def prove(self, name, tree):
+        """Proves and compiles a crate in a tree; gives the status."""
+        jobs, nice = (self.processors, []) if tree == TOP else (1, ["nice", "-n", "5"])
+        words = ["run", "--jobs", str(jobs), "--", "--help"] if name == PROGRAM else ["lib", "--jobs", str(jobs)]
+        os.makedirs(f"{TOP}/crates/{name}/out", exist_ok=True)
+        with open(f"{TOP}/crates/{name}/out/build.log", "wb") as log:
+            with self.changed:
+                if self.has_failed:
+                    return 1
+                # (in a process group of its own, so that it can be ended with all that it started)
+                process = subprocess.Popen([*nice, RT, *words], cwd=f"{tree}/crates/{name}", stdin=subprocess.DEVNULL, stdout=log, stderr=log, start_new_session=True)
+                self.running[name] = process
+            return process.wait()
+
+    def work(self, tree):
+        """Proves one crate after the other in a tree, as long as there are any."""
+        while name := self.next(tree):
+            start, number = time.monotonic(), self.begun.index(name) + 1
+            print(f"{name}: begun, {number} of {len(self.below)}", flush=True)
+            status = self.prove(name, tree)
+            with self.changed:
+                self.running.pop(name, None)
+                if status and not self.has_failed:
+                    failed(name, status)
+                    self.end()
+                elif not status:
+                    self.done.add(name)
+                    print(f"{name}: done in {time.monotonic() - start:.0f} s, {number} of {len(self.below)}", flush=True)
+                self.changed.notify_all()
+
+    def end(self):
+        """Ends what runs."""
+        with self.changed:
+            self.has_failed = True
+            for process in self.running.values():
+                os.killpg(process.pid, signal.SIGKILL)
+            self.changed.notify_all()
+
+
 def build(below):
     """Builds all; gives the status."""
-    begun, count = time.monotonic(), len(below)
-    jobs = jobs_of(len(os.sched_getaffinity(0)))
-    for number, name in enumerate(in_order(below), 1):
-        start = time.monotonic()
-        print(f"{name}: begun, {number} of {count}", flush=True)
-        status = prove(name, jobs)
-        if status:
-            failed(name, status)
-            return 1
-        print(f"{name}: done in {time.monotonic() - start:.0f} s, {number} of {count}", flush=True)
-    print(f"{count} crates in {(time.monotonic() - begun) / 60:.1f} minutes")
+    begun, processors = time.monotonic(), len(os.sched_getaffinity(0))
+    run = Build(below, processors)
+    with tempfile.TemporaryDirectory(prefix="mailquota-build-") as room:
+        trees = [TOP, *(f"{room}/{it}" for it in range(1, trees_of(processors)))]
+        for tree in trees[1:]:
+            copy_sources(below, tree)
+        workers = [threading.Thread(target=run.work, args=(it,)) for it in trees]
+        try:
+            for it in workers:
+                it.start()
+            for it in workers:
+                it.join()
+        finally:
+            run.end()
+            for it in workers:
+                it.join()
+    if len(run.done) < len(below):
+        return 1
+    print(f"{len(below)} crates in {(time.monotonic() - begun) / 60:.1f} minutes")
     return 0
 
 
