@@ -6,6 +6,7 @@ use Rattle.std.specs.Prelude.{◌&&◌, ◌||◌, if◌then◌else◌, IfOk, IsT
 use Rattle.std.specs.Ordering.{int_eq}
 use Rattle.std.specs.Cmp.{signed_Decides}
 use Rattle.sqlite.specs.Effect.{Database, IsDatabase}
+use Rattle.sqlite.specs.Schema.{Schema}
 use Rattle.sqlite.specs.State.{State}
 use Rattle.sqlite.specs.Tree.{Trees}
 use Rattle.mq_ledger.specs.declared.entry.Entry.{Entry}
@@ -23,11 +24,12 @@ use Rattle.mq_tables.specs.Ledger.{HasLedger, HasRule, Since, setting_in}
 use Rattle.mq_tables.specs.Making.{has_later_table}
 use Rattle.mq_tables.specs.Migrating.{IsMigrated, AreMigrated, migrated}
 use Rattle.mq_tables.specs.Reading.{Spares}
+use Rattle.mq_tables.specs.declared.setting.Setting.{Setting}
 use Rattle.mq_tables.specs.Settings.{SettingRow, shown_of}
 use Rattle.mq_store.specs.declared.fault.OpenFault.{OpenFault}
-use Rattle.mq_store.specs.declared.fault.OpenFault.TheVariants.{ZoneDiffers, DefaultDiffers, Memory, Store}
+use Rattle.mq_store.specs.declared.fault.OpenFault.TheVariants.{NotOurs, ZoneDiffers, DefaultDiffers, Memory, Store}
 use Rattle.mq_store.specs.Auditing.{IsAuditIn, IsRightAnswer}
-use Rattle.mq_store.specs.Crash.{FindsOnly, FindsOpened}
+use Rattle.mq_store.specs.Crash.{LeavesBy, FindsOnly, FindsOpened}
 use Rattle.mq_store.specs.Opening.{fault_in, same_rule, audit_fault, known_version, judged_as, if_none, HasCurrent, HoldsKnown, HasSettings, IsStopped, IsOf, IsFoundOf, IsBroughtUp, Opens, Refuses}
 use Rattle.mq_store.specs.Taking.{HasBook, book_of}
 use Rattle.mq_store.specs.Soundness.{book_in, HasKept, HasStored, IsSound, MeansBook, IsOpened}
@@ -256,6 +258,56 @@ module _ (old new : State) (f : OpenFault) (Found : Result ℕ OpenFault → Typ
   spares_refused (inl found) = inl found.1
   spares_refused (inr older) = inr older.2.fault
 
-  pub crash_refused : Refuses Found old new f → (db : Trees) → new.may_leave db → old.may_leave db ⊎ ((has_rule_table : Bool) × AreMigrated has_rule_table old.now db)
-  crash_refused (inl found) db may = inl (found.1.crash db may)
-  crash_refused (inr older) db may = elim (older.2.crash db may) [ inl was ↦ inl was | inr made ↦ inr (nat_le 2 older.0, made.1) ]
+-- ---- what a refusal leaves where the settings are of this version
+
+of_version : (version n : ℕ) (fault : Option OpenFault) → Ok version ≡ if_none n fault → n ≡ version
+of_version version n None e = (let same : ◌≡◌ {A = Result ℕ OpenFault} (Ok version) (Ok n) = e in let is : version ≡ n = cc in sym is)
+of_version version n (Some f) e = absurd cc
+
+known_of : (k : Option ℕ) (zone : Zone) (default : ℕ) (schema : Schema) (s : Setting) (rule : Option (List ℕ)) (version : ℕ) → Ok version ≡ judged_as k zone default schema s rule → k ≡ Some version
+known_of None zone default schema s rule version e = absurd cc
+known_of (Some n) zone default schema s rule version e = go (has_later_table n schema) e
+  where
+    go : (later : Bool) → Ok version ≡ (if later then Err NotOurs else if_none n (fault_in zone default s rule)) → Some n ≡ Some version
+    go true e = absurd cc
+    go false e = ap Some (of_version version n (fault_in zone default s rule) e)
+
+-- the version that was judged is that of the settings
+known_as : (zone : Zone) (default : ℕ) (schema : Schema) (s : SettingRow) (rule : Option (List ℕ)) (version : ℕ) → IsOf zone default schema s rule (Ok version) → known_version s.version ≡ Some version
+known_as zone default schema s rule version (inl e) = known_of (known_version s.version) zone default schema (shown_of s) rule version e
+known_as zone default schema s rule version (inr (inl e)) = absurd cc
+known_as zone default schema s rule version (inr (inr e)) = absurd cc
+
+module _ (old new : State) (f : OpenFault) (Found : Result ℕ OpenFault → Type 0) (refused : Refuses Found old new f) where
+  by_version : (k : Option ℕ) → ((version : ℕ) → Found (Ok version) → k ≡ Some version) → LeavesBy k old new
+  by_version None known = λ db left. elim refused [
+    | inl found ↦ found.1.crash db left
+    | inr (version, found, older) ↦ absurd (let is : ◌≡◌ {A = Option ℕ} None (Some version) = known version found in cc)
+  ]
+  by_version (Some n) known = go (nat_le 3 n) refl
+    where
+      go : (is : Bool) → nat_le 3 n ≡ is → Since is ((db : Trees) → new.may_leave db → old.may_leave db) ((db : Trees) → new.may_leave db → old.may_leave db ⊎ AreMigrated (nat_le 2 n) old.now db)
+      go true is = λ db left. elim refused [
+        | inl found ↦ found.1.crash db left
+        | inr (version, found, older) ↦ absurd (let same : n ≡ version = cc (known version found) in true≢false (sym is ∙ ap (nat_le 3) same ∙ older.older))
+      ]
+      go false is = λ db left. elim refused [
+        | inl found ↦ inl (found.1.crash db left)
+        | inr (version, found, older) ↦ elim (older.crash db left) [
+          | inl was ↦ inl was
+          | inr made ↦ inr (let same : n ≡ version = cc (known version found) in subst (λ k. AreMigrated (nat_le 2 k) old.now db) (sym same) made.1)
+        ]
+      ]
+
+pub leaves_refused : (zone : Zone) (default : ℕ) (old new : State) (f : OpenFault) (s : SettingRow) (rule : Option (List ℕ)) → Refuses (IsFoundOf zone default old.now s rule) old new f → LeavesBy (known_version s.version) old new
+leaves_refused zone default old new f s rule refused =
+    by_version old new f (IsFoundOf zone default old.now s rule) refused (known_version s.version) (λ version found. known_as zone default old.now.schema s rule version found.0)
+
+-- a store that was left alone leaves what it left before
+pub leaves_same : (k : Option ℕ) (s : State) → LeavesBy k s s
+leaves_same None s = λ db left. left
+leaves_same (Some n) s = go (nat_le 3 n)
+  where
+    go : (is : Bool) → Since is ((db : Trees) → s.may_leave db → s.may_leave db) ((db : Trees) → s.may_leave db → s.may_leave db ⊎ AreMigrated (nat_le 2 n) s.now db)
+    go true = λ db left. left
+    go false = λ db left. inl left

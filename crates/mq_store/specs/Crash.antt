@@ -1,5 +1,5 @@
 -- What an open may find where a crash comes after a request, or after another open.
-use Rattle.std.specs.Prelude.{◌≡◌, ◌⊎◌, ℕ, nat_le, List, true, false}
+use Rattle.std.specs.Prelude.{◌≡◌, ◌⊎◌, ℕ, nat_le, List, true, false, Option, Some, None}
 use Rattle.sqlite.specs.Effect.{Database, IsDatabase}
 use Rattle.sqlite.specs.State.{State}
 use Rattle.sqlite.specs.Tree.{Trees}
@@ -11,6 +11,7 @@ use Rattle.mq_ledger.specs.Arrivals.{is_first}
 use Rattle.mq_ledger.specs.History.{requests}
 use Rattle.mq_ledger.specs.Legal.{Book}
 use Rattle.mq_tables.specs.Ledger.{Since}
+use Rattle.mq_tables.specs.Migrating.{AreMigrated}
 use Rattle.mq_store.specs.Soundness.{HasStored}
 use Rattle.mq_store.specs.Taking.{HasBook, book_of, book_after, Applies}
 
@@ -39,6 +40,14 @@ abbrev pub LeavesOld : Zone → ℕ → Request → State → State → Type 0
 LeavesOld zone default r old new =
     (H : List Entry) → HasBook (book_of zone default H) old.now → is_first (requests H) r ≡ false
     → (db : Trees) → new.may_leave db → old.may_leave db
+
+-- after an open that is refused, by the version of the settings: what a crash could leave before; of an older version
+-- also exactly that ledger in the current version
+abbrev pub LeavesBy : Option ℕ → State → State → Type 0
+LeavesBy None old new = (db : Trees) → new.may_leave db → old.may_leave db
+LeavesBy (Some version) old new =
+    Since (nat_le 3 version) ((db : Trees) → new.may_leave db → old.may_leave db)
+    ((db : Trees) → new.may_leave db → old.may_leave db ⊎ AreMigrated (nat_le 2 version) old.now db)
 
 -- What is found by whoever opens what a crash left.
 

@@ -12,12 +12,11 @@ ghost use Rattle.mq_ledger.specs.History.{requests};
 ghost use Rattle.mq_ledger.specs.Legal.{Book};
 ghost use Rattle.mq_ledger.specs.declared.entry.Entry.{Entry as AnyEntry};
 ghost use Rattle.mq_tables.specs.Making.{has_ledger_table, AreUnnamed, HasCounters, IsMadeOver, AreMadeOver};
-ghost use Rattle.mq_tables.specs.Migrating.{AreMigrated};
 ghost use Rattle.mq_tables.specs.Reading.{Spares};
 ghost use Rattle.mq_tables.specs.Settings.{SettingRow};
 ghost use Rattle.mq_store.specs.Auditing.{IsAuditIn, IsRightAnswer};
-ghost use Rattle.mq_store.specs.Crash.{LeavesNew, LeavesOld, AreApplied, FindsOnly, FindsNew, FindsEither, FindsOpened};
-ghost use Rattle.mq_store.specs.Opening.{made_with, HasSettings, IsFound, IsFoundOf, Opens, Refuses};
+ghost use Rattle.mq_store.specs.Crash.{LeavesNew, LeavesOld, LeavesBy, AreApplied, FindsOnly, FindsNew, FindsEither, FindsOpened};
+ghost use Rattle.mq_store.specs.Opening.{made_with, known_version, HasSettings, IsFound, IsFoundOf, Opens, Refuses};
 ghost use Rattle.mq_store.specs.Soundness.{book_in, HasKept, HasStored, IsSound, IsNew, MeansBook, IsOpened};
 ghost use Rattle.mq_store.specs.Taking.{HasBook, book_of};
 ghost use Rattle.mq_store.specs.declared.fault.OpenFault.TheVariants.{NotOurs, Memory, Store};
@@ -236,11 +235,11 @@ impl<S: Alter> SqlLedger<S> {
             → Spares (state S.Store connection) (state S.Store e.connection)
             ⊎ ((e.fault ≡ Memory) ⊎ (e.fault ≡ Store))) }
 
-        // What an open after a crash may find: after a refusal what could be found before, or the ledger of the
-        // current version; of an older ledger that is opened, that one alone.
-        ensures crash_err { IfErr result (λ e. HasCleanDisk (state S.Store e.connection) → (db : Trees)
-            → (state S.Store e.connection).may_leave db → (state S.Store connection).may_leave db
-            ⊎ ((has_rule_table : Bool) × AreMigrated has_rule_table (state S.Store connection).now db)) }
+        // What an open after a crash may find: after a refusal what could be found before, or of an older ledger
+        // that one in the current version; of an older ledger that is opened, that one alone.
+        ensures crash_err { IfErr result (λ e. HasCleanDisk (state S.Store e.connection)
+            → (s : SettingRow) (rule : Option (List ℕ)) → HasSettings (state S.Store connection).now s rule
+            → LeavesBy (known_version s.version) (state S.Store connection) (state S.Store e.connection)) }
         ensures found_ok { IfOk result (λ l. HasKept (state S.Store l.connection)
             → FindsOpened (state S.Store connection) (state S.Store l.connection)) }
         ensures found_err { IfErr result (λ e. HasCleanDisk (state S.Store e.connection) → (b : Book)

@@ -1,6 +1,6 @@
 use Rattle.sqlite.specs.Held.{state}
 use Rattle.mq_store.specs.Opening.{IsFound}
-use Rattle.mq_store.proofs.Opened.{opens, opens_book, refuses, finds_opened, finds_refused, same_refused, spares_refused, crash_refused}
+use Rattle.mq_store.proofs.Opened.{opens, opens_book, refuses, finds_opened, finds_refused, same_refused, spares_refused, leaves_refused}
 use Rattle.mq_store.proofs.ledger.SqlLedger.open.Goals as goal
 
 pub returns-in-Ok-clause-rows : goal.returns-in-Ok-clause-rows
@@ -30,7 +30,8 @@ pub returns-in-Err-clause-spares_err : goal.returns-in-Err-clause-spares_err
 returns-in-Err-clause-spares_err g c clean = spares_refused (state g.S.Store c.args.connection) (state g.S.Store c.open_store.new.connection) c.in-Err.fault (IsFound g.S.Store c.args.zone c.args.default c.args.connection c.open_store.new.connection) (c.in-Err.ensures.refuses clean)
 
 pub returns-in-Err-clause-crash_err : goal.returns-in-Err-clause-crash_err
-returns-in-Err-clause-crash_err g c clean db may = crash_refused (state g.S.Store c.args.connection) (state g.S.Store c.open_store.new.connection) c.in-Err.fault (IsFound g.S.Store c.args.zone c.args.default c.args.connection c.open_store.new.connection) (c.in-Err.ensures.refuses clean) db may
+returns-in-Err-clause-crash_err g c clean s rule has =
+    leaves_refused c.args.zone c.args.default (state g.S.Store c.args.connection) (state g.S.Store c.open_store.new.connection) c.in-Err.fault s rule (c.in-Err.ensures.exact_err clean s rule has)
 
 pub returns-in-Err-clause-err : goal.returns-in-Err-clause-err
 returns-in-Err-clause-err g c clean autocommit = c.in-Err.ensures.refuses clean
