@@ -26,7 +26,7 @@ use Rattle.mq_tables.proofs.Found.{IsFound, apart, begun, still_all, in_database
 use Rattle.mq_tables.proofs.Places.{all_below}
 use Rattle.mq_rows.specs.declared.record.RetiredRecord.{RetiredRecord}
 use Rattle.mq_tables.specs.Migrating.{AddsRule, SetsVersion, HasMigrated, IsMigrated, migrated}
-use Rattle.mq_tables.proofs.Changes.{since}
+use Rattle.mq_tables.proofs.Changes.{since, is_since}
 use Rattle.mq_tables.proofs.NewLedger.{find_apart, holds_none}
 
 -- ---- one more table leaves a ledger where it is
@@ -156,10 +156,6 @@ names_selves : (same_name rule_table.name rule_table.name ≡ true) × (same_nam
 unfolding same_name
 names_selves = (refl, refl)
 
-is_there : (Now Before : Type 0) (b : Bool) → b ≡ true → Since b Now Before → Now
-is_there Now Before true e h = h
-is_there Now Before false e h = absurd cc
-
 was_before : (Now Before : Type 0) (b : Bool) → b ≡ false → Since b Now Before → Before
 was_before Now Before true e h = absurd cc
 was_before Now Before false e h = h
@@ -191,7 +187,7 @@ migrates_from true a b c d p q s = record {
   made = λ counters t l is old.
       subst (λ db. lacks_sequence db.schema ≡ false → (l : HasLedger db t) → HasMigrated true t l.at.setting db d.now) p.1
       (λ counters l.
-      let added = floors_added b c d t old q s l (is_there _ _ (nat_le 2 t.setting.version) is l.later.rule) counters in
+      let added = floors_added b c d t old q s l (is_since _ _ (nat_le 2 t.setting.version) is l.later.rule) counters in
       record { ledger = added.0; schema = added.1; others = added.2 })
       counters l;
 }

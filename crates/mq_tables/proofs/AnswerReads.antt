@@ -1,5 +1,5 @@
 -- What the query of an answer by its number answers of the records.
-use Rattle.std.proofs.Common.{◌≡◌, ◌&&◌, ℕ, List, [], ◌∷◌, ◌==◌, map, filter, codes, Bool, true, None, Ok, Err, Result, refl, sym, ap, subst, ◌∙◌}
+use Rattle.std.proofs.Common.{◌≡◌, ◌&&◌, ℕ, List, [], ◌∷◌, ◌==◌, map, filter, codes, Bool, true, None, Result, refl, sym, ap, ◌∙◌}
 use Rattle.std.specs.Prelude.{Vec, IfOk}
 use Rattle.std.specs.declared.alloc.Global.{Global}
 use Rattle.sqlite.specs.declared.error.Error.{Error}
@@ -8,14 +8,11 @@ use Rattle.sqlite.specs.Order.{Row, column}
 use Rattle.sqlite.specs.State.{State, Shown}
 use Rattle.sqlite_schema.specs.Names.{same_name}
 use Rattle.sqlite_tied.specs.Compute.{everything}
-use Rattle.std.specs.List.{list_all}
 use Rattle.std.specs.List.Sorted.{IsPermutation}
 use Rattle.std.specs.Cmp.{unsigned_Decides}
 use Rattle.std.proofs.Math.Bool.{and-true}
 use Rattle.std.proofs.lemmas.Bool.{and_parts}
 use Rattle.std.proofs.lemmas.Slice.Eq.{slice_eq-Decides}
-use Rattle.sqlite.specs.Term.{eval_all, holds}
-use Rattle.sqlite_trees.proofs.ListLemmas.{map-map, filter-map}
 use Rattle.mq_frame.specs.declared.message.Id.{Id}
 use Rattle.mq_frame.specs.Same.{same_text, same_id}
 use Rattle.mq_rows.specs.declared.record.AnswerRecord.{AnswerRecord}
@@ -24,10 +21,9 @@ use Rattle.mq_tables.specs.Ledger.{HasLedger}
 use Rattle.mq_tables.specs.Lent.{id_key, bodies_row, IsAnswerShown}
 use Rattle.mq_tables.specs.Records.{answer_fields}
 use Rattle.mq_tables.specs.Tables.{answer_table}
-use Rattle.mq_tables.specs.Written.{chosen}
 use Rattle.mq_tables.proofs.Finds.{int_same, blob_same}
-use Rattle.mq_tables.proofs.SelectShape.{SelectShape, IsSelect, IsAccepted, filter_in, shown_in}
-use Rattle.mq_tables.proofs.Selected.{shows_rows}
+use Rattle.mq_tables.proofs.SelectShape.{SelectShape, IsSelect, IsAccepted}
+use Rattle.mq_tables.proofs.Selected.{whole_pass, finds_each}
 use Rattle.mq_tables.proofs.TermShape.{field, against}
 use Rattle.mq_tables.proofs.TermShape.Relation.{Same}
 use Rattle.mq_tables.proofs.Tests.{text_test, nat_test}
@@ -65,24 +61,16 @@ answer_accepted : IsAccepted answer_shape
 answer_accepted s t low found = rw (low, found)
 
 module _ (id : Id) where
-  decides : (r : AnswerRecord) → list_all (holds (id_key id ∷ answer_fields r ∷ [])) (filter_in answer_shape) ≡ same_id id r.id
-  decides r = rw (text_test r.id.host id.host, nat_test r.id.run id.run, nat_test r.id.seq id.seq) (ap (λ b. same_text id.host r.id.host && b) (ap (λ b. (id.run == r.id.run) && b) (and-true (id.seq == r.id.seq))))
-
-  shown_are_of : (all : List AnswerRecord) → chosen (filter_in answer_shape) (shown_in answer_shape) (id_key id) (map answer_fields all) ≡ map bodies_row (filter (λ a. same_id id a.id) all)
-  shown_are_of all =
-      ap (map (λ r. eval_all (shown_in answer_shape) (id_key id ∷ r ∷ []))) (filter-map (λ r. list_all (holds (id_key id ∷ r ∷ [])) (filter_in answer_shape)) answer_fields all)
-      ∙ map-map (λ r. eval_all (shown_in answer_shape) (id_key id ∷ r ∷ [])) answer_fields (filter (λ a. list_all (holds (id_key id ∷ answer_fields a ∷ [])) (filter_in answer_shape)) all)
-      ∙ ap (λ (p : AnswerRecord → Bool). map bodies_row (filter p all)) (λ i r. decides r i)
-
-  pub found_all : (old new : State) (outcome : Result (Vec Row Global) Error) → IfOk outcome (λ rows. Shown answer_text (id_key id) old new rows.items)
-      → IfOk outcome (λ rows. (t : Tables) → HasLedger old.now t → IsPermutation (map bodies_row (filter (λ a. same_id id a.id) t.answers)) rows.items)
-  found_all old new (Ok rows) h = λ t l.
-      subst (λ shown. IsPermutation shown rows.items) (ap (chosen (filter_in answer_shape) (shown_in answer_shape) (id_key id)) l.holds.answers.rows ∙ shown_are_of t.answers)
-      (shows_rows answer_text answer_shape answer_select answer_accepted (id_key id) old new l.at.answer l.tables.answer rows.items h refl)
-  found_all old new (Err e) h = tt
-
   abbrev is_of : AnswerRecord → Bool
   is_of a = same_id id a.id
+
+  decides : (r : AnswerRecord) → whole_pass answer_fields answer_text answer_shape answer_select answer_accepted (id_key id) r ≡ is_of r
+  decides r = rw (text_test r.id.host id.host, nat_test r.id.run id.run, nat_test r.id.seq id.seq) (ap (λ b. same_text id.host r.id.host && b) (ap (λ b. (id.run == r.id.run) && b) (and-true (id.seq == r.id.seq))))
+
+  pub found_all : (old new : State) (outcome : Result (Vec Row Global) Error) → IfOk outcome (λ rows. Shown answer_text (id_key id) old new rows.items)
+      → IfOk outcome (λ rows. (t : Tables) → HasLedger old.now t → IsPermutation (map bodies_row (filter is_of t.answers)) rows.items)
+  found_all old new =
+      finds_each answer_fields answer_text answer_shape answer_select answer_accepted (id_key id) old new is_of decides refl (λ t. t.answers) (HasLedger old.now) (λ t l. (l.at.answer, l.tables.answer, l.holds.answers.rows))
 
   keyed_so : (a : AnswerRecord) → is_of a ≡ true → (id.host ≡ a.id.host) × (id.run ≡ a.id.run) × (id.seq ≡ a.id.seq)
   keyed_so a hit =

@@ -1,44 +1,71 @@
 -- What the query for the count of arrivals answers.
-use Rattle.std.proofs.Common.{◌≡◌, ℕ, pos, ◌^◌, nat_le, List, [], ◌∷◌, false, Ok, Err, Result, refl, sym, ap, subst, ◌∙◌}
+use Rattle.std.proofs.Common.{◌≡◌, ℕ, pos, List, [], ◌∷◌, codes, None, Ok, Err, Result, refl, sym, ap, subst, ◌∙◌}
 use Rattle.std.specs.Prelude.{Vec, IfOk}
 use Rattle.std.specs.declared.alloc.Global.{Global}
 use Rattle.std.specs.List.Sorted.{IsPermutation}
 use Rattle.sqlite.specs.Order.{Row, column, value_cmp}
 use Rattle.sqlite.specs.Ops.{binary}
-use Rattle.sqlite.specs.Tree.{Trees}
-use Rattle.sqlite.specs.Program.{overlay}
 use Rattle.sqlite.specs.declared.types.Value.TheVariants.{Int}
 use Rattle.sqlite.specs.declared.error.Error.{Error}
+use Rattle.sqlite.specs.Listing.{listing_schema}
 use Rattle.sqlite.specs.State.{State, Shown}
-use Rattle.sqlite.proofs.Callers.{IsPlain, command_of, one_permutation}
+use Rattle.sqlite.proofs.Callers.{one_permutation}
+use Rattle.sqlite_schema.specs.Names.{same_name}
+use Rattle.sqlite_tied.specs.Compute.{everything}
 use Rattle.mq_rows.specs.Tables.{Tables}
 use Rattle.mq_tables.specs.Ledger.{HasLedger, setting_in}
 use Rattle.mq_tables.specs.Settings.{SettingRow, setting_fields}
 use Rattle.mq_tables.specs.Lent.{IsFirstNatural}
+use Rattle.mq_tables.specs.Tables.{setting_table}
 use Rattle.mq_tables.specs.Written.{chosen}
-use Rattle.mq_tables.proofs.Plain.{any_apart}
-use Rattle.mq_tables.proofs.Queries.{selects}
-use Rattle.mq_tables.proofs.ArrivalText.{select_text, select_parsed, select_query, select_unlisted, key_tests, shown_terms, names, select_compiled, understood_so}
+use Rattle.mq_tables.proofs.SelectShape.{SelectShape, IsSelect, IsAccepted, filter_in, shown_in}
+use Rattle.mq_tables.proofs.Selected.{shows_rows}
+use Rattle.mq_tables.proofs.TermShape.{field}
+use Rattle.mq_tables.proofs.TermShape.Operand.{One}
+use Rattle.mq_tables.proofs.TermShape.Relation.{Same}
 
-stored : (t : ℕ) (db : Trees) → nat_le (2 ^ 31) t ≡ false → overlay db [] t ≡ db t
-stored t db low = rw low
+abbrev pub arrivals_text : List ℕ
+arrivals_text = codes "SELECT arrivals FROM setting WHERE id = 1"
 
-shown_is : (s : SettingRow) → chosen key_tests shown_terms [] (setting_fields s ∷ []) ≡ (Int s.arrivals ∷ []) ∷ []
+abbrev pub arrivals_shape : SelectShape
+arrivals_shape = record {
+  table = setting_table;
+  shown = field (codes "arrivals") 4 ∷ [];
+  tests = record { column = field (codes "id") 0; by = Same; operand = One } ∷ [];
+  order = None;
+}
+
+pub arrivals_select : IsSelect arrivals_text arrivals_shape
+unfolding everything listing_schema same_name
+arrivals_select = record {
+  parsed = refl;
+  select = _;
+  statement = refl;
+  timeless = refl;
+  unlisted = refl;
+  source = (_, refl, refl, refl, refl, refl, refl);
+  shown = ((_, refl, refl), tt);
+  filter = (_, _, refl, refl, refl);
+  ungrouped = (refl, refl, refl);
+  order = (refl, refl);
+  alone = (refl, refl, refl);
+  known = λ t. refl;
+  short = refl;
+}
+
+arrivals_accepted : IsAccepted arrivals_shape
+arrivals_accepted s t low found = rw (low, found)
+
+chosen_is : (s : SettingRow) → chosen (filter_in arrivals_shape) (shown_in arrivals_shape) [] (setting_fields s ∷ []) ≡ (Int s.arrivals ∷ []) ∷ []
 unfolding binary value_cmp lib.Ieee.is_nan lib.Ieee.lt
-shown_is s = refl
+chosen_is s = refl
 
-finds : (old new : State) (rows : List Row) → Shown select_text [] old new rows → (t : Tables) → HasLedger old.now t → rows ≡ (Int (pos t.setting.arrivals) ∷ []) ∷ []
-finds old new rows h t l =
-    let place = l.tables.setting in
-    let tree = l.at.setting in
-    let is = understood_so old.now.schema tree place in
-    let got = selects select_text [] old new old.now.schema refl tree key_tests shown_terms names (ap command_of is) (subst IsPlain (sym is) (refl, refl))
-    (any_apart select_text select_parsed select_query select_unlisted old.now.schema (select_compiled tree) is) (stored tree old.now.trees place.stored) rows h in
-    one_permutation (Int (pos t.setting.arrivals) ∷ []) rows (subst (λ shown. IsPermutation shown rows) (ap (chosen key_tests shown_terms []) l.holds.setting ∙ shown_is (setting_in t.setting)) got)
-
-pub found_arrivals : (old new : State) (outcome : Result (Vec Row Global) Error) → IfOk outcome (λ rows. Shown select_text [] old new rows.items)
+pub found_arrivals : (old new : State) (outcome : Result (Vec Row Global) Error) → IfOk outcome (λ rows. Shown arrivals_text [] old new rows.items)
     → IfOk outcome (λ rows. (t : Tables) → HasLedger old.now t → rows.items ≡ (Int (pos t.setting.arrivals) ∷ []) ∷ [])
-found_arrivals old new (Ok rows) h = finds old new rows.items h
+found_arrivals old new (Ok rows) h = λ t l.
+    one_permutation (Int (pos t.setting.arrivals) ∷ []) rows.items
+    (subst (λ shown. IsPermutation shown rows.items) (ap (chosen (filter_in arrivals_shape) (shown_in arrivals_shape) []) l.holds.setting ∙ chosen_is (setting_in t.setting))
+    (shows_rows arrivals_text arrivals_shape arrivals_select arrivals_accepted [] old new l.at.setting l.tables.setting rows.items h refl))
 found_arrivals old new (Err e) h = tt
 
 counted : (m n : ℕ) (rows : List Row) → rows ≡ (Int (pos m) ∷ []) ∷ [] → IsFirstNatural rows n → n ≡ m

@@ -1,5 +1,5 @@
 -- What the query for a limit by its key answers of the records.
-use Rattle.std.proofs.Common.{◌≡◌, ℕ, ◌&&◌, ◌==◌, List, [], ◌∷◌, map, filter, codes, Bool, true, None, Ok, Err, Result, refl, ap, subst}
+use Rattle.std.proofs.Common.{◌≡◌, ℕ, ◌&&◌, ◌==◌, List, [], ◌∷◌, map, filter, codes, true, None, Result, refl, ap}
 use Rattle.std.specs.Prelude.{Vec, IfOk}
 use Rattle.std.specs.declared.alloc.Global.{Global}
 use Rattle.sqlite.specs.declared.error.Error.{Error}
@@ -25,7 +25,7 @@ use Rattle.mq_tables.specs.Tables.{ceiling_table}
 use Rattle.mq_tables.proofs.Governing.{limit_is}
 use Rattle.mq_tables.proofs.SelectShape.{SelectShape, IsSelect, IsAccepted}
 use Rattle.mq_tables.proofs.TermShape.{field, against}
-use Rattle.mq_tables.proofs.Selected.{pass, shows_all}
+use Rattle.mq_tables.proofs.Selected.{pass, finds_all}
 use Rattle.mq_tables.proofs.TermShape.Relation.{Same}
 use Rattle.mq_tables.proofs.Tests.{text_test, day_test}
 
@@ -67,10 +67,8 @@ module _ (login : List ℕ) (day : ℕ) where
 
   pub found_all : (old new : State) (outcome : Result (Vec Row Global) Error) → IfOk outcome (λ rows. Shown ceiling_text (key_params login day) old new rows.items)
       → IfOk outcome (λ rows. (t : Tables) → HasLedger old.now t → IsPermutation (map limit_row (filter (is_ceiling login day) t.ceilings)) rows.items)
-  found_all old new (Ok rows) h = λ t l.
-      subst (λ (p : CeilingRecord → Bool). IsPermutation (map limit_row (filter p t.ceilings)) rows.items) (λ i c. decides c i)
-      (shows_all ceiling_fields ceiling_text ceiling_shape ceiling_select ceiling_accepted refl (key_params login day) old new l.at.ceiling l.tables.ceiling rows.items h t.ceilings refl l.holds.ceilings.same)
-  found_all old new (Err e) h = tt
+  found_all old new =
+      finds_all ceiling_fields ceiling_text ceiling_shape ceiling_select ceiling_accepted refl (key_params login day) old new (is_ceiling login day) decides refl (λ t. t.ceilings) (HasLedger old.now) (λ t l. (l.at.ceiling, l.tables.ceiling, l.holds.ceilings.same))
 
   keyed : (c : CeilingRecord) → is_ceiling login day c ≡ true → login ≡ c.login
   keyed c hit = (slice_eq-Decides unsigned_Decides login c.login _ refl).0 (and_parts _ _ hit).0

@@ -1,5 +1,5 @@
 -- What the query for the floor of a host answers of the records.
-use Rattle.std.proofs.Common.{◌≡◌, ℕ, List, [], ◌∷◌, map, filter, codes, Bool, true, None, Ok, Err, Result, refl, sym, ap, subst, ◌∙◌, nat_le}
+use Rattle.std.proofs.Common.{◌≡◌, ℕ, List, [], ◌∷◌, map, filter, codes, true, None, Result, refl, sym, ap, ◌∙◌, nat_le}
 use Rattle.std.specs.Prelude.{Vec, IfOk}
 use Rattle.std.specs.declared.alloc.Global.{Global}
 use Rattle.sqlite.specs.declared.error.Error.{Error}
@@ -25,7 +25,7 @@ use Rattle.mq_tables.specs.Records.{retired_fields}
 use Rattle.mq_tables.specs.Tables.{retired_table}
 use Rattle.mq_tables.proofs.SelectShape.{SelectShape, IsSelect, IsAccepted}
 use Rattle.mq_tables.proofs.TermShape.{field, against}
-use Rattle.mq_tables.proofs.Selected.{pass, shows_all}
+use Rattle.mq_tables.proofs.Selected.{pass, finds_all}
 use Rattle.mq_tables.proofs.TermShape.Relation.{Same}
 use Rattle.mq_tables.proofs.Tests.{text_test}
 
@@ -71,11 +71,8 @@ module _ (host : List ℕ) where
 
   pub found_all : (old new : State) (outcome : Result (Vec Row Global) Error) → IfOk outcome (λ rows. Shown floor_text (host_params host) old new rows.items)
       → IfOk outcome (λ rows. (t : Tables) → HasLedger old.now t × IsCurrent t → IsPermutation (map floor_row (filter (is_host host) t.retired)) rows.items)
-  found_all old new (Ok rows) h = λ t l.
-      let it = floors_there old.now t l.0 l.1 in
-      subst (λ (p : RetiredRecord → Bool). IsPermutation (map floor_row (filter p t.retired)) rows.items) (λ i r. decides r i)
-      (shows_all retired_fields floor_text floor_shape floor_select floor_accepted refl (host_params host) old new it.tree it.table rows.items h t.retired refl it.holds.same)
-  found_all old new (Err e) h = tt
+  found_all old new =
+      finds_all retired_fields floor_text floor_shape floor_select floor_accepted refl (host_params host) old new (is_host host) decides refl (λ t. t.retired) (λ t. HasLedger old.now t × IsCurrent t) (λ t l. let it = floors_there old.now t l.0 l.1 in (it.tree, it.table, it.holds.same))
 
   pub is_it : (row : Row) (u v : RetiredRecord) → IsFloorShown host row u → is_host host v ≡ true → row ≡ floor_row v → v ≡ u
   is_it row u v shown hit is =

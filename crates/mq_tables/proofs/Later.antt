@@ -15,7 +15,7 @@ use Rattle.mq_tables.specs.Tables.{setting_table, rule_table}
 use Rattle.mq_tables.specs.Settings.{rule_fields}
 use Rattle.mq_tables.specs.Making.{chain, trees_for, other_tables, five_tables, setting_row, HasCounters, HasStarted, HasAdded, HasPut, PutsAny, IsMade, IsMadeOver}
 use Rattle.mq_tables.proofs.Chains.{all_both, of_chain}
-use Rattle.mq_tables.proofs.Changes.{kept_of, setting_rule, rule_changed}
+use Rattle.mq_tables.proofs.Changes.{kept_of, rule_changed}
 use Rattle.mq_tables.specs.Places.{IsSettingIn}
 use Rattle.mq_tables.proofs.NewLedger.{AreSeven, seven_made, without_rule}
 use Rattle.mq_tables.proofs.Places.{all_below}
@@ -68,7 +68,7 @@ module _ (text : List ℕ) (cap : ℕ) (a b c : State) where
         setting = record {
           tree = it.setting.tree;
           table = subst (λ x. IsSettingIn x it.setting.tree) (sym put.schema) it.setting.table;
-          row = kept_of b.now.schema setting_table rule_table it.setting.tree tree b.now.trees c.now.trees it.setting.table it.rule setting_rule put.others ∙ it.setting.row;
+          row = kept_of b.now.schema setting_table rule_table it.setting.tree tree b.now.trees c.now.trees it.setting.table it.rule refl put.others ∙ it.setting.row;
         };
         ledger = λ unnamed. rule_changed b.now c.now (without_rule by_rule) (it.ledger unnamed) put.schema put.sound (record { tree = tree; table = it.rule; holds = it.empty.1.1.1.1.0 }) refl put.others (Some text) put.row_is;
         others = all_both _ _ _ (λ t same was. same ∙ was) s.tables (all_both _ _ _ (λ t apart same. same apart) s.tables before.0 parts.0) it.others;

@@ -16,14 +16,13 @@ pub mod InsertShape
 pub mod UpdateShape
 pub mod UsageReads
 pub mod Refusals
-pub mod Answered
-pub mod Anywhere
-pub mod Opens
+pub mod Asked
+pub mod SettingReads
 pub mod Found
 pub mod NewLedger
 pub mod Meanings
 pub mod Updating
-pub mod ArrivalSets
+pub mod SettingSets
 pub mod RowFacts
 pub mod Tests
 pub mod UsageSets
@@ -44,7 +43,6 @@ pub mod CeilingReads
 pub mod OverReads
 pub mod Earliest
 pub mod LoginReads
-pub mod ArrivalText
 pub mod ArrivalReads
 pub mod RuleReads
 pub mod RuleInserts
@@ -57,7 +55,6 @@ pub mod OpenReads
 pub mod PlaceReads
 pub mod ClearedRows
 pub mod ReplyClears
-pub mod VersionSets
 pub mod Adding
 pub mod FigureReads
 pub mod FigureRows

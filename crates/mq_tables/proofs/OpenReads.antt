@@ -35,7 +35,7 @@ use Rattle.mq_tables.specs.Tables.{trans_table}
 use Rattle.mq_tables.proofs.FigureReads.{mapped_more}
 use Rattle.mq_tables.proofs.SelectShape.{SelectShape, IsSelect, IsAccepted}
 use Rattle.mq_tables.proofs.TermShape.{field, against}
-use Rattle.mq_tables.proofs.Selected.{pass, shows_all}
+use Rattle.mq_tables.proofs.Selected.{pass, finds_all}
 use Rattle.mq_tables.proofs.TermShape.Relation.{Same, AtMost, AtLeast}
 use Rattle.mq_tables.proofs.Tests.{text_test, nat_test, from_test, until_test}
 
@@ -84,10 +84,8 @@ module _ (runs : Runs) where
 
   pub found_all : (old new : State) (outcome : Result (Vec Row Global) Error) → IfOk outcome (λ rows. Shown open_text (open_params runs) old new rows.items)
       → IfOk outcome (λ rows. (t : Tables) → HasLedger old.now t → IsPermutation (map open_row (filter (is_open_in runs) t.transactions)) rows.items)
-  found_all old new (Ok rows) h = λ t l.
-      subst (λ (p : TransactionRecord → Bool). IsPermutation (map open_row (filter p t.transactions)) rows.items) (λ i r. decides r i)
-      (shows_all transaction_fields open_text open_shape open_select open_accepted refl (open_params runs) old new l.at.trans l.tables.trans rows.items h t.transactions refl l.holds.transactions.same)
-  found_all old new (Err e) h = tt
+  found_all old new =
+      finds_all transaction_fields open_text open_shape open_select open_accepted refl (open_params runs) old new (is_open_in runs) decides refl (λ t. t.transactions) (HasLedger old.now) (λ t l. (l.at.trans, l.tables.trans, l.holds.transactions.same))
 
 -- ---- the records that rows of open transactions stand for
 

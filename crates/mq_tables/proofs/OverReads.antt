@@ -33,7 +33,7 @@ use Rattle.mq_tables.proofs.Firsts as firsts
 use Rattle.mq_tables.proofs.Governing.{has_contains}
 use Rattle.mq_tables.proofs.SelectShape.{SelectShape, IsSelect, IsAccepted}
 use Rattle.mq_tables.proofs.TermShape.{field, against}
-use Rattle.mq_tables.proofs.Selected.{pass, shows_all}
+use Rattle.mq_tables.proofs.Selected.{pass, finds_all}
 use Rattle.mq_tables.proofs.TermShape.Relation.{Same, AtLeast}
 use Rattle.mq_tables.proofs.Tests.{text_test, from_test}
 
@@ -83,10 +83,8 @@ module _ (login : List ℕ) (from : ℕ) where
 
   pub found_all : (old new : State) (outcome : Result (Vec Row Global) Error) → IfOk outcome (λ rows. Shown days_text (key_params login from) old new rows.items)
       → IfOk outcome (λ rows. (t : Tables) → HasLedger old.now t → IsPermutation (map day_row (filter (is_from login from) t.usage)) rows.items)
-  found_all old new (Ok rows) h = λ t l.
-      subst (λ (p : UsageRecord → Bool). IsPermutation (map day_row (filter p t.usage)) rows.items) (λ i u. decides u i)
-      (shows_all usage_fields days_text days_shape days_select days_accepted refl (key_params login from) old new l.at.usage l.tables.usage rows.items h t.usage refl l.holds.usage.same)
-  found_all old new (Err e) h = tt
+  found_all old new =
+      finds_all usage_fields days_text days_shape days_select days_accepted refl (key_params login from) old new (is_from login from) decides refl (λ t. t.usage) (HasLedger old.now) (λ t l. (l.at.usage, l.tables.usage, l.holds.usage.same))
 
   -- what is said of each row is said of each of the login's days from that one on
   of_rows : (P : DayTotals → Type 0) (all : List UsageRecord) (rows : List Row) → IsPermutation (map day_row (filter (is_from login from) all)) rows

@@ -1,5 +1,5 @@
 -- What the query of the answers of runs answers of their places.
-use Rattle.std.proofs.Common.{◌≡◌, ◌&&◌, ℕ, List, [], ◌∷◌, map, filter, codes, Bool, None, Ok, Err, Result, refl, ap, subst, ◌∙◌}
+use Rattle.std.proofs.Common.{◌≡◌, ◌&&◌, ℕ, List, [], ◌∷◌, map, filter, codes, Bool, None, Result, refl, ap}
 use Rattle.std.specs.Prelude.{Vec, IfOk, nat_le}
 use Rattle.std.specs.declared.alloc.Global.{Global}
 use Rattle.sqlite.specs.declared.error.Error.{Error}
@@ -8,11 +8,8 @@ use Rattle.sqlite.specs.Order.{Row}
 use Rattle.sqlite.specs.State.{State, Shown}
 use Rattle.sqlite_schema.specs.Names.{same_name}
 use Rattle.sqlite_tied.specs.Compute.{everything}
-use Rattle.std.specs.List.{list_all}
 use Rattle.std.specs.List.Sorted.{IsPermutation}
 use Rattle.std.proofs.Math.Bool.{and-true}
-use Rattle.sqlite.specs.Term.{eval_all, holds}
-use Rattle.sqlite_trees.proofs.ListLemmas.{map-map, filter-map}
 use Rattle.mq_frame.specs.Same.{same_text}
 use Rattle.mq_rows.specs.declared.record.AnswerRecord.{AnswerRecord}
 use Rattle.mq_rows.specs.Tables.{Tables}
@@ -22,9 +19,8 @@ use Rattle.mq_rows.specs.Plan.{is_among}
 use Rattle.mq_tables.specs.Retiring.{runs_params, place_row}
 use Rattle.mq_tables.specs.Records.{answer_fields}
 use Rattle.mq_tables.specs.Tables.{answer_table}
-use Rattle.mq_tables.specs.Written.{chosen}
-use Rattle.mq_tables.proofs.SelectShape.{SelectShape, IsSelect, IsAccepted, filter_in, shown_in}
-use Rattle.mq_tables.proofs.Selected.{shows_rows}
+use Rattle.mq_tables.proofs.SelectShape.{SelectShape, IsSelect, IsAccepted}
+use Rattle.mq_tables.proofs.Selected.{whole_pass, finds_each}
 use Rattle.mq_tables.proofs.TermShape.{field, against}
 use Rattle.mq_tables.proofs.TermShape.Relation.{Same, AtMost, AtLeast}
 use Rattle.mq_tables.proofs.Tests.{text_test, from_test, until_test}
@@ -65,18 +61,10 @@ module _ (runs : Runs) where
   abbrev among : AnswerRecord → Bool
   among a = is_among runs a.id.host a.id.run
 
-  decides : (r : AnswerRecord) → list_all (holds (runs_params runs ∷ answer_fields r ∷ [])) (filter_in places_shape) ≡ among r
+  decides : (r : AnswerRecord) → whole_pass answer_fields places_text places_shape places_select places_accepted (runs_params runs) r ≡ among r
   decides r = rw (text_test r.id.host runs.host, from_test r.id.run runs.from, until_test r.id.run runs.to) (ap (λ b. same_text runs.host r.id.host && b) (ap (λ b. nat_le runs.from r.id.run && b) (and-true (nat_le r.id.run runs.to))))
 
-  shown_are_of : (all : List AnswerRecord) → chosen (filter_in places_shape) (shown_in places_shape) (runs_params runs) (map answer_fields all) ≡ map place_row (filter among all)
-  shown_are_of all =
-      ap (map (λ r. eval_all (shown_in places_shape) (runs_params runs ∷ r ∷ []))) (filter-map (λ r. list_all (holds (runs_params runs ∷ r ∷ [])) (filter_in places_shape)) answer_fields all)
-      ∙ map-map (λ r. eval_all (shown_in places_shape) (runs_params runs ∷ r ∷ [])) answer_fields (filter (λ a. list_all (holds (runs_params runs ∷ answer_fields a ∷ [])) (filter_in places_shape)) all)
-      ∙ ap (λ (p : AnswerRecord → Bool). map place_row (filter p all)) (λ i r. decides r i)
-
   pub found_all : (old new : State) (outcome : Result (Vec Row Global) Error) → IfOk outcome (λ rows. Shown places_text (runs_params runs) old new rows.items)
-      → IfOk outcome (λ rows. (t : Tables) → HasLedger old.now t → IsPermutation (map place_row (filter (λ a. is_among runs a.id.host a.id.run) t.answers)) rows.items)
-  found_all old new (Ok rows) h = λ t l.
-      subst (λ shown. IsPermutation shown rows.items) (ap (chosen (filter_in places_shape) (shown_in places_shape) (runs_params runs)) l.holds.answers.rows ∙ shown_are_of t.answers)
-      (shows_rows places_text places_shape places_select places_accepted (runs_params runs) old new l.at.answer l.tables.answer rows.items h refl)
-  found_all old new (Err e) h = tt
+      → IfOk outcome (λ rows. (t : Tables) → HasLedger old.now t → IsPermutation (map place_row (filter among t.answers)) rows.items)
+  found_all old new =
+      finds_each answer_fields places_text places_shape places_select places_accepted (runs_params runs) old new among decides refl (λ t. t.answers) (HasLedger old.now) (λ t l. (l.at.answer, l.tables.answer, l.holds.answers.rows))

@@ -11,8 +11,6 @@ use Rattle.sqlite_resolve.specs.declared.error.CompileError.TheVariants.{NoSuchT
 use Rattle.sqlite_resolve.specs.Lowering.{Checked, and_then}
 use Rattle.sqlite_resolve.specs.Compile.{first, compiled, planned, meaning, returning, timed, command, with_command}
 use Rattle.sqlite.specs.Listing.{understood, reads_listing, if_select, listing_schema}
-use Rattle.sqlite_tied.specs.Compute.{everything}
-use Rattle.mq_tables.specs.Reading.{setting_text}
 
 abbrev pub no_text : Parsed
 no_text = record { statement = written.Empty; names = []; formats = []; start = 0; end = 0; tail = 0 }
@@ -40,33 +38,8 @@ query_bare : (s : Schema) (p : Parsed) (c : Compiled) → IsQuery p → and_then
 unfolding planned meaning returning timed
 query_bare s p c (sel, is, none) h = bare_plan p.formats p c (command s p.formats _ (written.Select sel)) (rw is at h) none
 
-pub setting_parsed : first setting_text ≡ Ok (parsed_in (first setting_text))
-unfolding everything
-setting_parsed = refl
-
-unfoldable pub setting_query : IsQuery (parsed_in (first setting_text))
-unfolding everything
-setting_query = (_, refl, refl)
-
-compiled_bare : (s : Schema) (c : Compiled) → compiled s setting_text ≡ Ok c → IsBare c
-unfolding compiled
-compiled_bare s c h = query_bare s (parsed_in (first setting_text)) c setting_query (rw setting_parsed at h)
-
-pub unlisted : if_select (compiled listing_schema setting_text) ≡ Err NoSuchTable
-unfolding everything listing_schema
-unlisted = refl
-
--- whatever the schema, the query of a setting returns nothing of a write, and reads no time
-pub setting_bare : (s : Schema) (c : Compiled) → understood s setting_text ≡ Ok c → IsBare c
-unfolding understood
-setting_bare s c h = go (reads_listing s setting_text) h
-  where
-    go : (b : Bool) → (if b then if_select (compiled listing_schema setting_text) else compiled s setting_text) ≡ Ok c → IsBare c
-    go true e = absurd (let none = sym unlisted ∙ e in cc)
-    go false e = compiled_bare s c e
-
--- the same of any query that names a table of ours
-module _ (text : List ℕ) (parses : first text ≡ Ok (parsed_in (first text))) (query : IsQuery (parsed_in (first text))) (unlisted' : if_select (compiled listing_schema text) ≡ Err NoSuchTable) where
+-- whatever the schema, a query that names a table of ours returns nothing of a write, and reads no time
+module _ (text : List ℕ) (parses : first text ≡ Ok (parsed_in (first text))) (query : IsQuery (parsed_in (first text))) (unlisted : if_select (compiled listing_schema text) ≡ Err NoSuchTable) where
   text_bare : (s : Schema) (c : Compiled) → compiled s text ≡ Ok c → IsBare c
   unfolding compiled
   text_bare s c h = query_bare s (parsed_in (first text)) c query (rw parses at h)
@@ -76,7 +49,7 @@ module _ (text : List ℕ) (parses : first text ≡ Ok (parsed_in (first text)))
   any_bare s c h = go (reads_listing s text) h
     where
       go : (b : Bool) → (if b then if_select (compiled listing_schema text) else compiled s text) ≡ Ok c → IsBare c
-      go true e = absurd (let none = sym unlisted' ∙ e in cc)
+      go true e = absurd (let none = sym unlisted ∙ e in cc)
       go false e = text_bare s c e
 
   pub any_apart : (s : Schema) (c : Compiled) → understood s text ≡ Ok c → reads_listing s text ≡ false
@@ -84,5 +57,5 @@ module _ (text : List ℕ) (parses : first text ≡ Ok (parsed_in (first text)))
   any_apart s c h = go (reads_listing s text) h
     where
       go : (b : Bool) → (if b then if_select (compiled listing_schema text) else compiled s text) ≡ Ok c → b ≡ false
-      go true e = absurd (let none = sym unlisted' ∙ e in cc)
+      go true e = absurd (let none = sym unlisted ∙ e in cc)
       go false e = refl

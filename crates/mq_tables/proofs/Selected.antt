@@ -1,5 +1,5 @@
 -- What a SELECT of this shape answers of the records: all that pass, or the first of them in the order.
-use Rattle.std.proofs.Common.{◌≡◌, ◌⊎◌, ℕ, ◌+◌, suc, ◌&&◌, List, [], ◌∷◌, drop, map, filter, reverse, Bool, Some, None, Result, arith, refl, sym, ap₂, subst}
+use Rattle.std.proofs.Common.{◌≡◌, ◌⊎◌, ℕ, ◌+◌, suc, ◌&&◌, List, [], ◌∷◌, drop, map, filter, reverse, Bool, Some, None, Ok, Err, Result, arith, refl, sym, ap, ap₂, subst, ◌∙◌}
 use Rattle.std.specs.Prelude.{Vec, IfOk, IfErr, OnOk}
 use Rattle.std.specs.declared.alloc.Global.{Global}
 use Rattle.std.specs.List.{AllByRecursion, list_all}
@@ -16,7 +16,9 @@ use Rattle.sqlite.proofs.Callers.{command_of}
 use Rattle.sqlite_sql.specs.Ops.{binary, is_true}
 use Rattle.sqlite_sql.specs.declared.ops.BinaryOp.TheVariants.{Compare}
 use Rattle.sqlite_resolve.specs.Terms.{conjuncts}
+use Rattle.sqlite_trees.proofs.ListLemmas.{map-map, filter-map}
 use Rattle.sqlite_value.specs.declared.keys.Collation.TheVariants.{Binary}
+use Rattle.mq_rows.specs.Tables.{Tables}
 use Rattle.mq_tables.specs.Places.{IsTableIn}
 use Rattle.mq_tables.specs.Records.{Holds}
 use Rattle.mq_tables.specs.Written.{chosen}
@@ -110,3 +112,35 @@ module _ {R : Type 0} (fields : R → Row) (text : List ℕ) (shape : SelectShap
       where
         sorted : (r : Row) → eval_all (shown_term shape.table.key by.column ∷ []) (params ∷ r ∷ []) ≡ eval_all (shown_term shape.table.key by.column ∷ []) (params ∷ (Null ∷ drop 1 r) ∷ [])
         sorted r = subst (λ k. eval_all (shown_term k by.column ∷ []) (params ∷ r ∷ []) ≡ eval_all (shown_term k by.column ∷ []) (params ∷ (Null ∷ drop 1 r) ∷ [])) (sym keyless) (same_shown params r (by.column ∷ []))
+
+  -- of ledgers that have these records in the table, all that pass are answered
+  pub finds_all : (old new : State) (test : R → Bool) → ((r : R) → pass r ≡ test r) → shape.order ≡ None → (of : Tables → List R) (Held : Tables → Type 0)
+      → ((t : Tables) → Held t → (tree : ℕ) × IsTableIn old.now.schema shape.table tree × IsPermutation (map (drop 1) (old.now.trees tree)) (map fields (of t)))
+      → (outcome : Result (Vec Row Global) Error) → IfOk outcome (λ rows. Shown text params old new rows.items) → IfOk outcome (λ rows. (t : Tables) → Held t → IsPermutation (map show (filter test (of t))) rows.items)
+  finds_all old new test decides unordered of Held at (Ok rows) h = λ t l.
+      let there = at t l in
+      subst (λ (p : R → Bool). IsPermutation (map show (filter p (of t))) rows.items) (λ i r. decides r i) (shows_all old new there.0 there.1 rows.items h (of t) unordered there.2)
+  finds_all old new test decides unordered of Held at (Err e) h = tt
+
+-- the same where the rows with their rowids are those of the records
+
+module _ {R : Type 0} (fields : R → Row) (text : List ℕ) (shape : SelectShape) (it : IsSelect text shape) (accepted : IsAccepted shape) (params : Row) where
+  abbrev pub whole_pass : R → Bool
+  whole_pass r = list_all (holds (params ∷ fields r ∷ [])) (filter_in shape)
+
+  abbrev whole_show : R → Row
+  whole_show r = eval_all (shown_in shape) (params ∷ fields r ∷ [])
+
+  chosen_of : (all : List R) → chosen (filter_in shape) (shown_in shape) params (map fields all) ≡ map whole_show (filter whole_pass all)
+  chosen_of all =
+      ap (map (λ r. eval_all (shown_in shape) (params ∷ r ∷ []))) (filter-map (λ r. list_all (holds (params ∷ r ∷ [])) (filter_in shape)) fields all)
+      ∙ map-map (λ r. eval_all (shown_in shape) (params ∷ r ∷ [])) fields (filter whole_pass all)
+
+  pub finds_each : (old new : State) (test : R → Bool) → ((r : R) → whole_pass r ≡ test r) → shape.order ≡ None → (of : Tables → List R) (Held : Tables → Type 0)
+      → ((t : Tables) → Held t → (tree : ℕ) × IsTableIn old.now.schema shape.table tree × (old.now.trees tree ≡ map fields (of t)))
+      → (outcome : Result (Vec Row Global) Error) → IfOk outcome (λ rows. Shown text params old new rows.items) → IfOk outcome (λ rows. (t : Tables) → Held t → IsPermutation (map whole_show (filter test (of t))) rows.items)
+  finds_each old new test decides unordered of Held at (Ok rows) h = λ t l.
+      let there = at t l in
+      let are = ap (chosen (filter_in shape) (shown_in shape) params) there.2 ∙ chosen_of (of t) ∙ ap (λ (p : R → Bool). map whole_show (filter p (of t))) (λ i r. decides r i) in
+      subst (λ xs. IsPermutation xs rows.items) are (shows_rows text shape it accepted params old new there.0 there.1 rows.items h unordered)
+  finds_each old new test decides unordered of Held at (Err e) h = tt

@@ -1,5 +1,5 @@
 -- What the query of a transaction answers of the records.
-use Rattle.std.proofs.Common.{pos, ◌≡◌, ◌&&◌, ℕ, ℤ, List, [], ◌∷◌, ◌==◌, map, filter, codes, Bool, true, false, None, Ok, Err, Result, refl, sym, ap, subst, ◌∙◌}
+use Rattle.std.proofs.Common.{pos, ◌≡◌, ◌&&◌, ℕ, ℤ, List, [], ◌∷◌, ◌==◌, map, filter, codes, Bool, true, false, None, Result, refl, sym, ap, ◌∙◌}
 use Rattle.std.specs.Prelude.{not}
 use Rattle.std.specs.Ordering.{int_eq}
 use Rattle.std.specs.Prelude.{Vec, IfOk}
@@ -27,7 +27,7 @@ use Rattle.mq_tables.specs.Tables.{trans_table}
 use Rattle.mq_tables.proofs.Finds.{int_same, blob_same}
 use Rattle.mq_tables.proofs.SelectShape.{SelectShape, IsSelect, IsAccepted}
 use Rattle.mq_tables.proofs.TermShape.{field, against}
-use Rattle.mq_tables.proofs.Selected.{pass, shows_all}
+use Rattle.mq_tables.proofs.Selected.{pass, finds_all}
 use Rattle.mq_tables.proofs.TermShape.Relation.{Same}
 use Rattle.mq_tables.proofs.Tests.{text_test, nat_test}
 
@@ -79,10 +79,8 @@ module _ (host : List ℕ) (run txn : ℕ) where
 
   pub found_all : (old new : State) (outcome : Result (Vec Row Global) Error) → IfOk outcome (λ rows. Shown transaction_text (transaction_key host run txn) old new rows.items)
       → IfOk outcome (λ rows. (t : Tables) → HasLedger old.now t → IsPermutation (map standing_row (filter is_of t.transactions)) rows.items)
-  found_all old new (Ok rows) h = λ t l.
-      subst (λ (p : TransactionRecord → Bool). IsPermutation (map standing_row (filter p t.transactions)) rows.items) (λ i r. decides r i)
-      (shows_all transaction_fields transaction_text transaction_shape transaction_select transaction_accepted refl (transaction_key host run txn) old new l.at.trans l.tables.trans rows.items h t.transactions refl l.holds.transactions.same)
-  found_all old new (Err e) h = tt
+  found_all old new =
+      finds_all transaction_fields transaction_text transaction_shape transaction_select transaction_accepted refl (transaction_key host run txn) old new is_of decides refl (λ t. t.transactions) (HasLedger old.now) (λ t l. (l.at.trans, l.tables.trans, l.holds.transactions.same))
 
   keyed : (t : TransactionRecord) → is_of t ≡ true → (host ≡ t.host) × (run ≡ t.run) × (txn ≡ t.txn)
   keyed t hit =

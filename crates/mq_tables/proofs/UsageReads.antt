@@ -1,5 +1,5 @@
 -- What the query of the totals of a login and day answers of the records.
-use Rattle.std.proofs.Common.{◌≡◌, ◌&&◌, ℕ, List, [], ◌∷◌, ◌==◌, map, filter, codes, Bool, true, None, Ok, Err, Result, refl, sym, ap, subst, ◌∙◌}
+use Rattle.std.proofs.Common.{◌≡◌, ◌&&◌, ℕ, List, [], ◌∷◌, ◌==◌, map, filter, codes, true, None, Result, refl, sym, ap, ◌∙◌}
 use Rattle.std.specs.Prelude.{Vec, IfOk}
 use Rattle.std.specs.declared.alloc.Global.{Global}
 use Rattle.std.specs.List.Sorted.{IsPermutation}
@@ -23,7 +23,7 @@ use Rattle.mq_tables.specs.Records.{usage_fields}
 use Rattle.mq_tables.specs.Tables.{usage_table}
 use Rattle.mq_tables.proofs.Finds.{int_same}
 use Rattle.mq_tables.proofs.SelectShape.{SelectShape, IsSelect, IsAccepted}
-use Rattle.mq_tables.proofs.Selected.{pass, shows_all}
+use Rattle.mq_tables.proofs.Selected.{pass, finds_all}
 use Rattle.mq_tables.proofs.TermShape.{field, against}
 use Rattle.mq_tables.proofs.TermShape.Relation.{Same}
 use Rattle.mq_tables.proofs.Tests.{text_test, day_test}
@@ -66,10 +66,8 @@ module _ (login : List ℕ) (day : ℕ) where
 
   pub found_all : (old new : State) (outcome : Result (Vec Row Global) Error) → IfOk outcome (λ rows. Shown usage_text (key_params login day) old new rows.items)
       → IfOk outcome (λ rows. (t : Tables) → HasLedger old.now t → IsPermutation (map totals_row (filter (is_usage login day) t.usage)) rows.items)
-  found_all old new (Ok rows) h = λ t l.
-      subst (λ (p : UsageRecord → Bool). IsPermutation (map totals_row (filter p t.usage)) rows.items) (λ i u. decides u i)
-      (shows_all usage_fields usage_text usage_shape usage_select usage_accepted refl (key_params login day) old new l.at.usage l.tables.usage rows.items h t.usage refl l.holds.usage.same)
-  found_all old new (Err e) h = tt
+  found_all old new =
+      finds_all usage_fields usage_text usage_shape usage_select usage_accepted refl (key_params login day) old new (is_usage login day) decides refl (λ t. t.usage) (HasLedger old.now) (λ t l. (l.at.usage, l.tables.usage, l.holds.usage.same))
 
   keyed : (u : UsageRecord) → is_usage login day u ≡ true → (login ≡ u.login) × (day ≡ u.day)
   keyed u hit = let both = and_parts _ _ hit in ((slice_eq-Decides unsigned_Decides login u.login _ refl).0 both.0, sym ((unsigned_Decides u.day day).0 both.1))

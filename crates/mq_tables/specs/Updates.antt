@@ -1,5 +1,5 @@
 -- What a statement leaves, over any schema that has its table at some place.
-use Rattle.std.specs.Prelude.{◌≡◌, ◌≢◌, ℕ, ◌+◌, ℤ, Bool, true, false, List, [], ◌∷◌, ◌++◌, length}
+use Rattle.std.specs.Prelude.{◌≡◌, ◌≢◌, ℕ, ◌+◌, Bool, true, false, List, [], ◌∷◌, ◌++◌, length}
 use Rattle.std.specs.List.{AllByRecursion}
 use Rattle.std.specs.List.Sorted.{IsPermutation}
 use Rattle.sqlite.specs.Order.{Row}
@@ -39,12 +39,11 @@ pub record HasSet {R : Type 0} (Held : List Row → List R → Type 0) (same : R
       → AllByRecursion (λ other. same r other ≡ false) rest → Held (new.trees tree) (set r was ∷ rest)
   pub others : KeepsOthers old.schema tree old.trees new.trees
 
--- The row of settings counts so many arrivals, and each other table is as it was.
-pub record HasSetArrivals (arrivals : ℤ) (tree : ℕ) (old new : Database) : Type 0 where
+-- The row of settings is changed so, and each other table is as it was.
+pub record HasSetRow (set : SettingRow → SettingRow) (tree : ℕ) (old new : Database) : Type 0 where
   pub sound : IsDatabase new
   pub schema : new.schema ≡ old.schema
-  pub row : (s : SettingRow) → old.trees tree ≡ setting_fields s ∷ []
-      → new.trees tree ≡ setting_fields (record s { arrivals = arrivals }) ∷ []
+  pub row : (s : SettingRow) → old.trees tree ≡ setting_fields s ∷ [] → new.trees tree ≡ setting_fields (set s) ∷ []
   pub others : KeepsOthers old.schema tree old.trees new.trees
 
 -- P holds of the rows of a table after the write. Of an update that is said where one row alone has its
