@@ -3,6 +3,7 @@ import contextlib
 import itertools
 import os
 import select
+import shutil
 import socket
 import struct
 import subprocess
@@ -139,6 +140,16 @@ def ledger_settings(world, path, **more):
     return world.new_file(toml({"listen": "127.0.0.1:1", "store": path, "default": 3, "offset": 0, **more}))
 
 
+def copied(source, path):
+    """A copy of a ledger's file at this path, with its log where it has one; gives the path."""
+    for end in ("", "-wal"):
+        if os.path.exists(source + end):
+            shutil.copy(source + end, path + end)
+        elif os.path.exists(path + end):
+            os.remove(path + end)
+    return path
+
+
 def is_stopped(process):
     """Whether the system has stopped a process."""
     with open(f"/proc/{process.pid}/stat", encoding="ascii") as stat:
@@ -259,21 +270,14 @@ RESET = object()
 DRIP = object()
 
 
-class Script:
-    """A server that answers its connections by a list: bytes, SILENCE until the peer gives up, DRIP, a byte now and
-    then for as long, or RESET.
+class Listening:
+    """Listens on a loopback and answers in a thread of its own, from the begin of a case to its end."""
 
-    A function in the list is given what came and makes one of these. After the list nobody listens.
-    """
-
-    def __init__(self, answers, host="127.0.0.1"):
-        self.answers = list(answers)
-        self.heard = []
-        self.silent = []
-        self.over = False
+    def __init__(self, host="127.0.0.1"):
         self.listener = socket.create_server((host, 0), backlog=128, family=socket.AF_INET6 if ":" in host else socket.AF_INET)
         self.port = self.listener.getsockname()[1]
         self.address = f"[{host}]:{self.port}" if ":" in host else f"{host}:{self.port}"
+        self.is_over = False
         self.thread = threading.Thread(target=self.serve, daemon=True)
 
     def __enter__(self):
@@ -281,9 +285,40 @@ class Script:
         return self
 
     def __exit__(self, *_):
-        self.over = True
+        self.is_over = True
         self.thread.join(timeout=SECONDS)
         self.listener.close()
+
+    def serve(self):
+        raise NotImplementedError
+
+    def next_peer(self):
+        """The next connection, or None once the case is over and all that came before were heard."""
+        while True:
+            is_over = self.is_over
+            if select.select([self.listener], [], [], 0.05)[0]:
+                peer = self.listener.accept()[0]
+                peer.settimeout(SECONDS)
+                return peer
+            if is_over:
+                return None
+
+
+class Script(Listening):
+    """A server that answers its connections by a list: bytes, SILENCE until the peer gives up, DRIP, a byte now and
+    then for as long, or RESET.
+
+    A function in the list is given what came and makes one of these. After the list nobody listens.
+    """
+
+    def __init__(self, answers, host="127.0.0.1"):
+        super().__init__(host)
+        self.answers = list(answers)
+        self.heard = []
+        self.silent = []
+
+    def __exit__(self, *_):
+        super().__exit__()
         for peer in self.silent:
             peer.close()
 
@@ -292,7 +327,6 @@ class Script:
             peer = self.next_peer()
             if peer is None:
                 return
-            peer.settimeout(SECONDS)
             self.heard.append(read_all(peer))
             if callable(answer):
                 answer = answer(self.heard[-1])
@@ -306,20 +340,11 @@ class Script:
                 self.give(peer, answer)
         self.listener.close()
 
-    def next_peer(self):
-        """The next connection, or None once the case is over and all that came before were heard."""
-        while True:
-            is_over = self.over
-            if select.select([self.listener], [], [], 0.05)[0]:
-                return self.listener.accept()[0]
-            if is_over:
-                return None
-
     def drip(self, peer):
         """A reply of 65,535 bytes, one each tenth of a second."""
         try:
             for byte in b"\xff" * 65_537:
-                if self.over:
+                if self.is_over:
                     break
                 peer.sendall(bytes([byte]))
                 time.sleep(0.1)
@@ -336,35 +361,21 @@ class Script:
             pass
 
 
-class Relay:
+class Relay(Listening):
     """Stands between a command and a real server, and notes what went each way: a connection at a time."""
 
     def __init__(self, server):
+        super().__init__()
         self.server = server
         self.told = []
-        self.listener = socket.create_server(("127.0.0.1", 0), backlog=128)
-        self.address = f"127.0.0.1:{self.listener.getsockname()[1]}"
-        self.is_over = False
-        self.thread = threading.Thread(target=self.serve, daemon=True)
-
-    def __enter__(self):
-        self.thread.start()
-        return self
-
-    def __exit__(self, *_):
-        self.is_over = True
-        self.thread.join(timeout=SECONDS)
-        self.listener.close()
 
     def serve(self):
-        while not self.is_over:
-            if select.select([self.listener], [], [], 0.05)[0]:
-                with self.listener.accept()[0] as peer:
-                    peer.settimeout(SECONDS)
-                    heard = read_all(peer)
-                    reply = self.server.ask(heard)
-                    self.told.append((heard, reply))
-                    peer.sendall(reply)
+        while peer := self.next_peer():
+            with peer:
+                heard = read_all(peer)
+                reply = self.server.ask(heard)
+                self.told.append((heard, reply))
+                peer.sendall(reply)
 
 
 class World:

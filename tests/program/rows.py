@@ -1,7 +1,7 @@
 """The rows of a ledger's file that no server has open."""
-import os
-import shutil
 import sqlite3
+
+from ends import copied
 
 # The version isn't compared: what a file's tables hold is the same in each.
 COLUMNS = {
@@ -25,13 +25,7 @@ def rows_in(path, tables=("setting", "answer", "trans", "usage", "ceiling")):
 
 def answers_of(path, queries):
     """What a file answers these queries. A copy is read, so that the file stays as it is."""
-    copy = f"{path}.read"
-    for end in ("", "-wal"):
-        if os.path.exists(path + end):
-            shutil.copy(path + end, copy + end)
-        elif os.path.exists(copy + end):
-            os.remove(copy + end)
-    database = sqlite3.connect(copy)
+    database = sqlite3.connect(copied(path, f"{path}.read"))
     found = {name: database.execute(query).fetchall() for name, query in queries.items()}
     database.close()
     return found

@@ -1,10 +1,9 @@
 """A file that a server left, opened and audited: the file's answer or `out of memory`, and nothing in it is changed."""
 import contextlib
 import os
-import shutil
 import sqlite3
 
-from ends import apart
+from ends import apart, copied
 from replaying import TWO_AND_A_SETTLE
 from serving import served, settings
 from storing import BY_RULE, SOUND
@@ -49,17 +48,11 @@ def refused(why):
 
 
 def make_wrong(source, folder):
-    copied(source, folder)
+    copied(f"{source}/ledger", f"{folder}/ledger")
     with contextlib.closing(sqlite3.connect(f"{folder}/ledger")) as database:
         database.execute("UPDATE usage SET reserved = 9")
         database.commit()
     renew(f"{folder}/ledger")
-
-
-def copied(source, folder):
-    for name in FILES:
-        if os.path.exists(f"{source}/{name}"):
-            shutil.copy(f"{source}/{name}", f"{folder}/{name}")
 
 
 def content_of(folder):
@@ -98,7 +91,7 @@ def rows_of(folder, content):
 def audited(refusals, source, wanted, **more):
     """Runs of `audit` over copies of this file, which answers this with all memory."""
     def one(number, folder):
-        copied(source, folder)
+        copied(f"{source}/ledger", f"{folder}/ledger")
         status, output, errors, told = refusals.run(folder, number, "audit", "--config", settings(refusals, folder, **more))
         came = status, output, apart(errors)[1]
         ending = RIGHT if came == wanted else OUT_OF_MEMORY if came == refused("out of memory") else "fault"
@@ -109,7 +102,7 @@ def audited(refusals, source, wanted, **more):
 def opened(refusals, source, **zone):
     """Servers over copies of the file, asked for what is used, which writes no row."""
     def one(number, folder):
-        copied(source, folder)
+        copied(f"{source}/ledger", f"{folder}/ledger")
         came = served(refusals, folder, [usage()], number=number, **zone)
         ending = ending_of(came)
         return Run(ending or "fault", came.told, change(folder, source) if ending else str(came))
@@ -132,7 +125,7 @@ def ending_of(came):
 def made_again(refusals, source):
     """`--create` over copies of a file that has a ledger."""
     def one(number, folder):
-        copied(source, folder)
+        copied(f"{source}/ledger", f"{folder}/ledger")
         came = served(refusals, folder, [usage()], ["--create"], number)
         good = came.replies is None and (came.status, came.text) == (1, "mailquota: store is not this ledger\n")
         ending = OUT_OF_MEMORY if came.could_not_start() else RIGHT if good else "fault"

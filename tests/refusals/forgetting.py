@@ -2,8 +2,8 @@
 import os
 import subprocess
 
-from auditing import change, content_of, copied, refused, rows_of
-from ends import apart
+from auditing import change, content_of, refused, rows_of
+from ends import apart, copied
 from replaying import TWO_AND_A_SETTLE
 from serving import served, settings
 from sweeping import OUT_OF_MEMORY, RIGHT, SECONDS, Run, sweep
@@ -49,13 +49,13 @@ def forgotten(refusals, source, day, line):
 
     whole = f"{source}-whole"
     os.mkdir(whole)
-    copied(source, whole)
+    copied(f"{source}/ledger", f"{whole}/ledger")
     plainly(refusals, *forget(whole, f"{whole}/new"))
     put_in_place(whole)
     rows = rows_of(whole, content_of(whole))
 
     def one(number, folder):
-        copied(source, folder)
+        copied(f"{source}/ledger", f"{folder}/ledger")
         into = f"{folder}/new"
         status, output, errors, told = refusals.run(folder, number, *forget(folder, into))
         log, said = apart(errors)
@@ -90,7 +90,7 @@ def wrong_new_file(refusals, folder, into, ending, rows, log):
 
 def limits(refusals, source):
     def one(number, folder):
-        copied(source, folder)
+        copied(f"{source}/ledger", f"{folder}/ledger")
         status, output, errors, told = refusals.run(folder, number, *words_of(refusals, folder, "limits"))
         came = status, output, apart(errors)[1]
         ending = ending_of(came, (0, b"1 2 v\n", ""))

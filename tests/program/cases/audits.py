@@ -1,10 +1,9 @@
 """`audit`: the books of a database file, right and wrong, and what a server says of the same file."""
 import os
-import shutil
 import signal
 import sqlite3
 
-from ends import Server, apart, fault, ledger_settings, without_log
+from ends import Server, apart, copied, fault, ledger_settings, without_log
 from sums import renew
 from wire import granted, limit, release, reserve, settle, usage
 
@@ -76,10 +75,7 @@ def contents(world, name):
 
 def edited(world, source, name, *statements):
     """A copy of a file with these statements run over it, its log written back into it, and its pages with their sums."""
-    path = f"{world.folder}/{name}"
-    for end in ("", "-wal"):
-        if os.path.exists(source + end):
-            shutil.copy(source + end, path + end)
+    path = copied(source, f"{world.folder}/{name}")
     database = sqlite3.connect(path)
     for statement in statements:
         database.execute(statement)

@@ -10,7 +10,6 @@ import os
 import random
 import re
 import resource
-import shutil
 import signal
 import sqlite3
 import subprocess
@@ -18,7 +17,7 @@ import time
 
 import wire
 from cases.filters import INPUT, PROCEED, REGISTRATION, SERVICE, answer
-from ends import LONG, SECONDS, Server, apart, fault, read_all, without_log
+from ends import LONG, SECONDS, Server, apart, copied, fault, read_all, without_log
 from wire import BAD, RETRY, granted, page, reserve, usage
 
 DEFAULT = 1_000_000
@@ -306,9 +305,7 @@ def flip(place, bits):
 
 def a_damaged_file(world, whole, change, end):
     """What came of a copy that was changed, and what is wrong with that, if anything is."""
-    path = f"{world.folder}/damaged"
-    for name in ("", "-wal"):
-        shutil.copy(whole + name, path + name)
+    path = copied(whole, f"{world.folder}/damaged")
     with open(path + end, "rb") as file:
         content = file.read()
     with open(path + end, "wb") as file:

@@ -18,8 +18,7 @@ from cases.audits import audit, edited
 from cases.damage import sound
 from cases.filters import PROCEED, REGISTRATION, SERVICE
 from cases.filters import LIMIT as REFUSED
-from cases.rules import CENTRAL_EUROPE
-from ends import TOP, Server, apart, fault, ledger_settings, without_log
+from ends import TOP, Server, apart, copied, fault, ledger_settings, without_log
 from ledger import decode
 from random_inputs import Times, TimesOfRule, connections_of
 from rows import answers_of, rows_in, same_rows
@@ -304,14 +303,6 @@ def many(world):
     return f"{path}.all", books
 
 
-def copied(world, source, name):
-    path = f"{world.folder}/{name}"
-    for end in ("", "-wal"):
-        if os.path.exists(source + end):
-            shutil.copy(source + end, path + end)
-    return path
-
-
 def remove_new(into):
     """The new file and its log go, as far as they are there."""
     for it in (into, f"{into}-wal"):
@@ -333,7 +324,7 @@ def is_whole_or_refused(world, into, again):
 def files_of_many(world, checks):
     source, books = many(world)
     again = books.remembered(3)
-    path, into = copied(world, source, "many.timed"), f"{world.folder}/many.timed.new"
+    path, into = copied(source, f"{world.folder}/many.timed"), f"{world.folder}/many.timed.new"
     start = time.monotonic()
     checks.equal("a ledger of many answers", forget(world, path, 3, into, default=50), kept(books, again))
     took = time.monotonic() - start
@@ -348,7 +339,7 @@ def kills(world, checks, source, books, again, took):
     """SIGKILL at moments spread over the run and beyond its end."""
     wrong, found = [], []
     for turn in range(KILLS):
-        path, into = copied(world, source, "killed"), f"{world.folder}/killed.new"
+        path, into = copied(source, f"{world.folder}/killed"), f"{world.folder}/killed.new"
         remove_new(into)
         words = [world.program, "forget", "--config", ledger_settings(world, path, default=50), "--before", "3", "--into", into]
         process = subprocess.Popen(words, stdin=subprocess.DEVNULL, stdout=subprocess.DEVNULL, stderr=subprocess.DEVNULL)
@@ -369,7 +360,7 @@ def rooms(world, checks, source, books, again):
     found = []
     for room in ROOMS:
         what = f"forget in files of {room:,} bytes"
-        path, into = copied(world, source, f"room{room}"), f"{world.folder}/room{room}.new"
+        path, into = copied(source, f"{world.folder}/room{room}"), f"{world.folder}/room{room}.new"
         # (an open that finds a log writes it into the file, so there is none here)
         checks.equal(f"{what}: audit before", audit(world, path, default=50), sound(books))
         status, output, errors = forget(world, path, 3, into, default=50, limit=("RLIMIT_FSIZE", room))
@@ -585,9 +576,7 @@ class Night:
     def __init__(self, world, name, source):
         self.folder = f"{world.folder}/{name}"
         os.makedirs(f"{self.folder}/bin")
-        self.ledger = f"{self.folder}/ledger"
-        for end in ("", "-wal"):
-            shutil.copy(source + end, self.ledger + end)
+        self.ledger = copied(source, f"{self.folder}/ledger")
         self.words = [ledger_settings(world, self.ledger, default=50), self.ledger, "2"]
         with open(SCRIPT, encoding="ascii") as file:
             text = file.read()

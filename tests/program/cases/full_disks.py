@@ -3,13 +3,12 @@ server ends with a text, and with room again every reply that was read is given 
 whole or not at all."""
 import os
 import resource
-import shutil
 
 import wire
 from books import Books
 from cases.failures import how_it_ended, is_refusal, replies_of
 from cases.filters import INPUT, REGISTRATION, SERVICE, answer
-from ends import Server, ledger_settings, without_log
+from ends import Server, copied, ledger_settings, without_log
 from rows import same_rows
 
 DEFAULT = 1_000_000
@@ -76,8 +75,7 @@ def retires_no_further(world, checks):
         what, path, books = f"a retire in a log of {room:,} bytes", f"{world.folder}/retire{room}", Books(0, DEFAULT)
         for it in opened:
             books.serve(it)
-        for end in ("", "-wal"):
-            shutil.copy(source + end, path + end)
+        copied(source, path)
         with Server(world, limit=("RLIMIT_FSIZE", resource.RLIM_INFINITY), store=path, default=DEFAULT) as server:
             resource.prlimit(server.process.pid, resource.RLIMIT_FSIZE, (room, resource.RLIM_INFINITY))
             came = replies_of(server, [retire])

@@ -1,6 +1,5 @@
 """Retired runs: what a retire settles and gives up, over a list, tables and a file; files of versions 1 and 2, which an open makes version 3;
 and what a filter and an administrator are told."""
-import shutil
 import signal
 import sqlite3
 import subprocess
@@ -14,7 +13,7 @@ from cases.audits import SOUND, audit, edited
 from cases.edges import answers
 from cases.filters import COMMIT, INPUT, LIMIT, MX1, PROCEED, RELEASE, RESERVE, SERVICE, answer, scripted, told
 from cases.rules import CENTRAL_EUROPE
-from ends import SILENCE, Script, Server, fault, ledger_settings, without_log
+from ends import SILENCE, Script, Server, copied, fault, ledger_settings, without_log
 from rows import answers_of, rows_in, same_rows
 from smtpd import Smtpd, result
 
@@ -137,14 +136,6 @@ def of_a_run(host, run):
     ]
 
 
-def copied(world, source, name):
-    """A copy of a file and its log, as they stand."""
-    path = f"{world.folder}/{name}"
-    for end in ("", "-wal"):
-        shutil.copy(source + end, path + end)
-    return path
-
-
 def written(world, name, *statements):
     """A file that these statements made."""
     path = f"{world.folder}/{name}"
@@ -252,13 +243,13 @@ def killed_within_a_retire(world, checks):
     with Server(world, words=["--create"], store=source, default=books.default) as server:
         checks.equal(f"{OPEN} open messages", answers(server, b"".join(opened)), books.serve(b"".join(opened)))
     before, retire = books.rows(), wire.retire(1, run=2)
-    with Server(world, store=copied(world, source, "open-timed"), default=books.default) as server:
+    with Server(world, store=copied(source, f"{world.folder}/open-timed"), default=books.default) as server:
         start = time.monotonic()
         checks.equal(f"a retire of {OPEN} open messages", answers(server, retire), books.serve(retire))
         took = time.monotonic() - start
     after, found, wrong = books.rows(), [], []
     for turn in range(KILLS_OF_A_RETIRE):
-        path = copied(world, source, f"open-killed{turn}")
+        path = copied(source, f"{world.folder}/open-killed{turn}")
         with Server(world, store=path, default=books.default) as server:
             asking = threading.Thread(target=answers, args=(server, retire), daemon=True)
             asking.start()

@@ -8,7 +8,7 @@ from cases.rules import CENTRAL_EUROPE
 from cases.zones import WORKED_DAYS
 from ends import SECONDS, Relay, Script, Server, fault, ledger_settings, toml, wait_until, without_log
 from smtpd import Smtpd, clock, result
-from wire import BAD, RETRY, frame, full, granted, identity, limit, number, page, page_reply, reserve, retire, retired, row, settle, text
+from wire import BAD, RETRY, frame, full, granted, identity, limit, number, reserve, retire, retired, settle, text
 
 LAST_DAY = 376_200
 # what a server says of a limit or a retire, by its frame
