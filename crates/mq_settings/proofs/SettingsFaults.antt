@@ -1,5 +1,5 @@
 -- Why settings are refused, from the first reading that fails.
-use Rattle.std.proofs.Common.{◌≡◌, ◌≢◌, ℕ, ℤ, List, Result, Ok, Err, sym, subst, ◌⊎◌, inl, inr, refl}
+use Rattle.std.proofs.Common.{◌≡◌, ◌≢◌, ℕ, List, Result, Ok, Err, sym, subst, ◌⊎◌, inl, inr, refl}
 use Rattle.std.specs.Prelude.{IfErr}
 use Rattle.std.specs.Result.{IsErrAnd}
 use Rattle.std.specs.declared.net.SocketAddr.{SocketAddr}
@@ -10,7 +10,7 @@ use Rattle.mq_settings.specs.Settings.{Spells, IsTableRefusal, memory, IsHostAt,
 use Rattle.mq_settings.specs.declared.settings.key.Key.TheVariants.{Server, Listen}
 use Rattle.mq_settings.specs.declared.settings.value.Place.{Place}
 use Rattle.mq_settings.specs.declared.settings.fault.SettingsFault.{SettingsFault}
-use Rattle.mq_settings.specs.declared.settings.fault.SettingsFault.TheVariants.{Text, Unknown, Missing, Bad, Memory}
+use Rattle.mq_settings.specs.declared.settings.fault.SettingsFault.TheVariants.{Text, Unknown, Missing, Bad, Address, Memory}
 
 -- what holds of the one error of a result
 pub of_error : {T : Type 0} (P : SettingsFault → Type 0) (r : Result T SettingsFault) (e : SettingsFault) → IsErrAnd r (λ f. f ≡ e) → P e → IfErr r P
@@ -23,6 +23,7 @@ host_fault table (Text why) h = inr (h (λ q. cc))
 host_fault table (Unknown name) h = inr (h (λ q. cc))
 host_fault table (Missing key) h = inr (h (λ q. cc))
 host_fault table (Bad key) h = inr (h (λ q. cc))
+host_fault table (Address key flaw) h = inr (h (λ q. cc))
 host_fault table Memory h = inl refl
 
 -- ---- the filter
@@ -52,6 +53,7 @@ place_fault table (Text why) h = inr (h (λ q. cc))
 place_fault table (Unknown name) h = inr (h (λ q. cc))
 place_fault table (Missing key) h = inr (h (λ q. cc))
 place_fault table (Bad key) h = inr (h (λ q. cc))
+place_fault table (Address key flaw) h = inr (h (λ q. cc))
 place_fault table Memory h = inl refl
 
 -- ---- the server

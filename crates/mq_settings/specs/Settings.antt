@@ -22,9 +22,10 @@ use Rattle.mq_settings.specs.declared.settings.value.Place.{Place}
 use Rattle.mq_settings.specs.declared.settings.value.Place.TheVariants as place
 use Rattle.mq_settings.specs.declared.settings.FilterSettings.{FilterSettings}
 use Rattle.mq_settings.specs.declared.settings.ServerSettings.{ServerSettings}
+use Rattle.mq_settings.specs.declared.settings.address.AddressFlaw.{AddressFlaw}
 use Rattle.mq_settings.specs.declared.settings.flaw.Flaw.{Flaw}
 use Rattle.mq_settings.specs.declared.settings.fault.SettingsFault.{SettingsFault}
-use Rattle.mq_settings.specs.declared.settings.fault.SettingsFault.TheVariants.{Text, Unknown, Missing, Bad, Memory}
+use Rattle.mq_settings.specs.declared.settings.fault.SettingsFault.TheVariants.{Text, Unknown, Missing, Bad, Address, Memory}
 
 -- the text is UTF-8 and spells this table
 pub record Spells (text : List ℕ) (table : Members) : Type 0 where
@@ -49,20 +50,27 @@ IsText key (Some entry) r =
 abbrev pub IsTextAt : Key → Members → Result (Bor (List ℕ)) SettingsFault → Type 0
 IsTextAt key table r = IsText key (get_member (key_name key) table) r
 
--- a text that has to be there and spells a value
-abbrev pub TextAs : {V : Type 0} → Key → (List ℕ → V → Type 0) → Option Data → Result V SettingsFault → Type 0
-TextAs key Means None r = r ≡ Err (Missing key)
-TextAs {V} key Means (Some entry) r =
+-- a text that has to be there and spells a value, or by one of these faults spells none
+abbrev pub TextOr : {V : Type 0} → (SettingsFault → Type 0) → Key → (List ℕ → V → Type 0) → Option Data
+    → Result V SettingsFault → Type 0
+TextOr IsFault key Means None r = r ≡ Err (Missing key)
+TextOr {V} IsFault key Means (Some entry) r =
     MatchOption (as_str entry) (r ≡ Err (Bad key)) (λ text. MatchResult r (Means text)
-    (λ e. (e ≡ Bad key) × ((v : V) → ¬ Means text v)))
+    (λ e. IsFault e × ((v : V) → ¬ Means text v)))
+
+abbrev pub TextAs : {V : Type 0} → Key → (List ℕ → V → Type 0) → Option Data → Result V SettingsFault → Type 0
+TextAs key Means entry r = TextOr (λ e. e ≡ Bad key) key Means entry r
 
 -- the name of a host
 abbrev pub IsHostAt : Members → Result (List ℕ) SettingsFault → Type 0
 IsHostAt table r = TextAs Host (λ text host. (host ≡ text) × IsHost text) (get_member (key_name Host) table) r
 
--- an address and a port, both numeric
+-- an address and a port, both numeric; the fault of another text says what it lacks
+abbrev pub IsAddressFault : Key → SettingsFault → Type 0
+IsAddressFault key e = (flaw : AddressFlaw) × (e ≡ Address key flaw)
+
 abbrev pub IsAddressAt : Key → Members → Result SocketAddr SettingsFault → Type 0
-IsAddressAt key table r = TextAs key IsSocketText (get_member (key_name key) table) r
+IsAddressAt key table r = TextOr (IsAddressFault key) key IsSocketText (get_member (key_name key) table) r
 
 -- a number from least to most
 abbrev pub count_in : Key → ℕ → ℕ → Option ℤ → Result ℕ SettingsFault

@@ -15,6 +15,6 @@ mod settings;
 
 pub use file::{FileFault, read_file, read_limited};
 pub use settings::{
-    FilterSettings, Flaw, Key, Place, ServerSettings, SettingsFault, read_filter_settings,
-    read_server_settings,
+    AddressFlaw, FilterSettings, Flaw, Key, Place, ServerSettings, SettingsFault, address_flaw,
+    read_filter_settings, read_server_settings,
 };

@@ -4,12 +4,14 @@ ghost use Rattle.toml.specs.Data.{Members};
 ghost use Rattle.mq_settings.specs.Settings.{Spells, IsFilterSettings, IsFilterRefusal, IsServerSettings};
 ghost use Rattle.mq_settings.specs.Settings.{IsServerRefusal};
 
+mod address;
 mod fault;
 mod flaw;
 mod key;
 mod table;
 mod value;
 
+pub use address::{AddressFlaw, address_flaw};
 pub use fault::SettingsFault;
 pub use flaw::Flaw;
 pub use key::Key;

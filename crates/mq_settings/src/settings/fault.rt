@@ -1,5 +1,6 @@
 //! Why settings are refused.
 
+use crate::settings::address::AddressFlaw;
 use crate::settings::flaw::Flaw;
 use crate::settings::key::Key;
 use mq_frame::Escaped;
@@ -21,6 +22,9 @@ pub enum SettingsFault {
     /// The value has a wrong type, a wrong form, or is out of range.
     #[error("setting {0}: bad value")]
     Bad(Key),
+    /// The value is a text, and no numeric address with a port: what it lacks.
+    #[error("setting {0}: bad value")]
+    Address(Key, AddressFlaw),
     #[error("out of memory")]
     Memory,
 }

@@ -6,6 +6,7 @@ ghost use Rattle.toml.specs.View.{view, table_view};
 ghost use Rattle.mq_settings.specs.Settings.{IsTextAt, IsHostAt, IsAddressAt, count_at, count_in, IsZoneByRule, IsZoneAt};
 ghost use Rattle.mq_settings.specs.Settings.{level_named, level_at, zone_by_offset, IsPlaceAt};
 
+use crate::settings::address::address_flaw;
 use crate::settings::fault::SettingsFault;
 use crate::settings::key::Key;
 use crate::settings::table::value_at;
@@ -36,7 +37,7 @@ pub fn read_address(table: &Table, key: Key) -> Result<SocketAddr, SettingsFault
     let text = read_text(table, key)?;
     match text.parse::<SocketAddr>() {
         Ok(address) => Ok(address),
-        Err(_) => Err(SettingsFault::Bad(key)),
+        Err(_) => Err(SettingsFault::Address(key, address_flaw(text))),
     }
 }
 
