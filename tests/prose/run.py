@@ -53,8 +53,6 @@ EXCEPTED = [
     # The table of limits has this name in each ledger's file, and so in SQL.
     (r"crates/mq_tables/src/.*\.rt", r"ceiling"),
 ]
-# The comments of these crates have some of the words still, and some of their files have no line of what they are.
-NOT_YET = ("mq_store_tests",)
 
 # The roots of tests say which libraries they call, and crates.txt has them.
 OF_TESTS = ("mq_ends_tests", "mq_store_tests")
@@ -120,8 +118,6 @@ def words(tree):
     for patterns, read_as in kinds:
         for file in files(tree, patterns):
             folder = "/".join(file.split("/")[:2 if file.startswith("crates/") else 1])
-            if folder.removeprefix("crates/") in NOT_YET:
-                continue
             wrong = folders.setdefault(folder if "/" in file else "the documents at the top", [])
             text = read_as(read(tree, file), file)
             excepted = [word for place, word in EXCEPTED if re.fullmatch(place, file)]
@@ -169,9 +165,8 @@ def pages(tree):
                 wrong.append(f"it doesn't say that it stands on {', '.join(below) or 'no crate of ours'}")
         if not re.search(r"Begin\s+with|one\s+file", page):
             wrong.append("it doesn't say where to begin reading")
-        if crate not in NOT_YET:
-            sources = files(tree, [f"crates/{crate}/src/**/*.rt"])
-            wrong += [f"{it} doesn't begin with a line of what it is" for it in sources if not read(tree, it).startswith("//! ")]
+        sources = files(tree, [f"crates/{crate}/src/**/*.rt"])
+        wrong += [f"{it} doesn't begin with a line of what it is" for it in sources if not read(tree, it).startswith("//! ")]
         yield f"the front page of {crate}", wrong
 
 

@@ -20,7 +20,7 @@ pub fn wanted(holds: bool, why: &'static str) -> Verdict {
     if holds { Ok(()) } else { Err(why) }
 }
 
-/// A failure tells the case and what came out otherwise.
+/// A failure names the case and what came out otherwise.
 pub fn told<N: Debug + Drop>(alloc: Global, name: N, verdict: Verdict) -> Result<(), Fail> {
     match verdict {
         Ok(()) => Ok(()),
@@ -53,7 +53,7 @@ pub fn ask<L: Ledger>(ledger: &mut L, request: &Request) -> Result<Reply, Ledger
     ledger.apply(request)
 }
 
-/// Puts the frame of a reply in range behind the bytes, if there is memory.
+/// Puts the frame of a reply in range after the bytes, if there is memory.
 fn put_frame(alloc: Global, reply: &Reply, bytes: &mut Vec<u8>) -> bool {
     is_reply(reply) && encode_reply(alloc, reply, bytes).is_ok()
 }

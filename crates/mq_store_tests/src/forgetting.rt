@@ -10,14 +10,17 @@ use sqlite::{Connection, MemStore, Row};
 use std::alloc::Global;
 use std::test::*;
 
-/// How many histories there are.
-const HISTORIES: u64 = 150;
+/// How many histories each test goes through: together they are 2,500.
+const HISTORIES: u64 = 500;
 
-/// How many requests come before the forgetting.
-const BEFORE: u32 = 60;
+/// How many requests come before the forgetting, at the least.
+const FEWEST: u32 = 8;
+
+/// How many more these are at most.
+const MORE: u32 = 40;
 
 /// How many come after it.
-const AFTER: u32 = 20;
+const AFTER: u32 = 10;
 
 /// The hosts, and the logins.
 const HOSTS: [&[u8]; 2] = [b"mx1", b"admin"];
@@ -62,7 +65,7 @@ impl Asking {
     }
 }
 
-/// A request that was answered anew, and whether it is a limit that was set.
+/// A request that was heard for the first time and answered, and whether it is a limit that was set.
 #[derive(Clone, Copy)]
 struct Answered {
     asking: Asking,
@@ -221,7 +224,7 @@ impl Asker {
         }
     }
 
-    /// Keeps what was answered anew.
+    /// Keeps what was answered for the first time.
     fn keep(&mut self, asking: Asking, reply: &Reply) -> Option<()> {
         match reply {
             Reply::Old { .. } => Some(()),
@@ -301,6 +304,16 @@ fn check_usage(
         return check_limit(old, new, &request);
     }
     let _reply = reply_alike(old, new, &request)?;
+    Ok(())
+}
+
+/// What both list of a day that is kept.
+fn check_list(
+    alloc: Global,
+    old: &mut SqlLedger<MemStore>,
+    new: &mut SqlLedger<MemStore>,
+    day: u32,
+) -> Verdict {
     let page = Request::List {
         day,
         after: Login::from_slice(alloc, b"").or(Err("no memory"))?,
@@ -319,6 +332,9 @@ fn check_days(
     for day in 0..LAST_DAY + 2 {
         for login in 0..2 {
             check_usage(alloc, old, new, from, (login, day))?;
+        }
+        if day >= from {
+            check_list(alloc, old, new, day)?;
         }
     }
     Ok(())
@@ -466,7 +482,7 @@ fn check_both(
 fn check_history(alloc: Global, seed: u64, cleared: &mut Cleared) -> Verdict {
     let mut old = tables(alloc, 6)?;
     let mut asker = Asker::new(alloc, seed);
-    for _ in 0..BEFORE {
+    for _ in 0..asker.below(MORE + 1).saturating_add(FEWEST) {
         asker.ask_next(alloc, &mut old).ok_or("no reply")?;
     }
     let from = asker.below(LAST_DAY + 1);
@@ -475,16 +491,41 @@ fn check_history(alloc: Global, seed: u64, cleared: &mut Cleared) -> Verdict {
     check_both(alloc, old, new, from, &mut asker)
 }
 
-#[test]
-fn forgets_and_is_asked_the_same(rt: HostRuntime) -> Result<(), Fail> {
+/// The histories of so many seeds from that one on.
+fn check_histories(alloc: Global, first: u64, count: u64) -> Result<(), Fail> {
     let mut cleared = Cleared { set: 0, refused: 0 };
-    for seed in 0..HISTORIES {
-        let verdict = check_history(rt.alloc(), seed, &mut cleared);
-        told(rt.alloc(), seed, verdict)?;
+    for seed in first..first.saturating_add(count) {
+        let verdict = check_history(alloc, seed, &mut cleared);
+        told(alloc, seed, verdict)?;
     }
-    assert!(rt;
-        50 <= cleared.set && 20 <= cleared.refused,
-        "few limits without a reply"
+    let enough = wanted(
+        200 <= cleared.set && 60 <= cleared.refused,
+        "few limits without a reply",
     );
-    Ok(())
+    told(alloc, first, enough)
+}
+
+#[test]
+fn histories_from_0(rt: HostRuntime) -> Result<(), Fail> {
+    check_histories(rt.alloc(), 0, HISTORIES)
+}
+
+#[test]
+fn histories_from_500(rt: HostRuntime) -> Result<(), Fail> {
+    check_histories(rt.alloc(), 500, HISTORIES)
+}
+
+#[test]
+fn histories_from_1000(rt: HostRuntime) -> Result<(), Fail> {
+    check_histories(rt.alloc(), 1_000, HISTORIES)
+}
+
+#[test]
+fn histories_from_1500(rt: HostRuntime) -> Result<(), Fail> {
+    check_histories(rt.alloc(), 1_500, HISTORIES)
+}
+
+#[test]
+fn histories_from_2000(rt: HostRuntime) -> Result<(), Fail> {
+    check_histories(rt.alloc(), 2_000, HISTORIES)
 }

@@ -85,7 +85,7 @@ impl Write for Unflushed {
     }
 }
 
-/// What an audit of a new ledger says over an output whose flush fails, behind what it printed.
+/// What an audit of a new ledger says over an output whose flush fails, after what it printed.
 fn audited_unflushed(alloc: Global) -> Result<String, Fail> {
     let mut ledger = SqlLedger::in_memory(alloc, Zone::of_offset(0)?, 3)?;
     let mut output = Unflushed {

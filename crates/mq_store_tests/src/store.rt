@@ -229,7 +229,7 @@ const STORES: &[Case] = &[
             Step::Open(60, 3, Outcome::NotOurs),
         ],
     ),
-    // A ledger made behind another table is taken apart and opened.
+    // A ledger made after another table is taken apart and opened.
     (
         "taken apart and opened",
         &[

@@ -10,7 +10,7 @@ const SETTLED_ONCE: Step = Step::Replies(RESERVED_TWICE_SETTLED_ONCE);
 
 const WRONG_COUNT: Step = Step::Run("UPDATE usage SET reserved = 9");
 
-/// A store is taken apart and opened, as made and otherwise, and once more behind another count.
+/// A store is taken apart and opened, as made and otherwise, and once more after a count was changed.
 const TAKEN_APART: [Step; 9] = [
     SETTLED_ONCE,
     Step::Sound(1, 1),
@@ -93,7 +93,7 @@ const AUDITS: &[Case] = &[
     ("a ledger that is open goes wrong", &OPENED_AGAIN),
 ];
 
-/// Runs a text over the store of login u, settled with one, and tells what opens it otherwise.
+/// Runs a text over the store of login u, settled with one: it is damaged then at this login and day.
 fn damage(alloc: Global, text: &'static str, login: &'static str, day: i64) -> Result<(), Fail> {
     let opened = Step::Open(0, 3, Outcome::Damaged(login, day));
     from_ledger_of(alloc, 3, text, &[SETTLED_ONCE, Step::Run(text), opened])

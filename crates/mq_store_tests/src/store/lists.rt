@@ -49,7 +49,7 @@ fn check(alloc: Global, places: &[usize]) -> Verdict {
     wanted(is_same, "another reply")
 }
 
-/// A failure tells the places.
+/// A failure names the places.
 fn check_list(alloc: Global, places: &[usize]) -> Result<(), Fail> {
     told(alloc, places, check(alloc, places))
 }

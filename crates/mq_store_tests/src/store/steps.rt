@@ -95,7 +95,7 @@ pub fn is_refused(fault: &OpenFault, wanted: &Outcome) -> bool {
     }
 }
 
-/// What is held behind a making or an opening that is to come out so.
+/// What is held after a making or an opening that is to come out so.
 fn judged<S: Alter + Drop>(entered: Entered<S>, wanted: &Outcome) -> Held<S> {
     match entered {
         Ok(ledger) => match wanted {
@@ -203,7 +203,7 @@ fn take_at<S: Alter>(store: &mut Connection<S>, step: &Step) -> Verdict {
     }
 }
 
-/// A store behind a step that came out so.
+/// A store after a step that came out so.
 fn left<S: Alter + Drop>(store: Connection<S>, verdict: Verdict) -> Held<S> {
     match verdict {
         Ok(()) => Held::Store(store),
@@ -255,7 +255,7 @@ fn take_of_ledger<S: Alter + Drop>(alloc: Global, before: SqlLedger<S>, step: &S
     }
 }
 
-/// Takes one step. Behind one that came out otherwise none is taken.
+/// Takes one step. After one that came out otherwise none is taken.
 fn take_step<S: Alter + Drop>(alloc: Global, before: Held<S>, step: &Step) -> Held<S> {
     match before {
         Held::Ledger(ledger) => take_of_ledger(alloc, ledger, step),

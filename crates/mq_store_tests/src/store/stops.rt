@@ -1,5 +1,5 @@
 //! A ledger by a zone rule, one with a retire, and one that is made of a file of an earlier version: a file of theirs stops
-//! at some call, at each in turn, and they are opened anew over what is left of the files.
+//! at some call, at each in turn, and they are opened again over what is left of the files.
 
 use super::older::FIRST_VERSION;
 use super::steps::{Outcome, audit, is_refused, make, open};
@@ -23,7 +23,7 @@ struct Played {
     before: &'static str,
     /// What is asked of the ledger.
     asked: Asked,
-    /// Whether each request has its reply again, whatever came behind it.
+    /// Whether each request has its reply again, whatever came after it.
     repeats: bool,
 }
 
@@ -81,7 +81,7 @@ enum Stop {
     At(usize),
     /// At a reply that differs.
     Differing,
-    /// Behind the last request.
+    /// After the last request.
     Nowhere,
 }
 
@@ -95,7 +95,7 @@ fn push_row(alloc: Global, text: &mut String, row: &Row) -> Option<()> {
     text.push_str(line.as_str()).ok()
 }
 
-/// Puts the rows that a query answers behind a text; a table that isn't there has none.
+/// Puts the rows that a query answers after a text; a table that isn't there has none.
 fn push_rows<S: Alter>(
     alloc: Global,
     text: &mut String,
@@ -164,14 +164,14 @@ fn rows_before(alloc: Global, played: &Played) -> Option<String> {
 }
 
 /// The rows of a ledger that was made or opened, after so many of the requests.
-fn rows_behind(alloc: Global, played: &Played, count: usize) -> Option<String> {
+fn rows_entered(alloc: Global, played: &Played, count: usize) -> Option<String> {
     match enter(alloc, played, store_before(alloc, played)?) {
         Ok(ledger) => rows_after(alloc, played, ledger, count),
         Err(_) => None,
     }
 }
 
-/// Puts rows behind a list.
+/// Puts rows at the end of a list.
 fn put_rows(rows: &mut Vec<String>, found: Option<String>) -> Verdict {
     match found {
         Some(text) => rows.push(text).or(Err("no memory")),
@@ -184,7 +184,7 @@ fn rows_in_turn(alloc: Global, played: &Played) -> Result<Vec<String>, &'static 
     let mut rows = Vec::new(alloc);
     put_rows(&mut rows, rows_before(alloc, played))?;
     for count in 0..=played.asked.len() {
-        put_rows(&mut rows, rows_behind(alloc, played, count))?;
+        put_rows(&mut rows, rows_entered(alloc, played, count))?;
     }
     Ok(rows)
 }
@@ -293,7 +293,7 @@ fn run_over<D: Disk + Drop>(
     }
 }
 
-/// Whether these rows may be found behind the stop: those before or after the call that was stopped.
+/// Whether these rows may be found after the stop: those before or after the call that was stopped.
 fn may_be_found(rows: &[String], stop: Stop, found: &str) -> bool {
     let (first, last) = match stop {
         Stop::Making => (0, 1),
@@ -309,7 +309,7 @@ fn may_be_found(rows: &[String], stop: Stop, found: &str) -> bool {
     false
 }
 
-/// Checks that a store has rows as they may be behind the stop.
+/// Checks that a store has rows as they may be after the stop.
 fn check_rows<S: Alter>(
     alloc: Global,
     rows: &[String],
@@ -322,7 +322,7 @@ fn check_rows<S: Alter>(
     }
 }
 
-/// The first request that is asked behind a stop: one that got its reply is asked again where it has the same one still.
+/// The first request that is asked after a stop: one that got its reply is asked again where it has the same one still.
 fn first_again(played: &Played, stop: Stop) -> usize {
     match stop {
         Stop::At(place) if !played.repeats => place,
@@ -364,7 +364,7 @@ fn check_end<S: Alter + Drop>(
     }
 }
 
-/// Whether a ledger may be refused so behind the stop: none was made, and the store has no table.
+/// Whether a ledger may be refused so after the stop: none was made, and the store has no table.
 fn may_be_refused<S: Alter + Drop>(played: &Played, stop: Stop, refused: &OpenRefused<S>) -> bool {
     stop == Stop::Making
         && played.before.is_empty()
@@ -397,7 +397,7 @@ fn check_ledger<S: Alter + Drop>(
     }
 }
 
-/// Checks what a store holds behind a stop: rows as they may be, and such a ledger, or no table.
+/// Checks what a store holds after a stop: rows as they may be, and such a ledger, or no table.
 fn check_store<S: Alter + Drop>(
     alloc: Global,
     played: &Played,
@@ -459,7 +459,7 @@ fn synced(files: Files<Fused>) -> Files<Fused> {
     files
 }
 
-/// Checks what the files hold behind a stop: they are opened with all that was written, and with no more
+/// Checks what the files hold after a stop: they are opened with all that was written, and with no more
 /// than what was synced.
 fn check_both(
     alloc: Global,
@@ -529,7 +529,7 @@ fn database_of(rt: HostRuntime, played: &Played) -> Result<(), Fail> {
     Ok(wanted(stops > 0, "no call stopped it")?)
 }
 
-/// Goes through so many calls of the log, behind which a run has more.
+/// Goes through so many calls of the log, after which a run has more.
 fn log_of(rt: HostRuntime, played: &Played, first: u64, last: u64) -> Result<(), Fail> {
     let ended = sweep(rt.alloc(), played, Stopping::Log, first, last)?;
     Ok(wanted(ended.is_none(), "a run came to its end")?)
@@ -590,7 +590,7 @@ fn the_log_of_a_retire_stops_at_later_calls(rt: HostRuntime) -> Result<(), Fail>
 }
 
 #[test]
-fn the_log_of_a_retire_stops_at_calls_behind_these(rt: HostRuntime) -> Result<(), Fail> {
+fn the_log_of_a_retire_stops_at_calls_after_these(rt: HostRuntime) -> Result<(), Fail> {
     log_of(rt, &WITH_A_RETIRE, 30, 40)
 }
 

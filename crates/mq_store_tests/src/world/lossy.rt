@@ -108,12 +108,12 @@ impl<L: Ledger + Drop> Lossy<L> {
         true
     }
 
-    /// Whether this is so, was so behind each arrival, and nothing failed.
+    /// Whether this is so, was so after each arrival, and nothing failed.
     pub fn is_well(&mut self) -> bool {
         self.is_covered() && !self.passed && !self.failed
     }
 
-    /// Looks at the ledger behind an arrival, and keeps what it replied.
+    /// Looks at the ledger after an arrival, and keeps what it replied.
     fn note(&mut self, body: &[u8]) {
         self.passed |= !self.is_covered();
         if body.first() == Some(&OLD) {
@@ -199,7 +199,7 @@ impl<L: Ledger + Drop> Lossy<L> {
     }
 }
 
-/// Puts the frame of a request in range behind the bytes, if there is memory.
+/// Puts the frame of a request in range after the bytes, if there is memory.
 fn put_request(alloc: Global, request: &Request, bytes: &mut Vec<u8>) -> bool {
     is_request(request) && encode_request(alloc, request, bytes).is_ok()
 }

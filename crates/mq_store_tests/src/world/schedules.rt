@@ -165,7 +165,7 @@ impl Sender {
         close(link, &mut self.client, Closing { txn: open.txn, end })
     }
 
-    /// The run stops, and another begins; behind the last one there is none.
+    /// The run stops, and another begins; after the last one there is none.
     fn restart(&mut self, alloc: Global, tries: u32) -> Option<()> {
         if LAST_RUN <= self.run {
             return Some(());
@@ -245,7 +245,7 @@ fn send_of_others<L: Ledger + Drop>(alloc: Global, link: &mut Lossy<L>) -> Optio
     Some(())
 }
 
-/// A number of someone else on the host of a filter, whose run stands in front of the filter's or behind it.
+/// A number of someone else on the host of a filter, whose run is before the filter's or after it.
 fn id_beside(alloc: Global, dice: &mut Dice, sender: &Sender) -> Option<Id> {
     let run = if dice.below(2) == 0 || LAST_RUN <= sender.run {
         sender.run.saturating_sub(1)
@@ -320,7 +320,7 @@ fn senders_of(alloc: Global, count: usize, run: u64) -> Option<Vec<Sender>> {
     Some(senders)
 }
 
-/// Takes the steps of a schedule. Behind each what was let through is settled or reserved for each login
+/// Takes the steps of a schedule. After each what was let through is settled or reserved for each login
 /// and day, and within the limit.
 fn check_steps<L: Ledger + Drop>(
     alloc: Global,

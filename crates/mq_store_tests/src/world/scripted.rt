@@ -11,7 +11,7 @@ use mq_link::{Link, LinkFault};
 use std::alloc::Global;
 
 /// The letters of five exchanges: with `L` the frame is lost, with `B` it is delivered and the reply is
-/// lost, with `H` it is delivered once the runs have ended; with any other letter, and behind the last
+/// lost, with `H` it is delivered once the runs have ended; with any other letter, and after the last
 /// one, it is delivered and the reply comes.
 pub type Script = [u8; 5];
 
@@ -39,7 +39,7 @@ impl<L: Ledger + Drop> Scripted<L> {
         }
     }
 
-    /// Keeps the body of a reply that wasn't written before. One that isn't kept for want of memory is
+    /// Keeps the body of a reply that wasn't written before. One that isn't kept where memory runs out is
     /// missed by who looks at the replies.
     fn note(&mut self, body: &[u8]) {
         if !has(self.replies.as_slice(), body) {
@@ -104,7 +104,7 @@ pub fn copied(alloc: Global, bytes: &[u8]) -> Result<Vec<u8>, LinkFault> {
     Vec::from_slice(alloc, bytes).or(Err(LinkFault::Memory))
 }
 
-/// Puts bytes behind a list.
+/// Puts bytes at the end of a list.
 pub fn keep(alloc: Global, list: &mut Vec<Vec<u8>>, bytes: &[u8]) -> Option<()> {
     list.push(copied(alloc, bytes).ok()?).ok()
 }
