@@ -1,5 +1,6 @@
 -- From what a clock shows to a day number.
-use Rattle.std.proofs.Common.{◌≡◌, ◌∙◌, ◌≤ℤ◌, ◌<ℤ◌, ◌≤◌, pos, negsuc, ℕ, ◌+◌, ◌*◌, ◌/◌, List, ℤ, ◌+ℤ◌, ◌*ℤ◌, arith, int_div, sym, ap}
+use Rattle.std.proofs.Common.{◌≡◌, ◌∙◌, ◌≤ℤ◌, ◌<ℤ◌, ◌≤◌, pos, negsuc, ℕ, ◌+◌, ◌*◌, ◌/◌, List, ℤ, ◌+ℤ◌, ◌*ℤ◌, arith, int_div, nat_abs, to_z, of_z, w64, sym, ap}
+use lib.Signed.{quot_z}
 use Rattle.std.specs.Int.{int_div_euclid}
 use Rattle.jiff_core.specs.Date.{epoch_day}
 use Rattle.jiff_core.specs.DateTime.{civil_nanos}
@@ -19,15 +20,13 @@ pub whole_days : (shown : DateTime) (s : ℤ) → civil_nanos shown ≡ s *ℤ p
 unfolding civil_nanos
 whole_days shown s is = omega (arith, signed_arith, is)
 
--- an offset's days are in range as they are
-unlimited : (s : ℤ) → pos 0 ≤ℤ s → s ≤ℤ pos 32503766340 → limited (int_div_euclid s (pos 86400)) ≡ natural s / 86400
-unlimited (pos n) low high = omega (arith, signed_arith, high)
-unlimited (negsuc n) low high = absurd (omega (arith, signed_arith))
+-- a moment's seconds on a clock, and their days, as machine integers keep them and divide them
+pub kept_seconds : (s : ℤ) → pos 0 ≤ℤ s → s ≤ℤ pos 32503766340 → to_z w64 (of_z w64 s) ≡ s
+kept_seconds s first last = omega (arith, signed_arith, first, last)
 
-pub day_at_offset : (minutes : ℤ) (at : ℕ) (shown : DateTime) → IsOffset minutes → IsMoment at → civil_nanos shown ≡ nanos_of_seconds (pos at) +ℤ nanos_of_seconds (pos 60 *ℤ minutes) → limited (epoch_day shown.date) ≡ day_of (ByOffset minutes) at
-day_at_offset minutes at shown offset moment is =
-    ap limited (whole_days shown (clock minutes at) (omega (arith, signed_arith, is)))
-    ∙ unlimited (clock minutes at) (omega (arith, signed_arith, offset.from, moment.from)) (omega (arith, signed_arith, offset.to, moment.to))
+pub day_of_seconds : (s : ℤ) → pos 0 ≤ℤ s → s ≤ℤ pos 32503766340 → nat_abs (to_z w64 (of_z w64 (quot_z s (pos 86400)))) ≡ natural s / 86400
+day_of_seconds (pos n) first last = omega (arith, signed_arith, last)
+day_of_seconds (negsuc n) first last = absurd (omega (arith, signed_arith))
 
 pub day_by_rule : (text : List ℕ) (at : ℕ) (shown : DateTime) → civil_nanos shown ≡ nanos_of_seconds (pos at) +ℤ nanos_of_seconds (ahead text (nanos_of_seconds (pos at))) → limited (epoch_day shown.date) ≡ day_of (ByRule text) at
 day_by_rule text at shown is = ap limited (whole_days shown (rule_clock text at) (omega (arith, signed_arith, is)))

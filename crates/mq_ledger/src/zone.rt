@@ -1,5 +1,5 @@
 //! The zone of a ledger: on which day a moment lies, by a fixed offset or by a zone rule.
-ghost use Rattle.std.specs.Prelude.{◌≡◌, ◌↔◌, ◌≤◌, ◌-◌, ◌++◌, ◌+ℤ◌, ◌*ℤ◌, length, replicate, pos, IsOk, IfOk, IfErr, IsUtf8};
+ghost use Rattle.std.specs.Prelude.{◌≡◌, ◌↔◌, ◌≤◌, ◌-◌, ◌++◌, ◌+ℤ◌, length, replicate, IsOk, IfOk, IfErr, IsUtf8};
 ghost use Rattle.std.specs.Prelude.{option_map};
 ghost use Rattle.jiff.specs.Words.{civil_nanos, epoch_day, nanos_of_seconds};
 ghost use Rattle.mq_frame.specs.Range.{IsMoment, IsDay};
@@ -19,6 +19,9 @@ const RULE_LIMIT: usize = 64;
 
 /// The last day.
 const LAST_DAY: i64 = 376_200;
+
+/// The seconds of a day.
+const DAY_SECONDS: i64 = 86_400;
 
 /// What the days of a ledger go by: a fixed offset from UTC, or a zone rule.
 #[derive(Clone, Copy, Debug)]
@@ -87,14 +90,17 @@ impl Eq for Zone {
     ghost laws = { same_days_equiv };
 }
 
-/// What a clock so many minutes east of UTC shows at the instant.
-fn shown_at_offset(minutes: i32, instant: Timestamp) -> DateTime
-    requires { IsOffset minutes }
-    ensures { civil_nanos result ≡ instant.nanosecond +ℤ nanos_of_seconds (pos 60 *ℤ minutes) }
+/// The ledger day of a moment on a clock so many minutes east of UTC.
+///
+/// A ledger in memory asks for a day at each entry that it looks back at, so no civil date is made of it.
+fn day_at_offset(minutes: i32, at: u64) -> u32
+    requires offset { IsOffset minutes }
+    requires moment { IsMoment at }
+    ensures { result ≡ day_of (ByOffset minutes) at }
 {
-    // (less than a day, and `jiff` takes a little more)
-    let offset = Offset::from_seconds(minutes * 60).unwrap();
-    offset.to_datetime(instant)
+    // (a moment lies a day or more after 1970-01-01, so no clock shows less than a minute since then)
+    let shown = at as i64 + i64::from(minutes * 60);
+    (shown / DAY_SECONDS) as u32
 }
 
 /// What a clock that goes by the rule shows at the instant.
@@ -128,6 +134,16 @@ fn limited(day: i64) -> u32
     } else {
         day as u32
     }
+}
+
+/// The ledger day of a moment on a clock that goes by the rule.
+fn day_by_rule(text: &str, at: u64) -> u32
+    requires rule { IsRule text.now }
+    requires moment { IsMoment at }
+    ensures { result ≡ day_of (ByRule text.now) at }
+{
+    let shown = shown_by_rule(text, Timestamp::constant(at as i64, 0));
+    limited(day_number(shown.date()))
 }
 
 /// The text of these bytes, which are one.
@@ -208,14 +224,10 @@ impl Zone {
         ensures value { result ≡ day_of self.now at }
         ensures in_range { IsDay result }
     {
-        let instant = Timestamp::constant(at as i64, 0);
-        let shown = match &self.kind {
-            Kind::Offset(minutes) => shown_at_offset(*minutes, instant),
-            Kind::Rule { bytes, len } => {
-                shown_by_rule(text_of(&bytes[..*len as usize]), instant)
-            }
-        };
-        limited(day_number(shown.date()))
+        match &self.kind {
+            Kind::Offset(minutes) => day_at_offset(*minutes, at),
+            Kind::Rule { bytes, len } => day_by_rule(text_of(&bytes[..*len as usize]), at),
+        }
     }
 
     /// The same. It never wants memory.

@@ -1,9 +1,9 @@
 //! How a transaction stands: who it belongs to, whether it is closed, and what it was granted.
-ghost use Rattle.std.specs.Prelude.{◌≡◌, ◌<◌, ◌^◌, IfOk};
+ghost use Rattle.std.specs.Prelude.{◌≡◌, ◌<◌, ◌^◌, ◌&&◌, IfOk};
 ghost use Rattle.std.specs.Option.{option_copied, MatchOption};
 ghost use Rattle.mq_frame.specs.declared.message.Reply.{Reply as AnyReply};
 ghost use Rattle.mq_ledger.specs.Answer.{if_open};
-ghost use Rattle.mq_ledger.specs.History.{transaction, is_of, is_at, named, agrees, ended, closed, abandoned, granted_in, IsOpenTo};
+ghost use Rattle.mq_ledger.specs.History.{transaction, is_of, is_at, named, agrees, closes, ended, closed, abandoned, granted_in, IsOpenTo};
 
 use crate::entry::Entry;
 use crate::plain::entries::{closes, granted, is_below};
@@ -14,6 +14,7 @@ use std::alloc::AllocError;
 fn is_of(request: &Request, id: &Id, txn: u32) -> bool
     ensures { result ≡ is_of (transaction id.now txn) request.now }
 {
+    // (the numbers first: they differ most often, and a host is compared byte by byte)
     match request {
         Request::Reserve {
             id: other,
@@ -29,7 +30,7 @@ fn is_of(request: &Request, id: &Id, txn: u32) -> bool
             id: other,
             txn: number,
             ..
-        } => id.host == other.host && id.run == other.run && txn == *number,
+        } => txn == *number && id.run == other.run && id.host == other.host,
         _ => false,
     }
 }
@@ -75,11 +76,19 @@ fn agrees(entries: &[Entry], id: &Id, txn: u32, at: u64, login: &Login) -> bool
     }
 }
 
+/// Whether the entry settled or released the transaction.
+fn ends(entry: &Entry, id: &Id, txn: u32) -> bool
+    ensures { result ≡ (is_of (transaction id.now txn) entry.now.request && closes entry.now.reply) }
+{
+    // (the reply first: of the entries that are looked back at few close anything)
+    closes(&entry.reply) && is_of(&entry.request, id, txn)
+}
+
 /// Whether the transaction was settled or released.
 fn is_ended(entries: &[Entry], id: &Id, txn: u32) -> bool
     ensures { result ≡ ended entries.now (transaction id.now txn) }
 {
-    entries.iter().any(|entry| is_of(&entry.request, id, txn) && closes(&entry.reply))
+    entries.iter().any(|entry| ends(entry, id, txn))
 }
 
 /// Whether the transaction is closed: settled, released or of a retired run.
