@@ -41,12 +41,12 @@ def measure(program, folder, answers):
     into = f"{path}.new"
     took, worked = forgotten(program, config, into, answers)
     most = resource.getrusage(resource.RUSAGE_CHILDREN).ru_maxrss // 1024
-    before, _, _ = started(program, config, port)
+    before = started(program, config, port).took
     # (one name holds settings at a time)
-    after, memory, _ = started(program, filled.settings(folder, into, port), port)
+    after = started(program, filled.settings(folder, into, port), port)
     sizes = " and ".join(f"{os.path.getsize(it) / 1e6:.0f} MB" for it in (path, into))
     print(f"{answers} answers, half of them kept, {sizes}: forget {took:.1f} s, of a processor {worked:.1f} s, {worked / answers * 2e6:.0f} us an answer that is kept, {most} MB; "
-          f"start over the old file {before:.2f} s, over the new one {after:.2f} s and {memory // 1024} MB", flush=True)
+          f"start over the old file {before:.2f} s, over the new one {after.took:.2f} s and {after.most // 1024} MB", flush=True)
     for it in (path, into):
         os.unlink(it)
 
