@@ -19,17 +19,17 @@ use Rattle.mq_tables.specs.Settings.{SettingRow, IsRuleOf, shown_of}
 use Rattle.mq_tables.specs.Settings as settings
 use Rattle.mq_tables.specs.Reading.{IsRuleRead, AreFloorsRead, Spares}
 use Rattle.mq_store.specs.declared.fault.OpenFault.{OpenFault}
-use Rattle.mq_store.specs.declared.fault.OpenFault.TheVariants.{NotOurs, Memory, Store}
+use Rattle.mq_store.specs.declared.fault.OpenFault.TheVariants.{NotOurs}
 use Rattle.mq_store.specs.Opening.{fault_of, fault_in, fault_by_rule, fault_by_any_rule, fault_by_floors, if_none, known_version, IsJudgedCurrent, IsRuled, IsFaultOf, IsStopped, IsOf}
 
 -- memory or the disk stopped the reading
 pub of_store : (zone : Zone) (default : ℕ) (s : SettingRow) (rule : Option (List ℕ)) (e : Error) → settings.IsStop e → IsFaultOf zone default s rule (Some (fault_of e))
-of_store zone default s rule e (OutOfMemory, is) = rw is (inr (inl refl))
-of_store zone default s rule e (Io, is) = rw is (inr (inr refl))
-of_store zone default s rule e (Corrupt, is) = rw is (inr (inr refl))
-of_store zone default s rule e (Full, is) = rw is (inr (inr refl))
-of_store zone default s rule e (Broken, is) = rw is (inr (inr refl))
-of_store zone default s rule e (Unstorable, is) = rw is (inr (inr refl))
+of_store zone default s rule e (OutOfMemory, is) = rw is (inr tt)
+of_store zone default s rule e (Io, is) = rw is (inr tt)
+of_store zone default s rule e (Corrupt, is) = rw is (inr tt)
+of_store zone default s rule e (Full, is) = rw is (inr tt)
+of_store zone default s rule e (Broken, is) = rw is (inr tt)
+of_store zone default s rule e (Unstorable, is) = rw is (inr tt)
 
 module _ (zone : Zone) (default : ℕ) (s : SettingRow) (setting : Setting) (shown : shown_of s ≡ setting) where
   -- the settings were read, and then the row of the rule, which there is
@@ -43,12 +43,12 @@ module _ (zone : Zone) (default : ℕ) (s : SettingRow) (setting : Setting) (sho
 
   -- the same where there may be none
   stopped_any : (rule : Option (List ℕ)) (e : Error) → settings.IsStop e → IsFaultOf zone default s rule (fault_by_any_rule zone default setting (Err e))
-  stopped_any rule e (OutOfMemory, is) = rw is (inr (inl refl))
-  stopped_any rule e (Io, is) = rw is (inr (inr refl))
-  stopped_any rule e (Corrupt, is) = rw is (inr (inr refl))
-  stopped_any rule e (Full, is) = rw is (inr (inr refl))
-  stopped_any rule e (Broken, is) = rw is (inr (inr refl))
-  stopped_any rule e (Unstorable, is) = rw is (inr (inr refl))
+  stopped_any rule e (OutOfMemory, is) = rw is (inr tt)
+  stopped_any rule e (Io, is) = rw is (inr tt)
+  stopped_any rule e (Corrupt, is) = rw is (inr tt)
+  stopped_any rule e (Full, is) = rw is (inr tt)
+  stopped_any rule e (Broken, is) = rw is (inr tt)
+  stopped_any rule e (Unstorable, is) = rw is (inr tt)
 
   pub of_any_rule : (rule : Option (List ℕ)) (read : Result Row Error) → IsRuleOf rule read → IsFaultOf zone default s rule (fault_by_any_rule zone default setting read)
   of_any_rule None (Ok row) is = absurd is
@@ -88,17 +88,13 @@ pub read_none : (s : SettingRow) (found : Option Setting) → settings.IsOf s (O
 read_none s found (inl is) none = absurd cc
 read_none s found (inr stopped) none = absurd stopped
 
-stopped_so : (f : OpenFault) → (Some f ≡ Some Memory) ⊎ (Some f ≡ Some Store) → IsStopped (Err f)
-stopped_so f (inl is) = inl (let same : f ≡ Memory = cc in ap Err same)
-stopped_so f (inr is) = inr (let same : f ≡ Store = cc in ap Err same)
-
 stops : (e : Error) → settings.IsStop e → IsStopped (Err (fault_of e))
-stops e (OutOfMemory, is) = rw is (inl refl)
-stops e (Io, is) = rw is (inr refl)
-stops e (Corrupt, is) = rw is (inr refl)
-stops e (Full, is) = rw is (inr refl)
-stops e (Broken, is) = rw is (inr refl)
-stops e (Unstorable, is) = rw is (inr refl)
+stops e (OutOfMemory, is) = rw is tt
+stops e (Io, is) = rw is tt
+stops e (Corrupt, is) = rw is tt
+stops e (Full, is) = rw is tt
+stops e (Broken, is) = rw is tt
+stops e (Unstorable, is) = rw is tt
 
 pub read_err : (zone : Zone) (default : ℕ) (schema : Schema) (s : SettingRow) (rule : Option (List ℕ)) (e : Error) → settings.IsOf s (Err e) → IsOf zone default schema s rule (Err (fault_of e))
 read_err zone default schema s rule e (inl is) = absurd cc
@@ -109,9 +105,8 @@ read_err zone default schema s rule e (inr stopped) = inr (stops e stopped)
 pub of_known : (zone : Zone) (default : ℕ) (schema : Schema) (s : SettingRow) (rule : Option (List ℕ)) (version : ℕ) (fault : Option OpenFault) → known_version s.version ≡ Some version → has_later_table version schema ≡ false → IsFaultOf zone default s rule fault
     → IsOf zone default schema s rule (if_none version fault)
 of_known zone default schema s rule version fault known free (inl is) = inl (ap (if_none version) is ∙ rw (known, free) refl)
-of_known zone default schema s rule version (Some f) known free (inr stopped) = inr (stopped_so f stopped)
-of_known zone default schema s rule version None known free (inr (inl stopped)) = absurd cc
-of_known zone default schema s rule version None known free (inr (inr stopped)) = absurd cc
+of_known zone default schema s rule version (Some f) known free (inr stopped) = inr stopped
+of_known zone default schema s rule version None known free (inr stopped) = absurd stopped
 
 pub of_later : (zone : Zone) (default : ℕ) (schema : Schema) (s : SettingRow) (rule : Option (List ℕ)) (version : ℕ) → known_version s.version ≡ Some version → has_later_table version schema ≡ true → IsOf zone default schema s rule (Err NotOurs)
 of_later zone default schema s rule version known taken = inl (rw (known, taken) refl)

@@ -1,6 +1,8 @@
 pub mod Chain
 pub mod Crashes
 pub mod Versions
+pub mod Causes
+pub mod InRange
 pub mod Faults
 pub mod Firsts
 pub mod Keyed

@@ -10,8 +10,6 @@ use Rattle.sqlite.specs.Schema.{Schema}
 use Rattle.sqlite.specs.State.{State}
 use Rattle.sqlite.specs.Tree.{Trees}
 use Rattle.mq_ledger.specs.declared.entry.Entry.{Entry}
-use Rattle.mq_ledger.specs.declared.ledger.LedgerFault.{LedgerFault}
-use Rattle.mq_ledger.specs.declared.ledger.LedgerFault.TheVariants as ledger
 use Rattle.mq_ledger.specs.declared.zone.Zone.{Zone}
 use Rattle.mq_ledger.specs.Day.{ByOffset, ByRule, minutes_in, rule_in}
 use Rattle.mq_ledger.specs.Legal.{Book, IsLegalBook}
@@ -28,9 +26,11 @@ use Rattle.mq_tables.specs.declared.setting.Setting.{Setting}
 use Rattle.mq_tables.specs.Settings.{SettingRow, shown_of}
 use Rattle.mq_store.specs.declared.fault.OpenFault.{OpenFault}
 use Rattle.mq_store.specs.declared.fault.OpenFault.TheVariants.{NotOurs, ZoneDiffers, DefaultDiffers, Memory, Store}
+use Rattle.mq_store.specs.declared.fault.Refused.{Refused}
+use Rattle.mq_store.specs.declared.fault.Refused.TheVariants as stop
 use Rattle.mq_store.specs.Auditing.{IsAuditIn, IsRightAnswer}
 use Rattle.mq_store.specs.Crash.{LeavesBy, FindsOnly, FindsOpened}
-use Rattle.mq_store.specs.Opening.{fault_in, same_rule, audit_fault, known_version, judged_as, if_none, HasCurrent, HoldsKnown, HasSettings, IsStopped, IsOf, IsFoundOf, IsBroughtUp, Opens, Refuses}
+use Rattle.mq_store.specs.Opening.{fault_in, same_rule, audit_fault, known_version, judged_as, if_none, HasCurrent, HoldsKnown, HasSettings, IsStop, IsOf, IsFoundOf, IsBroughtUp, Opens, Refuses}
 use Rattle.mq_store.specs.Taking.{HasBook, book_of}
 use Rattle.mq_store.specs.Soundness.{book_in, HasKept, HasStored, IsSound, MeansBook, IsOpened}
 use Rattle.mq_store.proofs.Sound.{sound_with}
@@ -144,8 +144,7 @@ module _ (b : Book) (db : Database) (has : HasStored b db) where
   -- what was found is the version, and the zone and the default are the book's
   found_as : (zone : Zone) (default version : ℕ) → IsOf zone default db.schema (setting_in t.setting) (rule_in b.zone) (Ok version) → (version ≡ v) × (b.zone ≡ zone) × (b.default ≡ default)
   found_as zone default version (inl e) = let it = found_none version v (fault_of_book zone default b) (e ∙ judged_is zone default) in let same = agrees zone default b it.1 in (it.0, same.0, same.1)
-  found_as zone default version (inr (inl e)) = absurd cc
-  found_as zone default version (inr (inr e)) = absurd cc
+  found_as zone default version (inr stopped) = absurd stopped
 
   -- ---- it is of the current version afterwards
 
@@ -215,23 +214,19 @@ opens zone default old new means = record { opened = λ z d has. means (book_in 
 abbrev pub AreRight : Type 0
 AreRight = (b : Book) (t : Tables) (db : Database) (a : Audit) → IsLegalBook b → HasLedger db t → AreRows b t → IsAuditIn b.zone b.default db a → IsRightAnswer a
 
-stopped_audit : (b : Book) (db : Database) (f : OpenFault) (found : Result Audit LedgerFault) → AreRight → HasStored b db → IfOk found (IsAuditIn b.zone b.default db) → Some f ≡ audit_fault found → (f ≡ Memory) ⊎ (f ≡ Store)
+stopped_audit : (b : Book) (db : Database) (f : OpenFault) (found : Result Audit Refused) → AreRight → HasStored b db → IfOk found (IsAuditIn b.zone b.default db) → Some f ≡ audit_fault found → IsStop f
 stopped_audit b db f (Ok (Sound days transactions)) right has is_audit is = absurd cc
 stopped_audit b db f (Ok (Wrong login day)) right has is_audit is = absurd (right b has.tables db (Wrong login day) has.legal has.holds has.rows is_audit)
-stopped_audit b db f (Err ledger.Memory) right has is_audit is = inl cc
-stopped_audit b db f (Err ledger.Store) right has is_audit is = inr cc
-
-stopped_so : (f : OpenFault) → IsStopped (Err f) → (f ≡ Memory) ⊎ (f ≡ Store)
-stopped_so f (inl e) = inl (let same : ◌≡◌ {A = Result ℕ OpenFault} (Err f) (Err Memory) = e in cc)
-stopped_so f (inr e) = inr (let same : ◌≡◌ {A = Result ℕ OpenFault} (Err f) (Err Store) = e in cc)
+stopped_audit b db f (Err stop.Memory) right has is_audit is = (let same : f ≡ Memory = cc in subst IsStop (sym same) tt)
+stopped_audit b db f (Err (stop.Store c)) right has is_audit is = (let same : f ≡ Store c = cc in subst IsStop (sym same) tt)
 
 module _ (zone : Zone) (default : ℕ) (old new : State) (f : OpenFault) (exact : (s : SettingRow) (rule : Option (List ℕ)) → HasSettings old.now s rule → Refuses (IsFoundOf zone default old.now s rule) old new f) where
-  pub refuses : AreRight → (H : List Entry) → HasStored (book_of zone default H) old.now → (f ≡ Memory) ⊎ (f ≡ Store)
+  pub refuses : AreRight → (H : List Entry) → HasStored (book_of zone default H) old.now → IsStop f
   refuses right H has =
       let b = book_of zone default H in
       elim (exact _ _ (settings_had b old.now has)) [
         | inl (inl (inl refused), spares) ↦ absurd (let none : ◌≡◌ {A = Result ℕ OpenFault} (Err f) (Ok has.tables.setting.version) = refused ∙ judged_is b old.now has zone default ∙ ap (if_none has.tables.setting.version) (no_fault zone default H) in cc)
-        | inl (inl (inr stopped), spares) ↦ stopped_so f stopped
+        | inl (inl (inr stopped), spares) ↦ stopped
         | inl (inr both, spares) ↦ stopped_audit b old.now f both.2.found right has both.2.is_audit both.2.fault_is
         | inr left ↦ left.2.fault
       ]
@@ -254,7 +249,7 @@ module _ (old new : State) (f : OpenFault) (Found : Result ℕ OpenFault → Typ
   same_refused (inl found) is_open = found.1.now is_open
   same_refused (inr older) is_open = older.2.now is_open
 
-  pub spares_refused : Refuses Found old new f → Spares old new ⊎ ((f ≡ Memory) ⊎ (f ≡ Store))
+  pub spares_refused : Refuses Found old new f → Spares old new ⊎ IsStop f
   spares_refused (inl found) = inl found.1
   spares_refused (inr older) = inr older.2.fault
 
@@ -275,8 +270,7 @@ known_of (Some n) zone default schema s rule version e = go (has_later_table n s
 -- the version that was judged is that of the settings
 known_as : (zone : Zone) (default : ℕ) (schema : Schema) (s : SettingRow) (rule : Option (List ℕ)) (version : ℕ) → IsOf zone default schema s rule (Ok version) → known_version s.version ≡ Some version
 known_as zone default schema s rule version (inl e) = known_of (known_version s.version) zone default schema (shown_of s) rule version e
-known_as zone default schema s rule version (inr (inl e)) = absurd cc
-known_as zone default schema s rule version (inr (inr e)) = absurd cc
+known_as zone default schema s rule version (inr stopped) = absurd stopped
 
 module _ (old new : State) (f : OpenFault) (Found : Result ℕ OpenFault → Type 0) (refused : Refuses Found old new f) where
   by_version : (k : Option ℕ) → ((version : ℕ) → Found (Ok version) → k ≡ Some version) → LeavesBy k old new

@@ -8,6 +8,7 @@ use Rattle.mq_rows.specs.declared.audited.Audit.{Audit}
 use Rattle.mq_rows.specs.declared.audited.Audit.TheVariants.{Sound, Wrong}
 use Rattle.mq_rows.specs.Audit.{Figures, IsAudited}
 use Rattle.mq_tables.specs.Figures.{HasAuditTables, HasFigures}
+use Rattle.mq_store.specs.declared.auditing.RowCounts.{RowCounts}
 
 -- the same rows, each table's in any order
 pub record AreReordered (f g : Figures) : Type 0 where
@@ -29,6 +30,10 @@ IsAuditOfAll zone default db a = (f : Figures) → HasFigures db f → IsAuditOf
 pub record IsAuditIn (zone : Zone) (default : ℕ) (db : Database) (a : Audit) : Type 0 where
   pub of_all : IsAuditOfAll zone default db a
   pub there : HasAuditTables db.schema → (f : Figures) × HasFigures db f
+
+-- so many rows an audit of the store read, which found each pair right
+abbrev pub AreCounted : Zone → ℕ → Database → RowCounts → Type 0
+AreCounted zone default db c = IsAuditIn zone default db (Sound c.days c.transactions)
 
 -- it says that each pair is right
 abbrev pub IsRightAnswer : Audit → Type 0

@@ -1,4 +1,5 @@
 pub mod View
+pub mod Causes
 pub mod Opening
 pub mod Soundness
 pub mod Taking

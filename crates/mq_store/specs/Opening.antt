@@ -1,6 +1,6 @@
 -- What `open` answers to what the store answers.
 use Rattle.std.specs.Prelude.{◌≡◌, ◌⊎◌, ℕ, ℤ, pos, nat_le, List, Bool, true, false, ◌&&◌, bytes_eq, if◌then◌else◌}
-use Rattle.std.specs.Prelude.{Option, Some, None, Result, Ok, Err, Vec, IsTrue, IfOk}
+use Rattle.std.specs.Prelude.{Option, Some, None, Result, Ok, Err, Vec, IsTrue, IfOk, ⊤}
 use Rattle.std.specs.declared.alloc.Global.{Global}
 use Rattle.std.specs.Ordering.{int_eq}
 use Rattle.sqlite_trees.specs.declared.store.Store.{Ghosts}
@@ -12,13 +12,11 @@ use Rattle.sqlite.specs.State.{State}
 use Rattle.sqlite.specs.Tree.{Trees}
 use Rattle.sqlite.specs.declared.error.ErrorCode.{ErrorCode}
 use Rattle.sqlite.specs.declared.error.ErrorCode.TheVariants.{OutOfMemory, SystemIoFailure, DatabaseCorrupt, DiskFull}
-use Rattle.sqlite.specs.declared.error.ErrorCode.TheVariants.{Closed, TooBig}
+use Rattle.sqlite.specs.declared.error.ErrorCode.TheVariants.{Closed, TooBig, TransactionState}
 use Rattle.sqlite.specs.declared.error.Error.{Error}
 use Rattle.sqlite.specs.declared.error.Error.TheVariants.{SqliteFailure, QueryReturnedNoRows}
 use Rattle.mq_ledger.specs.declared.zone.Zone.{Zone}
 use Rattle.mq_ledger.specs.Day.{minutes_in, rule_in}
-use Rattle.mq_ledger.specs.declared.ledger.LedgerFault.{LedgerFault}
-use Rattle.mq_ledger.specs.declared.ledger.LedgerFault.TheVariants as ledger
 use Rattle.mq_rows.specs.declared.audited.Audit.{Audit}
 use Rattle.mq_rows.specs.declared.audited.Audit.TheVariants.{Sound, Wrong}
 use Rattle.mq_tables.specs.declared.setting.Setting.{Setting}
@@ -33,26 +31,44 @@ use Rattle.mq_tables.specs.Settings.{SettingRow, HasSetting, shown_of, rule_text
 use Rattle.mq_store.specs.declared.fault.OpenFault.{OpenFault}
 use Rattle.mq_store.specs.declared.fault.OpenFault.TheVariants.{NotOurs, ZoneDiffers, DefaultDiffers, Damaged}
 use Rattle.mq_store.specs.declared.fault.OpenFault.TheVariants.{Memory, Store}
+use Rattle.mq_store.specs.declared.fault.Refused.{Refused}
+use Rattle.mq_store.specs.declared.opening.Known.{Known}
+use Rattle.mq_store.specs.declared.fault.Refused.TheVariants as refused
+use Rattle.mq_store.specs.declared.fault.StoreCause.TheVariants as cause
 use Rattle.mq_store.specs.Auditing.{IsAuditIn}
 
 -- what the tables are made with
 abbrev pub made_with : Zone → ℕ → NewSetting
 made_with zone default = record { zone = zone; cap = default }
 
+-- the store failed, and its library says so
+abbrev pub failed : Error → OpenFault
+failed e = Store (cause.Refused e)
+
 -- memory and the disk, and any other cause
 abbrev pub fault_of_code : ErrorCode → OpenFault
 fault_of_code OutOfMemory = Memory
-fault_of_code SystemIoFailure = Store
-fault_of_code DatabaseCorrupt = Store
-fault_of_code DiskFull = Store
-fault_of_code Closed = Store
-fault_of_code TooBig = Store
+fault_of_code SystemIoFailure = failed (SqliteFailure SystemIoFailure)
+fault_of_code DatabaseCorrupt = failed (SqliteFailure DatabaseCorrupt)
+fault_of_code DiskFull = failed (SqliteFailure DiskFull)
+fault_of_code Closed = failed (SqliteFailure Closed)
+fault_of_code TooBig = failed (SqliteFailure TooBig)
 fault_of_code _ = NotOurs
+
+-- the connection is within a transaction
+abbrev pub within : OpenFault
+within = failed (SqliteFailure TransactionState)
+
+-- memory ran out, or the store failed
+abbrev pub IsStop : OpenFault → Type 0
+IsStop Memory = ⊤
+IsStop (Store c) = ⊤
+IsStop _ = ⊥
 
 -- memory that runs out, and any other cause, of making the tables
 abbrev pub create_fault : Error → OpenFault
 create_fault (SqliteFailure OutOfMemory) = Memory
-create_fault _ = Store
+create_fault e = failed e
 
 -- of reading them
 abbrev pub fault_of : Error → OpenFault
@@ -195,10 +211,14 @@ pub record HasSettings (db : Database) (s : SettingRow) (rule : Option (List ℕ
   pub setting : HasSetting db s
   pub later : HoldsKnown (known_version s.version) db rule
 
+-- memory or the disk stopped the reading
+abbrev pub IsStoppedBy : Option OpenFault → Type 0
+IsStoppedBy None = ⊥
+IsStoppedBy (Some f) = IsStop f
+
 -- the fault is that of these rows, or memory or the disk stopped the reading
 abbrev pub IsFaultOf : Zone → ℕ → SettingRow → Option (List ℕ) → Option OpenFault → Type 0
-IsFaultOf zone default s rule fault =
-    (fault ≡ fault_in zone default (shown_of s) rule) ⊎ ((fault ≡ Some Memory) ⊎ (fault ≡ Some Store))
+IsFaultOf zone default s rule fault = (fault ≡ fault_in zone default (shown_of s) rule) ⊎ IsStoppedBy fault
 
 -- the version, or why it isn't this ledger
 abbrev pub judged_as : Option ℕ → Zone → ℕ → Schema → Setting → Option (List ℕ) → Result ℕ OpenFault
@@ -208,7 +228,8 @@ judged_as (Some version) zone default schema s rule =
 
 -- memory or the disk stopped the reading
 abbrev pub IsStopped : Result ℕ OpenFault → Type 0
-IsStopped r = (r ≡ Err Memory) ⊎ (r ≡ Err Store)
+IsStopped (Ok version) = ⊥
+IsStopped (Err f) = IsStop f
 
 -- the answer is that of these rows, or memory or the disk stopped the reading
 abbrev pub IsOf : Zone → ℕ → Schema → SettingRow → Option (List ℕ) → Result ℕ OpenFault → Type 0
@@ -218,19 +239,19 @@ IsOf zone default schema s rule r =
 -- What an audit finds after the settings.
 
 -- memory or the store stopped it
-abbrev pub open_fault : LedgerFault → OpenFault
-open_fault ledger.Memory = Memory
-open_fault ledger.Store = Store
+abbrev pub open_fault : Refused → OpenFault
+open_fault refused.Memory = Memory
+open_fault (refused.Store c) = Store c
 
 -- nothing where each pair is right, else the pair that isn't
-abbrev pub audit_fault : Result Audit LedgerFault → Option OpenFault
+abbrev pub audit_fault : Result Audit Refused → Option OpenFault
 audit_fault (Ok (Sound days transactions)) = None
 audit_fault (Ok (Wrong login day)) = Some (Damaged login day)
 audit_fault (Err fault) = Some (open_fault fault)
 
 -- the fault is that of an audit of these rows
 pub record IsChecked (zone : Zone) (default : ℕ) (db : Database) (fault : Option OpenFault) : Type 0 where
-  pub found : Result Audit LedgerFault
+  pub found : Result Audit Refused
   pub is_audit : IfOk found (IsAuditIn zone default db)
   pub fault_is : fault ≡ audit_fault found
 
@@ -253,6 +274,11 @@ IsFound g zone default old new =
 abbrev pub IsFoundOf : Zone → ℕ → Database → SettingRow → Option (List ℕ) → Result ℕ OpenFault → Type 0
 IsFoundOf zone default db s rule = IsInTurn (IsOf zone default db.schema s rule) (IsChecked zone default db)
 
+-- the version that was found, or why it isn't this ledger
+abbrev pub version_of : Result Known OpenFault → Result ℕ OpenFault
+version_of (Ok known) = Ok known.version
+version_of (Err f) = Err f
+
 -- What becomes of a store that is found to be this ledger.
 
 -- a ledger of the current version is left as it is; an older one is given that version, and a crash leaves it so
@@ -264,7 +290,7 @@ IsBroughtUp version old new =
 -- an older one wasn't given the current version: a crash leaves what it left before, or it has that version
 pub record IsLeftOlder (version : ℕ) (old new : State) (f : OpenFault) : Type 0 where
   pub older : nat_le 3 version ≡ false
-  pub fault : (f ≡ Memory) ⊎ (f ≡ Store)
+  pub fault : IsStop f
   pub now : IsTrue new.is_open → new.now ≡ old.now
   pub crash : (db : Trees) → new.may_leave db
       → old.may_leave db ⊎ (IsTrue old.is_open × AreMigrated (nat_le 2 version) old.now db)
@@ -277,10 +303,3 @@ Opens Found old new = (version : ℕ) × Found (Ok version) × IsBroughtUp versi
 abbrev pub Refuses : (Result ℕ OpenFault → Type 0) → State → State → OpenFault → Type 0
 Refuses Found old new f =
     (Found (Err f) × Spares old new) ⊎ ((version : ℕ) × Found (Ok version) × IsLeftOlder version old new f)
-
--- Of a request or an audit.
-
--- memory that runs out, and any other cause
-abbrev pub ledger_fault : Error → LedgerFault
-ledger_fault (SqliteFailure OutOfMemory) = ledger.Memory
-ledger_fault _ = ledger.Store

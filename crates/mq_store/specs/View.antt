@@ -1,20 +1,62 @@
 -- What a ledger in a store shows.
-use Rattle.std.specs.Prelude.{◌≡◌, ℕ, false, None, refl}
-use Rattle.std.specs.Coded.{Coded, code_by, coded×, coded_ℕ}
+use Rattle.std.specs.Prelude.{◌≡◌, ◌⊎◌, ℕ, Bool, true, false, Option, None, refl}
+use Rattle.std.specs.Coded.{Coded, code_by, coded×, coded⊎, coded_ℕ, coded_bool, coded_option}
+use mathlib.Core.Logic.{inl, inr}
 use Rattle.mq_ledger.specs.DaysCode.{days_code}
 use Rattle.sqlite.specs.Held.{Held, held_code}
+use Rattle.sqlite.specs.declared.error.Error.{Error}
+use Rattle.sqlite.specs.contracts.error.Error as error
 use Rattle.mq_frame.specs.Range.{IsAmount}
 use Rattle.mq_ledger.specs.declared.zone.Zone.{Zone}
+use Rattle.mq_store.specs.declared.auditing.RowCounts.{RowCounts}
+use Rattle.mq_store.specs.declared.fault.StoreCause.{StoreCause}
+use Rattle.mq_store.specs.declared.fault.StoreCause.TheVariants.{Refused, Content, Full}
 
 pub record LedgerView (S : Type 0) : Type 0 where
   pub connection : Held S
   pub zone : Zone
   pub default : ℕ
+  -- the rows that were counted as it was opened
+  pub found : RowCounts
+  -- why the last call answered that the store failed, if it did
+  pub cause : Option StoreCause
+
+-- a cause is stored as its error, or as which of the others it is
+abbrev pub split : StoreCause → Error ⊎ Bool
+split (Refused e) = inl e
+split Content = inr true
+split Full = inr false
+
+abbrev pub join : Error ⊎ Bool → StoreCause
+join (inl e) = Refused e
+join (inr true) = Content
+join (inr false) = Full
+
+pub joined : (c : StoreCause) → join (split c) ≡ c
+joined (Refused e) = refl
+joined Content = refl
+joined Full = refl
+
+abbrev pub cause_code : Coded StoreCause
+cause_code = code_by (Error ⊎ Bool) (coded⊎ error.the_row.coded coded_bool) split join joined
+
+abbrev pub counts_code : Coded RowCounts
+counts_code =
+    code_by (ℕ × ℕ) (coded× coded_ℕ coded_ℕ) (λ c. (c.days, c.transactions))
+    (λ p. record { days = p.0; transactions = p.1 }) (λ _. refl)
 
 abbrev pub view_code : {S : Type 0} → Coded S → Coded (LedgerView S)
 view_code {S} store =
-    code_by (Held S × (Zone × ℕ)) (coded× (held_code store) (coded× days_code coded_ℕ))
-    (λ v. (v.connection, (v.zone, v.default))) (λ p. record { connection = p.0; zone = p.1.0; default = p.1.1 })
+    code_by (Held S × (Zone × (ℕ × (RowCounts × Option StoreCause))))
+    (coded× (held_code store) (coded× days_code (coded× coded_ℕ (coded× counts_code (coded_option cause_code)))))
+    (λ v. (v.connection, (v.zone, (v.default, (v.found, v.cause)))))
+    (λ p. record {
+      connection = p.0;
+      zone = p.1.0;
+      default = p.1.1.0;
+      found = p.1.1.1.0;
+      cause = p.1.1.1.1;
+    })
     (λ _. refl)
 
 -- no transaction is open, no statement is cut short, and the default is in range

@@ -1,10 +1,11 @@
 //! One request, in one transaction of the store.
 
-ghost use Rattle.std.specs.Prelude.{◌≡◌, ◌⊎◌, false, IfOk, OnOk, OnErr};
+ghost use Rattle.std.specs.Prelude.{◌≡◌, ◌⊎◌, false, IfOk, IfErr, OnOk, OnErr};
 ghost use Rattle.sqlite.specs.Held.{state};
 ghost use Rattle.sqlite.specs.State.{HasCleanDisk};
 ghost use Rattle.sqlite.specs.Tree.{Trees};
 ghost use Rattle.mq_frame.specs.Range.{IsRequest, IsReply};
+ghost use Rattle.mq_store.specs.Causes.{StopsOver};
 ghost use Rattle.mq_store.specs.Crash.{LeavesNew, LeavesOld, AreApplied};
 ghost use Rattle.mq_store.specs.Soundness.{HasKept};
 ghost use Rattle.mq_store.specs.Taking.{Applies};
@@ -36,6 +37,8 @@ pub(crate) fn apply<S: Alter>(
         (state S.Store connection.old).now (state S.Store connection.new).now) }
     ensures fault { HasKept (state S.Store connection.new)
         → OnErr result ((state S.Store connection.new).now ≡ (state S.Store connection.old).now) }
+    ensures cause { HasCleanDisk (state S.Store connection.new)
+        → IfErr result (StopsOver zone default (state S.Store connection.old).now) }
     ensures crash_new { HasCleanDisk (state S.Store connection.new) → IfOk result
         (λ a. LeavesNew zone default request.now a (state S.Store connection.old) (state S.Store connection.new)) }
     ensures crash_old { HasCleanDisk (state S.Store connection.new) → OnOk result

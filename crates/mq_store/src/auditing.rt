@@ -15,6 +15,15 @@ use mq_tables::figures::{read_figures, rows_have_figures};
 use sqlite::{Alter, Connection};
 use std::alloc::Global;
 
+/// How many rows an audit read.
+#[derive(Clone, Copy, Debug, PartialEq, Eq)]
+pub struct RowCounts {
+    /// The rows of `usage`: a login and a day each.
+    pub days: u64,
+    /// The rows of `trans`.
+    pub transactions: u64,
+}
+
 /// What an audit answers by books that have no row yet.
 fn audit_by<S: Alter>(connection: &mut Connection<S>, books: &mut Books) -> Result<Audit, Refused>
     requires autocommit { connection.old.in_transaction ≡ false }

@@ -3,9 +3,10 @@
 ghost use Rattle.std.specs.Prelude.{◌≡◌, ◌&&◌, Some, None};
 ghost use Rattle.std.specs.Ordering.{int_eq};
 ghost use Rattle.mq_ledger.specs.Day.{minutes_in, rule_in};
+ghost use Rattle.mq_store.specs.Causes.{answer_to, cause_in};
 ghost use Rattle.mq_store.specs.Opening.{fault_of, fault_of_code, fault_in, fault_where, fault_by_rule};
 ghost use Rattle.mq_store.specs.Opening.{fault_by_any_rule, fault_by_floors, known_version, same_rule, create_fault};
-ghost use Rattle.mq_store.specs.Opening.{ledger_fault, open_fault};
+ghost use Rattle.mq_store.specs.Opening.{open_fault, within};
 
 use mq_frame::{Escaped, Login};
 use mq_ledger::{LedgerFault, Zone};
@@ -15,6 +16,20 @@ use mq_tables::setting::Setting;
 use sqlite::{Alter, Connection, Error, ErrorCode, Row};
 use std::alloc::{AllocError, AllocFailed};
 use thiserror::Error as Described;
+
+/// Why a store failed.
+#[derive(Clone, Copy, Debug, PartialEq, Eq, Described)]
+pub enum StoreCause {
+    /// The store's library refused a statement. The text is its own, as `database or disk is full`.
+    #[error("{0}")]
+    Refused(Error),
+    /// What was read is no row that a ledger writes.
+    #[error("a row is none of a ledger's")]
+    Content,
+    /// A number is new, and 4,611,686,018,427,387,904 answers are stored.
+    #[error("ledger is full")]
+    Full,
+}
 
 /// Why a store isn't opened, or isn't made a ledger's. Of the first four, which speak of what it holds,
 /// the first that applies is told.
@@ -39,9 +54,9 @@ pub enum OpenFault {
     /// A growth was refused. What the store holds isn't known.
     #[error("out of memory")]
     Memory,
-    /// The store failed. What it holds isn't known.
+    /// The store failed, for this cause. What it holds isn't known.
     #[error("store failed")]
-    Store,
+    Store(StoreCause),
 }
 
 /// A refusal, with the connection as it was lent.
@@ -60,7 +75,7 @@ fn fault_of_code(code: ErrorCode) -> OpenFault
         | ErrorCode::DatabaseCorrupt
         | ErrorCode::DiskFull
         | ErrorCode::Closed
-        | ErrorCode::TooBig => OpenFault::Store,
+        | ErrorCode::TooBig => OpenFault::Store(StoreCause::Refused(Error::SqliteFailure(code))),
         _ => OpenFault::NotOurs,
     }
 }
@@ -187,13 +202,22 @@ pub(crate) fn fault_by_floors(floors: &Result<Vec<Row>, Error>) -> Option<OpenFa
     }
 }
 
+/// Why a request isn't taken, or something of a ledger isn't read.
+#[derive(Drop)]
+pub(crate) enum Refused {
+    /// A growth was refused.
+    Memory,
+    /// The store failed, for this cause.
+    Store(StoreCause),
+}
+
 /// Why a ledger isn't opened where its audit is stopped so.
-pub(crate) fn open_fault(fault: LedgerFault) -> OpenFault
-    ensures { result ≡ open_fault fault }
+pub(crate) fn open_fault(refused: Refused) -> OpenFault
+    ensures { result ≡ open_fault refused }
 {
-    match fault {
-        LedgerFault::Memory => OpenFault::Memory,
-        LedgerFault::Store => OpenFault::Store,
+    match refused {
+        Refused::Memory => OpenFault::Memory,
+        Refused::Store(cause) => OpenFault::Store(cause),
     }
 }
 
@@ -203,74 +227,77 @@ pub(crate) fn create_fault(error: &Error) -> OpenFault
 {
     match error {
         Error::SqliteFailure(ErrorCode::OutOfMemory) => OpenFault::Memory,
-        _ => OpenFault::Store,
+        _ => OpenFault::Store(StoreCause::Refused(*error)),
     }
 }
 
-/// Why a request isn't taken.
-#[derive(Drop)]
-pub(crate) struct Refused {
-    pub fault: LedgerFault,
+/// That the connection is within a transaction, in which the store's library begins no other.
+pub(crate) fn within() -> OpenFault
+    ensures { result ≡ within }
+{
+    OpenFault::Store(StoreCause::Refused(Error::SqliteFailure(ErrorCode::TransactionState)))
 }
 
-/// What a ledger answers where the store answers so.
-fn ledger_fault(error: &Error) -> LedgerFault
-    ensures { result ≡ ledger_fault error.now }
+/// What a ledger answers. Its cause is noted where the store failed, and that there is none where memory ran out.
+pub(crate) fn noted(cause: &mut Option<StoreCause>, refused: Refused) -> LedgerFault
+    ensures answer { result ≡ answer_to refused }
+    ensures noted { cause.new ≡ cause_in refused }
 {
-    match error {
-        Error::SqliteFailure(ErrorCode::OutOfMemory) => LedgerFault::Memory,
-        _ => LedgerFault::Store,
+    match refused {
+        Refused::Memory => {
+            *cause = None;
+            LedgerFault::Memory
+        }
+        Refused::Store(found) => {
+            *cause = Some(found);
+            LedgerFault::Store
+        }
     }
 }
 
 impl From<Error> for Refused {
-    ghost use Rattle.mq_store.specs.Opening.{ledger_fault};
+    ghost use Rattle.mq_store.specs.Causes.{refused_by};
 
-    ghost from_gives = { λ error refused. refused.fault ≡ ledger_fault error };
+    ghost from_gives = { λ error refused. refused ≡ refused_by error };
 
     fn from(error: Error) -> Refused {
-        Refused {
-            fault: ledger_fault(&error),
+        match error {
+            Error::SqliteFailure(ErrorCode::OutOfMemory) => Refused::Memory,
+            _ => Refused::Store(StoreCause::Refused(error)),
         }
     }
 }
 
+/// Rows that decide nothing are no ledger's.
 impl From<LedgerFault> for Refused {
-    ghost from_gives = { λ fault refused. refused.fault ≡ fault };
+    ghost use Rattle.mq_store.specs.Causes.{refused_at};
+
+    ghost from_gives = { λ fault refused. refused ≡ refused_at fault };
 
     fn from(fault: LedgerFault) -> Refused {
-        Refused { fault }
+        match fault {
+            LedgerFault::Memory => Refused::Memory,
+            LedgerFault::Store => Refused::Store(StoreCause::Content),
+        }
     }
 }
 
 impl From<AllocError> for Refused {
-    ghost use Rattle.mq_ledger.specs.declared.ledger.LedgerFault.TheVariants.{Memory};
+    ghost use Rattle.mq_store.specs.declared.fault.Refused.TheVariants.{Memory};
 
-    ghost from_gives = { λ _ refused. refused.fault ≡ Memory };
+    ghost from_gives = { λ _ refused. refused ≡ Memory };
 
     fn from(_error: AllocError) -> Refused {
-        Refused {
-            fault: LedgerFault::Memory,
-        }
+        Refused::Memory
     }
 }
 
 impl<T: Drop> From<AllocFailed<T>> for Refused {
-    ghost use Rattle.mq_ledger.specs.declared.ledger.LedgerFault.TheVariants.{Memory};
+    ghost use Rattle.mq_store.specs.declared.fault.Refused.TheVariants.{Memory};
 
-    ghost from_gives = { λ _ refused. refused.fault ≡ Memory };
+    ghost from_gives = { λ _ refused. refused ≡ Memory };
 
     fn from(_error: AllocFailed<T>) -> Refused {
-        Refused {
-            fault: LedgerFault::Memory,
-        }
-    }
-}
-
-impl From<Refused> for LedgerFault {
-    ghost from_gives = { λ refused fault. fault ≡ refused.fault };
-
-    fn from(refused: Refused) -> LedgerFault {
-        refused.fault
+        Refused::Memory
     }
 }

@@ -1,16 +1,18 @@
 //! A new ledger that has what an old one remembers.
 
-ghost use Rattle.std.specs.Prelude.{◌≡◌, ◌⊎◌, false, IsTrue, IfOk, IfErr};
+ghost use Rattle.std.specs.Prelude.{◌≡◌, ◌⊎◌, false, None, IsTrue, IfOk, IfErr};
 ghost use Rattle.sqlite.specs.Held.{state};
 ghost use Rattle.sqlite.specs.State.{HasCleanDisk};
 ghost use Rattle.sqlite.specs.Tree.{Trees};
 ghost use Rattle.mq_tables.specs.Making.{has_ledger_table};
 ghost use Rattle.mq_store.specs.Forgetting.{IsFree, AreFilled, IsRemembered, FindsFilled, FindsFilledOr};
+ghost use Rattle.mq_store.specs.Opening.{within, IsStop};
 ghost use Rattle.mq_store.specs.Soundness.{HasKept, IsSound};
-ghost use Rattle.mq_store.specs.declared.fault.OpenFault.TheVariants.{NotOurs, Memory, Store};
+ghost use Rattle.mq_store.specs.declared.fault.OpenFault.TheVariants.{NotOurs};
 
+use crate::auditing::RowCounts;
 use crate::carry::Terms;
-use crate::fault::{OpenFault, OpenRefused, open_fault};
+use crate::fault::{OpenFault, OpenRefused, open_fault, within};
 use crate::fill::fill_store;
 use crate::laws::tables_mean_their_book;
 use crate::ledger::SqlLedger;
@@ -39,6 +41,8 @@ impl<S: Alter> SqlLedger<S> {
         day: u32,
     ) -> Result<SqlLedger<S>, OpenRefused<S>>
         ensures lent { IfOk result (λ l. (l.zone ≡ old.old.zone) × (l.default ≡ old.old.default)) }
+        ensures counts { IfOk result (λ l. (l.found.days ≡ 0) × (l.found.transactions ≡ 0)) }
+        ensures uncaused { IfOk result (λ l. l.cause ≡ None) }
         ensures open { IfOk result (λ l. HasCleanDisk (state S.Store l.connection)
             → IsTrue (state S.Store l.connection).is_open) }
 
@@ -61,7 +65,7 @@ impl<S: Alter> SqlLedger<S> {
         ensures err { IfErr result (λ e. HasCleanDisk (state S.Store e.connection)
             → IsTrue (state S.Store e.connection).is_open
             → (state S.Store e.connection).now ≡ (state S.Store connection).now) }
-        ensures fault { IfErr result (λ e. (e.fault ≡ NotOurs) ⊎ ((e.fault ≡ Memory) ⊎ (e.fault ≡ Store))) }
+        ensures fault { IfErr result (λ e. (e.fault ≡ NotOurs) ⊎ IsStop e.fault) }
 
         // Kept at the end, it was kept at the entry.
         ensures kept_ok { IfOk result (λ l. HasKept (state S.Store l.connection)
@@ -74,10 +78,11 @@ impl<S: Alter> SqlLedger<S> {
             × (l.connection.in_transaction ≡ false)) }
         ensures autocommit_err { IfErr result (λ e. e.connection.in_transaction ≡ connection.in_transaction) }
         ensures within { IfErr result (λ e. IsTrue connection.in_transaction
-            → (e.fault ≡ Store) × (e.connection ≡ connection)) }
+            → (e.fault ≡ within) × (e.connection ≡ connection)) }
 
         // The old one is as it was, and a crash leaves of it what a crash before could leave.
-        ensures old_lent { (old.new.zone ≡ old.old.zone) × (old.new.default ≡ old.old.default) }
+        ensures old_lent { (old.new.zone ≡ old.old.zone) × (old.new.default ≡ old.old.default)
+            × (old.new.found ≡ old.old.found) × (old.new.cause ≡ old.old.cause) }
         ensures old_kept { HasKept (state T.Store old.new.connection) → HasKept (state T.Store old.old.connection) }
         ensures old_same { HasKept (state T.Store old.new.connection)
             → (state T.Store old.new.connection).now ≡ (state T.Store old.old.connection).now }
@@ -107,7 +112,7 @@ impl<S: Alter> SqlLedger<S> {
         tables_mean_their_book();
         let mut connection = connection;
         if !connection.is_autocommit() {
-            let fault = OpenFault::Store;
+            let fault = within();
             return Err(OpenRefused { fault, connection });
         }
         if has_ledger_table(connection.schema()) {
@@ -123,7 +128,7 @@ impl<S: Alter> SqlLedger<S> {
         match fill_store(alloc, &mut old.connection, &mut connection, &terms) {
             Ok(()) => {}
             Err(refused) => {
-                let fault = open_fault(refused.fault);
+                let fault = open_fault(refused);
                 return Err(OpenRefused { fault, connection });
             }
         }
@@ -132,6 +137,11 @@ impl<S: Alter> SqlLedger<S> {
             connection,
             zone: terms.zone,
             default: terms.default,
+            found: RowCounts {
+                days: 0,
+                transactions: 0,
+            },
+            cause: None,
         })
     }
 }

@@ -9,9 +9,9 @@ ghost use Rattle.mq_frame.specs.declared.message.Reply.TheVariants.{Old};
 ghost use Rattle.mq_frame.specs.declared.usage.UsageRow.{UsageRow as AnyUsageRow};
 ghost use Rattle.mq_forget.specs.Carried.{IsAt};
 ghost use Rattle.mq_forget.specs.Remembered.{day_named, stays, remembered};
-ghost use Rattle.mq_frame.specs.Range.{IsRequest};
+ghost use Rattle.mq_frame.specs.Range.{IsLogin, IsRequest};
 ghost use Rattle.mq_frame.specs.Same.{same_id};
-ghost use Rattle.mq_frame.specs.Spelling.{SpellsRequest};
+ghost use Rattle.mq_frame.specs.Spelling.{SpellsRequest, SpellsReply};
 ghost use Rattle.mq_ledger.specs.declared.entry.Entry.{Entry as AnyEntry};
 ghost use Rattle.mq_ledger.specs.declared.zone.Zone.{Zone as AnyZone};
 ghost use Rattle.mq_ledger.specs.Answer.{appended, known_by, reply};
@@ -28,8 +28,8 @@ ghost use Rattle.mq_rows.specs.declared.record.RetiredRecord.{RetiredRecord};
 ghost use Rattle.mq_rows.specs.declared.record.TransactionRecord.{TransactionRecord};
 ghost use Rattle.mq_rows.specs.declared.plan.Found.{Found};
 ghost use Rattle.mq_rows.specs.Found.{IsFound, IsGoverning};
-ghost use Rattle.mq_rows.specs.Plan.{floor_by, planned};
-ghost use Rattle.mq_rows.specs.Listing.{IsNext, page_row_by, usage_reply_by};
+ghost use Rattle.mq_rows.specs.Plan.{cap_by, floor_by, may_be_found, planned, reserved_by};
+ghost use Rattle.mq_rows.specs.Listing.{IsNext, are_amounts, page_row_by, settled_by, usage_reply_by};
 ghost use Rattle.mq_rows.specs.Rows.{is_usage, is_host, is_transaction};
 ghost use Rattle.mq_rows.specs.Repeat.{IsRepeatOf};
 ghost use Rattle.mq_rows.specs.Tables.{Tables, AreRows, AreTransactions};
@@ -46,7 +46,7 @@ ghost use Rattle.mq_store.specs.Taking.{HasRows, HasBook, book_of, book_after, I
 
 use mq_forget::laws::{fronts_are_legal, next_place_is_carried_over};
 use mq_frame::laws::one_spelling;
-use mq_ledger::laws::{one_more_arrival, replies_in_range};
+use mq_ledger::laws::{amounts_in_range, one_more_arrival, replies_in_range};
 use mq_rows::laws::{
     floors_are_found, histories_are_right, nothing_is_added, one_more_answer, pages_go_by_login,
     repeats_are_answered, rows_by_key, rows_mean_their_history, usage_is_answered,
@@ -78,6 +78,11 @@ pub(crate) fn numbers_are_known()
         IsRequest r → id_of r ≡ Some id → is_below (requests H) id ≡ false →
         IsOneOf (λ a. same_id id a.id) b.has.tables.answers (Some row) →
         IsRepeatOf row id r a → IsKnown zone default H r id (Some a) }
+    ensures spelled { (zone : AnyZone) (default : ℕ) (H : List AnyEntry) (r : AnyRequest) (id : Id)
+        (db : Database) (b : HasBook (book_of zone default H) db) (row : AnswerRecord) →
+        IsRequest r → id_of r ≡ Some id → is_below (requests H) id ≡ false →
+        IsOneOf (λ a. same_id id a.id) b.has.tables.answers (Some row) →
+        (q : AnyRequest) × (a : AnyReply) × SpellsRequest row.request q × SpellsReply row.reply a }
 {
     floors_are_found();
     repeats_are_answered();
@@ -86,11 +91,16 @@ pub(crate) fn numbers_are_known()
 
 /// What is decided of a new number is the ledger's reply, and leads to the history with it.
 pub(crate) fn new_numbers_are_planned()
-    ensures { (zone : AnyZone) (default : ℕ) (H : List AnyEntry) (r : AnyRequest) (id : Id)
+    ensures planned { (zone : AnyZone) (default : ℕ) (H : List AnyEntry) (r : AnyRequest) (id : Id)
         (t : Tables) (f : Found) → IsLegalBook (book_of zone default H) →
         AreRows (book_of zone default H) t → IsRequest r → id_of r ≡ Some id →
         known_by H (Some id) ≡ false → (AreKeyed t → IsFound (day_of zone) t r f) →
         IsPlannedOver zone default H r t (planned (day_of zone) default t.setting.arrivals r f) }
+    ensures found { (zone : AnyZone) (default : ℕ) (H : List AnyEntry) (r : AnyRequest) (id : Id)
+        (t : Tables) (f : Found) → IsLegalBook (book_of zone default H) →
+        AreRows (book_of zone default H) t → IsRequest r → id_of r ≡ Some id →
+        known_by H (Some id) ≡ false → (AreKeyed t → IsFound (day_of zone) t r f) →
+        may_be_found default r f ≡ true }
 {
     one_more_answer();
 }
@@ -150,6 +160,28 @@ pub(crate) fn reads_are_answered()
     usage_is_answered();
     rows_by_key();
     pages_go_by_login();
+}
+
+/// What is read of a login's rows is in range.
+pub(crate) fn reads_are_in_range()
+    ensures usage { (zone : AnyZone) (default : ℕ) (H : List AnyEntry) (db : Database)
+        (b : HasBook (book_of zone default H) db) (l : List ℕ) (d : ℕ) (u : Option UsageRecord)
+        (g : Option CeilingRecord) → IsOneOf (is_usage l d) b.has.tables.usage u →
+        IsGoverning l d b.has.tables.ceilings g →
+        are_amounts (settled_by u) (reserved_by u) (cap_by default g) ≡ true }
+    ensures row { (zone : AnyZone) (default : ℕ) (H : List AnyEntry) (db : Database)
+        (b : HasBook (book_of zone default H) db) (d : ℕ) (after : List ℕ) (u : UsageRecord)
+        (g : Option CeilingRecord) → IsNext d after b.has.tables.usage (Some u) →
+        IsGoverning u.login d b.has.tables.ceilings g →
+        are_amounts u.settled u.reserved (cap_by default g) ≡ true }
+    ensures login { (zone : AnyZone) (default : ℕ) (H : List AnyEntry) (db : Database)
+        (b : HasBook (book_of zone default H) db) (d : ℕ) (after : List ℕ) (u : UsageRecord) →
+        IsNext d after b.has.tables.usage (Some u) → IsLogin u.login }
+{
+    reads_are_answered();
+    rows_by_key();
+    replies_in_range();
+    amounts_in_range();
 }
 
 /// A book whose rows the tables are, in whatever version, is what they mean.

@@ -1,6 +1,6 @@
 //! The ledger in tables of a store: how it is made and opened, and what it answers.
 
-ghost use Rattle.std.specs.Prelude.{◌≡◌, ◌⊎◌, ℕ, Option, true, Bool, List, [], ◌∷◌, ◌++◌, length, false, IsTrue, IfOk, IfErr, OnOk, OnErr};
+ghost use Rattle.std.specs.Prelude.{◌≡◌, ◌⊎◌, ◌↔◌, ℕ, Option, None, Err, is_some, true, List, [], ◌∷◌, ◌++◌, length, false, IsTrue, IfOk, IfErr, OnOk, OnErr};
 ghost use Rattle.sqlite.specs.Held.{state};
 ghost use Rattle.sqlite.specs.State.{HasCleanDisk};
 ghost use Rattle.sqlite.specs.Tree.{Trees};
@@ -14,17 +14,18 @@ ghost use Rattle.mq_ledger.specs.declared.entry.Entry.{Entry as AnyEntry};
 ghost use Rattle.mq_tables.specs.Making.{has_ledger_table, AreUnnamed, HasCounters, IsMadeOver, AreMadeOver};
 ghost use Rattle.mq_tables.specs.Reading.{Spares};
 ghost use Rattle.mq_tables.specs.Settings.{SettingRow};
-ghost use Rattle.mq_store.specs.Auditing.{IsAuditIn, IsRightAnswer};
+ghost use Rattle.mq_store.specs.Auditing.{AreCounted, IsAuditIn, IsRightAnswer};
+ghost use Rattle.mq_store.specs.Causes.{IsCauseOver};
 ghost use Rattle.mq_store.specs.Crash.{LeavesNew, LeavesOld, LeavesBy, AreApplied, FindsOnly, FindsNew, FindsEither, FindsOpened};
-ghost use Rattle.mq_store.specs.Opening.{made_with, known_version, HasSettings, IsFound, IsFoundOf, Opens, Refuses};
+ghost use Rattle.mq_store.specs.Opening.{made_with, known_version, within, HasSettings, IsFound, IsFoundOf, IsStop, Opens, Refuses};
 ghost use Rattle.mq_store.specs.Soundness.{book_in, HasKept, HasStored, IsSound, IsNew, MeansBook, IsOpened};
 ghost use Rattle.mq_store.specs.Taking.{HasBook, book_of};
-ghost use Rattle.mq_store.specs.declared.fault.OpenFault.TheVariants.{NotOurs, Memory, Store};
+ghost use Rattle.mq_store.specs.declared.fault.OpenFault.TheVariants.{NotOurs};
 
 use crate::apply::apply;
-use crate::auditing::audit_store;
+use crate::auditing::{RowCounts, audit_store};
 use crate::counting::count_store;
-use crate::fault::{OpenFault, OpenRefused, create_fault};
+use crate::fault::{OpenFault, OpenRefused, StoreCause, create_fault, noted, within};
 use crate::laws::{books_are_right, later_arrivals_add_nothing, tables_mean_their_book};
 use crate::opening::open_store;
 use mq_frame::{Reply, Request};
@@ -45,6 +46,10 @@ pub struct SqlLedger<S: Alter> {
     pub(crate) connection: Connection<S>,
     pub(crate) zone: Zone,
     pub(crate) default: u32,
+    /// The rows that were counted as it was opened.
+    pub(crate) found: RowCounts,
+    /// Why the last call answered that the store failed, if it did.
+    pub(crate) cause: Option<StoreCause>,
 }
 
 impl<S: Alter> Model for SqlLedger<S> {
@@ -54,9 +59,9 @@ impl<S: Alter> Model for SqlLedger<S> {
 
     ghost coded = { view_code S.code };
 
-    ghost view = { λ l. record { connection = l.connection; zone = l.zone; default = l.default } };
+    ghost view = { λ l. record { connection = l.connection; zone = l.zone; default = l.default; found = l.found; cause = l.cause } };
 
-    ghost invariant = { λ l. IsReady (record { connection = l.connection; zone = l.zone; default = l.default }) };
+    ghost invariant = { λ l. IsReady (record { connection = l.connection; zone = l.zone; default = l.default; found = l.found; cause = l.cause }) };
 }
 
 /// What the tables are made with.
@@ -84,6 +89,8 @@ impl<S: Alter> SqlLedger<S> {
     ) -> Result<SqlLedger<S>, OpenRefused<S>>
         requires in_range { IsAmount default }
         ensures lent { IfOk result (λ l. (l.zone ≡ zone) × (l.default ≡ default)) }
+        ensures counts { IfOk result (λ l. (l.found.days ≡ 0) × (l.found.transactions ≡ 0)) }
+        ensures uncaused { IfOk result (λ l. l.cause ≡ None) }
         ensures made { IfOk result (λ l. HasCleanDisk (state S.Store l.connection)
             → IsMadeOver (made_with zone default) (state S.Store connection).now (state S.Store l.connection).now) }
         ensures open { IfOk result (λ l. HasCleanDisk (state S.Store l.connection)
@@ -104,7 +111,7 @@ impl<S: Alter> SqlLedger<S> {
             → IsTrue (state S.Store e.connection).is_open
             → (state S.Store e.connection).now ≡ (state S.Store connection).now) }
 
-        ensures fault { IfErr result (λ e. (e.fault ≡ NotOurs) ⊎ ((e.fault ≡ Memory) ⊎ (e.fault ≡ Store))) }
+        ensures fault { IfErr result (λ e. (e.fault ≡ NotOurs) ⊎ IsStop e.fault) }
 
         // Kept at the end, it was kept at the entry.
         ensures kept_ok { IfOk result (λ l. HasKept (state S.Store l.connection)
@@ -117,7 +124,7 @@ impl<S: Alter> SqlLedger<S> {
             × (l.connection.in_transaction ≡ false)) }
         ensures autocommit_err { IfErr result (λ e. e.connection.in_transaction ≡ connection.in_transaction) }
         ensures within { IfErr result (λ e. IsTrue connection.in_transaction
-            → (e.fault ≡ Store) × (e.connection ≡ connection)) }
+            → (e.fault ≡ within) × (e.connection ≡ connection)) }
 
         // What an open after a crash may find: all tables of the ledger, or none of them.
         ensures crash_ok { IfOk result (λ l. HasCleanDisk (state S.Store l.connection) → (db : Trees)
@@ -138,7 +145,7 @@ impl<S: Alter> SqlLedger<S> {
         trees_have_one_schema();
         let mut connection = connection;
         if !connection.is_autocommit() {
-            let fault = OpenFault::Store;
+            let fault = within();
             return Err(OpenRefused { fault, connection });
         }
         if has_ledger_table(connection.schema()) {
@@ -153,6 +160,11 @@ impl<S: Alter> SqlLedger<S> {
                 connection,
                 zone,
                 default,
+                found: RowCounts {
+                    days: 0,
+                    transactions: 0,
+                },
+                cause: None,
             }),
             Err(error) => Err(OpenRefused {
                 fault: create_fault(&error),
@@ -180,6 +192,11 @@ impl<S: Alter> SqlLedger<S> {
     ) -> Result<SqlLedger<S>, OpenRefused<S>>
         requires in_range { IsAmount default }
         ensures lent { IfOk result (λ l. (l.zone ≡ zone) × (l.default ≡ default)) }
+        ensures uncaused { IfOk result (λ l. l.cause ≡ None) }
+
+        // What the audit of the store's rows counted, as the ledger was opened.
+        ensures counts { IfOk result (λ l. HasCleanDisk (state S.Store l.connection)
+            → AreCounted zone default (state S.Store connection).now l.found) }
 
         // Over any store: what the store answers to the queries for settings, floors and rule decides, and
         // after them the audit. Then a ledger of an older version is given the current one.
@@ -209,8 +226,7 @@ impl<S: Alter> SqlLedger<S> {
         ensures rows { IfOk result (λ l. HasKept (state S.Store l.connection)
             → MeansBook zone default (state S.Store connection).now (state S.Store l.connection)) }
         ensures rows_err { IfErr result (λ e. HasCleanDisk (state S.Store e.connection) → (H : List AnyEntry)
-            → HasStored (book_of zone default H) (state S.Store connection).now
-            → (e.fault ≡ Memory) ⊎ (e.fault ≡ Store)) }
+            → HasStored (book_of zone default H) (state S.Store connection).now → IsStop e.fault) }
         ensures sound { IfOk result (λ l. HasKept (state S.Store l.connection)
             → IsOpened zone default (state S.Store connection) (state S.Store l.connection)) }
 
@@ -225,15 +241,14 @@ impl<S: Alter> SqlLedger<S> {
             × (l.connection.in_transaction ≡ false)) }
         ensures autocommit_err { IfErr result (λ e. e.connection.in_transaction ≡ connection.in_transaction) }
         ensures within { IfErr result (λ e. IsTrue connection.in_transaction
-            → (e.fault ≡ Store) × (e.connection ≡ connection)) }
+            → (e.fault ≡ within) × (e.connection ≡ connection)) }
 
         // Refused, it leaves the rows as they are; where the fault is of content, it has written nothing.
         ensures same_err { IfErr result (λ e. HasCleanDisk (state S.Store e.connection)
             → IsTrue (state S.Store e.connection).is_open
             → (state S.Store e.connection).now ≡ (state S.Store connection).now) }
         ensures spares_err { IfErr result (λ e. HasCleanDisk (state S.Store e.connection)
-            → Spares (state S.Store connection) (state S.Store e.connection)
-            ⊎ ((e.fault ≡ Memory) ⊎ (e.fault ≡ Store))) }
+            → Spares (state S.Store connection) (state S.Store e.connection) ⊎ IsStop e.fault) }
 
         // What an open after a crash may find: after a refusal what could be found before, or of an older ledger
         // that one in the current version; of an older ledger that is opened, that one alone.
@@ -249,18 +264,20 @@ impl<S: Alter> SqlLedger<S> {
     {
         let mut connection = connection;
         if !connection.is_autocommit() {
-            let fault = OpenFault::Store;
+            let fault = within();
             return Err(OpenRefused { fault, connection });
         }
         books_are_right();
         tables_mean_their_book();
         trees_have_one_schema();
         match open_store(alloc, &mut connection, zone, default) {
-            Ok(()) => Ok(SqlLedger {
+            Ok(found) => Ok(SqlLedger {
                 alloc,
                 connection,
                 zone,
                 default,
+                found,
+                cause: None,
             }),
             Err(fault) => Err(OpenRefused { fault, connection }),
         }
@@ -278,6 +295,8 @@ impl<S: Alter> SqlLedger<S> {
     /// A crash after it, whatever it answered, leaves what a crash before it could leave.
     pub fn audit(&mut self) -> Result<Audit, LedgerFault>
         ensures lent { (self.new.zone ≡ self.old.zone) × (self.new.default ≡ self.old.default) }
+        ensures counts { self.new.found ≡ self.old.found }
+        ensures noted { (result ≡ Err LedgerFault.Store) ↔ IsTrue (is_some self.new.cause) }
 
         // It is that of all rows of the three tables, which have figures wherever the store has these tables.
         ensures audited { HasCleanDisk (state S.Store self.new.connection)
@@ -298,8 +317,11 @@ impl<S: Alter> SqlLedger<S> {
             → (state S.Store self.new.connection).may_leave db → (state S.Store self.old.connection).may_leave db }
     {
         books_are_right();
-        let found = audit_store(self.alloc, &mut self.connection, self.zone, self.default)?;
-        Ok(found)
+        self.cause = None;
+        match audit_store(self.alloc, &mut self.connection, self.zone, self.default) {
+            Ok(audit) => Ok(audit),
+            Err(refused) => Err(noted(&mut self.cause, refused)),
+        }
     }
 
     /// How many answers the ledger has: one for each number under which it took a request. Nothing is written.
@@ -308,6 +330,8 @@ impl<S: Alter> SqlLedger<S> {
     /// whatever it answered, leaves what a crash before it could leave.
     pub fn count_answers(&mut self) -> Result<u64, LedgerFault>
         ensures lent { (self.new.zone ≡ self.old.zone) × (self.new.default ≡ self.old.default) }
+        ensures counts { self.new.found ≡ self.old.found }
+        ensures noted { (result ≡ Err LedgerFault.Store) ↔ IsTrue (is_some self.new.cause) }
         ensures counted { HasKept (state S.Store self.new.connection)
             → IsSound self.old.zone self.old.default (state S.Store self.old.connection)
             → IfOk result (λ n. n ≡ length (book_in self.old.zone self.old.default
@@ -325,8 +349,11 @@ impl<S: Alter> SqlLedger<S> {
         ensures crash { HasCleanDisk (state S.Store self.new.connection) → (db : Trees)
             → (state S.Store self.new.connection).may_leave db → (state S.Store self.old.connection).may_leave db }
     {
-        let count = count_store(&mut self.connection)?;
-        Ok(count)
+        self.cause = None;
+        match count_store(&mut self.connection) {
+            Ok(count) => Ok(count),
+            Err(refused) => Err(noted(&mut self.cause, refused)),
+        }
     }
 
     /// The connection, with the tables as they are. It is outside a transaction.
@@ -339,8 +366,26 @@ impl<S: Alter> SqlLedger<S> {
             connection,
             zone: _,
             default: _,
+            found: _,
+            cause: _,
         } = self;
         connection
+    }
+
+    /// How many rows the audit read by which the ledger was opened; zeros of one that was made. What is applied
+    /// afterwards isn't counted.
+    pub fn found(&self) -> RowCounts
+        ensures { result ≡ self.now.found }
+    {
+        self.found
+    }
+
+    /// Why the store failed, where the last call of `apply`, `audit`, `count_answers` or `limits` answered
+    /// `LedgerFault::Store`; `None` where it answered otherwise, or none was made.
+    pub fn cause(&self) -> Option<StoreCause>
+        ensures { result ≡ self.now.cause }
+    {
+        self.cause
     }
 }
 
@@ -387,6 +432,7 @@ impl<S: Alter> Ledger for SqlLedger<S> {
         ensures in_range { IfOk result IsReply }
         ensures same_zone { self.new.zone ≡ self.old.zone }
         ensures same_default { self.new.default ≡ self.old.default }
+        ensures counts { self.new.found ≡ self.old.found }
         ensures kept { HasKept (state S.Store self.new.connection) → HasKept (state S.Store self.old.connection) }
         ensures reply { HasKept (state S.Store self.new.connection)
             → IsSound self.old.zone self.old.default (state S.Store self.old.connection)
@@ -402,6 +448,14 @@ impl<S: Alter> Ledger for SqlLedger<S> {
         ensures sound { HasKept (state S.Store self.new.connection)
             → IsSound self.old.zone self.old.default (state S.Store self.old.connection)
             → IsSound self.new.zone self.new.default (state S.Store self.new.connection) }
+
+        // Why the store failed is noted exactly where it did. Over a sound ledger it is what the store's library refused, or
+        // as many answers as there may be: the rows that a ledger writes decide each request.
+        ensures noted { (result ≡ Err LedgerFault.Store) ↔ IsTrue (is_some self.new.cause) }
+        ensures cause { HasCleanDisk (state S.Store self.new.connection)
+            → IsSound self.old.zone self.old.default (state S.Store self.old.connection)
+            → IsCauseOver (book_in self.old.zone self.old.default (state S.Store self.old.connection).now).history
+            self.new.cause }
 
         // What an open after a crash may find.
         ensures crash_new { HasCleanDisk (state S.Store self.new.connection) → IfOk result
@@ -424,13 +478,16 @@ impl<S: Alter> Ledger for SqlLedger<S> {
     {
         tables_mean_their_book();
         later_arrivals_add_nothing();
-        let reply = apply(
+        self.cause = None;
+        match apply(
             self.alloc,
             &mut self.connection,
             self.zone,
             self.default,
             request,
-        )?;
-        Ok(reply)
+        ) {
+            Ok(reply) => Ok(reply),
+            Err(refused) => Err(noted(&mut self.cause, refused)),
+        }
     }
 }

@@ -33,6 +33,7 @@ mod recall;
 mod take;
 mod write;
 
-pub use fault::{OpenFault, OpenRefused};
+pub use auditing::RowCounts;
+pub use fault::{OpenFault, OpenRefused, StoreCause};
 pub use ledger::SqlLedger;
 pub use mq_rows::Audit;

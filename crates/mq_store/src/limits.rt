@@ -1,6 +1,6 @@
 //! The limits that a ledger has.
 
-ghost use Rattle.std.specs.Prelude.{◌≡◌, false, IfOk};
+ghost use Rattle.std.specs.Prelude.{◌≡◌, ◌↔◌, false, Err, is_some, IsTrue, IfOk};
 ghost use Rattle.sqlite.specs.Held.{state};
 ghost use Rattle.sqlite.specs.State.{HasCleanDisk};
 ghost use Rattle.sqlite.specs.Tree.{Trees};
@@ -8,7 +8,7 @@ ghost use Rattle.mq_tables.specs.Reading.{Spares};
 ghost use Rattle.mq_store.specs.Limits.{AreLimitsIn, AreSet};
 ghost use Rattle.mq_store.specs.Soundness.{book_in, HasKept, IsSound};
 
-use crate::fault::Refused;
+use crate::fault::{Refused, noted};
 use crate::ledger::SqlLedger;
 use mq_ledger::LedgerFault;
 use mq_rows::LimitFigures;
@@ -43,6 +43,8 @@ impl<S: Alter> SqlLedger<S> {
     /// whatever it answered, leaves what a crash before it could leave.
     pub fn limits(&mut self) -> Result<Vec<LimitFigures>, LedgerFault>
         ensures lent { (self.new.zone ≡ self.old.zone) × (self.new.default ≡ self.old.default) }
+        ensures counts { self.new.found ≡ self.old.found }
+        ensures noted { (result ≡ Err LedgerFault.Store) ↔ IsTrue (is_some self.new.cause) }
 
         // They are all rows of the table, whatever these hold; over a sound store those of its history.
         ensures found { HasKept (state S.Store self.new.connection)
@@ -64,7 +66,10 @@ impl<S: Alter> SqlLedger<S> {
         ensures crash { HasCleanDisk (state S.Store self.new.connection) → (db : Trees)
             → (state S.Store self.new.connection).may_leave db → (state S.Store self.old.connection).may_leave db }
     {
-        let limits = limits_in_store(self.alloc, &mut self.connection)?;
-        Ok(limits)
+        self.cause = None;
+        match limits_in_store(self.alloc, &mut self.connection) {
+            Ok(limits) => Ok(limits),
+            Err(refused) => Err(noted(&mut self.cause, refused)),
+        }
     }
 }

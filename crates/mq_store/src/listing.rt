@@ -1,15 +1,16 @@
 //! What is replied to a usage and to a list.
 
-ghost use Rattle.std.specs.Prelude.{◌≡◌, IfOk, IfSome, OnOk};
+ghost use Rattle.std.specs.Prelude.{◌≡◌, IfOk, IfErr, IfSome, OnOk};
 ghost use Rattle.sqlite.specs.Held.{state};
 ghost use Rattle.sqlite.specs.State.{HasCleanDisk, KeepsCommit, Survives};
 ghost use Rattle.mq_frame.specs.declared.message.Request.{Request as AnyRequest};
 ghost use Rattle.mq_frame.specs.Range.{IsLogin, IsDay, IsReply, IsRow, IsPage};
+ghost use Rattle.mq_store.specs.Causes.{StopsReading};
 ghost use Rattle.mq_store.specs.Taking.{Stays, IsReplied};
 ghost use Rattle.mq_store.specs.Paging.{IsNextRow, IsPageOf};
 
 use crate::fault::Refused;
-use crate::laws::reads_are_answered;
+use crate::laws::{reads_are_answered, reads_are_in_range};
 use mq_frame::format::ROW_LIMIT;
 use mq_frame::{Login, Reply, UsageRow, UsageRows};
 use mq_rows::{page_row, usage_reply};
@@ -38,8 +39,11 @@ pub(crate) fn reply_to_usage<S: Alter>(
     ensures kept { HasCleanDisk (state S.Store tx.new.conn.now)
         → KeepsCommit (state S.Store tx.old.conn.now) (state S.Store tx.new.conn.now) }
     ensures survives { Survives (state S.Store tx.old.conn.now) (state S.Store tx.new.conn.now) (λ _. ⊥) }
+    ensures cause { HasCleanDisk (state S.Store tx.new.conn.now)
+        → IfErr result (StopsReading default (state S.Store tx.old.conn.now).now) }
 {
     reads_are_answered();
+    reads_are_in_range();
     let usage = find_usage(tx, login, day)?;
     let governing = find_governing(tx, login, day)?;
     Ok(usage_reply(default, login, day, &usage, &governing)?)
@@ -62,8 +66,11 @@ fn next_row<S: Alter>(
     ensures kept { HasCleanDisk (state S.Store tx.new.conn.now)
         → KeepsCommit (state S.Store tx.old.conn.now) (state S.Store tx.new.conn.now) }
     ensures survives { Survives (state S.Store tx.old.conn.now) (state S.Store tx.new.conn.now) (λ _. ⊥) }
+    ensures cause { HasCleanDisk (state S.Store tx.new.conn.now)
+        → IfErr result (StopsReading default (state S.Store tx.old.conn.now).now) }
 {
     reads_are_answered();
+    reads_are_in_range();
     let Some(usage) = next_usage(tx, day, after)? else {
         return Ok(None);
     };
@@ -90,6 +97,8 @@ fn page<S: Alter>(
     ensures kept { HasCleanDisk (state S.Store tx.new.conn.now)
         → KeepsCommit (state S.Store tx.old.conn.now) (state S.Store tx.new.conn.now) }
     ensures survives { Survives (state S.Store tx.old.conn.now) (state S.Store tx.new.conn.now) (λ _. ⊥) }
+    ensures cause { HasCleanDisk (state S.Store tx.new.conn.now)
+        → IfErr result (StopsReading default (state S.Store tx.old.conn.now).now) }
 {
     reads_are_answered();
     let mut rows = Vec::new(alloc);
@@ -123,6 +132,8 @@ pub(crate) fn reply_to_list<S: Alter>(
     ensures kept { HasCleanDisk (state S.Store tx.new.conn.now)
         → KeepsCommit (state S.Store tx.old.conn.now) (state S.Store tx.new.conn.now) }
     ensures survives { Survives (state S.Store tx.old.conn.now) (state S.Store tx.new.conn.now) (λ _. ⊥) }
+    ensures cause { HasCleanDisk (state S.Store tx.new.conn.now)
+        → IfErr result (StopsReading default (state S.Store tx.old.conn.now).now) }
 {
     let rows = page(alloc, tx, default, day, after)?;
     Ok(Reply::List {

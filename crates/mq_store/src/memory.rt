@@ -1,9 +1,10 @@
 //! A ledger in tables of a store in memory.
 
-ghost use Rattle.std.specs.Prelude.{◌≡◌, ◌⊎◌, false, IfOk, IfErr};
+ghost use Rattle.std.specs.Prelude.{◌≡◌, false, None, IfOk, IfErr};
 ghost use Rattle.sqlite.specs.Held.{state};
 ghost use Rattle.sqlite.specs.Steps.{over_memory};
 ghost use Rattle.mq_frame.specs.Range.{IsAmount};
+ghost use Rattle.mq_store.specs.Opening.{IsStop};
 ghost use Rattle.mq_store.specs.Soundness.{IsNew};
 
 use crate::fault::OpenFault;
@@ -22,7 +23,9 @@ impl SqlLedger<MemStore> {
     ) -> Result<SqlLedger<MemStore>, OpenFault>
         requires in_range { IsAmount default }
         ensures lent { IfOk result (λ l. (l.zone ≡ zone) × (l.default ≡ default)) }
-        ensures fault { IfErr result (λ fault. (fault ≡ OpenFault.Memory) ⊎ (fault ≡ OpenFault.Store)) }
+        ensures counts { IfOk result (λ l. (l.found.days ≡ 0) × (l.found.transactions ≡ 0)) }
+        ensures uncaused { IfOk result (λ l. l.cause ≡ None) }
+        ensures fault { IfErr result IsStop }
         ensures autocommit { IfOk result (λ l. l.connection.in_transaction ≡ false) }
         ensures new { IfOk result (λ l. IsNew zone default (state over_memory l.connection)) }
     {

@@ -1,16 +1,17 @@
 //! Whether a store is a ledger's, and how one of an older version is given the current one.
 
-ghost use Rattle.std.specs.Prelude.{◌≡◌, ℕ, Option, List, nat_le, false, None, IsTrue, OnOk, IfErr};
+ghost use Rattle.std.specs.Prelude.{◌≡◌, ℕ, Option, List, nat_le, false, None, IsTrue, IfOk, OnOk, IfErr};
 ghost use Rattle.sqlite.specs.Held.{state};
 ghost use Rattle.sqlite.specs.State.{HasCleanDisk};
 ghost use Rattle.mq_tables.specs.Reading.{Spares};
 ghost use Rattle.mq_tables.specs.Settings.{SettingRow, shown_of};
 ghost use Rattle.mq_store.specs.Opening.{known_version, IsJudged, IsJudgedAs, IsJudgedBy, IsJudgedRuled, IsJudgedCurrent};
 ghost use Rattle.mq_store.specs.Opening.{HasSettings, HoldsKnown, HoldsVersion, HasCurrent, IsRuled, IsFaultOf, IsOf};
-ghost use Rattle.mq_store.specs.Opening.{IsFound, IsFoundOf, IsBroughtUp, IsLeftOlder, Opens, Refuses};
+ghost use Rattle.mq_store.specs.Auditing.{AreCounted};
+ghost use Rattle.mq_store.specs.Opening.{version_of, IsFound, IsFoundOf, IsBroughtUp, IsLeftOlder, Opens, Refuses};
 ghost use Rattle.mq_store.specs.Soundness.{HasKept};
 
-use crate::auditing::audit_store;
+use crate::auditing::{RowCounts, audit_store};
 use crate::fault::{
     OpenFault, create_fault, fault_by_any_rule, fault_by_floors, fault_by_rule, fault_of,
     fault_without_rule, known_version, open_fault,
@@ -166,21 +167,31 @@ fn check_store<S: Alter>(
     }
 }
 
-/// The version of the tables, or why the store isn't opened: by its settings, and after them by an audit of its rows.
+/// What is found of a store that is this ledger.
+#[derive(Drop)]
+pub(crate) struct Known {
+    pub version: u32,
+    pub found: RowCounts,
+}
+
+/// The version of the tables and how many rows there are, or why the store isn't opened: by its settings, and after them
+/// by an audit of its rows.
 fn check_ledger<S: Alter>(
     alloc: Global,
     connection: &mut Connection<S>,
     zone: Zone,
     default: u32,
-) -> Result<u32, OpenFault>
+) -> Result<Known, OpenFault>
     requires autocommit { connection.old.in_transaction ≡ false }
     ensures autocommit { connection.new.in_transaction ≡ false }
     ensures unlimited { connection.new.step_limit ≡ None }
     ensures found { HasCleanDisk (state S.Store connection.new)
-        → IsFound S.Store zone default connection.old connection.new result }
+        → IsFound S.Store zone default connection.old connection.new (version_of result) }
     ensures exact { HasCleanDisk (state S.Store connection.new) → (s : SettingRow) (rule : Option (List ℕ))
         → HasSettings (state S.Store connection.old).now s rule
-        → IsFoundOf zone default (state S.Store connection.old).now s rule result }
+        → IsFoundOf zone default (state S.Store connection.old).now s rule (version_of result) }
+    ensures counts { HasCleanDisk (state S.Store connection.new)
+        → IfOk result (λ known. AreCounted zone default (state S.Store connection.old).now known.found) }
     ensures clean { HasCleanDisk (state S.Store connection.new) → HasCleanDisk (state S.Store connection.old) }
     ensures spares { HasCleanDisk (state S.Store connection.new)
         → Spares (state S.Store connection.old) (state S.Store connection.new) }
@@ -190,9 +201,12 @@ fn check_ledger<S: Alter>(
         Err(fault) => return Err(fault),
     };
     match audit_store(alloc, connection, zone, default) {
-        Ok(Audit::Sound { .. }) => Ok(version),
+        Ok(Audit::Sound { days, transactions }) => Ok(Known {
+            version,
+            found: RowCounts { days, transactions },
+        }),
         Ok(Audit::Wrong { login, day }) => Err(OpenFault::Damaged { login, day }),
-        Err(refused) => Err(open_fault(refused.fault)),
+        Err(refused) => Err(open_fault(refused)),
     }
 }
 
@@ -220,16 +234,18 @@ fn bring_up<S: Alter>(connection: &mut Connection<S>, version: u32) -> Result<()
     }
 }
 
-/// Finds whether the store is this ledger, and gives one of an older version the current one.
+/// Finds whether the store is this ledger, and gives one of an older version the current one: how many rows there are.
 pub(crate) fn open_store<S: Alter>(
     alloc: Global,
     connection: &mut Connection<S>,
     zone: Zone,
     default: u32,
-) -> Result<(), OpenFault>
+) -> Result<RowCounts, OpenFault>
     requires autocommit { connection.old.in_transaction ≡ false }
     ensures autocommit { connection.new.in_transaction ≡ false }
     ensures unlimited { connection.new.step_limit ≡ None }
+    ensures counts { HasCleanDisk (state S.Store connection.new)
+        → IfOk result (AreCounted zone default (state S.Store connection.old).now) }
     ensures kept { HasKept (state S.Store connection.new) → HasKept (state S.Store connection.old) }
     ensures opens { HasCleanDisk (state S.Store connection.new)
         → OnOk result (Opens (IsFound S.Store zone default connection.old connection.new)
@@ -246,9 +262,12 @@ pub(crate) fn open_store<S: Alter>(
         → IfErr result (Refuses (IsFoundOf zone default (state S.Store connection.old).now s rule)
         (state S.Store connection.old) (state S.Store connection.new)) }
 {
-    let version = match check_ledger(alloc, connection, zone, default) {
-        Ok(version) => version,
+    let known = match check_ledger(alloc, connection, zone, default) {
+        Ok(known) => known,
         Err(fault) => return Err(fault),
     };
-    bring_up(connection, version)
+    match bring_up(connection, known.version) {
+        Ok(()) => Ok(known.found),
+        Err(fault) => Err(fault),
+    }
 }

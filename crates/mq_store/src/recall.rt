@@ -10,10 +10,10 @@ ghost use Rattle.mq_forget.specs.Remembered.{is_set};
 ghost use Rattle.mq_store.specs.Carrying.{Names, SpellsWhereKnown, IsAnsweredAt, TellsStaying};
 ghost use Rattle.mq_store.specs.Taking.{Stays};
 
-use crate::fault::Refused;
+use crate::fault::{Refused, StoreCause};
 use crate::laws::{answers_are_entries, transactions_have_days};
 use mq_frame::{DecodeFault, Id, Reply, Request, decode_reply, decode_request};
-use mq_ledger::{LedgerFault, Zone};
+use mq_ledger::Zone;
 use mq_rows::Body;
 use mq_tables::entry::read_answer;
 use mq_tables::transaction::find_transaction;
@@ -29,11 +29,10 @@ pub(crate) struct Answered {
 
 /// A body that spells nothing is no ledger's.
 fn refused(fault: DecodeFault) -> Refused {
-    let fault = match fault {
-        DecodeFault::Bad => LedgerFault::Store,
-        DecodeFault::Memory => LedgerFault::Memory,
-    };
-    Refused { fault }
+    match fault {
+        DecodeFault::Bad => Refused::Store(StoreCause::Content),
+        DecodeFault::Memory => Refused::Memory,
+    }
 }
 
 fn request_in(alloc: Global, body: &Body) -> Result<Request, Refused>
@@ -79,9 +78,7 @@ pub(crate) fn answered_at<S: Alter>(
 {
     answers_are_entries();
     let Some(bodies) = read_answer(tx, place + 1)? else {
-        return Err(Refused {
-            fault: LedgerFault::Store,
-        });
+        return Err(Refused::Store(StoreCause::Content));
     };
     let request = request_in(alloc, &bodies.request)?;
     let reply = reply_in(alloc, &bodies.reply)?;

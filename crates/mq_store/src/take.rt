@@ -1,6 +1,6 @@
 //! One request inside a transaction of the store.
 
-ghost use Rattle.std.specs.Prelude.{◌≡◌, ℕ, List, Some, IsTrue, IfOk, IfSome, OnOk};
+ghost use Rattle.std.specs.Prelude.{◌≡◌, ℕ, List, Some, IsTrue, IfOk, IfErr, IfSome, OnOk};
 ghost use Rattle.sqlite.specs.Held.{state};
 ghost use Rattle.sqlite.specs.State.{HasCleanDisk, KeepsCommit, Survives};
 ghost use Rattle.mq_frame.specs.Range.{IsRequest, IsReply};
@@ -8,23 +8,27 @@ ghost use Rattle.mq_ledger.specs.declared.entry.Entry.{Entry as AnyEntry};
 ghost use Rattle.mq_ledger.specs.Arrivals.{id_of, is_below};
 ghost use Rattle.mq_ledger.specs.History.{requests};
 ghost use Rattle.mq_rows.specs.Storable.{IsStorablePlan};
+ghost use Rattle.mq_store.specs.Causes.{undecided, StopsOver, StopsNew};
 ghost use Rattle.mq_store.specs.Taking.{HasBook, book_of, Stays, IsKnown, IsPlanned, AppliesNew, IsTaken, reply_in};
 
-use crate::fault::Refused;
+use crate::fault::{Refused, StoreCause};
 use crate::laws::{
     arrivals_are_applied, floors_are_known, new_numbers_are_planned, numbers_are_known,
 };
 use crate::listing::{reply_to_list, reply_to_usage};
 use crate::write::write_plan;
 use mq_frame::{Id, Reply, Request};
-use mq_ledger::Zone;
+use mq_ledger::{LedgerFault, Zone};
 use mq_rows::{Plan, decide, stored_reply};
 use mq_tables::answer::find_answer;
 use mq_tables::find::find;
 use mq_tables::floor::find_floor;
 use mq_tables::setting::read_arrivals;
-use sqlite::{Alter, Transaction};
+use sqlite::{Alter, Error, Transaction};
 use std::alloc::Global;
+
+/// With so many answers a ledger takes no new number.
+const MOST_ANSWERS: u64 = 4_611_686_018_427_387_904;
 
 /// How a request was taken.
 pub(crate) enum Taken {
@@ -36,7 +40,7 @@ pub(crate) enum Taken {
 
 /// Whether the run of that number is below the floor of its host.
 #[tactic(auto, using(crate::proofs::Chain::calls))]
-fn is_retired<S: Alter>(tx: &mut Transaction<'_, S>, id: &Id) -> Result<bool, Refused>
+fn is_retired<S: Alter>(tx: &mut Transaction<'_, S>, id: &Id) -> Result<bool, Error>
     ensures same_reference { tx.new.conn.ghost_name ≡ tx.old.conn.ghost_name }
     ensures stays { HasCleanDisk (state S.Store tx.new.conn.now)
         → OnOk result (Stays (state S.Store tx.old.conn.now) (state S.Store tx.new.conn.now)) }
@@ -77,6 +81,9 @@ fn known_reply<S: Alter>(
     ensures kept { HasCleanDisk (state S.Store tx.new.conn.now)
         → KeepsCommit (state S.Store tx.old.conn.now) (state S.Store tx.new.conn.now) }
     ensures survives { Survives (state S.Store tx.old.conn.now) (state S.Store tx.new.conn.now) (λ _. ⊥) }
+    ensures cause { HasCleanDisk (state S.Store tx.new.conn.now)
+        → IfErr result (λ refused. (zone : Zone) (default : ℕ)
+        → StopsOver zone default (state S.Store tx.old.conn.now).now refused) }
 {
     numbers_are_known();
     let retired = is_retired(tx, id)?;
@@ -86,6 +93,17 @@ fn known_reply<S: Alter>(
     match find_answer(tx, id)? {
         Some(row) => Ok(Some(stored_reply(alloc, &row, id, request)?)),
         None => Ok(None),
+    }
+}
+
+/// Why nothing is decided where so many answers are stored: there may be no more of them, or else for the rows.
+fn undecided(stored: u64, fault: LedgerFault) -> Refused
+    ensures { result ≡ undecided stored fault }
+{
+    match fault {
+        LedgerFault::Memory => Refused::Memory,
+        LedgerFault::Store if MOST_ANSWERS <= stored => Refused::Store(StoreCause::Full),
+        LedgerFault::Store => Refused::Store(StoreCause::Content),
     }
 }
 
@@ -111,11 +129,16 @@ fn plan<S: Alter>(
     ensures kept { HasCleanDisk (state S.Store tx.new.conn.now)
         → KeepsCommit (state S.Store tx.old.conn.now) (state S.Store tx.new.conn.now) }
     ensures survives { Survives (state S.Store tx.old.conn.now) (state S.Store tx.new.conn.now) (λ _. ⊥) }
+    ensures cause { HasCleanDisk (state S.Store tx.new.conn.now)
+        → IfErr result (StopsNew zone default id.now (state S.Store tx.old.conn.now).now) }
 {
     new_numbers_are_planned();
     let arrivals = read_arrivals(tx)?;
     let found = find(tx, zone, request)?;
-    Ok(decide(alloc, zone, default, arrivals, id, request, found)?)
+    match decide(alloc, zone, default, arrivals, id, request, found) {
+        Ok(plan) => Ok(plan),
+        Err(fault) => Err(undecided(arrivals, fault)),
+    }
 }
 
 /// The reply to a request whose number is new, which is written with it.
@@ -142,6 +165,8 @@ fn take_new<S: Alter>(
     ensures kept { HasCleanDisk (state S.Store tx.new.conn.now)
         → KeepsCommit (state S.Store tx.old.conn.now) (state S.Store tx.new.conn.now) }
     ensures survives { Survives (state S.Store tx.old.conn.now) (state S.Store tx.new.conn.now) (λ _. ⊥) }
+    ensures cause { HasCleanDisk (state S.Store tx.new.conn.now)
+        → IfErr result (StopsNew zone default id.now (state S.Store tx.old.conn.now).now) }
 {
     arrivals_are_applied();
     let plan = plan(alloc, tx, zone, default, id, request)?;
@@ -173,6 +198,8 @@ fn take_numbered<S: Alter>(
     ensures kept { HasCleanDisk (state S.Store tx.new.conn.now)
         → KeepsCommit (state S.Store tx.old.conn.now) (state S.Store tx.new.conn.now) }
     ensures survives { Survives (state S.Store tx.old.conn.now) (state S.Store tx.new.conn.now) (λ _. ⊥) }
+    ensures cause { HasCleanDisk (state S.Store tx.new.conn.now)
+        → IfErr result (StopsOver zone default (state S.Store tx.old.conn.now).now) }
 {
     arrivals_are_applied();
     match known_reply(alloc, tx, id, request)? {
@@ -205,6 +232,8 @@ pub(crate) fn take<S: Alter>(
     ensures kept { HasCleanDisk (state S.Store tx.new.conn.now)
         → KeepsCommit (state S.Store tx.old.conn.now) (state S.Store tx.new.conn.now) }
     ensures survives { Survives (state S.Store tx.old.conn.now) (state S.Store tx.new.conn.now) (λ _. ⊥) }
+    ensures cause { HasCleanDisk (state S.Store tx.new.conn.now)
+        → IfErr result (StopsOver zone default (state S.Store tx.old.conn.now).now) }
 {
     arrivals_are_applied();
     match request {

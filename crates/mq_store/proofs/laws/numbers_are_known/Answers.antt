@@ -30,3 +30,12 @@ returns-clause-known c = λ zone default H r id db b row a in_range h above one 
       known_as_stored H id true above there,
       c.repeats_are_answered.ensures.known (day_of zone) default H r id row a b.legal.default (c.replies_in_range.ensures.days zone b.legal.zone) b.legal.legal in_range h above found repeat,
     )
+
+pub returns-clause-spelled : goal.returns-clause-spelled
+returns-clause-spelled c = λ zone default H r id db b row in_range h above one.
+    let all = c.repeats_are_answered.ensures.one (day_of zone) default H r id b.legal.legal in_range h in
+    let here : AllByRecursion (λ (x : AnswerRecord). same_id id x.id ≡ true → find (λ (y : AnswerRecord). same_id id y.id) (answer_rows H) ≡ Some x) b.has.tables.answers =
+    subst (λ (rows : List AnswerRecord). AllByRecursion (λ (x : AnswerRecord). same_id id x.id ≡ true → find (λ (y : AnswerRecord). same_id id y.id) (answer_rows H) ≡ Some x) rows) (sym b.has.rows.answers) all in
+    let found : find (λ (y : AnswerRecord). same_id id y.id) (answer_rows H) ≡ Some row =
+    has_all (λ (x : AnswerRecord). same_id id x.id ≡ true → find (λ (y : AnswerRecord). same_id id y.id) (answer_rows H) ≡ Some x) b.has.tables.answers row here one.0 one.1 in
+    c.repeats_are_answered.ensures.spelled (day_of zone) default H r id row b.legal.default (c.replies_in_range.ensures.days zone b.legal.zone) b.legal.legal in_range h above found

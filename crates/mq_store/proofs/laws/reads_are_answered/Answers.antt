@@ -13,6 +13,7 @@ use Rattle.mq_rows.specs.declared.record.UsageRecord.{UsageRecord}
 use Rattle.mq_rows.specs.Listing.{IsNext, behind, is_above}
 use Rattle.mq_rows.specs.Rows.{is_usage}
 use Rattle.mq_tables.specs.Records.{IsOneOf}
+use Rattle.mq_store.proofs.InRange.{row_found}
 use Rattle.mq_store.proofs.Keyed.{has_all, none_found}
 use Rattle.mq_store.proofs.laws.reads_are_answered.Goals as goal
 
@@ -20,23 +21,6 @@ use Rattle.mq_store.proofs.laws.reads_are_answered.Goals as goal
 the_one : (test : UsageRecord → Bool) (rows : List UsageRecord) (u : Option UsageRecord) → AllByRecursion (λ (x : UsageRecord). test x ≡ true → Some x ≡ find test rows) rows → IsOneOf test rows u → u ≡ find test rows
 the_one test rows None only none = sym (none_found test rows none)
 the_one test rows (Some x) only one = has_all (λ (y : UsageRecord). test y ≡ true → Some y ≡ find test rows) rows x only one.0 one.1
-
-contained : (P : UsageRecord → Type 0) (rows : List UsageRecord) (u : UsageRecord) → AllByRecursion P rows → Contains rows u → P u
-contained P rows u all there = subst P there.2 (All-from_recursion P rows all there.0 u there.1)
-
-first_of : (a b : Bool) → (a && b) ≡ true → a ≡ true
-first_of true b h = refl
-first_of false b h = absurd (cc h)
-
--- a row above is of that day
-day_is : (d : ℕ) (after : List ℕ) (u : UsageRecord) → is_above d after u ≡ true → d ≡ u.day
-day_is d after u h = (Decides-eqb d u.day).0 (first_of (d == u.day) (below after u.login) h)
-
-its_own : (d : ℕ) (u : UsageRecord) → d ≡ u.day → is_usage u.login d u ≡ true
-its_own d u same =
-    let text : same_text u.login u.login ≡ true = (bytes_decides u.login u.login).1 refl in
-    let day : (u.day == d) ≡ true = (Decides-eqb u.day d).1 (sym same) in
-    rw (text, day) refl
 
 pub returns-clause-usage : goal.returns-clause-usage
 returns-clause-usage c = λ zone default H db b l d u g one governs.
@@ -47,8 +31,7 @@ returns-clause-usage c = λ zone default H db b l d u g one governs.
 pub returns-clause-row : goal.returns-clause-row
 returns-clause-row c = λ zone default H db b d after u g next governs.
     let only = c.rows_by_key.ensures.only_usage (day_of zone) H b.has.tables.usage u.login d b.has.rows.usage in
-    let found : Some u ≡ find (is_usage u.login d) b.has.tables.usage =
-    contained (λ (x : UsageRecord). is_usage u.login d x ≡ true → Some x ≡ find (is_usage u.login d) b.has.tables.usage) b.has.tables.usage u only next.0 (its_own d u (day_is d after u next.1)) in
+    let found : Some u ≡ find (is_usage u.login d) b.has.tables.usage = row_found d after b.has.tables.usage u only next in
     c.usage_is_answered.ensures.row (day_of zone) default H b.has.tables u.login d u g b.legal.legal b.has.rows.usage b.has.rows.ceilings found governs
 
 pub returns-clause-begun : goal.returns-clause-begun

@@ -1,8 +1,10 @@
-use Rattle.std.proofs.Common.{◌≡◌, inl, Ok, Err, FitsSigned, to_z, of_z, w64, ap, refl, sym, arith, rules}
+use Rattle.std.proofs.Common.{◌≡◌, inl, Ok, Err, FitsSigned, to_z, of_z, w64, ap, refl, sym, subst, arith, rules}
 use Rattle.std.proofs.lemmas.Int.{ints}
 use Rattle.sqlite.specs.Held.{state}
 use Rattle.sqlite.specs.State.{HasCleanDisk}
 use Rattle.mq_store.specs.declared.fault.OpenFault.TheVariants.{Damaged}
+use Rattle.mq_rows.specs.declared.audited.Audit.TheVariants.{Sound}
+use Rattle.mq_store.specs.Auditing.{IsAuditIn}
 use Rattle.mq_store.specs.Opening.{audit_fault, if_none, IsOf, IsSettled}
 use Rattle.mq_store.proofs.Openings.{audited_behind}
 use Rattle.mq_store.proofs.opening.check_ledger.Goals as goal
@@ -45,10 +47,17 @@ pub returns-in-Err-audit_store-clause-found : goal.returns-in-Err-audit_store-cl
 returns-in-Err-audit_store-clause-found g c clean =
     let sure : HasCleanDisk (state g.S.Store c.check_store.new.connection) = c.audit_store.ensures.clean clean in
     audited_behind c.args.zone c.args.default (state g.S.Store c.args.connection.now) (state g.S.Store c.check_store.new.connection) (IsSettled g.S.Store c.args.zone c.args.default c.args.connection.now c.audit_store.new.connection) c.in-Ok.version
-    (Err c.in-Err-audit_store.refused.fault) _ (ap Err c.open_fault.ensures) (c.check_store.new.connection, c.in-Ok.ensures.judged sure) (c.in-Ok.ensures.spares sure) tt tt
+    (Err c.in-Err-audit_store.refused) _ (ap Err c.open_fault.ensures) (c.check_store.new.connection, c.in-Ok.ensures.judged sure) (c.in-Ok.ensures.spares sure) tt tt
 
 pub returns-in-Err-audit_store-clause-exact : goal.returns-in-Err-audit_store-clause-exact
 returns-in-Err-audit_store-clause-exact g c clean s rule has =
     let sure : HasCleanDisk (state g.S.Store c.check_store.new.connection) = c.audit_store.ensures.clean clean in
     audited_behind c.args.zone c.args.default (state g.S.Store c.args.connection.now) (state g.S.Store c.check_store.new.connection) (IsOf c.args.zone c.args.default (state g.S.Store c.args.connection.now).now.schema s rule) c.in-Ok.version
-    (Err c.in-Err-audit_store.refused.fault) _ (ap Err c.open_fault.ensures) (c.in-Ok.ensures.exact sure s rule has) (c.in-Ok.ensures.spares sure) tt tt
+    (Err c.in-Err-audit_store.refused) _ (ap Err c.open_fault.ensures) (c.in-Ok.ensures.exact sure s rule has) (c.in-Ok.ensures.spares sure) tt tt
+
+pub returns-in-Ok-Sound-clause-counts : goal.returns-in-Ok-Sound-clause-counts
+returns-in-Ok-Sound-clause-counts g c clean =
+    let sure : HasCleanDisk (state g.S.Store c.check_store.new.connection) = c.audit_store.ensures.clean clean in
+    let same = (c.in-Ok.ensures.spares sure).now (c.in-Ok-Sound.ensures.open clean) in
+    subst (λ db. IsAuditIn c.args.zone c.args.default db (Sound c.in-Ok-Sound.days c.in-Ok-Sound.transactions)) same
+    (rw c.in-Ok-Sound.field-0-is at (c.in-Ok-Sound.ensures.audited clean))

@@ -1,10 +1,13 @@
-use Rattle.std.proofs.Common.{◌≡◌, arith, rules, false, sym, subst, ◌∙◌}
+use Rattle.std.proofs.Common.{◌≡◌, ℕ, arith, rules, false, sym, subst, ◌∙◌}
 use Rattle.sqlite.specs.Effect.{Database}
 use Rattle.sqlite.specs.Held.{state}
 use Rattle.sqlite.specs.State.{HasCleanDisk}
+use Rattle.mq_ledger.specs.declared.zone.Zone.{Zone}
 use Rattle.mq_ledger.specs.Arrivals.{is_below}
 use Rattle.mq_ledger.specs.History.{requests}
 use Rattle.mq_tables.specs.Ledger.{HasLedger}
+use Rattle.mq_store.specs.Causes.{StopsOver}
+use Rattle.mq_store.proofs.Causes.{of_rows, stops_by}
 use Rattle.mq_store.proofs.take.known_reply.Goals as goal
 
 pub returns-in-None-clause-known : goal.returns-in-None-clause-known
@@ -24,3 +27,15 @@ returns-in_ok-stored_reply-in-Some-clause-known g c clean = λ zone default H b.
     let above : is_below (requests H) c.args.id.now ≡ false = sym (c.in_ok-retired.ensures.below mid zone default H b) ∙ unretired in
     let holds = subst (λ (db : Database). HasLedger db b.has.tables) (sym stays.now) b.has.holds in
     c.numbers_are_known.ensures.known zone default H c.args.request.now c.args.id.now _ b c.in-Some.row c.in_ok-stored_reply-in-Some.field-0 c.requires.in_range c.requires.number above (rw c.in-Some.is at (c.in_ok-row.ensures.found clean b.has.tables holds)) c.in_ok-stored_reply-in-Some.ensures.reply
+
+pub returns-in_err-stored_reply-in-Some-clause-cause : goal.returns-in_err-stored_reply-in-Some-clause-cause
+returns-in_err-stored_reply-in-Some-clause-cause g c clean =
+    stops_by c.in_err-stored_reply-in-Some.field-0.0 c.from_residual-in_err-stored_reply-in-Some.result (λ refused. (zone : Zone) (default : ℕ) → StopsOver zone default (state g.S.Store c.args.tx.now.conn.now).now refused)
+    c.from_residual-in_err-stored_reply-in-Some.ensures.1 (λ zone default H b.
+    let mid : HasCleanDisk (state g.S.Store c.is_retired.new.tx.conn.now) = omega (arith, c.find_answer.ensures.survives.clean) in
+    let stays = c.in_ok-retired.ensures.stays mid in
+    let unretired : c.in_ok-retired.retired ≡ false = search rules in
+    let above : is_below (requests H) c.args.id.now ≡ false = sym (c.in_ok-retired.ensures.below mid zone default H b) ∙ unretired in
+    let holds = subst (λ (db : Database). HasLedger db b.has.tables) (sym stays.now) b.has.holds in
+    let spelled = c.numbers_are_known.ensures.spelled zone default H c.args.request.now c.args.id.now _ b c.in-Some.row c.requires.in_range c.requires.number above (rw c.in-Some.is at (c.in_ok-row.ensures.found clean b.has.tables holds)) in
+    of_rows H c.in_err-stored_reply-in-Some.field-0.0 (λ store. c.in_err-stored_reply-in-Some.ensures.store store spelled.0 spelled.1 spelled.2 spelled.3))

@@ -3,11 +3,11 @@ use Rattle.mq_rows.specs.Figured.{figures}
 use Rattle.mq_store.proofs.Audits.{has_figures}
 use Rattle.mq_store.proofs.ledger.SqlLedger.limits.Goals as goal
 
-pub returns-clause-set : goal.returns-clause-set
-returns-clause-set g c = rw (← c.self.view_is) (λ kept sound.
+pub returns-in-Ok-clause-set : goal.returns-in-Ok-clause-set
+returns-in-Ok-clause-set g c = rw (← c.self.view_is) (λ kept sound.
     let old = state g.S.Store c.self.inside.connection in
     record {
       rows = sound.tables.ceilings;
       set = sound.rows.ceilings;
-      same = c.in_ok-limits.ensures.found kept.clean (figures sound.tables) (has_figures old.now sound.tables sound.holds);
+      same = c.in-Ok.ensures.found kept.clean (figures sound.tables) (has_figures old.now sound.tables sound.holds);
     })

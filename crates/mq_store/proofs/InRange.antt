@@ -1,0 +1,90 @@
+-- What the rows of a legal history show is in range.
+use Rattle.std.proofs.Common.{◌≡◌, ℕ, ◌≤◌, nat_le, List, [], ◌∷◌, find, Bool, true, false, ◌==◌, refl, sym, ap, subst, ◌∙◌, inl, inr, arith}
+use Rattle.std.specs.Prelude.{◌&&◌, Option, Some, None, Contains, if◌then◌else◌}
+use Rattle.std.specs.List.{AllByRecursion}
+use Rattle.std.specs.Cmp.Lexicographic.{bytes_decides}
+use Rattle.std.proofs.lemmas.Bool.{cases_Bool}
+use Rattle.std.proofs.lemmas.Bool.Decides.{nat_tests, Decides-eqb}
+use Rattle.std.proofs.lemmas.List.Elements.{All-from_recursion}
+use Rattle.mq_frame.specs.declared.message.Request.{Request}
+use Rattle.mq_frame.specs.declared.message.Request.TheVariants.{Reserve}
+use Rattle.mq_frame.specs.declared.message.Reply.{Reply}
+use Rattle.mq_frame.specs.declared.message.Reply.TheVariants.{Granted, Usage as UsageReply}
+use Rattle.mq_frame.specs.Range.{IsRequest, IsAmount, IsLogin}
+use Rattle.mq_frame.specs.Same.{same_text}
+use Rattle.mq_ledger.specs.declared.entry.Entry.{Entry}
+use Rattle.mq_ledger.specs.Page.{below, is_login, login_on, has_reserve}
+use Rattle.mq_rows.specs.declared.record.UsageRecord.{UsageRecord}
+use Rattle.mq_rows.specs.Listing.{are_amounts, is_above, IsNext}
+use Rattle.mq_rows.specs.Rows.{is_usage, usage_row}
+
+-- ---- amounts
+
+low : (n m : ℕ) → n ≤ m → nat_le n m ≡ true
+low n m h = grind (arith, nat_tests)
+
+pub amounts : (s r c : ℕ) → IsAmount s → IsAmount r → IsAmount c → are_amounts s r c ≡ true
+amounts s r c p q o = rw (low s 1000000 p.to, low r 1000000 q.to, low c 1000000 o.to) refl
+
+abbrev settled_in : Reply → ℕ
+settled_in (UsageReply login day settled reserved cap) = settled
+settled_in _ = 0
+
+abbrev reserved_in : Reply → ℕ
+reserved_in (UsageReply login day settled reserved cap) = reserved
+reserved_in _ = 0
+
+abbrev cap_in : Reply → ℕ
+cap_in (UsageReply login day settled reserved cap) = cap
+cap_in _ = 0
+
+-- the amounts of two replies to a usage that are the same
+pub same_amounts : (l m : List ℕ) (d e : ℕ) (s r c s' r' c' : ℕ) → UsageReply l d s r c ≡ UsageReply m e s' r' c' → IsAmount s' → IsAmount r' → IsAmount c' → are_amounts s r c ≡ true
+same_amounts l m d e s r c s' r' c' same p q o =
+    amounts s r c (subst IsAmount (sym (ap settled_in same)) p) (subst IsAmount (sym (ap reserved_in same)) q) (subst IsAmount (sym (ap cap_in same)) o)
+
+-- ---- logins
+
+login_given : (day : ℕ → ℕ) (d : ℕ) (l : List ℕ) (r : Request) (a : Reply) → IsRequest r → is_login l (login_on day d r a) ≡ true → IsLogin l
+login_given day d l (Reserve id txn at login count) (Granted id' used) range hit = elim (cases_Bool (day at == d)) [
+  | inl on ↦ (let same : same_text l login ≡ true = rw on at hit in subst IsLogin (sym ((bytes_decides l login).0 same)) range.3)
+  | inr off ↦ absurd (let none : false ≡ true = rw off at hit in cc)
+]
+login_given day d l r a range hit = absurd (let none : false ≡ true = hit in cc)
+
+-- a login that has a granted reserve is one that was asked for
+pub reserved_login : (day : ℕ → ℕ) (H : List Entry) (d : ℕ) (l : List ℕ) → AllByRecursion (λ e. IsRequest e.request) H → has_reserve day H d l ≡ true → IsLogin l
+reserved_login day [] d l all hit = absurd (let none : false ≡ true = hit in cc)
+reserved_login day (e ∷ H) d l all hit = elim (cases_Bool (is_login l (login_on day d e.request e.reply))) [
+  | inl here ↦ login_given day d l e.request e.reply all.0 here
+  | inr there ↦ reserved_login day H d l all.1 (rw there at hit)
+]
+
+-- a row of a history's usage has one
+pub has_row : (day : ℕ → ℕ) (H : List Entry) (l : List ℕ) (d : ℕ) (u : UsageRecord) → Some u ≡ usage_row day H l d → has_reserve day H d l ≡ true
+has_row day H l d u is = elim (cases_Bool (has_reserve day H d l)) [
+  | inl has ↦ has
+  | inr none ↦ absurd (let nothing : ◌≡◌ {A = Option UsageRecord} (Some u) None = rw none at is in cc)
+]
+
+-- ---- the next row of a page is the one under its key
+
+contained : (P : UsageRecord → Type 0) (rows : List UsageRecord) (u : UsageRecord) → AllByRecursion P rows → Contains rows u → P u
+contained P rows u all there = subst P there.2 (All-from_recursion P rows all there.0 u there.1)
+
+first_of : (a b : Bool) → (a && b) ≡ true → a ≡ true
+first_of true b h = refl
+first_of false b h = absurd (cc h)
+
+-- a row above is of that day
+day_is : (d : ℕ) (after : List ℕ) (u : UsageRecord) → is_above d after u ≡ true → d ≡ u.day
+day_is d after u h = (Decides-eqb d u.day).0 (first_of (d == u.day) (below after u.login) h)
+
+its_own : (d : ℕ) (u : UsageRecord) → d ≡ u.day → is_usage u.login d u ≡ true
+its_own d u same =
+    let text : same_text u.login u.login ≡ true = (bytes_decides u.login u.login).1 refl in
+    let day : (u.day == d) ≡ true = (Decides-eqb u.day d).1 (sym same) in
+    rw (text, day) refl
+
+pub row_found : (d : ℕ) (after : List ℕ) (rows : List UsageRecord) (u : UsageRecord) → AllByRecursion (λ (x : UsageRecord). is_usage u.login d x ≡ true → Some x ≡ find (is_usage u.login d) rows) rows → IsNext d after rows (Some u) → Some u ≡ find (is_usage u.login d) rows
+row_found d after rows u only next = contained (λ (x : UsageRecord). is_usage u.login d x ≡ true → Some x ≡ find (is_usage u.login d) rows) rows u only next.0 (its_own d u (day_is d after u next.1))

@@ -1,0 +1,62 @@
+-- Why a ledger's store failed.
+use Rattle.std.specs.Prelude.{◌≡◌, ℕ, ◌≤◌, nat_le, List, length, Bool, true, false, if◌then◌else◌, Option, Some, None, ⊤}
+use Rattle.sqlite.specs.Effect.{Database}
+use Rattle.sqlite.specs.declared.error.ErrorCode.TheVariants.{OutOfMemory}
+use Rattle.sqlite.specs.declared.error.Error.{Error}
+use Rattle.sqlite.specs.declared.error.Error.TheVariants.{SqliteFailure}
+use Rattle.mq_frame.specs.declared.message.Id.{Id}
+use Rattle.mq_ledger.specs.declared.entry.Entry.{Entry}
+use Rattle.mq_ledger.specs.declared.ledger.LedgerFault.{LedgerFault}
+use Rattle.mq_ledger.specs.declared.ledger.LedgerFault.TheVariants as ledger
+use Rattle.mq_ledger.specs.declared.zone.Zone.{Zone}
+use Rattle.mq_ledger.specs.Answer.{known_by}
+use Rattle.mq_store.specs.declared.fault.StoreCause.{StoreCause}
+use Rattle.mq_store.specs.declared.fault.StoreCause.TheVariants as cause
+use Rattle.mq_store.specs.declared.fault.Refused.{Refused}
+use Rattle.mq_store.specs.declared.fault.Refused.TheVariants.{Memory, Store}
+use Rattle.mq_store.specs.Taking.{HasBook, book_of}
+
+-- where the library refuses a statement so: memory that runs out, and any other cause
+abbrev pub refused_by : Error → Refused
+refused_by (SqliteFailure OutOfMemory) = Memory
+refused_by e = Store (cause.Refused e)
+
+-- where the rows that were read decide nothing
+abbrev pub refused_at : LedgerFault → Refused
+refused_at ledger.Memory = Memory
+refused_at ledger.Store = Store cause.Content
+
+-- where nothing is decided and so many answers are stored
+abbrev pub undecided : ℕ → LedgerFault → Refused
+undecided stored ledger.Memory = Memory
+undecided stored ledger.Store = if nat_le 4611686018427387904 stored then Store cause.Full else Store cause.Content
+
+-- what the ledger answers
+abbrev pub answer_to : Refused → LedgerFault
+answer_to Memory = ledger.Memory
+answer_to (Store c) = ledger.Store
+
+-- why the store failed, where it did
+abbrev pub cause_in : Refused → Option StoreCause
+cause_in Memory = None
+cause_in (Store c) = Some c
+
+-- Over the rows of this history the store refused a statement, or so many answers are stored as there may be.
+abbrev pub IsCauseOver : List Entry → Option StoreCause → Type 0
+IsCauseOver H None = ⊤
+IsCauseOver H (Some (cause.Refused e)) = ⊤
+IsCauseOver H (Some cause.Content) = ⊥
+IsCauseOver H (Some cause.Full) = 4611686018427387904 ≤ length H
+
+-- so it is, whatever the history is of which the tables are the rows
+abbrev pub StopsOver : Zone → ℕ → Database → Refused → Type 0
+StopsOver zone default db refused = (H : List Entry) → HasBook (book_of zone default H) db → IsCauseOver H (cause_in refused)
+
+-- so it is where the number is new
+abbrev pub StopsNew : Zone → ℕ → Id → Database → Refused → Type 0
+StopsNew zone default id db refused =
+    (H : List Entry) → HasBook (book_of zone default H) db → known_by H (Some id) ≡ false → IsCauseOver H (cause_in refused)
+
+-- so it is whatever the zone is
+abbrev pub StopsReading : ℕ → Database → Refused → Type 0
+StopsReading default db refused = (zone : Zone) → StopsOver zone default db refused
