@@ -36,12 +36,12 @@ none_some_state c e = cc
 same_state : (c d : State) → Some c ≡ Some d → c ≡ d
 same_state c d e = cc
 
-opens_at : (m n : Map) (k : ℕ) (o : OpenConnection) → o.connection ≡ fresh → UpdatesBy nat_cmp (nat_cmp k) m n (Some o) → (q : ℕ) → ((eqb q k ≡ true) × (q ≡ k)) ⊎ ((eqb q k ≡ false) × (q ≢ k)) → (held n q ≡ held m q) ⊎ ((q ≡ k) × (held n q ≡ Some fresh))
-opens_at m n k o new updates q (inl (t, is)) = inr (is, ap (held n) is ∙ held_now m n k (Some o) updates ∙ ap Some new)
-opens_at m n k o new updates q (inr (f, not)) = inl (held_beside m n k (Some o) updates q not)
+opens_at : (room : ℕ) (m n : Map) (k : ℕ) (o : OpenConnection) → o.connection ≡ fresh room → UpdatesBy nat_cmp (nat_cmp k) m n (Some o) → (q : ℕ) → ((eqb q k ≡ true) × (q ≡ k)) ⊎ ((eqb q k ≡ false) × (q ≢ k)) → (held n q ≡ held m q) ⊎ ((q ≡ k) × (held n q ≡ Some (fresh room)))
+opens_at room m n k o new updates q (inl (t, is)) = inr (is, ap (held n) is ∙ held_now m n k (Some o) updates ∙ ap Some new)
+opens_at room m n k o new updates q (inr (f, not)) = inl (held_beside m n k (Some o) updates q not)
 
-pub opens_held : (m n : Map) (k : ℕ) (o : OpenConnection) → o.connection ≡ fresh → UpdatesBy nat_cmp (nat_cmp k) m n (Some o) → Opens (held m) (held n) k
-opens_held m n k o new updates q = opens_at m n k o new updates q (eqb_tells q k)
+pub opens_held : (room : ℕ) (m n : Map) (k : ℕ) (o : OpenConnection) → o.connection ≡ fresh room → UpdatesBy nat_cmp (nat_cmp k) m n (Some o) → Opens room (held m) (held n) k
+opens_held room m n k o new updates q = opens_at room m n k o new updates q (eqb_tells q k)
 
 pub empty_held : (m : Map) → m.entries ≡ [] → (n : ℕ) → held m n ≡ None
 empty_held m is n = ap (λ (es : List (ℕ × OpenConnection)). connection_of (lookup (is_at (nat_cmp n)) es)) is

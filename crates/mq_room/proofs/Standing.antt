@@ -111,14 +111,14 @@ session_at m n ps old new is s =
     }
 
 -- one on which nothing came yet
-abbrev session_new : (n : ℕ) (ps : List Placed) (old new : Wire) → Lives unborn fresh → those_of n ps ≡ [] → new ≡ old → Session n ps old new
-session_new n ps old new lives none is =
+abbrev session_new : (room n : ℕ) (ps : List Placed) (old new : Wire) → ((room : ℕ) → Lives unborn (fresh room)) → those_of n ps ≡ [] → new ≡ old → Session n ps old new
+session_new room n ps old new lives none is =
     let P : Wire → Type 0 = λ w. Consumes old.remaining w.remaining [] in
     let Q : Wire → Type 0 = λ w. Appends old.contents w.contents [] in
     record {
       life = unborn;
-      state = fresh;
-      lives = lives;
+      state = fresh room;
+      lives = lives room;
       placed = sym none;
       lost = [];
       few = none_few;
@@ -156,28 +156,28 @@ picked_life m n ps qs old mid new each mine same P here there (inr (f, not)) = t
 
 -- ---- the start
 
-abbrev begun_served : (o : Outside) → Lives unborn fresh → AreAnswered o.book [] o.book.history → HaveServed o o None
+abbrev begun_served : (o : Outside) → ((room : ℕ) → Lives unborn (fresh room)) → AreAnswered o.book [] o.book.history → HaveServed o o None
 begun_served o lives none = record {
   placed = [];
   zone = refl;
   default = refl;
   answered = none;
   told = Tells-none o.told;
-  each = λ n. session_new n [] (o.wires n) (o.wires n) lives refl refl;
+  each = λ n. session_new 0 n [] (o.wires n) (o.wires n) lives refl refl;
 }
 
 none_is : (c : State) → None ≡ Some c → ⊥
 none_is c e = cc
 
-new_offered : (wire : Wire) → AreOffered fresh wire
-new_offered wire = λ some. absurd (some refl)
+new_offered : (room : ℕ) (wire : Wire) → AreOffered (fresh room) wire
+new_offered room wire = λ some. absurd (some refl)
 
-pub begins : (o : Outside) (held : ℕ → Option State) → Lives unborn fresh → AreAnswered o.book [] o.book.history → ((n : ℕ) → held n ≡ None) → GoesOn o o 0 held None
+pub begins : (o : Outside) (held : ℕ → Option State) → ((room : ℕ) → Lives unborn (fresh room)) → AreAnswered o.book [] o.book.history → ((n : ℕ) → held n ≡ None) → GoesOn o o 0 held None
 begins o held lives none empty = record {
   served = begun_served o lives none;
   beyond = λ n above. (refl, refl);
   are_held = λ n c is. absurd (none_is c (sym (empty n) ∙ is));
-  offered = λ n is. new_offered (o.wires n);
+  offered = λ n is. new_offered 0 (o.wires n);
   at = λ some. absurd (none_some some);
 }
 
@@ -218,44 +218,44 @@ not_above n last number counted within is = omega (arith, counted, within, is)
 abbrev Held_so : State → ℕ → ℕ → State → List ℕ → Type 0
 Held_so c n last state lost = (state ≡ c) × (lost ≡ []) × (c.end ≢ Some (Err Store)) × (n ≤ last)
 
-new_goes : fresh.end ≢ Some (Err Store)
-new_goes e = cc
+new_goes : (room : ℕ) → (fresh room).end ≢ Some (Err Store)
+new_goes room e = cc
 
 same_some : (c d : State) → Some c ≡ Some d → c ≡ d
 same_some c d e = cc
 
 -- the same connections are held, but for one of that number, on which nothing came yet
-abbrev pub Opens : (ℕ → Option State) → (ℕ → Option State) → ℕ → Type 0
-Opens was now number = (n : ℕ) → (now n ≡ was n) ⊎ ((n ≡ number) × (now n ≡ Some fresh))
+abbrev pub Opens : ℕ → (ℕ → Option State) → (ℕ → Option State) → ℕ → Type 0
+Opens room was now number = (n : ℕ) → (now n ≡ was n) ⊎ ((n ≡ number) × (now n ≡ Some (fresh room)))
 
-opened_held : (old new : Outside) (wires : ℕ → Wire) (last number : ℕ) (held now : ℕ → Option State) (counted : number ≡ last + 1) (g : GoesOn old new last held None)
-    (mine : Session number g.served.placed (old.wires number) (wires number)) (kept : (k : ℕ) → k ≢ number → (wires k ≡ new.wires k) × (those_of k g.served.placed ≡ those_of k g.served.placed)) → (mine.state ≡ fresh) → (mine.lost ≡ [])
-    → (n : ℕ) (c : State) → now n ≡ Some c → (now n ≡ held n) ⊎ ((n ≡ number) × (now n ≡ Some fresh))
+opened_held : (room : ℕ) (old new : Outside) (wires : ℕ → Wire) (last number : ℕ) (held now : ℕ → Option State) (counted : number ≡ last + 1) (g : GoesOn old new last held None)
+    (mine : Session number g.served.placed (old.wires number) (wires number)) (kept : (k : ℕ) → k ≢ number → (wires k ≡ new.wires k) × (those_of k g.served.placed ≡ those_of k g.served.placed)) → (mine.state ≡ fresh room) → (mine.lost ≡ [])
+    → (n : ℕ) (c : State) → now n ≡ Some c → (now n ≡ held n) ⊎ ((n ≡ number) × (now n ≡ Some (fresh room)))
     → (let s = picks number g.served.placed g.served.placed old.wires new.wires wires g.served.each mine kept n in Held_so c n number s.state s.lost)
-opened_held old new wires last number held now counted g mine kept is none n c here (inl same) =
+opened_held room old new wires last number held now counted g mine kept is none n c here (inl same) =
     let h = g.are_held n c (sym same ∙ here) in
     picked number n g.served.placed g.served.placed old.wires new.wires wires g.served.each mine kept (Held_so c n number) (λ at. absurd (not_above n last number counted h.3 at)) (λ not. (h.0, h.1, h.2, omega (arith, h.3, counted))) (eqb_tells n number)
-opened_held old new wires last number held now counted g mine kept is none n c here (inr (at, some)) =
-    let same = same_some c fresh (sym here ∙ some) in
+opened_held room old new wires last number held now counted g mine kept is none n c here (inr (at, some)) =
+    let same = same_some c (fresh room) (sym here ∙ some) in
     let P : State → Type 0 = λ x. x.end ≢ Some (Err Store) in
-    picked number n g.served.placed g.served.placed old.wires new.wires wires g.served.each mine kept (Held_so c n number) (λ _. (is ∙ sym same, none, subst P (sym same) new_goes, omega (arith, at))) (λ not. absurd (not at)) (eqb_tells n number)
+    picked number n g.served.placed g.served.placed old.wires new.wires wires g.served.each mine kept (Held_so c n number) (λ _. (is ∙ sym same, none, subst P (sym same) (new_goes room), omega (arith, at))) (λ not. absurd (not at)) (eqb_tells n number)
 
-opened_offered : (old new : Outside) (wires : ℕ → Wire) (last number : ℕ) (held now : ℕ → Option State) (g : GoesOn old new last held None)
-    (mine : Session number g.served.placed (old.wires number) (wires number)) (kept : (k : ℕ) → k ≢ number → (wires k ≡ new.wires k) × (those_of k g.served.placed ≡ those_of k g.served.placed)) → (mine.state ≡ fresh)
-    → (n : ℕ) → now n ≡ None → (now n ≡ held n) ⊎ ((n ≡ number) × (now n ≡ Some fresh))
+opened_offered : (room : ℕ) (old new : Outside) (wires : ℕ → Wire) (last number : ℕ) (held now : ℕ → Option State) (g : GoesOn old new last held None)
+    (mine : Session number g.served.placed (old.wires number) (wires number)) (kept : (k : ℕ) → k ≢ number → (wires k ≡ new.wires k) × (those_of k g.served.placed ≡ those_of k g.served.placed)) → (mine.state ≡ fresh room)
+    → (n : ℕ) → now n ≡ None → (now n ≡ held n) ⊎ ((n ≡ number) × (now n ≡ Some (fresh room)))
     → (let s = picks number g.served.placed g.served.placed old.wires new.wires wires g.served.each mine kept n in AreOffered s.state (wires n))
-opened_offered old new wires last number held now g mine kept is n none (inl same) =
+opened_offered room old new wires last number held now g mine kept is n none (inl same) =
     let P : State → Type 0 = λ x. AreOffered x (wires n) in
-    picked number n g.served.placed g.served.placed old.wires new.wires wires g.served.each mine kept (λ s _. AreOffered s (wires n)) (λ _. subst P (sym is) (new_offered (wires n)))
+    picked number n g.served.placed g.served.placed old.wires new.wires wires g.served.each mine kept (λ s _. AreOffered s (wires n)) (λ _. subst P (sym is) (new_offered room (wires n)))
     (λ not. offered_as (g.served.each n).state (new.wires n) (wires n) (kept n not).0 (g.offered n (sym same ∙ none))) (eqb_tells n number)
-opened_offered old new wires last number held now g mine kept is n none (inr (at, some)) = absurd (none_is fresh (sym none ∙ some))
+opened_offered room old new wires last number held now g mine kept is n none (inr (at, some)) = absurd (none_is (fresh room) (sym none ∙ some))
 
-pub opened : (old new : Outside) (wires : ℕ → Wire) (last number : ℕ) (held now : ℕ → Option State) → Lives unborn fresh → number ≡ last + 1 → ((n : ℕ) → wires n ≡ new.wires n) → Opens held now number
+pub opened : (room : ℕ) (old new : Outside) (wires : ℕ → Wire) (last number : ℕ) (held now : ℕ → Option State) → ((room : ℕ) → Lives unborn (fresh room)) → number ≡ last + 1 → ((n : ℕ) → wires n ≡ new.wires n) → Opens room held now number
     → GoesOn old new last held None → GoesOn old (with_wires new wires) number now None
-opened old new wires last number held now lives counted same opens g =
+opened room old new wires last number held now lives counted same opens g =
     let ps = g.served.placed in
     let above : last < number = omega (arith, counted) in
-    let mine : Session number ps (old.wires number) (wires number) = session_new number ps (old.wires number) (wires number) lives (g.beyond number above).0 (same number ∙ (g.beyond number above).1) in
+    let mine : Session number ps (old.wires number) (wires number) = session_new room number ps (old.wires number) (wires number) lives (g.beyond number above).0 (same number ∙ (g.beyond number above).1) in
     let kept : (k : ℕ) → k ≢ number → (wires k ≡ new.wires k) × (those_of k ps ≡ those_of k ps) = λ k not. (same k, refl) in
     record {
       served = record {
@@ -267,8 +267,8 @@ opened old new wires last number held now lives counted same opens g =
         each = picks number ps ps old.wires new.wires wires g.served.each mine kept;
       };
       beyond = λ n higher. let b = g.beyond n (omega (arith, counted, higher)) in (b.0, same n ∙ b.1);
-      are_held = λ n c is. opened_held old new wires last number held now counted g mine kept refl refl n c is (opens n);
-      offered = λ n is. opened_offered old new wires last number held now g mine kept refl n is (opens n);
+      are_held = λ n c is. opened_held room old new wires last number held now counted g mine kept refl refl n c is (opens n);
+      offered = λ n is. opened_offered room old new wires last number held now g mine kept refl n is (opens n);
       at = λ some. absurd (none_some some);
     }
 
@@ -455,7 +455,7 @@ ends_so old new now last held still store result none closes g =
       offered = λ n. ended.offered n (none n);
     }
 
-pub nothing_served : {A E : Type 0} (o : Outside) (store : E) (result : Result A E) → Lives unborn fresh → AreAnswered o.book [] o.book.history → (result ≡ Err store → ⊥) → EndsServing o o store result
+pub nothing_served : {A E : Type 0} (o : Outside) (store : E) (result : Result A E) → ((room : ℕ) → Lives unborn (fresh room)) → AreAnswered o.book [] o.book.history → (result ≡ Err store → ⊥) → EndsServing o o store result
 nothing_served o store result lives none not =
     let g = begins o (λ n. None) lives none (λ n. refl) in record {
       failed = None;

@@ -322,8 +322,8 @@ reads_some a b c d now p bytes front is same still consumed lives =
     let P : List ℕ → Type 0 = λ q. Consumes a b q in
     (bytes, [], none_few, (λ _. refl), subst P (sym is ∙ sym (append-nil bytes)) consumed, shuts_none c now a bytes (ap (λ (x : State). x.is_closed) same ∙ still), λ l here. lives_as d now (with_bytes l bytes) same (lives l here))
 
-pub reads_lost : (a b : Option (List ℕ)) (c now : State) (p : Progress) (bytes : List ℕ) → length bytes ≤ PIECE → p ≡ Ended (Err Memory) → now ≡ c → Consumes a b bytes → Reads a b c now p
-reads_lost a b c now p bytes few is same consumed = ([], bytes, few, (λ not. absurd (not is)), consumed, shuts_none c now a [] (ap (λ (x : State). x.is_closed) same), λ l here. comes_none now l (lives_as c now l same here))
+pub reads_lost : (a b : Option (List ℕ)) (c now : State) (p : Progress) (bytes : List ℕ) → length bytes ≤ PIECE → p ≡ Ended (Err Memory) → now.is_closed ≡ c.is_closed → ((l : Life) → Lives l c → Lives l now) → Consumes a b bytes → Reads a b c now p
+reads_lost a b c now p bytes few is same still consumed = ([], bytes, few, (λ not. absurd (not is)), consumed, shuts_none c now a [] same, λ l here. comes_none now l (still l here))
 
 -- the calls of a progress by which the store failed alike
 abbrev pub calls_either : (t u : Option (List Told)) (was : Option (Result Served ServeFault)) (p q : Progress) (xs : List Exchange) → (p ≡ Ended (Err Store) → q ≡ Ended (Err Store)) → (q ≡ Ended (Err Store) → p ≡ Ended (Err Store)) → MakesCalls was p t u xs → MakesCalls was q t u xs

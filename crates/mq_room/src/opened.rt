@@ -51,7 +51,7 @@ impl OpenConnection {
         peer: SocketAddr,
         timeout: Duration,
     ) -> io::Result<OpenConnection>
-        ensures fresh { IfOk result (λ made. made.connection ≡ fresh) }
+        ensures fresh { IfOk result (λ made. made.connection ≡ fresh made.connection.room) }
     {
         let until = deadline_after(clock, timeout)?;
         let deadline = deadline_after(clock, timeout.saturating_mul(TIMEOUTS))?;

@@ -22,7 +22,7 @@ use Rattle.mq_server.specs.Delivery.{Delivery, asked, answers, answers_after, an
 use Rattle.mq_server.specs.Held.{State}
 use Rattle.mq_server.specs.Life.{AreAnswered, Counts, Exchange, Life, Lives, MakesCalls, StandsNext, deliveries, replies_of, told_of, with_exchanges}
 use Rattle.mq_server.specs.State.{Goes, Steps}
-use Rattle.mq_server.specs.Text.{Asks, IsBad, IsPartial, frames_of, next}
+use Rattle.mq_server.specs.Text.{Asks, IsBad, IsPartial, MayLackMemory, frames_of, next}
 use Rattle.mq_server.proofs.Deliveries.{Follows, answer_more, history_more, history_none}
 use Rattle.mq_server.proofs.Living.{as_end, living}
 use Rattle.mq_server.proofs.Running.{asks_push, frames_of_push}
@@ -179,10 +179,11 @@ ends_lives k t u c now (Ok Enough) history legal going goes (body, reply, stands
 ends_lives k t u c now (Err Memory) history legal going (end, last, closed, less) (kept, inl (some, (same, told))) =
     advance_none k c now (OneAtMost t u (Ended (Err Memory))) history (one_worked t u (Ended (Err Memory)) [] (omega arith) (λ e. cc) told) legal same (λ l lives.
     let (text, counted, under, rest) = living l (l.taken ++ c.replies) c c.end going lives.replies in
+    let P : List ℕ → Type 0 = λ q. MayLackMemory (next q) in
     record {
       asks = lives.asks;
       replies = as_end l (l.taken ++ now.replies) now now.end (Some (Err Memory)) end
-          (l.exchanges, None, sym (append-nil l.exchanges), omega (arith, counted, under), (λ is. some (ap next rest ∙ is)), ap (λ (q : List ℕ). l.taken ++ q) kept ∙ text);
+          (l.exchanges, None, sym (append-nil l.exchanges), omega (arith, counted, under), subst P rest some, ap (λ (q : List ℕ). l.taken ++ q) kept ∙ text);
     })
 ends_lives k t u c now (Err Memory) history legal going (end, last, closed, less) (kept, inr (body, reply, stands, (d, spelled, a, h, told))) =
     (exchange d reply ∷ [], None, one_worked t u (Ended (Err Memory)) (exchange d reply ∷ []) (omega arith) (λ e. cc) told, one k d reply history a h, unheard_one c now body d reply going end stands spelled kept)

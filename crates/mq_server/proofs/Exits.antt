@@ -26,6 +26,7 @@ use Rattle.mq_server.specs.State.{Goes, Steps}
 use Rattle.mq_server.specs.Steps.{Refills, AnswersBody}
 use Rattle.mq_server.specs.Text.{IsBad, IsEnd, IsPartial, farewell, frames_of, next}
 use Rattle.mq_server.proofs.Heads.{some_behind, partial_short, left_short}
+use Rattle.mq_server.proofs.Stepping.{lacks_some}
 use Rattle.mq_server.proofs.Telling.{Tells-trans, Tells-kept, Tells-all, told_push}
 use Rattle.mq_server.proofs.Running.{SoFar, Finds, came_read, came_more, due_here, frames_of_push, answered_more, read_more}
 
@@ -348,7 +349,7 @@ ended b k t u v old mid holds c now (Ok Enough) history few short none left f s 
     enough b t v old _ now.rest (c.answered + 1) history (omega (arith, count, all)) (omega (arith, short, left_short 512 c.rest body now.rest stands))
     (replied_on b k t u v old mid holds c.rest c.replies now.replies body now.rest c.answered history x none added f s stands told sent)
 ended b k t u v old mid holds c now (Err Memory) history few short none left f s goes (kept, inl (some, (same, tells))) sent =
-    no_room b t v old _ c.rest c.answered history few short some (quiet_on b k t u v old mid holds c.rest c.replies now.replies c.answered history none kept s same tells sent)
+    no_room b t v old _ c.rest c.answered history few short (lacks_some (next c.rest) some) (quiet_on b k t u v old mid holds c.rest c.replies now.replies c.answered history none kept s same tells sent)
 ended b k t u v old mid holds c now (Err Memory) history few short none left f s goes (kept, inr (body, x, stands, told)) sent =
     reply_lost b k t u v old mid holds c.rest c.replies now.replies body now.rest c.answered history x few short f s stands told none kept sent
 ended b k t u v old mid holds c now (Err Store) history few short none left f s goes (kept, (body, after, stands, told)) sent =

@@ -20,22 +20,22 @@ living l text c end e h = let P : Option (Result Served ServeFault) → Type 0 =
 pub as_end : (l : Life) (text : List ℕ) (c : State) (end now : Option (Result Served ServeFault)) → end ≡ now → HasReplies l text c now → HasReplies l text c end
 as_end l text c end now e h = let P : Option (Result Served ServeFault) → Type 0 = λ o. HasReplies l text c o in subst P (sym e) h
 
-pub lives_more : (l : Life) (c : State) (piece : List ℕ) → Lives l c → c.end ≡ None → Lives (with_bytes l piece) (received c piece)
-lives_more l c piece lives e =
+pub lives_more : (l : Life) (c : State) (piece : List ℕ) (room : ℕ) → Lives l c → c.end ≡ None → Lives (with_bytes l piece) (received c piece room)
+lives_more l c piece room lives e =
     let (text, counted, few, same) = living l (l.taken ++ c.replies) c c.end e lives.replies in
     record {
       asks = asks_more l.bytes piece (asked (deliveries l.exchanges)) l.rest lives.asks;
-      replies = as_end (with_bytes l piece) (l.taken ++ c.replies) (received c piece) c.end None e (text, counted, few, ap (λ (q : List ℕ). q ++ piece) same);
+      replies = as_end (with_bytes l piece) (l.taken ++ c.replies) (received c piece room) c.end None e (text, counted, few, ap (λ (q : List ℕ). q ++ piece) same);
     }
 
 -- the same of what a call made
-pub receives : {E : Type 0} (r : Result (Unit {0}) E) (l : Life) (c now : State) (piece rest : List ℕ) → c ≡ now → Lives l now → now.end ≡ None → OnOk r (rest ≡ c.rest ++ piece)
-    → OnOk r (Lives (with_bytes l piece) (record { rest = rest; answered = c.answered; replies = c.replies; is_closed = c.is_closed; end = c.end }))
-receives (Ok done) l c now piece rest is lives e more =
+pub receives : {E : Type 0} (r : Result (Unit {0}) E) (l : Life) (c now : State) (piece rest : List ℕ) (room : ℕ) → c ≡ now → Lives l now → now.end ≡ None → OnOk r (rest ≡ c.rest ++ piece)
+    → OnOk r (Lives (with_bytes l piece) (record { rest = rest; answered = c.answered; replies = c.replies; is_closed = c.is_closed; end = c.end; room = room }))
+receives (Ok done) l c now piece rest room is lives e more =
     let P : State → Type 0 = λ q. Lives l q in
-    let Q : List ℕ → Type 0 = λ q. Lives (with_bytes l piece) (record { rest = q; answered = c.answered; replies = c.replies; is_closed = c.is_closed; end = c.end }) in
-    subst Q (sym more) (lives_more l c piece (subst P (sym is) lives) (ap (λ (q : State). q.end) is ∙ e))
-receives (Err fault) l c now piece rest is lives e more = tt
+    let Q : List ℕ → Type 0 = λ q. Lives (with_bytes l piece) (record { rest = q; answered = c.answered; replies = c.replies; is_closed = c.is_closed; end = c.end; room = room }) in
+    subst Q (sym more) (lives_more l c piece room (subst P (sym is) lives) (ap (λ (q : State). q.end) is ∙ e))
+receives (Err fault) l c now piece rest room is lives e more = tt
 
 -- ---- what a life comes to
 

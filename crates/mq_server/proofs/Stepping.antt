@@ -1,7 +1,7 @@
 -- What one step of a connection comes to.
-use Rattle.std.proofs.Common.{◌≡◌, ℕ, List, sym, subst, ◌∙◌, inl, inr, Option, Some, Result, Ok, Err, Bool, refl}
+use Rattle.std.proofs.Common.{◌≡◌, ℕ, List, sym, subst, inl, inr, Option, Some, Result, Ok, Err, Bool, refl}
 use Rattle.mq_frame.specs.declared.message.Reply.{Reply}
-use Rattle.mq_frame.specs.Feed.{Whole}
+use Rattle.mq_frame.specs.Feed.{Front, Nothing, Whole}
 use Rattle.mq_frame.specs.Spelling.{frame, reply_body}
 use Rattle.mq_ledger.specs.declared.entry.Entry.{Entry}
 use Rattle.mq_ledger.specs.declared.ledger.Told.{Told}
@@ -13,8 +13,7 @@ use Rattle.mq_server.specs.declared.fault.ServeFault.{ServeFault}
 use Rattle.mq_server.specs.declared.fault.ServeFault.TheVariants.{Read, Write, Memory, Store}
 use Rattle.mq_server.specs.State.{Ends, IsAdded, Steps}
 use Rattle.mq_server.specs.Steps.{AnswersBody}
-use Rattle.mq_server.specs.Text.{next}
-use Rattle.mq_server.proofs.Heads.{nothing_whole}
+use Rattle.mq_server.specs.Text.{MayLackMemory, next}
 
 -- a request came, and its reply was added or had no room
 pub added : (b : Book) (t u : Option (List Told)) (closed : Bool) (rest replies body rest' replies' : List ℕ) (reply : Reply) (history : List Entry) (progress : Progress)
@@ -29,7 +28,13 @@ added b t u closed rest replies body rest' replies' reply history (Ended end) st
 -- no reply came of a request
 pub unanswered : (b : Book) (t u : Option (List Told)) (closed : Bool) (rest replies body rest' : List ℕ) (history : List Entry) (fault : ServeFault)
     → next rest ≡ Whole body rest' → AnswersBody b t body (Err fault) history u → Ends b t closed rest replies (Err fault) rest' replies history u
-unanswered b t u closed rest replies body rest' history Memory stands told = (refl, inl (λ is. nothing_whole body rest' (sym is ∙ stands), told))
+unanswered b t u closed rest replies body rest' history Memory stands (needs, same, told) = (refl, inl (subst MayLackMemory (sym stands) needs, (same, told)))
 unanswered b t u closed rest replies body rest' history Store stands told = (refl, (body, rest', stands, told))
 unanswered b t u closed rest replies body rest' history Read stands told = absurd told
 unanswered b t u closed rest replies body rest' history Write stands told = absurd told
+
+-- ---- why memory ran out
+
+-- something stands there
+pub lacks_some : (f : Front) → MayLackMemory f → f ≡ Nothing → ⊥
+lacks_some f lacks is = subst MayLackMemory is lacks

@@ -3,7 +3,7 @@ use Rattle.std.specs.Prelude.{◌≡◌, ◌≢◌, ℕ, ◌<◌, ◌≤◌, Lis
 use Rattle.std.specs.Option.{option_to_list}
 use Rattle.mq_frame.specs.declared.message.Request.{Request}
 use Rattle.mq_frame.specs.declared.message.Reply.{Reply}
-use Rattle.mq_frame.specs.Feed.{Nothing, Whole}
+use Rattle.mq_frame.specs.Feed.{Whole}
 use Rattle.mq_frame.specs.Spelling.{SpellsRequest}
 use Rattle.mq_ledger.specs.declared.entry.Entry.{Entry}
 use Rattle.mq_ledger.specs.declared.ledger.Told.{Told}
@@ -18,7 +18,7 @@ use Rattle.mq_server.specs.declared.fault.ServeFault.{ServeFault}
 use Rattle.mq_server.specs.declared.fault.ServeFault.TheVariants.{Read, Write, Memory, Store}
 use Rattle.mq_server.specs.Delivery.{Delivery, asked, answers, answer_to, call, failed_call, history_after}
 use Rattle.mq_server.specs.Held.{State}
-use Rattle.mq_server.specs.Text.{Asks, IsEnd, farewell, frames_of, next}
+use Rattle.mq_server.specs.Text.{Asks, IsEnd, MayLackMemory, farewell, frames_of, next}
 
 -- a request that came on a connection, whether the ledger took it, and its answer
 pub record Exchange : Type 0 where
@@ -75,9 +75,10 @@ HasReplies l text c None =
 HasReplies l text c (Some (Ok e)) =
     (text ≡ frames_of (replies_of l.exchanges ++ farewell e)) × IsEnd e (length l.exchanges) (next l.rest) (Some [])
     × NeedsClose e c.is_closed
--- a growth was refused: those to all its requests, but to the last where it was its reply that found no room
+-- a growth was refused: those to all its requests, but to the last where it was its reply that found no room; else it
+-- was one for what stands next
 HasReplies l text c (Some (Err Memory)) = (done : List Exchange) × (last : Option Exchange)
-    × (l.exchanges ≡ done ++ option_to_list last) × (length done < ENOUGH) × IfNone last (next l.rest ≢ Nothing)
+    × (l.exchanges ≡ done ++ option_to_list last) × (length done < ENOUGH) × IfNone last (MayLackMemory (next l.rest))
     × (text ≡ frames_of (replies_of done))
 -- the store failed at the request that stands next
 HasReplies l text c (Some (Err Store)) = (text ≡ frames_of (replies_of l.exchanges)) × (length l.exchanges < ENOUGH)

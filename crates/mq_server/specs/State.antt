@@ -1,5 +1,5 @@
 -- What a connection holds between two calls, and what an attempt to answer does to it.
-use Rattle.std.specs.Prelude.{◌≡◌, ◌≢◌, ◌⊎◌, ℕ, suc, ◌<◌, ◌≤◌, List, [], ◌++◌, length, Bool, true, false, Option, None, Some, Result, Ok, Err}
+use Rattle.std.specs.Prelude.{◌≡◌, ◌⊎◌, ℕ, suc, ◌+◌, ◌<◌, ◌≤◌, List, [], ◌++◌, length, Bool, true, false, Option, None, Some, Result, Ok, Err}
 use Rattle.mq_frame.specs.declared.message.Reply.{Reply}
 use Rattle.mq_frame.specs.declared.message.Reply.TheVariants.{Bad}
 use Rattle.mq_frame.specs.Feed.{Nothing, Cut, Whole}
@@ -17,7 +17,7 @@ use Rattle.mq_server.specs.declared.fault.ServeFault.{ServeFault}
 use Rattle.mq_server.specs.declared.fault.ServeFault.TheVariants.{Read, Write, Memory, Store}
 use Rattle.mq_server.specs.Steps.{AnswersBody}
 use Rattle.mq_server.specs.Held.{State}
-use Rattle.mq_server.specs.Text.{IsBad, IsPartial, next}
+use Rattle.mq_server.specs.Text.{IsBad, IsPartial, MayLackMemory, next}
 
 -- the frames answered so far: fewer than are answered in all while it goes on
 abbrev pub IsCount : Option (Result Served ServeFault) → ℕ → Type 0
@@ -29,6 +29,10 @@ abbrev pub Replies : Book → Option (List Told) → List ℕ → List ℕ → L
 Replies b told rest replies rest' replies' history tells =
     (body : List ℕ) × (reply : Reply) × (next rest ≡ Whole body rest')
     × (replies' ≡ replies ++ frame (reply_body reply)) × AnswersBody b told body (Ok (Some reply)) history tells
+
+-- replies that have so much room have none for the frame of one more
+abbrev pub HasNoRoom : ℕ → List ℕ → Reply → Type 0
+HasNoRoom room replies reply = room < length replies + length (frame (reply_body reply))
 
 -- a reply's frame was added, or had no room
 abbrev pub IsAdded : List ℕ → List ℕ → Progress → List ℕ → Type 0
@@ -46,7 +50,7 @@ abbrev pub IsQuiet : Book → Option (List Told) → List Entry → Option (List
 IsQuiet b told history tells = (history ≡ b.history) × Tells told tells []
 
 -- How it ends at what stands at the front: at the input's end; by Bad to what is no request; by the last answer; where
--- the request, its reply or Bad had no room; where the store failed.
+-- there was no memory for what the request holds, for its reply or for Bad; where the store failed.
 abbrev pub Ends : Book → Option (List Told) → Bool → List ℕ → List ℕ → Result Served ServeFault
     → List ℕ → List ℕ → List Entry → Option (List Told) → Type 0
 Ends b told closed rest replies (Ok InputEnd) rest' replies' history tells =
@@ -58,7 +62,7 @@ Ends b told closed rest replies (Ok BadFrame) rest' replies' history tells =
 Ends b told closed rest replies (Ok Enough) rest' replies' history tells =
     Replies b told rest replies rest' replies' history tells
 Ends b told closed rest replies (Err Memory) rest' replies' history tells =
-    (replies' ≡ replies) × (((next rest ≢ Nothing) × IsQuiet b told history tells)
+    (replies' ≡ replies) × ((MayLackMemory (next rest) × IsQuiet b told history tells)
     ⊎ ((body : List ℕ) × (reply : Reply) × (next rest ≡ Whole body rest')
     × AnswersBody b told body (Ok (Some reply)) history tells))
 Ends b told closed rest replies (Err Store) rest' replies' history tells =
@@ -76,6 +80,14 @@ Steps b told closed rest replies Answered rest' replies' history tells =
 Steps b told closed rest replies Waits rest' replies' history tells = IsQuiet b told history tells
 Steps b told closed rest replies (Ended end) rest' replies' history tells =
     Ends b told closed rest replies end rest' replies' history tells
+
+-- Where it ended for memory some growth may have been refused: before the ledger was asked for what the request holds, or
+-- for Bad, for which the replies had no room; or for the reply, for which they had none, after it was.
+abbrev pub LacksMemory : Book → Option (List Told) → ℕ → List ℕ → List ℕ → List ℕ → List Entry → Option (List Told) → Type 0
+LacksMemory b told room rest replies rest' history tells =
+    (MayLackMemory (next rest) × (IsBad (next rest) → HasNoRoom room replies Bad) × IsQuiet b told history tells)
+    ⊎ ((body : List ℕ) × (reply : Reply) × (next rest ≡ Whole body rest') × HasNoRoom room replies reply
+    × AnswersBody b told body (Ok (Some reply)) history tells)
 
 -- an end that a connection comes to by itself, before the last answer
 abbrev pub IsOwnEnd : Result Served ServeFault → Type 0

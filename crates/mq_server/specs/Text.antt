@@ -7,6 +7,7 @@ use Rattle.mq_frame.specs.declared.message.Request.{Request}
 use Rattle.mq_frame.specs.declared.message.Reply.{Reply}
 use Rattle.mq_frame.specs.declared.message.Reply.TheVariants.{Bad}
 use Rattle.mq_frame.specs.Feed.{Front, Nothing, Cut, EmptyHead, LongHead, Whole, front, BeginsWith}
+use Rattle.mq_frame.specs.Owned.{RequestHoldsBytes}
 use Rattle.mq_frame.specs.Spelling.{SpellsRequest, frame, reply_body}
 use Rattle.mq_server.specs.declared.connection.Served.{Served}
 use Rattle.mq_server.specs.declared.connection.Served.TheVariants.{InputEnd, Enough, BadFrame, CutFrame}
@@ -38,6 +39,19 @@ SpellsNone body = (request : Request) → SpellsRequest body request → ⊥
 -- some request is spelled so
 abbrev pub SpellsOne : List ℕ → Type 0
 SpellsOne body = (request : Request) × SpellsRequest body request
+
+-- a request that is spelled so holds bytes of its own, so that there may be no memory for it
+abbrev pub NeedsMemory : List ℕ → Type 0
+NeedsMemory body = (request : Request) → SpellsRequest body request → RequestHoldsBytes request
+
+-- what stands there is answered, and there may be no memory for it before the ledger is asked: for what a request holds,
+-- or for Bad
+abbrev pub MayLackMemory : Front → Type 0
+MayLackMemory Nothing = ⊥
+MayLackMemory Cut = ⊥
+MayLackMemory EmptyHead = Unit {0}
+MayLackMemory LongHead = Unit {0}
+MayLackMemory (Whole body after) = NeedsMemory body
 
 -- it is an empty head, a long head or a frame of no request: each is answered by Bad
 abbrev pub IsBad : Front → Type 0

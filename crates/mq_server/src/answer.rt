@@ -3,7 +3,7 @@ ghost use Rattle.std.specs.Prelude.{◌≡◌, ◌⊎◌, ℕ, List, Err, IfOk, 
 ghost use Rattle.mq_frame.specs.Range.{IsRequest, IsReply};
 ghost use Rattle.mq_frame.specs.Spelling.{SpellsRequest};
 ghost use Rattle.mq_server.specs.Steps.{AnswersBody};
-ghost use Rattle.mq_server.specs.Text.{SpellsNone, SpellsOne};
+ghost use Rattle.mq_server.specs.Text.{NeedsMemory, SpellsNone, SpellsOne};
 
 use crate::fault::ServeFault;
 use mq_frame::{DecodeFault, Reply, Request, decode_request};
@@ -13,7 +13,7 @@ use std::alloc::Global;
 /// The answer to a frame's body: the ledger's reply to the request that it spells, `Retry` where
 /// the ledger had no memory for it, and none where it spells no request.
 ///
-/// `Memory` where the request had no room, before it came to the ledger; `Store` where the ledger's
+/// `Memory` where there was none for what the request holds, before it came to the ledger; `Store` where the ledger's
 /// store failed. After either the ledger means what it meant before.
 pub fn answer_body<L: Ledger>(
     alloc: Global,
@@ -25,6 +25,8 @@ pub fn answer_body<L: Ledger>(
     ensures faults { IfErr result (λ fault. (fault ≡ ServeFault.Memory) ⊎ (fault ≡ ServeFault.Store)) }
     ensures asks { MatchResult result (λ answer. MatchOption answer (SpellsNone body.now) (λ _. SpellsOne body.now))
         (λ _. SpellsOne body.now) }
+    // Memory is asked for only where the request holds bytes of its own.
+    ensures full { result ≡ Err ServeFault.Memory → NeedsMemory body.now }
     ensures same_zone { (L.book ledger.new).zone ≡ (L.book ledger.old).zone }
     ensures same_default { (L.book ledger.new).default ≡ (L.book ledger.old).default }
     ensures kept { L.has_kept ledger.new → L.has_kept ledger.old }

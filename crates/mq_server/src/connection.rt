@@ -1,7 +1,7 @@
 //! A connection without its socket: bytes come in as they come, whole frames are answered, and the replies wait until
 //! they are taken.
-ghost use Rattle.std.specs.Prelude.{◌≡◌, ◌≤◌, length, take, drop, true, false, None, Some, Err, List, OnOk, OnErr, ℕ};
-ghost use Rattle.mq_server.specs.Held.{fresh, received, with_closed, with_replies};
+ghost use Rattle.std.specs.Prelude.{◌≡◌, ◌<◌, ◌≤◌, ◌+◌, length, take, drop, true, false, None, Some, Err, List, OnOk, OnErr, ℕ};
+ghost use Rattle.mq_server.specs.Held.{fresh, received, with_closed, with_replies, with_room};
 ghost use Rattle.mq_server.specs.Life.{AreAnswered, Counts, Exchange, Life, Lives, MakesCalls, StandsNext, unborn, with_bytes, with_exchanges, with_taken};
 ghost use Rattle.mq_server.specs.State.{Goes, Steps};
 ghost use Rattle.mq_server.specs.Text.{IsPartial, next};
@@ -68,6 +68,7 @@ impl Model for Connection {
       replies = c.replies.items;
       is_closed = c.is_closed;
       end = c.end;
+      room = c.feed.room;
     } };
 
     ghost invariant = { λ c. (c.feed.limit ≡ request_limit) × IsCount c.end c.answered };
@@ -76,7 +77,7 @@ impl Model for Connection {
 impl Connection {
     /// A connection on which nothing came yet.
     pub fn new(alloc: Global) -> Connection
-        ensures fresh { result ≡ fresh }
+        ensures fresh { result ≡ fresh result.room }
         ensures lives { Lives unborn result }
     {
         Connection {
@@ -88,12 +89,17 @@ impl Connection {
         }
     }
 
-    /// These bytes came. After an `Err` the connection is as before.
+    /// These bytes came. After an `Err` the connection is as before, but for its room.
     pub fn receive(&mut self, piece: &[u8]) -> Result<(), Memory>
-        ensures ok { OnOk result (self.new ≡ received self.old piece.now) }
-        ensures err { OnErr result (self.new ≡ self.old) }
+        ensures ok { OnOk result (self.new ≡ received self.old piece.now self.new.room) }
+        ensures err { OnErr result (self.new ≡ with_room self.old self.new.room) }
+        // Memory is answered only where there is no room for what wasn't answered yet and the piece, and room never
+        // shrinks.
+        ensures full { OnErr result (self.old.room < length self.old.rest + length piece.now) }
+        ensures room { self.old.room ≤ self.new.room }
         ensures lives { (l : Life) → Lives l self.old → self.old.end ≡ None →
             OnOk result (Lives (with_bytes l piece.now) self.new) }
+        ensures still { (l : Life) → Lives l self.old → OnErr result (Lives l self.new) }
     {
         self.feed.feed(piece)
     }

@@ -51,7 +51,7 @@ pub fn any_cutting()
 /// What a connection was given and gave is what is served for all the bytes that came on it.
 pub fn a_life_is_served()
     // Nothing has come on a connection that is new.
-    ensures begins { Lives unborn fresh }
+    ensures begins { (room : ℕ) → Lives unborn (fresh room) }
 
     // At an end the replies that were taken and those that wait are all that is served for these bytes.
     ensures ended { (l : Life) (c : State) (e : Served) → Lives l c → c.end ≡ Some (Ok e) →

@@ -6,7 +6,7 @@ ghost use Rattle.mq_frame.specs.Spelling.{frame, reply_body};
 ghost use Rattle.mq_frame.specs.declared.message.Reply.TheVariants.{Bad};
 ghost use Rattle.mq_frame.specs.declared.feed.TheConstants.{REQUEST_LIMIT as request_limit};
 ghost use Rattle.mq_server.specs.declared.connection.Progress.TheVariants.{Ended};
-ghost use Rattle.mq_server.specs.State.{IsAdded, IsRefused, Moves, Steps};
+ghost use Rattle.mq_server.specs.State.{HasNoRoom, IsAdded, IsRefused, LacksMemory, Moves, Steps};
 ghost use Rattle.mq_server.specs.Steps.{end_at};
 ghost use Rattle.mq_server.specs.Text.{IsBad, next};
 
@@ -30,7 +30,7 @@ fn input_end(feed: &FrameFeed) -> Served
 /// Answers what is no request, which ends the connection.
 fn refuse(alloc: Global, replies: &mut Vec<u8>) -> Result<Served, ServeFault>
     ensures refused { IsRefused replies.old.items result replies.new.items }
-    ensures full { OnErr result (vec_capacity replies.old < vec_len replies.old + length (frame (reply_body Bad))) }
+    ensures full { OnErr result (HasNoRoom (vec_capacity replies.old) replies.old.items Bad) }
 {
     encode_reply(alloc, &Reply::Bad, replies)?;
     Ok(Served::BadFrame)
@@ -41,7 +41,7 @@ fn add(alloc: Global, reply: &Reply, replies: &mut Vec<u8>) -> Progress
     requires { IsReply reply.now }
     ensures added { IsAdded replies.old.items (frame (reply_body reply.now)) result replies.new.items }
     ensures full { (end : _) → result ≡ Ended end →
-        vec_capacity replies.old < vec_len replies.old + length (frame (reply_body reply.now)) }
+        HasNoRoom (vec_capacity replies.old) replies.old.items reply.now }
 {
     match encode_reply(alloc, reply, replies) {
         Ok(()) => Progress::Answered,
@@ -60,10 +60,11 @@ pub fn step<L: Ledger>(
     requires { feed.old.limit ≡ request_limit }
     // Of any ledger, sound or not.
     ensures limit { feed.new.limit ≡ request_limit }
+    ensures room { feed.new.room ≡ feed.old.room }
     ensures moves { Moves is_closed feed.old.rest replies.old.items result feed.new.rest replies.new.items }
     // What is no request ends it for memory only where Bad had no room.
     ensures full { result ≡ Ended (Err ServeFault.Memory) → IsBad (next feed.old.rest) →
-        vec_capacity replies.old < vec_len replies.old + length (frame (reply_body Bad)) }
+        HasNoRoom (vec_capacity replies.old) replies.old.items Bad }
     ensures same_zone { (L.book ledger.new).zone ≡ (L.book ledger.old).zone }
     ensures same_default { (L.book ledger.new).default ≡ (L.book ledger.old).default }
     ensures kept { L.has_kept ledger.new → L.has_kept ledger.old }
@@ -75,6 +76,9 @@ pub fn step<L: Ledger>(
     ensures steps { L.has_kept ledger.new → L.is_sound ledger.old →
         Steps (L.book ledger.old) (L.told ledger.old) is_closed feed.old.rest replies.old.items result
         feed.new.rest replies.new.items (L.book ledger.new).history (L.told ledger.new) }
+    ensures lacks { L.has_kept ledger.new → L.is_sound ledger.old → result ≡ Ended (Err ServeFault.Memory) →
+        LacksMemory (L.book ledger.old) (L.told ledger.old) (vec_capacity replies.old) feed.old.rest replies.old.items
+        feed.new.rest (L.book ledger.new).history (L.told ledger.new) }
 {
     match feed.next_body() {
         Err(_) => Progress::Ended(refuse(alloc, replies)),

@@ -20,7 +20,7 @@ returns-in-Ok-receive-clause-reads g c = reads_some (g.N.Network.wire c.args.net
 pub returns-in-Err-receive-clause-reads : goal.returns-in-Err-receive-clause-reads
 returns-in-Err-receive-clause-reads g c =
     let small : length c.read.new.piece ≤ PIECE = search rules in
-    reads_lost (g.N.Network.wire c.args.network.now c.args.number).remaining (g.N.Network.wire c.read.new.self c.args.number).remaining c.args.self.now.connection c.receive.new.self _ _ (few_of c.in-Ok.count c.read.new.piece small) refl c.in-Err-receive.ensures.err c.in-Ok.ensures.bytes.0
+    reads_lost (g.N.Network.wire c.args.network.now c.args.number).remaining (g.N.Network.wire c.read.new.self c.args.number).remaining c.args.self.now.connection c.receive.new.self _ _ (few_of c.in-Ok.count c.read.new.piece small) refl (ap (λ (x : State). x.is_closed) c.in-Err-receive.ensures.err) c.in-Err-receive.ensures.still c.in-Ok.ensures.bytes.0
 
 pub returns-in-Err-clause-reads : goal.returns-in-Err-clause-reads
 returns-in-Err-clause-reads g c =
