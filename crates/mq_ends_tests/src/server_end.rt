@@ -7,6 +7,7 @@ mod fixtures;
 mod frame;
 mod ledger;
 mod link;
+mod nearing;
 mod outages;
 mod room;
 mod server;

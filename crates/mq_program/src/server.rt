@@ -24,7 +24,7 @@ use mq_room::serve_connections;
 use mq_server::laws::more_deliveries;
 use mq_settings::{Place, ServerSettings, read_file, read_server_settings};
 use mq_store::SqlLedger;
-use mq_watch::Watched;
+use mq_watch::{Hear, Watched};
 use sqlite::{Alter, FileFrom, FileStore, Start};
 use std::alloc::Global;
 use std::net::{Net, TcpListener, TcpStream};
@@ -223,12 +223,12 @@ fn log_ledger<G: Log, S: Alter>(
 
 /// Listens at the address of the settings, and serves so many connections over the ledger. The start,
 /// the end and what prevents it are logged.
-pub fn listen<R, G: Log, L: Ledger>(
+pub fn listen<R, G: Log, L: Ledger + Hear>(
     rt: &R,
     log: &G,
     alloc: Global,
     settings: &ServerSettings,
-    ledger: &mut Watched<'_, L, R, G>,
+    ledger: &mut L,
     connections: u32,
 ) -> Result<u8, ProgramFault>
 where

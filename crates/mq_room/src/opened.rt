@@ -8,12 +8,11 @@ ghost use Rattle.mq_server.specs.Life.{Life, Lives, with_bytes, with_taken};
 ghost use Rattle.mq_room.specs.Turns.{ClosesAtEnd, Offers, Turns};
 
 use crate::network::Network;
-use log::Log;
 use mq_deadline::deadline_after;
 use mq_ledger::Ledger;
 use mq_server::laws::more_exchanges;
 use mq_server::{Connection, PIECE, Progress, ServeFault, Served};
-use mq_watch::Watched;
+use mq_watch::Hear;
 use std::alloc::Global;
 use std::io;
 use std::io::ErrorKind;
@@ -260,14 +259,14 @@ fn take_turns<N: Network, C: Clock, L: Ledger>(
 }
 
 /// Gives a connection turns. What it asks of the ledger comes from its peer.
-pub fn give_turns<N: Network, C: Clock, G: Log, L: Ledger>(
+pub fn give_turns<N: Network, C: Clock, L: Ledger + Hear>(
     clock: &C,
     alloc: Global,
     network: &mut N,
     number: usize,
     opened: &mut OpenConnection,
     timeout: Duration,
-    ledger: &mut Watched<'_, L, C, G>,
+    ledger: &mut L,
 ) -> Progress
     ensures others { (n : ℕ) → n ≢ number → N.wire network.new n ≡ N.wire network.old n }
     ensures store { result ≡ Ended (Err ServeFault.Store) → opened.new.connection.end ≡ Some (Err ServeFault.Store) }

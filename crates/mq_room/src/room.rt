@@ -12,7 +12,7 @@ use log::{Log, error, warn};
 use mq_ledger::Ledger;
 use mq_server::laws::{a_life_is_served, more_exchanges};
 use mq_server::{PIECE, Progress, ServeFault, Served};
-use mq_watch::Watched;
+use mq_watch::Hear;
 use std::alloc::Global;
 use std::collections::BTreeMap;
 use std::net::SocketAddr;
@@ -134,14 +134,14 @@ impl Room {
     }
 
     /// Gives each connection of which something came its turns.
-    pub fn serve<N: Network, C: Clock, G: Log, L: Ledger>(
+    pub fn serve<N: Network, C: Clock, G: Log, L: Ledger + Hear>(
         &mut self,
         clock: &C,
         log: &G,
         network: &mut N,
         ready: &[usize],
         timeout: Duration,
-        ledger: &mut Watched<'_, L, C, G>,
+        ledger: &mut L,
     ) -> Result<(), RoomFault>
         ensures same_zone { (L.book ledger.new).zone ≡ (L.book ledger.old).zone }
         ensures same_default { (L.book ledger.new).default ≡ (L.book ledger.old).default }
@@ -161,14 +161,14 @@ impl Room {
     }
 
     /// Gives a connection its turns, and closes it where it ended.
-    fn serve_one<N: Network, C: Clock, G: Log, L: Ledger>(
+    fn serve_one<N: Network, C: Clock, G: Log, L: Ledger + Hear>(
         &mut self,
         clock: &C,
         log: &G,
         network: &mut N,
         number: usize,
         timeout: Duration,
-        ledger: &mut Watched<'_, L, C, G>,
+        ledger: &mut L,
     ) -> Result<(), RoomFault>
         ensures same_zone { (L.book ledger.new).zone ≡ (L.book ledger.old).zone }
         ensures same_default { (L.book ledger.new).default ≡ (L.book ledger.old).default }

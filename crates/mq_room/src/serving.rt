@@ -12,7 +12,7 @@ use log::{Log, error};
 use mio::Events;
 use mq_ledger::Ledger;
 use mq_server::laws::{a_life_is_served, more_exchanges};
-use mq_watch::Watched;
+use mq_watch::Hear;
 use std::alloc::Global;
 use std::io;
 use std::net::{Net, TcpListener};
@@ -23,13 +23,13 @@ use std::time::{Duration, Instant};
 /// others by what it doesn't send, or doesn't take of its replies. Each end but that of whole frames is logged with the
 /// peer's address. A store that failed stops the serving, and so does a listener that accepts no more. `timeout` is how
 /// long a peer may neither send nor take anything; a whole connection has twice as long.
-pub fn serve_connections<R: Clock + Net, G: Log, L: Ledger>(
+pub fn serve_connections<R: Clock + Net, G: Log, L: Ledger + Hear>(
     rt: &R,
     log: &G,
     alloc: Global,
     listener: &TcpListener,
     timeout: Duration,
-    ledger: &mut Watched<'_, L, R, G>,
+    ledger: &mut L,
     connections: u32,
 ) -> Result<(), RoomFault>
     // Of any ledger, sound or not.
@@ -57,13 +57,13 @@ pub fn serve_connections<R: Clock + Net, G: Log, L: Ledger>(
 
 /// Serves the connections of a network until all were accepted and have ended, or it has to stop. A connection is closed
 /// only after its peer was offered the replies that wait.
-pub fn serve_network<N: Network, C: Clock, G: Log, L: Ledger>(
+pub fn serve_network<N: Network, C: Clock, G: Log, L: Ledger + Hear>(
     clock: &C,
     log: &G,
     alloc: Global,
     network: &mut N,
     timeout: Duration,
-    ledger: &mut Watched<'_, L, C, G>,
+    ledger: &mut L,
 ) -> Result<(), RoomFault>
     // Of any ledger, sound or not.
     ensures same_zone { (L.book ledger.new).zone ≡ (L.book ledger.old).zone }
@@ -86,14 +86,14 @@ pub fn serve_network<N: Network, C: Clock, G: Log, L: Ledger>(
 }
 
 /// Serves the connections of a network, round by round. Where it has to stop, some may be open still.
-fn serve_rounds<N: Network, C: Clock, G: Log, L: Ledger>(
+fn serve_rounds<N: Network, C: Clock, G: Log, L: Ledger + Hear>(
     clock: &C,
     log: &G,
     network: &mut N,
     room: &mut Room,
     ready: &mut Vec<usize>,
     timeout: Duration,
-    ledger: &mut Watched<'_, L, C, G>,
+    ledger: &mut L,
 ) -> Result<(), RoomFault>
     ensures same_zone { (L.book ledger.new).zone ≡ (L.book ledger.old).zone }
     ensures same_default { (L.book ledger.new).default ≡ (L.book ledger.old).default }

@@ -1,9 +1,16 @@
 //! Of which hosts a line was logged within an hour.
-ghost use Rattle.std.specs.Prelude.{◌≡◌, ◌≢◌, ◌↔◌, ◌<◌, [], ◌∷◌, ◌++◌, length, All, IsTrue, false};
-ghost use Rattle.mq_watch.specs.Hours.{AreFar, IsOver};
+ghost use Rattle.std.specs.Prelude.{◌≡◌, ◌≢◌, ◌↔◌, ◌<◌, ◌⊎◌, ℕ, ℤ, [], ◌∷◌, ◌++◌, length, All, IfSome, IsNone, IsTrue, false};
+ghost use Rattle.mq_frame.specs.Range.{IsMoment};
+ghost use Rattle.mq_ledger.specs.Day.{ByOffset, IsOffset, day_of};
+ghost use Rattle.mq_watch.specs.Hours.{AreClose, AreFar, IsOver};
 
 use mq_frame::Host;
+use mq_ledger::Zone;
+use mq_ledger::laws::day_is_the_floor;
 use std::alloc::Global;
+
+/// The seconds of half a day.
+const HALF_DAY: u64 = 43_200;
 
 /// The seconds of an hour.
 const HOUR: u64 = 3_600;
@@ -12,10 +19,51 @@ const HOUR: u64 = 3_600;
 const NAMES: usize = 1_000;
 
 /// Whether there is a day or more between two days.
-pub fn are_far(day: u32, today: u32) -> bool
+fn are_far(day: u32, today: u32) -> bool
     ensures { IsTrue result ↔ AreFar day today }
 {
     day.abs_diff(today) > 1
+}
+
+/// Whether two moments are less than half a day apart, in seconds.
+fn are_close(at: u64, now: u64) -> bool
+    ensures { IsTrue result ↔ AreClose at now }
+{
+    at.abs_diff(now) < HALF_DAY
+}
+
+/// By an offset no day lies between those of two moments that are less than half a day apart.
+fn close_moments_have_near_days()
+    ensures { (minutes : ℤ) (at now : ℕ) → IsOffset minutes → IsMoment at → IsMoment now → AreClose at now →
+        AreFar (day_of (ByOffset minutes) at) (day_of (ByOffset minutes) now) → ⊥ }
+{
+    day_is_the_floor();
+}
+
+/// The days of a moment and of the server's, where the moments are half a day apart or more, and a day lies between them.
+///
+/// By an offset no day lies between those of moments that are closer; by a rule one does only where its summer time is
+/// half a day or more ahead of its winter time. So mostly no day has to be worked out.
+pub fn far_days(zone: &Zone, at: u64, now: u64) -> Option<(u32, u32)>
+    requires at { IsMoment at }
+    requires now { IsMoment now }
+    ensures some { IfSome result (λ days. (days ≡ (day_of zone.now at, day_of zone.now now)) × AreFar days.0 days.1) }
+    ensures none { IsNone result →
+        AreClose at now ⊎ (AreFar (day_of zone.now at) (day_of zone.now now) → ⊥) }
+    ensures offset { (minutes : ℤ) → IsOffset minutes → zone.now ≡ ByOffset minutes → IsNone result →
+        AreFar (day_of zone.now at) (day_of zone.now now) → ⊥ }
+{
+    close_moments_have_near_days();
+    if are_close(at, now) {
+        return None;
+    }
+    let day = zone.day_at(at);
+    let today = zone.day_at(now);
+    if are_far(day, today) {
+        Some((day, today))
+    } else {
+        None
+    }
 }
 
 /// Whether an hour that began at the one moment is over at the other. A clock that was put back ends it too. In seconds.
@@ -80,8 +128,10 @@ impl NamedHosts {
         ensures more { IsTrue result → (IsOver self.old.since now → ⊥) → (self.new.since ≡ self.old.since)
             × (self.new.hosts.items ≡ self.old.hosts.items ++ host.now ∷ [])
             × (length self.old.hosts.items < 1000) × All (λ h. h ≢ host.now) self.old.hosts.items }
+        ensures over { result ≡ false → IsOver self.old.since now →
+            (self.new.since ≡ now) × (self.new.hosts.items ≡ []) }
         ensures same { result ≡ false → (IsOver self.old.since now → ⊥) →
-            self.new.hosts.items ≡ self.old.hosts.items }
+            (self.new.since ≡ self.old.since) × (self.new.hosts.items ≡ self.old.hosts.items) }
     {
         self.begin(now);
         self.add(host)

@@ -1,5 +1,7 @@
 //! What the lines say.
 
+use crate::nearing::Usage;
+use log::Level;
 use mq_frame::{Escaped, Host, Login, Reply};
 use mq_ledger::LedgerFault;
 use std::fmt;
@@ -10,7 +12,19 @@ pub struct LimitLine<'a> {
     pub login: &'a Login,
     pub from_day: u32,
     pub cap: u32,
+    /// The cap that the login had on that day before, where it is lower now.
+    pub lowered_from: Option<u32>,
     pub answer: &'a Result<Reply, LedgerFault>,
+}
+
+impl LimitLine<'_> {
+    /// A limit that lowers another is a warning: it may stop a login.
+    pub fn level(&self) -> Level {
+        match self.lowered_from {
+            Some(_) => Level::Warn,
+            None => Level::Info,
+        }
+    }
 }
 
 impl fmt::Display for LimitLine<'_> {
@@ -19,7 +33,11 @@ impl fmt::Display for LimitLine<'_> {
         let login = Escaped(self.login.as_slice());
         let from_day = self.from_day;
         write!(f, "limit {cap} of login {login} from day {from_day}: ")?;
-        write_answer(f, self.answer)
+        write_answer(f, self.answer)?;
+        match self.lowered_from {
+            Some(was) => write!(f, ", lowered from {was}"),
+            None => Ok(()),
+        }
     }
 }
 
@@ -54,6 +72,27 @@ impl fmt::Display for DayLine<'_> {
         write!(
             f,
             "host {host} reserves for day {day}, and today is day {today}: its clock or the server's is wrong"
+        )
+    }
+}
+
+/// A login that nears its limit.
+#[derive(Clone, Copy)]
+pub struct NearLine<'a> {
+    pub login: &'a Login,
+    pub day: u32,
+    pub usage: Usage,
+}
+
+impl fmt::Display for NearLine<'_> {
+    fn fmt<W: fmt::Write>(&self, f: &mut fmt::Formatter<W>) -> fmt::Result {
+        let login = Escaped(self.login.as_slice());
+        let used = self.usage.used;
+        let cap = self.usage.cap;
+        let day = self.day;
+        write!(
+            f,
+            "login {login} has used {used} of its limit of {cap} on day {day}"
         )
     }
 }

@@ -1,30 +1,26 @@
 //! A ledger that logs what comes to it.
-ghost use Rattle.std.specs.Prelude.{◌≡◌};
-ghost use Rattle.mq_frame.specs.Range.{IsMoment, IsRequest};
+ghost use Rattle.std.specs.Prelude.{◌≡◌, ◌<◌, IfOk, IfErr, IfSome, Some};
+ghost use Rattle.mq_frame.specs.Range.{IsDay, IsLogin, IsMoment, IsRequest};
+ghost use Rattle.mq_watch.specs.Asked.{IsAsked};
 
-use crate::hours::{NamedHosts, are_far};
-use crate::lines::{DayLine, LimitLine};
-use log::{Log, info, warn};
-use mq_frame::format::{FIRST_MOMENT, LAST_MOMENT};
-use mq_frame::{Host, Reply, Request};
+use crate::asking::ask_usage;
+use crate::clock::{moment_of, seconds_of};
+use crate::hear::Hear;
+use crate::hours::{NamedHosts, far_days};
+use crate::lines::{DayLine, LimitLine, NearLine};
+use crate::nearing::Nearing;
+use log::{Log, log, warn};
+use mq_frame::{Host, Login, Reply, Request};
 use mq_ledger::{Ledger, LedgerFault, Zone};
 use std::alloc::Global;
 use std::marker::Model;
 use std::net::{Ipv4Addr, SocketAddr};
 use std::rt::Clock;
-use std::time::{SystemTime, UNIX_EPOCH};
-
-/// The moment of so many seconds since 1970, or the first or last moment there is.
-fn moment_of(seconds: u64) -> u64
-    ensures range { IsMoment result }
-    ensures value { IsMoment seconds → result ≡ seconds }
-{
-    seconds.max(FIRST_MOMENT).min(LAST_MOMENT)
-}
 
 /// A ledger that answers as another one does, and logs with the address of the peer that asked: each limit with its
-/// answer; and, once an hour and host, a reserve whose day isn't today, yesterday or tomorrow by the server's clock. Contracts
-/// see the other one.
+/// answer; once an hour and host, a reserve whose day isn't today, yesterday or tomorrow by the server's clock; and once for
+/// a login and day, that the login nears its limit. For the log it asks the other one what logins have used, which leaves
+/// it as it was. Contracts see the other one.
 #[derive(Drop)]
 pub struct Watched<'a, L, C, G> {
     ledger: L,
@@ -34,6 +30,8 @@ pub struct Watched<'a, L, C, G> {
     peer: SocketAddr,
     /// The hosts of whose clocks a line was logged.
     hosts: NamedHosts,
+    /// The logins that near their limits.
+    nearing: Nearing,
 }
 
 impl<'a, L, C, G> Model for Watched<'a, L, C, G> {
@@ -53,6 +51,7 @@ impl<'a, L: Ledger, C: Clock, G: Log> Watched<'a, L, C, G> {
             log,
             peer: SocketAddr::new(Ipv4Addr::UNSPECIFIED.into(), 0),
             hosts: NamedHosts::new(alloc),
+            nearing: Nearing::new(alloc),
         }
     }
 
@@ -66,21 +65,37 @@ impl<'a, L: Ledger, C: Clock, G: Log> Watched<'a, L, C, G> {
             log: _,
             peer: _,
             hosts: _,
+            nearing: _,
         } = self;
         ledger
     }
 
-    /// What is asked from now on comes from this peer.
-    pub fn hear(&mut self, peer: SocketAddr)
-        ensures { self.new ≡ self.old }
+    /// The cap of the login and day from which a limit is asked for, before that is set. Of other requests there is none.
+    /// The fault is that of a store that failed.
+    fn cap_before(&mut self, request: &Request) -> Result<Option<u32>, LedgerFault>
+        requires { IsRequest request.now }
+        ensures asked { IsAsked L.book L.has_kept L.is_sound L.has_store self.old self.new }
+        ensures fault { IfErr result (λ fault. fault ≡ LedgerFault.Store) }
+        ensures store { IfErr result (λ fault. L.has_store self.old) }
     {
-        self.peer = peer;
+        match request {
+            Request::Limit {
+                login,
+                from_day,
+                ..
+            } => match ask_usage(&mut self.ledger, login, *from_day) {
+                Ok(Some(usage)) => Ok(Some(usage.cap)),
+                Ok(None) => Ok(None),
+                Err(fault) => Err(fault),
+            },
+            _ => Ok(None),
+        }
     }
 
-    /// Logs what a request is to be seen of.
-    fn note(&mut self, request: &Request, answer: &Result<Reply, LedgerFault>)
+    /// Logs what a request is to be seen of. A limit came where there was the cap `before`, if that is known.
+    fn note(&mut self, request: &Request, before: Option<u32>, answer: &Result<Reply, LedgerFault>)
         requires { IsRequest request.now }
-        ensures { self.new ≡ self.old }
+        ensures { IsAsked L.book L.has_kept L.is_sound L.has_store self.old self.new }
     {
         match request {
             Request::Limit {
@@ -88,21 +103,67 @@ impl<'a, L: Ledger, C: Clock, G: Log> Watched<'a, L, C, G> {
                 cap,
                 login,
                 ..
-            } => self.log_limit(&LimitLine {
-                login,
-                from_day: *from_day,
-                cap: *cap,
-                answer,
-            }),
-            Request::Reserve { id, at, .. } => self.check_day(&id.host, *at),
+            } => self.note_limit(login, *from_day, *cap, before, answer),
+            Request::Reserve { id, at, login, .. } => {
+                self.check_day(&id.host, *at);
+                if let Ok(Reply::Granted { used, .. }) = answer {
+                    self.check_limit(login, *at, *used);
+                }
+            }
             _ => {}
         }
     }
 
-    /// Logs a limit.
-    fn log_limit(&self, line: &LimitLine<'_>) {
+    /// Logs a limit, one that lowered another as a warning.
+    fn note_limit(
+        &mut self,
+        login: &Login,
+        from_day: u32,
+        cap: u32,
+        before: Option<u32>,
+        answer: &Result<Reply, LedgerFault>,
+    )
+        requires login { IsLogin login.now }
+        requires day { IsDay from_day }
+        ensures { IsAsked L.book L.has_kept L.is_sound L.has_store self.old self.new }
+    {
+        let lowered_from = match answer {
+            Ok(Reply::LimitSet { .. }) => self.note_set(login, from_day, cap, before),
+            _ => None,
+        };
         let peer = self.peer;
-        info!(self.log; "connection of {peer}: {line}");
+        let line = LimitLine {
+            login,
+            from_day,
+            cap,
+            lowered_from,
+            answer,
+        };
+        log!(self.log; line.level(), "connection of {peer}: {line}");
+    }
+
+    /// Notes that a limit is set: the cap before, where it is lower now. One that came again changed nothing.
+    fn note_set(
+        &mut self,
+        login: &Login,
+        from_day: u32,
+        cap: u32,
+        before: Option<u32>,
+    ) -> Option<u32>
+        requires login { IsLogin login.now }
+        requires day { IsDay from_day }
+        ensures asked { IsAsked L.book L.has_kept L.is_sound L.has_store self.old self.new }
+        ensures lowered { IfSome result (λ was. (before ≡ Some was) × (cap < was)) }
+    {
+        self.nearing.forget(login);
+        let was = before?;
+        if was <= cap {
+            return None;
+        }
+        match ask_usage(&mut self.ledger, login, from_day) {
+            Ok(Some(usage)) if was <= usage.cap => None,
+            _ => Some(was),
+        }
     }
 
     /// Logs that a host reserves for a day that is far from the server's, once an hour.
@@ -110,30 +171,51 @@ impl<'a, L: Ledger, C: Clock, G: Log> Watched<'a, L, C, G> {
         requires { IsMoment at }
         ensures { self.new ≡ self.old }
     {
-        let Some(now) = self.seconds() else {
+        let Some(seconds) = seconds_of(self.clock) else {
             return;
         };
         let zone = self.ledger.zone();
-        let day = zone.day_at(at);
-        let today = zone.day_at(moment_of(now));
-        if are_far(day, today) && self.hosts.is_due(host, now) {
+        let Some((day, today)) = far_days(zone, at, moment_of(seconds)) else {
+            return;
+        };
+        if self.hosts.is_due(host, seconds) {
             let peer = self.peer;
             let line = DayLine { host, day, today };
             warn!(self.log; "connection of {peer}: {line}");
         }
     }
 
-    /// The seconds since 1970 by the server's clock, where it can be read.
-    fn seconds(&self) -> Option<u64> {
-        let now = SystemTime::now(self.clock).ok()?;
-        Some(now.duration_since(UNIX_EPOCH).ok()?.as_secs())
+    /// Logs that a login nears its limit, of which it was granted so much on the day of that moment.
+    fn check_limit(&mut self, login: &Login, at: u64, used: u32)
+        requires login { IsLogin login.now }
+        requires at { IsMoment at }
+        ensures { IsAsked L.book L.has_kept L.is_sound L.has_store self.old self.new }
+    {
+        let day = self.ledger.zone().day_at(at);
+        if !self.nearing.is_open(login, day, used) {
+            return;
+        }
+        // The recipients are granted, whatever comes of the question.
+        let Ok(Some(usage)) = ask_usage(&mut self.ledger, login, day) else {
+            return;
+        };
+        if self.nearing.is_due(login, day, usage) {
+            let peer = self.peer;
+            let line = NearLine { login, day, usage };
+            warn!(self.log; "connection of {peer}: {line}");
+        }
+    }
+}
+
+impl<L: Ledger, C: Clock, G: Log> Hear for Watched<'_, L, C, G> {
+    fn hear(&mut self, peer: SocketAddr) {
+        self.peer = peer;
     }
 }
 
 impl<L: Ledger, C: Clock, G: Log> Ledger for Watched<'_, L, C, G> {
-    // The calls, the meaning and the promises are those of its ledger.
-    ghost told = { λ watched. L.told watched };
-
+    // The meaning and the promises are those of its ledger. Of calls it reports none: those of its ledger have its own
+    // questions among them.
     ghost book = { λ watched. L.book watched };
 
     ghost has_kept = { λ watched. L.has_kept watched };
@@ -155,8 +237,17 @@ impl<L: Ledger, C: Clock, G: Log> Ledger for Watched<'_, L, C, G> {
     }
 
     fn apply(&mut self, request: &Request) -> Result<Reply, LedgerFault> {
-        let answer = self.ledger.apply(request);
-        self.note(request, &answer);
-        answer
+        match self.cap_before(request) {
+            Ok(before) => {
+                let answer = self.ledger.apply(request);
+                self.note(request, before, &answer);
+                answer
+            }
+            Err(fault) => {
+                let answer = Err(fault);
+                self.note(request, None, &answer);
+                answer
+            }
+        }
     }
 }

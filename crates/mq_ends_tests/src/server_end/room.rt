@@ -189,7 +189,8 @@ fn a_store_that_fails(rt: HostRuntime) -> Result<(), Fail> {
     let alloc = rt.alloc();
     let failing = FailsOnce {
         ledger: ledger(&rt, alloc, 3),
-        calls_before: 2,
+        // Two reserves, and a question of the watched ledger after the first.
+        calls_before: 3,
         fault: LedgerFault::Store,
     };
     check_rows(&rt, alloc, failing, STORE_FAILS, Err(RoomFault::Store))
@@ -200,7 +201,8 @@ fn replies_that_wait_as_a_store_fails(rt: HostRuntime) -> Result<(), Fail> {
     let alloc = rt.alloc();
     let failing = FailsOnce {
         ledger: ledger(&rt, alloc, 3),
-        calls_before: 2,
+        // Two reserves, and a question of the watched ledger after the first.
+        calls_before: 3,
         fault: LedgerFault::Store,
     };
     let rows = REPLIES_WAIT_AS_IT_FAILS;

@@ -7,7 +7,7 @@ use crate::server_end::serving::{ledger, run};
 use log::sink::Memory as Kept;
 use mq_frame::{FromRead, Reply, Request, ToWrite};
 use mq_ledger::{Ledger, LedgerFault, Zone};
-use mq_watch::Watched;
+use mq_watch::{Hear, Watched};
 use std::alloc::Global;
 use std::cell::Cell;
 use std::io;
@@ -18,7 +18,7 @@ use std::time::Duration;
 
 /// A clock that shows what a test wants, in seconds since 1970.
 #[derive(Drop)]
-struct Shown(Cell<u64>);
+pub struct Shown(pub Cell<u64>);
 
 impl Clock for Shown {
     fn monotonic(&self) -> io::Result<Duration> {
@@ -31,14 +31,14 @@ impl Clock for Shown {
 }
 
 /// What the clock shows, the frame that comes, and the line that is logged, if any.
-type Row<'a> = (u64, &'a str, &'a str);
+pub type Row<'a> = (u64, &'a str, &'a str);
 
 /// Limits, each as it is answered.
 const LIMITS: &[Row<'_>] = &[
     (
         86_400,
         "0019 04 0161 0000000000000001 00000001 00000001 00000002 0175",
-        "[INFO  mq_watch::watched] connection of 192.0.2.7:40312: limit 2 of login u from day 1: set",
+        "[WARN  mq_watch::watched] connection of 192.0.2.7:40312: limit 2 of login u from day 1: set, lowered from 3",
     ),
     // The same again.
     (
@@ -87,9 +87,22 @@ const AFTER_A_FAULT: &[Row<'_>] = &[
     (
         86_400,
         "0019 04 0161 0000000000000001 00000001 00000001 00000002 0175",
-        "[INFO  mq_watch::watched] connection of 192.0.2.7:40312: limit 2 of login u from day 1: set",
+        "[WARN  mq_watch::watched] connection of 192.0.2.7:40312: limit 2 of login u from day 1: set, lowered from 3",
     ),
 ];
+
+/// One before which there is no memory to ask for the cap, and one after which there is none.
+const WITHOUT_A_CAP: &[Row<'_>] = &[(
+    86_400,
+    "0019 04 0161 0000000000000001 00000001 00000001 00000002 0175",
+    "[INFO  mq_watch::watched] connection of 192.0.2.7:40312: limit 2 of login u from day 1: set",
+)];
+
+const WITHOUT_THE_NEW_CAP: &[Row<'_>] = &[(
+    86_400,
+    "0019 04 0161 0000000000000001 00000001 00000001 00000002 0175",
+    "[WARN  mq_watch::watched] connection of 192.0.2.7:40312: limit 2 of login u from day 1: set, lowered from 3",
+)];
 
 const AT_A_STORE_THAT_FAILS: &[Row<'_>] = &[(
     86_400,
@@ -176,7 +189,7 @@ fn serve_rows<L: Ledger + Drop>(
 }
 
 /// The lines of these rows are logged, and no other.
-fn check_lines<L: Ledger + Drop>(
+pub fn check_lines<L: Ledger + Drop>(
     rt: &impl Abort,
     alloc: Global,
     ledger: L,
@@ -205,13 +218,17 @@ fn limits_are_logged(rt: HostRuntime) -> Result<(), Fail> {
 #[test]
 fn limits_at_faults(rt: HostRuntime) -> Result<(), Fail> {
     let alloc = rt.alloc();
-    for (fault, rows) in [
-        (LedgerFault::Memory, AFTER_A_FAULT),
-        (LedgerFault::Store, AT_A_STORE_THAT_FAILS),
+    for (fault, calls_before, rows) in [
+        (LedgerFault::Memory, 0, WITHOUT_A_CAP),
+        (LedgerFault::Memory, 1, AFTER_A_FAULT),
+        (LedgerFault::Memory, 2, WITHOUT_THE_NEW_CAP),
+        (LedgerFault::Store, 0, AT_A_STORE_THAT_FAILS),
+        (LedgerFault::Store, 1, AT_A_STORE_THAT_FAILS),
+        (LedgerFault::Store, 2, WITHOUT_THE_NEW_CAP),
     ] {
         let failing = FailsOnce {
             ledger: ledger(&rt, alloc, 3),
-            calls_before: 0,
+            calls_before,
             fault,
         };
         check_lines(&rt, alloc, failing, rows)?;

@@ -1,0 +1,3 @@
+pub mod Logins
+pub mod Nights
+pub mod Questions
