@@ -1,14 +1,14 @@
 //! `limit` and `retire`: what an administrator orders, a limit of a login or that a host's runs are given up.
-ghost use Rattle.std.specs.Prelude.{◌≡◌, ◌<◌, ◌≤◌, ◌+◌, true, false, Result as AResult};
+ghost use Rattle.std.specs.Prelude.{◌≡◌, ◌<◌, ◌+◌, true, false, Result as AResult};
 ghost use Rattle.mq_frame.specs.declared.format.TheConstants.{LAST_RUN};
 ghost use Rattle.mq_command.specs.Orders.{AnswersOrder, IsLimit, IsOrder, IsRetire, Orders, OrdersFresh, Prints, Says, conflict};
-ghost use Rattle.mq_command.specs.Orders.{is_taken, later, later_id, run_of, word};
+ghost use Rattle.mq_command.specs.Orders.{is_taken, later, run_of, word};
 ghost use Rattle.mq_command.specs.declared.order.OrderFault.{OrderFault as AnOrderFault};
 
 use crate::ask::{AskFault, ask};
 use crate::telling::tell;
 use mq_frame::format::LAST_RUN;
-use mq_frame::{Id, Reply, Request};
+use mq_frame::{Reply, Request};
 use mq_link::Link;
 use std::alloc::Global;
 use std::io::Write;
@@ -88,29 +88,20 @@ fn is_taken(sent: Result<(), OrderFault>) -> bool
     matches!(sent, Err(OrderFault::OtherLimit))
 }
 
-/// Moves a number on by so many runs, where there is such a run.
-fn move_on(id: &mut Id, runs: u64) -> bool
-    ensures next { result ≡ true → (id.old.run ≤ LAST_RUN → id.old.run + runs ≤ LAST_RUN)
-        × (id.new ≡ later_id runs id.old) }
-    ensures last { result ≡ false → LAST_RUN < id.old.run + runs }
-{
-    if LAST_RUN.saturating_sub(id.run) < runs {
-        return false;
-    }
-    id.run += runs;
-    true
-}
-
 /// Puts a limit under the number of the run that many later, where there is one.
 fn renumber(request: &mut Request, runs: u64) -> bool
     requires { IsLimit request.old }
     ensures next { result ≡ true → IsLimit request.new × (request.new ≡ later runs request.old) }
     ensures last { result ≡ false → LAST_RUN < run_of request.old + runs }
 {
-    match request {
-        Request::Limit { id, .. } => move_on(id, runs),
-        _ => unreachable!(),
+    let Request::Limit { id, .. } = request else {
+        unreachable!();
+    };
+    if LAST_RUN - id.run < runs {
+        return false;
     }
+    id.run += runs;
+    true
 }
 
 /// Sends a limit under its number and, where that is used with another request, under those of the runs 1, 3, 7 and so
