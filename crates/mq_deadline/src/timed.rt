@@ -1,7 +1,9 @@
 //! A stream that is waited for until a deadline and no longer.
-ghost use Rattle.std.specs.Prelude.{◌≡◌, ◌-◌, ◌≤◌, ◌<◌, ◌↔◌, IsNone, IfSome, IfOk, min};
+ghost use Rattle.std.specs.Prelude.{◌≡◌, ◌+◌, ◌-◌, ◌<◌, ◌↔◌, IsOk, IfOk, IfErr, min};
 ghost use Rattle.std.specs.Duration.{as_nanos};
-ghost use Rattle.std.specs.Time.{instant_nanos};
+ghost use Rattle.std.specs.Time.{FitsClock, instant_nanos};
+ghost use Rattle.std.specs.IoError.{error_kind};
+ghost use Rattle.std.specs.declared.io.ErrorKind.TheVariants.{InvalidInput, TimedOut};
 ghost use Rattle.std.specs.declared.time.Instant.{Instant};
 
 use std::io;
@@ -11,18 +13,19 @@ use std::net::OpenStream;
 use std::rt::Clock;
 use std::time::{Duration, Instant};
 
-/// How long a call may wait at a moment: the timeout, and no longer than until the deadline. From
-/// the deadline on there is nothing to wait for.
-fn wait_at(now: Instant, deadline: Instant, timeout: Duration) -> Option<Duration>
-    ensures over { IsNone result ↔ (instant_nanos deadline ≤ instant_nanos now) }
-    ensures left { IfSome result (λ wait. as_nanos wait ≡ min (as_nanos timeout)
+/// How long a call may wait that begins at a moment: the timeout, and no longer than until the deadline. From the deadline
+/// on it fails as timed out.
+fn wait_at(now: Instant, deadline: Instant, timeout: Duration) -> io::Result<Duration>
+    ensures early { IsOk result ↔ (instant_nanos now < instant_nanos deadline) }
+    ensures wait { IfOk result (λ wait. as_nanos wait ≡ min (as_nanos timeout)
         (instant_nanos deadline - instant_nanos now)) }
+    ensures late { IfErr result (λ error. error_kind error ≡ TimedOut) }
 {
     let left = deadline.duration_since(now);
     if left.is_zero() {
-        return None;
+        return Err(io::Error::from(ErrorKind::TimedOut));
     }
-    Some(if timeout <= left { timeout } else { left })
+    Ok(if timeout <= left { timeout } else { left })
 }
 
 /// How long a call may wait that begins now; it fails as timed out from the deadline on.
@@ -30,20 +33,26 @@ fn wait_until(clock: &impl Clock, deadline: Instant, timeout: Duration) -> io::R
     ensures { IfOk result (λ wait. (now : Instant) × (instant_nanos now < instant_nanos deadline)
         × (as_nanos wait ≡ min (as_nanos timeout) (instant_nanos deadline - instant_nanos now))) }
 {
-    match wait_at(Instant::now(clock)?, deadline, timeout) {
-        Some(wait) => Ok(wait),
-        None => Err(io::Error::from(ErrorKind::TimedOut)),
+    wait_at(Instant::now(clock)?, deadline, timeout)
+}
+
+/// The moment that is so long after another; it fails as a bad input where no clock shows that.
+fn moment_after(now: Instant, time: Duration) -> io::Result<Instant>
+    ensures fits { IsOk result ↔ FitsClock (instant_nanos now + as_nanos time) }
+    ensures after { IfOk result (λ moment. instant_nanos moment ≡ instant_nanos now + as_nanos time) }
+    ensures far { IfErr result (λ error. error_kind error ≡ InvalidInput) }
+{
+    match now.checked_add(time) {
+        Some(moment) => Ok(moment),
+        None => Err(io::Error::from(ErrorKind::InvalidInput)),
     }
 }
 
 /// The moment that is so long from now.
 pub fn deadline_after(clock: &impl Clock, time: Duration) -> io::Result<Instant>
-    ensures { IfOk result (λ deadline. as_nanos time ≤ instant_nanos deadline) }
+    ensures { IfOk result (λ deadline. (now : Instant) × (instant_nanos deadline ≡ instant_nanos now + as_nanos time)) }
 {
-    match Instant::now(clock)?.checked_add(time) {
-        Some(deadline) => Ok(deadline),
-        None => Err(io::Error::from(ErrorKind::InvalidInput)),
-    }
+    moment_after(Instant::now(clock)?, time)
 }
 
 /// A stream whose reads and writes wait for a timeout each at most, and never past a deadline: from

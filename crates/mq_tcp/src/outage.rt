@@ -1,5 +1,5 @@
 //! When an outage is logged: its beginning and its end, at most one outage a second, and what the end counts.
-ghost use Rattle.std.specs.Prelude.{◌≡◌, false, Some, None, if◌then◌else◌};
+ghost use Rattle.std.specs.Prelude.{◌≡◌, ◌<◌, ◌↔◌, false, IsTrue, Some, None, if◌then◌else◌};
 ghost use Rattle.mq_tcp.specs.Outage.{is_due as is_due_lem, is_last_try, missed, is_beginning, begun, is_ending, ended, passed};
 
 use std::time::{Duration, Instant};
@@ -72,6 +72,13 @@ impl Outage {
         self.is_logged = true;
         self.line = now;
         true
+    }
+
+    /// Whether some request got no answer, which no line has counted yet. Without one `end` logs nothing, whatever the time.
+    pub fn counts_any(&self) -> bool
+        ensures { IsTrue result ↔ (0 < self.now.unanswered) }
+    {
+        0 < self.unanswered
     }
 
     /// Notes an exchange that brought an answer: how many requests got none until then, where that is to be logged now.
