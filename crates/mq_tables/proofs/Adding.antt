@@ -27,7 +27,7 @@ use Rattle.mq_tables.proofs.Places.{all_below}
 use Rattle.mq_rows.specs.declared.record.RetiredRecord.{RetiredRecord}
 use Rattle.mq_tables.specs.Migrating.{AddsRule, SetsVersion, HasMigrated, IsMigrated, migrated}
 use Rattle.mq_tables.proofs.Changes.{since, is_since}
-use Rattle.mq_tables.proofs.NewLedger.{find_apart, holds_none}
+use Rattle.mq_tables.proofs.NewLedger.{names_selves, find_apart, holds_none}
 
 -- ---- one more table leaves a ledger where it is
 
@@ -152,10 +152,6 @@ new_alone s unnamed =
 
 -- ---- the tables of later versions
 
-names_selves : (same_name rule_table.name rule_table.name ≡ true) × (same_name retired_table.name retired_table.name ≡ true)
-unfolding same_name
-names_selves = (refl, refl)
-
 was_before : (Now Before : Type 0) (b : Bool) → b ≡ false → Since b Now Before → Before
 was_before Now Before true e h = absurd cc
 was_before Now Before false e h = h
@@ -173,7 +169,7 @@ module _ (b c d : State) (t : Tables) (old : nat_le 3 t.setting.version ≡ fals
       let before = was_before _ _ (nat_le 3 t.setting.version) old l.later.retired in
       let floors : HasFloors c.now t.retired = record {
         tree = next_tree b.now.schema;
-        table = (empty_made b c retired_table refl two names_selves.1).table;
+        table = (empty_made b c retired_table refl two names_selves.6).table;
         alone = subst (λ x. IsUnreferred x (next_tree b.now.schema)) (sym two.schema_is) (new_alone b.now.schema before.unnamed);
         holds = subst (HoldsRetired (c.now.trees (next_tree b.now.schema))) (sym before.none) (holds_none retired_fields _ two.empty);
       } in
@@ -195,7 +191,7 @@ migrates_from false a b c d p q s = record {
   made = λ counters t l is old.
       let one = p.1 counters in
       let none : t.setting.rule ≡ None = was_before _ _ (nat_le 2 t.setting.version) is l.later.rule in
-      let rule : HasRule b.now t.setting.rule = subst (λ r. IsThere b.now rule_table (rule_rows r)) (sym none) (empty_made a b rule_table refl one.0 names_selves.0) in
+      let rule : HasRule b.now t.setting.rule = subst (λ r. IsThere b.now rule_table (rule_rows r)) (sym none) (empty_made a b rule_table refl one.0 names_selves.5) in
       let added = floors_added b c d t old q s (ledger_stays a b rule_table refl one.0 t l) rule one.1 in
       let kept = before_made (λ (x : Table). x.tree ≢ l.at.setting → d.now.trees x.tree ≡ b.now.trees x.tree) a.now.schema b.now.schema rule_table one.0.schema_is added.2 in
       record { ledger = added.0; schema = added.1 ∙ ap (λ x. created x retired_table) one.0.schema_is; others = all_both _ _ _ (λ x same was apart. same apart ∙ was) a.now.schema.tables kept one.0.tables };

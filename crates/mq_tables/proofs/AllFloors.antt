@@ -18,7 +18,7 @@ use Rattle.mq_tables.specs.Reading.{floors_text, unlimited, AreFloorsRead}
 use Rattle.mq_tables.specs.Records.{retired_fields}
 use Rattle.mq_tables.specs.Tables.{retired_table}
 use Rattle.mq_tables.proofs.Asked.{IsAlone, stops}
-use Rattle.mq_tables.proofs.FigureReads.{all_pass}
+use Rattle.mq_tables.proofs.Finds.{all_pass}
 use Rattle.mq_tables.proofs.SelectShape.{SelectShape, IsSelect, IsAccepted}
 use Rattle.mq_tables.proofs.Selected.{shows_all}
 use Rattle.mq_tables.proofs.TermShape.{field}
@@ -33,21 +33,7 @@ floors_shape = record {
 
 pub floors_select : IsSelect floors_text floors_shape
 unfolding everything listing_schema same_name
-floors_select = record {
-  parsed = refl;
-  select = _;
-  statement = refl;
-  timeless = refl;
-  unlisted = refl;
-  source = (_, refl, refl, refl, refl, refl, refl);
-  shown = ((_, refl, refl), ((_, refl, refl), tt));
-  filter = tt;
-  ungrouped = (refl, refl, refl);
-  order = (refl, refl);
-  alone = (refl, refl, refl);
-  known = λ t. refl;
-  short = refl;
-}
+floors_select = record { parsed = refl; statement = refl; timeless = refl; unlisted = refl; known = λ t. refl; short = refl }
 
 floors_accepted : IsAccepted floors_shape
 floors_accepted s t low found = rw (low, found)

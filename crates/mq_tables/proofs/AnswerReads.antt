@@ -1,5 +1,5 @@
 -- What the query of an answer by its number answers of the records.
-use Rattle.std.proofs.Common.{◌≡◌, ◌&&◌, ℕ, List, [], ◌∷◌, ◌==◌, map, filter, codes, Bool, true, None, Result, refl, sym, ap, ◌∙◌}
+use Rattle.std.proofs.Common.{◌≡◌, ◌&&◌, ℕ, List, [], ◌∷◌, ◌==◌, map, filter, codes, Bool, true, None, Ok, Err, Result, refl, sym, ap, subst, ◌∙◌}
 use Rattle.std.specs.Prelude.{Vec, IfOk}
 use Rattle.std.specs.declared.alloc.Global.{Global}
 use Rattle.sqlite.specs.declared.error.Error.{Error}
@@ -41,21 +41,7 @@ answer_shape = record {
 
 pub answer_select : IsSelect answer_text answer_shape
 unfolding everything listing_schema same_name
-answer_select = record {
-  parsed = refl;
-  select = _;
-  statement = refl;
-  timeless = refl;
-  unlisted = refl;
-  source = (_, refl, refl, refl, refl, refl, refl);
-  shown = ((_, refl, refl), ((_, refl, refl), ((_, refl, refl), tt)));
-  filter = (_, _, refl, (_, _, refl, (_, _, refl, refl, refl), (_, _, refl, refl, refl)), (_, _, refl, refl, refl));
-  ungrouped = (refl, refl, refl);
-  order = (refl, refl);
-  alone = (refl, refl, refl);
-  known = λ t. refl;
-  short = refl;
-}
+answer_select = record { parsed = refl; statement = refl; timeless = refl; unlisted = refl; known = λ t. refl; short = refl }
 
 answer_accepted : IsAccepted answer_shape
 answer_accepted s t low found = rw (low, found)

@@ -37,21 +37,7 @@ arrivals_shape = record {
 
 pub arrivals_select : IsSelect arrivals_text arrivals_shape
 unfolding everything listing_schema same_name
-arrivals_select = record {
-  parsed = refl;
-  select = _;
-  statement = refl;
-  timeless = refl;
-  unlisted = refl;
-  source = (_, refl, refl, refl, refl, refl, refl);
-  shown = ((_, refl, refl), tt);
-  filter = (_, _, refl, refl, refl);
-  ungrouped = (refl, refl, refl);
-  order = (refl, refl);
-  alone = (refl, refl, refl);
-  known = λ t. refl;
-  short = refl;
-}
+arrivals_select = record { parsed = refl; statement = refl; timeless = refl; unlisted = refl; known = λ t. refl; short = refl }
 
 arrivals_accepted : IsAccepted arrivals_shape
 arrivals_accepted s t low found = rw (low, found)

@@ -1,5 +1,5 @@
 -- What the query for a limit by its key answers of the records.
-use Rattle.std.proofs.Common.{◌≡◌, ℕ, ◌&&◌, ◌==◌, List, [], ◌∷◌, map, filter, codes, true, None, Result, refl, ap}
+use Rattle.std.proofs.Common.{◌≡◌, ℕ, ◌&&◌, ◌==◌, List, [], ◌∷◌, map, filter, codes, Bool, true, None, Ok, Err, Result, refl, ap, subst}
 use Rattle.std.specs.Prelude.{Vec, IfOk}
 use Rattle.std.specs.declared.alloc.Global.{Global}
 use Rattle.sqlite.specs.declared.error.Error.{Error}
@@ -42,21 +42,7 @@ ceiling_shape = record {
 
 pub ceiling_select : IsSelect ceiling_text ceiling_shape
 unfolding everything listing_schema same_name
-ceiling_select = record {
-  parsed = refl;
-  select = _;
-  statement = refl;
-  timeless = refl;
-  unlisted = refl;
-  source = (_, refl, refl, refl, refl, refl, refl);
-  shown = ((_, refl, refl), ((_, refl, refl), tt));
-  filter = (_, _, refl, (_, _, refl, refl, refl), (_, _, refl, refl, refl));
-  ungrouped = (refl, refl, refl);
-  order = (refl, refl);
-  alone = (refl, refl, refl);
-  known = λ t. refl;
-  short = refl;
-}
+ceiling_select = record { parsed = refl; statement = refl; timeless = refl; unlisted = refl; known = λ t. refl; short = refl }
 
 ceiling_accepted : IsAccepted ceiling_shape
 ceiling_accepted s t low found = rw (low, found)

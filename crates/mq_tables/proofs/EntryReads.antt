@@ -1,8 +1,8 @@
 -- What the query of an answer by its place answers of the records.
-use Rattle.std.proofs.Common.{pos, ◌≡◌, ℕ, List, [], ◌∷◌, ◌==◌, map, filter, length, codes, true, Option, Some, None, Ok, Err, Result, refl, sym, ap, subst, ◌∙◌}
+use Rattle.std.proofs.Common.{pos, ◌≡◌, ℕ, List, [], ◌∷◌, ◌==◌, map, filter, length, codes, Bool, true, Option, Some, None, Ok, Err, Result, refl, sym, ap, subst, ◌∙◌}
 use Rattle.std.specs.Prelude.{Vec, IfOk}
 use Rattle.std.specs.declared.alloc.Global.{Global}
-use Rattle.std.specs.List.{AllByRecursion}
+use Rattle.std.specs.List.{AllByRecursion, list_all}
 use Rattle.std.specs.List.Sorted.{IsPermutation}
 use Rattle.std.specs.Cmp.{unsigned_Decides}
 use Rattle.std.proofs.Math.Bool.{and-true}
@@ -44,21 +44,7 @@ entry_shape = record {
 
 pub entry_select : IsSelect entry_text entry_shape
 unfolding everything listing_schema same_name
-entry_select = record {
-  parsed = refl;
-  select = _;
-  statement = refl;
-  timeless = refl;
-  unlisted = refl;
-  source = (_, refl, refl, refl, refl, refl, refl);
-  shown = ((_, refl, refl), ((_, refl, refl), ((_, refl, refl), tt)));
-  filter = (_, _, refl, refl, refl);
-  ungrouped = (refl, refl, refl);
-  order = (refl, refl);
-  alone = (refl, refl, refl);
-  known = λ t. refl;
-  short = refl;
-}
+entry_select = record { parsed = refl; statement = refl; timeless = refl; unlisted = refl; known = λ t. refl; short = refl }
 
 entry_accepted : IsAccepted entry_shape
 entry_accepted s t low found = rw (low, found)

@@ -1,12 +1,14 @@
 -- What the queries for an audit answer of the figures.
-use Rattle.std.proofs.Common.{◌≡◌, pos, ℕ, List, [], ◌∷◌, ◌++◌, codes, map, filter, true, None, refl, sym, ap, subst, subst₂, ◌∙◌}
+use Rattle.std.proofs.Common.{◌≡◌, pos, ℕ, List, [], ◌∷◌, codes, map, None, Ok, Err, Result, refl, sym, ap, subst, ◌∙◌}
+use Rattle.std.specs.Prelude.{Vec, IfOk}
+use Rattle.std.specs.declared.alloc.Global.{Global}
+use Rattle.sqlite.specs.declared.error.Error.{Error}
 use Rattle.sqlite.specs.Listing.{listing_schema}
 use Rattle.sqlite.specs.Order.{Row}
 use Rattle.sqlite.specs.State.{State, Shown}
 use Rattle.sqlite_schema.specs.Names.{same_name}
 use Rattle.sqlite_tied.specs.Compute.{everything}
 use Rattle.std.specs.List.Sorted.{IsPermutation}
-use Rattle.std.proofs.lemmas.List.Sorted.{IsPermutation-map}
 use Rattle.sqlite_trees.proofs.ListLemmas.{map-map}
 use Rattle.sqlite.specs.declared.types.Value.TheVariants.{Int, Blob}
 use Rattle.mq_rows.specs.declared.audited.LimitFigures.{LimitFigures}
@@ -15,13 +17,10 @@ use Rattle.mq_rows.specs.declared.audited.UsageFigures.{UsageFigures}
 use Rattle.mq_rows.specs.Audit.{Figures}
 use Rattle.mq_tables.specs.Figures.{HasFigures, WholeTransaction, whole_cells, usage_cells, transaction_cells, limit_cells, IsUsageRead, IsTransactionRead, IsLimitRead, usage_columns, transaction_columns, limit_columns}
 use Rattle.mq_tables.specs.Tables.{trans_table, usage_table, ceiling_table}
+use Rattle.mq_tables.proofs.Finds.{all_pass, all_read}
 use Rattle.mq_tables.proofs.SelectShape.{SelectShape, IsSelect, IsAccepted}
 use Rattle.mq_tables.proofs.Selected.{shows_all}
 use Rattle.mq_tables.proofs.TermShape.{field}
-
-pub all_pass : {R : Type 0} (rows : List R) → filter (λ _. true) rows ≡ rows
-all_pass [] = refl
-all_pass (r ∷ rows) = ap (λ xs. r ∷ xs) (all_pass rows)
 
 -- usage
 
@@ -38,21 +37,7 @@ usage_shape = record {
 
 pub usage_select : IsSelect usage_text usage_shape
 unfolding everything listing_schema same_name
-usage_select = record {
-  parsed = refl;
-  select = _;
-  statement = refl;
-  timeless = refl;
-  unlisted = refl;
-  source = (_, refl, refl, refl, refl, refl, refl);
-  shown = ((_, refl, refl), ((_, refl, refl), ((_, refl, refl), ((_, refl, refl), tt))));
-  filter = tt;
-  ungrouped = (refl, refl, refl);
-  order = (refl, refl);
-  alone = (refl, refl, refl);
-  known = λ t. refl;
-  short = refl;
-}
+usage_select = record { parsed = refl; statement = refl; timeless = refl; unlisted = refl; known = λ t. refl; short = refl }
 
 usage_accepted : IsAccepted usage_shape
 usage_accepted s t low found = rw (low, found)
@@ -66,20 +51,8 @@ abbrev usage_back : Row → UsageFigures
 usage_back (Blob l ∷ Int d ∷ Int s ∷ Int r ∷ []) = record { pair = record { login = l; day = d }; settled = s; reserved = r }
 usage_back _ = record { pair = record { login = []; day = pos 0 }; settled = pos 0; reserved = pos 0 }
 
-usage_back_is : (xs : List UsageFigures) → map usage_back (map usage_cells xs) ≡ xs
-usage_back_is [] = refl
-usage_back_is (x ∷ xs) = ap (λ ys. x ∷ ys) (usage_back_is xs)
-
-usage_again : (xs : List UsageFigures) → map usage_columns (map usage_cells xs) ≡ map usage_cells xs
-usage_again [] = refl
-usage_again (x ∷ xs) = ap (λ ys. usage_cells x ∷ ys) (usage_again xs)
-
-pub usage_read : (Held : Figures → Type 0) (rows : List Row) (read : List UsageFigures) → ((f : Figures) → Held f → IsPermutation (map usage_cells f.usage) rows)
-    → map usage_columns rows ≡ map usage_cells read → (f : Figures) → Held f → IsPermutation f.usage read
-usage_read Held rows read same is = λ f l.
-    let columns = IsPermutation-map usage_columns _ _ (same f l) in
-    let cells : IsPermutation (map usage_cells f.usage) (map usage_cells read) = subst₂ IsPermutation (usage_again f.usage) is columns in
-    subst₂ IsPermutation (usage_back_is f.usage) (usage_back_is read) (IsPermutation-map usage_back _ _ cells)
+pub usage_read : (rows : List Row) (f : Figures) (read : List UsageFigures) → IsPermutation (map usage_cells f.usage) rows → map usage_columns rows ≡ map usage_cells read → IsPermutation f.usage read
+usage_read rows f read = all_read usage_cells usage_columns usage_back (λ x. refl) (λ x. refl) rows f.usage read
 
 pub usage_more : (row : Row) (x : UsageFigures) → IsUsageRead row x → usage_columns row ≡ usage_cells x
 usage_more row x is = λ i. is.login i ∷ is.day i ∷ is.settled i ∷ is.reserved i ∷ []
@@ -99,21 +72,7 @@ transactions_shape = record {
 
 pub transactions_select : IsSelect transactions_text transactions_shape
 unfolding everything listing_schema same_name
-transactions_select = record {
-  parsed = refl;
-  select = _;
-  statement = refl;
-  timeless = refl;
-  unlisted = refl;
-  source = (_, refl, refl, refl, refl, refl, refl);
-  shown = ((_, refl, refl), ((_, refl, refl), ((_, refl, refl), ((_, refl, refl), ((_, refl, refl), tt)))));
-  filter = tt;
-  ungrouped = (refl, refl, refl);
-  order = (refl, refl);
-  alone = (refl, refl, refl);
-  known = λ t. refl;
-  short = refl;
-}
+transactions_select = record { parsed = refl; statement = refl; timeless = refl; unlisted = refl; known = λ t. refl; short = refl }
 
 transactions_accepted : IsAccepted transactions_shape
 transactions_accepted s t low found = rw (low, found)
@@ -129,20 +88,8 @@ abbrev transactions_back : Row → TransactionFigures
 transactions_back (Blob l ∷ Int d ∷ Int m ∷ Int h ∷ Int s ∷ []) = record { pair = record { login = l; day = d }; moment = m; held = h; settled = s }
 transactions_back _ = record { pair = record { login = []; day = pos 0 }; moment = pos 0; held = pos 0; settled = pos 0 }
 
-transactions_back_is : (xs : List TransactionFigures) → map transactions_back (map transaction_cells xs) ≡ xs
-transactions_back_is [] = refl
-transactions_back_is (x ∷ xs) = ap (λ ys. x ∷ ys) (transactions_back_is xs)
-
-transactions_again : (xs : List TransactionFigures) → map transaction_columns (map transaction_cells xs) ≡ map transaction_cells xs
-transactions_again [] = refl
-transactions_again (x ∷ xs) = ap (λ ys. transaction_cells x ∷ ys) (transactions_again xs)
-
-pub transactions_read : (Held : Figures → Type 0) (rows : List Row) (read : List TransactionFigures) → ((f : Figures) → Held f → IsPermutation (map transaction_cells f.transactions) rows)
-    → map transaction_columns rows ≡ map transaction_cells read → (f : Figures) → Held f → IsPermutation f.transactions read
-transactions_read Held rows read same is = λ f l.
-    let columns = IsPermutation-map transaction_columns _ _ (same f l) in
-    let cells : IsPermutation (map transaction_cells f.transactions) (map transaction_cells read) = subst₂ IsPermutation (transactions_again f.transactions) is columns in
-    subst₂ IsPermutation (transactions_back_is f.transactions) (transactions_back_is read) (IsPermutation-map transactions_back _ _ cells)
+pub transactions_read : (rows : List Row) (f : Figures) (read : List TransactionFigures) → IsPermutation (map transaction_cells f.transactions) rows → map transaction_columns rows ≡ map transaction_cells read → IsPermutation f.transactions read
+transactions_read rows f read = all_read transaction_cells transaction_columns transactions_back (λ x. refl) (λ x. refl) rows f.transactions read
 
 pub transactions_more : (row : Row) (x : TransactionFigures) → IsTransactionRead row x → transaction_columns row ≡ transaction_cells x
 transactions_more row x is = λ i. is.login i ∷ is.day i ∷ is.moment i ∷ is.held i ∷ is.settled i ∷ []
@@ -162,21 +109,7 @@ limits_shape = record {
 
 pub limits_select : IsSelect limits_text limits_shape
 unfolding everything listing_schema same_name
-limits_select = record {
-  parsed = refl;
-  select = _;
-  statement = refl;
-  timeless = refl;
-  unlisted = refl;
-  source = (_, refl, refl, refl, refl, refl, refl);
-  shown = ((_, refl, refl), ((_, refl, refl), ((_, refl, refl), tt)));
-  filter = tt;
-  ungrouped = (refl, refl, refl);
-  order = (refl, refl);
-  alone = (refl, refl, refl);
-  known = λ t. refl;
-  short = refl;
-}
+limits_select = record { parsed = refl; statement = refl; timeless = refl; unlisted = refl; known = λ t. refl; short = refl }
 
 limits_accepted : IsAccepted limits_shape
 limits_accepted s t low found = rw (low, found)
@@ -190,25 +123,19 @@ abbrev limits_back : Row → LimitFigures
 limits_back (Blob l ∷ Int d ∷ Int c ∷ []) = record { pair = record { login = l; day = d }; cap = c }
 limits_back _ = record { pair = record { login = []; day = pos 0 }; cap = pos 0 }
 
-limits_back_is : (xs : List LimitFigures) → map limits_back (map limit_cells xs) ≡ xs
-limits_back_is [] = refl
-limits_back_is (x ∷ xs) = ap (λ ys. x ∷ ys) (limits_back_is xs)
-
-limits_again : (xs : List LimitFigures) → map limit_columns (map limit_cells xs) ≡ map limit_cells xs
-limits_again [] = refl
-limits_again (x ∷ xs) = ap (λ ys. limit_cells x ∷ ys) (limits_again xs)
-
-pub limits_read : (Held : Figures → Type 0) (rows : List Row) (read : List LimitFigures) → ((f : Figures) → Held f → IsPermutation (map limit_cells f.limits) rows)
-    → map limit_columns rows ≡ map limit_cells read → (f : Figures) → Held f → IsPermutation f.limits read
-limits_read Held rows read same is = λ f l.
-    let columns = IsPermutation-map limit_columns _ _ (same f l) in
-    let cells : IsPermutation (map limit_cells f.limits) (map limit_cells read) = subst₂ IsPermutation (limits_again f.limits) is columns in
-    subst₂ IsPermutation (limits_back_is f.limits) (limits_back_is read) (IsPermutation-map limits_back _ _ cells)
+pub limits_read : (rows : List Row) (f : Figures) (read : List LimitFigures) → IsPermutation (map limit_cells f.limits) rows → map limit_columns rows ≡ map limit_cells read → IsPermutation f.limits read
+limits_read rows f read = all_read limit_cells limit_columns limits_back (λ x. refl) (λ x. refl) rows f.limits read
 
 pub limits_more : (row : Row) (x : LimitFigures) → IsLimitRead row x → limit_columns row ≡ limit_cells x
 limits_more row x is = λ i. is.login i ∷ is.day i ∷ is.cap i ∷ []
 
--- one more of a mapped list
-pub mapped_more : {X Y : Type 0} (f : X → Y) (xs : List X) (x : X) → map f (xs ++ x ∷ []) ≡ map f xs ++ f x ∷ []
-mapped_more f [] x = refl
-mapped_more f (y ∷ xs) x = ap (λ ys. f y ∷ ys) (mapped_more f xs x)
+-- the same where the rows were read at once
+pub limits_found : (old new : State) (outcome : Result (Vec Row Global) Error) → IfOk outcome (λ rows. Shown limits_text [] old new rows.items)
+    → IfOk outcome (λ rows. (f : Figures) → HasFigures old.now f → IsPermutation (map limit_cells f.limits) rows.items)
+limits_found old new (Ok rows) h = limits_shown old new rows.items h
+limits_found old new (Err e) h = tt
+
+pub limits_of_rows : (Held : Figures → Type 0) (rows : List Row) (outcome : Result (Vec LimitFigures Global) Error) → ((f : Figures) → Held f → IsPermutation (map limit_cells f.limits) rows)
+    → IfOk outcome (λ read. map limit_columns rows ≡ map limit_cells read.items) → IfOk outcome (λ read. (f : Figures) → Held f → IsPermutation f.limits read.items)
+limits_of_rows Held rows (Ok read) same is = λ f l. limits_read rows f read.items (same f l) is
+limits_of_rows Held rows (Err e) same is = tt

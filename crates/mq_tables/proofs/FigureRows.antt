@@ -26,7 +26,8 @@ use Rattle.mq_tables.specs.declared.figures.Table.{Table}
 use Rattle.mq_tables.specs.declared.figures.Table.TheVariants.{Usage, Transactions, Limits}
 use Rattle.mq_tables.specs.Figures.{HasFigures, IsUsageRead, IsTransactionRead, IsLimitRead, usage_cells, transaction_cells, limit_cells, usage_columns, transaction_columns, limit_columns, Adds, Took, AreGiven, text_of}
 use Rattle.mq_tables.proofs.Chain.{survives_both}
-use Rattle.mq_tables.proofs.FigureReads.{usage_text, usage_shape, usage_select, usage_shown, usage_read, usage_more, transactions_text, transactions_shape, transactions_select, transactions_shown, transactions_read, transactions_more, limits_text, limits_shape, limits_select, limits_shown, limits_read, limits_more, mapped_more}
+use Rattle.mq_tables.proofs.FigureReads.{usage_text, usage_shape, usage_select, usage_shown, usage_read, usage_more, transactions_text, transactions_shape, transactions_select, transactions_shown, transactions_read, transactions_more, limits_text, limits_shape, limits_select, limits_shown, limits_read, limits_more}
+use Rattle.mq_tables.proofs.Finds.{mapped_more}
 use Rattle.mq_tables.specs.Reading.{Spares}
 use Rattle.mq_tables.proofs.SelectShape.{bare}
 use Rattle.mq_tables.proofs.Spared.{AlwaysBare, commits_none, not_shown, shown_same, spared}
@@ -121,15 +122,15 @@ took_limit row c is old new adds rows first took = (
 
 pub usage_took : (old new : State) (rows : List Row) (a b : Books) → Shown usage_text [] old new rows → Took Usage rows a b → (f : Figures) → HasFigures old.now f
     → (read : List UsageFigures) × IsPermutation f.usage read × Adds (λ g. record g { usage = g.usage ++ read }) a b
-usage_took old new rows a b h took f has = (took.0, usage_read (HasFigures old.now) rows took.0 (usage_shown old new rows h) took.1 f has, took.2)
+usage_took old new rows a b h took f has = (took.0, usage_read rows f took.0 (usage_shown old new rows h f has) took.1, took.2)
 
 pub transactions_took : (old new : State) (rows : List Row) (a b : Books) → Shown transactions_text [] old new rows → Took Transactions rows a b → (f : Figures) → HasFigures old.now f
     → (read : List TransactionFigures) × IsPermutation f.transactions read × Adds (λ g. record g { transactions = g.transactions ++ read }) a b
-transactions_took old new rows a b h took f has = (took.0, transactions_read (HasFigures old.now) rows took.0 (transactions_shown old new rows h) took.1 f has, took.2)
+transactions_took old new rows a b h took f has = (took.0, transactions_read rows f took.0 (transactions_shown old new rows h f has) took.1, took.2)
 
 pub limits_took : (old new : State) (rows : List Row) (a b : Books) → Shown limits_text [] old new rows → Took Limits rows a b → (f : Figures) → HasFigures old.now f
     → (read : List LimitFigures) × IsPermutation f.limits read × Adds (λ g. record g { limits = g.limits ++ read }) a b
-limits_took old new rows a b h took f has = (took.0, limits_read (HasFigures old.now) rows took.0 (limits_shown old new rows h) took.1 f has, took.2)
+limits_took old new rows a b h took f has = (took.0, limits_read rows f took.0 (limits_shown old new rows h f has) took.1, took.2)
 
 -- all three, in turn
 pub all_given : (s t u v : State) (a b c d : Books) (xs ys zs : List Row) → Shown usage_text [] s t xs → Took Usage xs a b → Shown transactions_text [] t u ys → Took Transactions ys b c → Shown limits_text [] u v zs → Took Limits zs c d

@@ -1,9 +1,9 @@
 -- Which records a query shows.
-use Rattle.std.proofs.Common.{◌≡◌, inl, inr, ℕ, pos, List, [], ◌∷◌, map, filter, length, Bool, true, false, Option, Some, None, Ok, Err, Result, cond, arith, refl, sym, ap, subst, ◌∙◌}
-use Rattle.std.specs.Prelude.{IfOk}
+use Rattle.std.proofs.Common.{◌≡◌, inl, inr, ℕ, pos, List, [], ◌∷◌, ◌++◌, map, filter, length, Bool, true, false, Option, Some, None, Ok, Err, Result, cond, arith, refl, sym, ap, ap₂, subst, subst₂, ◌∙◌}
+use Rattle.std.specs.Prelude.{IfOk, ⊤}
 use Rattle.std.specs.List.{AllByRecursion}
 use Rattle.std.specs.List.Sorted.{IsPermutation}
-use Rattle.std.proofs.lemmas.List.Sorted.{length_permutation}
+use Rattle.std.proofs.lemmas.List.Sorted.{length_permutation, IsPermutation-map}
 use Rattle.sqlite.specs.declared.types.Value.TheVariants.{Int, Blob}
 use Rattle.sqlite.specs.declared.error.Error.{Error}
 use Rattle.sqlite.specs.Order.{Row}
@@ -57,3 +57,38 @@ module _ {R : Type 0} (test : R → Bool) (show : R → Row) (Shows : Row → R 
       → IfOk outcome (IsFirstBy Shows rows) → IfOk outcome (λ found. (t : Tables) → Held t → IsOneOf test (of t) found)
   found_after of Held rows (Ok found) same first = λ t l. found_first (of t) rows found (same t l) first
   found_after of Held rows (Err e) same first = tt
+
+-- ---- all rows
+
+pub all_pass : {R : Type 0} (rows : List R) → filter (λ _. true) rows ≡ rows
+all_pass [] = refl
+all_pass (r ∷ rows) = ap (λ xs. r ∷ xs) (all_pass rows)
+
+-- one more of a mapped list
+pub mapped_more : {X Y : Type 0} (f : X → Y) (xs : List X) (x : X) → map f (xs ++ x ∷ []) ≡ map f xs ++ f x ∷ []
+mapped_more f [] x = refl
+mapped_more f (y ∷ xs) x = ap (λ ys. f y ∷ ys) (mapped_more f xs x)
+
+-- what was read of the columns of these rows is what they stand for, of which a row's cells say all
+module _ {X : Type 0} (Good : X → Type 0) (cells : X → Row) (columns : Row → Row) (back : Row → X) (again : (x : X) → columns (cells x) ≡ cells x) (back_is : (x : X) → Good x → back (cells x) ≡ x) where
+  all_again : (xs : List X) → map columns (map cells xs) ≡ map cells xs
+  all_again [] = refl
+  all_again (x ∷ xs) = ap₂ (λ y ys. y ∷ ys) (again x) (all_again xs)
+
+  all_back : (xs : List X) → AllByRecursion Good xs → map back (map cells xs) ≡ xs
+  all_back [] good = refl
+  all_back (x ∷ xs) good = ap₂ (λ y ys. y ∷ ys) (back_is x good.0) (all_back xs good.1)
+
+  pub same_read : (rows : List Row) (these read : List X) → AllByRecursion Good these → AllByRecursion Good read → IsPermutation (map cells these) rows → map columns rows ≡ map cells read → IsPermutation these read
+  same_read rows these read good good' same is =
+      let shown : IsPermutation (map cells these) (map cells read) = subst₂ IsPermutation (all_again these) is (IsPermutation-map columns _ _ same) in
+      subst₂ IsPermutation (all_back these good) (all_back read good') (IsPermutation-map back _ _ shown)
+
+each_is : {X : Type 0} (xs : List X) → AllByRecursion (λ _. ⊤) xs
+each_is [] = tt
+each_is (x ∷ xs) = (tt, each_is xs)
+
+-- the same where the cells of all say all
+pub all_read : {X : Type 0} (cells : X → Row) (columns : Row → Row) (back : Row → X) → ((x : X) → columns (cells x) ≡ cells x) → ((x : X) → back (cells x) ≡ x)
+    → (rows : List Row) (these read : List X) → IsPermutation (map cells these) rows → map columns rows ≡ map cells read → IsPermutation these read
+all_read cells columns back again back_is rows these read = same_read (λ _. ⊤) cells columns back again (λ x _. back_is x) rows these read (each_is these) (each_is read)

@@ -54,21 +54,7 @@ latest_shape = record {
 
 pub latest_select : IsSelect latest_text latest_shape
 unfolding everything listing_schema same_name
-latest_select = record {
-  parsed = refl;
-  select = _;
-  statement = refl;
-  timeless = refl;
-  unlisted = refl;
-  source = (_, refl, refl, refl, refl, refl, refl);
-  shown = ((_, refl, refl), ((_, refl, refl), tt));
-  filter = (_, _, refl, (_, _, refl, refl, refl), (_, _, refl, refl, refl));
-  ungrouped = (refl, refl, refl);
-  order = (_, _, _, refl, refl, refl, refl, refl, refl, refl);
-  alone = (refl, refl, refl);
-  known = λ t. refl;
-  short = refl;
-}
+latest_select = record { parsed = refl; statement = refl; timeless = refl; unlisted = refl; known = λ t. refl; short = refl }
 
 latest_accepted : IsAccepted latest_shape
 latest_accepted s t low found = rw (low, found)

@@ -8,6 +8,7 @@ pub mod Chains
 pub mod Inserting
 pub mod Places
 pub mod Makes
+pub mod FirstRows
 pub mod Selecting
 pub mod TermShape
 pub mod SelectShape
@@ -25,15 +26,12 @@ pub mod Updating
 pub mod SettingSets
 pub mod RowFacts
 pub mod Tests
-pub mod UsageSets
 pub mod Finds
 pub mod Changes
-pub mod UsageInserts
+pub mod UsageWrites
 pub mod Appending
-pub mod CeilingUpdates
-pub mod CeilingInserts
-pub mod TransactionUpdates
-pub mod TransactionInserts
+pub mod CeilingWrites
+pub mod TransactionWrites
 pub mod TransactionReads
 pub mod AnswerReads
 pub mod EntryReads
@@ -45,11 +43,9 @@ pub mod Earliest
 pub mod LoginReads
 pub mod ArrivalReads
 pub mod RuleReads
-pub mod RuleInserts
 pub mod Later
 pub mod FloorReads
-pub mod FloorInserts
-pub mod FloorUpdates
+pub mod FloorWrites
 pub mod Keyed
 pub mod OpenReads
 pub mod PlaceReads
@@ -58,7 +54,6 @@ pub mod ReplyClears
 pub mod Adding
 pub mod FigureReads
 pub mod FigureRows
-pub mod LimitReads
 pub mod AllFloors
 pub mod Still
 pub mod Strict

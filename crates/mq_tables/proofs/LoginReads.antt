@@ -49,21 +49,7 @@ login_shape = record {
 
 pub login_select : IsSelect login_text login_shape
 unfolding everything listing_schema same_name
-login_select = record {
-  parsed = refl;
-  select = _;
-  statement = refl;
-  timeless = refl;
-  unlisted = refl;
-  source = (_, refl, refl, refl, refl, refl, refl);
-  shown = ((_, refl, refl), tt);
-  filter = (_, _, refl, refl, refl);
-  ungrouped = (refl, refl, refl);
-  order = (_, _, _, refl, refl, refl, refl, refl, refl, refl);
-  alone = (refl, refl, refl);
-  known = λ t. refl;
-  short = refl;
-}
+login_select = record { parsed = refl; statement = refl; timeless = refl; unlisted = refl; known = λ t. refl; short = refl }
 
 login_accepted : IsAccepted login_shape
 login_accepted s t low found = rw (low, found)

@@ -58,26 +58,7 @@ adds_next table more a b z p rest counters = let one = p.1 counters in adds_both
 adds_last : (table : Table) (a z : State) → Makes table a z → HasCounters a → HasAdded (table ∷ []) a z
 adds_last table a z p counters = let one = p.1 counters in created_adds table a z one.0 one.1
 
--- ---- the row of settings
-
-abbrev pub put_text : List ℕ
-put_text = codes "INSERT INTO setting (id, version, minutes, cap, arrivals) VALUES (1, ?1, ?2, ?3, 0)"
-
-abbrev put_terms : List Term
-put_terms = lit (Int (pos 1)) ∷ lit Null ∷ col 0 0 ∷ col 0 1 ∷ col 0 2 ∷ lit (Int (pos 0)) ∷ []
-
-put_parses : first put_text ≡ Ok (parsed_in (first put_text))
-unfolding everything
-put_parses = refl
-
-put_insert : IsInsert (parsed_in (first put_text))
-unfolding everything
-put_insert = record { name = codes "setting"; columns = _; rows = _; statement = refl; timeless = refl }
-
-put_rows : (s : Schema) (tree : ℕ)
-    → new_rows s (record setting_table { tree = tree }) (small (parsed_in (first put_text)).names + small []) put_insert.columns put_insert.rows ≡ Ok (Values put_terms 6)
-unfolding everything put_insert
-put_rows s tree = refl
+-- ---- a column keeps what fits it
 
 either : (b : Bool) (x : Value) → cond b x x ≡ x
 either true x = refl
@@ -90,29 +71,6 @@ cast_int n = either _ (Int n)
 pub cast_null : cast Integer Null ≡ Null
 unfolding unary
 cast_null = either _ Null
-
-row_is : (made_with : NewSetting) (tree : ℕ) (rows : List Row) → with_rowid Chosen rows (cast_row (record setting_table { tree = tree }) (eval_all put_terms (setting_params made_with ∷ []))) ≡ setting_row made_with
-row_is made_with tree rows = rw (cast_null, cast_int (pos 1), cast_int (pos VERSION), cast_int (minutes_in made_with.zone), cast_int (pos made_with.cap), cast_int (pos 0))
-
-module _ (made_with : NewSetting) (old new : State) (at tree : ℕ) (named : table_named old.now.schema (codes "setting") ≡ Some at) (there : slice_get old.now.schema.tables at ≡ Some (record setting_table { tree = tree })) where
-  put_ran : (count : ℕ) → old.now.trees tree ≡ [] → Executes put_text (setting_params made_with) old new (Ok count) → HasPut tree (setting_row made_with) old new
-  unfolding put_insert
-  put_ran count none h =
-      let table : Table = record setting_table { tree = tree } in
-      let s = old.now.schema in
-      let is = understood_insert put_text put_parses put_insert s at table (Values put_terms 6) named there refl (put_rows s tree) in
-      let done = inserts put_text (setting_params made_with) old new s refl at table (record { place = there; uncounted = refl; timeless = λ params. append-nil params; unreferred = unreferred s tree })
-      put_terms 6 (ap command_of is) (subst IsPlain (sym is) (refl, refl)) refl count h in
-      record {
-        sound = done.sound;
-        schema = done.schema_is;
-        row_is = done.rows ∙ ap (λ r. put_row r (old.now.trees tree)) (row_is made_with tree (old.now.trees tree)) ∙ ap (put_row (setting_row made_with)) none;
-        others = done.tables;
-      }
-
-pub puts : (made_with : NewSetting) (old new : State) (r : Result ℕ Error) → ExecutesInside 0 put_text (setting_params made_with) old new r → OnOk r (Puts setting_table (setting_row made_with) old new)
-puts made_with old new (Err e) h = tt
-puts made_with old new (Ok count) h = (h.1.mode, λ at tree named there none. put_ran made_with old new at tree named there count none h.0)
 
 -- ---- a table and its row
 

@@ -25,7 +25,7 @@ use Rattle.mq_tables.proofs.Chains.{all_joined, all_both, of_chain}
 use Rattle.mq_tables.proofs.Found.{IsFound, apart, begun, still_all, in_database}
 use Rattle.mq_tables.proofs.Places.{all_below}
 
-names_selves : (same_name setting_table.name setting_table.name ≡ true) × (same_name answer_table.name answer_table.name ≡ true) × (same_name trans_table.name trans_table.name ≡ true)
+pub names_selves : (same_name setting_table.name setting_table.name ≡ true) × (same_name answer_table.name answer_table.name ≡ true) × (same_name trans_table.name trans_table.name ≡ true)
     × (same_name usage_table.name usage_table.name ≡ true) × (same_name ceiling_table.name ceiling_table.name ≡ true) × (same_name rule_table.name rule_table.name ≡ true) × (same_name retired_table.name retired_table.name ≡ true)
 unfolding same_name
 names_selves = (refl, refl, refl, refl, refl, refl, refl)

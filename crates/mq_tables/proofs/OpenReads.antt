@@ -2,11 +2,11 @@
 use Rattle.std.proofs.Common.{pos, ◌≡◌, ◌<◌, ◌+◌, ◌&&◌, ℕ, List, [], ◌∷◌, ◌++◌, ◌==◌, length, take, get_or, map, filter, codes, Bool, true, false, None, Ok, Err, Result, refl, sym, ap, ap₂, subst, ◌∙◌}
 use Rattle.std.specs.Prelude.{not, All, nat_le}
 use Rattle.std.specs.List.{AllByRecursion}
-use Rattle.std.proofs.Common.{subst₂, cond}
+use Rattle.std.proofs.Common.{cond}
 use Rattle.std.proofs.lemmas.Bool.{not-true}
 use Rattle.std.proofs.lemmas.List.{take_more}
 use Rattle.std.proofs.lemmas.List.Elements.{All-push, recursion_from_All}
-use Rattle.std.proofs.lemmas.List.Sorted.{IsPermutation-map, IsPermutation-sym}
+use Rattle.std.proofs.lemmas.List.Sorted.{IsPermutation-sym}
 use Rattle.sqlite.specs.declared.types.Value.TheVariants.{Blob}
 use Rattle.std.specs.Prelude.{Vec, IfOk}
 use Rattle.std.specs.declared.alloc.Global.{Global}
@@ -32,7 +32,7 @@ use Rattle.mq_tables.specs.Ledger.{HasLedger}
 use Rattle.mq_tables.specs.Retiring.{open_params, open_row, open_columns, IsOpenRead, IsOpenOf}
 use Rattle.mq_tables.specs.Records.{transaction_fields, bit}
 use Rattle.mq_tables.specs.Tables.{trans_table}
-use Rattle.mq_tables.proofs.FigureReads.{mapped_more}
+use Rattle.mq_tables.proofs.Finds.{mapped_more, same_read}
 use Rattle.mq_tables.proofs.SelectShape.{SelectShape, IsSelect, IsAccepted}
 use Rattle.mq_tables.proofs.TermShape.{field, against}
 use Rattle.mq_tables.proofs.Selected.{pass, finds_all}
@@ -52,21 +52,7 @@ open_shape = record {
 
 pub open_select : IsSelect open_text open_shape
 unfolding everything listing_schema same_name
-open_select = record {
-  parsed = refl;
-  select = _;
-  statement = refl;
-  timeless = refl;
-  unlisted = refl;
-  source = (_, refl, refl, refl, refl, refl, refl);
-  shown = ((_, refl, refl), ((_, refl, refl), ((_, refl, refl), ((_, refl, refl), ((_, refl, refl), ((_, refl, refl), ((_, refl, refl), tt)))))));
-  filter = (_, _, refl, (_, _, refl, (_, _, refl, (_, _, refl, refl, refl), (_, _, refl, refl, refl)), (_, _, refl, refl, refl)), (_, _, refl, refl, refl));
-  ungrouped = (refl, refl, refl);
-  order = (refl, refl);
-  alone = (refl, refl, refl);
-  known = λ t. refl;
-  short = refl;
-}
+open_select = record { parsed = refl; statement = refl; timeless = refl; unlisted = refl; known = λ t. refl; short = refl }
 
 open_accepted : IsAccepted open_shape
 open_accepted s t low found = rw (low, found)
@@ -97,16 +83,8 @@ open_back h (Int (pos r) ∷ Int (pos x) ∷ Blob l ∷ Int (pos m) ∷ Int (pos
     record { host = h; run = r; txn = x; login = l; moment = m; day = d; held = n; settled = s; closed = false }
 open_back h _ = record { host = h; run = 0; txn = 0; login = []; moment = 0; day = 0; held = 0; settled = 0; closed = false }
 
-back_is : (h : List ℕ) (xs : List TransactionRecord) → AllByRecursion (IsOpenOf h) xs → map (open_back h) (map open_row xs) ≡ xs
-back_is h [] all = refl
-back_is h (x ∷ xs) all =
-    let one : (record { host = h; run = x.run; txn = x.txn; login = x.login; moment = x.moment; day = x.day; held = x.held; settled = x.settled; closed = false }) ≡ x =
-    (λ i. record { host = sym all.0.0 i; run = x.run; txn = x.txn; login = x.login; moment = x.moment; day = x.day; held = x.held; settled = x.settled; closed = sym all.0.1 i }) in
-    λ i. one i ∷ back_is h xs all.1 i
-
-again : (xs : List TransactionRecord) → map open_columns (map open_row xs) ≡ map open_row xs
-again [] = refl
-again (x ∷ xs) = ap (λ ys. open_row x ∷ ys) (again xs)
+back_is : (h : List ℕ) (x : TransactionRecord) → IsOpenOf h x → open_back h (open_row x) ≡ x
+back_is h x good = λ i. record { host = sym good.0 i; run = x.run; txn = x.txn; login = x.login; moment = x.moment; day = x.day; held = x.held; settled = x.settled; closed = sym good.1 i }
 
 -- those that pass are open and the host's
 open_so : (runs : Runs) (t : TransactionRecord) → is_open_in runs t ≡ true → IsOpenOf runs.host t
@@ -129,9 +107,8 @@ pub opens_read : (runs : Runs) (Held : Tables → Type 0) (rows : List Row) (out
     → IfOk outcome (λ read. (t : Tables) → Held t → IsPermutation read.items (filter (is_open_in runs) t.transactions))
 opens_read runs Held rows (Ok read) same is open_all = λ t l.
     let these : List TransactionRecord = filter (is_open_in runs) t.transactions in
-    let columns = IsPermutation-map open_columns _ _ (same t l) in
-    let cells : IsPermutation (map open_row these) (map open_row read.items) = subst₂ IsPermutation (again these) is columns in
-    IsPermutation-sym _ _ (subst₂ IsPermutation (back_is runs.host these (kept_open runs t.transactions)) (back_is runs.host read.items (recursion_from_All (IsOpenOf runs.host) read.items open_all)) (IsPermutation-map (open_back runs.host) _ _ cells))
+    IsPermutation-sym _ _ (same_read (IsOpenOf runs.host) open_row open_columns (open_back runs.host) (λ x. refl) (back_is runs.host) rows these read.items (kept_open runs t.transactions)
+    (recursion_from_All (IsOpenOf runs.host) read.items open_all) (same t l) is)
 opens_read runs Held rows (Err e) same is open_all = tt
 
 -- one row more was read

@@ -50,21 +50,7 @@ days_shape = record {
 
 pub days_select : IsSelect days_text days_shape
 unfolding everything listing_schema same_name
-days_select = record {
-  parsed = refl;
-  select = _;
-  statement = refl;
-  timeless = refl;
-  unlisted = refl;
-  source = (_, refl, refl, refl, refl, refl, refl);
-  shown = ((_, refl, refl), ((_, refl, refl), ((_, refl, refl), tt)));
-  filter = (_, _, refl, (_, _, refl, refl, refl), (_, _, refl, refl, refl));
-  ungrouped = (refl, refl, refl);
-  order = (refl, refl);
-  alone = (refl, refl, refl);
-  known = λ t. refl;
-  short = refl;
-}
+days_select = record { parsed = refl; statement = refl; timeless = refl; unlisted = refl; known = λ t. refl; short = refl }
 
 days_accepted : IsAccepted days_shape
 days_accepted s t low found = rw (low, found)

@@ -1,5 +1,5 @@
 -- What the query of the answers of runs answers of their places.
-use Rattle.std.proofs.Common.{◌≡◌, ◌&&◌, ℕ, List, [], ◌∷◌, map, filter, codes, Bool, None, Result, refl, ap}
+use Rattle.std.proofs.Common.{◌≡◌, ◌&&◌, ℕ, List, [], ◌∷◌, map, filter, codes, Bool, None, Ok, Err, Result, refl, ap, subst, ◌∙◌}
 use Rattle.std.specs.Prelude.{Vec, IfOk, nat_le}
 use Rattle.std.specs.declared.alloc.Global.{Global}
 use Rattle.sqlite.specs.declared.error.Error.{Error}
@@ -38,21 +38,7 @@ places_shape = record {
 
 pub places_select : IsSelect places_text places_shape
 unfolding everything listing_schema same_name
-places_select = record {
-  parsed = refl;
-  select = _;
-  statement = refl;
-  timeless = refl;
-  unlisted = refl;
-  source = (_, refl, refl, refl, refl, refl, refl);
-  shown = ((_, refl, refl), tt);
-  filter = (_, _, refl, (_, _, refl, (_, _, refl, refl, refl), (_, _, refl, refl, refl)), (_, _, refl, refl, refl));
-  ungrouped = (refl, refl, refl);
-  order = (refl, refl);
-  alone = (refl, refl, refl);
-  known = λ t. refl;
-  short = refl;
-}
+places_select = record { parsed = refl; statement = refl; timeless = refl; unlisted = refl; known = λ t. refl; short = refl }
 
 places_accepted : IsAccepted places_shape
 places_accepted s t low found = rw (low, found)

@@ -85,7 +85,7 @@ module _ {R Y : Type 0} (fields : R → Row) (pass test : Row → Bool) (tied : 
       subst₂ IsPermutation (sym left) right (IsPermutation-map make _ _ (IsPermutation-filter test _ _ same))
 
 module _ (sql : List ℕ) (params : Row) (old new : State) (e : Error) where
-  not_run : IsNotRun old new sql params e → IsUnchanged old new ⊎ IsRolledBack old new
+  pub not_run : IsNotRun old new sql params e → IsUnchanged old new ⊎ IsRolledBack old new
   unfolding IsNotRun
   not_run (inl h) = inl h.1
   not_run (inr h) = inr h.3

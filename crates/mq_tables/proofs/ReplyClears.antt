@@ -32,16 +32,14 @@ use Rattle.mq_tables.specs.Places.{IsAnswerIn, IsUnreferred}
 use Rattle.mq_tables.specs.Records.{answer_fields, AreNumbered, HoldsAnswers}
 use Rattle.mq_tables.specs.Retiring.{clear_params, without_reply, cleared_where, ClearsAt}
 use Rattle.mq_tables.specs.Tables.{answer_table}
-use Rattle.mq_tables.specs.Written.{plain_query, chosen as chosen_rows, Updated}
+use Rattle.mq_tables.specs.Written.{chosen as chosen_rows, Updated}
 use Rattle.mq_tables.proofs.Changes.{answers_changed}
 use Rattle.mq_tables.proofs.ClearedRows.{shown, set_many, still_numbered, has_permuted}
 use Rattle.mq_tables.proofs.Makes.{cast_int, cast_null}
-use Rattle.mq_tables.proofs.Statements.{updates}
 use Rattle.mq_tables.proofs.TermShape.{field, against}
 use Rattle.mq_tables.proofs.TermShape.Relation.{Same}
 use Rattle.mq_tables.proofs.Tests.{day_test}
-use Rattle.mq_tables.proofs.UpdateShape.{UpdateShape, IsUpdateOf, IsAccepted, in_tree, tests_in, means_update}
-use Rattle.mq_tables.proofs.Updating.{nothing_acts}
+use Rattle.mq_tables.proofs.UpdateShape.{UpdateShape, IsUpdateOf, IsAccepted, in_tree, tests_in, made}
 
 abbrev pub clear_text : List ℕ
 clear_text = codes "UPDATE answer SET reply = ?1 WHERE n = ?2"
@@ -57,19 +55,7 @@ shape = record {
 
 is_update : IsUpdateOf clear_text shape
 unfolding everything same_name
-is_update = record {
-  parsed = refl;
-  update = record { name = _; assignments = _; test = _; statement = refl; timeless = refl };
-  named = refl;
-  sets = (refl, refl, tt);
-  placed = λ t. refl;
-  laid = λ t. refl;
-  filter = (_, _, refl, refl, refl);
-  known = λ t. refl;
-  short = refl;
-  uncounted = refl;
-  timeless = λ params. append-nil params;
-}
+is_update = record { parsed = refl; statement = refl; formats = refl; placed = λ t. refl; laid = λ t. refl; known = λ t. refl; short = refl; uncounted = refl; timeless = λ params. append-nil params }
 
 accepted : IsAccepted shape
 accepted s t low found = rw (low, found)
@@ -136,35 +122,28 @@ module _ (old new : state.State) (n : ℕ) (t : ℕ) (place' : IsAnswerIn old.no
 
   clears : Updated old.now.schema table (tests_in shape) shape.row (clear_params n) old new → (answers : List AnswerRecord) → HoldsAnswers (old.now.trees t) answers
       → HoldsAnswers (new.now.trees t) (cleared_where (passes n) answers)
-  clears made answers held =
+  clears done answers held =
       let db = old.now.trees in
-      let hits = made.hits in
+      let hits = done.hits in
       let found : IsPermutation (map shown (filter (passes n) answers)) hits =
-      subst (λ xs. IsPermutation xs hits) (ap (chosen_rows (tests_in shape) shape.row (clear_params n)) held.rows ∙ chosen_are n answers) made.found in
+      subst (λ xs. IsPermutation xs hits) (ap (chosen_rows (tests_in shape) shape.row (clear_params n)) held.rows ∙ chosen_are n answers) done.found in
       let cast_so : map (λ s. cast_row table (drop 1 s)) hits ≡ map (drop 1) hits =
       map_same (λ s. cast_row table (drop 1 s)) (drop 1) hits (λ h k. let from = has_mapped shown (filter (passes n) answers) h (has_permuted (map shown (filter (passes n) answers)) hits h found k) in
       ap (λ s. cast_row table (drop 1 s)) from.2 ∙ cast_is from.0 ∙ ap (drop 1) (sym from.2)) in
       let news : (edit_of db table (ids_of hits) Given 1 hits).news ≡ map (drop 1) hits = given (without_all (db t) (ids_of hits)) (map (λ s. cast_row table (drop 1 s)) hits) ∙ cast_so in
       let up : IsTable (db t) = subst IsTable (sym held.rows) (numbered_table 1 answers held.numbered) in
-      let fresh' : are_fresh (without_all (db t) (ids_of hits)) (map (drop 1) hits) ≡ true = subst (λ xs. are_fresh (without_all (db t) (ids_of hits)) xs ≡ true) news made.fresh in
-      let put : new.now.trees t ≡ put_all (without_all (db t) (ids_of hits)) (map (drop 1) hits) = made.rows ∙ ap (put_all (without_all (db t) (ids_of hits))) news in
+      let fresh' : are_fresh (without_all (db t) (ids_of hits)) (map (drop 1) hits) ≡ true = subst (λ xs. are_fresh (without_all (db t) (ids_of hits)) xs ≡ true) news done.fresh in
+      let put : new.now.trees t ≡ put_all (without_all (db t) (ids_of hits)) (map (drop 1) hits) = done.rows ∙ ap (put_all (without_all (db t) (ids_of hits))) news in
       record {
         rows = put ∙ set_many (db t) answers (passes n) hits held.rows found up (put_table (map (drop 1) hits) (without_all (db t) (ids_of hits)) (left_table (ids_of hits) (db t) up)) fresh';
         numbered = still_numbered (passes n) 1 answers held.numbered;
       }
-
-  made_so : IsUnreferred old.now.schema t → (count : ℕ) → Executes clear_text (clear_params n) old new (Ok count) → Updated old.now.schema table (tests_in shape) shape.row (clear_params n) old new
-  made_so apart count h =
-      let means = means_update clear_text shape is_update accepted old.now.schema t place' in
-      updates clear_text (clear_params n) old new old.now.schema refl place'.at table
-      (record { place = place'.there; uncounted = refl; timeless = λ params. append-nil params; unreferred = nothing_acts old.now.schema t apart [] })
-      (nothing_acts old.now.schema t apart) (record { lets = []; body = plain_query t (tests_in shape) shape.row }) (tests_in shape) shape.row means.0 (refl, refl) means.1 (rw place'.stored) count h
 
 pub clears_reply : (old new : state.State) (n : ℕ) (outcome : Result ℕ Error) → ExecutesInside 0 clear_text (clear_params n) old new outcome → OnOk outcome (IsTrue new.in_transaction) × OnOk outcome (ClearsAt n old new)
 clears_reply old new n (Err e) h = (tt, tt)
 clears_reply old new n (Ok count) h = (
   h.1.mode,
   λ t l.
-      let made = made_so old new n l.at.answer l.tables.answer l.tables.answer_alone count h.0 in
-      answers_changed old.now new.now t l made.schema_is made.sound made.tables (cleared_where (passes n) t.answers) (clears old new n l.at.answer l.tables.answer made t.answers l.holds.answers),
+      let done = made clear_text shape is_update accepted (clear_params n) old new l.at.answer l.tables.answer l.tables.answer_alone count h.0 in
+      answers_changed old.now new.now t l done.schema_is done.sound done.tables (cleared_where (passes n) t.answers) (clears old new n l.at.answer l.tables.answer done t.answers l.holds.answers),
 )

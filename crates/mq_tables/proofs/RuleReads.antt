@@ -1,5 +1,6 @@
 -- What is read of the rule, over a store that has its table at any place.
 use Rattle.std.proofs.Common.{◌≡◌, inl, inr, ℕ, suc, List, [], ◌∷◌, codes, length, Option, None, Some, Ok, Err, Result, arith, refl, ap, subst, ◌∙◌}
+use Rattle.std.specs.List.Sorted.{IsPermutation}
 use Rattle.std.proofs.lemmas.List.Sorted.{length_permutation}
 use Rattle.sqlite.specs.declared.types.Value.TheVariants.{Blob}
 use Rattle.sqlite.specs.declared.error.Error.{Error}
@@ -31,21 +32,7 @@ rule_shape = record {
 
 pub rule_select : IsSelect rule_text rule_shape
 unfolding everything listing_schema same_name
-rule_select = record {
-  parsed = refl;
-  select = _;
-  statement = refl;
-  timeless = refl;
-  unlisted = refl;
-  source = (_, refl, refl, refl, refl, refl, refl);
-  shown = ((_, refl, refl), tt);
-  filter = (_, _, refl, refl, refl);
-  ungrouped = (refl, refl, refl);
-  order = (refl, refl);
-  alone = (refl, refl, refl);
-  known = λ t. refl;
-  short = refl;
-}
+rule_select = record { parsed = refl; statement = refl; timeless = refl; unlisted = refl; known = λ t. refl; short = refl }
 
 rule_accepted : IsAccepted rule_shape
 rule_accepted s t low found = rw (low, found)

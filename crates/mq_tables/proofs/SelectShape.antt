@@ -3,12 +3,12 @@ use Rattle.std.proofs.Common.{pos, negsuc, ◌≡◌, ◌≤◌, ℕ, ◌+◌, �
 use Rattle.std.specs.List.{list_all, position_from}
 use Rattle.std.proofs.lemmas.Bool.{and_parts, leb-true, lt-ltb}
 use Rattle.sqlite_trees.proofs.ListLemmas.{map-map}
-use Rattle.sqlite_ast.specs.declared.Expr.{Expr, out-Expr}
+use Rattle.sqlite_ast.specs.declared.Expr.{Expr, roll-Expr, out-roll-Expr}
 use Rattle.sqlite_ast.specs.declared.Expr.TheOpen.{Expr-F}
-use Rattle.sqlite_ast.specs.declared.Source.{Source, out-Source}
-use Rattle.sqlite_ast.specs.declared.Core.{Core, out-Core}
-use Rattle.sqlite_ast.specs.declared.Select.{Select, out-Select}
-use Rattle.sqlite_ast.specs.declared.Sort.{Sort, out-Sort}
+use Rattle.sqlite_ast.specs.declared.Source.{Source, out-Source, roll-Source, out-roll-Source}
+use Rattle.sqlite_ast.specs.declared.Core.{Core, out-Core, roll-Core, out-roll-Core}
+use Rattle.sqlite_ast.specs.declared.Select.{Select, out-Select, roll-Select, out-roll-Select}
+use Rattle.sqlite_ast.specs.declared.Sort.{Sort, out-Sort, roll-Sort, out-roll-Sort}
 use Rattle.sqlite_ast.specs.declared.Origin.TheVariants as origin
 use Rattle.sqlite_ast.specs.declared.Statement.TheVariants as written
 use Rattle.sqlite.specs.Schema.{Schema}
@@ -26,7 +26,7 @@ use Rattle.sqlite_resolve.specs.declared.state.State.{State}
 use Rattle.sqlite_resolve.specs.Lowering.{fresh, max_budget, nothing}
 use Rattle.sqlite_resolve.specs.Scope.{Name, Context}
 use Rattle.sqlite_resolve.specs.Select.{outermost, inside}
-use Rattle.sqlite_resolve.specs.Body.{within, body, bounds, joins}
+use Rattle.sqlite_resolve.specs.Body.{within, body, bounds, joins, tests, outputs_from}
 use Rattle.sqlite_resolve.specs.Expr.{lower}
 use Rattle.sqlite_resolve.specs.declared.compiled.Compiled.{Compiled}
 use Rattle.sqlite_resolve.specs.declared.error.CompileError.TheVariants.{NoSuchTable}
@@ -39,7 +39,7 @@ use Rattle.mq_tables.specs.Places.{IsTableIn}
 use Rattle.mq_tables.specs.Written.{plain_query, latest_query}
 use Rattle.mq_tables.proofs.Plain.{parsed_in, IsQuery, IsBare, any_bare, any_apart}
 use Rattle.mq_tables.proofs.Selecting.{bound_one, column_lowered, join_one, body_is, parts_are, named_is, query_is, sorts_one, parts_ordered, named_ordered, constant_number, query_ordered, plan_selects}
-use Rattle.mq_tables.proofs.TermShape.{Field, Test, one_reads, is_field, of_field, carried_is, binary_alone, shown_term, filter_of, carried_at, output_of, AreShown, IsFilter, state_of, depth_of, nodes_of, spent_on, spent_most, last_after, last_shown, bound_at, filter_lowered, fields_shown}
+use Rattle.mq_tables.proofs.TermShape.{Field, Test, one_reads, is_field, of_field, carried_is, binary_alone, shown_term, filter_of, carried_at, output_of, column_as, filter_as, shown_as, state_of, depth_of, nodes_of, spent_on, spent_most, last_after, last_shown, bound_at, filter_lowered, fields_shown}
 
 pub record Sorting : Type 0 where
   pub column : Field
@@ -79,24 +79,28 @@ compiled_of text shape t = with_command (parsed_in (first text)) ([], (Select' (
 
 -- ---- how the text is written
 
-abbrev pub IsOrdered : List Sort → Option Expr → Option Sorting → Type 0
-IsOrdered by limit None = (by ≡ []) × (limit ≡ None)
-IsOrdered by limit (Some sorting) =
-    (sort : Sort) × (key : Expr) × (most : Expr) × (by ≡ sort ∷ []) × (limit ≡ Some most) × ((out-Sort sort).key ≡ key) × ((out-Sort sort).descending ≡ sorting.descending) × ((out-Sort sort).nulls_first ≡ None)
-    × (out-Expr key ≡ Expr-F.Column None sorting.column.name) × (out-Expr most ≡ Expr-F.Integer (codes "1"))
+abbrev source_as : Name → Source
+source_as name = roll-Source (record { is_left = false; origin = origin.Table name; alias = None; on = None; using = [] })
 
--- one table, which is not joined
-abbrev pub IsOneTable : Core → Name → Type 0
-IsOneTable core name =
-    (source : Source) × ((out-Core core).from ≡ source ∷ []) × ((out-Source source).origin ≡ origin.Table name) × ((out-Source source).alias ≡ None) × ((out-Source source).using ≡ []) × ((out-Source source).on ≡ None)
-    × ((out-Source source).is_left ≡ false)
+abbrev sort_as : Sorting → Sort
+sort_as by = roll-Sort (record { key = column_as by.column.name; descending = by.descending; nulls_first = None })
 
--- no group, and no row left out because another is like it
-abbrev pub IsUngrouped : Core → Type 0
-IsUngrouped core = ((out-Core core).group ≡ []) × ((out-Core core).having ≡ None) × ((out-Core core).distinct ≡ false)
+abbrev one_as : Expr
+one_as = roll-Expr (Expr-F.Integer (codes "1"))
 
-abbrev pub IsAlone : Select → Type 0
-IsAlone select = ((out-Select select).with ≡ []) × ((out-Select select).others ≡ []) × ((out-Select select).offset ≡ None)
+abbrev order_as : Option Sorting → List Sort
+order_as None = []
+order_as (Some by) = sort_as by ∷ []
+
+abbrev limit_as : Option Sorting → Option Expr
+limit_as None = None
+limit_as (Some by) = Some one_as
+
+abbrev core_as : SelectShape → Core
+core_as shape = roll-Core (record { distinct = false; shown = map shown_as shape.shown; from = source_as shape.table.name ∷ []; filter = filter_as (reverse shape.tests); group = []; having = None })
+
+abbrev pub select_as : SelectShape → Select
+select_as shape = roll-Select (record { with = []; first = core_as shape; others = []; order = order_as shape.order; limit = limit_as shape.order; offset = None })
 
 abbrev pub sorted_fields : Option Sorting → List Field
 sorted_fields None = []
@@ -107,16 +111,9 @@ are_known table shape = list_all (is_field table) shape.shown && (list_all (λ (
 
 pub record IsSelect (text : List ℕ) (shape : SelectShape) : Type 0 where
   pub parsed : first text ≡ Ok (parsed_in (first text))
-  pub select : Select
-  pub statement : (parsed_in (first text)).statement ≡ written.Select select
+  pub statement : (parsed_in (first text)).statement ≡ written.Select (select_as shape)
   pub timeless : (parsed_in (first text)).formats ≡ []
   pub unlisted : if_select (compiled listing_schema text) ≡ Err NoSuchTable
-  pub source : IsOneTable (out-Select select).first shape.table.name
-  pub shown : AreShown (out-Core (out-Select select).first).shown shape.shown
-  pub filter : IsFilter (out-Core (out-Select select).first).filter (reverse shape.tests)
-  pub ungrouped : IsUngrouped (out-Select select).first
-  pub order : IsOrdered (out-Select select).order (out-Select select).limit shape.order
-  pub alone : IsAlone select
   pub known : (t : ℕ) → are_known (in_tree shape t) shape ≡ true
   pub short : nat_le (length shape.shown + nodes_of (reverse shape.tests) + depth_of (reverse shape.tests)) 600 ≡ true
 
@@ -126,19 +123,50 @@ IsAccepted shape = (s : Schema) (t : ℕ) → nat_le (2 ^ 31) t ≡ false → fi
 
 -- ---- what it means
 
+module _ (shape : SelectShape) where
+  abbrev core : Core
+  core = core_as shape
+
+  abbrev source : Source
+  source = source_as shape.table.name
+
+  abbrev select : Select
+  select = select_as shape
+
+  from_is : (out-Core core).from ≡ source ∷ []
+  from_is = rw out-roll-Core refl
+
+  shown_is : (out-Core core).shown ≡ map shown_as shape.shown
+  shown_is = rw out-roll-Core refl
+
+  filter_is : (out-Core core).filter ≡ filter_as (reverse shape.tests)
+  filter_is = rw out-roll-Core refl
+
+  ungrouped : ((out-Core core).group ≡ []) × ((out-Core core).having ≡ None) × ((out-Core core).distinct ≡ false)
+  ungrouped = rw out-roll-Core (refl, refl, refl)
+
+  one_source : ((out-Source source).origin ≡ origin.Table shape.table.name) × ((out-Source source).alias ≡ None) × ((out-Source source).using ≡ []) × ((out-Source source).on ≡ None) × ((out-Source source).is_left ≡ false)
+  one_source = rw out-roll-Source (refl, refl, refl, refl, refl)
+
+  alone : ((out-Select select).first ≡ core) × ((out-Select select).with ≡ []) × ((out-Select select).others ≡ []) × ((out-Select select).offset ≡ None)
+  alone = rw out-roll-Select (refl, refl, refl, refl)
+
+  sorted : ((out-Select select).order ≡ order_as shape.order) × ((out-Select select).limit ≡ limit_as shape.order)
+  sorted = rw out-roll-Select (refl, refl)
+
+sort_is : (by : Sorting) → ((out-Sort (sort_as by)).key ≡ column_as by.column.name) × ((out-Sort (sort_as by)).descending ≡ by.descending) × ((out-Sort (sort_as by)).nulls_first ≡ None)
+sort_is by = let rolled = out-roll-Sort (record { key = column_as by.column.name; descending = by.descending; nulls_first = None }) in (ap (λ s. s.key) rolled, ap (λ s. s.descending) rolled, ap (λ s. s.nulls_first) rolled)
+
 unaliased : (table : Table) (name : Name) (fs : List Field) (k : ℕ) → position_from (λ (o : Output). o.is_alias && same_name o.name name) k (map (output_of table) fs) ≡ None
 unaliased table name [] k = refl
 unaliased table name (f ∷ fs) k = unaliased table name fs (k + 1)
 
 module _ (text : List ℕ) (shape : SelectShape) (it : IsSelect text shape) where
   pub query_of_text : IsQuery (parsed_in (first text))
-  query_of_text = (it.select, it.statement, it.timeless)
+  query_of_text = (select_as shape, it.statement, it.timeless)
 
   pub bare : (s : Schema) (c : Compiled) → understood s text ≡ Ok c → IsBare c
   bare = any_bare text it.parsed query_of_text it.unlisted
-
-  abbrev core : Core
-  core = (out-Select it.select).first
 
   abbrev budget : ℕ
   budget = max_budget - length shape.shown
@@ -177,41 +205,50 @@ module _ (text : List ℕ) (shape : SelectShape) (it : IsSelect text shape) wher
     others_known : (list_all (λ (u : Test). is_field table u.column) (reverse shape.tests) ≡ true) × (list_all (is_field table) (sorted_fields shape.order) ≡ true)
     others_known = and_parts _ _ (and_parts (list_all (is_field table) shape.shown) _ (it.known t)).1
 
-    whole : body lower (outermost s) core start ≡ Ok (record { level = record { tables = bound_at place.at shape.table.name ∷ []; shown = outputs }; steps = Inner t ∷ []; filter = filter_in shape }, three)
+    whole : body lower (outermost s) (core shape) start ≡ Ok (record { level = record { tables = bound_at place.at shape.table.name ∷ []; shown = outputs }; steps = Inner t ∷ []; filter = filter_in shape }, three)
     whole =
         let b = bound_at place.at shape.table.name in
-        let from : bounds s (out-Core core).from start ≡ Ok (b ∷ [], state_of max_budget nothing) = rw it.source.1 (bound_one s it.source.0 place.at shape.table.name start place.named it.source.2 it.source.3 it.source.4 refl) in
-        let shown = fields_shown (read_as [] true) place.at shape.table.name [] table refl place.there shape.shown shown_known (out-Core core).shown it.shown [] max_budget nothing (omega (arith, short)) in
-        let joined : joins lower (read_as outputs false) (b ∷ []) (out-Core core).from (state_of budget last) ≡ Ok (record { steps = Inner t ∷ []; filter = [] }, state_of budget last) =
-        rw it.source.1 (join_one (read_as outputs false) b it.source.0 table (state_of budget last) place.there refl it.source.6 it.source.5 it.source.4) in
-        let tested = filter_lowered (read_as outputs false) place.at shape.table.name outputs table refl place.there (reverse shape.tests) others_known.0 (out-Core core).filter it.filter budget last (omega (arith, short)) (omega (arith, short)) in
-        body_is s core b outputs (Inner t ∷ []) (filter_in shape) start (state_of max_budget nothing) (state_of budget last) three from shown joined tested
+        let src = source shape in
+        let one = one_source shape in
+        let from : bounds s (out-Core (core shape)).from start ≡ Ok (b ∷ [], state_of max_budget nothing) = rw (from_is shape) (bound_one s src place.at shape.table.name start place.named one.0 one.1 one.2 refl) in
+        let shown : outputs_from lower (read_as [] true) (b ∷ []) [] (out-Core (core shape)).shown (state_of max_budget nothing) ≡ Ok (outputs, state_of budget last) =
+        rw (shown_is shape) (fields_shown (read_as [] true) place.at shape.table.name [] table refl place.there shape.shown shown_known [] max_budget nothing (omega (arith, short))) in
+        let joined : joins lower (read_as outputs false) (b ∷ []) (out-Core (core shape)).from (state_of budget last) ≡ Ok (record { steps = Inner t ∷ []; filter = [] }, state_of budget last) =
+        rw (from_is shape) (join_one (read_as outputs false) b src table (state_of budget last) place.there refl one.4 one.3 one.2) in
+        let tested : tests lower (read_as outputs false) [] (out-Core (core shape)).filter (state_of budget last) ≡ Ok (filter_in shape, three) =
+        rw (filter_is shape) (filter_lowered (read_as outputs false) place.at shape.table.name outputs table refl place.there (reverse shape.tests) others_known.0 budget last (omega (arith, short)) (omega (arith, short))) in
+        body_is s (core shape) b outputs (Inner t ∷ []) (filter_in shape) start (state_of max_budget nothing) (state_of budget last) three from shown joined tested
 
     -- the plan, whatever the order
-    plans : (by : Option Sorting) → IsOrdered (out-Select it.select).order (out-Select it.select).limit by → list_all (is_field table) (sorted_fields by) ≡ true
+    plans : (by : Option Sorting) → ((out-Select (select shape)).order ≡ order_as by) × ((out-Select (select shape)).limit ≡ limit_as by) → list_all (is_field table) (sorted_fields by) ≡ true
         → accepts_program s [] (paged t shape.table.key (filter_in shape) project by) [] ≡ true
         → planned s (parsed_in (first text)) ≡ Ok ([], (Select' (record { lets = []; body = paged t shape.table.key (filter_in shape) project by }) (names_in shape t), None))
-    plans None (none, unlimited) known accepts =
+    plans None so known accepts =
         let b = bound_at place.at shape.table.name in
-        let parts = parts_are s core b outputs (Inner t ∷ []) (filter_in shape) start (state_of max_budget nothing) (state_of budget last) three whole it.ungrouped.0 it.ungrouped.1 refl in
-        let one = named_is s core b outputs (Inner t ∷ []) (filter_in shape) start (state_of max_budget nothing) (state_of budget last) three parts refl it.ungrouped.2 refl (lit (Int (negsuc 0)), lit (Int (pos 0))) in
-        let asked = query_is s it.select it.source.0 shape.table.name _ it.alone.0 it.alone.1 none unlimited it.alone.2 it.source.1 it.source.2 one in
-        plan_selects s (parsed_in (first text)) it.select _ _ _ it.statement it.timeless asked accepts
-    plans (Some by) (sort, key, most, sorted, limited, key_is, down, nulls, is, most_is) known accepts =
+        let un = ungrouped shape in
+        let only = alone shape in
+        let parts = parts_are s (core shape) b outputs (Inner t ∷ []) (filter_in shape) start (state_of max_budget nothing) (state_of budget last) three whole un.0 un.1 refl in
+        let one = named_is s (core shape) b outputs (Inner t ∷ []) (filter_in shape) start (state_of max_budget nothing) (state_of budget last) three parts refl un.2 refl (lit (Int (negsuc 0)), lit (Int (pos 0))) in
+        let asked = query_is s (select shape) (core shape) (source shape) shape.table.name _ only.0 only.1 only.2 so.0 so.1 only.3 (from_is shape) (one_source shape).0 one in
+        plan_selects s (parsed_in (first text)) (select shape) _ _ _ it.statement it.timeless asked accepts
+    plans (Some by) so known accepts =
         let b = bound_at place.at shape.table.name in
+        let un = ungrouped shape in
+        let only = alone shape in
         let cx = inside s (record { tables = b ∷ []; shown = outputs }) false in
         let it' = of_field table by.column (and_parts _ _ known).0 in
         let c = by.column in
+        let key = column_as c.name in
         let four = state_of (left - 1) (carried_at shape.table.key c.at) in
-        let lowered = column_lowered cx b outputs table refl refl place.there c.name c.at it'.column it'.named it'.there key is 699 three (lt-ltb 1 left (omega (arith, short, spent_most (reverse shape.tests)))) refl
+        let lowered = column_lowered cx b outputs table refl refl place.there c.name c.at it'.column it'.named it'.there key (out-roll-Expr _) 699 three (lt-ltb 1 left (omega (arith, short, spent_most (reverse shape.tests)))) refl
         ∙ ap (λ k. Ok (shown_term shape.table.key c, state_of (left - 1) k)) (carried_is table c.at it'.column it'.binary) in
-        let sorts_are = sorts_one cx outputs sort key c.name (shown_term shape.table.key c) by.descending three four is key_is down nulls (unaliased table c.name shape.shown 0) lowered refl
+        let sorts_are = sorts_one cx outputs (sort_as by) key c.name (shown_term shape.table.key c) by.descending three four (out-roll-Expr _) (sort_is by).0 (sort_is by).1 (sort_is by).2 (unaliased table c.name shape.shown 0) lowered refl
         ∙ ap (λ k. Ok ((shown_term shape.table.key c, record { collation = k; descending = by.descending }) ∷ [], four)) (binary_alone shape.table.key c.at) in
-        let parts = parts_ordered s core b outputs (Inner t ∷ []) (filter_in shape) start three four (sort ∷ []) (order_by shape.table.key by) whole it.ungrouped.0 it.ungrouped.1 sorts_are in
-        let one = named_ordered s core b outputs (Inner t ∷ []) (filter_in shape) start three four (sort ∷ []) (order_by shape.table.key by) parts refl it.ungrouped.2 refl (lit (Int (pos 1)), lit (Int (pos 0))) in
-        let limit = constant_number s most (codes "1") (Int (pos 1)) most_is one_reads in
-        let asked = query_ordered s it.select it.source.0 shape.table.name (sort ∷ []) most (lit (Int (pos 1))) _ it.alone.0 it.alone.1 sorted limited limit it.alone.2 it.source.1 it.source.2 one in
-        plan_selects s (parsed_in (first text)) it.select _ _ _ it.statement it.timeless asked accepts
+        let parts = parts_ordered s (core shape) b outputs (Inner t ∷ []) (filter_in shape) start three four (sort_as by ∷ []) (order_by shape.table.key by) whole un.0 un.1 sorts_are in
+        let one = named_ordered s (core shape) b outputs (Inner t ∷ []) (filter_in shape) start three four (sort_as by ∷ []) (order_by shape.table.key by) parts refl un.2 refl (lit (Int (pos 1)), lit (Int (pos 0))) in
+        let limit = constant_number s one_as (codes "1") (Int (pos 1)) (out-roll-Expr _) one_reads in
+        let asked = query_ordered s (select shape) (core shape) (source shape) shape.table.name (sort_as by ∷ []) one_as (lit (Int (pos 1))) _ only.0 only.1 only.2 so.0 so.1 limit only.3 (from_is shape) (one_source shape).0 one in
+        plan_selects s (parsed_in (first text)) (select shape) _ _ _ it.statement it.timeless asked accepts
 
     -- the terms as the outputs have them
     project_is : project ≡ shown_in shape
@@ -221,7 +258,7 @@ module _ (text : List ℕ) (shape : SelectShape) (it : IsSelect text shape) wher
     unfolding understood compiled
     means =
         let accepts = subst (λ p. accepts_program s [] (paged t shape.table.key (filter_in shape) p shape.order) [] ≡ true) (sym project_is) (accepted s t place.stored place.found) in
-        let plan = plans shape.order it.order others_known.1 accepts in
+        let plan = plans shape.order (sorted shape) others_known.1 accepts in
         let plan' = subst (λ p. planned s (parsed_in (first text)) ≡ Ok ([], (Select' (record { lets = []; body = paged t shape.table.key (filter_in shape) p shape.order }) (names_in shape t), None))) project_is plan in
         rw it.parsed (rw plan')
 

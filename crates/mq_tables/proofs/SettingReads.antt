@@ -1,5 +1,5 @@
 -- What is read of the settings, over a store that has their table at any place.
-use Rattle.std.proofs.Common.{◌≡◌, inl, inr, [], ◌∷◌, codes, None, Option, Ok, Err, Result, arith, refl, sym, ap, subst, ◌∙◌}
+use Rattle.std.proofs.Common.{◌≡◌, inl, inr, ℕ, List, [], ◌∷◌, codes, None, Option, Ok, Err, Result, arith, refl, sym, ap, subst, ◌∙◌}
 use Rattle.std.proofs.lemmas.List.Sorted.{length_permutation}
 use Rattle.sqlite.specs.declared.types.Value.TheVariants.{Int}
 use Rattle.sqlite.specs.declared.error.Error.{Error}
@@ -32,21 +32,7 @@ setting_shape = record {
 
 setting_select : IsSelect setting_text setting_shape
 unfolding everything listing_schema same_name
-setting_select = record {
-  parsed = refl;
-  select = _;
-  statement = refl;
-  timeless = refl;
-  unlisted = refl;
-  source = (_, refl, refl, refl, refl, refl, refl);
-  shown = ((_, refl, refl), ((_, refl, refl), ((_, refl, refl), tt)));
-  filter = (_, _, refl, refl, refl);
-  ungrouped = (refl, refl, refl);
-  order = (refl, refl);
-  alone = (refl, refl, refl);
-  known = λ t. refl;
-  short = refl;
-}
+setting_select = record { parsed = refl; statement = refl; timeless = refl; unlisted = refl; known = λ t. refl; short = refl }
 
 setting_accepted : IsAccepted setting_shape
 setting_accepted s t low found = rw (low, found)

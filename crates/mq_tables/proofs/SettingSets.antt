@@ -1,6 +1,7 @@
 -- The UPDATE of one column in the row of settings, over any schema that has the table at some place.
 use Rattle.std.proofs.Common.{IsTrue, append-nil, ◌≡◌, ℕ, ℤ, pos, List, [], ◌∷◌, Ok, Err, Result, OnOk, codes, refl, ap, subst, ◌∙◌}
 use Rattle.std.specs.List.Sorted.{IsPermutation}
+use Rattle.sqlite.specs.Table.{Table}
 use Rattle.sqlite.specs.Order.{Row, value_cmp}
 use Rattle.sqlite.specs.Ops.{binary}
 use Rattle.sqlite.specs.declared.types.Value.TheVariants.{Null, Int}
@@ -20,15 +21,13 @@ use Rattle.mq_tables.specs.Places.{IsSettingIn, IsUnreferred}
 use Rattle.mq_tables.specs.Settings.{SettingRow, setting_fields}
 use Rattle.mq_tables.specs.Tables.{setting_table}
 use Rattle.mq_tables.specs.Updates.{HasSetRow, CountsArrivals}
-use Rattle.mq_tables.specs.Written.{plain_query, chosen as chosen_rows}
+use Rattle.mq_tables.specs.Written.{chosen as chosen_rows}
 use Rattle.mq_tables.proofs.Changes.{arrivals_changed, version_changed}
 use Rattle.mq_tables.proofs.Makes.{cast_int, cast_null}
-use Rattle.mq_tables.proofs.Statements.{updates}
 use Rattle.mq_tables.proofs.TermShape.{field}
 use Rattle.mq_tables.proofs.TermShape.Operand.{One}
 use Rattle.mq_tables.proofs.TermShape.Relation.{Same}
-use Rattle.mq_tables.proofs.UpdateShape.{UpdateShape, IsUpdateOf, IsAccepted, in_tree, tests_in, means_update}
-use Rattle.mq_tables.proofs.Updating.{nothing_acts}
+use Rattle.mq_tables.proofs.UpdateShape.{UpdateShape, IsUpdateOf, IsAccepted, in_tree, tests_in, made}
 
 -- this column of the row is set to the first parameter
 abbrev sets_one : List ℕ → ℕ → List Term → UpdateShape
@@ -61,18 +60,15 @@ module _ (text column : List ℕ) (place : ℕ) (row : List Term) (it : IsUpdate
 
   set_so : (old new : State) (t : ℕ) (there : IsSettingIn old.now.schema t) → IsUnreferred old.now.schema t → (count : ℕ) → Executes text params old new (Ok count) → HasSetRow set t old.now new.now
   set_so old new t there apart count h =
-      let s = old.now.schema in
-      let means = means_update text shape it accepted s t there in
-      let made = updates text params old new s refl there.at (in_tree shape t) (record { place = there.there; uncounted = it.uncounted; timeless = it.timeless; unreferred = nothing_acts s t apart [] })
-      (nothing_acts s t apart) (record { lets = []; body = plain_query t (tests_in shape) row }) (tests_in shape) row means.0 (refl, refl) means.1 (rw there.stored) count h in
+      let done = made text shape it accepted params old new t there apart count h in
       record {
-        sound = made.sound;
-        schema = made.schema_is;
+        sound = done.sound;
+        schema = done.schema_is;
         row = λ was only.
             let seen = ap (chosen_rows (tests_in shape) row params) only ∙ chosen_is was ∙ ap (λ r. r ∷ []) (shows was) in
-            let hits = one_permutation _ made.hits (subst (λ xs. IsPermutation xs made.hits) seen made.found) in
-            made.rows ∙ ap (edited old.now.trees) (one_edit t old.now.trees (set was) made.hits hits) ∙ edited_is t was (set was) old.now.trees only;
-        others = made.tables;
+            let hits = one_permutation _ done.hits (subst (λ xs. IsPermutation xs done.hits) seen done.found) in
+            done.rows ∙ ap (edited old.now.trees) (one_edit t old.now.trees (set was) done.hits hits) ∙ edited_is t was (set was) old.now.trees only;
+        others = done.tables;
       }
 
 -- ---- the count of arrivals
@@ -85,19 +81,7 @@ arrivals_row = col 1 0 ∷ col 1 0 ∷ lit Null ∷ col 1 2 ∷ col 1 3 ∷ col 
 
 arrivals_update : IsUpdateOf arrivals_text (sets_one (codes "arrivals") 5 arrivals_row)
 unfolding everything same_name
-arrivals_update = record {
-  parsed = refl;
-  update = record { name = _; assignments = _; test = _; statement = refl; timeless = refl };
-  named = refl;
-  sets = (refl, refl, tt);
-  placed = λ t. refl;
-  laid = λ t. refl;
-  filter = (_, _, refl, refl, refl);
-  known = λ t. refl;
-  short = refl;
-  uncounted = refl;
-  timeless = λ params. append-nil params;
-}
+arrivals_update = record { parsed = refl; statement = refl; formats = refl; placed = λ t. refl; laid = λ t. refl; known = λ t. refl; short = refl; uncounted = refl; timeless = λ params. append-nil params }
 
 arrivals_accepted : IsAccepted (sets_one (codes "arrivals") 5 arrivals_row)
 arrivals_accepted s t low found = rw (low, found)
@@ -121,19 +105,7 @@ version_row = col 1 0 ∷ col 1 0 ∷ lit Null ∷ col 0 0 ∷ col 1 3 ∷ col 1
 
 version_update : IsUpdateOf version_text (sets_one (codes "version") 2 version_row)
 unfolding everything same_name
-version_update = record {
-  parsed = refl;
-  update = record { name = _; assignments = _; test = _; statement = refl; timeless = refl };
-  named = refl;
-  sets = (refl, refl, tt);
-  placed = λ t. refl;
-  laid = λ t. refl;
-  filter = (_, _, refl, refl, refl);
-  known = λ t. refl;
-  short = refl;
-  uncounted = refl;
-  timeless = λ params. append-nil params;
-}
+version_update = record { parsed = refl; statement = refl; formats = refl; placed = λ t. refl; laid = λ t. refl; known = λ t. refl; short = refl; uncounted = refl; timeless = λ params. append-nil params }
 
 version_accepted : IsAccepted (sets_one (codes "version") 2 version_row)
 version_accepted s t low found = rw (low, found)

@@ -12,25 +12,18 @@ use Rattle.sqlite.specs.Listing.{understood}
 use Rattle.sqlite_resolve.specs.declared.compiled.Compiled.{Compiled}
 use Rattle.mq_tables.specs.Reading.{unlimited, Spares}
 use Rattle.mq_tables.proofs.Plain.{IsBare}
+use Rattle.mq_tables.proofs.Queries.{shown_same as same, not_run}
 
 abbrev pub AlwaysBare : List ℕ → Type 0
 AlwaysBare text = (s : Schema) (c : Compiled) → understood s text ≡ Ok c → IsBare c
 
 module _ (text : List ℕ) (bare : AlwaysBare text) (old new : State) where
   pub shown_same : (rows : List Row) → Shown text [] old new rows → IsUnchanged old new
-  unfolding Shown
-  shown_same rows h =
-      let none = (bare old.now.schema h.0 h.1.is).0 in
-      (subst (ShowsRows old new text h.0 (timed [] h.0.formats h.1.now) rows) none h.2).3
-
-  not_run : (e : Error) → IsNotRun old new text [] e → IsUnchanged old new ⊎ IsRolledBack old new
-  unfolding IsNotRun
-  not_run e (inl h) = inl h.1
-  not_run e (inr h) = inr h.3
+  shown_same = same text [] old new (bare old.now.schema)
 
   pub not_shown : (e : Error) → FailsToQuery text [] old new e → IsUnchanged old new ⊎ IsRolledBack old new
   unfolding FailsToQuery
-  not_shown e (inl h) = not_run e h
+  not_shown e (inl h) = not_run text [] old new e h
   not_shown e (inr h) =
       let none = (bare old.now.schema h.0 h.1.is).0 in
       inl (subst (FailsToShow old new text h.0 (timed [] h.0.formats h.1.now) e) none h.2).3

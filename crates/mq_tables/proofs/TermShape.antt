@@ -3,9 +3,9 @@ use Rattle.std.proofs.Common.{pos, codes, not, ◌≡◌, ◌≤◌, ℕ, suc, �
 use Rattle.std.specs.Prelude.{if◌then◌else◌, unwrap_or, option_map}
 use Rattle.std.specs.List.{list_all}
 use Rattle.std.proofs.lemmas.Bool.{and_parts, lt-ltb, eqb-true}
-use Rattle.sqlite_ast.specs.declared.Expr.{Expr, out-Expr}
+use Rattle.sqlite_ast.specs.declared.Expr.{Expr, out-Expr, roll-Expr, out-roll-Expr}
 use Rattle.sqlite_ast.specs.declared.Expr.TheOpen.{Expr-F, Shown-F}
-use Rattle.sqlite_ast.specs.declared.Shown.{Shown, out-Shown}
+use Rattle.sqlite_ast.specs.declared.Shown.{Shown, roll-Shown, out-roll-Shown}
 use Rattle.sqlite_ast.specs.declared.Binary.{Binary as Sign}
 use Rattle.sqlite_ast.specs.declared.Binary.TheVariants as sign
 use Rattle.sqlite.specs.Table.{Table}
@@ -156,28 +156,29 @@ output_of table f = record { name = heading_of table f; is_alias = false; is_col
 
 -- ---- how they are written
 
-abbrev pub AreShown : List Shown → List Field → Type 0
-AreShown [] [] = Unit {0}
-AreShown [] (f ∷ fs) = ⊥
-AreShown (s ∷ more) [] = ⊥
-AreShown (s ∷ more) (f ∷ fs) = ((e : Expr) × (out-Shown s ≡ Shown-F.One e None f.name) × (out-Expr e ≡ Expr-F.Column None f.name)) × AreShown more fs
+abbrev pub column_as : Name → Expr
+column_as name = roll-Expr (Expr-F.Column None name)
 
-abbrev pub IsOperand : Expr → Operand → Type 0
-IsOperand e (Parameter n) = out-Expr e ≡ Expr-F.Parameter n
-IsOperand e One = out-Expr e ≡ Expr-F.Integer (codes "1")
+abbrev pub parameter_as : ℕ → Expr
+parameter_as n = roll-Expr (Expr-F.Parameter n)
 
-abbrev pub IsTest : Expr → Test → Type 0
-IsTest e t = (a : Expr) × (c : Expr) × (out-Expr e ≡ Expr-F.Binary (sign_of t.by) a c) × (out-Expr a ≡ Expr-F.Column None t.column.name) × IsOperand c t.operand
+abbrev operand_as : Operand → Expr
+operand_as (Parameter n) = parameter_as n
+operand_as One = roll-Expr (Expr-F.Integer (codes "1"))
 
-abbrev pub IsAll : Expr → Test → List Test → Type 0
-IsAll e t [] = IsTest e t
-IsAll e t (u ∷ more) = (a : Expr) × (c : Expr) × (out-Expr e ≡ Expr-F.Binary sign.And a c) × IsAll a u more × IsTest c t
+abbrev test_as : Test → Expr
+test_as t = roll-Expr (Expr-F.Binary (sign_of t.by) (column_as t.column.name) (operand_as t.operand))
 
-abbrev pub IsFilter : Option Expr → List Test → Type 0
-IsFilter None [] = Unit {0}
-IsFilter None (t ∷ more) = ⊥
-IsFilter (Some e) [] = ⊥
-IsFilter (Some e) (t ∷ more) = IsAll e t more
+abbrev all_as : Test → List Test → Expr
+all_as t [] = test_as t
+all_as t (u ∷ more) = roll-Expr (Expr-F.Binary sign.And (all_as u more) (test_as t))
+
+abbrev pub filter_as : List Test → Option Expr
+filter_as [] = None
+filter_as (t ∷ more) = Some (all_as t more)
+
+abbrev pub shown_as : Field → Shown
+shown_as f = roll-Shown (Shown-F.One (column_as f.name) None f.name)
 
 -- ---- what reading them takes
 
@@ -297,9 +298,9 @@ module _ (cx : Context) (at : ℕ) (name : Name) (shown : List Output) (table : 
   compared_is t it =
       rw (operand_affinity t.operand, left_alone (affinity_of cx (shown_term table.key t.column)) (shown_term table.key t.column), converted_operand (affinity_of cx (shown_term table.key t.column)) t.operand (column_affinity t.column it)) refl
 
-  operand_lowered : (o : Operand) (e : Expr) → IsOperand e o → (depth : ℕ) (st : State) → nat_lt 1 st.budget ≡ true → st.written ≡ None → lower_to (suc depth) cx e st ≡ Ok (operand_term o, record st { budget = st.budget - 1; written = None; last = nothing })
-  operand_lowered (Parameter n) e is depth st enough unwritten = parameter_lowered cx depth e n is st enough unwritten
-  operand_lowered One e is depth st enough unwritten = integer_lowered cx depth e (codes "1") (Int (pos 1)) is one_reads st enough unwritten
+  operand_lowered : (o : Operand) (depth : ℕ) (st : State) → nat_lt 1 st.budget ≡ true → st.written ≡ None → lower_to (suc depth) cx (operand_as o) st ≡ Ok (operand_term o, record st { budget = st.budget - 1; written = None; last = nothing })
+  operand_lowered (Parameter n) depth st enough unwritten = parameter_lowered cx depth (operand_as (Parameter n)) n (out-roll-Expr _) st enough unwritten
+  operand_lowered One depth st enough unwritten = integer_lowered cx depth (operand_as One) (codes "1") (Int (pos 1)) (out-roll-Expr _) one_reads st enough unwritten
 
   either_lowered : (by : Relation) (depth : ℕ) (e a c : Expr) (x y : Term) (st one two : State) → out-Expr e ≡ Expr-F.Binary (sign_of by) a c → nat_lt 1 st.budget ≡ true → st.written ≡ None
       → lower_to depth cx a (record st { budget = st.budget - 1; written = None; last = nothing }) ≡ Ok (x, one) → lower_to depth cx c one ≡ Ok (y, two) → two.written ≡ None
@@ -308,63 +309,59 @@ module _ (cx : Context) (at : ℕ) (name : Name) (shown : List Output) (table : 
   either_lowered AtMost = most_lowered cx
   either_lowered AtLeast = least_lowered cx
 
-  test_lowered : (t : Test) → is_field table t.column ≡ true → (e : Expr) → IsTest e t → (depth budget : ℕ) (last : Carried) → 5 ≤ budget
-      → lower_to (suc (suc depth)) cx e (state_of budget last) ≡ Ok (test_term table.key t, state_of (budget - 1 - 1 - 1) nothing)
-  test_lowered t known e (a, c, is, a_is, c_is) depth budget last enough =
+  test_lowered : (t : Test) → is_field table t.column ≡ true → (depth budget : ℕ) (last : Carried) → 5 ≤ budget
+      → lower_to (suc (suc depth)) cx (test_as t) (state_of budget last) ≡ Ok (test_term table.key t, state_of (budget - 1 - 1 - 1) nothing)
+  test_lowered t known depth budget last enough =
       let it = of_field table t.column known in
-      let column = column_lowered cx (bound_at at name) shown table levels refl there t.column.name t.column.at it.column it.named it.there a a_is depth (state_of (budget - 1) nothing) (lt-ltb 1 (budget - 1) (omega (arith, enough))) refl in
+      let column = column_lowered cx (bound_at at name) shown table levels refl there t.column.name t.column.at it.column it.named it.there (column_as t.column.name) (out-roll-Expr _) depth (state_of (budget - 1) nothing) (lt-ltb 1 (budget - 1) (omega (arith, enough))) refl in
       let carried = carried_is table t.column.at it.column it.binary in
-      let operand = operand_lowered t.operand c c_is depth (state_of (budget - 1 - 1) (declared table t.column.at it.column)) (lt-ltb 1 (budget - 1 - 1) (omega (arith, enough))) refl in
-      let both = either_lowered t.by (suc depth) e a c (shown_term table.key t.column) (operand_term t.operand) (state_of budget last) (state_of (budget - 1 - 1) (declared table t.column.at it.column)) (state_of (budget - 1 - 1 - 1) nothing) is (lt-ltb 1 budget (omega (arith, enough))) refl column operand refl in
+      let operand = operand_lowered t.operand depth (state_of (budget - 1 - 1) (declared table t.column.at it.column)) (lt-ltb 1 (budget - 1 - 1) (omega (arith, enough))) refl in
+      let both = either_lowered t.by (suc depth) (test_as t) (column_as t.column.name) (operand_as t.operand) (shown_term table.key t.column) (operand_term t.operand) (state_of budget last) (state_of (budget - 1 - 1) (declared table t.column.at it.column)) (state_of (budget - 1 - 1 - 1) nothing) (out-roll-Expr _) (lt-ltb 1 budget (omega (arith, enough))) refl column operand refl in
       both ∙ ap (λ k. Ok (compared cx (Compare (compare_of t.by) k) (shown_term table.key t.column) (operand_term t.operand), state_of (budget - 1 - 1 - 1) nothing)) (ap (λ k. chosen k nothing) carried ∙ binary_chosen table.key t.column.at)
       ∙ ap (λ x. Ok (x, state_of (budget - 1 - 1 - 1) nothing)) (compared_is t it)
 
-  all_lowered : (t : Test) (more : List Test) → list_all (λ (u : Test). is_field table u.column) (t ∷ more) ≡ true → (e : Expr) → IsAll e t more → (depth budget : ℕ) (last : Carried) → depth_of more ≤ depth → nodes_of more + 2 ≤ budget
-      → lower_to depth cx e (state_of budget last) ≡ Ok (all_of table.key t more, state_of (budget - nodes_of more) nothing)
-  all_lowered t [] known e is depth budget last deep enough =
+  all_lowered : (t : Test) (more : List Test) → list_all (λ (u : Test). is_field table u.column) (t ∷ more) ≡ true → (depth budget : ℕ) (last : Carried) → depth_of more ≤ depth → nodes_of more + 2 ≤ budget
+      → lower_to depth cx (all_as t more) (state_of budget last) ≡ Ok (all_of table.key t more, state_of (budget - nodes_of more) nothing)
+  all_lowered t [] known depth budget last deep enough =
       let down : suc (suc (depth - 2)) ≡ depth = omega (arith, deep) in
       let left : budget - 1 - 1 - 1 ≡ budget - 3 = omega arith in
-      subst (λ d. lower_to d cx e (state_of budget last) ≡ Ok (test_term table.key t, state_of (budget - 3) nothing)) down
-      (test_lowered t (and_parts _ _ known).0 e is (depth - 2) budget last (omega (arith, enough)) ∙ ap (λ b. Ok (test_term table.key t, state_of b nothing)) left)
-  all_lowered t (u ∷ more) known e (a, c, is, first, second) depth budget last deep enough =
+      subst (λ d. lower_to d cx (test_as t) (state_of budget last) ≡ Ok (test_term table.key t, state_of (budget - 3) nothing)) down
+      (test_lowered t (and_parts _ _ known).0 (depth - 2) budget last (omega (arith, enough)) ∙ ap (λ b. Ok (test_term table.key t, state_of b nothing)) left)
+  all_lowered t (u ∷ more) known depth budget last deep enough =
       let both = and_parts (is_field table t.column) (list_all (λ (v : Test). is_field table v.column) (u ∷ more)) known in
       let down : suc (suc (suc (depth - 1 - 2))) ≡ depth = omega (arith, deep, deep_so more) in
       let next : suc (suc (depth - 1 - 2)) ≡ depth - 1 = omega (arith, deep, deep_so more) in
-      let one = all_lowered u more both.1 a first (depth - 1) (budget - 1) nothing (omega (arith, deep)) (omega (arith, enough)) in
-      let two = test_lowered t both.0 c second (depth - 1 - 2) (budget - 1 - nodes_of more) nothing (omega (arith, enough)) in
+      let one = all_lowered u more both.1 (depth - 1) (budget - 1) nothing (omega (arith, deep)) (omega (arith, enough)) in
+      let two = test_lowered t both.0 (depth - 1 - 2) (budget - 1 - nodes_of more) nothing (omega (arith, enough)) in
       let left : budget - 1 - nodes_of more - 1 - 1 - 1 ≡ budget - (nodes_of more + 4) = omega arith in
-      subst (λ d. lower_to d cx e (state_of budget last) ≡ Ok (all_of table.key t (u ∷ more), state_of (budget - nodes_of (u ∷ more)) nothing)) down
-      (and_lowered cx (suc (suc (depth - 1 - 2))) e a c (all_of table.key u more) (test_term table.key t) (state_of budget last) (state_of (budget - 1 - nodes_of more) nothing) (state_of (budget - 1 - nodes_of more - 1 - 1 - 1) nothing) is (lt-ltb 1 budget (omega (arith, enough))) refl
-      (subst (λ d. lower_to d cx a (state_of (budget - 1) nothing) ≡ Ok (all_of table.key u more, state_of (budget - 1 - nodes_of more) nothing)) (sym next) one) two refl
+      subst (λ d. lower_to d cx (all_as t (u ∷ more)) (state_of budget last) ≡ Ok (all_of table.key t (u ∷ more), state_of (budget - nodes_of (u ∷ more)) nothing)) down
+      (and_lowered cx (suc (suc (depth - 1 - 2))) (all_as t (u ∷ more)) (all_as u more) (test_as t) (all_of table.key u more) (test_term table.key t) (state_of budget last) (state_of (budget - 1 - nodes_of more) nothing) (state_of (budget - 1 - nodes_of more - 1 - 1 - 1) nothing) (out-roll-Expr _) (lt-ltb 1 budget (omega (arith, enough))) refl
+      (subst (λ d. lower_to d cx (all_as u more) (state_of (budget - 1) nothing) ≡ Ok (all_of table.key u more, state_of (budget - 1 - nodes_of more) nothing)) (sym next) one) two refl
       ∙ ap (λ b. Ok (all_of table.key t (u ∷ more), state_of b nothing)) left)
     where
       deep_so : (ts : List Test) → 2 ≤ depth_of ts
       deep_so [] = omega arith
       deep_so (v ∷ ts) = omega (arith, deep_so ts)
 
-  pub filter_lowered : (ts : List Test) → list_all (λ (u : Test). is_field table u.column) ts ≡ true → (filter : Option Expr) → IsFilter filter ts → (budget : ℕ) (last : Carried) → depth_of ts ≤ 700 → nodes_of ts ≤ budget
-      → tests lower cx [] filter (state_of budget last) ≡ Ok (filter_of table.key ts, state_of (budget - spent_on ts) (last_after ts last))
+  pub filter_lowered : (ts : List Test) → list_all (λ (u : Test). is_field table u.column) ts ≡ true → (budget : ℕ) (last : Carried) → depth_of ts ≤ 700 → nodes_of ts ≤ budget
+      → tests lower cx [] (filter_as ts) (state_of budget last) ≡ Ok (filter_of table.key ts, state_of (budget - spent_on ts) (last_after ts last))
   unfolding tests
-  filter_lowered [] known None is budget last deep enough = let same : budget ≡ budget - 0 = omega arith in ap (λ b. Ok ([], state_of b last)) same
-  filter_lowered [] known (Some e) is budget last deep enough = absurd is
-  filter_lowered (t ∷ more) known None is budget last deep enough = absurd is
-  filter_lowered (t ∷ more) known (Some e) is budget last deep enough =
-      tested cx e (all_of table.key t more) [] (state_of budget last) (state_of (budget - nodes_of more) nothing) (all_lowered t more known e is 700 budget last (omega (arith, deep)) (omega (arith, enough)))
+  filter_lowered [] known budget last deep enough = let same : budget ≡ budget - 0 = omega arith in ap (λ b. Ok ([], state_of b last)) same
+  filter_lowered (t ∷ more) known budget last deep enough =
+      tested cx (all_as t more) (all_of table.key t more) [] (state_of budget last) (state_of (budget - nodes_of more) nothing) (all_lowered t more known 700 budget last (omega (arith, deep)) (omega (arith, enough)))
 
-  pub fields_shown : (fs : List Field) → list_all (is_field table) fs ≡ true → (ss : List Shown) → AreShown ss fs → (done : List Output) (budget : ℕ) (last : Carried) → length fs + 2 ≤ budget
-      → outputs_from lower cx (bound_at at name ∷ []) done ss (state_of budget last) ≡ Ok (done ++ map (output_of table) fs, state_of (budget - length fs) (last_shown table.key fs last))
-  fields_shown [] known [] written done budget last enough = let same : budget ≡ budget - 0 = omega arith in ap₂ (λ xs b. Ok (xs, state_of b last)) (sym (append-nil done)) same
-  fields_shown [] known (s ∷ ss) written done budget last enough = absurd written
-  fields_shown (f ∷ fs) known [] written done budget last enough = absurd written
-  fields_shown (f ∷ fs) known (s ∷ ss) ((e, shape, is), more) done budget last enough =
+  pub fields_shown : (fs : List Field) → list_all (is_field table) fs ≡ true → (done : List Output) (budget : ℕ) (last : Carried) → length fs + 2 ≤ budget
+      → outputs_from lower cx (bound_at at name ∷ []) done (map shown_as fs) (state_of budget last) ≡ Ok (done ++ map (output_of table) fs, state_of (budget - length fs) (last_shown table.key fs last))
+  fields_shown [] known done budget last enough = let same : budget ≡ budget - 0 = omega arith in ap₂ (λ xs b. Ok (xs, state_of b last)) (sym (append-nil done)) same
+  fields_shown (f ∷ fs) known done budget last enough =
       let parts = and_parts _ _ known in
       let it = of_field table f parts.0 in
-      let shown' = column_shown cx (bound_at at name) shown table levels refl there f.name f.at it.column it.named it.there e is s f.name shape (bound_at at name ∷ []) done (state_of budget last) (lt-ltb 1 budget (omega (arith, enough))) refl in
+      let shown' = column_shown cx (bound_at at name) shown table levels refl there f.name f.at it.column it.named it.there (column_as f.name) (out-roll-Expr _) (shown_as f) f.name (out-roll-Shown _) (bound_at at name ∷ []) done (state_of budget last) (lt-ltb 1 budget (omega (arith, enough))) refl in
       let carried = carried_is table f.at it.column it.binary in
       let heading = heading_is table f it.column it.there in
-      let one : shown_in lower cx (bound_at at name ∷ []) done s (state_of budget last) ≡ Ok (done ++ output_of table f ∷ [], state_of (budget - 1) (carried_at table.key f.at)) =
+      let one : shown_in lower cx (bound_at at name ∷ []) done (shown_as f) (state_of budget last) ≡ Ok (done ++ output_of table f ∷ [], state_of (budget - 1) (carried_at table.key f.at)) =
       shown' ∙ ap₂ (λ h k. Ok (done ++ record { name = h; is_alias = false; is_column = true; term = shown_term table.key f; carried = k } ∷ [], state_of (budget - 1) k)) heading carried in
-      let rest = fields_shown fs parts.1 ss more (done ++ output_of table f ∷ []) (budget - 1) (carried_at table.key f.at) (omega (arith, enough)) in
+      let rest = fields_shown fs parts.1 (done ++ output_of table f ∷ []) (budget - 1) (carried_at table.key f.at) (omega (arith, enough)) in
       let left : budget - 1 - length fs ≡ budget - length (f ∷ fs) = omega arith in
-      outputs_next cx (bound_at at name ∷ []) s ss done (done ++ output_of table f ∷ []) ((done ++ output_of table f ∷ []) ++ map (output_of table) fs) (state_of budget last) (state_of (budget - 1) (carried_at table.key f.at)) (state_of (budget - 1 - length fs) (last_shown table.key fs (carried_at table.key f.at))) one rest
+      outputs_next cx (bound_at at name ∷ []) (shown_as f) (map shown_as fs) done (done ++ output_of table f ∷ []) ((done ++ output_of table f ∷ []) ++ map (output_of table) fs) (state_of budget last) (state_of (budget - 1) (carried_at table.key f.at)) (state_of (budget - 1 - length fs) (last_shown table.key fs (carried_at table.key f.at))) one rest
       ∙ ap₂ (λ xs b. Ok (xs, state_of b (last_shown table.key fs (carried_at table.key f.at)))) (append_assoc done (output_of table f ∷ []) (map (output_of table) fs)) left

@@ -1,5 +1,5 @@
 -- What the query of a transaction answers of the records.
-use Rattle.std.proofs.Common.{pos, ◌≡◌, ◌&&◌, ℕ, ℤ, List, [], ◌∷◌, ◌==◌, map, filter, codes, Bool, true, false, None, Result, refl, sym, ap, ◌∙◌}
+use Rattle.std.proofs.Common.{pos, ◌≡◌, ◌&&◌, ℕ, ℤ, List, [], ◌∷◌, ◌==◌, map, filter, codes, Bool, true, false, None, Ok, Err, Result, refl, sym, ap, subst, ◌∙◌}
 use Rattle.std.specs.Prelude.{not}
 use Rattle.std.specs.Ordering.{int_eq}
 use Rattle.std.specs.Prelude.{Vec, IfOk}
@@ -44,21 +44,7 @@ transaction_shape = record {
 
 pub transaction_select : IsSelect transaction_text transaction_shape
 unfolding everything listing_schema same_name
-transaction_select = record {
-  parsed = refl;
-  select = _;
-  statement = refl;
-  timeless = refl;
-  unlisted = refl;
-  source = (_, refl, refl, refl, refl, refl, refl);
-  shown = ((_, refl, refl), ((_, refl, refl), ((_, refl, refl), ((_, refl, refl), ((_, refl, refl), ((_, refl, refl), tt))))));
-  filter = (_, _, refl, (_, _, refl, (_, _, refl, refl, refl), (_, _, refl, refl, refl)), (_, _, refl, refl, refl));
-  ungrouped = (refl, refl, refl);
-  order = (refl, refl);
-  alone = (refl, refl, refl);
-  known = λ t. refl;
-  short = refl;
-}
+transaction_select = record { parsed = refl; statement = refl; timeless = refl; unlisted = refl; known = λ t. refl; short = refl }
 
 transaction_accepted : IsAccepted transaction_shape
 transaction_accepted s t low found = rw (low, found)

@@ -1,10 +1,10 @@
 -- An UPDATE of some columns by a conjunction of tests, over any schema that has the table at some place, where one row alone passes.
-use Rattle.std.proofs.Common.{append-nil, ◌≡◌, ◌≤◌, ℕ, ℤ, ◌+◌, ◌-◌, ◌^◌, nat_le, List, [], ◌∷◌, ◌++◌, ◌==◌, find, drop, map, reverse, length, Bool, true, false, Some, None, Ok, Err, arith, append_assoc, refl, sym, ap, ap₂, subst, ◌∙◌}
+use Rattle.std.proofs.Common.{append-nil, ◌≡◌, ◌≤◌, ℕ, ℤ, ◌+◌, ◌-◌, ◌^◌, nat_le, List, [], ◌∷◌, ◌++◌, ◌==◌, find, drop, map, reverse, length, Bool, true, false, Option, Some, None, Ok, Err, arith, append_assoc, refl, sym, ap, ap₂, subst, ◌∙◌}
 use Rattle.std.specs.List.{AllByRecursion, list_all}
 use Rattle.std.specs.List.Sorted.{IsPermutation}
 use Rattle.std.proofs.lemmas.Bool.{and_parts, not-true, leb-true, lt-ltb}
-use Rattle.sqlite_ast.specs.declared.Expr.{Expr, out-Expr}
-use Rattle.sqlite_ast.specs.declared.Expr.TheOpen.{Expr-F}
+use Rattle.sqlite_ast.specs.declared.Expr.{Expr, out-roll-Expr}
+use Rattle.sqlite_ast.specs.declared.Statement.TheVariants as written
 use Rattle.sqlite.specs.Schema.{Schema}
 use Rattle.sqlite.specs.Table.{Table}
 use Rattle.sqlite.specs.Order.{Row}
@@ -18,7 +18,6 @@ use Rattle.sqlite.specs.Command.TheVariants.{Update}
 use Rattle.sqlite_rules.specs.Calls.{ids_of}
 use Rattle.sqlite.specs.State.{Executes}
 use Rattle.sqlite.specs.State as state
-use Rattle.sqlite_schema.specs.Names.{table_named}
 use Rattle.sqlite_draft.specs.declared.join.Step.TheVariants.{Inner}
 use Rattle.sqlite_resolve.specs.Lowering.{Checked, and_then, max_budget, nothing}
 use Rattle.sqlite_resolve.specs.Scope.{Name, Context}
@@ -36,7 +35,7 @@ use Rattle.mq_tables.proofs.RowFacts.{only, keyed_row, holds_set}
 use Rattle.mq_tables.proofs.Selecting.{parameter_lowered}
 use Rattle.mq_tables.proofs.Selected.{same_tests}
 use Rattle.mq_tables.proofs.Statements.{updates}
-use Rattle.mq_tables.proofs.TermShape.{Test, is_field, filter_of, IsFilter, state_of, depth_of, nodes_of, spent_on, last_after, filter_lowered}
+use Rattle.mq_tables.proofs.TermShape.{Test, is_field, filter_of, parameter_as, filter_as, state_of, depth_of, nodes_of, spent_on, last_after, filter_lowered}
 use Rattle.mq_tables.proofs.Updating.{IsUpdate, set_next, updated_is, understood_update, nothing_acts}
 
 -- The columns are set to the parameters from 1 on, and `row` is the new row as the query has it: the rowid, and then all fields from the rowid on.
@@ -54,11 +53,9 @@ abbrev pub tests_in : UpdateShape → List Term
 tests_in shape = filter_of shape.table.key (reverse shape.tests)
 
 -- each column is set to a parameter, which count on
-abbrev pub AreSet : List (Name × Expr) → List Name → ℕ → Type 0
-AreSet [] [] n = Unit {0}
-AreSet [] (name ∷ names) n = ⊥
-AreSet (set ∷ more) [] n = ⊥
-AreSet (set ∷ more) (name ∷ names) n = (set.0 ≡ name) × (out-Expr set.1 ≡ Expr-F.Parameter n) × AreSet more names (n + 1)
+abbrev pub sets_as : ℕ → List Name → List (Name × Expr)
+sets_as n [] = []
+sets_as n (name ∷ names) = (name, parameter_as n) ∷ sets_as (n + 1) names
 
 abbrev pub values_from : ℕ → List Name → List Term
 values_from n [] = []
@@ -66,12 +63,10 @@ values_from n (name ∷ names) = col 0 (n - 1) ∷ values_from (n + 1) names
 
 pub record IsUpdateOf (text : List ℕ) (shape : UpdateShape) : Type 0 where
   pub parsed : first text ≡ Ok (parsed_in (first text))
-  pub update : IsUpdate (parsed_in (first text))
-  pub named : update.name ≡ shape.table.name
-  pub sets : AreSet update.assignments shape.sets 1
+  pub statement : (parsed_in (first text)).statement ≡ written.Update shape.table.name (sets_as 1 shape.sets) (filter_as (reverse shape.tests)) []
+  pub formats : (parsed_in (first text)).formats ≡ []
   pub placed : (t : ℕ) → places_from (in_tree shape t) [] shape.sets ≡ Ok shape.places
   pub laid : (t : ℕ) → row (in_tree shape t) None shape.places (col 1 0 ∷ []) (values_from 1 shape.sets) ≡ Ok shape.row
-  pub filter : IsFilter update.test (reverse shape.tests)
   pub known : (t : ℕ) → list_all (λ (u : Test). is_field (in_tree shape t) u.column) (reverse shape.tests) ≡ true
   pub short : nat_le (length shape.sets + nodes_of (reverse shape.tests) + depth_of (reverse shape.tests)) 600 ≡ true
   pub uncounted : shape.table.is_counted ≡ false
@@ -84,26 +79,24 @@ IsAccepted shape = (s : Schema) (t : ℕ) → nat_le (2 ^ 31) t ≡ false → fi
 -- ---- what it means
 
 module _ (cx : Context) (table : Table) where
-  sets_lowered : (names : List Name) (sets : List (Name × Expr)) (n : ℕ) → AreSet sets names n → (done all : List ℕ) (terms : List Term) (budget : ℕ) → places_from table done names ≡ Ok all → length names + 2 ≤ budget
-      → sets_from cx table (done, terms) sets (state_of budget nothing) ≡ Ok ((all, terms ++ values_from n names), state_of (budget - length names) nothing)
-  sets_lowered [] [] n are done all terms budget placed enough =
+  sets_lowered : (names : List Name) (n : ℕ) (done all : List ℕ) (terms : List Term) (budget : ℕ) → places_from table done names ≡ Ok all → length names + 2 ≤ budget
+      → sets_from cx table (done, terms) (sets_as n names) (state_of budget nothing) ≡ Ok ((all, terms ++ values_from n names), state_of (budget - length names) nothing)
+  sets_lowered [] n done all terms budget placed enough =
       let same : done ≡ all = cc in
       let left : budget ≡ budget - 0 = omega arith in
       λ i. Ok ((same i, sym (append-nil terms) i), state_of (left i) nothing)
-  sets_lowered [] (set ∷ sets) n are done all terms budget placed enough = absurd are
-  sets_lowered (name ∷ names) [] n are done all terms budget placed enough = absurd are
-  sets_lowered (name ∷ names) (set ∷ sets) n (is, value, more) done all terms budget placed enough =
-      go (with_place table done name) refl placed (λ longer placed'. sets_lowered names sets (n + 1) more longer all (terms ++ col 0 (n - 1) ∷ []) (budget - 1) placed' (omega (arith, enough)))
+  sets_lowered (name ∷ names) n done all terms budget placed enough =
+      go (with_place table done name) refl placed (λ longer placed'. sets_lowered names (n + 1) longer all (terms ++ col 0 (n - 1) ∷ []) (budget - 1) placed' (omega (arith, enough)))
     where
       go : (found : Checked (List ℕ)) → with_place table done name ≡ found → and_then found (λ longer. places_from table longer names) ≡ Ok all
-          → ((longer : List ℕ) → places_from table longer names ≡ Ok all → sets_from cx table (longer, terms ++ col 0 (n - 1) ∷ []) sets (state_of (budget - 1) nothing) ≡ Ok ((all, (terms ++ col 0 (n - 1) ∷ []) ++ values_from (n + 1) names), state_of (budget - 1 - length names) nothing))
-          → sets_from cx table (done, terms) (set ∷ sets) (state_of budget nothing) ≡ Ok ((all, terms ++ values_from n (name ∷ names)), state_of (budget - length (name ∷ names)) nothing)
+          → ((longer : List ℕ) → places_from table longer names ≡ Ok all
+          → sets_from cx table (longer, terms ++ col 0 (n - 1) ∷ []) (sets_as (n + 1) names) (state_of (budget - 1) nothing) ≡ Ok ((all, (terms ++ col 0 (n - 1) ∷ []) ++ values_from (n + 1) names), state_of (budget - 1 - length names) nothing))
+          → sets_from cx table (done, terms) (sets_as n (name ∷ names)) (state_of budget nothing) ≡ Ok ((all, terms ++ values_from n (name ∷ names)), state_of (budget - length (name ∷ names)) nothing)
       go (Err e) at placed' deeper = absurd (cc)
       go (Ok longer) at placed' deeper =
-          let here : with_place table done set.0 ≡ Ok longer = rw is at in
-          let one = parameter_lowered cx 699 set.1 n value (state_of budget nothing) (lt-ltb 1 budget (omega (arith, enough))) refl in
+          let one = parameter_lowered cx 699 (parameter_as n) n (out-roll-Expr _) (state_of budget nothing) (lt-ltb 1 budget (omega (arith, enough))) refl in
           let left : budget - 1 - length names ≡ budget - length (name ∷ names) = omega arith in
-          set_next cx table (done, terms) set.0 set.1 sets longer (col 0 (n - 1)) (state_of budget nothing) (state_of (budget - 1) nothing) _ here one (deeper longer placed')
+          set_next cx table (done, terms) name (parameter_as n) (sets_as (n + 1) names) longer (col 0 (n - 1)) (state_of budget nothing) (state_of (budget - 1) nothing) _ at one (deeper longer placed')
           ∙ ap₂ (λ xs b. Ok ((all, xs), state_of b nothing)) (append_assoc terms (col 0 (n - 1) ∷ []) (values_from (n + 1) names)) left
 
 module _ (text : List ℕ) (shape : UpdateShape) (it : IsUpdateOf text shape) (accepted : IsAccepted shape) (s : Schema) (t : ℕ) (place : IsTableIn s shape.table t) where
@@ -116,18 +109,34 @@ module _ (text : List ℕ) (shape : UpdateShape) (it : IsUpdateOf text shape) (a
   abbrev last : ℕ
   last = left - spent_on (reverse shape.tests)
 
-  updated_so : updated s place.at (in_tree shape t) it.update.assignments it.update.test ≡ Ok (simple (Inner t ∷ []) (tests_in shape) shape.row)
+  abbrev sets : List (Name × Expr)
+  sets = sets_as 1 shape.sets
+
+  abbrev filter : Option Expr
+  filter = filter_as (reverse shape.tests)
+
+  abbrev update : IsUpdate (parsed_in (first text))
+  update = record { name = shape.table.name; assignments = sets; test = filter; statement = it.statement; timeless = it.formats }
+
+  updated_so : updated s place.at (in_tree shape t) sets filter ≡ Ok (simple (Inner t ∷ []) (tests_in shape) shape.row)
   updated_so =
       let cx = over s place.at shape.table.name in
-      let sets = sets_lowered cx (in_tree shape t) shape.sets it.update.assignments 1 it.sets [] shape.places [] max_budget (it.placed t) (omega (arith, short)) in
-      let tested = filter_lowered cx place.at shape.table.name [] (in_tree shape t) refl place.there (reverse shape.tests) (it.known t) it.update.test it.filter left nothing (omega (arith, short)) (omega (arith, short)) in
-      updated_is s place.at (in_tree shape t) it.update.assignments it.update.test shape.places (values_from 1 shape.sets) shape.row (tests_in shape) (state_of left nothing) (state_of last (last_after (reverse shape.tests) nothing)) sets (it.laid t) tested
+      let set = sets_lowered cx (in_tree shape t) shape.sets 1 [] shape.places [] max_budget (it.placed t) (omega (arith, short)) in
+      let tested = filter_lowered cx place.at shape.table.name [] (in_tree shape t) refl place.there (reverse shape.tests) (it.known t) left nothing (omega (arith, short)) (omega (arith, short)) in
+      updated_is s place.at (in_tree shape t) sets filter shape.places (values_from 1 shape.sets) shape.row (tests_in shape) (state_of left nothing) (state_of last (last_after (reverse shape.tests) nothing)) set (it.laid t) tested
 
-  pub means_update : (command_of (understood s text) ≡ Update place.at (record { lets = []; body = plain_query t (tests_in shape) shape.row })) × IsPlain (understood s text)
+  means_update : (command_of (understood s text) ≡ Update place.at (record { lets = []; body = plain_query t (tests_in shape) shape.row })) × IsPlain (understood s text)
   means_update =
-      let name : table_named s it.update.name ≡ Some place.at = rw it.named place.named in
-      let is = understood_update text it.parsed it.update s place.at (in_tree shape t) (simple (Inner t ∷ []) (tests_in shape) shape.row) name place.there updated_so (accepted s t place.stored place.found) in
+      let is = understood_update text it.parsed update s place.at (in_tree shape t) (simple (Inner t ∷ []) (tests_in shape) shape.row) place.named place.there updated_so (accepted s t place.stored place.found) in
       (ap command_of is, subst IsPlain (sym is) (refl, refl))
+
+module _ (text : List ℕ) (shape : UpdateShape) (it : IsUpdateOf text shape) (accepted : IsAccepted shape) (params : Row) (old new : state.State) (t : ℕ) (place : IsTableIn old.now.schema shape.table t) where
+  pub made : IsUnreferred old.now.schema t → (count : ℕ) → Executes text params old new (Ok count) → Updated old.now.schema (in_tree shape t) (tests_in shape) shape.row params old new
+  made apart count h =
+      let s = old.now.schema in
+      let means = means_update text shape it accepted s t place in
+      updates text params old new s refl place.at (in_tree shape t) (record { place = place.there; uncounted = it.uncounted; timeless = it.timeless; unreferred = nothing_acts s t apart [] })
+      (nothing_acts s t apart) (record { lets = []; body = plain_query t (tests_in shape) shape.row }) (tests_in shape) shape.row means.0 (refl, refl) means.1 (rw place.stored) count h
 
 -- ---- what it leaves of the records
 
@@ -148,7 +157,7 @@ module _ {R : Type 0} (fields : R → Row) (same : R → R → Bool) (set : R �
       (old new : state.State) (t : ℕ) (place : IsTableIn old.now.schema shape.table t) where
     sets_row : Updated old.now.schema (in_tree shape t) (tests_in shape) shape.row (params r) old new → (was : R) (rest : List R) → Holds 1 fields (old.now.trees t) (was ∷ rest) → same r was ≡ true → AllByRecursion (λ v. same r v ≡ false) rest
         → Holds 1 fields (new.now.trees t) (set r was ∷ rest)
-    sets_row made was rest held hit apart =
+    sets_row done was rest held hit apart =
         let db = old.now.trees in
         let hit' = decides was ∙ hit in
         let apart' = subst (λ (f : R → Bool). AllByRecursion (λ v. f v ≡ false) rest) (λ i v. sym (decides v) i) apart in
@@ -157,16 +166,13 @@ module _ {R : Type 0} (fields : R → Row) (same : R → R → Bool) (set : R �
         let shape' : row.0 ≡ Int id ∷ fields was = keyed_row fields pass test tied (db t) was rest held hit' apart' in
         let seen : chosen_rows (tests_in shape) shape.row (params r) (db t) ≡ eval_all shape.row (params r ∷ (Int id ∷ fields was) ∷ []) ∷ [] =
         ap (map (λ c. eval_all shape.row (params r ∷ c ∷ []))) (row.1 ∙ ap (λ c. c ∷ []) shape') in
-        let hits = one_permutation _ made.hits (subst (λ xs. IsPermutation xs made.hits) seen made.found) in
-        let edit = edits db t was id made.hits hits in
-        let rows : new.now.trees t ≡ put_row (Int id ∷ fields (set r was)) (without_rowid id (db t)) = made.rows ∙ ap (edited db) edit in
-        let fresh' : are_fresh (without_rowid id (db t)) ((Int id ∷ fields (set r was)) ∷ []) ≡ true = subst (λ (e : Edit). are_fresh (left_by db e) e.news ≡ true) edit made.fresh in
+        let hits = one_permutation _ done.hits (subst (λ xs. IsPermutation xs done.hits) seen done.found) in
+        let edit = edits db t was id done.hits hits in
+        let rows : new.now.trees t ≡ put_row (Int id ∷ fields (set r was)) (without_rowid id (db t)) = done.rows ∙ ap (edited db) edit in
+        let fresh' : are_fresh (without_rowid id (db t)) ((Int id ∷ fields (set r was)) ∷ []) ≡ true = subst (λ (e : Edit). are_fresh (left_by db e) e.news ≡ true) edit done.fresh in
         subst (λ rs. Holds 1 fields rs (set r was ∷ rest)) (sym rows) (holds_set fields pass test tied (db t) was rest held hit' apart' (set r was) (not-true _ (and_parts _ _ fresh').0))
 
     pub set_so : IsUnreferred old.now.schema t → (count : ℕ) → Executes text (params r) old new (Ok count) → HasSet (Holds 1 fields) same set r t old.now new.now
     set_so apart count h =
-        let means = means_update text shape it accepted old.now.schema t place in
-        let made = updates text (params r) old new old.now.schema refl place.at (in_tree shape t)
-        (record { place = place.there; uncounted = it.uncounted; timeless = it.timeless; unreferred = nothing_acts old.now.schema t apart [] })
-        (nothing_acts old.now.schema t apart) (record { lets = []; body = plain_query t (tests_in shape) shape.row }) (tests_in shape) shape.row means.0 (refl, refl) means.1 (rw place.stored) count h in
-        record { sound = made.sound; schema = made.schema_is; rows = sets_row made; others = made.tables }
+        let done = made text shape it accepted (params r) old new t place apart count h in
+        record { sound = done.sound; schema = done.schema_is; rows = sets_row done; others = done.tables }

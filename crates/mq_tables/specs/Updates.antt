@@ -23,13 +23,6 @@ use Rattle.mq_tables.specs.Settings.{SettingRow, setting_fields}
 abbrev pub KeepsOthers : Schema → ℕ → Trees → Trees → Type 0
 KeepsOthers schema tree old new = AllByRecursion (λ t. t.tree ≢ tree → new t.tree ≡ old t.tree) schema.tables
 
--- one more row, and each other table as it was
-pub record HasPut (row : Row) (tree : ℕ) (old new : Database) : Type 0 where
-  pub sound : IsDatabase new
-  pub schema : new.schema ≡ old.schema
-  pub rows : new.trees tree ≡ put_row row (old.trees tree)
-  pub others : KeepsOthers old.schema tree old.trees new.trees
-
 -- The one record of this key that the table held is changed so, and each other table is as it was.
 pub record HasSet {R : Type 0} (Held : List Row → List R → Type 0) (same : R → R → Bool) (set : R → R → R) (r : R)
     (tree : ℕ) (old new : Database) : Type 0 where

@@ -17,7 +17,7 @@ use sqlite::{Alter, Connection, Error, ErrorCode, Row};
 
 /// A table that an audit reads.
 #[derive(Clone, Copy, Drop)]
-enum Table {
+pub(crate) enum Table {
     Usage,
     Transactions,
     Limits,
@@ -25,7 +25,7 @@ enum Table {
 
 impl Table {
     /// The query for all its rows, in any order.
-    fn text(self) -> &'static str
+    pub(crate) fn text(self) -> &'static str
         ensures { result.now ≡ text_of self }
     {
         match self {

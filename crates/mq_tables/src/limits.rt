@@ -7,7 +7,7 @@ ghost use Rattle.sqlite.specs.State.{HasCleanDisk, IsUnchanged, KeepsCommit, Sur
 ghost use Rattle.mq_rows.specs.Audit.{Figures};
 ghost use Rattle.mq_tables.specs.Figures.{HasFigures, limit_cells, limit_columns};
 
-use crate::figures::limit_of;
+use crate::figures::{Table, limit_of};
 use mq_rows::LimitFigures;
 use sqlite::{Alter, Error, Row, Transaction};
 use std::alloc::Global;
@@ -23,7 +23,7 @@ fn limits_rows<S: Alter>(tx: &mut Transaction<'_, S>) -> Result<Vec<Row>, Error>
         → KeepsCommit (state S.Store tx.old.conn.now) (state S.Store tx.new.conn.now) }
     ensures survives { Survives (state S.Store tx.old.conn.now) (state S.Store tx.new.conn.now) (λ _. ⊥) }
 {
-    tx.query_all("SELECT login, day, cap FROM ceiling", &[])
+    tx.query_all(Table::Limits.text(), &[])
 }
 
 fn limits_in(alloc: Global, rows: &[Row]) -> Result<Vec<LimitFigures>, Error>

@@ -10,17 +10,11 @@ use Rattle.mq_tables.proofs.create.begin_setting.Goals as goal
 
 pub returns-clause-kept : goal.returns-clause-kept
 returns-clause-kept g c =
-    let s0 = state g.S.Store c.args.tx.now.conn.now in
-    let s1 = state g.S.Store c.create_setting.new.tx.conn.now in
-    let s2 = state g.S.Store c.put_setting.new.tx.conn.now in
-    keeps_both s0 s1 s2 c.put_setting.ensures.survives c.create_setting.ensures.kept c.put_setting.ensures.kept
+    keeps_both _ _ _ c.put_setting.ensures.survives c.create_setting.ensures.kept c.put_setting.ensures.kept
 
 pub returns-clause-survives : goal.returns-clause-survives
 returns-clause-survives g c =
-    let s0 = state g.S.Store c.args.tx.now.conn.now in
-    let s1 = state g.S.Store c.create_setting.new.tx.conn.now in
-    let s2 = state g.S.Store c.put_setting.new.tx.conn.now in
-    survives_both s0 s1 s2 c.create_setting.ensures.survives c.put_setting.ensures.survives
+    survives_both _ _ _ c.create_setting.ensures.survives c.put_setting.ensures.survives
 
 pub returns-clause-started : goal.returns-clause-started
 returns-clause-started g c clean =

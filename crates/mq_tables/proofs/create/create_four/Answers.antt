@@ -7,51 +7,27 @@ use Rattle.mq_tables.proofs.create.create_four.Goals as goal
 
 pub returns-in_err-create_trans-clause-kept : goal.returns-in_err-create_trans-clause-kept
 returns-in_err-create_trans-clause-kept g c =
-    let s0 = state g.S.Store c.args.tx.now.conn.now in
-    let s1 = state g.S.Store c.create_answer.new.tx.conn.now in
-    let s2 = state g.S.Store c.create_trans.new.tx.conn.now in
-    keeps_both s0 s1 s2 c.create_trans.ensures.survives c.create_answer.ensures.kept c.create_trans.ensures.kept
+    keeps_both _ _ _ c.create_trans.ensures.survives c.create_answer.ensures.kept c.create_trans.ensures.kept
 
 pub returns-in_err-create_trans-clause-survives : goal.returns-in_err-create_trans-clause-survives
 returns-in_err-create_trans-clause-survives g c =
-    let s0 = state g.S.Store c.args.tx.now.conn.now in
-    let s1 = state g.S.Store c.create_answer.new.tx.conn.now in
-    let s2 = state g.S.Store c.create_trans.new.tx.conn.now in
-    survives_both s0 s1 s2 c.create_answer.ensures.survives c.create_trans.ensures.survives
+    survives_both _ _ _ c.create_answer.ensures.survives c.create_trans.ensures.survives
 
 pub returns-in_err-create_usage-clause-kept : goal.returns-in_err-create_usage-clause-kept
 returns-in_err-create_usage-clause-kept g c =
-    let s0 = state g.S.Store c.args.tx.now.conn.now in
-    let s1 = state g.S.Store c.create_answer.new.tx.conn.now in
-    let s2 = state g.S.Store c.create_trans.new.tx.conn.now in
-    let s3 = state g.S.Store c.create_usage.new.tx.conn.now in
-    keeps_both s0 s2 s3 c.create_usage.ensures.survives (keeps_both s0 s1 s2 c.create_trans.ensures.survives c.create_answer.ensures.kept c.create_trans.ensures.kept) c.create_usage.ensures.kept
+    keeps_both _ _ _ c.create_usage.ensures.survives (keeps_both _ _ _ c.create_trans.ensures.survives c.create_answer.ensures.kept c.create_trans.ensures.kept) c.create_usage.ensures.kept
 
 pub returns-in_err-create_usage-clause-survives : goal.returns-in_err-create_usage-clause-survives
 returns-in_err-create_usage-clause-survives g c =
-    let s0 = state g.S.Store c.args.tx.now.conn.now in
-    let s1 = state g.S.Store c.create_answer.new.tx.conn.now in
-    let s2 = state g.S.Store c.create_trans.new.tx.conn.now in
-    let s3 = state g.S.Store c.create_usage.new.tx.conn.now in
-    survives_both s0 s2 s3 (survives_both s0 s1 s2 c.create_answer.ensures.survives c.create_trans.ensures.survives) c.create_usage.ensures.survives
+    survives_both _ _ _ (survives_both _ _ _ c.create_answer.ensures.survives c.create_trans.ensures.survives) c.create_usage.ensures.survives
 
 pub returns-clause-kept : goal.returns-clause-kept
 returns-clause-kept g c =
-    let s0 = state g.S.Store c.args.tx.now.conn.now in
-    let s1 = state g.S.Store c.create_answer.new.tx.conn.now in
-    let s2 = state g.S.Store c.create_trans.new.tx.conn.now in
-    let s3 = state g.S.Store c.create_usage.new.tx.conn.now in
-    let s4 = state g.S.Store c.create_ceiling.new.tx.conn.now in
-    keeps_both s0 s3 s4 c.create_ceiling.ensures.survives (keeps_both s0 s2 s3 c.create_usage.ensures.survives (keeps_both s0 s1 s2 c.create_trans.ensures.survives c.create_answer.ensures.kept c.create_trans.ensures.kept) c.create_usage.ensures.kept) c.create_ceiling.ensures.kept
+    keeps_both _ _ _ c.create_ceiling.ensures.survives (keeps_both _ _ _ c.create_usage.ensures.survives (keeps_both _ _ _ c.create_trans.ensures.survives c.create_answer.ensures.kept c.create_trans.ensures.kept) c.create_usage.ensures.kept) c.create_ceiling.ensures.kept
 
 pub returns-clause-survives : goal.returns-clause-survives
 returns-clause-survives g c =
-    let s0 = state g.S.Store c.args.tx.now.conn.now in
-    let s1 = state g.S.Store c.create_answer.new.tx.conn.now in
-    let s2 = state g.S.Store c.create_trans.new.tx.conn.now in
-    let s3 = state g.S.Store c.create_usage.new.tx.conn.now in
-    let s4 = state g.S.Store c.create_ceiling.new.tx.conn.now in
-    survives_both s0 s3 s4 (survives_both s0 s2 s3 (survives_both s0 s1 s2 c.create_answer.ensures.survives c.create_trans.ensures.survives) c.create_usage.ensures.survives) c.create_ceiling.ensures.survives
+    survives_both _ _ _ (survives_both _ _ _ (survives_both _ _ _ c.create_answer.ensures.survives c.create_trans.ensures.survives) c.create_usage.ensures.survives) c.create_ceiling.ensures.survives
 
 pub returns-clause-added : goal.returns-clause-added
 returns-clause-added g c clean =

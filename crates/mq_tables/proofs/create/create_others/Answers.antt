@@ -7,17 +7,11 @@ use Rattle.mq_tables.proofs.create.create_others.Goals as goal
 
 pub returns-clause-kept : goal.returns-clause-kept
 returns-clause-kept g c =
-    let s0 = state g.S.Store c.args.tx.now.conn.now in
-    let s1 = state g.S.Store c.create_four.new.tx.conn.now in
-    let s2 = state g.S.Store c.create_later.new.tx.conn.now in
-    keeps_both s0 s1 s2 c.create_later.ensures.survives c.create_four.ensures.kept c.create_later.ensures.kept
+    keeps_both _ _ _ c.create_later.ensures.survives c.create_four.ensures.kept c.create_later.ensures.kept
 
 pub returns-clause-survives : goal.returns-clause-survives
 returns-clause-survives g c =
-    let s0 = state g.S.Store c.args.tx.now.conn.now in
-    let s1 = state g.S.Store c.create_four.new.tx.conn.now in
-    let s2 = state g.S.Store c.create_later.new.tx.conn.now in
-    survives_both s0 s1 s2 c.create_four.ensures.survives c.create_later.ensures.survives
+    survives_both _ _ _ c.create_four.ensures.survives c.create_later.ensures.survives
 
 pub returns-clause-added : goal.returns-clause-added
 returns-clause-added g c clean =

@@ -8,33 +8,19 @@ use Rattle.mq_tables.proofs.create.make_tables.Goals as goal
 
 pub returns-in_err-create_others-clause-kept : goal.returns-in_err-create_others-clause-kept
 returns-in_err-create_others-clause-kept g c =
-    let s0 = state g.S.Store c.args.tx.now.conn.now in
-    let s1 = state g.S.Store c.begin_setting.new.tx.conn.now in
-    let s2 = state g.S.Store c.create_others.new.tx.conn.now in
-    keeps_both s0 s1 s2 c.create_others.ensures.survives c.begin_setting.ensures.kept c.create_others.ensures.kept
+    keeps_both _ _ _ c.create_others.ensures.survives c.begin_setting.ensures.kept c.create_others.ensures.kept
 
 pub returns-in_err-create_others-clause-survives : goal.returns-in_err-create_others-clause-survives
 returns-in_err-create_others-clause-survives g c =
-    let s0 = state g.S.Store c.args.tx.now.conn.now in
-    let s1 = state g.S.Store c.begin_setting.new.tx.conn.now in
-    let s2 = state g.S.Store c.create_others.new.tx.conn.now in
-    survives_both s0 s1 s2 c.begin_setting.ensures.survives c.create_others.ensures.survives
+    survives_both _ _ _ c.begin_setting.ensures.survives c.create_others.ensures.survives
 
 pub returns-clause-kept : goal.returns-clause-kept
 returns-clause-kept g c =
-    let s0 = state g.S.Store c.args.tx.now.conn.now in
-    let s1 = state g.S.Store c.begin_setting.new.tx.conn.now in
-    let s2 = state g.S.Store c.create_others.new.tx.conn.now in
-    let s3 = state g.S.Store c.put_any_rule.new.tx.conn.now in
-    keeps_both s0 s2 s3 c.put_any_rule.ensures.survives (keeps_both s0 s1 s2 c.create_others.ensures.survives c.begin_setting.ensures.kept c.create_others.ensures.kept) c.put_any_rule.ensures.kept
+    keeps_both _ _ _ c.put_any_rule.ensures.survives (keeps_both _ _ _ c.create_others.ensures.survives c.begin_setting.ensures.kept c.create_others.ensures.kept) c.put_any_rule.ensures.kept
 
 pub returns-clause-survives : goal.returns-clause-survives
 returns-clause-survives g c =
-    let s0 = state g.S.Store c.args.tx.now.conn.now in
-    let s1 = state g.S.Store c.begin_setting.new.tx.conn.now in
-    let s2 = state g.S.Store c.create_others.new.tx.conn.now in
-    let s3 = state g.S.Store c.put_any_rule.new.tx.conn.now in
-    survives_both s0 s2 s3 (survives_both s0 s1 s2 c.begin_setting.ensures.survives c.create_others.ensures.survives) c.put_any_rule.ensures.survives
+    survives_both _ _ _ (survives_both _ _ _ c.begin_setting.ensures.survives c.create_others.ensures.survives) c.put_any_rule.ensures.survives
 
 pub returns-clause-made : goal.returns-clause-made
 returns-clause-made g c clean =

@@ -1,10 +1,10 @@
 use Rattle.std.proofs.Common.{arith}
 use Rattle.sqlite.specs.State.{HasCleanDisk}
 use Rattle.sqlite.specs.Held.{state}
-use Rattle.mq_tables.proofs.Makes.{puts}
+use Rattle.mq_tables.proofs.FirstRows.{puts_setting}
 use Rattle.mq_tables.proofs.create.put_setting.Goals as goal
 
 pub returns-clause-put : goal.returns-clause-put
 returns-clause-put g c clean =
     let before : HasCleanDisk (state g.S.Store c.args.tx.now.conn.now) = omega (arith, c.execute.ensures.survives.clean) in
-    puts c.args.made_with.now (state g.S.Store c.args.tx.now.conn.now) (state g.S.Store c.execute.new.self.conn.now) c.execute.result (rw c.setting_params.ensures at (c.execute.ensures.runs clean (c.requires.inside before)))
+    puts_setting c.args.made_with.now (state g.S.Store c.args.tx.now.conn.now) (state g.S.Store c.execute.new.self.conn.now) c.execute.result (rw c.setting_params.ensures at (c.execute.ensures.runs clean (c.requires.inside before)))

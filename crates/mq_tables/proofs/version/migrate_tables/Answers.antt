@@ -7,33 +7,19 @@ use Rattle.mq_tables.proofs.version.migrate_tables.Goals as goal
 
 pub returns-in_err-create_retired-clause-kept : goal.returns-in_err-create_retired-clause-kept
 returns-in_err-create_retired-clause-kept g c =
-    let s0 = state g.S.Store c.args.tx.now.conn.now in
-    let s1 = state g.S.Store c.add_rule.new.tx.conn.now in
-    let s2 = state g.S.Store c.create_retired.new.tx.conn.now in
-    keeps_both s0 s1 s2 c.create_retired.ensures.survives c.add_rule.ensures.kept c.create_retired.ensures.kept
+    keeps_both _ _ _ c.create_retired.ensures.survives c.add_rule.ensures.kept c.create_retired.ensures.kept
 
 pub returns-in_err-create_retired-clause-survives : goal.returns-in_err-create_retired-clause-survives
 returns-in_err-create_retired-clause-survives g c =
-    let s0 = state g.S.Store c.args.tx.now.conn.now in
-    let s1 = state g.S.Store c.add_rule.new.tx.conn.now in
-    let s2 = state g.S.Store c.create_retired.new.tx.conn.now in
-    survives_both s0 s1 s2 c.add_rule.ensures.survives c.create_retired.ensures.survives
+    survives_both _ _ _ c.add_rule.ensures.survives c.create_retired.ensures.survives
 
 pub returns-clause-kept : goal.returns-clause-kept
 returns-clause-kept g c =
-    let s0 = state g.S.Store c.args.tx.now.conn.now in
-    let s1 = state g.S.Store c.add_rule.new.tx.conn.now in
-    let s2 = state g.S.Store c.create_retired.new.tx.conn.now in
-    let s3 = state g.S.Store c.set_version.new.tx.conn.now in
-    keeps_both s0 s2 s3 c.set_version.ensures.survives (keeps_both s0 s1 s2 c.create_retired.ensures.survives c.add_rule.ensures.kept c.create_retired.ensures.kept) c.set_version.ensures.kept
+    keeps_both _ _ _ c.set_version.ensures.survives (keeps_both _ _ _ c.create_retired.ensures.survives c.add_rule.ensures.kept c.create_retired.ensures.kept) c.set_version.ensures.kept
 
 pub returns-clause-survives : goal.returns-clause-survives
 returns-clause-survives g c =
-    let s0 = state g.S.Store c.args.tx.now.conn.now in
-    let s1 = state g.S.Store c.add_rule.new.tx.conn.now in
-    let s2 = state g.S.Store c.create_retired.new.tx.conn.now in
-    let s3 = state g.S.Store c.set_version.new.tx.conn.now in
-    survives_both s0 s2 s3 (survives_both s0 s1 s2 c.add_rule.ensures.survives c.create_retired.ensures.survives) c.set_version.ensures.survives
+    survives_both _ _ _ (survives_both _ _ _ c.add_rule.ensures.survives c.create_retired.ensures.survives) c.set_version.ensures.survives
 
 pub returns-clause-migrated : goal.returns-clause-migrated
 returns-clause-migrated g c clean =
