@@ -1,5 +1,5 @@
 //! The next connection, also after errors that pass.
-ghost use Rattle.std.specs.Prelude.{◌≡◌, ◌*◌, min, IfErr};
+ghost use Rattle.std.specs.Prelude.{◌≡◌, ◌*◌, min, IfErr, IsTrue};
 
 use crate::fault::RoomFault;
 use log::{Log, error, warn};
@@ -66,7 +66,9 @@ impl<'a> Acceptor<'a> {
     }
 
     /// Whether no further connection is accepted.
-    pub fn is_done(&self) -> bool {
+    pub fn is_done(&self) -> bool
+        ensures { IsTrue result → self.now.left ≡ 0 }
+    {
         self.left == 0
     }
 

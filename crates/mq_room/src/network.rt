@@ -1,5 +1,5 @@
 //! The streams of connections, and what they report of the bytes that they carried.
-ghost use Rattle.std.specs.Prelude.{◌≡◌, ◌≢◌, ℕ, IfErr};
+ghost use Rattle.std.specs.Prelude.{◌≡◌, ◌≢◌, ℕ, IfErr, IsTrue};
 ghost use Rattle.std.specs.Io.{ReadsAtMost, WritesAtMost};
 ghost use Rattle.std.specs.Io.KnownBytes.{ReadConsumes, WriteAppends};
 ghost use Rattle.mq_room.specs.Wires.{Leaves, Wire, unknown};
@@ -16,13 +16,17 @@ pub trait Network {
     // of the last write, where they are known.
     ghost wire: { Self → ℕ → Wire } = { λ _ n. unknown n };
 
+    // No further connection comes.
+    ghost is_over: { Self → Type 0 };
+
     /// The next connection, if one has come: it has this number from here on, and `accept` says who its peer is.
     fn accept(&mut self, number: usize) -> Result<Option<SocketAddr>, RoomFault>
         ensures fault { IfErr result (λ fault. fault ≡ RoomFault.Accept) }
         ensures same { (n : ℕ) → wire self.new n ≡ wire self.old n };
 
     /// Whether no further connection comes.
-    fn is_done(&self) -> bool;
+    fn is_done(&self) -> bool
+        ensures { IsTrue result → is_over self.now };
 
     /// How long to wait for the next attempt to accept, where one is due without a report of the system's.
     fn accepts_in(&self, now: Instant) -> Option<Duration>;
@@ -48,10 +52,12 @@ pub trait Network {
         ensures bound { WritesAtMost result bytes.now }
         ensures bytes { WriteAppends (wire self.old number).contents (wire self.new number).contents result bytes.now }
         ensures left { Leaves (wire self.new number).left result bytes.now }
+        ensures over { is_over self.old → is_over self.new }
         ensures remaining { (wire self.new number).remaining ≡ (wire self.old number).remaining }
         ensures others { (n : ℕ) → n ≢ number → wire self.new n ≡ wire self.old n };
 
     /// Closes a connection: nothing more is read from it or written to it.
     fn close(&mut self, number: usize)
+        ensures over { is_over self.old → is_over self.new }
         ensures same { (n : ℕ) → wire self.new n ≡ wire self.old n };
 }

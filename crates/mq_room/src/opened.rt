@@ -125,6 +125,7 @@ impl OpenConnection {
 
     /// Offers the peer the replies that it hasn't taken, once.
     pub fn offer<N: Network>(&mut self, network: &mut N, number: usize)
+        ensures over { N.is_over network.old → N.is_over network.new }
         ensures others { (n : ℕ) → n ≢ number → N.wire network.new n ≡ N.wire network.old n }
         ensures offers { Offers self.old.connection (N.wire network.old number) (N.wire network.new number) }
     {

@@ -267,6 +267,7 @@ impl Room {
     /// Closes all connections, each after its peer was offered the replies that wait.
     pub fn close_all<N: Network>(&mut self, network: &mut N)
         ensures last { self.new.last ≡ self.old.last }
+        ensures over { N.is_over network.old → N.is_over network.new }
         ensures none { (n : ℕ) → held self.new.opened n ≡ None }
         ensures goes { KeepsGoing (held self.old.opened) (N.wire network.old) (held self.new.opened) (N.wire network.new) }
     {

@@ -1,5 +1,5 @@
 //! Serving connections until so many were accepted, and have ended.
-ghost use Rattle.std.specs.Prelude.{◌≡◌, ℕ, None};
+ghost use Rattle.std.specs.Prelude.{◌≡◌, ℕ, None, Ok};
 ghost use Rattle.mq_server.specs.Delivery.{HasGrown};
 ghost use Rattle.mq_room.specs.Sessions.{EndsServing, GoesOn, GoesOnOrStops, Outside, held};
 ghost use Rattle.mq_room.specs.Wires.{unknown};
@@ -56,7 +56,7 @@ pub fn serve_connections<R: Clock + Net, G: Log, L: Ledger + Hear>(
 }
 
 /// Serves the connections of a network until all were accepted and have ended, or it has to stop. A connection is closed
-/// only after its peer was offered the replies that wait.
+/// only after its peer was offered the replies that wait. It ends well only where no further connection comes.
 pub fn serve_network<N: Network, C: Clock, G: Log, L: Ledger + Hear>(
     clock: &C,
     log: &G,
@@ -69,6 +69,7 @@ pub fn serve_network<N: Network, C: Clock, G: Log, L: Ledger + Hear>(
     ensures same_zone { (L.book ledger.new).zone ≡ (L.book ledger.old).zone }
     ensures same_default { (L.book ledger.new).default ≡ (L.book ledger.old).default }
     ensures kept { L.has_kept ledger.new → L.has_kept ledger.old }
+    ensures over { result ≡ Ok tt → N.is_over network.new }
 
     // Of a sound one that has kept its premise.
     ensures sound { L.has_kept ledger.new → L.is_sound ledger.old → L.is_sound ledger.new }
@@ -98,6 +99,7 @@ fn serve_rounds<N: Network, C: Clock, G: Log, L: Ledger + Hear>(
     ensures same_zone { (L.book ledger.new).zone ≡ (L.book ledger.old).zone }
     ensures same_default { (L.book ledger.new).default ≡ (L.book ledger.old).default }
     ensures kept { L.has_kept ledger.new → L.has_kept ledger.old }
+    ensures over { result ≡ Ok tt → N.is_over network.new }
     ensures sound { L.has_kept ledger.new → L.is_sound ledger.old → L.is_sound ledger.new }
     ensures goes { L.has_kept ledger.new → L.is_sound ledger.old → (old : Outside) →
         (let before : Outside = record { book = L.book ledger.old; told = L.told ledger.old; wires = N.wire network.old } in
@@ -118,7 +120,8 @@ fn serve_rounds<N: Network, C: Clock, G: Log, L: Ledger + Hear>(
         room.serve(clock, log, network, ready, timeout, ledger)?;
         room.expire(log, network, now);
     }
-    Ok(())
+    // (there are fewer rounds than that)
+    Err(RoomFault::Accept)
 }
 
 /// Waits until something comes, or until a connection is late, or a pause is over, and says when that was.

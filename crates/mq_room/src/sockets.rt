@@ -1,4 +1,5 @@
 //! Connections over TCP.
+ghost use Rattle.std.specs.Prelude.{◌≡◌};
 
 use crate::accept::Acceptor;
 use crate::fault::RoomFault;
@@ -74,6 +75,8 @@ impl<C: Clock, G: Log> Sockets<'_, C, G> {
 }
 
 impl<C: Clock, G: Log> Network for Sockets<'_, C, G> {
+    ghost is_over = { λ sockets. sockets.acceptor.left ≡ 0 };
+
     fn accept(&mut self, number: usize) -> Result<Option<SocketAddr>, RoomFault> {
         let Some((stream, peer)) = self.acceptor.next(self.clock, self.log)? else {
             return Ok(None);

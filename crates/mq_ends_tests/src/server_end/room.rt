@@ -7,11 +7,12 @@ use crate::server_end::fixtures::bytes_of;
 use crate::server_end::serving::ledger;
 use log::sink::Discard;
 use mq_ledger::{Ledger, LedgerFault};
-use mq_room::{RoomFault, serve_network};
+use mq_room::RoomFault;
 use mq_watch::Watched;
-use network::{Peer, Peers, Ticking};
+use network::{Peer, Peers, Ticking, serve_peers};
 use std::alloc::Global;
 use std::cell::Cell;
+use std::collections::VecDeque;
 use std::process::Abort;
 use std::test::Fail;
 use std::time::Duration;
@@ -122,18 +123,14 @@ const REPLIES_WAIT_AS_IT_FAILS: &[Row<'_>] = &[
 
 /// A peer of a row.
 fn peer_of(rt: &impl Abort, alloc: Global, row: &Row<'_>) -> Result<Peer, Fail> {
-    let mut pieces = Vec::new(alloc);
+    let mut sends = Vec::new(alloc);
+    let mut reads = VecDeque::new(alloc);
     for piece in row.0 {
-        pieces.push(bytes_of(rt, alloc, piece))?;
+        let bytes = bytes_of(rt, alloc, piece);
+        sends.extend_from_slice(&bytes)?;
+        reads.push_back(bytes.len())?;
     }
-    Ok(Peer {
-        pieces,
-        sent: 0,
-        takes: row.1,
-        refusals: row.2,
-        written: Vec::new(alloc),
-        is_open: true,
-    })
+    Ok(Peer::new(alloc, sends, reads, row.1, row.2))
 }
 
 /// The network of these peers.
@@ -149,8 +146,8 @@ fn peers_of(rt: &impl Abort, alloc: Global, rows: &[Row<'_>]) -> Result<Peers, F
     })
 }
 
-/// Serves the peers of these rows: it ends so, each has taken just what it should, and each connection is closed where
-/// all are served.
+/// Serves the peers of these rows: it ends so, and each has taken just what it should. Where all are served each
+/// connection is closed and all that came on it was read, also after the peer was given up, so that its end comes in order.
 fn check_rows<L: Ledger + Drop>(
     rt: &impl Abort,
     alloc: Global,
@@ -162,12 +159,15 @@ fn check_rows<L: Ledger + Drop>(
     let clock = Ticking(Cell::new(0));
     let timeout = Duration::from_millis(1_000);
     let mut watched = Watched::new(&clock, &Discard, alloc, ledger);
-    let ended = serve_network(&clock, &Discard, alloc, &mut network, timeout, &mut watched);
+    let ended = serve_peers(&clock, &Discard, alloc, &mut network, timeout, &mut watched);
     assert_that(rt, ended == end, "how it ends");
     for (peer, row) in network.peers.iter().zip(rows) {
         let wanted = bytes_of(rt, alloc, row.3);
-        assert_bytes(rt, &peer.written, &wanted, row.3);
-        assert_that(rt, end.is_err() || !peer.is_open, "a connection is closed");
+        assert_bytes(rt, peer.written(), &wanted, row.3);
+        if end.is_ok() {
+            assert_that(rt, !peer.is_open(), "a connection is closed");
+            assert_that(rt, peer.is_read(), "all that came was read");
+        }
     }
     Ok(())
 }

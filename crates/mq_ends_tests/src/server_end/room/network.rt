@@ -1,11 +1,22 @@
-//! Connections in memory, whose peers send and take what a test wants, and a clock that goes on as it is read.
+//! Connections in memory, whose peers send and take what a test wants and report what came and went, and a clock that
+//! goes on as it is read.
+ghost use Rattle.std.specs.Prelude.{◌≡◌, ◌≤◌, ◌<◌, [], length, take, vec_len, Some, IfOk, IfSome};
 ghost use Rattle.std.specs.Io.{ReadsAtMost, WritesAtMost};
+ghost use Rattle.std.specs.Io.KnownBytes.{ReadConsumes, WriteAppends};
+ghost use Rattle.mq_room.specs.Wires.{Leaves};
+ghost use Rattle.mq_room.specs.Sessions.{EndsServing};
+ghost use Rattle.mq_ends_tests.specs.Peers.{wires_of};
 
-use mq_room::{Network, RoomFault};
-use std::alloc::AllocError;
+use log::Log;
+use mq_ledger::Ledger;
+use mq_room::{Network, RoomFault, serve_network};
+use mq_watch::Hear;
+use std::alloc::{AllocError, Global};
 use std::cell::Cell;
+use std::collections::VecDeque;
 use std::io;
-use std::io::ErrorKind;
+use std::io::{ErrorKind, Read};
+use std::marker::Model;
 use std::net::SocketAddr;
 use std::rt::Clock;
 use std::time::{Duration, Instant};
@@ -26,38 +37,123 @@ impl Clock for Ticking {
     }
 }
 
-/// A peer: it sends piece after piece, where an empty one says that nothing more has come now, and takes so many bytes at
-/// a time, after so many times at which it takes none.
+/// A peer: it sends its bytes in reads of so many, where 0 says that nothing more has come now, and then the rest at
+/// once. It takes so many bytes at a time, after so many times at which it takes none.
+///
+/// A contract sees what it has still to send, what it was written, and what it left of the last write.
 #[derive(Drop)]
 pub struct Peer {
-    pub pieces: Vec<Vec<u8>>,
-    pub sent: usize,
-    pub takes: usize,
-    pub refusals: u32,
-    pub written: Vec<u8>,
-    pub is_open: bool,
+    alloc: Global,
+    sends: Vec<u8>,
+    sent: usize,
+    reads: VecDeque<usize>,
+    takes: usize,
+    refusals: u32,
+    written: Vec<u8>,
+    // (none where there was no memory to keep it)
+    left: Option<Vec<u8>>,
+    is_open: bool,
+}
+
+impl Model for Peer {
+    ghost use Rattle.std.specs.Prelude.{drop, ◌≤◌, length, option_map};
+    ghost use Rattle.mq_ends_tests.specs.Peers.{Stream};
+
+    ghost Value = { Stream };
+
+    ghost view = { λ peer. record {
+      coming = drop peer.sent peer.sends.items;
+      written = peer.written.items;
+      left = option_map (λ bytes. bytes.items) peer.left;
+    } };
+
+    ghost invariant = { λ peer. peer.sent ≤ length peer.sends.items };
 }
 
 impl Peer {
+    /// A peer that sends these bytes in such reads, and takes so many at a time after so many refusals.
+    pub fn new(
+        alloc: Global,
+        sends: Vec<u8>,
+        reads: VecDeque<usize>,
+        takes: usize,
+        refusals: u32,
+    ) -> Peer {
+        Peer {
+            alloc,
+            sends,
+            sent: 0,
+            reads,
+            takes,
+            refusals,
+            written: Vec::new(alloc),
+            left: None,
+            is_open: true,
+        }
+    }
+
+    /// All that was written to it.
+    pub fn written(&self) -> &[u8] {
+        &self.written
+    }
+
+    /// Whether all that it sends was read.
+    pub fn is_read(&self) -> bool {
+        self.sent == self.sends.len()
+    }
+
+    /// Whether its connection wasn't closed.
+    pub fn is_open(&self) -> bool {
+        self.is_open
+    }
+
+    /// How many bytes the next read may give.
+    fn next_read(&mut self) -> usize
+        ensures { self.new ≡ self.old }
+    {
+        self.reads.pop_front().unwrap_or(usize::MAX)
+    }
+
     /// What is read of it now.
     fn read(&mut self, piece: &mut [u8]) -> io::Result<usize>
-        ensures { ReadsAtMost result piece.new }
+        ensures bound { ReadsAtMost result piece.new }
+        ensures bytes { ReadConsumes (Some self.old.coming) (Some self.new.coming) result piece.new }
+        ensures written { self.new.written ≡ self.old.written }
+        ensures left { self.new.left ≡ self.old.left }
     {
-        let Some(bytes) = self.pieces.get(self.sent) else {
-            return Ok(0);
-        };
-        self.sent += 1;
-        if bytes.is_empty() {
+        let most = self.next_read();
+        if most == 0 {
             return Err(io::Error::from(ErrorKind::WouldBlock));
         }
-        let count = bytes.len().min(piece.len());
-        piece[..count].copy_from_slice(&bytes[..count]);
+        let count = read_next(&self.sends[self.sent..], most, piece)?;
+        self.sent += count;
         Ok(count)
     }
 
-    /// What it takes now.
+    /// What it takes now, and what it leaves.
     fn write(&mut self, bytes: &[u8]) -> io::Result<usize>
-        ensures { WritesAtMost result bytes.now }
+        ensures bound { WritesAtMost result bytes.now }
+        ensures bytes { WriteAppends (Some self.old.written) (Some self.new.written) result bytes.now }
+        ensures left { Leaves self.new.left result bytes.now }
+        ensures coming { self.new.coming ≡ self.old.coming }
+    {
+        match self.take(bytes) {
+            Ok(count) => {
+                self.left = copy_of(self.alloc, &bytes[count..]);
+                Ok(count)
+            }
+            Err(cause) => {
+                self.left = copy_of(self.alloc, bytes);
+                Err(cause)
+            }
+        }
+    }
+
+    /// What it takes now.
+    fn take(&mut self, bytes: &[u8]) -> io::Result<usize>
+        ensures bound { WritesAtMost result bytes.now }
+        ensures bytes { WriteAppends (Some self.old.written) (Some self.new.written) result bytes.now }
+        ensures coming { self.new.coming ≡ self.old.coming }
     {
         if self.refusals > 0 {
             self.refusals -= 1;
@@ -66,6 +162,36 @@ impl Peer {
         let count = bytes.len().min(self.takes);
         self.written.extend_from_slice(&bytes[..count])?;
         Ok(count)
+    }
+
+    /// Its connection is closed.
+    fn close(&mut self)
+        ensures { self.new ≡ self.old }
+    {
+        self.is_open = false;
+    }
+}
+
+/// Reads into the piece what comes next of the bytes, at most so many.
+fn read_next(bytes: &[u8], most: usize, piece: &mut [u8]) -> io::Result<usize>
+    requires { 0 < most }
+    ensures bound { ReadsAtMost result piece.new }
+    ensures within { IfOk result (λ count. count ≤ length bytes.now) }
+    ensures given { IfOk result (λ count. take count piece.new ≡ take count bytes.now) }
+    ensures end { IfOk result (λ count. count ≡ 0 → 0 < length piece.new → bytes.now ≡ []) }
+{
+    let mut next = &bytes[..bytes.len().min(most)];
+    next.read(piece)
+}
+
+/// The bytes again, where there is memory for them.
+fn copy_of(alloc: Global, bytes: &[u8]) -> Option<Vec<u8>>
+    ensures { IfSome result (λ copy. copy.items ≡ bytes.now) }
+{
+    let mut copy = Vec::new(alloc);
+    match copy.extend_from_slice(bytes) {
+        Ok(()) => Some(copy),
+        Err(_) => None,
     }
 }
 
@@ -77,20 +203,11 @@ pub struct Peers {
     pub accepted: usize,
 }
 
-impl Peers {
-    /// The peer of a connection that is open.
-    fn peer(&mut self, number: usize) -> io::Result<&mut Peer> {
-        match number.checked_sub(1) {
-            Some(at) => self
-                .peers
-                .get_mut(at)
-                .ok_or(io::Error::from(ErrorKind::NotConnected)),
-            None => Err(io::Error::from(ErrorKind::NotConnected)),
-        }
-    }
-}
-
 impl Network for Peers {
+    ghost wire = { λ network. wires_of network.peers.items };
+
+    ghost is_over = { λ network. vec_len network.peers ≤ network.accepted };
+
     fn accept(&mut self, number: usize) -> Result<Option<SocketAddr>, RoomFault> {
         if self.is_done() {
             return Ok(None);
@@ -117,16 +234,31 @@ impl Network for Peers {
     }
 
     fn read(&mut self, number: usize, piece: &mut [u8]) -> io::Result<usize> {
-        self.peer(number)?.read(piece)
+        let Some(at) = number.checked_sub(1) else {
+            return Err(io::Error::from(ErrorKind::NotConnected));
+        };
+        match self.peers.get_mut(at) {
+            Some(peer) => peer.read(piece),
+            None => Err(io::Error::from(ErrorKind::NotConnected)),
+        }
     }
 
     fn write(&mut self, number: usize, bytes: &[u8]) -> io::Result<usize> {
-        self.peer(number)?.write(bytes)
+        let Some(at) = number.checked_sub(1) else {
+            return Err(io::Error::from(ErrorKind::NotConnected));
+        };
+        match self.peers.get_mut(at) {
+            Some(peer) => peer.write(bytes),
+            None => Err(io::Error::from(ErrorKind::NotConnected)),
+        }
     }
 
     fn close(&mut self, number: usize) {
-        if let Ok(peer) = self.peer(number) {
-            peer.is_open = false;
+        let Some(at) = number.checked_sub(1) else {
+            return;
+        };
+        if let Some(peer) = self.peers.get_mut(at) {
+            peer.close();
         }
     }
 }
@@ -137,4 +269,22 @@ fn add_all(ready: &mut Vec<usize>, count: usize) -> Result<(), AllocError> {
         ready.push(number)?;
     }
     Ok(())
+}
+
+/// Serves the peers to their ends. Of each connection is known what was read of its peer, what was written to it and what
+/// it left, so what is said of the serving is said of these bytes.
+pub fn serve_peers<C: Clock, G: Log, L: Ledger + Hear>(
+    clock: &C,
+    log: &G,
+    alloc: Global,
+    network: &mut Peers,
+    timeout: Duration,
+    ledger: &mut L,
+) -> Result<(), RoomFault>
+    ensures { L.has_kept ledger.new → L.is_sound ledger.old → EndsServing
+        (record { book = L.book ledger.old; told = L.told ledger.old; wires = wires_of network.old.peers.items })
+        (record { book = L.book ledger.new; told = L.told ledger.new; wires = wires_of network.new.peers.items })
+        RoomFault.Store result }
+{
+    serve_network(clock, log, alloc, network, timeout, ledger)
 }

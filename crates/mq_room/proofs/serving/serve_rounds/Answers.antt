@@ -87,4 +87,4 @@ returns-clause-goes g c = λ k s old start.
     let i = c.loop-round.invariant in
     let wire = g.N.Network.wire in
     let now : Outside = record { book = g.L.Ledger.book c.loop-round.ledger; told = g.L.Ledger.told c.loop-round.ledger; wires = wire c.loop-round.network } in
-    goes_so old now c.loop-round.room.last (held c.loop-round.room.opened) faults.Store (Ok tt) (ok_not tt faults.Store) (i.goes k s old start)
+    goes_so old now c.loop-round.room.last (held c.loop-round.room.opened) faults.Store (Err faults.Accept) (not_store (Err faults.Accept) faults.Accept faults.Accept refl refl refl) (i.goes k s old start)

@@ -5,12 +5,13 @@ use Rattle.mq_room.proofs.Standing.{closes, rewired}
 use Rattle.mq_room.proofs.room.Room.close_all.Goals as goal
 
 pub loop-number-init : goal.loop-number-init
-loop-number-init g c = record { last = refl; goes = λ old book told last failed start. start }
+loop-number-init g c = record { last = refl; over = λ is. is; goes = λ old book told last failed start. start }
 
 pub loop-number-preserved : goal.loop-number-preserved
 loop-number-preserved g c =
     let i = c.loop-number.invariant in record {
       last = i.last;
+      over = λ is. c.close.ensures.over (c.offer.ensures.over (i.over is));
       goes = λ old book told last failed start.
           let wire = g.N.Network.wire in
           let was = c.loop-number.self.opened in

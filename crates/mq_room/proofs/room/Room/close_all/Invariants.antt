@@ -10,5 +10,6 @@ decreases-loop-number g l = btree_map_len l.self.opened
 abbrev pub invariant-loop-number : goal.invariant-loop-number
 invariant-loop-number g l = record {
   last : l.self.last ≡ l.fn.self.last;
+  over : g.N.Network.is_over l.fn.network → g.N.Network.is_over l.network;
   goes : KeepsGoing (held l.fn.self.opened) (g.N.Network.wire l.fn.network) (held l.self.opened) (g.N.Network.wire l.network);
 }
