@@ -1,6 +1,6 @@
 //! A connection that is open, and its turns: none waits for the peer, so none holds back another connection.
-ghost use Rattle.std.specs.Prelude.{◌≡◌, ◌≢◌, ◌≤◌, [], List, ℕ, ◌++◌, length, Err, None, Some, IfOk};
-ghost use Rattle.std.specs.Io.KnownBytes.{Appends, Consumes};
+ghost use Rattle.std.specs.Prelude.{◌≡◌, ◌≢◌, ◌⊎◌, ◌<◌, ◌≤◌, ◌+◌, [], List, ℕ, ◌++◌, length, Err, None, Some, IfOk};
+ghost use Rattle.std.specs.Io.KnownBytes.{Appends, Consumes, Keeps};
 ghost use Rattle.mq_server.specs.declared.connection.Progress.TheVariants.{Ended};
 ghost use Rattle.mq_server.specs.declared.input.TheConstants.{PIECE as piece_limit};
 ghost use Rattle.mq_server.specs.Held.{fresh};
@@ -184,6 +184,11 @@ impl OpenConnection {
             × Consumes (N.wire network.old number).remaining (N.wire network.new number).remaining (read ++ lost)
             × ClosesAtEnd self.old.connection self.new.connection (N.wire network.old number).remaining read
             × ((l : Life) → Lives l self.old.connection → Lives (with_bytes l read) self.new.connection) }
+        // Memory is lacking where the system says so, and nothing was read, or where what was read had no room.
+        ensures full { result ≡ Ended (Err ServeFault.Memory) →
+            Keeps (N.wire network.old number).remaining (N.wire network.new number).remaining
+            ⊎ ((lost : List ℕ) × Consumes (N.wire network.old number).remaining (N.wire network.new number).remaining lost
+            × (self.old.connection.room < length self.old.connection.rest + length lost)) }
     {
         let mut piece = [0u8; PIECE];
         match network.read(number, &mut piece) {

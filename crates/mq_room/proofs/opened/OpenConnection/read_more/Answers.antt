@@ -1,4 +1,4 @@
-use Rattle.std.proofs.Common.{◌∙◌, ◌<◌, ◌≤◌, inr, [], Ok, length, take, refl, ap, rules}
+use Rattle.std.proofs.Common.{◌∙◌, ◌<◌, ◌≤◌, inl, inr, [], Ok, length, take, refl, ap, rules}
 use Rattle.mq_server.specs.declared.input.TheConstants.{PIECE}
 use Rattle.mq_server.specs.Held.{State}
 use Rattle.mq_room.proofs.Turning.{consumes_kept, few_of, gave_end, gave_none, reads_lost, reads_none, reads_some, shuts_none}
@@ -27,3 +27,9 @@ returns-in-Err-clause-reads g c =
     let a = (g.N.Network.wire c.args.network.now c.args.number).remaining in
     let b = (g.N.Network.wire c.read.new.self c.args.number).remaining in
     reads_none a b c.args.self.now.connection c.args.self.now.connection c.read_stop.result (consumes_kept a b c.in-Err.ensures.bytes) (shuts_none c.args.self.now.connection c.args.self.now.connection a [] refl) (λ l here. here)
+
+pub returns-in-Err-receive-clause-full : goal.returns-in-Err-receive-clause-full
+returns-in-Err-receive-clause-full g c = λ _. inr (take c.in-Ok.count c.read.new.piece, c.in-Ok.ensures.bytes.0, c.in-Err-receive.ensures.full)
+
+pub returns-in-Err-clause-full : goal.returns-in-Err-clause-full
+returns-in-Err-clause-full g c = λ _. inl c.in-Err.ensures.bytes
