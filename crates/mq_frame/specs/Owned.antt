@@ -8,7 +8,7 @@ use Rattle.mq_frame.specs.declared.message.Reply.TheVariants.{Granted, Full, Set
 use Rattle.mq_frame.specs.declared.message.Reply.TheVariants.{Mismatch, TooMany, Conflict, Usage as UsageReply}
 use Rattle.mq_frame.specs.declared.message.Reply.TheVariants.{List as ListReply, Retry, Bad, Retired, Old}
 
--- a host or a login, but not where a list begins with the first login
+-- a host or a login, which are never empty, or the login after which a list begins, where that isn't
 abbrev pub RequestHoldsBytes : Request → Type 0
 RequestHoldsBytes (Reserve id txn at login count) = ⊤
 RequestHoldsBytes (Settle id txn at login count) = ⊤
@@ -18,7 +18,7 @@ RequestHoldsBytes (Usage login day) = ⊤
 RequestHoldsBytes (ListRequest day after) = 0 < length after
 RequestHoldsBytes (Retire id) = ⊤
 
--- a host, a login or the rows of a page: neither `Retry` nor `Bad` has one
+-- a host, a login or a page, also one without rows: all but `Retry` and `Bad`
 abbrev pub ReplyHoldsBytes : Reply → Type 0
 ReplyHoldsBytes (Granted id used) = ⊤
 ReplyHoldsBytes (Full id used cap) = ⊤
