@@ -13,5 +13,6 @@ mod room;
 mod server;
 mod serving;
 mod texts;
+mod troubles;
 mod watching;
 mod wires;

@@ -174,6 +174,8 @@ const ROWS: &[Row<'static>] = &[
     (200, 66, 199, BODY),
     (200, 66, 200, "TimedOut"),
     (1, 0, 0, BODY),
+    // an hour
+    (3_600_001, 1_800_000, 3_600_000, BODY),
 ];
 
 fn assert_row(rt: &impl Abort, alloc: Global, row: &Row<'_>) -> Result<(), Fail> {

@@ -24,7 +24,7 @@ const BODY: &str = "81016100000000000000010000000100000001";
 
 /// A connection in memory. Its peer takes one frame, and sends the same reply whatever comes.
 #[derive(Drop)]
-struct Wire<'a> {
+pub struct Wire<'a> {
     awaited: &'a [u8],
     written: Vec<u8>,
     coming: VecDeque<u8>,
@@ -75,12 +75,12 @@ impl OpenStream for Wire<'_> {
 
 /// Makes such connections, the first so many of which fail.
 #[derive(Drop)]
-struct Wires<'a> {
-    alloc: Global,
-    failures: u32,
-    awaited: &'a [u8],
-    reply: &'a [u8],
-    address: SocketAddr,
+pub struct Wires<'a> {
+    pub alloc: Global,
+    pub failures: u32,
+    pub awaited: &'a [u8],
+    pub reply: &'a [u8],
+    pub address: SocketAddr,
 }
 
 /// The bytes that are to be read, in order.
@@ -115,7 +115,7 @@ impl<'a> Connect for Wires<'a> {
 }
 
 /// What an exchange brings: the digits of its body, or its fault.
-fn brought<L: Link>(alloc: Global, link: &mut L, frame: &[u8]) -> Result<String, Fail> {
+pub fn brought<L: Link>(alloc: Global, link: &mut L, frame: &[u8]) -> Result<String, Fail> {
     let mut reply = Vec::new(alloc);
     match link.exchange(frame, &mut reply) {
         Ok(()) => Ok(hex::encode(alloc, reply.as_slice())?),
