@@ -17,10 +17,8 @@ pub enum Takes {
 pub enum Need {
     Optional,
     Required,
-    /// It has to be given unless this one is.
-    Unless(&'static str),
-    /// It stands in place of this one.
-    InsteadOf(&'static str),
+    /// It is one of the options of this group, of which at most one is given.
+    OneOf(&'static str),
 }
 
 /// An option of a subcommand.
@@ -42,7 +40,15 @@ pub struct Subcommand {
     pub name: &'static str,
     pub about: &'static str,
     pub options: &'static [CommandOption],
+    /// The group of options of which one has to be given, where there is such a group.
+    pub one_of: Option<&'static str>,
 }
+
+/// The group of options that name the server that is asked.
+const ASKED: &str = "asked server";
+
+/// The group of options that name a login.
+const NAMED: &str = "named login";
 
 const CONFIG: CommandOption = CommandOption {
     name: "config",
@@ -67,7 +73,7 @@ const ONE_SERVER: CommandOption = CommandOption {
     value: "ADDRESS",
     help: "Numeric address and port of the quota server",
     takes: Takes::Text,
-    need: Need::Unless("config"),
+    need: Need::OneOf(ASKED),
     default: None,
 };
 
@@ -76,7 +82,7 @@ const ITS_SETTINGS: CommandOption = CommandOption {
     value: "FILE",
     help: "Settings of the quota server: whose address is asked, and whose file is read where none answers",
     takes: Takes::Text,
-    need: Need::InsteadOf("server"),
+    need: Need::OneOf(ASKED),
     default: None,
 };
 
@@ -148,7 +154,7 @@ const LOGIN: CommandOption = CommandOption {
     value: "LOGIN",
     help: "Login, as smtpd reports it",
     takes: Takes::Text,
-    need: Need::Unless("login-text"),
+    need: Need::OneOf(NAMED),
     default: None,
 };
 
@@ -157,7 +163,7 @@ const LOGIN_TEXT: CommandOption = CommandOption {
     value: "TEXT",
     help: "Login, as a report prints it",
     takes: Takes::Text,
-    need: Need::InsteadOf("login"),
+    need: Need::OneOf(NAMED),
     default: None,
 };
 
@@ -220,7 +226,7 @@ const ONE_LOGIN: CommandOption = CommandOption {
     value: "LOGIN",
     help: "One login, as smtpd reports it; all where it isn't given",
     takes: Takes::Text,
-    need: Need::Optional,
+    need: Need::OneOf(NAMED),
     default: None,
 };
 
@@ -293,70 +299,84 @@ pub const SUBCOMMANDS: [Subcommand; 14] = [
         name: "init",
         about: "Make the ledger of a server's settings",
         options: &[CONFIG],
+        one_of: None,
     },
     Subcommand {
         name: "server",
         about: "Serve the ledger to filters",
         options: &[CONFIG, CREATE, CONNECTIONS],
+        one_of: None,
     },
     Subcommand {
         name: "filter",
         about: "Answer smtpd on standard input and output",
         options: &[CONFIG, RUN, CHECK],
+        one_of: None,
     },
     Subcommand {
         name: "status",
         about: "Say whether the quota server answers, and what its ledger's file holds where none runs",
         options: &[ONE_SERVER, ITS_SETTINGS],
+        one_of: Some(ASKED),
     },
     Subcommand {
         name: "limit",
         about: "Set the limit of a login from a day on",
         options: &[SERVER, HOST, LOGIN, LOGIN_TEXT, FROM, CAP, RUN],
+        one_of: Some(NAMED),
     },
     Subcommand {
         name: "stop",
         about: "Let a login have nothing more, today and on each later day",
         options: &[SERVER, HOST, LOGIN, LOGIN_TEXT, STOP_DAY],
+        one_of: Some(NAMED),
     },
     Subcommand {
         name: "resume",
         about: "Let a login have more again, today and on each later day",
         options: &[SERVER, HOST, LOGIN, LOGIN_TEXT, STOP_DAY, MORE],
+        one_of: Some(NAMED),
     },
     Subcommand {
         name: "day",
         about: "Print the day number of the ledger of a server's settings",
         options: &[CONFIG, AT],
+        one_of: None,
     },
     Subcommand {
         name: "retire",
         about: "Give up a host's earlier runs: settle what they hold, forget their replies",
         options: &[SERVER, RETIRED_HOST, RETIRED_RUN],
+        one_of: None,
     },
     Subcommand {
         name: "report",
         about: "Print what logins used on a day",
         options: &[SERVER, DAY, ONE_LOGIN, LOGIN_TEXT],
+        one_of: None,
     },
     Subcommand {
         name: "limits",
         about: "Print the limits that are set in the ledger in a file",
         options: &[CONFIG],
+        one_of: None,
     },
     Subcommand {
         name: "audit",
         about: "Check the books of the ledger in a file",
         options: &[CONFIG],
+        one_of: None,
     },
     Subcommand {
         name: "forget",
         about: "Make a new ledger file without the days before a day",
         options: &[CONFIG, BEFORE, INTO],
+        one_of: None,
     },
     Subcommand {
         name: "replay",
         about: "Answer frames in hexadecimal from standard input over a new ledger",
         options: &[DEFAULT, EAST, WEST, RULE, SQL],
+        one_of: None,
     },
 ];

@@ -5,7 +5,7 @@ ghost use Rattle.mq_arguments.specs.Arguments.{IsArguments, IsLimitArguments, Is
 
 use crate::subcommands::{CommandOption, Need, SUBCOMMANDS, Subcommand, Takes, VERSION};
 use clap::error::ErrorKind;
-use clap::{Arg, ArgAction, ArgMatches, Command, Error, value_parser};
+use clap::{Arg, ArgAction, ArgGroup, ArgMatches, Command, Error, value_parser};
 use mq_arguments::{
     Arguments, AuditArguments, DayArguments, FilterArguments, ForgetArguments, InitArguments,
     LimitArguments, LimitsArguments, LoginArgument, ReplayArguments, ReportArguments,
@@ -128,7 +128,10 @@ fn command_of<'a>(alloc: Global, subcommand: &Subcommand) -> Result<Command<'a>,
     for option in subcommand.options {
         command = command.arg(argument_of(alloc, option)?)?;
     }
-    Ok(command)
+    match subcommand.one_of {
+        Some(group) => command.group(ArgGroup::new(alloc, group).required(true)),
+        None => Ok(command),
+    }
 }
 
 /// An option as clap reads it.
@@ -139,8 +142,7 @@ fn argument_of<'a>(alloc: Global, option: &CommandOption) -> Result<Arg<'a>, All
     let argument = match option.need {
         Need::Optional => argument,
         Need::Required => argument.required(true),
-        Need::Unless(other) => argument.required_unless_present(other)?,
-        Need::InsteadOf(other) => argument.conflicts_with(other)?,
+        Need::OneOf(group) => argument.group(group)?,
     };
     let argument = match option.takes {
         Takes::Nothing => return Ok(argument.action(ArgAction::SetTrue)),
