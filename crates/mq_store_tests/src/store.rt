@@ -9,7 +9,7 @@ mod worked;
 
 use crate::asks::{Verdict, told, wanted};
 use mq_frame::Login;
-use mq_store::OpenFault;
+use mq_store::{OpenFault, StoreCause};
 use std::alloc::Global;
 use std::test::*;
 use steps::{Case, Outcome, Step, from_ledger, from_store};
@@ -310,7 +310,7 @@ fn fault_of(alloc: Global, kind: &Outcome) -> Option<OpenFault> {
             day: *day,
         }),
         Outcome::Memory => Some(OpenFault::Memory),
-        Outcome::Store => Some(OpenFault::Store),
+        Outcome::Store => Some(OpenFault::Store(StoreCause::Content)),
         Outcome::Ready => None,
     }
 }

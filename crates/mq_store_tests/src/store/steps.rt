@@ -87,7 +87,7 @@ pub fn is_refused(fault: &OpenFault, wanted: &Outcome) -> bool {
         | (OpenFault::ZoneDiffers, Outcome::ZoneDiffers)
         | (OpenFault::DefaultDiffers, Outcome::DefaultDiffers)
         | (OpenFault::Memory, Outcome::Memory)
-        | (OpenFault::Store, Outcome::Store) => true,
+        | (OpenFault::Store(_), Outcome::Store) => true,
         (OpenFault::Damaged { login, day }, Outcome::Damaged(least, of)) => {
             login.as_slice() == least.as_bytes() && *day == *of
         }
