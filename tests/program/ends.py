@@ -2,6 +2,7 @@
 import contextlib
 import itertools
 import os
+import re
 import select
 import shutil
 import socket
@@ -127,6 +128,35 @@ def fault(text, output=b""):
     return 1, output, f"mailquota: {text}\n"
 
 
+# What an address lacks.
+NO_PORT, PORT_TOO_LARGE = "no port", "port above 65535"
+NO_NUMERIC_ADDRESS = "no numeric address before the port, which has brackets where it is IPv6"
+
+
+def bad_address(address, lacks):
+    """What a command of the administrator ends with where it is given this address."""
+    return 2, b"", f"[ERROR mq_program::admin] address {address}: {lacks}\nmailquota: bad address\n"
+
+
+# Why no ledger is made in a file.
+IS_THERE = "a ledger, or a table that is named as one of its tables, is there"
+
+
+def refusal(path, cause):
+    """The line of a log that says why the ledger of this file isn't taken."""
+    return f"[ERROR mq_program::refusal] {path}: {cause}\n"
+
+
+def begun(place, zone="offset 0", default=3, answers=0, days=0, limits=0):
+    """The first line of a server, as `without_time` leaves it."""
+    return f"[INFO  mq_program::server] ledger {place}: version 3, default {default}, {zone}, answers={answers} days={days} limits={limits}"
+
+
+def without_time(lines):
+    """A server's lines, the first one without how long the start took."""
+    return [re.sub(r", opened in [0-9]+ ms$", "", line) for line in lines]
+
+
 def toml(settings):
     """The text of settings, without those that are None."""
     def spelled(value):
@@ -156,13 +186,13 @@ def is_stopped(process):
         return stat.read().rpartition(") ")[2][0] == "T"
 
 
-# How the server's warning ends that a host reserves for a day that isn't near today.
-CLOCK_DIFFERS = ": its clock or the server's is wrong"
+# What stands in a line of what a server logs of requests.
+OF_REQUESTS = " mq_watch::watched] "
 
 
-def of_near_days(lines):
-    """A log's lines but for those warnings: the moments of most cases are of years long past."""
-    return [line for line in lines if not line.rstrip("\n").endswith(CLOCK_DIFFERS)]
+def but_of_requests(lines):
+    """A log's lines but for those of requests: most cases have moments of years long past, and logins that near their limits."""
+    return [line for line in lines if OF_REQUESTS not in line]
 
 
 def shown(login):
@@ -223,8 +253,8 @@ class Server:
             return read_all(peer)
 
     def log_lines(self):
-        """What it logged, but for the hosts of other days."""
-        return of_near_days(self.all_log_lines())
+        """What it logged, but for the lines of requests."""
+        return but_of_requests(self.all_log_lines())
 
     def all_log_lines(self):
         with open(self.log.name, errors="replace") as log:

@@ -4,7 +4,7 @@ import subprocess
 import time
 
 import books
-from ends import apart, of_near_days, read_all, send_no_more, toml
+from ends import apart, but_of_requests, read_all, send_no_more, toml
 from sweeping import SECONDS, Told, read_told
 
 NOTHING = Told(0, 0, 0)
@@ -17,7 +17,7 @@ class Served:
         self.replies = replies
         self.status = status
         log, self.text = apart(errors)
-        self.log = of_near_days(log)
+        self.log = but_of_requests(log)
         self.told = told
 
     def __str__(self):

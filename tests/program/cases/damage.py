@@ -8,7 +8,7 @@ import signal
 import sqlite3
 
 from books import Books
-from ends import Server, apart, fault, ledger_settings, without_log
+from ends import Server, apart, begun, fault, ledger_settings, without_log, without_time
 from rows import rows_in, same_rows
 from sums import content_of, has_sums, wrong_pages
 from wire import limit, page, reserve, settle
@@ -139,8 +139,9 @@ def what_a_start_logs(world, checks, path, books):
     with Server(world, connections=1, store=path, default=DEFAULT, log="info") as server:
         server.ask(page())
         server.status()
-        wanted = f"[INFO  mq_program::server] ledger with {len(books.answers)} answers, default {DEFAULT}, offset 0"
-        checks.equal("the first line of the log", server.log_lines()[0], wanted)
+        limits = sum(map(len, books.limits.values()))
+        wanted = begun(path, default=DEFAULT, answers=len(books.answers), days=len(books.usage), limits=limits)
+        checks.equal("the first line of the log", without_time(server.log_lines())[0], wanted)
 
 
 def a_file_without_sums(world, checks, path, frames, books):

@@ -159,7 +159,9 @@ def a_full_disk(world, checks, disk, larger):
         asked.ask_on(server, 100_000)
         checks.equal(f"{what}: status and text", how_it_ended(server), (1, "mailquota: store failed\n"))
         log = server.log_lines()[:-1]
-        checks.holds(f"{what}: the log", len(log) == 1 and log[0].startswith("[ERROR") and "store failed" in log[0], "one line", log)
+        good = len(log) == 2 and log[0].startswith("[ERROR") and "store failed" in log[0]
+        cause = f"[ERROR mq_program::store] {path}: database or disk is full"
+        checks.holds(f"{what}: the log", good and log[1] == cause, "the connection, and the path with the cause", log)
         came = world.filter(server.address, INPUT)[:2]
         checks.equal(f"{what}: a filter then", came, (0, REGISTRATION + answer(SERVICE)))
     checks.holds(f"{what}: replies before it was", len(asked.replies) > 20, "more than 20", len(asked.replies))

@@ -2,13 +2,14 @@
 server ends with a text, and with room again every reply that was read is given again and counts. A retire, which writes many rows, is stored
 whole or not at all."""
 import os
+import re
 import resource
 
 import wire
 from books import Books
 from cases.failures import how_it_ended, is_refusal, replies_of
 from cases.filters import INPUT, REGISTRATION, SERVICE, answer
-from ends import Server, copied, ledger_settings, without_log
+from ends import Server, apart, copied, ledger_settings, without_log
 from rows import same_rows
 
 DEFAULT = 1_000_000
@@ -54,6 +55,7 @@ def grows_no_further(world, checks, room):
         checks.equal(f"{what}: the replies until the store fails", came, wanted)
         checks.holds(f"{what}: how many these are", len(came) < MANY and (room < 20_000 or len(came) > 0), "few", len(came))
         checks.equal(f"{what}: status and text", how_it_ended(server), (1, "mailquota: store failed\n"))
+        says_why(checks, what, server, path)
         came = world.filter(server.address, INPUT)[:2]
         checks.equal(f"{what}: a filter then", came, (0, REGISTRATION + answer(SERVICE)))
     # What stands after the last reply isn't stored, or it is: then it gets the reply that it would have had.
@@ -63,6 +65,14 @@ def grows_no_further(world, checks, room):
     same_rows(checks, f"{what}, and room again", path, books)
     came = world.run("audit", "--config", ledger_settings(world, path, default=DEFAULT))
     checks.equal(f"{what}: audit", came, (0, f"sound days={len(books.usage)} transactions={len(books.transactions)}\n".encode(), ""))
+
+
+def says_why(checks, what, server, path):
+    """After the line of the connection the log says which file it is, and what the system or the disk said."""
+    log = apart("".join(f"{line}\n" for line in server.log_lines()))[0]
+    cause = re.escape(f"[ERROR mq_program::store] {path}: ") + "(database or disk is full|disk I/O error)\n"
+    good = len(log) == 2 and log[0].startswith("[ERROR mq_room::") and log[0].endswith(": store failed\n") and re.fullmatch(cause, log[1])
+    checks.holds(f"{what}: the log", good, "the connection, and the path with the cause", log)
 
 
 def retires_no_further(world, checks):
@@ -84,6 +94,7 @@ def retires_no_further(world, checks):
             else:
                 ended = how_it_ended(server) if not came else "it goes on"
                 checks.equal(f"{what}: its reply, status and text", (came, ended), ([], (1, "mailquota: store failed\n")))
+                says_why(checks, what, server, path)
         same_rows(checks, what, path, books)
         with Server(world, store=path, default=DEFAULT) as server:
             asked = [opened[0], retire, opened[0], wire.usage(b"001" + b"x" * 100), wire.page()]

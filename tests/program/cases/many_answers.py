@@ -5,12 +5,17 @@ import threading
 
 import wire
 from books import Books
-from ends import SECONDS, Server, ledger_settings, read_to_end, send_no_more
+from cases.forgetting import forget, kept
+from cases.limits import limits, printed
+from cases.setting_up import of_file
+from ends import SECONDS, Server, begun, ledger_settings, nobody_there, read_to_end, send_no_more, without_log, without_time
 from rows import same_rows
 
 MANY = 70_000
 # answers about which one is asked for again, for a conflict and for what is used
 PLACES = [1_000, 4_096, 9_999, 10_000, 10_001, 16_384, 20_000, 20_001, 32_768, 50_000, 65_535, 65_536, 65_537, MANY]
+# limits of a ledger, one of each login
+LIMITS = 5_000
 # requests of a connection, of at most 10,000
 PORTION = 5_000
 DEFAULT = 1_000_000
@@ -19,6 +24,7 @@ DEFAULT = 1_000_000
 def run(world, checks):
     many_answers(world, checks, "tables in memory", "memory")
     many_answers(world, checks, "a file", f"{world.folder}/many")
+    many_limits(world, checks)
     a_long_list(world, checks)
     many_days(world, checks)
     many_connections(world, checks)
@@ -76,7 +82,35 @@ def many_answers(world, checks, what, store):
     same_rows(checks, f"{what}, all given up", store, books)
     came = world.run("audit", "--config", ledger_settings(world, store, default=DEFAULT))
     checks.equal(f"{what}: audit", came, (0, f"sound days={len(books.usage)} transactions={len(books.transactions)}\n".encode(), ""))
+    read_by_commands(world, checks, what, store, books)
     print(f"    {MANY:,} answers, {len(books.transactions):,} transactions, {sum(map(len, books.limits.values())):,} limits", flush=True)
+
+
+def read_by_commands(world, checks, what, path, books):
+    """What the commands say that open the file."""
+    settings, answers = {"default": books.default}, len(books.answers)
+    counted = f"answers={answers} days={len(books.usage)} transactions={len(books.transactions)} limits={sum(map(len, books.limits.values()))}"
+    with nobody_there() as address:
+        came = without_log(world.run("status", "--config", ledger_settings(world, path, listen=address, **settings)))
+    checks.equal(f"{what}: status", came, of_file(path, f"default {books.default}, offset 0", counted, answers))
+    checks.equal(f"{what}: limits", limits(world, path, **settings), printed(books))
+    came = forget(world, path, 2, f"{path}.new", **settings)
+    checks.equal(f"{what}: forget", came, kept(books, books.remembered(2)))
+
+
+def many_limits(world, checks):
+    """A limit of each of 5,000 logins: the commands read them all, and a server's start counts them."""
+    path, books = f"{world.folder}/limits", Books(0, DEFAULT)
+    sent = b"".join(wire.limit(n, 1, n, login=b"%04d" % n) for n in range(1, LIMITS + 1))
+    with Server(world, words=["--create"], store=path, default=DEFAULT) as server:
+        checks.equal(f"{LIMITS:,} limits", outcome(server, sent), books.serve(sent))
+    with Server(world, store=path, default=DEFAULT, log="info") as server:
+        server.ask(wire.usage())
+        wanted = begun(path, default=DEFAULT, answers=LIMITS, limits=LIMITS)
+        checks.equal(f"{LIMITS:,} limits: a server's start", without_time(server.log_lines())[0], wanted)
+    came = world.run("audit", "--config", ledger_settings(world, path, default=DEFAULT))
+    checks.equal(f"{LIMITS:,} limits: audit", came, (0, b"sound days=0 transactions=0\n", ""))
+    read_by_commands(world, checks, f"{LIMITS:,} limits", path, books)
 
 
 def again(checks, what, server, books, frames):

@@ -7,7 +7,7 @@ import threading
 import time
 
 from cases.filters import INPUT, PROCEED, REGISTRATION, answer
-from ends import LONG, SECONDS, Server, loopback_of_6, read_all, reset, send_no_more, soon, wait_until
+from ends import LONG, SECONDS, Server, begun, loopback_of_6, read_all, reset, send_no_more, soon, wait_until, without_time
 from wire import BAD, frame, full, granted, limit, number, page, page_reply, release, released, reserve, row, settle, settled, usage
 
 NOTHING_USED = bytes.fromhex("0013" "8b" "0175" "00000001" "00000000" "00000000" "00000003")
@@ -302,9 +302,9 @@ def ends(world, checks):
         checks.equal("a port in use", two, (1, b"", log + "mailquota: listen failed\n"))
     with Server(world, connections=1, log="info") as server:
         server.ask(usage())
-        wanted = [f"[INFO  mq_program::server] {line}" for line in (
-            "ledger with 0 answers, default 3, offset 0", f"listening on {server.listen} for 1 connections", "ending after 1 connections")]
-        checks.equal('log = "info": status, start and end', (server.status(), server.log_lines()), (0, wanted))
+        wanted = [begun("memory"), *(f"[INFO  mq_program::server] {line}" for line in (
+            f"listening on {server.listen} for 1 connections", "ending after 1 connections"))]
+        checks.equal('log = "info": status, start and end', (server.status(), without_time(server.log_lines())), (0, wanted))
     with Server(world, offset=60) as server:
         asked = reserve(1, at=1_576_105_199) + reserve(2, txn=2, at=1_576_105_200) + page(day=18_241) + page(day=18_242)
         wanted = granted(1, 1) + granted(2, 1) + page_reply([row(b"u", 0, 1, 3)], day=18_241) + page_reply([row(b"u", 0, 1, 3)], day=18_242)

@@ -380,7 +380,6 @@ def commands(world, checks):
         checks.equal(f"retire, {what}", (came, server.heard), (wanted, [wire.retire(1, run=2)] * 3))
     for words, said in [
         (["--server", "nowhere", "--host", "a_b"], "bad host"), (["--server", "nowhere", "--host", ""], "bad host"),
-        (["--server", "nowhere", "--host", "a"], "bad address"), (["--server", "127.0.0.1", "--host", "a" * 64], "bad address"),
     ]:
         checks.equal(f"retire {' '.join(words)}", world.run("retire", *words), (2, b"", f"mailquota: {said}\n"))
     with open("/dev/full", "wb") as full, Script([wire.retired(1, run=2)]) as server:

@@ -5,7 +5,7 @@ import socket
 import sqlite3
 import stat
 
-from ends import Server, apart, fault, ledger_settings, without_log
+from ends import IS_THERE, Server, apart, fault, ledger_settings, without_log
 from sums import renew
 from wire import full, granted, page, page_reply, reserve, row, settle, settled
 
@@ -58,19 +58,16 @@ def refused(world, checks):
         ("a folder", world.folder, [], {}, opened, ""),
         ("a file that is no database", text, [], {}, opened, ""),
         ("a file that is no database, with --create", text, ["--create"], {}, opened, ""),
-        ("an empty file", empty, [], {}, "store is not this ledger", None),
-        ("a ledger, with --create", path, ["--create"], {}, "store is not this ledger", None),
-        ("another offset", path, [], {"offset": 60}, "store has another zone", None),
-        ("another default", path, [], {"default": 4}, "store has another default", None),
-        ("another offset and default", path, [], {"offset": 60, "default": 4}, "store has another zone", None),
+        ("an empty file", empty, [], {}, "store is not this ledger", "no ledger: no such table"),
+        ("a ledger, with --create", path, ["--create"], {}, "store is not this ledger", IS_THERE),
+        ("another offset", path, [], {"offset": 60}, "store has another zone", "made with offset 0, the settings have offset 60"),
+        ("another default", path, [], {"default": 4}, "store has another default", "made with default 3, the settings have default 4"),
+        ("another offset and default", path, [], {"offset": 60, "default": 4}, "store has another zone", "made with offset 0, the settings have offset 60"),
     ]:
         came = world.run("server", "--config", ledger_settings(world, place, **more), *words)
         log = apart(came[2])[0]
         checks.equal(f"{what}: status, output, text", without_log(came), fault(wanted))
-        if cause is None:
-            checks.equal(f"{what}: the log", log, [])
-        else:
-            checks.holds(f"{what}: the log", len(log) == 1 and f"{place}: {cause}" in log[0], f"one line with {place} and '{cause}'", log)
+        checks.holds(f"{what}: the log", len(log) == 1 and f"{place}: {cause}" in log[0], f"one line with {place} and '{cause}'", log)
     checks.holds("no file is made without --create", not os.path.exists(f"{world.folder}/none"), "none is there", os.listdir(world.folder))
 
 

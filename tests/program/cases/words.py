@@ -5,7 +5,7 @@ import time
 
 from cases.filters import INPUT, PROCEED, REGISTRATION, answer
 from cases.texts_of_words import FAULTS, HELPS
-from ends import Script, Server, loopback_of_6, toml, wait_until
+from ends import NO_NUMERIC_ADDRESS, NO_PORT, PORT_TOO_LARGE, Script, Server, bad_address, begun, loopback_of_6, toml, wait_until, without_time
 from wire import frame, granted, identity, limit, number, page, page_reply, reserve, retire, retired, text, usage
 
 MORE = "\n\nFor more information, try '--help'.\n"
@@ -69,7 +69,7 @@ def unreadable(name):
     return 1, b"", f"[ERROR mq_program::fault] {name}: {NO_FILE}\nmailquota: settings can't be read\n"
 
 
-BAD_ADDRESS = (2, b"", "mailquota: bad address\n")
+BAD_ADDRESS = bad_address("a", NO_PORT)
 BAD_LOGIN = (2, b"", "mailquota: bad login\n")
 ASKED = ["limit", "--server=a", "--host=h", "--login=u"]
 # the words before a number, its option, how its value is called, its least and greatest number, and how the program ends by these
@@ -127,24 +127,25 @@ def bad_words_of_the_administrator(world, checks):
         (asked(good, "a" * 64, "u" * 256), "bad login"),
         (asked("mail:7025", "mx1", ""), "bad login"),
         (asked("mail:7025", "mx1", long), "bad login"),
-        (asked("nowhere", "a", "u"), "bad address"),
-        (asked("localhost:7025", "a", "u" * 255), "bad address"),
-        (asked("127.0.0.1", "a", "u"), "bad address"),
-        (asked("127.0.0.1:65536", "a", "u"), "bad address"),
-        (asked("mail:7025", "mx1", "u"), "bad address"),
-        (asked("127.0.0.1", "mx1", "u"), "bad address"),
-        (asked("", "mx1", "u"), "bad address"),
         (report("nowhere", ""), "bad login"),
         (report(good, "u" * 256), "bad login"),
         (report("mail:7025", ""), "bad login"),
         (report("mail:7025", long), "bad login"),
-        (report("nowhere", "u"), "bad address"),
-        (report("mail:7025", "u"), "bad address"),
-        (report("[::1]", "u"), "bad address"),
-        (["report", "--server", "localhost:7025", "--day", "1"], "bad address"),
     ]:
         shown = " ".join(word if len(word) < 20 else f"({len(word)} bytes)" for word in words)
         checks.equal(f"'{shown}'", world.run(*words), (2, b"", f"mailquota: {said}\n"))
+    for address, lacks in [
+        ("nowhere", NO_PORT), ("", NO_PORT), ("127.0.0.1", NO_PORT), ("[::1]", NO_PORT), ("localhost:http", NO_PORT),
+        ("127.0.0.1:65536", PORT_TOO_LARGE), ("[::1]:65536", PORT_TOO_LARGE), ("127.0.0.1:99999999999999999999", PORT_TOO_LARGE),
+        ("localhost:7025", NO_NUMERIC_ADDRESS), ("mail:7025", NO_NUMERIC_ADDRESS), ("1.2.3:7025", NO_NUMERIC_ADDRESS), ("::1", NO_NUMERIC_ADDRESS),
+        ("fe80::1:7025", NO_NUMERIC_ADDRESS), (":7025", NO_NUMERIC_ADDRESS),
+    ]:
+        for words in (
+            asked(address, "a", "u" * 255), report(address, "u"), ["report", f"--server={address}", "--day=1"], ["status", f"--server={address}"],
+            ["retire", f"--server={address}", "--host=" + "a" * 64], ["stop", f"--server={address}", "--host=a", "--login=u", "--day=1"],
+            ["resume", f"--server={address}", "--host=a", "--login=u", "--day=1", "--cap=1"],
+        ):
+            checks.equal(f"{words[0]}, of the address '{address}'", world.run(*words), bad_address(address, lacks))
 
 
 def milliseconds():
@@ -194,9 +195,8 @@ def words_of_a_server_and_an_audit(world, checks):
         os.rename(world.new_file(toml(settings)), f"{folder}/{name}")
     with Server.of_words(world, "--config=s", "--create", folder=folder) as server:
         wait_until(lambda: len(server.log_lines()) > 1)
-        lines = [f"[INFO  mq_program::server] {line}" for line in (
-            "ledger with 0 answers, default 3, offset 0", "listening on 127.0.0.1:0 for 1000000 connections")]
-        came = server.log_lines(), server.ask(page())
+        lines = [begun(f"{folder}/made"), "[INFO  mq_program::server] listening on 127.0.0.1:0 for 1000000 connections"]
+        came = without_time(server.log_lines()), server.ask(page())
         checks.equal("server --config=s --create: the log, and its ledger", came, (lines, page_reply([])))
     came = world.run("audit", "--config", "s.toml", folder=folder)
     checks.equal("audit --config s.toml: of that ledger", came, (0, b"sound days=0 transactions=0\n", ""))

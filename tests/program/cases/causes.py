@@ -1,0 +1,194 @@
+"""What the log says of a ledger's file that isn't taken, and of a store that fails, before the text that the program ends with; and what `forget` says on
+a terminal of how far it is."""
+import os
+import pty
+import re
+import subprocess
+import threading
+import time
+
+import wire
+from cases.audits import edited
+from cases.forgetting import left_by_a_server
+from cases.rules import CENTRAL_EUROPE
+from ends import (
+    IS_THERE, NO_NUMERIC_ADDRESS, NO_PORT, PORT_TOO_LARGE, SECONDS, Server, apart, ledger_settings, nobody_there, refusal, toml, without_log,
+)
+
+BY_RULE = {"offset": None, "rule": CENTRAL_EUROPE}
+NOT_OURS, ANOTHER_ZONE, ANOTHER_DEFAULT = "store is not this ledger", "store has another zone", "store has another default"
+# more answers than `forget` looks through in two seconds, where it keeps them all
+MANY = 25_000
+
+
+def run(world, checks):
+    zones_and_defaults(world, checks)
+    files_without_a_ledger(world, checks)
+    versions(world, checks)
+    a_ledger_that_is_there(world, checks)
+    logs_of_nothing(world, checks)
+    addresses_of_settings(world, checks)
+    rows_of_no_ledger(world, checks)
+    memory(world, checks)
+    progress(world, checks)
+
+
+def refuses(world, checks, what, path, said, cause, **settings):
+    """Each command that opens a ledger says why it doesn't."""
+    file, into = ledger_settings(world, path, **settings), f"{path}.new"
+    for words in (["server"], ["audit"], ["limits"], ["status"], ["forget", "--before", "2", "--into", into]):
+        status, output, errors = world.run(words[0], "--config", file, *words[1:])
+        log, text = apart(errors)
+        unavailable = "mailquota: quota service unavailable\n" if words[0] == "status" else ""
+        wanted = 1, b"", f"{unavailable}mailquota: {said}\n", [refusal(path, cause)]
+        checks.equal(f"{what}: {words[0]}", (status, output, text, log[-1:]), wanted)
+        checks.equal(f"{what}: {words[0]}, lines of the log", len(log), 1 + bool(unavailable))
+    checks.equal(f"{what}: forget makes no file", os.path.exists(into), False)
+
+
+def zones_and_defaults(world, checks):
+    """Both what the ledger was made with and what the settings have."""
+    by_offset, _ = left_by_a_server(world, "by-offset", wire.reserve(1))
+    by_rule, _ = left_by_a_server(world, "by-rule", wire.reserve(1), **BY_RULE)
+    west, _ = left_by_a_server(world, "by-offset-west", wire.reserve(1), offset=-1_439)
+    for what, path, settings, cause in [
+        ("another offset", by_offset, {"offset": 60}, "made with offset 0, the settings have offset 60"),
+        ("an offset west of it", by_offset, {"offset": -90}, "made with offset 0, the settings have offset -90"),
+        ("the least offset", west, {"offset": 1_439}, "made with offset -1439, the settings have offset 1439"),
+        ("a rule in place of an offset", by_offset, BY_RULE, f"made with offset 0, the settings have rule {CENTRAL_EUROPE}"),
+        ("an offset in place of a rule", by_rule, {}, f"made with rule {CENTRAL_EUROPE}, the settings have offset 0"),
+        ("another rule", by_rule, {"offset": None, "rule": "UTC0"}, f"made with rule {CENTRAL_EUROPE}, the settings have rule UTC0"),
+    ]:
+        refuses(world, checks, what, path, ANOTHER_ZONE, cause, **settings)
+    refuses(world, checks, "another default", by_offset, ANOTHER_DEFAULT, "made with default 3, the settings have default 4", default=4)
+    refuses(world, checks, "a default of nothing", by_rule, ANOTHER_DEFAULT, "made with default 3, the settings have default 0", **BY_RULE, default=0)
+    both = "made with offset 0, the settings have offset 60"
+    refuses(world, checks, "another zone and default", by_offset, ANOTHER_ZONE, both, offset=60, default=4)
+
+
+def files_without_a_ledger(world, checks):
+    empty = world.new_file("")
+    refuses(world, checks, "an empty file", empty, NOT_OURS, "no ledger: no such table")
+    other = edited(world, empty, "of-others", "CREATE TABLE other (a INTEGER)")
+    refuses(world, checks, "a database of others", other, NOT_OURS, "no ledger: no such table")
+    table = "CREATE TABLE setting (id INTEGER PRIMARY KEY, version{0}, minutes{0}, cap{0})"
+    without = edited(world, empty, "without-settings", table.format(" INTEGER"))
+    refuses(world, checks, "a table of settings without a row", without, NOT_OURS, "no ledger: it has no settings")
+    for what, row in [("a version that is a text", "1, 'x', 0, 3"), ("a version that is nothing", "1, NULL, 0, 3")]:
+        path = edited(world, empty, f"no-numbers-{what[-4:]}", table.format(""), f"INSERT INTO setting VALUES ({row})")
+        refuses(world, checks, what, path, NOT_OURS, "no ledger: its settings are no numbers")
+
+
+def versions(world, checks):
+    path, _ = left_by_a_server(world, "versions", wire.reserve(1) + wire.retire(1, run=2))
+    for version in (0, 4, 9, 1_000_000):
+        later = edited(world, path, f"version-{version}", f"UPDATE setting SET version = {version}")
+        refuses(world, checks, f"tables of version {version}", later, NOT_OURS, f"tables of version {version}, this program knows 1 to 3")
+    for version, statements in [
+        (1, ["UPDATE setting SET version = 1"]),
+        (2, ["UPDATE setting SET version = 2"]),
+        (3, ["DROP TABLE rule"]),
+        (3, ["DROP TABLE retired"]),
+    ]:
+        other = edited(world, path, f"tables-{version}-{len(statements[0])}", *statements)
+        refuses(world, checks, f"tables of version {version}, {statements[0]}", other, NOT_OURS, f"tables of version {version}, with one that is missing or too much")
+
+
+def a_ledger_that_is_there(world, checks):
+    path, _ = left_by_a_server(world, "there", wire.reserve(1))
+    alone = edited(world, world.new_file(""), "there-alone", "CREATE TABLE usage (a INTEGER)")
+    for what, name in [("a ledger", path), ("a table of its names", alone)]:
+        for words in (["init"], ["server", "--create"]):
+            came = world.run(words[0], "--config", ledger_settings(world, name), *words[1:])
+            checks.equal(f"{what} is there: {' '.join(words)}", came, (1, b"", refusal(name, IS_THERE) + f"mailquota: {NOT_OURS}\n"))
+
+
+def logs_of_nothing(world, checks):
+    """`log = "off"` leaves the last line alone."""
+    path, _ = left_by_a_server(world, "off", wire.reserve(1))
+    for subcommand in ("server", "audit", "limits"):
+        came = world.run(subcommand, "--config", ledger_settings(world, path, offset=60, log="off"))
+        checks.equal(f"a log of nothing: {subcommand}", came, (1, b"", f"mailquota: {ANOTHER_ZONE}\n"))
+
+
+def addresses_of_settings(world, checks):
+    """What the address of a filter's server lacks, and that at which a server is to listen."""
+    filters, servers = {"host": "mx1"}, {"store": "memory", "default": 3, "offset": 0}
+    for subcommand, key, others in [("filter", "server", filters), ("server", "listen", servers)]:
+        for value, lacks in [
+            ("nowhere", NO_PORT), ("", NO_PORT), ("127.0.0.1", NO_PORT), ("[::1]", NO_PORT), ("127.0.0.1:65536", PORT_TOO_LARGE),
+            ("localhost:7025", NO_NUMERIC_ADDRESS), ("::1", NO_NUMERIC_ADDRESS), ("*:7025", NO_NUMERIC_ADDRESS), (7025, "bad value"),
+        ]:
+            file = world.new_file(toml({**others, key: value}))
+            log = f"[ERROR mq_program::fault] {file}: setting {key}: {lacks}\n"
+            came = world.run(subcommand, "--config", file)
+            checks.equal(f"{subcommand} with {key} = {value!r}", came, (1, b"", f"{log}mailquota: setting {key}: bad value\n"))
+
+
+def rows_of_no_ledger(world, checks):
+    """A repeat of a request whose stored reply spells nothing ends the server, with what is wrong."""
+    source, _ = left_by_a_server(world, "rows", wire.reserve(1) + wire.reserve(2))
+    path = edited(world, source, "rows-of-nothing", "UPDATE answer SET reply = x'ff' WHERE n = 2")
+    with Server(world, store=path) as server:
+        checks.equal("a row that spells nothing: what is right", server.ask(wire.reserve(1)), wire.granted(1, 1))
+        checks.equal("a row that spells nothing: the reply", server.ask(wire.reserve(2)), b"")
+        log, text = apart("".join(f"{line}\n" for line in (server.status(), server.log_lines())[1]))
+        checks.equal("a row that spells nothing: the end", (server.status(), text), (1, "mailquota: store failed\n"))
+        checks.equal("a row that spells nothing: the cause", log[-1:], [f"[ERROR mq_program::store] {path}: a row is none of a ledger's\n"])
+        checks.holds("a row that spells nothing: lines of the log", len(log) == 2 and "store failed" in log[0], "one of the connection and the cause", log)
+
+
+def memory(world, checks):
+    """A ledger in memory can be asked of its server alone."""
+    with nobody_there() as address:
+        file = world.new_file(toml({"listen": address, "store": "memory", "default": 3, "offset": 0}))
+        came = without_log(world.run("status", "--config", file))
+    checks.equal("status of a ledger in memory, nobody there", came, (1, b"", "mailquota: quota service unavailable\nmailquota: store is memory\n"))
+
+
+def on_a_terminal(world, *words):
+    """The status of a run whose standard error is a terminal, its output, and what came on the terminal."""
+    ours, theirs = pty.openpty()
+    said = []
+
+    def read():
+        try:
+            while piece := os.read(ours, 65_536):
+                said.append(piece)
+        except OSError:
+            # (a terminal that nobody has open any more)
+            pass
+
+    process = subprocess.Popen([world.program, *words], stdin=subprocess.DEVNULL, stdout=subprocess.PIPE, stderr=theirs)
+    os.close(theirs)
+    reading = threading.Thread(target=read, daemon=True)
+    reading.start()
+    output = process.communicate(timeout=SECONDS)[0]
+    reading.join(timeout=SECONDS)
+    os.close(ours)
+    return process.returncode, output, b"".join(said).decode().replace("\r\n", "\n")
+
+
+def progress(world, checks):
+    """`forget` says on a terminal how many answers it looks through, where that takes a second or more, and so in the end how many it kept."""
+    few, _ = left_by_a_server(world, "few", wire.reserve(1) + wire.reserve(2, txn=2, at=172_800))
+    path, half, start = many(world), MANY // 2, time.monotonic()
+    config = ledger_settings(world, path, default=1_000_000)
+    status, output, said = on_a_terminal(world, "forget", "--config", config, "--before", "2", "--into", f"{path}.new")
+    took = time.monotonic() - start
+    checks.equal("forget of many answers on a terminal: what it prints", (status, output), (0, f"kept answers={half} of {MANY}, limits=0\n".encode()))
+    lines = re.fullmatch(rf"{MANY} answers to look through, in up to about 2 s\n({half} of {MANY} answers kept, in [0-9]+ s\n)?", said)
+    good = lines and (lines[1] or took < 3)
+    checks.holds("forget of many answers on a terminal: what it says there", good, "how many to look through, and after a second or more how many it kept", said)
+    came = on_a_terminal(world, "forget", "--config", ledger_settings(world, few), "--before", "2", "--into", f"{few}.new")
+    checks.equal("forget of two answers on a terminal", came, (0, b"kept answers=1 of 2, limits=0\n", ""))
+
+
+def many(world):
+    """The file of a ledger with so many answers, half of them of the first day."""
+    path = f"{world.folder}/many"
+    with Server(world, words=["--create"], store=path, default=1_000_000) as server:
+        for first in range(0, MANY, 5_000):
+            numbers = range(first + 1, first + 5_001)
+            server.ask(b"".join(wire.reserve(n, txn=n, login=b"%d" % (n % 5_000), at=86_400 * (1 if n <= MANY // 2 else 2)) for n in numbers))
+    return path
