@@ -68,7 +68,7 @@ Options:
 """),
     (["status", "--help"], """Say whether the quota server answers, and what its ledger's file holds where none runs
 
-Usage: mailquota status [OPTIONS]
+Usage: mailquota status <--server <ADDRESS>|--config <FILE>>
 
 Options:
       --server <ADDRESS>  Numeric address and port of the quota server
@@ -95,7 +95,7 @@ Options:
 """),
     (["limit", "--help"], """Set the limit of a login from a day on
 
-Usage: mailquota limit [OPTIONS] --server <ADDRESS> --host <HOST> --from <DAY> --cap <N>
+Usage: mailquota limit [OPTIONS] --server <ADDRESS> --host <HOST> --from <DAY> --cap <N> <--login <LOGIN>|--login-text <TEXT>>
 
 Options:
       --server <ADDRESS>   Numeric address and port of the quota server
@@ -109,7 +109,7 @@ Options:
 """),
     (["stop", "--help"], """Let a login have nothing more, today and on each later day
 
-Usage: mailquota stop [OPTIONS] --server <ADDRESS> --host <HOST> --day <DAY>
+Usage: mailquota stop --server <ADDRESS> --host <HOST> --day <DAY> <--login <LOGIN>|--login-text <TEXT>>
 
 Options:
       --server <ADDRESS>   Numeric address and port of the quota server
@@ -121,7 +121,7 @@ Options:
 """),
     (["resume", "--help"], """Let a login have more again, today and on each later day
 
-Usage: mailquota resume [OPTIONS] --server <ADDRESS> --host <HOST> --day <DAY> --cap <N>
+Usage: mailquota resume --server <ADDRESS> --host <HOST> --day <DAY> --cap <N> <--login <LOGIN>|--login-text <TEXT>>
 
 Options:
       --server <ADDRESS>   Numeric address and port of the quota server
@@ -201,15 +201,15 @@ Usage: mailquota forget --config <FILE> --before <DAY> --into <FILE>
 For more information, try '--help'.
 """),
     (["status"], """error: the following required arguments were not provided:
-  --server <ADDRESS>
+  <--server <ADDRESS>|--config <FILE>>
 
-Usage: mailquota status --server <ADDRESS>
+Usage: mailquota status <--server <ADDRESS>|--config <FILE>>
 
 For more information, try '--help'.
 """),
     (["status", "--server=a", "--config=s"], """error: the argument '--server <ADDRESS>' cannot be used with '--config <FILE>'
 
-Usage: mailquota status --server <ADDRESS>
+Usage: mailquota status <--server <ADDRESS>|--config <FILE>>
 
 For more information, try '--help'.
 """),
@@ -236,20 +236,20 @@ For more information, try '--help'.
     (["limit", "--host=mx1", "--login=u", "--from=1", "--cap=2"], """error: the following required arguments were not provided:
   --server <ADDRESS>
 
-Usage: mailquota limit --server <ADDRESS> --host <HOST> --from <DAY> --cap <N> --login <LOGIN>
+Usage: mailquota limit --server <ADDRESS> --host <HOST> --from <DAY> --cap <N> <--login <LOGIN>|--login-text <TEXT>>
 
 For more information, try '--help'.
 """),
     (["stop", "--server=a", "--host=mx1", "--day=1"], """error: the following required arguments were not provided:
-  --login <LOGIN>
+  <--login <LOGIN>|--login-text <TEXT>>
 
-Usage: mailquota stop --server <ADDRESS> --host <HOST> --day <DAY> --login <LOGIN>
+Usage: mailquota stop --server <ADDRESS> --host <HOST> --day <DAY> <--login <LOGIN>|--login-text <TEXT>>
 
 For more information, try '--help'.
 """),
     (["stop", "--server=a", "--host=mx1", "--day=1", "--login=u", "--login-text=u"], """error: the argument '--login <LOGIN>' cannot be used with '--login-text <TEXT>'
 
-Usage: mailquota stop --server <ADDRESS> --host <HOST> --day <DAY> --login <LOGIN>
+Usage: mailquota stop --server <ADDRESS> --host <HOST> --day <DAY> <--login <LOGIN>|--login-text <TEXT>>
 
 For more information, try '--help'.
 """),
