@@ -1,13 +1,17 @@
 -- A ledger that was made of what an old one remembers, and counted.
-use Rattle.std.proofs.Common.{◌≡◌, ◌∙◌, sym, subst, length}
+use Rattle.std.proofs.Common.{◌≡◌, ◌∙◌, List, Option, sym, subst, subst₂, length}
 use Rattle.std.specs.Prelude.{ℕ}
 use Rattle.sqlite.specs.Effect.{Database}
+use Rattle.sqlite.specs.Recovery.{Image}
 use Rattle.sqlite.specs.State.{State}
 use Rattle.mq_ledger.specs.declared.zone.Zone.{Zone}
 use Rattle.mq_ledger.specs.Day.{day_of}
+use Rattle.mq_ledger.specs.Legal.{Book}
 use Rattle.mq_forget.specs.Remembered.{remembered}
 use Rattle.mq_store.specs.Forgetting.{IsRemembered}
 use Rattle.mq_store.specs.Soundness.{IsSound, book_in}
+use Rattle.mq_program.specs.Forgetting.{PrintsKeptOf, PrintsKeptOfFile}
+use Rattle.mq_program.specs.Opened.{MeansFile}
 
 module _ (zone mid_zone new_zone end_zone : Zone) (default mid_default new_default end_default : ℕ) (old mid : Database) (new end : State)
     (to_zone : mid_zone ≡ zone) (to_default : mid_default ≡ default) (to_old : mid ≡ old)
@@ -31,3 +35,11 @@ module _ (zone mid_zone new_zone end_zone : Zone) (default mid_default new_defau
       subst (λ z. n ≡ length (book_in z default end.now).history) (of_zone ∙ to_zone)
       (subst (λ d. n ≡ length (book_in new_zone d end.now).history) (of_default ∙ to_default)
       (subst (λ db. n ≡ length (book_in new_zone new_default db).history) (sym end_at) is))
+
+-- the line has the answers of the book whose rows the files hold
+pub kept_of_file : (zone z : Zone) (default d : ℕ) (image : Image) (s : State) (old new : Option (List ℕ)) → z ≡ zone → d ≡ default
+    → (IsSound z d s → PrintsKeptOf (length (book_in z d s.now).history) old new) → MeansFile zone default image s → PrintsKeptOfFile image old new
+kept_of_file zone z default d image s old new of_zone of_default printed means b keeps =
+    let (bz, bd, is, book) = means b keeps in
+    subst (λ (x : Book). PrintsKeptOf (length x.history) old new) book
+    (subst₂ (λ k n. IsSound k n s → PrintsKeptOf (length (book_in k n s.now).history) old new) of_zone of_default printed is)

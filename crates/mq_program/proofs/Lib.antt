@@ -1,4 +1,3 @@
-pub mod AuditSteps
 pub mod OpenedFiles
 pub mod RefusalSteps
 pub mod ReplaySteps
@@ -8,3 +7,4 @@ pub mod Forgot
 pub mod ListingSteps
 pub mod CountingSteps
 pub mod DescribingSteps
+pub mod MakingSteps

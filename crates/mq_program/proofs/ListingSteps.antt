@@ -1,13 +1,15 @@
 -- The lines of limits in order.
 use denote.Param.Members.{Mut}
 use Rattle.std.proofs.Common.{◌≡◌, ◌∙◌, ◌<◌, ◌+◌, ℕ, List, [], ◌∷◌, ◌++◌, Bool, Bor, Option, Result, Ok, Err, length, take, get_or, sym, ap, subst, append-nil}
-use Rattle.std.specs.Prelude.{IfOk, OnOk}
+use Rattle.std.specs.Prelude.{IfErr, IfOk, OnOk}
 use Rattle.std.proofs.KnownBytes.{Keeps-refl}
 use Rattle.std.specs.Io.KnownBytes.{Appends, Keeps}
 use Rattle.sqlite.specs.Effect.{Database}
 use Rattle.mq_ledger.specs.declared.entry.Entry.{Entry}
+use Rattle.mq_command.specs.Output.{AppendsFront}
 use Rattle.mq_store.specs.Limits.{AreLimitsIn, AreSet}
 use Rattle.mq_program.specs.declared.fault.ProgramFault.{ProgramFault}
+use Rattle.mq_program.specs.declared.fault.ProgramFault.TheVariants.{Write}
 use Rattle.std.proofs.lemmas.Fn.{always_returns_same}
 use Rattle.std.proofs.lemmas.List.{take_more}
 use Rattle.std.proofs.lemmas.List.Concat.{flat_map-append}
@@ -68,6 +70,13 @@ pub such_printed : (P : List LimitFigures → Type 0) (limits : List LimitFigure
     → IfOk ended (λ _. (l : List LimitFigures) × P l × PrintsInOrder l old new)
 such_printed P limits old new bytes (Ok u) such sorted line whole = (limits, such, in_order limits old new bytes sorted line whole)
 such_printed P limits old new bytes (Err f) such sorted line whole = tt
+
+-- or a prefix of them was
+pub front_printed : (P : List LimitFigures → Type 0) (limits : List LimitFigures) (old new : Option (List ℕ)) (bytes : List ℕ) (ended : Result (Unit {0}) ProgramFault) → P limits
+    → IsSortedByKey (λ (limit : LimitFigures). limit.pair) pair_cmp limits → bytes ≡ limit_lines limits → AppendsFront old new bytes
+    → IfErr ended (λ fault. fault ≡ Write → (l : List LimitFigures) × P l × IsSortedByKey (λ (limit : LimitFigures). limit.pair) pair_cmp l × AppendsFront old new (limit_lines l))
+front_printed P limits old new bytes (Ok u) such sorted line front = tt
+front_printed P limits old new bytes (Err f) such sorted line front = λ _. (limits, such, sorted, subst (λ b. AppendsFront old new b) line front)
 
 -- of tables that stayed as they were
 pub listed_still : (db now : Database) (old new : Option (List ℕ)) → now ≡ db → PrintsLimits db old new → PrintsLimits now old new

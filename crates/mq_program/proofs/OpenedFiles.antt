@@ -19,7 +19,9 @@ use Rattle.mq_tables.specs.Ledger.{HasLedger}
 use Rattle.mq_tables.specs.Making.{AreUnnamed}
 use Rattle.mq_store.specs.Soundness.{book_in, HasKept, HasStored, IsNew, IsSound, MeansBook}
 use Rattle.mq_store.specs.Taking.{book_of}
-use Rattle.mq_program.specs.Opened.{MeansFile, IsMadeIn, GrowsFrom, GrowsFromNothing}
+use Rattle.mq_rows.specs.declared.audited.Audit.TheVariants.{Sound}
+use Rattle.mq_store.specs.Auditing.{IsAuditIn}
+use Rattle.mq_program.specs.Opened.{AreCountsIn, MeansFile, IsMadeIn, GrowsFrom, GrowsFromNothing}
 
 abbrev pub HaveOneSchema : Type 0
 HaveOneSchema = (a b : Database) → IsDatabase a → IsDatabase b → a.trees ≡ b.trees → a ≡ b
@@ -42,6 +44,10 @@ module _ (image : Image) (s : State) (one : HaveOneSchema) (opens : Opens s) (li
 
   pub means : (zone : Zone) (default : ℕ) (new : State) → MeansBook zone default s.now new → MeansFile zone default image new
   means zone default new book b keeps = book b (subst (HasStored b) (shows keeps.db keeps.stored.holds.sound keeps.holds) keeps.stored)
+
+  pub counted : (zone : Zone) (default days transactions : ℕ) → IsAuditIn zone default s.now (Sound days transactions) → AreCountsIn zone default image days transactions
+  counted zone default days transactions audited db is holds =
+      subst (λ (d : Database). IsAuditIn zone default d (Sound days transactions)) (sym (shows db is holds)) audited
 
   pub made : (zone : Zone) (default : ℕ) (new : State) → EmptyAreReady → (lacks_sequence s.now.schema ≡ false → AreUnnamed s.now.schema → IsNew zone default new) → IsMadeIn zone default image new
   made zone default new ready new_there = record {

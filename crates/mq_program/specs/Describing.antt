@@ -1,22 +1,26 @@
 -- What `status` prints of a ledger that no server has open.
-use Rattle.std.specs.Prelude.{◌≡◌, ℕ, ℤ, ◌+◌, ◌/◌, List, [], ◌∷◌, ◌++◌, codes, length, Option}
+use Rattle.std.specs.Prelude.{◌≡◌, ℕ, ℤ, ◌+◌, ◌/◌, List, [], ◌∷◌, ◌++◌, codes, length, Option, IsSomeAnd}
 use Rattle.std.specs.Fmt.{decimal, signed_decimal}
 use Rattle.std.specs.Io.KnownBytes.{Appends}
 use Rattle.sqlite.specs.Effect.{Database}
+use Rattle.sqlite.specs.Recovery.{Image}
 use Rattle.mq_frame.specs.Escaped.{escaped}
 use Rattle.mq_ledger.specs.declared.zone.Zone.{Zone}
 use Rattle.mq_ledger.specs.Day.{ByOffset, ByRule}
-use Rattle.mq_rows.specs.declared.audited.Audit.TheVariants.{Sound}
+use Rattle.mq_ledger.specs.Legal.{Book}
 use Rattle.mq_rows.specs.declared.setting.TheConstants.{VERSION}
-use Rattle.mq_store.specs.Auditing.{IsAuditIn}
+use Rattle.mq_command.specs.Output.{AppendsFront}
+use Rattle.mq_store.specs.declared.auditing.RowCounts.{RowCounts}
 use Rattle.mq_store.specs.Soundness.{book_in}
 use Rattle.mq_program.specs.declared.describing.LedgerCounts.{LedgerCounts}
 use Rattle.mq_program.specs.Forgetting.{CountsLimits}
+use Rattle.mq_program.specs.Opened.{AreCountsIn, KeepsBook}
 
--- They are how many answers the ledger has, the days and transactions of an audit that finds its books right, and its limits.
-pub record AreCounts (zone : Zone) (default : ℕ) (db : Database) (counts : LedgerCounts) : Type 0 where
+-- They are how many answers the ledger has, the days and transactions that were found as it was opened, and its limits.
+pub record AreCounts (zone : Zone) (default : ℕ) (db : Database) (found : RowCounts) (counts : LedgerCounts) : Type 0 where
   pub answers : counts.answers ≡ length (book_in zone default db).history
-  pub audited : IsAuditIn zone default db (Sound counts.days counts.transactions)
+  pub days : counts.days ≡ found.days
+  pub transactions : counts.transactions ≡ found.transactions
   pub limits : CountsLimits db counts.limits
 
 -- the seconds and megabytes that a start takes at most, by what was measured
@@ -57,7 +61,21 @@ ledger_text path bytes zone default counts =
     ++ counts_line counts.answers counts.days counts.transactions counts.limits ++ start_line (start_seconds counts.answers) (start_megabytes counts.answers)
 
 -- the lines of the ledger with these rows were printed, with its counts
-abbrev pub Describes : List ℕ → ℕ → Zone → ℕ → Database → Option (List ℕ) → Option (List ℕ) → Type 0
-Describes path bytes zone default db old new =
-    (counts : LedgerCounts) × AreCounts zone default db counts
+abbrev pub Describes : List ℕ → ℕ → Zone → ℕ → Database → RowCounts → Option (List ℕ) → Option (List ℕ) → Type 0
+Describes path bytes zone default db found old new =
+    (counts : LedgerCounts) × AreCounts zone default db found counts
     × Appends old new (ledger_text path bytes zone default counts)
+
+-- a prefix of them was printed
+abbrev pub DescribesFront : List ℕ → ℕ → Zone → ℕ → Database → RowCounts → Option (List ℕ) → Option (List ℕ) → Type 0
+DescribesFront path bytes zone default db found old new =
+    (counts : LedgerCounts) × AreCounts zone default db found counts
+    × AppendsFront old new (ledger_text path bytes zone default counts)
+
+-- Where the files hold the rows of a legal history, the lines of its ledger were printed, with the path of this file, some
+-- count of its bytes, and what an audit of these rows finds.
+abbrev pub DescribesFile : Zone → ℕ → Image → Option (List ℕ) → Database → Option (List ℕ) → Option (List ℕ) → Type 0
+DescribesFile zone default image path db old new =
+    (b : Book) → KeepsBook image b
+    → IsSomeAnd path (λ p. (bytes : ℕ) × (found : RowCounts) × AreCountsIn zone default image found.days found.transactions
+    × Describes p bytes zone default db found old new)

@@ -3,9 +3,11 @@ use Rattle.std.specs.Prelude.{◌≡◌, ℕ, List, [], ◌∷◌, ◌++◌, cod
 use Rattle.std.specs.Fmt.{decimal}
 use Rattle.std.specs.Io.KnownBytes.{Appends}
 use Rattle.sqlite.specs.Effect.{Database}
+use Rattle.sqlite.specs.Recovery.{Image}
 use Rattle.mq_ledger.specs.Legal.{Book}
 use Rattle.mq_rows.specs.Audit.{Figures}
 use Rattle.mq_tables.specs.Figures.{HasFigures}
+use Rattle.mq_program.specs.Opened.{KeepsBook}
 use Rattle.mq_program.specs.declared.forgetting.Kept.{Kept}
 
 -- how many answers are kept of how many, and how many limits
@@ -18,7 +20,15 @@ kept_line answers all limits =
 abbrev pub PrintsKept : Option (List ℕ) → Option (List ℕ) → Type 0
 PrintsKept old new = (answers all limits : ℕ) × Appends old new (kept_line answers all limits)
 
--- it is how many rows the table of limits has: one for each login and day from which a limit was set
+-- a line with so many answers of the old ledger was printed
+abbrev pub PrintsKeptOf : ℕ → Option (List ℕ) → Option (List ℕ) → Type 0
+PrintsKeptOf all old new = (answers limits : ℕ) × Appends old new (kept_line answers all limits)
+
+-- where the files hold the rows of a legal history, a line with as many answers was printed
+abbrev pub PrintsKeptOfFile : Image → Option (List ℕ) → Option (List ℕ) → Type 0
+PrintsKeptOfFile image old new = (b : Book) → KeepsBook image b → PrintsKeptOf (length b.history) old new
+
+-- where the rows of the tables that an audit reads have figures, it is how many rows the table of limits has
 abbrev pub CountsLimits : Database → ℕ → Type 0
 CountsLimits db count = (f : Figures) → HasFigures db f → count ≡ length f.limits
 

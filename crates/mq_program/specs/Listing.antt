@@ -9,6 +9,7 @@ use Rattle.mq_frame.specs.Escaped.{escaped}
 use Rattle.mq_ledger.specs.declared.entry.Entry.{Entry}
 use Rattle.mq_rows.specs.declared.audited.LimitFigures.{LimitFigures}
 use Rattle.mq_rows.specs.Pair.{pair_cmp}
+use Rattle.mq_command.specs.Output.{AppendsFront}
 use Rattle.mq_store.specs.Limits.{AreLimitsIn, AreSet}
 
 -- the texts of a day, a limit and a login in a line
@@ -34,6 +35,12 @@ PrintsSome old new = (limits : List LimitFigures) × PrintsInOrder limits old ne
 -- all rows of the table of limits were printed so
 abbrev pub PrintsLimits : Database → Option (List ℕ) → Option (List ℕ) → Type 0
 PrintsLimits db old new = (limits : List LimitFigures) × AreLimitsIn db limits × PrintsInOrder limits old new
+
+-- a prefix of the lines of all these rows was printed
+abbrev pub PrintsFrontOfLimits : Database → Option (List ℕ) → Option (List ℕ) → Type 0
+PrintsFrontOfLimits db old new =
+    (limits : List LimitFigures) × AreLimitsIn db limits × IsSortedByKey (λ limit. limit.pair) pair_cmp limits
+    × AppendsFront old new (limit_lines limits)
 
 -- the limits that a history set were printed so
 abbrev pub PrintsLimitsOf : List Entry → Option (List ℕ) → Option (List ℕ) → Type 0

@@ -1,5 +1,5 @@
 -- What a server's file holds, and what a ledger in it begins with.
-use Rattle.std.specs.Prelude.{◌≡◌, ℕ, false, []}
+use Rattle.std.specs.Prelude.{◌≡◌, ℕ, false, List, [], Option, None, Some, string_bytes}
 use Rattle.sqlite.specs.Does.{lacks_sequence}
 use Rattle.sqlite.specs.Effect.{Database, IsDatabase}
 use Rattle.sqlite.specs.Files.{HoldsDatabase}
@@ -9,8 +9,17 @@ use Rattle.mq_ledger.specs.declared.zone.Zone.{Zone}
 use Rattle.mq_ledger.specs.Legal.{Book}
 use Rattle.mq_server.specs.Delivery.{HasGrown}
 use Rattle.mq_tables.specs.Making.{AreUnnamed}
+use Rattle.mq_settings.specs.declared.settings.value.Place.{Place}
+use Rattle.mq_settings.specs.declared.settings.value.Place.TheVariants as place
+use Rattle.mq_rows.specs.declared.audited.Audit.TheVariants.{Sound}
+use Rattle.mq_store.specs.Auditing.{IsAuditIn}
 use Rattle.mq_store.specs.Taking.{book_of}
 use Rattle.mq_store.specs.Soundness.{book_in, HasStored, IsNew, IsSound}
+
+-- the path of the file in which a ledger is kept, where it is kept in one
+abbrev pub path_in : Place → Option (List ℕ)
+path_in place.Memory = None
+path_in (place.File path) = Some (string_bytes path)
 
 -- the database file and its log hold a database, whose tables are the rows of this book, in any version that its zone may have
 pub record KeepsBook (image : Image) (b : Book) : Type 0 where
@@ -23,6 +32,12 @@ abbrev pub MeansFile : Zone → ℕ → Image → State → Type 0
 MeansFile zone default image new =
     (b : Book) → KeepsBook image b
     → (b.zone ≡ zone) × (b.default ≡ default) × IsSound zone default new × (book_in zone default new.now ≡ b)
+
+-- an audit of the database that the files hold finds its books right, with so many days of logins and transactions
+abbrev pub AreCountsIn : Zone → ℕ → Image → ℕ → ℕ → Type 0
+AreCountsIn zone default image days transactions =
+    (db : Database) → IsDatabase db → HoldsDatabase image db.trees
+    → IsAuditIn zone default db (Sound days transactions)
 
 -- The ledger is a new one where the database file was empty, and where the files held a database in which no foreign key names
 -- a table of ours and each table with AUTOINCREMENT has the table that counts for it.

@@ -11,10 +11,12 @@ pub mod status;
 pub mod stop;
 
 use crate::fault::ProgramFault;
-use log::Log;
+use log::sink::Console;
+use log::{LevelFilter, Log, Logged, error};
 use mq_arguments::LoginArgument;
 use mq_command::{TRIES, is_login_text, login_of_text};
-use mq_frame::{Host, Id, Login, is_host, is_login};
+use mq_frame::{Escaped, Host, Id, Login, is_host, is_login};
+use mq_settings::address_flaw;
 use mq_tcp::{Connector, LoggedLink, TcpLink};
 use std::alloc::{AllocError, Global};
 use std::net::{Net, SocketAddr};
@@ -24,14 +26,25 @@ use std::time::Duration;
 /// How long it may take to connect, to write a request and to read its reply, in milliseconds.
 const TIMEOUT: u64 = 2_000;
 
-/// The numeric address and port that a text spells.
-fn address_of(text: &str) -> Result<SocketAddr, ProgramFault>
+/// Logs what a text lacks that is no numeric address with a port.
+fn refused_address<R: Eprint>(rt: &R, text: &str) -> ProgramFault
+    ensures { result ≡ ProgramFault.Address }
+{
+    let logged = Logged::new(rt, LevelFilter::Error, Console(rt));
+    let shown = Escaped(text.as_bytes());
+    let flaw = address_flaw(text);
+    error!(logged; "address {shown}: {flaw}");
+    ProgramFault::Address
+}
+
+/// The numeric address and port that a text spells. What another text lacks is logged.
+fn address_of<R: Eprint>(rt: &R, text: &str) -> Result<SocketAddr, ProgramFault>
     ensures { MatchResult result (IsSocketText text.now) (λ fault. (fault ≡ ProgramFault.Address)
         × IsNoAddress text.now) }
 {
     match text.parse::<SocketAddr>() {
         Ok(address) => Ok(address),
-        Err(_) => Err(ProgramFault::Address),
+        Err(_) => Err(refused_address(rt, text)),
     }
 }
 
@@ -62,7 +75,12 @@ fn login_of(alloc: Global, given: LoginArgument<'_>) -> Result<Login, ProgramFau
 }
 
 /// The address of the server, where host, login and address are what they should be.
-fn checked(host: &str, login: LoginArgument<'_>, server: &str) -> Result<SocketAddr, ProgramFault>
+fn checked<R: Eprint>(
+    rt: &R,
+    host: &str,
+    login: LoginArgument<'_>,
+    server: &str,
+) -> Result<SocketAddr, ProgramFault>
     ensures refuses { OrderRefuses host.now login.entry server.now (λ fault. result ≡ Err fault) }
     ensures host { IfOk result (λ _. IsHost host.now) }
     ensures login { IfOk result (λ _. NamesLogin login.entry) }
@@ -73,7 +91,7 @@ fn checked(host: &str, login: LoginArgument<'_>, server: &str) -> Result<SocketA
     if !names_login(login) {
         return Err(ProgramFault::Login);
     }
-    address_of(server)
+    address_of(rt, server)
 }
 
 /// A link to the server at this address, with a log of its troubles.

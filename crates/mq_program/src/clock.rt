@@ -1,5 +1,5 @@
-//! The number of a run.
-ghost use Rattle.std.specs.Prelude.{◌≡◌, ◌/◌, Ok, IfSome, IfOk, IfErr};
+//! The clock, and the number of a run.
+ghost use Rattle.std.specs.Prelude.{◌≡◌, ◌/◌, Ok, IfSome, IfOk, IfErr, IsSomeAnd};
 ghost use Rattle.std.specs.Option.{SomeIff};
 ghost use Rattle.std.specs.Duration.{as_nanos};
 ghost use Rattle.std.specs.Time.{system_time_nanos};
@@ -8,7 +8,7 @@ ghost use Rattle.mq_frame.specs.Range.{IsRun};
 use crate::fault::ProgramFault;
 use mq_frame::is_run;
 use std::rt::Clock;
-use std::time::{Duration, SystemTime, UNIX_EPOCH};
+use std::time::{Duration, Instant, SystemTime, UNIX_EPOCH};
 
 /// The whole milliseconds of a time, where they can be a run's number.
 fn run_of(time: Duration) -> Option<u64>
@@ -20,18 +20,28 @@ fn run_of(time: Duration) -> Option<u64>
     }
 }
 
-/// The milliseconds from 1970 to this moment, where they can be a run's number.
-fn run_at(now: SystemTime) -> Option<u64>
-    ensures { SomeIff result (IsRun (system_time_nanos now / 1_000_000)) (system_time_nanos now / 1_000_000) }
+/// The time from 1970 to this moment.
+fn time_at(now: SystemTime) -> Option<Duration>
+    ensures { IsSomeAnd result (λ time. as_nanos time ≡ system_time_nanos now) }
 {
-    run_of(now.duration_since(UNIX_EPOCH).ok()?)
+    now.duration_since(UNIX_EPOCH).ok()
+}
+
+/// The time since 1970 by the clock, where it can be read.
+pub(crate) fn time_of_clock(rt: &impl Clock) -> Option<Duration> {
+    time_at(SystemTime::now(rt).ok()?)
 }
 
 /// The clock's milliseconds since 1970, where they can be a run's number.
 fn run_of_clock(rt: &impl Clock) -> Option<u64>
     ensures { IfSome result IsRun }
 {
-    run_at(SystemTime::now(rt).ok()?)
+    run_of(time_of_clock(rt)?)
+}
+
+/// How long it is since then, where the clock can be read.
+pub(crate) fn elapsed(rt: &impl Clock, since: Option<Instant>) -> Option<Duration> {
+    since?.elapsed(rt).ok()
 }
 
 /// The given number of a run, or the clock's.

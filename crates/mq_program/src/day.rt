@@ -2,9 +2,9 @@
 ghost use Rattle.std.specs.Prelude.{◌≡◌, ◌/◌, Ok, IfSome, IfOk, IfErr};
 ghost use Rattle.std.specs.Option.{SomeIff};
 ghost use Rattle.std.specs.Duration.{as_nanos};
-ghost use Rattle.std.specs.Time.{system_time_nanos};
 ghost use Rattle.mq_frame.specs.Range.{IsMoment};
 
+use crate::clock::time_of_clock;
 use crate::fault::ProgramFault;
 use crate::server::server_settings;
 use mq_arguments::DayArguments;
@@ -13,7 +13,7 @@ use mq_frame::is_moment;
 use std::io;
 use std::io::Write;
 use std::rt::Clock;
-use std::time::{Duration, SystemTime, UNIX_EPOCH};
+use std::time::Duration;
 
 /// The whole seconds of a time, where they can be a moment.
 fn moment_of(time: Duration) -> Option<u64>
@@ -27,18 +27,11 @@ fn moment_of(time: Duration) -> Option<u64>
     }
 }
 
-/// The seconds from 1970 to this moment, where they can be a moment.
-fn moment_at(now: SystemTime) -> Option<u64>
-    ensures { SomeIff result (IsMoment (system_time_nanos now / 1_000_000_000)) (system_time_nanos now / 1_000_000_000) }
-{
-    moment_of(now.duration_since(UNIX_EPOCH).ok()?)
-}
-
 /// The clock's moment, where it can be one.
 fn moment_of_clock(rt: &impl Clock) -> Option<u64>
     ensures { IfSome result IsMoment }
 {
-    moment_at(SystemTime::now(rt).ok()?)
+    moment_of(time_of_clock(rt)?)
 }
 
 /// The given moment, or the clock's.

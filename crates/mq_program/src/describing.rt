@@ -2,18 +2,16 @@
 ghost use Rattle.std.specs.Prelude.{◌≡◌, ◌⊎◌, IfErr, IfOk, string_bytes};
 ghost use Rattle.std.specs.Io.KnownBytes.{Keeps};
 ghost use Rattle.sqlite.specs.Held.{state};
-ghost use Rattle.mq_store.specs.Auditing.{IsAuditIn};
 ghost use Rattle.mq_store.specs.Soundness.{HasKept, IsSound};
-ghost use Rattle.mq_rows.specs.declared.audited.Audit.TheVariants.{Sound};
-ghost use Rattle.mq_program.specs.Describing.{AreCounts, Describes, counts_line, file_line, ledger_text};
+ghost use Rattle.mq_program.specs.Describing.{AreCounts, Describes, DescribesFront, counts_line, file_line, ledger_text};
 ghost use Rattle.mq_program.specs.Describing.{offset_line, start_line, start_megabytes, start_seconds, terms_line};
 
 use crate::auditing::print;
 use crate::fault::ProgramFault;
 use mq_frame::Escaped;
 use mq_ledger::{Ledger, Zone};
-use mq_rows::{Audit, VERSION};
-use mq_store::{OpenFault, SqlLedger};
+use mq_rows::VERSION;
+use mq_store::SqlLedger;
 use sqlite::Alter;
 use std::alloc::{AllocError, Global};
 use std::io::Write;
@@ -44,21 +42,6 @@ fn start_megabytes(answers: u64) -> u64
     answers / 1_100 + 14
 }
 
-/// Counts the days and transactions of a ledger, whose books are checked.
-fn count_days<S: Alter>(ledger: &mut SqlLedger<S>) -> Result<(u64, u64), ProgramFault>
-    ensures same { HasKept (state S.Store ledger.new.connection)
-        → (state S.Store ledger.new.connection).now ≡ (state S.Store ledger.old.connection).now }
-    ensures kept { HasKept (state S.Store ledger.new.connection) → HasKept (state S.Store ledger.old.connection) }
-    ensures counted { HasKept (state S.Store ledger.new.connection)
-        → IfOk result (λ counts. IsAuditIn ledger.old.zone ledger.old.default
-        (state S.Store ledger.old.connection).now (Sound counts.0 counts.1)) }
-{
-    match ledger.audit()? {
-        Audit::Sound { days, transactions } => Ok((days, transactions)),
-        Audit::Wrong { login, day } => Err(ProgramFault::Open(OpenFault::Damaged { login, day })),
-    }
-}
-
 /// Counts what a ledger has. Nothing is written.
 fn count_ledger<S: Alter>(ledger: &mut SqlLedger<S>) -> Result<LedgerCounts, ProgramFault>
     ensures same { HasKept (state S.Store ledger.new.connection)
@@ -67,15 +50,15 @@ fn count_ledger<S: Alter>(ledger: &mut SqlLedger<S>) -> Result<LedgerCounts, Pro
     ensures counted { HasKept (state S.Store ledger.new.connection)
         → IsSound ledger.old.zone ledger.old.default (state S.Store ledger.old.connection)
         → IfOk result (λ counts. AreCounts ledger.old.zone ledger.old.default
-        (state S.Store ledger.old.connection).now counts) }
+        (state S.Store ledger.old.connection).now ledger.old.found counts) }
 {
     let answers = ledger.count_answers()?;
     let limits = ledger.limits()?;
-    let counts = count_days(ledger)?;
+    let found = ledger.found();
     Ok(LedgerCounts {
         answers,
-        days: counts.0,
-        transactions: counts.1,
+        days: found.days,
+        transactions: found.transactions,
         limits: limits.len() as u64,
     })
 }
@@ -177,9 +160,16 @@ pub fn describe_ledger<S: Alter, W: Write>(
     ensures describes { HasKept (state S.Store ledger.new.connection)
         → IsSound ledger.old.zone ledger.old.default (state S.Store ledger.old.connection)
         → IfOk result (λ _. Describes path.now bytes ledger.old.zone ledger.old.default
-        (state S.Store ledger.old.connection).now (W.contents output.old) (W.contents output.new)) }
+        (state S.Store ledger.old.connection).now ledger.old.found (W.contents output.old)
+        (W.contents output.new)) }
     ensures unprinted { IfErr result (λ fault. (fault ≡ ProgramFault.Write)
         ⊎ Keeps (W.contents output.old) (W.contents output.new)) }
+    ensures front { HasKept (state S.Store ledger.new.connection)
+        → IsSound ledger.old.zone ledger.old.default (state S.Store ledger.old.connection)
+        → IfErr result (λ fault. fault ≡ ProgramFault.Write
+        → DescribesFront path.now bytes ledger.old.zone ledger.old.default
+        (state S.Store ledger.old.connection).now ledger.old.found (W.contents output.old)
+        (W.contents output.new)) }
     ensures same { HasKept (state S.Store ledger.new.connection)
         → (state S.Store ledger.new.connection).now ≡ (state S.Store ledger.old.connection).now }
     ensures kept { HasKept (state S.Store ledger.new.connection) → HasKept (state S.Store ledger.old.connection) }

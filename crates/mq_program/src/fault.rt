@@ -168,6 +168,9 @@ pub fn logged_of<R: Eprint>(rt: &R, file: &str, fault: ProgramFault) -> ProgramF
     match &fault {
         ProgramFault::File(FileFault::Unreadable(cause)) => error!(logged; "{file}: {cause}"),
         ProgramFault::Settings(SettingsFault::Text(flaw)) => error!(logged; "{file}: {flaw}"),
+        ProgramFault::Settings(SettingsFault::Address(key, flaw)) => {
+            error!(logged; "{file}: setting {key}: {flaw}");
+        }
         _ => error!(logged; "{file}: {fault}"),
     }
     fault

@@ -1,7 +1,11 @@
 //! `forget`: makes a new ledger file that has what the server's remembers from a day on.
-ghost use Rattle.std.specs.Prelude.{◌≡◌, IfOk, length, string_bytes};
+ghost use Rattle.std.specs.Prelude.{◌≡◌, IfOk, OnOk, length, string_bytes};
+ghost use Rattle.std.specs.Io.KnownBytes.{Appends};
+ghost use Rattle.sqlite.specs.Files.{file_state};
 ghost use Rattle.sqlite.specs.Held.{state};
-ghost use Rattle.mq_program.specs.Forgetting.{Counts, CountsLimits, PrintsKept, kept_line};
+ghost use Rattle.sqlite.specs.WalFiles.{image_at};
+ghost use Rattle.mq_program.specs.Forgetting.{Counts, CountsLimits, PrintsKept, PrintsKeptOf, PrintsKeptOfFile, kept_line};
+ghost use Rattle.mq_program.specs.Opened.{MeansFile};
 ghost use Rattle.mq_program.specs.Refusals.{AreInRange};
 ghost use Rattle.mq_store.specs.Forgetting.{IsFree, IsRemembered};
 ghost use Rattle.mq_store.specs.Soundness.{HasKept, IsSound, book_in};
@@ -9,15 +13,16 @@ ghost use Rattle.mq_store.specs.Soundness.{HasKept, IsSound, book_in};
 use crate::auditing::print;
 use crate::day::moment;
 use crate::fault::ProgramFault;
+use crate::progress::{Progress, Terminal};
 use crate::server::server_settings;
-use crate::store::{connect_new, file_ledger, make_new_file};
+use crate::store::{connect_new, ledger_of_settings, make_new_file, path_of};
 use log::sink::Console;
 use log::{Log, Logged, error, info};
 use mq_arguments::ForgetArguments;
 use mq_ledger::Zone;
-use mq_settings::{Place, ServerSettings};
-use mq_store::SqlLedger;
-use sqlite::{Alter, Connection, Start};
+use mq_settings::ServerSettings;
+use mq_store::{OpenFault, SqlLedger};
+use sqlite::{Alter, Connection, FileFrom, FileStore, Start};
 use std::alloc::{AllocError, Global};
 use std::io::Write;
 use std::rt::Clock;
@@ -65,13 +70,16 @@ fn count_kept<S: Alter>(new: &mut SqlLedger<S>, all: u64) -> Result<Kept, Progra
 }
 
 /// Makes, over a connection, a new ledger that has what the old one remembers from a day on, and counts the answers
-/// of both and the limits. The old one isn't written.
-pub fn carry_over<S: Alter + Drop, T: Alter>(
+/// of both and the limits. The old one isn't written. `progress` hears how many answers there are to look through.
+pub fn carry_over<S: Alter + Drop, T: Alter, P: Progress>(
     alloc: Global,
     old: &mut SqlLedger<T>,
     into: Connection<S>,
     day: u32,
+    progress: &P,
 ) -> Result<(SqlLedger<S>, Kept), ProgramFault>
+    ensures old_lent { (old.new.zone ≡ old.old.zone) × (old.new.default ≡ old.old.default) }
+    ensures old_kept { HasKept (state T.Store old.new.connection) → HasKept (state T.Store old.old.connection) }
     ensures old_same { HasKept (state T.Store old.new.connection)
         → (state T.Store old.new.connection).now ≡ (state T.Store old.old.connection).now }
     ensures remembered { IfOk result (λ made. HasKept (state T.Store old.new.connection)
@@ -87,8 +95,14 @@ pub fn carry_over<S: Alter + Drop, T: Alter>(
         → Counts (book_in old.old.zone old.old.default (state T.Store old.old.connection).now)
         (book_in old.old.zone old.old.default (state S.Store made.0.connection).now)
         (state S.Store made.0.connection).now made.1) }
+
+    // How many answers the old one has doesn't depend on the new store.
+    ensures all { IfOk result (λ made. HasKept (state T.Store old.new.connection)
+        → IsSound old.old.zone old.old.default (state T.Store old.old.connection)
+        → made.1.all ≡ length (book_in old.old.zone old.old.default (state T.Store old.old.connection).now).history) }
 {
     let all = old.count_answers()?;
+    progress.begin(all);
     let mut new = SqlLedger::carry_over(alloc, old, into, day)?;
     let kept = count_kept(&mut new, all)?;
     Ok((new, kept))
@@ -103,72 +117,178 @@ fn check_day(rt: &impl Clock, zone: &Zone, day: u32) -> Result<(), ProgramFault>
     Ok(())
 }
 
-/// Puts what a ledger remembers into the database of another connection, which comes back. It goes over any store and
-/// has no clause, since a proof over the file's own takes far longer.
-fn fill<S: Alter + Drop, T: Alter + Drop>(
+/// A fault, with its cause where that is the store of this ledger.
+fn with_cause<S: Alter>(ledger: &SqlLedger<S>, fault: ProgramFault) -> ProgramFault {
+    match ledger.cause() {
+        Some(cause) => ProgramFault::Open(OpenFault::Store(cause)),
+        None => fault,
+    }
+}
+
+/// A database that was filled with what a ledger remembers, the ledger, and how much that is.
+#[derive(Drop)]
+struct Filled<S: Alter, T: Alter> {
+    old: SqlLedger<T>,
+    into: Connection<S>,
+    kept: Kept,
+}
+
+/// Puts what a ledger remembers into the database of another connection; both come back. It goes over any store, since a
+/// proof over the file's own takes far longer.
+fn fill<S: Alter + Drop, T: Alter + Drop, P: Progress>(
     alloc: Global,
     old: SqlLedger<T>,
     into: Connection<S>,
     day: u32,
-) -> Result<(Connection<S>, Kept), ProgramFault> {
+    progress: &P,
+) -> Result<Filled<S, T>, ProgramFault>
+    ensures old_lent { IfOk result (λ f. (f.old.zone ≡ old.zone) × (f.old.default ≡ old.default)) }
+    ensures old_kept { IfOk result (λ f. HasKept (state T.Store f.old.connection)
+        → HasKept (state T.Store old.connection)) }
+    ensures old_same { IfOk result (λ f. HasKept (state T.Store f.old.connection)
+        → (state T.Store f.old.connection).now ≡ (state T.Store old.connection).now) }
+    ensures remembered { IfOk result (λ f. HasKept (state T.Store f.old.connection) → HasKept (state S.Store f.into)
+        → IsSound old.zone old.default (state T.Store old.connection) → IsFree (state S.Store into).now
+        → IsRemembered old.zone old.default day (state T.Store old.connection).now (state S.Store f.into)) }
+    ensures counted { IfOk result (λ f. HasKept (state T.Store f.old.connection) → HasKept (state S.Store f.into)
+        → IsSound old.zone old.default (state T.Store old.connection) → IsFree (state S.Store into).now
+        → Counts (book_in old.zone old.default (state T.Store old.connection).now)
+        (book_in old.zone old.default (state S.Store f.into).now) (state S.Store f.into).now f.kept) }
+    ensures all { IfOk result (λ f. HasKept (state T.Store f.old.connection)
+        → IsSound old.zone old.default (state T.Store old.connection)
+        → f.kept.all ≡ length (book_in old.zone old.default (state T.Store old.connection).now).history) }
+{
     let mut old = old;
-    let (new, kept) = carry_over(alloc, &mut old, into, day)?;
-    Ok((new.into_connection(), kept))
+    match carry_over(alloc, &mut old, into, day, progress) {
+        Ok((new, kept)) => Ok(Filled {
+            old,
+            into: new.into_connection(),
+            kept,
+        }),
+        Err(fault) => Err(with_cause(&old, fault)),
+    }
 }
 
-/// Puts what a ledger remembers into an empty file, which is then closed, so that it stands without its log.
+/// Closes a new file, so that it stands without its log.
+fn close_file<G: Log, S: Start>(
+    log: &G,
+    name: &str,
+    filled: Connection<FileStore<FileFrom<S>>>,
+) -> Result<(), ProgramFault> {
+    match filled.close() {
+        Ok(()) => Ok(()),
+        Err(cause) => {
+            error!(log; "{name}: {cause}");
+            Err(ProgramFault::Store)
+        }
+    }
+}
+
+/// A ledger of which a new file was made, and how much that has.
+#[derive(Drop)]
+struct Forgotten<T: Alter> {
+    old: SqlLedger<T>,
+    kept: Kept,
+}
+
+/// Puts what a ledger remembers into an empty file, which is then closed. The ledger comes back as it was.
 fn fill_file<G: Log, T: Alter + Drop>(
     rt: &HostRuntime,
     log: &G,
     old: SqlLedger<T>,
     name: &str,
     day: u32,
-) -> Result<Kept, ProgramFault> {
+) -> Result<Forgotten<T>, ProgramFault>
+    ensures lent { IfOk result (λ f. (f.old.zone ≡ old.zone) × (f.old.default ≡ old.default)) }
+    ensures kept { IfOk result (λ f. HasKept (state T.Store f.old.connection)
+        → HasKept (state T.Store old.connection)) }
+    ensures same { IfOk result (λ f. HasKept (state T.Store f.old.connection)
+        → (state T.Store f.old.connection).now ≡ (state T.Store old.connection).now) }
+    ensures all { IfOk result (λ f. HasKept (state T.Store f.old.connection)
+        → IsSound old.zone old.default (state T.Store old.connection)
+        → f.kept.all ≡ length (book_in old.zone old.default (state T.Store old.connection).now).history) }
+{
     let into = connect_new(rt, log, name)?;
-    let (filled, kept) = fill(rt.alloc(), old, into, day)?;
-    match filled.close() {
-        Ok(()) => Ok(kept),
-        Err(cause) => {
-            error!(log; "{cause}");
-            Err(ProgramFault::Store)
+    let progress = Terminal::new(rt);
+    let Filled { old, into, kept } = fill(rt.alloc(), old, into, day, &progress)?;
+    close_file(log, name, into)?;
+    progress.end(kept.answers, kept.all);
+    Ok(Forgotten { old, kept })
+}
+
+/// Puts what a ledger remembers into a new file, and prints how much that is. The ledger comes back as it was. After a fault
+/// the new file is of no use, which is logged.
+fn forget_into<G: Log, T: Alter + Drop, W: Write>(
+    rt: &HostRuntime,
+    log: &G,
+    path: &str,
+    old: SqlLedger<T>,
+    name: &str,
+    day: u32,
+    output: &mut W,
+) -> Result<SqlLedger<T>, ProgramFault>
+    ensures lent { IfOk result (λ back. (back.zone ≡ old.zone) × (back.default ≡ old.default)) }
+    ensures kept { IfOk result (λ back. HasKept (state T.Store back.connection)
+        → HasKept (state T.Store old.connection)) }
+    ensures same { IfOk result (λ back. HasKept (state T.Store back.connection)
+        → (state T.Store back.connection).now ≡ (state T.Store old.connection).now) }
+    ensures printed { IfOk result (λ _. PrintsKept (W.contents output.old) (W.contents output.new)) }
+    ensures counted { IfOk result (λ back. HasKept (state T.Store back.connection)
+        → IsSound old.zone old.default (state T.Store old.connection)
+        → PrintsKeptOf (length (book_in old.zone old.default (state T.Store old.connection).now).history)
+        (W.contents output.old) (W.contents output.new)) }
+{
+    match fill_file(rt, log, old, name, day) {
+        Ok(Forgotten { old, kept }) => {
+            print_kept(rt.alloc(), kept, output)?;
+            Ok(old)
+        }
+        Err(fault) => {
+            if let ProgramFault::Open(OpenFault::Store(cause)) = &fault {
+                error!(log; "{name}, made of {path}: {cause}");
+            }
+            error!(log; "remove {name} and {name}-wal");
+            Err(fault)
         }
     }
 }
 
-/// Puts what the ledger of the settings remembers into the new file of the words. After a fault that file is of no use.
-fn forget_file<S: Start>(
+/// Prints how many answers and limits are kept.
+fn print_kept<W: Write>(alloc: Global, kept: Kept, output: &mut W) -> Result<(), ProgramFault>
+    ensures { OnOk result (Appends (W.contents output.old) (W.contents output.new)
+        (kept_line kept.answers kept.all kept.limits)) }
+{
+    let line = kept_line(alloc, kept.answers, kept.all, kept.limits)?;
+    print(output, line.as_bytes())
+}
+
+/// Puts what the ledger of the settings remembers into the new file of the words, and prints how much that is. The ledger
+/// comes back as it was.
+fn forget_file<W: Write, S: Start>(
     rt: &HostRuntime,
     settings: &ServerSettings,
     given: ForgetArguments<'_>,
     start: S,
-) -> Result<Kept, ProgramFault>
+    output: &mut W,
+) -> Result<SqlLedger<FileStore<FileFrom<S>>>, ProgramFault>
     requires { AreInRange settings.now }
+    ensures printed { IfOk result (λ _. PrintsKept (W.contents output.old) (W.contents output.new)) }
+
+    // It is the ledger whose rows the files hold, and where these are the rows of a history, so many answers it has.
+    ensures rows { IfOk result (λ ledger. HasKept (file_state ledger.connection)
+        → MeansFile settings.now.zone settings.now.default (image_at S.Start) (file_state ledger.connection)) }
+    ensures counted { IfOk result (λ ledger. HasKept (file_state ledger.connection)
+        → PrintsKeptOfFile (image_at S.Start) (W.contents output.old) (W.contents output.new)) }
 {
-    let path = match &settings.store {
-        Place::Memory => return Err(ProgramFault::MemoryStore),
-        Place::File(path) => path.as_str(),
-    };
+    let path = path_of(settings)?;
     let logged = Logged::new(rt, settings.log, Console(rt));
-    let old = file_ledger(
-        rt,
-        &logged,
-        path,
-        false,
-        settings.zone,
-        settings.default,
-        start,
-    )?;
+    let old = ledger_of_settings(rt, &logged, settings, false, start)?;
     let name = given.into;
     let day = given.before;
     make_new_file(rt, &logged, name)?;
     info!(logged; "{name} takes over what {path} has from day {day} on");
-    match fill_file(rt, &logged, old, name, day) {
-        Ok(kept) => Ok(kept),
-        Err(fault) => {
-            error!(logged; "remove {name} and {name}-wal");
-            Err(fault)
-        }
-    }
+    let old = forget_into(rt, &logged, path, old, name, day, output)?;
+    Ok(old)
 }
 
 /// Makes a new ledger file that has what the ledger of the settings remembers from a day on, and prints how many
@@ -186,8 +306,6 @@ pub fn forget<W: Write, S: Start>(
 {
     let settings = server_settings(rt, given.config)?;
     check_day(rt, &settings.zone, given.before)?;
-    let kept = forget_file(rt, &settings, given, start)?;
-    let line = kept_line(rt.alloc(), kept.answers, kept.all, kept.limits)?;
-    print(output, line.as_bytes())?;
+    let _old = forget_file(rt, &settings, given, start, output)?;
     Ok(0)
 }

@@ -1,17 +1,22 @@
 //! `init`: makes the ledger in the server's file.
-ghost use Rattle.std.specs.Prelude.{◌≡◌, IfOk, string_bytes};
-ghost use Rattle.std.specs.Io.KnownBytes.{Appends};
-ghost use Rattle.mq_program.specs.Making.{PrintsMade, made_line};
+ghost use Rattle.std.specs.Prelude.{◌≡◌, IfErr, IfOk, Some, string_bytes};
+ghost use Rattle.sqlite.specs.Files.{file_state};
+ghost use Rattle.sqlite.specs.WalFiles.{image_at};
+ghost use Rattle.mq_store.specs.Soundness.{HasKept};
+ghost use Rattle.mq_program.specs.Making.{MadeFails, PrintsMade, PrintsMadeIn, made_line};
+ghost use Rattle.mq_program.specs.Opened.{IsMadeIn, path_in};
+ghost use Rattle.mq_program.specs.Refusals.{AreInRange};
 
 use crate::auditing::print;
 use crate::fault::ProgramFault;
 use crate::server::server_settings;
-use crate::store::file_ledger;
+use crate::store::{ledger_of_settings, path_of};
 use log::Logged;
 use log::sink::Console;
 use mq_arguments::InitArguments;
-use mq_settings::Place;
-use sqlite::Start;
+use mq_settings::ServerSettings;
+use mq_store::SqlLedger;
+use sqlite::{FileFrom, FileStore, Start};
 use std::alloc::{AllocError, Global};
 use std::io::Write;
 
@@ -27,27 +32,41 @@ pub fn init<W: Write, S: Start>(
     ensures printed { IfOk result (λ _. PrintsMade (W.contents output.old) (W.contents output.new)) }
 {
     let settings = server_settings(rt, given.config)?;
-    let path = match &settings.store {
-        Place::Memory => return Err(ProgramFault::MemoryStore),
-        Place::File(path) => path.as_str(),
-    };
-    let logged = Logged::new(rt, settings.log, Console(rt));
-    let _ledger = file_ledger(
-        rt,
-        &logged,
-        path,
-        true,
-        settings.zone,
-        settings.default,
-        start,
-    )?;
-    print_made(rt.alloc(), path, output)?;
+    let _ledger = init_file(rt, &settings, start, output)?;
     Ok(0)
 }
 
+/// Makes the ledger in the file of these settings, which comes back, and prints the file's path.
+#[tactic(auto, using(crate::proofs::ListingSteps::nothing_written))]
+fn init_file<W: Write, S: Start>(
+    rt: &HostRuntime,
+    settings: &ServerSettings,
+    start: S,
+    output: &mut W,
+) -> Result<SqlLedger<FileStore<FileFrom<S>>>, ProgramFault>
+    requires { AreInRange settings.now }
+    ensures printed { IfOk result (λ _. PrintsMadeIn (path_in settings.now.store) (W.contents output.old)
+        (W.contents output.new)) }
+    ensures made { IfOk result (λ ledger. HasKept (file_state ledger.connection)
+        → IsMadeIn settings.now.zone settings.now.default (image_at S.Start) (file_state ledger.connection)) }
+
+    // Nothing else is printed: a part of this line where the output fails, and nothing before any other fault.
+    ensures unprinted { IfErr result (λ fault. MadeFails (path_in settings.now.store) (W.contents output.old)
+        (W.contents output.new) fault) }
+{
+    let path = path_of(settings)?;
+    let logged = Logged::new(rt, settings.log, Console(rt));
+    let ledger = ledger_of_settings(rt, &logged, settings, true, start)?;
+    print_made(rt.alloc(), path, output)?;
+    Ok(ledger)
+}
+
 /// Prints the path of a ledger that was made.
+#[tactic(auto, using(crate::proofs::ListingSteps::nothing_written))]
 fn print_made<W: Write>(alloc: Global, path: &str, output: &mut W) -> Result<(), ProgramFault>
-    ensures { IfOk result (λ _. Appends (W.contents output.old) (W.contents output.new) (made_line path.now)) }
+    ensures printed { IfOk result (λ _. PrintsMadeIn (Some path.now) (W.contents output.old) (W.contents output.new)) }
+    ensures unprinted { IfErr result (λ fault. MadeFails (Some path.now) (W.contents output.old)
+        (W.contents output.new) fault) }
 {
     let line = made_line(alloc, path)?;
     print(output, line.as_bytes())

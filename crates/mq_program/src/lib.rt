@@ -22,6 +22,8 @@ mod filter;
 mod forgetting;
 mod init;
 mod listing;
+mod progress;
+mod refusal;
 mod replay;
 mod server;
 mod store;

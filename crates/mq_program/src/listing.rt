@@ -8,20 +8,20 @@ ghost use Rattle.sqlite.specs.Held.{state};
 ghost use Rattle.sqlite.specs.WalFiles.{image_at};
 ghost use Rattle.mq_rows.specs.Pair.{pair_cmp};
 ghost use Rattle.mq_store.specs.Soundness.{HasKept, IsSound, book_in};
-ghost use Rattle.mq_program.specs.Listing.{PrintsLimits, PrintsLimitsOf, PrintsSome, limit_line, limit_lines, limit_text};
+ghost use Rattle.mq_program.specs.Listing.{PrintsFrontOfLimits, PrintsLimits, PrintsLimitsOf, PrintsSome, limit_line, limit_lines, limit_text};
 ghost use Rattle.mq_program.specs.Opened.{MeansFile};
 ghost use Rattle.mq_program.specs.Refusals.{AreInRange};
 
 use crate::auditing::print;
 use crate::fault::ProgramFault;
 use crate::server::server_settings;
-use crate::store::file_ledger;
-use log::Logged;
+use crate::store::{ledger_of_settings, log_cause, path_of};
 use log::sink::Console;
+use log::{Log, Logged};
 use mq_arguments::LimitsArguments;
 use mq_command::login_text;
 use mq_rows::LimitFigures;
-use mq_settings::{Place, ServerSettings};
+use mq_settings::ServerSettings;
 use mq_store::SqlLedger;
 use sqlite::{Alter, FileFrom, FileStore, Start};
 use std::alloc::{AllocError, Global};
@@ -61,28 +61,19 @@ fn limits_file<W: Write, S: Start>(
     ensures listed { IfOk result (λ ledger. HasKept (file_state ledger.connection)
         → PrintsLimits (file_state ledger.connection).now (W.contents output.old) (W.contents output.new)) }
 {
-    let path = match &settings.store {
-        Place::Memory => return Err(ProgramFault::MemoryStore),
-        Place::File(path) => path.as_str(),
-    };
+    let path = path_of(settings)?;
     let logged = Logged::new(rt, settings.log, Console(rt));
-    let ledger = file_ledger(
-        rt,
-        &logged,
-        path,
-        false,
-        settings.zone,
-        settings.default,
-        start,
-    )?;
-    let ledger = list_whole(rt.alloc(), ledger, output)?;
+    let ledger = ledger_of_settings(rt, &logged, settings, false, start)?;
+    let ledger = list_whole(rt.alloc(), &logged, path, ledger, output)?;
     Ok(ledger)
 }
 
 /// Prints the limits of a ledger, which comes back as it was. It goes over any store, since a proof over the file's own
 /// takes far longer.
-fn list_whole<S: Alter + Drop, W: Write>(
+fn list_whole<G: Log, S: Alter + Drop, W: Write>(
     alloc: Global,
+    log: &G,
+    path: &str,
     ledger: SqlLedger<S>,
     output: &mut W,
 ) -> Result<SqlLedger<S>, ProgramFault>
@@ -95,8 +86,13 @@ fn list_whole<S: Alter + Drop, W: Write>(
         → HasKept (state S.Store ledger.connection)) }
 {
     let mut ledger = ledger;
-    list_limits(alloc, &mut ledger, output)?;
-    Ok(ledger)
+    match list_limits(alloc, &mut ledger, output) {
+        Ok(()) => Ok(ledger),
+        Err(fault) => {
+            log_cause(log, path, &ledger);
+            Err(fault)
+        }
+    }
 }
 
 /// Prints a line for each limit of a ledger, by the bytes of the logins, then by the days. They are all limits that its
@@ -117,6 +113,10 @@ pub fn list_limits<S: Alter, W: Write>(
         (state S.Store ledger.old.connection).now).history (W.contents output.old) (W.contents output.new)) }
     ensures unprinted { IfErr result (λ fault. (fault ≡ ProgramFault.Write)
         ⊎ Keeps (W.contents output.old) (W.contents output.new)) }
+    ensures front { HasKept (state S.Store ledger.new.connection)
+        → IfErr result (λ fault. fault ≡ ProgramFault.Write
+        → PrintsFrontOfLimits (state S.Store ledger.old.connection).now (W.contents output.old)
+        (W.contents output.new)) }
     ensures same { HasKept (state S.Store ledger.new.connection)
         → (state S.Store ledger.new.connection).now ≡ (state S.Store ledger.old.connection).now }
     ensures kept { HasKept (state S.Store ledger.new.connection)

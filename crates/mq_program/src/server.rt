@@ -12,24 +12,27 @@ ghost use Rattle.mq_room.specs.Wires.{unknown};
 ghost use Rattle.mq_program.specs.declared.fault.ProgramFault.TheVariants.{Serve};
 ghost use Rattle.mq_program.specs.Refusals.{AreInRange};
 
+use crate::clock::elapsed;
 use crate::fault::{ProgramFault, logged_of};
-use crate::store::{file_ledger, memory_ledger};
+use crate::refusal::days_by;
+use crate::store::{ledger_of_settings, log_cause, memory_ledger};
 use log::sink::Console;
 use log::{Log, Logged, error, info};
 use mq_arguments::ServerArguments;
-use mq_frame::Escaped;
 use mq_ledger::Ledger;
 use mq_room::laws::nothing_is_served;
 use mq_room::serve_connections;
+use mq_rows::VERSION;
 use mq_server::laws::more_deliveries;
 use mq_settings::{Place, ServerSettings, read_file, read_server_settings};
 use mq_store::SqlLedger;
 use mq_watch::{Hear, Watched};
 use sqlite::{Alter, FileFrom, FileStore, Start};
 use std::alloc::Global;
+use std::fmt;
 use std::net::{Net, TcpListener, TcpStream};
 use std::rt::Clock;
-use std::time::Duration;
+use std::time::{Duration, Instant};
 
 /// The server's settings in a file. Why they can't be used is logged.
 pub fn server_settings(rt: &HostRuntime, file: &str) -> Result<ServerSettings, ProgramFault>
@@ -67,13 +70,11 @@ fn serve<S: Start>(
     let logged = Logged::new(rt, settings.log, Console(rt));
     match &settings.store {
         Place::Memory => listen_in_memory(rt, &logged, settings, connections),
-        Place::File(path) => {
-            let path = path.as_str();
+        Place::File(_) => {
             let Served { ledger: _, outcome } = listen_over_file(
                 rt,
                 &logged,
                 settings,
-                path,
                 create,
                 connections,
                 start,
@@ -99,17 +100,18 @@ fn listen_in_memory<G: Log>(
 ) -> Result<u8, ProgramFault>
     requires { AreInRange settings.now }
 {
+    let since = Instant::now(rt).ok();
     let ledger = memory_ledger(rt.alloc(), settings.zone, settings.default)?;
-    let Served { ledger: _, outcome } = listen_over(rt, log, settings, ledger, connections);
+    let took = Took(elapsed(rt, since));
+    let Served { ledger: _, outcome } = listen_over(rt, log, settings, ledger, took, connections);
     outcome
 }
 
-/// Serves so many connections over the ledger in the file at a path; with `create` over a new one.
+/// Serves so many connections over the ledger in the file of the settings; with `create` over a new one.
 fn listen_over_file<G: Log, S: Start>(
     rt: &HostRuntime,
     log: &G,
     settings: &ServerSettings,
-    path: &str,
     create: bool,
     connections: u32,
     start: S,
@@ -125,16 +127,10 @@ fn listen_over_file<G: Log, S: Start>(
         → GrowsFromNothing settings.now.zone settings.now.default (image_at S.Start)
         (file_state served.ledger.connection)) }
 {
-    let ledger = file_ledger(
-        rt,
-        log,
-        path,
-        create,
-        settings.zone,
-        settings.default,
-        start,
-    )?;
-    Ok(listen_over(rt, log, settings, ledger, connections))
+    let since = Instant::now(rt).ok();
+    let ledger = ledger_of_settings(rt, log, settings, create, start)?;
+    let took = Took(elapsed(rt, since));
+    Ok(listen_over(rt, log, settings, ledger, took, connections))
 }
 
 /// Serves so many connections over a ledger. It goes over any store, since a proof over the file's own takes far longer.
@@ -143,6 +139,7 @@ fn listen_over<G: Log, S: Alter + Drop>(
     log: &G,
     settings: &ServerSettings,
     ledger: SqlLedger<S>,
+    took: Took,
     connections: u32,
 ) -> Served<S>
     ensures same { (result.ledger.zone ≡ ledger.zone) × (result.ledger.default ≡ ledger.default) }
@@ -157,12 +154,15 @@ fn listen_over<G: Log, S: Alter + Drop>(
 {
     more_deliveries();
     let mut ledger = ledger;
-    match log_ledger(log, settings, &mut ledger) {
+    match log_ledger(log, settings, &mut ledger, took) {
         Ok(()) => begin(rt, log, settings, ledger, connections),
-        Err(fault) => Served {
-            ledger,
-            outcome: Err(fault),
-        },
+        Err(fault) => {
+            log_cause(log, place_name(&settings.store), &ledger);
+            Served {
+                ledger,
+                outcome: Err(fault),
+            }
+        }
     }
 }
 
@@ -186,17 +186,38 @@ fn begin<G: Log, S: Alter + Drop>(
 {
     let mut watched = Watched::new(rt, log, rt.alloc(), ledger);
     let outcome = listen(rt, log, rt.alloc(), settings, &mut watched, connections);
-    Served {
-        ledger: watched.into_inner(),
-        outcome,
+    let ledger = watched.into_inner();
+    log_cause(log, place_name(&settings.store), &ledger);
+    Served { ledger, outcome }
+}
+
+/// How long something took, where the clock could be read.
+#[derive(Clone, Copy)]
+struct Took(Option<Duration>);
+
+impl fmt::Display for Took {
+    fn fmt<W: fmt::Write>(&self, f: &mut fmt::Formatter<W>) -> fmt::Result {
+        match self.0 {
+            Some(time) => write!(f, "{} ms", time.as_millis()),
+            None => f.write_str("an unknown time"),
+        }
     }
 }
 
-/// Logs what a ledger holds as a server begins with it.
+/// Where a ledger is kept, as the settings name it.
+fn place_name(place: &Place) -> &str {
+    match place {
+        Place::Memory => "memory",
+        Place::File(path) => path.as_str(),
+    }
+}
+
+/// Logs what a ledger holds as a server begins with it, and how long it took to open it.
 fn log_ledger<G: Log, S: Alter>(
     log: &G,
     settings: &ServerSettings,
     ledger: &mut SqlLedger<S>,
+    took: Took,
 ) -> Result<(), ProgramFault>
     ensures lent { (ledger.new.zone ≡ ledger.old.zone) × (ledger.new.default ≡ ledger.old.default) }
     ensures kept { HasKept (state S.Store ledger.new.connection) → HasKept (state S.Store ledger.old.connection) }
@@ -207,17 +228,15 @@ fn log_ledger<G: Log, S: Alter>(
         → (state S.Store ledger.new.connection).now ≡ (state S.Store ledger.old.connection).now }
 {
     let answers = ledger.count_answers()?;
+    let limits = ledger.limits()?.len();
+    let days = ledger.found().days;
+    let name = place_name(&settings.store);
     let default = settings.default;
-    match settings.zone.rule() {
-        Some(rule) => {
-            let rule = Escaped(rule);
-            info!(log; "ledger with {answers} answers, default {default}, rule {rule}");
-        }
-        None => {
-            let minutes = settings.zone.minutes();
-            info!(log; "ledger with {answers} answers, default {default}, offset {minutes}");
-        }
-    }
+    let terms = days_by(&settings.zone);
+    info!(
+        log;
+        "ledger {name}: version {VERSION}, default {default}, {terms}, answers={answers} days={days} limits={limits}, opened in {took}"
+    );
     Ok(())
 }
 

@@ -1,5 +1,5 @@
 //! The store of the server's ledger: opened, or made.
-ghost use Rattle.std.specs.Prelude.{◌≡◌, ◌⊎◌, [], false, true, IsTrue, IfOk, IfErr};
+ghost use Rattle.std.specs.Prelude.{◌≡◌, ◌⊎◌, [], false, true, IsTrue, IfOk, IfErr, IsSome, MatchResult, None, Some};
 ghost use Rattle.sqlite.specs.Files.{file_state, IsOpened};
 ghost use Rattle.sqlite.specs.FileStore.{view};
 ghost use Rattle.sqlite.specs.Held.{state, IsNew as IsUnused};
@@ -9,13 +9,18 @@ ghost use Rattle.sqlite.specs.Steps.{over_memory};
 ghost use Rattle.sqlite.specs.WalFiles.{image_at};
 ghost use Rattle.mq_frame.specs.Range.{IsAmount};
 ghost use Rattle.mq_tables.specs.Making.{AreUnnamed, HasCounters, IsMadeOver};
+ghost use Rattle.mq_rows.specs.declared.audited.Audit.TheVariants.{Sound};
+ghost use Rattle.mq_store.specs.Auditing.{IsAuditIn};
 ghost use Rattle.mq_store.specs.Opening.{IsFound, Opens, made_with};
 ghost use Rattle.mq_store.specs.Soundness.{HasKept, IsNew, IsOpened as IsFoundSound, MeansBook};
-ghost use Rattle.mq_program.specs.Opened.{IsMadeIn, MeansFile};
+ghost use Rattle.mq_program.specs.Opened.{AreCountsIn, IsMadeIn, MeansFile, path_in};
+ghost use Rattle.mq_program.specs.Refusals.{AreInRange};
 
 use crate::fault::ProgramFault;
+use crate::refusal::refused_by;
 use log::{Log, error};
 use mq_ledger::Zone;
+use mq_settings::{Place, ServerSettings};
 use mq_store::SqlLedger;
 use mq_tables::laws::{empty_databases_have_no_table, trees_have_one_schema};
 use sqlite::{Alter, Connection, Error, ErrorCode, FileFrom, FileStore, MemStore, Start, Unknown};
@@ -140,63 +145,103 @@ pub fn connect_new<G: Log>(
     connect(rt, log, path, false, Unknown)
 }
 
-/// The ledger in a database; with `create` a new one. `default` is 0 to 1,000,000.
-fn ledger_over<S: Alter + Drop>(
+/// The path of the file in which settings keep the ledger.
+pub fn path_of(settings: &ServerSettings) -> Result<&str, ProgramFault>
+    ensures { MatchResult result (λ path. path_in settings.now.store ≡ Some path.now)
+        (λ fault. (fault ≡ ProgramFault.MemoryStore) × (path_in settings.now.store ≡ None)) }
+{
+    match &settings.store {
+        Place::Memory => Err(ProgramFault::MemoryStore),
+        Place::File(path) => Ok(path.as_str()),
+    }
+}
+
+/// The ledger in the database of a file at a path; with `create` a new one. Why a database is refused is logged.
+fn ledger_over<G: Log, S: Alter + Drop>(
     alloc: Global,
+    log: &G,
+    path: &str,
     connection: Connection<S>,
     create: bool,
-    zone: Zone,
-    default: u32,
+    settings: &ServerSettings,
 ) -> Result<SqlLedger<S>, ProgramFault>
-    requires { IsAmount default }
-    ensures lent { IfOk result (λ ledger. (ledger.zone ≡ zone) × (ledger.default ≡ default)) }
+    requires { AreInRange settings.now }
+    ensures lent { IfOk result (λ ledger. (ledger.zone ≡ settings.now.zone)
+        × (ledger.default ≡ settings.now.default)) }
     ensures made { IsTrue create → IfOk result (λ ledger. HasCleanDisk (state S.Store ledger.connection)
-        → IsMadeOver (made_with zone default) (state S.Store connection).now (state S.Store ledger.connection).now) }
+        → IsMadeOver (made_with settings.now.zone settings.now.default) (state S.Store connection).now
+        (state S.Store ledger.connection).now) }
     ensures new { IsTrue create → IfOk result (λ ledger. HasCleanDisk (state S.Store ledger.connection)
         → HasCounters (state S.Store connection) → AreUnnamed (state S.Store connection).now.schema
-        → IsNew zone default (state S.Store ledger.connection)) }
+        → IsNew settings.now.zone settings.now.default (state S.Store ledger.connection)) }
     ensures opened { create ≡ false → IfOk result (λ ledger. HasCleanDisk (state S.Store ledger.connection)
-        → Opens (IsFound S.Store zone default connection ledger.connection)
+        → Opens (IsFound S.Store settings.now.zone settings.now.default connection ledger.connection)
         (state S.Store connection) (state S.Store ledger.connection)) }
     ensures rows { create ≡ false → IfOk result (λ ledger. HasKept (state S.Store ledger.connection)
-        → MeansBook zone default (state S.Store connection).now (state S.Store ledger.connection)) }
+        → MeansBook settings.now.zone settings.now.default (state S.Store connection).now
+        (state S.Store ledger.connection)) }
     ensures sound { create ≡ false → IfOk result (λ ledger. HasKept (state S.Store ledger.connection)
-        → IsFoundSound zone default (state S.Store connection) (state S.Store ledger.connection)) }
+        → IsFoundSound settings.now.zone settings.now.default (state S.Store connection)
+        (state S.Store ledger.connection)) }
+    ensures counts { create ≡ false → IfOk result (λ ledger. HasCleanDisk (state S.Store ledger.connection)
+        → IsAuditIn settings.now.zone settings.now.default (state S.Store connection).now
+        (Sound ledger.found.days ledger.found.transactions)) }
 
     // Kept at the end, it was kept at the entry.
     ensures kept { IfOk result (λ ledger. HasKept (state S.Store ledger.connection)
         → HasKept (state S.Store connection)) }
 {
     if create {
-        return Ok(SqlLedger::create(alloc, connection, zone, default)?);
+        return match SqlLedger::create(alloc, connection, settings.zone, settings.default) {
+            Ok(ledger) => Ok(ledger),
+            Err(refused) => Err(refused_by(log, path, true, settings, refused)),
+        };
     }
-    Ok(SqlLedger::open(alloc, connection, zone, default)?)
+    match SqlLedger::open(alloc, connection, settings.zone, settings.default) {
+        Ok(ledger) => Ok(ledger),
+        Err(refused) => Err(refused_by(log, path, false, settings, refused)),
+    }
 }
 
-/// The ledger in the database file at a path; with `create` a new one. `default` is 0 to 1,000,000.
+/// The ledger in the file of these settings; with `create` a new one. Why it can't be had is logged.
 ///
 /// `start` stands for what the two files, the database and its log, hold before the call.
-pub fn file_ledger<G: Log, S: Start>(
+pub fn ledger_of_settings<G: Log, S: Start>(
     rt: &HostRuntime,
     log: &G,
-    path: &str,
+    settings: &ServerSettings,
     create: bool,
-    zone: Zone,
-    default: u32,
     start: S,
 ) -> Result<SqlLedger<FileStore<FileFrom<S>>>, ProgramFault>
-    requires { IsAmount default }
-    ensures lent { IfOk result (λ ledger. (ledger.zone ≡ zone) × (ledger.default ≡ default)) }
+    requires { AreInRange settings.now }
+    ensures lent { IfOk result (λ ledger. (ledger.zone ≡ settings.now.zone)
+        × (ledger.default ≡ settings.now.default)) }
 
     // The ledger that is opened is the one whose rows the files hold.
     ensures rows { create ≡ false → IfOk result (λ ledger. HasKept (file_state ledger.connection)
-        → MeansFile zone default (image_at S.Start) (file_state ledger.connection)) }
+        → MeansFile settings.now.zone settings.now.default (image_at S.Start) (file_state ledger.connection)) }
     ensures made { IsTrue create → IfOk result (λ ledger. HasKept (file_state ledger.connection)
-        → IsMadeIn zone default (image_at S.Start) (file_state ledger.connection)) }
+        → IsMadeIn settings.now.zone settings.now.default (image_at S.Start) (file_state ledger.connection)) }
+
+    // What it was found to hold as it was opened is what an audit of the files' rows finds.
+    ensures counts { create ≡ false → IfOk result (λ ledger. HasKept (file_state ledger.connection)
+        → AreCountsIn settings.now.zone settings.now.default (image_at S.Start) ledger.found.days
+        ledger.found.transactions) }
+
+    // There is none in memory.
+    ensures path { IfOk result (λ _. IsSome (path_in settings.now.store)) }
 {
     trees_have_one_schema();
     empty_databases_have_no_table();
+    let path = path_of(settings)?;
     let connection = connect(rt, log, path, create, start)?;
-    let ledger = ledger_over(rt.alloc(), connection, create, zone, default)?;
+    let ledger = ledger_over(rt.alloc(), log, path, connection, create, settings)?;
     Ok(ledger)
+}
+
+/// Logs why the store of a ledger in the file at a path failed, where its last call did.
+pub fn log_cause<G: Log, S: Alter>(log: &G, path: &str, ledger: &SqlLedger<S>) {
+    if let Some(cause) = ledger.cause() {
+        error!(log; "{path}: {cause}");
+    }
 }

@@ -51,7 +51,7 @@ pub fn limit<R: Clock + Net + Print + Eprint + AllocGlobal, E: Write>(
     requires { IsLimitArguments given }
     ensures { OrderRefuses given.entry.host.now given.entry.login given.entry.server.now (λ fault. result ≡ Err fault) }
 {
-    let address = checked(given.host, given.login, given.server)?;
+    let address = checked(rt, given.host, given.login, given.server)?;
     let run = run_number(rt, given.run)?;
     let request = limit_request(rt.alloc(), given, run)?;
     Ok(ask_limit(rt, address, request, given.run.is_some(), errors))

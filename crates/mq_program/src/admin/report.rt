@@ -43,7 +43,7 @@ pub fn report<R: Clock + Net + Print + Eprint + AllocGlobal, E: Write>(
     if !given.login.is_none_or(|login| names_login(login)) {
         return Err(ProgramFault::Login);
     }
-    let address = address_of(given.server)?;
+    let address = address_of(rt, given.server)?;
     let login = one_login_of(rt.alloc(), given.login)?;
     ask_report(rt, address, given.day, login.as_ref(), errors)
 }

@@ -40,7 +40,7 @@ pub fn retire<R: Clock + Net + Print + Eprint + AllocGlobal, E: Write>(
     if !is_host(given.host.as_bytes()) {
         return Err(ProgramFault::Host);
     }
-    let address = address_of(given.server)?;
+    let address = address_of(rt, given.server)?;
     let run = run_number(rt, given.run)?;
     let request = retire_request(rt.alloc(), given.host, run)?;
     Ok(ask_retire(rt, address, request, errors))

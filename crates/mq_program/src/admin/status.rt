@@ -1,19 +1,26 @@
 //! `status` and `filter --check`: whether the quota server answers.
-ghost use Rattle.std.specs.Prelude.{◌≡◌, Err};
+ghost use Rattle.std.specs.Prelude.{◌≡◌, ℕ, Err, IfOk};
+ghost use Rattle.sqlite.specs.Files.{file_state};
+ghost use Rattle.sqlite.specs.Held.{state};
+ghost use Rattle.sqlite.specs.WalFiles.{image_at};
+ghost use Rattle.mq_store.specs.Soundness.{HasKept, IsSound};
+ghost use Rattle.mq_program.specs.Describing.{Describes, DescribesFile};
+ghost use Rattle.mq_program.specs.Opened.{MeansFile, path_in};
 ghost use Rattle.mq_program.specs.Refusals.{AreInRange, StatusRefuses};
 
 use super::{TIMEOUT, address_of};
 use crate::describing::describe_ledger;
 use crate::fault::{ProgramFault, or_memory};
 use crate::server::server_settings;
-use crate::store::file_ledger;
+use crate::store::{ledger_of_settings, log_cause, path_of};
 use log::sink::Console;
-use log::{LevelFilter, Logged};
+use log::{LevelFilter, Log, Logged};
 use mq_arguments::{ServerArgument, StatusArguments};
 use mq_command::{run_check, run_probe};
-use mq_settings::{Place, ServerSettings};
+use mq_settings::ServerSettings;
+use mq_store::SqlLedger;
 use mq_tcp::{LoggedLink, TcpLink};
-use sqlite::Start;
+use sqlite::{Alter, FileFrom, FileStore, Start};
 use std::io::Write;
 use std::net::{Net, SocketAddr};
 use std::rt::Clock;
@@ -37,7 +44,7 @@ pub fn status<E: Write, S: Start>(
 {
     match given.server {
         ServerArgument::Address(text) => {
-            let address = address_of(text)?;
+            let address = address_of(rt, text)?;
             ask_once(rt, address, TIMEOUT, Question::Status, errors)
         }
         ServerArgument::Config(file) => status_of_settings(rt, file, start, errors),
@@ -56,34 +63,62 @@ fn status_of_settings<E: Write, S: Start>(
     if status == 0 {
         return Ok(0);
     }
-    match &settings.store {
-        Place::Memory => Ok(status),
-        Place::File(path) => describe_file(rt, &settings, path.as_str(), start),
-    }
+    let output = &mut io::writer(rt);
+    let _ledger = describe_file(rt, &settings, start, output)?;
+    Ok(NOT_RUNNING)
 }
 
-/// Prints what the ledger in the file at a path holds, which it opens as a server does.
-fn describe_file<S: Start>(
+/// Prints what the ledger in the file of these settings holds, which it opens as a server does, and which comes back.
+fn describe_file<W: Write, S: Start>(
     rt: &HostRuntime,
     settings: &ServerSettings,
-    path: &str,
     start: S,
-) -> Result<u8, ProgramFault>
+    output: &mut W,
+) -> Result<SqlLedger<FileStore<FileFrom<S>>>, ProgramFault>
     requires { AreInRange settings.now }
+
+    // It is the ledger whose rows the files hold, and where these are the rows of a history, the lines are those of its
+    // ledger.
+    ensures rows { IfOk result (λ ledger. HasKept (file_state ledger.connection)
+        → MeansFile settings.now.zone settings.now.default (image_at S.Start) (file_state ledger.connection)) }
+    ensures described { IfOk result (λ ledger. HasKept (file_state ledger.connection)
+        → DescribesFile settings.now.zone settings.now.default (image_at S.Start) (path_in settings.now.store)
+        (file_state ledger.connection).now (W.contents output.old) (W.contents output.new)) }
 {
+    let path = path_of(settings)?;
     let logged = Logged::new(rt, settings.log, Console(rt));
-    let mut ledger = file_ledger(
-        rt,
-        &logged,
-        path,
-        false,
-        settings.zone,
-        settings.default,
-        start,
-    )?;
+    let ledger = ledger_of_settings(rt, &logged, settings, false, start)?;
+    let ledger = describe_whole(rt, &logged, ledger, path, output)?;
+    Ok(ledger)
+}
+
+/// Prints what a ledger holds that is in the file at a path, and comes back as it was. It goes over any store, since a
+/// proof over the file's own takes far longer.
+fn describe_whole<G: Log, S: Alter + Drop, W: Write>(
+    rt: &HostRuntime,
+    log: &G,
+    ledger: SqlLedger<S>,
+    path: &str,
+    output: &mut W,
+) -> Result<SqlLedger<S>, ProgramFault>
+    ensures described { IfOk result (λ back. HasKept (state S.Store back.connection)
+        → IsSound ledger.zone ledger.default (state S.Store ledger.connection)
+        → (bytes : ℕ) × Describes path.now bytes ledger.zone ledger.default (state S.Store ledger.connection).now
+        ledger.found (W.contents output.old) (W.contents output.new)) }
+    ensures same { IfOk result (λ back. HasKept (state S.Store back.connection)
+        → (state S.Store back.connection).now ≡ (state S.Store ledger.connection).now) }
+    ensures kept { IfOk result (λ back. HasKept (state S.Store back.connection)
+        → HasKept (state S.Store ledger.connection)) }
+{
+    let mut ledger = ledger;
     let bytes = bytes_of(rt, path)?;
-    describe_ledger(rt.alloc(), &mut ledger, path, bytes, &mut io::writer(rt))?;
-    Ok(NOT_RUNNING)
+    match describe_ledger(rt.alloc(), &mut ledger, path, bytes, output) {
+        Ok(()) => Ok(ledger),
+        Err(fault) => {
+            log_cause(log, path, &ledger);
+            Err(fault)
+        }
+    }
 }
 
 /// How many bytes the file at a path has.

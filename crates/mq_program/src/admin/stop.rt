@@ -47,7 +47,7 @@ pub fn stop<R: Clock + Net + Print + Eprint + AllocGlobal, E: Write>(
     requires { IsWithin 0 376199 given.day }
     ensures { OrderRefuses given.entry.host.now given.entry.login given.entry.server.now (λ fault. result ≡ Err fault) }
 {
-    let address = checked(given.host, given.login, given.server)?;
+    let address = checked(rt, given.host, given.login, given.server)?;
     let run = run_number(rt, None)?;
     let setter = setter_of(rt.alloc(), given.host, run, given.login)?;
     Ok(ask_stop(rt, address, &setter, given.day, errors))
@@ -85,7 +85,7 @@ pub fn resume<R: Clock + Net + Print + Eprint + AllocGlobal, E: Write>(
     requires { IsResumeArguments given }
     ensures { OrderRefuses given.entry.host.now given.entry.login given.entry.server.now (λ fault. result ≡ Err fault) }
 {
-    let address = checked(given.host, given.login, given.server)?;
+    let address = checked(rt, given.host, given.login, given.server)?;
     let run = run_number(rt, None)?;
     let setter = setter_of(rt.alloc(), given.host, run, given.login)?;
     Ok(ask_resume(rt, address, &setter, given.day, given.cap, errors))

@@ -1,0 +1,13 @@
+use Rattle.std.proofs.Common.{ℕ, subst}
+use Rattle.std.specs.Io.KnownBytes.{Appends}
+use Rattle.mq_program.specs.Forgetting.{kept_line}
+use Rattle.mq_program.proofs.forgetting.forget_into.Goals as goal
+
+pub returns-in_ok-print_kept-in-Ok-clause-counted : goal.returns-in_ok-print_kept-in-Ok-clause-counted
+returns-in_ok-print_kept-in-Ok-clause-counted g c kept sound =
+    let k = c.in-Ok.kept in (
+      k.answers,
+      k.limits,
+      subst (λ (n : ℕ). Appends (g.W.Write.contents c.args.output.now) (g.W.Write.contents c.print_kept.new.output) (kept_line k.answers n k.limits))
+          (c.in-Ok.ensures.all kept sound) c.in_ok-print_kept-in-Ok.ensures,
+    )
