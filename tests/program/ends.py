@@ -130,7 +130,7 @@ def fault(text, output=b""):
 
 # What an address lacks.
 NO_PORT, PORT_TOO_LARGE = "no port", "port above 65535"
-NO_NUMERIC_ADDRESS = "no numeric address before the port, which has brackets where it is IPv6"
+NO_NUMERIC_ADDRESS = "no numeric address before the port; an IPv6 address stands in brackets"
 
 
 def bad_address(address, lacks):

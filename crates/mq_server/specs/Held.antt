@@ -4,7 +4,8 @@ use Rattle.mq_server.specs.declared.connection.Served.{Served}
 use Rattle.mq_server.specs.declared.fault.ServeFault.{ServeFault}
 
 -- a connection: the bytes that came and weren't answered yet, how many frames were answered, the replies that weren't
--- taken yet, whether its input has ended, how it ended, where it did, and for how many bytes that come it has room
+-- taken yet, whether its input has ended, how it ended, where it did, and for how many bytes in all, those that wait
+-- included, it has room
 pub record State : Type 0 where
   pub rest : List ℕ
   pub answered : ℕ
@@ -28,7 +29,7 @@ with_room c room = record {
   room = room;
 }
 
--- more bytes came, for which it then has room
+-- more bytes came, and it has so much room then
 abbrev pub received : State → List ℕ → ℕ → State
 received c piece room = record {
   rest = c.rest ++ piece;

@@ -81,8 +81,8 @@ Steps b told closed rest replies Waits rest' replies' history tells = IsQuiet b 
 Steps b told closed rest replies (Ended end) rest' replies' history tells =
     Ends b told closed rest replies end rest' replies' history tells
 
--- Where it ended for memory some growth may have been refused: before the ledger was asked for what the request holds, or
--- for Bad, for which the replies had no room; or for the reply, for which they had none, after it was.
+-- Where it ended for memory: the ledger wasn't asked, and there was none for what the request holds, or the replies had no
+-- room for Bad; or it was asked, and they had no room for its reply.
 abbrev pub LacksMemory : Book → Option (List Told) → ℕ → List ℕ → List ℕ → List ℕ → List Entry → Option (List Told) → Type 0
 LacksMemory b told room rest replies rest' history tells =
     (MayLackMemory (next rest) × (IsBad (next rest) → HasNoRoom room replies Bad) × IsQuiet b told history tells)

@@ -91,7 +91,7 @@ def versions(world, checks):
         (3, ["DROP TABLE retired"]),
     ]:
         other = edited(world, path, f"tables-{version}-{len(statements[0])}", *statements)
-        refuses(world, checks, f"tables of version {version}, {statements[0]}", other, NOT_OURS, f"tables of version {version}, with one that is missing or too much")
+        refuses(world, checks, f"tables of version {version}, {statements[0]}", other, NOT_OURS, f"tables of version {version}, but one is missing or there is one too many")
 
 
 def a_ledger_that_is_there(world, checks):

@@ -11,7 +11,7 @@ pub enum AddressFlaw {
     #[error("port above 65535")]
     PortTooLarge,
     /// What stands before the port is a name, an IPv6 address without brackets, or another text.
-    #[error("no numeric address before the port, which has brackets where it is IPv6")]
+    #[error("no numeric address before the port; an IPv6 address stands in brackets")]
     NoAddress,
 }
 
