@@ -1,5 +1,5 @@
 -- What stops a request over the rows of a legal history.
-use Rattle.std.proofs.Common.{◌≡◌, ℕ, ◌≤◌, ◌<◌, nat_le, List, length, Bool, true, false, ap, sym, subst, refl, arith, inl, inr}
+use Rattle.std.proofs.Common.{◌≡◌, ℕ, ◌≤◌, ◌<◌, nat_le, true≢false, List, length, Bool, true, false, sym, subst, refl, ◌∙◌, arith, inl, inr}
 use Rattle.std.specs.Prelude.{Result, Ok, Err, IfErr, IsErrAnd}
 use Rattle.std.proofs.lemmas.Bool.{cases_Bool}
 use Rattle.std.proofs.lemmas.Bool.Decides.{nat_tests}
@@ -7,31 +7,28 @@ use Rattle.mq_ledger.specs.declared.entry.Entry.{Entry}
 use Rattle.mq_ledger.specs.declared.ledger.LedgerFault.{LedgerFault}
 use Rattle.mq_ledger.specs.declared.ledger.LedgerFault.TheVariants as ledger
 use Rattle.mq_store.specs.declared.fault.Refused.{Refused}
-use Rattle.mq_store.specs.Causes.{refused_at, undecided, cause_in, IsCauseOver}
+use Rattle.mq_store.specs.Causes.{refused_at, cause_in, IsCauseOver}
 
 -- the rows that were read decide the request, so memory ran out
 pub of_rows : (H : List Entry) (fault : LedgerFault) → (fault ≡ ledger.Store → ⊥) → IsCauseOver H (cause_in (refused_at fault))
 of_rows H ledger.Memory decides = tt
-of_rows H ledger.Store decides = decides refl
+of_rows H ledger.Store decides = absurd (decides refl)
 
--- a fault that was handed on
-pub stops_by : {A : Type 0} (fault : LedgerFault) (r : Result A Refused) (P : Refused → Type 0) → IsErrAnd r (λ refused. refused ≡ refused_at fault) → P (refused_at fault) → IfErr r P
-stops_by fault (Ok x) P given so = tt
-stops_by fault (Err e) P given so = subst P (sym given) so
-
--- they decide it unless so many answers are stored as there may be
+-- they decide it unless as many answers are stored as there may be
 at_least : (m n : ℕ) → nat_le m n ≡ true → m ≤ n
 at_least m n h = grind (arith, nat_tests)
 
 below : (m n : ℕ) → nat_le m n ≡ false → n < m
 below m n h = grind (arith, nat_tests)
 
-of_stored : (H : List Entry) (fault : LedgerFault) → (fault ≡ ledger.Store → length H < 4611686018427387904 → ⊥) → IsCauseOver H (cause_in (undecided (length H) fault))
+pub of_stored : (H : List Entry) (fault : LedgerFault) → (fault ≡ ledger.Store → length H < 4611686018427387904 → ⊥) → IsCauseOver H (cause_in (refused_at fault))
 of_stored H ledger.Memory decides = tt
 of_stored H ledger.Store decides = elim (cases_Bool (nat_le 4611686018427387904 (length H))) [
-  | inl full ↦ rw full (at_least 4611686018427387904 (length H) full)
+  | inl full ↦ at_least 4611686018427387904 (length H) full
   | inr few ↦ absurd (decides refl (below 4611686018427387904 (length H) few))
 ]
 
-pub by_stored : (H : List Entry) (stored : ℕ) (fault : LedgerFault) (r : Refused) → r ≡ undecided stored fault → stored ≡ length H → (fault ≡ ledger.Store → length H < 4611686018427387904 → ⊥) → IsCauseOver H (cause_in r)
-by_stored H stored fault r is count decides = subst (λ x. IsCauseOver H (cause_in x)) (sym is) (subst (λ n. IsCauseOver H (cause_in (undecided n fault))) (sym count) (of_stored H fault decides))
+-- a fault that was handed on
+pub stops_by : {A : Type 0} (fault : LedgerFault) (r : Result A Refused) (P : Refused → Type 0) → IsErrAnd r (λ refused. refused ≡ refused_at fault) → P (refused_at fault) → IfErr r P
+stops_by fault (Ok x) P given so = tt
+stops_by fault (Err e) P given so = subst P (sym given) so

@@ -1,5 +1,5 @@
 -- Why a ledger's store failed.
-use Rattle.std.specs.Prelude.{◌≡◌, ℕ, ◌≤◌, nat_le, List, length, Bool, true, false, if◌then◌else◌, Option, Some, None, ⊤}
+use Rattle.std.specs.Prelude.{◌≡◌, ℕ, ◌≤◌, List, length, false, Option, Some, None, ⊤}
 use Rattle.sqlite.specs.Effect.{Database}
 use Rattle.sqlite.specs.declared.error.ErrorCode.TheVariants.{OutOfMemory}
 use Rattle.sqlite.specs.declared.error.Error.{Error}
@@ -26,11 +26,6 @@ abbrev pub refused_at : LedgerFault → Refused
 refused_at ledger.Memory = Memory
 refused_at ledger.Store = Store cause.Content
 
--- where nothing is decided and so many answers are stored
-abbrev pub undecided : ℕ → LedgerFault → Refused
-undecided stored ledger.Memory = Memory
-undecided stored ledger.Store = if nat_le 4611686018427387904 stored then Store cause.Full else Store cause.Content
-
 -- what the ledger answers
 abbrev pub answer_to : Refused → LedgerFault
 answer_to Memory = ledger.Memory
@@ -41,12 +36,11 @@ abbrev pub cause_in : Refused → Option StoreCause
 cause_in Memory = None
 cause_in (Store c) = Some c
 
--- Over the rows of this history the store refused a statement, or so many answers are stored as there may be.
+-- Over the rows of this history the store refused a statement, or as many answers are stored as there may be.
 abbrev pub IsCauseOver : List Entry → Option StoreCause → Type 0
 IsCauseOver H None = ⊤
 IsCauseOver H (Some (cause.Refused e)) = ⊤
-IsCauseOver H (Some cause.Content) = ⊥
-IsCauseOver H (Some cause.Full) = 4611686018427387904 ≤ length H
+IsCauseOver H (Some cause.Content) = 4611686018427387904 ≤ length H
 
 -- so it is, whatever the history is of which the tables are the rows
 abbrev pub StopsOver : Zone → ℕ → Database → Refused → Type 0

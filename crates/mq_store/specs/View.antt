@@ -1,7 +1,6 @@
 -- What a ledger in a store shows.
-use Rattle.std.specs.Prelude.{◌≡◌, ◌⊎◌, ℕ, Bool, true, false, Option, None, refl}
-use Rattle.std.specs.Coded.{Coded, code_by, coded×, coded⊎, coded_ℕ, coded_bool, coded_option}
-use mathlib.Core.Logic.{inl, inr}
+use Rattle.std.specs.Prelude.{◌≡◌, ℕ, false, Option, Some, None, refl}
+use Rattle.std.specs.Coded.{Coded, code_by, coded×, coded_ℕ, coded_option}
 use Rattle.mq_ledger.specs.DaysCode.{days_code}
 use Rattle.sqlite.specs.Held.{Held, held_code}
 use Rattle.sqlite.specs.declared.error.Error.{Error}
@@ -10,7 +9,7 @@ use Rattle.mq_frame.specs.Range.{IsAmount}
 use Rattle.mq_ledger.specs.declared.zone.Zone.{Zone}
 use Rattle.mq_store.specs.declared.auditing.RowCounts.{RowCounts}
 use Rattle.mq_store.specs.declared.fault.StoreCause.{StoreCause}
-use Rattle.mq_store.specs.declared.fault.StoreCause.TheVariants.{Refused, Content, Full}
+use Rattle.mq_store.specs.declared.fault.StoreCause.TheVariants.{Refused, Content}
 
 pub record LedgerView (S : Type 0) : Type 0 where
   pub connection : Held S
@@ -21,24 +20,21 @@ pub record LedgerView (S : Type 0) : Type 0 where
   -- why the last call answered that the store failed, if it did
   pub cause : Option StoreCause
 
--- a cause is stored as its error, or as which of the others it is
-abbrev pub split : StoreCause → Error ⊎ Bool
-split (Refused e) = inl e
-split Content = inr true
-split Full = inr false
+-- a cause is stored as its error, or as none
+abbrev pub split : StoreCause → Option Error
+split (Refused e) = Some e
+split Content = None
 
-abbrev pub join : Error ⊎ Bool → StoreCause
-join (inl e) = Refused e
-join (inr true) = Content
-join (inr false) = Full
+abbrev pub join : Option Error → StoreCause
+join (Some e) = Refused e
+join None = Content
 
 pub joined : (c : StoreCause) → join (split c) ≡ c
 joined (Refused e) = refl
 joined Content = refl
-joined Full = refl
 
 abbrev pub cause_code : Coded StoreCause
-cause_code = code_by (Error ⊎ Bool) (coded⊎ error.the_row.coded coded_bool) split join joined
+cause_code = code_by (Option Error) (coded_option error.the_row.coded) split join joined
 
 abbrev pub counts_code : Coded RowCounts
 counts_code =

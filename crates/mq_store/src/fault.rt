@@ -23,12 +23,9 @@ pub enum StoreCause {
     /// The store's library refused a statement. The text is its own, as `database or disk is full`.
     #[error("{0}")]
     Refused(Error),
-    /// What was read is no row that a ledger writes.
-    #[error("a row is none of a ledger's")]
+    /// The rows that were read are none of a ledger's; or a number is new where 4,611,686,018,427,387,904 answers are stored.
+    #[error("rows are none of a ledger's")]
     Content,
-    /// A number is new, and 4,611,686,018,427,387,904 answers are stored.
-    #[error("ledger is full")]
-    Full,
 }
 
 /// Why a store isn't opened, or isn't made a ledger's. Of the first four, which speak of what it holds,

@@ -449,8 +449,8 @@ impl<S: Alter> Ledger for SqlLedger<S> {
             → IsSound self.old.zone self.old.default (state S.Store self.old.connection)
             → IsSound self.new.zone self.new.default (state S.Store self.new.connection) }
 
-        // Why the store failed is noted exactly where it did. Over a sound ledger it is what the store's library refused, or
-        // as many answers as there may be: the rows that a ledger writes decide each request.
+        // Why the store failed is noted exactly where it did. Over a sound ledger it is what the store's library refused: its
+        // rows decide each request, while there are fewer answers than there may be.
         ensures noted { (result ≡ Err LedgerFault.Store) ↔ IsTrue (is_some self.new.cause) }
         ensures cause { HasCleanDisk (state S.Store self.new.connection)
             → IsSound self.old.zone self.old.default (state S.Store self.old.connection)

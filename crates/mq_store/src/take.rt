@@ -8,17 +8,17 @@ ghost use Rattle.mq_ledger.specs.declared.entry.Entry.{Entry as AnyEntry};
 ghost use Rattle.mq_ledger.specs.Arrivals.{id_of, is_below};
 ghost use Rattle.mq_ledger.specs.History.{requests};
 ghost use Rattle.mq_rows.specs.Storable.{IsStorablePlan};
-ghost use Rattle.mq_store.specs.Causes.{undecided, StopsOver, StopsNew};
+ghost use Rattle.mq_store.specs.Causes.{StopsOver, StopsNew};
 ghost use Rattle.mq_store.specs.Taking.{HasBook, book_of, Stays, IsKnown, IsPlanned, AppliesNew, IsTaken, reply_in};
 
-use crate::fault::{Refused, StoreCause};
+use crate::fault::Refused;
 use crate::laws::{
     arrivals_are_applied, floors_are_known, new_numbers_are_planned, numbers_are_known,
 };
 use crate::listing::{reply_to_list, reply_to_usage};
 use crate::write::write_plan;
 use mq_frame::{Id, Reply, Request};
-use mq_ledger::{LedgerFault, Zone};
+use mq_ledger::Zone;
 use mq_rows::{Plan, decide, stored_reply};
 use mq_tables::answer::find_answer;
 use mq_tables::find::find;
@@ -26,9 +26,6 @@ use mq_tables::floor::find_floor;
 use mq_tables::setting::read_arrivals;
 use sqlite::{Alter, Error, Transaction};
 use std::alloc::Global;
-
-/// With so many answers a ledger takes no new number.
-const MOST_ANSWERS: u64 = 4_611_686_018_427_387_904;
 
 /// How a request was taken.
 pub(crate) enum Taken {
@@ -96,17 +93,6 @@ fn known_reply<S: Alter>(
     }
 }
 
-/// Why nothing is decided where so many answers are stored: there may be no more of them, or else for the rows.
-fn undecided(stored: u64, fault: LedgerFault) -> Refused
-    ensures { result ≡ undecided stored fault }
-{
-    match fault {
-        LedgerFault::Memory => Refused::Memory,
-        LedgerFault::Store if MOST_ANSWERS <= stored => Refused::Store(StoreCause::Full),
-        LedgerFault::Store => Refused::Store(StoreCause::Content),
-    }
-}
-
 /// What a request whose number is new comes to.
 #[tactic(auto, using(crate::proofs::Chain::calls))]
 fn plan<S: Alter>(
@@ -135,10 +121,7 @@ fn plan<S: Alter>(
     new_numbers_are_planned();
     let arrivals = read_arrivals(tx)?;
     let found = find(tx, zone, request)?;
-    match decide(alloc, zone, default, arrivals, id, request, found) {
-        Ok(plan) => Ok(plan),
-        Err(fault) => Err(undecided(arrivals, fault)),
-    }
+    Ok(decide(alloc, zone, default, arrivals, id, request, found)?)
 }
 
 /// The reply to a request whose number is new, which is written with it.

@@ -3,18 +3,19 @@ use Rattle.sqlite.specs.Held.{state}
 use Rattle.sqlite.specs.State.{HasCleanDisk}
 use Rattle.mq_rows.specs.declared.record.SettingRecord.{SettingRecord}
 use Rattle.mq_tables.specs.Ledger.{HasLedger}
-use Rattle.mq_store.proofs.Causes.{by_stored}
+use Rattle.mq_store.specs.Causes.{StopsNew}
+use Rattle.mq_store.proofs.Causes.{of_stored, stops_by}
 use Rattle.mq_store.proofs.Chain.{survives_both, keeps_both}
 use Rattle.mq_store.proofs.take.plan.Goals as goal
 
-pub returns-in-Ok-clause-planned : goal.returns-in-Ok-clause-planned
-returns-in-Ok-clause-planned g c clean = λ H b none.
+pub returns-clause-planned : goal.returns-clause-planned
+returns-clause-planned g c clean = λ H b none.
     let mid : HasCleanDisk (state g.S.Store c.read_arrivals.new.tx.conn.now) = omega (arith, c.find.ensures.survives.clean) in
     let same = c.in_ok-arrivals.ensures.same mid in
     let holds = subst (λ db. HasLedger db b.has.tables) (sym same.0.now_is) b.has.holds in
     let law = c.new_numbers_are_planned.ensures.planned c.args.zone c.args.default H c.args.request.now c.args.id.now b.has.tables c.in_ok-found.found b.legal b.has.rows c.requires.in_range c.requires.number none (λ keyed. c.in_ok-found.ensures.found clean b.has.tables (holds, b.has.current) keyed) in
     let counted = c.in_ok-arrivals.ensures.found mid b.has.tables b.has.holds in
-    rw (c.in-Ok.ensures.plan, counted) law
+    rw (c.in_ok-decide.ensures.plan, counted) law
 
 pub returns-in_err-found-clause-survives : goal.returns-in_err-found-clause-survives
 returns-in_err-found-clause-survives g c = survives_both (state g.S.Store c.args.tx.now.conn.now) (state g.S.Store c.read_arrivals.new.tx.conn.now) (state g.S.Store c.find.new.tx.conn.now) c.read_arrivals.ensures.survives c.find.ensures.survives
@@ -22,24 +23,25 @@ returns-in_err-found-clause-survives g c = survives_both (state g.S.Store c.args
 pub returns-in_err-found-clause-kept : goal.returns-in_err-found-clause-kept
 returns-in_err-found-clause-kept g c = keeps_both (state g.S.Store c.args.tx.now.conn.now) (state g.S.Store c.read_arrivals.new.tx.conn.now) (state g.S.Store c.find.new.tx.conn.now) c.find.ensures.survives c.read_arrivals.ensures.kept c.find.ensures.kept
 
-pub returns-in-Err-clause-survives : goal.returns-in-Err-clause-survives
-returns-in-Err-clause-survives g c = survives_both (state g.S.Store c.args.tx.now.conn.now) (state g.S.Store c.read_arrivals.new.tx.conn.now) (state g.S.Store c.find.new.tx.conn.now) c.read_arrivals.ensures.survives c.find.ensures.survives
+pub returns-in_err-decide-clause-survives : goal.returns-in_err-decide-clause-survives
+returns-in_err-decide-clause-survives g c = survives_both (state g.S.Store c.args.tx.now.conn.now) (state g.S.Store c.read_arrivals.new.tx.conn.now) (state g.S.Store c.find.new.tx.conn.now) c.read_arrivals.ensures.survives c.find.ensures.survives
 
-pub returns-in-Err-clause-kept : goal.returns-in-Err-clause-kept
-returns-in-Err-clause-kept g c = keeps_both (state g.S.Store c.args.tx.now.conn.now) (state g.S.Store c.read_arrivals.new.tx.conn.now) (state g.S.Store c.find.new.tx.conn.now) c.find.ensures.survives c.read_arrivals.ensures.kept c.find.ensures.kept
+pub returns-in_err-decide-clause-kept : goal.returns-in_err-decide-clause-kept
+returns-in_err-decide-clause-kept g c = keeps_both (state g.S.Store c.args.tx.now.conn.now) (state g.S.Store c.read_arrivals.new.tx.conn.now) (state g.S.Store c.find.new.tx.conn.now) c.find.ensures.survives c.read_arrivals.ensures.kept c.find.ensures.kept
 
-pub returns-in-Ok-clause-survives : goal.returns-in-Ok-clause-survives
-returns-in-Ok-clause-survives g c = survives_both (state g.S.Store c.args.tx.now.conn.now) (state g.S.Store c.read_arrivals.new.tx.conn.now) (state g.S.Store c.find.new.tx.conn.now) c.read_arrivals.ensures.survives c.find.ensures.survives
+pub returns-clause-survives : goal.returns-clause-survives
+returns-clause-survives g c = survives_both (state g.S.Store c.args.tx.now.conn.now) (state g.S.Store c.read_arrivals.new.tx.conn.now) (state g.S.Store c.find.new.tx.conn.now) c.read_arrivals.ensures.survives c.find.ensures.survives
 
-pub returns-in-Ok-clause-kept : goal.returns-in-Ok-clause-kept
-returns-in-Ok-clause-kept g c = keeps_both (state g.S.Store c.args.tx.now.conn.now) (state g.S.Store c.read_arrivals.new.tx.conn.now) (state g.S.Store c.find.new.tx.conn.now) c.find.ensures.survives c.read_arrivals.ensures.kept c.find.ensures.kept
+pub returns-clause-kept : goal.returns-clause-kept
+returns-clause-kept g c = keeps_both (state g.S.Store c.args.tx.now.conn.now) (state g.S.Store c.read_arrivals.new.tx.conn.now) (state g.S.Store c.find.new.tx.conn.now) c.find.ensures.survives c.read_arrivals.ensures.kept c.find.ensures.kept
 
-pub returns-in-Err-clause-cause : goal.returns-in-Err-clause-cause
-returns-in-Err-clause-cause g c clean = λ H b new.
+pub returns-in_err-decide-clause-cause : goal.returns-in_err-decide-clause-cause
+returns-in_err-decide-clause-cause g c clean =
+    stops_by c.in_err-decide.field-0.0 c.from_residual-in_err-decide.result (StopsNew c.args.zone c.args.default c.args.id.now (state g.S.Store c.args.tx.now.conn.now).now) c.from_residual-in_err-decide.ensures.1 (λ H b new.
     let mid : HasCleanDisk (state g.S.Store c.read_arrivals.new.tx.conn.now) = omega (arith, c.find.ensures.survives.clean) in
     let same = c.in_ok-arrivals.ensures.same mid in
     let holds = subst (λ db. HasLedger db b.has.tables) (sym same.0.now_is) b.has.holds in
     let count : c.in_ok-arrivals.arrivals ≡ length H = c.in_ok-arrivals.ensures.found mid b.has.tables b.has.holds ∙ ap (λ (s : SettingRecord). s.arrivals) b.has.rows.setting.row in
-    by_stored H c.in_ok-arrivals.arrivals c.in-Err.fault c.undecided.result c.undecided.ensures count (λ store few.
+    of_stored H c.in_err-decide.field-0.0 (λ store few.
     let fits = c.new_numbers_are_planned.ensures.found c.args.zone c.args.default H c.args.request.now c.args.id.now b.has.tables c.in_ok-found.found b.legal b.has.rows c.requires.in_range c.requires.number new (λ keyed. c.in_ok-found.ensures.found clean b.has.tables (holds, b.has.current) keyed) in
-    true≢false (sym fits ∙ c.in-Err.ensures.store store (subst (λ n. n < 4611686018427387904) (sym count) few)))
+    true≢false (sym fits ∙ c.in_err-decide.ensures.store store (subst (λ n. n < 4611686018427387904) (sym count) few))))
