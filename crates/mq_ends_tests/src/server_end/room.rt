@@ -82,6 +82,18 @@ const REPLIES_WAIT: &[Row<'_>] = &[
     ),
 ];
 
+/// Two requests and what is none at once, of a peer that takes the replies bit by bit: it gets the last ones too.
+const LAST_REPLIES_WAIT: &[Row<'_>] = &[(
+    &[
+        "0021 01 0161 0000000000000001 00000001 00000001 0000000000015180 0175 00000001 \
+       0021 01 0161 0000000000000001 00000002 00000001 0000000000015180 0175 00000001 \
+       0000",
+    ],
+    7,
+    1,
+    "0013 81 0161 0000000000000001 00000001 00000001 0013 81 0161 0000000000000001 00000002 00000002 0001 8e",
+)];
+
 /// The second and the third of them at once.
 const SECOND_AND_THIRD: &str = "\
     0021 01 0161 0000000000000001 00000002 00000001 0000000000015180 0175 00000001 \
@@ -182,6 +194,13 @@ fn connections_in_turns(rt: HostRuntime) -> Result<(), Fail> {
 fn replies_that_wait(rt: HostRuntime) -> Result<(), Fail> {
     let alloc = rt.alloc();
     check_rows(&rt, alloc, ledger(&rt, alloc, 3), REPLIES_WAIT, Ok(()))
+}
+
+#[test]
+fn last_replies_that_wait(rt: HostRuntime) -> Result<(), Fail> {
+    let alloc = rt.alloc();
+    let rows = LAST_REPLIES_WAIT;
+    check_rows(&rt, alloc, ledger(&rt, alloc, 3), rows, Ok(()))
 }
 
 #[test]
