@@ -2,7 +2,6 @@
 use Rattle.std.proofs.Common.{◌≡◌, ◌≢◌, ◌==◌, not, ◌||◌, ℕ, find, List, [], ◌∷◌, nat_le, Bool, true, false, true≢false, Option, Some, None, refl, sym, ap, subst, ◌∙◌}
 use Rattle.std.proofs.lemmas.Bool.{eq-eqb}
 use Rattle.sqlite_trees.proofs.ListLemmas.{all-slice_get}
-use Rattle.sqlite.specs.Order.{Row}
 use Rattle.sqlite.specs.Schema.{Schema}
 use Rattle.sqlite.specs.Table.{Table}
 use Rattle.sqlite.specs.Tree.{Trees}
@@ -19,7 +18,7 @@ use Rattle.mq_tables.specs.Tables.{setting_table, answer_table, trans_table, usa
 use Rattle.mq_tables.specs.Places.{IsTableIn, IsUnreferred, IsUnnamed}
 use Rattle.mq_tables.specs.Records.{HoldsAnswers, HoldsTransactions, HoldsUsage, HoldsCeilings, HoldsRetired}
 use Rattle.mq_tables.specs.Settings.{setting_fields, rule_rows}
-use Rattle.mq_tables.specs.Ledger.{IsLedgerIn, IsThere, HasRule, Since, HasFloors, HasNoFloors, HasLater, HasLedger, HoldsRows, setting_in}
+use Rattle.mq_tables.specs.Ledger.{IsLedgerIn, HasRule, Since, HasFloors, HasNoFloors, HasLater, HasLedger, HoldsRows, setting_in}
 use Rattle.mq_tables.specs.Updates.{KeepsOthers}
 
 -- two names differ

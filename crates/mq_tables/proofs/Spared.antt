@@ -6,7 +6,7 @@ use Rattle.sqlite.specs.Order.{Row}
 use Rattle.sqlite.specs.Tree.{Trees}
 use Rattle.sqlite.specs.declared.error.Error.{Error}
 use Rattle.sqlite.specs.Clock.{timed}
-use Rattle.sqlite.specs.State.{State, HasCleanDisk, Survives, QueriesRow, Shown, ShowsRows, FailsToQuery, FailsToShow, IsNotRun, IsUnchanged, IsRolledBack, CommitsShowing}
+use Rattle.sqlite.specs.State.{State, HasCleanDisk, Survives, QueriesRow, Shown, FailsToQuery, FailsToShow, IsUnchanged, IsRolledBack, CommitsShowing}
 use Rattle.sqlite.specs.Schema.{Schema}
 use Rattle.sqlite.specs.Listing.{understood}
 use Rattle.sqlite_resolve.specs.declared.compiled.Compiled.{Compiled}

@@ -116,7 +116,7 @@ fn read_rows<S: Alter>(
 }
 
 /// Gives all rows of the three tables to the books.
-#[tactic(auto, using(crate::proofs::FigureRows::calls))]
+#[tactic(auto, using(crate::proofs::audits::Rows::calls))]
 fn give_rows<S: Alter>(connection: &mut Connection<S>, books: &mut Books) -> Result<(), Error>
     requires autocommit { connection.old.in_transaction ≡ false }
     ensures autocommit { connection.new.in_transaction ≡ false }

@@ -1,7 +1,7 @@
 use Rattle.sqlite.specs.Held.{state}
 use Rattle.mq_tables.specs.Lent.{id_key}
 use Rattle.mq_tables.proofs.Selected.{shown_same, shown_keeps}
-use Rattle.mq_tables.proofs.AnswerReads.{answer_text, answer_shape, answer_select, found_all}
+use Rattle.mq_tables.proofs.answers.Reads.{answer_text, answer_shape, answer_select, found_all}
 use Rattle.mq_tables.proofs.answer.answer_rows.Goals as goal
 
 pub returns-clause-same : goal.returns-clause-same

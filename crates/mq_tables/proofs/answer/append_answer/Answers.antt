@@ -1,7 +1,7 @@
 use Rattle.std.proofs.Common.{arith}
 use Rattle.sqlite.specs.State.{HasCleanDisk}
 use Rattle.sqlite.specs.Held.{state}
-use Rattle.mq_tables.proofs.Appending.{appends}
+use Rattle.mq_tables.proofs.answers.Appending.{appends}
 use Rattle.mq_tables.proofs.answer.append_answer.Goals as goal
 
 pub returns-clause-inside : goal.returns-clause-inside

@@ -3,7 +3,7 @@ use Rattle.mq_frame.specs.Same.{same_id}
 use Rattle.mq_tables.specs.Ledger.{HasLedger}
 use Rattle.mq_tables.specs.Lent.{bodies_row, IsAnswerShown}
 use Rattle.mq_tables.proofs.Finds.{found_after}
-use Rattle.mq_tables.proofs.AnswerReads.{is_it}
+use Rattle.mq_tables.proofs.answers.Reads.{is_it}
 use Rattle.mq_tables.proofs.answer.find_answer.Goals as goal
 
 pub returns-clause-found : goal.returns-clause-found

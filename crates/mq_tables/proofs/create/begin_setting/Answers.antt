@@ -4,8 +4,8 @@ use Rattle.sqlite.specs.Held.{state}
 use Rattle.mq_tables.proofs.Chain.{survives_both, keeps_both}
 use Rattle.mq_tables.specs.Tables.{setting_table}
 use Rattle.mq_tables.specs.Making.{setting_row}
-use Rattle.mq_tables.proofs.Makes.{starts_ok}
-use Rattle.mq_tables.proofs.NewLedger.{setting_named}
+use Rattle.mq_tables.proofs.making.Makes.{starts_ok}
+use Rattle.mq_tables.proofs.making.NewLedger.{setting_named}
 use Rattle.mq_tables.proofs.create.begin_setting.Goals as goal
 
 pub returns-clause-kept : goal.returns-clause-kept

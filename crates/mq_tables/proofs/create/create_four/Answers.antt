@@ -2,7 +2,7 @@ use Rattle.std.proofs.Common.{arith}
 use Rattle.sqlite.specs.State.{HasCleanDisk}
 use Rattle.sqlite.specs.Held.{state}
 use Rattle.mq_tables.proofs.Chain.{survives_both, keeps_both}
-use Rattle.mq_tables.proofs.Makes.{adds_four}
+use Rattle.mq_tables.proofs.making.Makes.{adds_four}
 use Rattle.mq_tables.proofs.create.create_four.Goals as goal
 
 pub returns-in_err-create_trans-clause-kept : goal.returns-in_err-create_trans-clause-kept

@@ -2,7 +2,7 @@ use Rattle.std.proofs.Common.{arith}
 use Rattle.sqlite.specs.State.{HasCleanDisk}
 use Rattle.sqlite.specs.Held.{state}
 use Rattle.mq_tables.proofs.Chain.{survives_both, keeps_both}
-use Rattle.mq_tables.proofs.Makes.{adds_later}
+use Rattle.mq_tables.proofs.making.Makes.{adds_later}
 use Rattle.mq_tables.proofs.create.create_later.Goals as goal
 
 pub returns-clause-kept : goal.returns-clause-kept

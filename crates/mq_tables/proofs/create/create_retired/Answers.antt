@@ -2,8 +2,8 @@ use Rattle.std.proofs.Common.{[], arith}
 use Rattle.sqlite.specs.State.{HasCleanDisk}
 use Rattle.sqlite.specs.Held.{state}
 use Rattle.mq_tables.specs.Tables.{retired_table}
-use Rattle.mq_tables.proofs.Creating.{create_retired_text, makes_retired}
-use Rattle.mq_tables.proofs.Makes.{makes, was_open}
+use Rattle.mq_tables.proofs.making.Creating.{create_retired_text, makes_retired}
+use Rattle.mq_tables.proofs.making.Makes.{makes, was_open}
 use Rattle.mq_tables.proofs.create.create_retired.Goals as goal
 
 pub returns-clause-made : goal.returns-clause-made

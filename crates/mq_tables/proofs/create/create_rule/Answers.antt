@@ -2,8 +2,8 @@ use Rattle.std.proofs.Common.{arith}
 use Rattle.sqlite.specs.State.{HasCleanDisk}
 use Rattle.sqlite.specs.Held.{state}
 use Rattle.mq_tables.specs.Tables.{rule_table}
-use Rattle.mq_tables.proofs.Creating.{create_rule_text, makes_rule}
-use Rattle.mq_tables.proofs.Makes.{makes}
+use Rattle.mq_tables.proofs.making.Creating.{create_rule_text, makes_rule}
+use Rattle.mq_tables.proofs.making.Makes.{makes}
 use Rattle.mq_tables.proofs.create.create_rule.Goals as goal
 
 pub returns-clause-made : goal.returns-clause-made

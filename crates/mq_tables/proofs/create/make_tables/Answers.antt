@@ -3,7 +3,7 @@ use Rattle.sqlite.specs.State.{HasCleanDisk}
 use Rattle.sqlite.specs.Held.{state}
 use Rattle.mq_tables.proofs.Chain.{survives_both, keeps_both}
 use Rattle.mq_ledger.specs.Day.{rule_in}
-use Rattle.mq_tables.proofs.Later.{made_ok, inside_ok}
+use Rattle.mq_tables.proofs.making.WithRule.{made_ok, inside_ok}
 use Rattle.mq_tables.proofs.create.make_tables.Goals as goal
 
 pub returns-in_err-create_others-clause-kept : goal.returns-in_err-create_others-clause-kept

@@ -1,7 +1,7 @@
 use Rattle.std.proofs.Common.{arith}
 use Rattle.sqlite.specs.State.{HasCleanDisk}
 use Rattle.sqlite.specs.Held.{state}
-use Rattle.mq_tables.proofs.FirstRows.{puts_setting}
+use Rattle.mq_tables.proofs.settings.FirstRows.{puts_setting}
 use Rattle.mq_tables.proofs.create.put_setting.Goals as goal
 
 pub returns-clause-put : goal.returns-clause-put

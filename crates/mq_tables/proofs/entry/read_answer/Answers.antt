@@ -1,6 +1,6 @@
 use Rattle.sqlite.specs.Held.{state}
 use Rattle.mq_tables.specs.Ledger.{HasLedger}
-use Rattle.mq_tables.proofs.EntryReads.{found_after}
+use Rattle.mq_tables.proofs.answers.Entries.{found_after}
 use Rattle.mq_tables.proofs.entry.read_answer.Goals as goal
 
 pub returns-clause-found : goal.returns-clause-found

@@ -1,5 +1,5 @@
 use Rattle.sqlite.specs.Held.{state}
-use Rattle.mq_tables.proofs.EntryReads.{entry_text, entry_shape, entry_select, key, found_all}
+use Rattle.mq_tables.proofs.answers.Entries.{entry_text, entry_shape, entry_select, key, found_all}
 use Rattle.mq_tables.proofs.Selected.{shown_same, shown_keeps}
 use Rattle.mq_tables.proofs.entry.rows_at.Goals as goal
 

@@ -3,7 +3,7 @@ use Rattle.sqlite.specs.Held.{state}
 use Rattle.sqlite.specs.State.{HasCleanDisk}
 use Rattle.sqlite.proofs.Callers.{unchanged_then}
 use Rattle.mq_tables.specs.declared.figures.Table.TheVariants.{Usage, Transactions}
-use Rattle.mq_tables.proofs.FigureRows.{all_given, left_after, on_err, unchanged}
+use Rattle.mq_tables.proofs.audits.Rows.{all_given, left_after, on_err, unchanged}
 use Rattle.mq_tables.proofs.figures.give_rows.Goals as goal
 
 pub returns-in_err-read_rows-2-clause-left : goal.returns-in_err-read_rows-2-clause-left

@@ -3,7 +3,7 @@ use Rattle.sqlite.specs.Held.{state}
 use Rattle.sqlite.specs.Order.{Row}
 use Rattle.sqlite.specs.State.{HasCleanDisk, Survives, Shown, CommitsShowing, FailsToQuery}
 use Rattle.mq_tables.specs.Figures.{Took, text_of}
-use Rattle.mq_tables.proofs.FigureRows.{begun, survives, shown_before, on_err, not_asked, took_none}
+use Rattle.mq_tables.proofs.audits.Rows.{begun, survives, shown_before, on_err, not_asked, took_none}
 use Rattle.mq_tables.proofs.figures.read_rows.Goals as goal
 
 pub returns-in_err-rows-clause-left : goal.returns-in_err-rows-clause-left

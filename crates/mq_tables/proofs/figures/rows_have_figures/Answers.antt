@@ -1,4 +1,4 @@
-use Rattle.mq_tables.proofs.Strict.{figures_there}
+use Rattle.mq_tables.proofs.audits.Strict.{figures_there}
 use Rattle.mq_tables.proofs.figures.rows_have_figures.Goals as goal
 
 pub returns : goal.returns

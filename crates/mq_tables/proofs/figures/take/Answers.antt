@@ -4,7 +4,7 @@ use Rattle.sqlite.specs.Order.{Row}
 use Rattle.mq_rows.specs.declared.auditing.Books.{Books}
 use Rattle.mq_tables.specs.declared.figures.Table.{Table}
 use Rattle.mq_tables.specs.Figures.{Took}
-use Rattle.mq_tables.proofs.FigureRows.{took_usage, took_transaction, took_limit}
+use Rattle.mq_tables.proofs.audits.Rows.{took_usage, took_transaction, took_limit}
 use Rattle.mq_tables.proofs.figures.take.Goals as goal
 
 abbrev Takes : Row → Books → Books → Table → Type 0

@@ -3,7 +3,7 @@ use Rattle.mq_rows.specs.Rows.{is_host}
 use Rattle.mq_tables.specs.Lent.{floor_row, IsFloorShown}
 use Rattle.mq_tables.specs.Ledger.{HasLedger, IsCurrent}
 use Rattle.mq_tables.proofs.Finds.{found_after}
-use Rattle.mq_tables.proofs.FloorReads.{is_it}
+use Rattle.mq_tables.proofs.floors.Reads.{is_it}
 use Rattle.mq_tables.proofs.floor.find_floor.Goals as goal
 
 pub returns-clause-found : goal.returns-clause-found

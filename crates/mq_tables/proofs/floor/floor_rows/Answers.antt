@@ -1,7 +1,7 @@
 use Rattle.sqlite.specs.Held.{state}
 use Rattle.mq_tables.specs.Lent.{host_params}
 use Rattle.mq_tables.proofs.Selected.{shown_same, shown_keeps}
-use Rattle.mq_tables.proofs.FloorReads.{floor_text, floor_shape, floor_select, found_all}
+use Rattle.mq_tables.proofs.floors.Reads.{floor_text, floor_shape, floor_select, found_all}
 use Rattle.mq_tables.proofs.floor.floor_rows.Goals as goal
 
 pub returns-clause-same : goal.returns-clause-same

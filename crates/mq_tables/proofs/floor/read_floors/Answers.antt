@@ -1,7 +1,7 @@
 use Rattle.std.proofs.Common.{arith, IsTrue, Ok, Err}
 use Rattle.sqlite.specs.Held.{state}
 use Rattle.mq_tables.specs.Reading.{floors_text}
-use Rattle.mq_tables.proofs.AllFloors.{floors_shape, floors_select, floors_answered}
+use Rattle.mq_tables.proofs.floors.All.{floors_shape, floors_select, floors_answered}
 use Rattle.mq_tables.proofs.SelectShape.{bare}
 use Rattle.mq_tables.proofs.Spared.{spares_all, shows_open}
 use Rattle.mq_tables.proofs.floor.read_floors.Goals as goal

@@ -1,7 +1,7 @@
 use Rattle.std.proofs.Common.{arith}
 use Rattle.sqlite.specs.State.{HasCleanDisk}
 use Rattle.sqlite.specs.Held.{state}
-use Rattle.mq_tables.proofs.FloorWrites.{updates_floor}
+use Rattle.mq_tables.proofs.floors.Writes.{updates_floor}
 use Rattle.mq_tables.proofs.floor.update_floor.Goals as goal
 
 pub returns-clause-inside : goal.returns-clause-inside

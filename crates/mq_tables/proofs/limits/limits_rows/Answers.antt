@@ -1,7 +1,7 @@
 use Rattle.std.proofs.Common.{[]}
 use Rattle.sqlite.specs.Held.{state}
 use Rattle.mq_tables.proofs.Selected.{shown_same, shown_keeps}
-use Rattle.mq_tables.proofs.FigureReads.{limits_text, limits_shape, limits_select, limits_found}
+use Rattle.mq_tables.proofs.audits.Reads.{limits_text, limits_shape, limits_select, limits_found}
 use Rattle.mq_tables.proofs.limits.limits_rows.Goals as goal
 
 pub returns-clause-same : goal.returns-clause-same

@@ -1,6 +1,6 @@
 use Rattle.sqlite.specs.Held.{state}
 use Rattle.mq_tables.specs.Figures.{HasFigures}
-use Rattle.mq_tables.proofs.FigureReads.{limits_of_rows}
+use Rattle.mq_tables.proofs.audits.Reads.{limits_of_rows}
 use Rattle.mq_tables.proofs.limits.read_limits.Goals as goal
 
 pub returns-clause-found : goal.returns-clause-found

@@ -1,6 +1,6 @@
 use Rattle.std.proofs.Common.{take}
 use Rattle.std.proofs.lemmas.List.{take_more}
-use Rattle.mq_tables.proofs.Earliest.{one_more}
+use Rattle.mq_tables.proofs.usages.Earliest.{one_more}
 use Rattle.mq_tables.proofs.over.earliest_over.Goals as goal
 
 pub loop-row-preserved : goal.loop-row-preserved

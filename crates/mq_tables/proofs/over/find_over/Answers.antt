@@ -1,6 +1,6 @@
 use Rattle.sqlite.specs.Held.{state}
 use Rattle.mq_tables.specs.Ledger.{HasLedger}
-use Rattle.mq_tables.proofs.OverReads.{found_after}
+use Rattle.mq_tables.proofs.usages.Days.{found_after}
 use Rattle.mq_tables.proofs.over.find_over.Goals as goal
 
 pub returns-clause-found : goal.returns-clause-found

@@ -1,7 +1,7 @@
 use Rattle.sqlite.specs.Held.{state}
 use Rattle.mq_tables.specs.Lent.{key_params}
 use Rattle.mq_tables.proofs.Selected.{shown_same, shown_keeps}
-use Rattle.mq_tables.proofs.OverReads.{days_text, days_shape, days_select, found_all}
+use Rattle.mq_tables.proofs.usages.Days.{days_text, days_shape, days_select, found_all}
 use Rattle.mq_tables.proofs.over.rows_from.Goals as goal
 
 pub returns-clause-same : goal.returns-clause-same

@@ -3,7 +3,7 @@ use Rattle.sqlite.specs.Held.{state}
 use Rattle.sqlite.specs.declared.types.Value.TheVariants.{Blob}
 use Rattle.mq_tables.specs.Paging.{just_above}
 use Rattle.mq_tables.proofs.Selected.{shown_same, shown_keeps}
-use Rattle.mq_tables.proofs.LoginReads.{login_text, login_shape, login_select, found_login}
+use Rattle.mq_tables.proofs.usages.Logins.{login_text, login_shape, login_select, found_login}
 use Rattle.mq_tables.proofs.page.login_rows.Goals as goal
 
 pub returns-clause-same : goal.returns-clause-same

@@ -1,6 +1,6 @@
 use Rattle.sqlite.specs.Held.{state}
 use Rattle.mq_tables.specs.Ledger.{HasLedger}
-use Rattle.mq_tables.proofs.LoginReads.{login_after}
+use Rattle.mq_tables.proofs.usages.Logins.{login_after}
 use Rattle.mq_tables.proofs.page.next_login.Goals as goal
 
 pub returns-clause-found : goal.returns-clause-found

@@ -1,7 +1,7 @@
 use Rattle.sqlite.specs.Held.{state}
 use Rattle.mq_tables.specs.Retiring.{runs_params}
 use Rattle.mq_tables.proofs.Selected.{shown_same, shown_keeps}
-use Rattle.mq_tables.proofs.PlaceReads.{places_text, places_shape, places_select, found_all}
+use Rattle.mq_tables.proofs.answers.Places.{places_text, places_shape, places_select, found_all}
 use Rattle.mq_tables.proofs.retiring.answer_places.Goals as goal
 
 pub returns-clause-same : goal.returns-clause-same

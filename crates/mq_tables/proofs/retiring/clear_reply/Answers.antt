@@ -1,7 +1,7 @@
 use Rattle.std.proofs.Common.{arith}
 use Rattle.sqlite.specs.State.{HasCleanDisk}
 use Rattle.sqlite.specs.Held.{state}
-use Rattle.mq_tables.proofs.ReplyClears.{clears_reply}
+use Rattle.mq_tables.proofs.answers.Clears.{clears_reply}
 use Rattle.mq_tables.proofs.retiring.clear_reply.Goals as goal
 
 pub returns-clause-inside : goal.returns-clause-inside

@@ -1,6 +1,6 @@
 use Rattle.sqlite.specs.Held.{state}
 use Rattle.mq_tables.specs.Ledger.{HasLedger}
-use Rattle.mq_tables.proofs.OpenReads.{opens_read}
+use Rattle.mq_tables.proofs.transactions.Open.{opens_read}
 use Rattle.mq_tables.proofs.retiring.find_open.Goals as goal
 
 pub returns-clause-found : goal.returns-clause-found

@@ -1,7 +1,7 @@
 use Rattle.sqlite.specs.Held.{state}
 use Rattle.mq_tables.specs.Retiring.{open_params}
 use Rattle.mq_tables.proofs.Selected.{shown_same, shown_keeps}
-use Rattle.mq_tables.proofs.OpenReads.{open_text, open_shape, open_select, found_all}
+use Rattle.mq_tables.proofs.transactions.Open.{open_text, open_shape, open_select, found_all}
 use Rattle.mq_tables.proofs.retiring.open_rows.Goals as goal
 
 pub returns-clause-same : goal.returns-clause-same

@@ -1,4 +1,4 @@
-use Rattle.mq_tables.proofs.OpenReads.{opens_one_more}
+use Rattle.mq_tables.proofs.transactions.Open.{opens_one_more}
 use Rattle.mq_tables.proofs.retiring.opens_in.Goals as goal
 
 pub loop-row-preserved : goal.loop-row-preserved

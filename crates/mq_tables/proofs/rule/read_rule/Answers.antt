@@ -1,7 +1,7 @@
 use Rattle.std.proofs.Common.{arith, IsTrue, Ok, Err}
 use Rattle.sqlite.specs.Held.{state}
 use Rattle.mq_tables.specs.Reading.{rule_text}
-use Rattle.mq_tables.proofs.RuleReads.{rule_shape, rule_select, rule_answered}
+use Rattle.mq_tables.proofs.settings.Rule.{rule_shape, rule_select, rule_answered}
 use Rattle.mq_tables.proofs.SelectShape.{bare}
 use Rattle.mq_tables.proofs.Spared.{spares}
 use Rattle.mq_tables.proofs.rule.read_rule.Goals as goal

@@ -1,6 +1,6 @@
 use Rattle.std.proofs.Common.{[]}
 use Rattle.sqlite.specs.Held.{state}
-use Rattle.mq_tables.proofs.ArrivalReads.{arrivals_text, arrivals_shape, arrivals_select, found_arrivals}
+use Rattle.mq_tables.proofs.settings.Arrivals.{arrivals_text, arrivals_shape, arrivals_select, found_arrivals}
 use Rattle.mq_tables.proofs.Selected.{shown_same, shown_keeps}
 use Rattle.mq_tables.proofs.setting.arrivals_rows.Goals as goal
 

@@ -1,6 +1,6 @@
 use Rattle.sqlite.specs.Held.{state}
 use Rattle.mq_tables.specs.Ledger.{HasLedger}
-use Rattle.mq_tables.proofs.ArrivalReads.{arrivals_after}
+use Rattle.mq_tables.proofs.settings.Arrivals.{arrivals_after}
 use Rattle.mq_tables.proofs.setting.read_arrivals.Goals as goal
 
 pub returns-clause-found : goal.returns-clause-found

@@ -1,7 +1,7 @@
 use Rattle.std.proofs.Common.{arith, IsTrue, Ok, Err, refl, ap}
 use Rattle.sqlite.specs.Held.{state}
 use Rattle.mq_tables.specs.Reading.{setting_text}
-use Rattle.mq_tables.proofs.SettingReads.{setting_bare, of_setting}
+use Rattle.mq_tables.proofs.settings.Reads.{setting_bare, of_setting}
 use Rattle.mq_tables.proofs.Spared.{spares, answers_open}
 use Rattle.mq_tables.proofs.setting.read_setting.Goals as goal
 

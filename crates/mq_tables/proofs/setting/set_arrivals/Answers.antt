@@ -1,7 +1,7 @@
 use Rattle.std.proofs.Common.{arith}
 use Rattle.sqlite.specs.State.{HasCleanDisk}
 use Rattle.sqlite.specs.Held.{state}
-use Rattle.mq_tables.proofs.SettingSets.{counts_arrivals}
+use Rattle.mq_tables.proofs.settings.Sets.{counts_arrivals}
 use Rattle.mq_tables.proofs.setting.set_arrivals.Goals as goal
 
 pub returns-clause-inside : goal.returns-clause-inside

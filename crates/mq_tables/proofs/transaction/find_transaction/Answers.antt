@@ -3,7 +3,7 @@ use Rattle.mq_rows.specs.Rows.{is_transaction}
 use Rattle.mq_tables.specs.Ledger.{HasLedger}
 use Rattle.mq_tables.specs.Lent.{standing_row, IsTransactionShown}
 use Rattle.mq_tables.proofs.Finds.{found_after}
-use Rattle.mq_tables.proofs.TransactionReads.{is_it}
+use Rattle.mq_tables.proofs.transactions.Reads.{is_it}
 use Rattle.mq_tables.proofs.transaction.find_transaction.Goals as goal
 
 pub returns-clause-found : goal.returns-clause-found

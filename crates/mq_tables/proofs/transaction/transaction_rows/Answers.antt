@@ -1,7 +1,7 @@
 use Rattle.sqlite.specs.Held.{state}
 use Rattle.mq_tables.specs.Lent.{transaction_key}
 use Rattle.mq_tables.proofs.Selected.{shown_same, shown_keeps}
-use Rattle.mq_tables.proofs.TransactionReads.{transaction_text, transaction_shape, transaction_select, found_all}
+use Rattle.mq_tables.proofs.transactions.Reads.{transaction_text, transaction_shape, transaction_select, found_all}
 use Rattle.mq_tables.proofs.transaction.transaction_rows.Goals as goal
 
 pub returns-clause-same : goal.returns-clause-same

@@ -1,7 +1,7 @@
 use Rattle.std.proofs.Common.{arith}
 use Rattle.sqlite.specs.State.{HasCleanDisk}
 use Rattle.sqlite.specs.Held.{state}
-use Rattle.mq_tables.proofs.TransactionWrites.{updates_trans}
+use Rattle.mq_tables.proofs.transactions.Writes.{updates_trans}
 use Rattle.mq_tables.proofs.transaction.update_transaction.Goals as goal
 
 pub returns-clause-inside : goal.returns-clause-inside

@@ -3,7 +3,7 @@ use Rattle.mq_rows.specs.Rows.{is_usage}
 use Rattle.mq_tables.specs.Ledger.{HasLedger}
 use Rattle.mq_tables.specs.Lent.{totals_row, IsShownAs}
 use Rattle.mq_tables.proofs.Finds.{found_after}
-use Rattle.mq_tables.proofs.UsageReads.{is_it}
+use Rattle.mq_tables.proofs.usages.Reads.{is_it}
 use Rattle.mq_tables.proofs.usage.find_usage.Goals as goal
 
 pub returns-clause-found : goal.returns-clause-found

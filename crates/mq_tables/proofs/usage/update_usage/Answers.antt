@@ -1,7 +1,7 @@
 use Rattle.std.proofs.Common.{arith}
 use Rattle.sqlite.specs.State.{HasCleanDisk}
 use Rattle.sqlite.specs.Held.{state}
-use Rattle.mq_tables.proofs.UsageWrites.{sets_usage}
+use Rattle.mq_tables.proofs.usages.Writes.{sets_usage}
 use Rattle.mq_tables.proofs.usage.update_usage.Goals as goal
 
 pub returns-clause-inside : goal.returns-clause-inside

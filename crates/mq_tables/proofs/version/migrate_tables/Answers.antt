@@ -2,7 +2,7 @@ use Rattle.std.proofs.Common.{arith}
 use Rattle.sqlite.specs.State.{HasCleanDisk}
 use Rattle.sqlite.specs.Held.{state}
 use Rattle.mq_tables.proofs.Chain.{survives_both, keeps_both}
-use Rattle.mq_tables.proofs.Adding.{migrates, opened}
+use Rattle.mq_tables.proofs.making.Adding.{migrates, opened}
 use Rattle.mq_tables.proofs.version.migrate_tables.Goals as goal
 
 pub returns-in_err-create_retired-clause-kept : goal.returns-in_err-create_retired-clause-kept

@@ -1,7 +1,7 @@
 use Rattle.std.proofs.Common.{arith}
 use Rattle.sqlite.specs.State.{HasCleanDisk}
 use Rattle.sqlite.specs.Held.{state}
-use Rattle.mq_tables.proofs.SettingSets.{sets_version}
+use Rattle.mq_tables.proofs.settings.Sets.{sets_version}
 use Rattle.mq_tables.proofs.version.set_version.Goals as goal
 
 pub returns-clause-inside : goal.returns-clause-inside

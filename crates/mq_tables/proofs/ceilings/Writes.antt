@@ -11,7 +11,7 @@ use Rattle.mq_tables.specs.Tables.{ceiling_table}
 use Rattle.mq_tables.specs.Places.{IsTableIn}
 use Rattle.mq_tables.specs.Records.{ceiling_fields}
 use Rattle.mq_tables.specs.Updates.{WritesCeiling}
-use Rattle.mq_tables.proofs.Makes.{cast_int, cast_null}
+use Rattle.mq_tables.proofs.Casts.{cast_int, cast_null}
 use Rattle.mq_tables.proofs.Changes.{ceilings_changed}
 use Rattle.mq_tables.proofs.InsertShape.{InsertShape, IsInsertOf, new_row, inserted, holds_inserted}
 use Rattle.std.proofs.Math.Bool.{and-true}

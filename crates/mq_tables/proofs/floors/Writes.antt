@@ -11,9 +11,9 @@ use Rattle.mq_tables.specs.Tables.{retired_table}
 use Rattle.mq_tables.specs.Places.{IsTableIn}
 use Rattle.mq_tables.specs.Records.{retired_fields}
 use Rattle.mq_tables.specs.Updates.{WritesFloor}
-use Rattle.mq_tables.proofs.Makes.{cast_int, cast_null}
+use Rattle.mq_tables.proofs.Casts.{cast_int, cast_null}
 use Rattle.mq_tables.proofs.Changes.{floors_changed}
-use Rattle.mq_tables.proofs.FloorReads.{floors_there}
+use Rattle.mq_tables.proofs.floors.Reads.{floors_there}
 use Rattle.mq_tables.proofs.InsertShape.{InsertShape, IsInsertOf, new_row, inserted, holds_inserted}
 use Rattle.std.proofs.Math.Bool.{and-true}
 use Rattle.sqlite.specs.Order.{Row}

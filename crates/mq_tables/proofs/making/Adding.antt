@@ -22,12 +22,12 @@ use Rattle.mq_tables.specs.Written.{Created}
 use Rattle.mq_tables.specs.Making.{Makes}
 use Rattle.mq_tables.specs.Updates.{KeepsOthers}
 use Rattle.mq_tables.proofs.Chains.{all_joined, all_split, all_both}
-use Rattle.mq_tables.proofs.Found.{IsFound, apart, begun, still_all, in_database}
-use Rattle.mq_tables.proofs.Places.{all_below}
+use Rattle.mq_tables.proofs.making.Found.{IsFound, apart, begun, still_all, in_database}
+use Rattle.mq_tables.proofs.making.Places.{all_below}
 use Rattle.mq_rows.specs.declared.record.RetiredRecord.{RetiredRecord}
 use Rattle.mq_tables.specs.Migrating.{AddsRule, SetsVersion, HasMigrated, IsMigrated, migrated}
 use Rattle.mq_tables.proofs.Changes.{since, is_since}
-use Rattle.mq_tables.proofs.NewLedger.{names_selves, find_apart, holds_none}
+use Rattle.mq_tables.proofs.making.NewLedger.{names_selves, find_apart, holds_none}
 
 -- ---- one more table leaves a ledger where it is
 

@@ -14,8 +14,8 @@ use Rattle.mq_tables.specs.Tables.{answer_table}
 use Rattle.mq_tables.specs.Updates.{Appends}
 use Rattle.mq_tables.proofs.Changes.{answers_changed}
 use Rattle.mq_tables.proofs.InsertShape.{InsertShape, IsInsertOf, new_row, inserted}
-use Rattle.mq_tables.proofs.Makes.{cast_int, cast_null}
-use Rattle.mq_tables.proofs.Meanings.{appended, numbered_on}
+use Rattle.mq_tables.proofs.Casts.{cast_int, cast_null}
+use Rattle.mq_tables.proofs.answers.Numbered.{appended, numbered_on}
 
 abbrev pub append_text : List ℕ
 append_text = codes "INSERT INTO answer (n, host, run, seq, request, reply) VALUES (?1, ?2, ?3, ?4, ?5, ?6)"

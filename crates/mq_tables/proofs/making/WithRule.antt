@@ -17,8 +17,8 @@ use Rattle.mq_tables.specs.Making.{chain, trees_for, other_tables, five_tables, 
 use Rattle.mq_tables.proofs.Chains.{all_both, of_chain}
 use Rattle.mq_tables.proofs.Changes.{kept_of, rule_changed}
 use Rattle.mq_tables.specs.Places.{IsSettingIn}
-use Rattle.mq_tables.proofs.NewLedger.{AreSeven, seven_made, without_rule}
-use Rattle.mq_tables.proofs.Places.{all_below}
+use Rattle.mq_tables.proofs.making.NewLedger.{AreSeven, seven_made, without_rule}
+use Rattle.mq_tables.proofs.making.Places.{all_below}
 
 -- with an offset there is none
 module _ (minutes : ℤ) (cap : ℕ) (old new : Database) where

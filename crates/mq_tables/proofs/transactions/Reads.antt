@@ -1,5 +1,5 @@
 -- What the query of a transaction answers of the records.
-use Rattle.std.proofs.Common.{pos, ◌≡◌, ◌&&◌, ℕ, ℤ, List, [], ◌∷◌, ◌==◌, map, filter, codes, Bool, true, false, None, Ok, Err, Result, refl, sym, ap, subst, ◌∙◌}
+use Rattle.std.proofs.Common.{pos, ◌≡◌, ◌&&◌, ℕ, ℤ, List, [], ◌∷◌, ◌==◌, map, filter, codes, Bool, true, false, None, Result, refl, sym, ap, ◌∙◌}
 use Rattle.std.specs.Prelude.{not}
 use Rattle.std.specs.Ordering.{int_eq}
 use Rattle.std.specs.Prelude.{Vec, IfOk}

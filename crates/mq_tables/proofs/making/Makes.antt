@@ -1,39 +1,20 @@
 -- What the statements of `create` leave, over any schema.
-use Rattle.std.proofs.Common.{IsTrue, append-nil, cond, ℤ, ◌≡◌, ◌≢◌, ℕ, ◌+◌, pos, List, [], ◌∷◌, Bool, true, false, Some, Ok, Err, Result, codes, arith, OnOk, slice_get, refl, sym, ap, subst, ◌∙◌}
+use Rattle.std.proofs.Common.{IsTrue, ◌≡◌, ◌≢◌, ℕ, ◌+◌, List, [], ◌∷◌, true, false, Some, Ok, Err, Result, arith, OnOk, slice_get, sym, ap, subst, ◌∙◌}
 use Rattle.std.specs.List.{AllByRecursion}
 use Rattle.sqlite.specs.declared.error.Error.{Error}
-use Rattle.sqlite.specs.declared.types.Value.TheVariants.{Null, Int}
 use Rattle.sqlite.specs.Order.{Row}
 use Rattle.sqlite.specs.Schema.{Schema}
 use Rattle.sqlite.specs.Table.{Table}
-use Rattle.sqlite.specs.Tree.{put_row}
 use Rattle.sqlite.specs.Change.{created, next_tree}
 use Rattle.sqlite.specs.Does.{lacks_sequence}
-use Rattle.sqlite.specs.Source.TheVariants.{Values}
-use Rattle.sqlite.specs.Term.{Term, lit, col, eval_all}
-use Rattle.sqlite.specs.Cast.{cast, cast_row}
-use Rattle.sqlite.specs.Ops.{unary}
-use Rattle.sqlite.specs.Kind.TheVariants.{Integer}
-use Rattle.sqlite.specs.declared.types.Value.{Value}
-use Rattle.sqlite.specs.Edit.{with_rowid}
-use Rattle.sqlite.specs.Rowids.TheVariants.{Chosen}
-use Rattle.sqlite.specs.State.{State, Executes, ExecutesInside}
+use Rattle.sqlite.specs.State.{State, ExecutesInside}
 use Rattle.sqlite_schema.specs.Names.{table_named, same_name}
-use Rattle.sqlite_resolve.specs.Compile.{first, small, new_rows}
-use Rattle.sqlite.proofs.Callers.{IsPlain, command_of}
-use Rattle.sqlite_tied.specs.Compute.{everything}
-use Rattle.mq_tables.specs.Tables.{setting_table, answer_table, trans_table, usage_table, ceiling_table, rule_table, retired_table}
-use Rattle.mq_tables.specs.declared.setting.NewSetting.{NewSetting}
+use Rattle.mq_tables.specs.Tables.{answer_table, trans_table, usage_table, ceiling_table, rule_table, retired_table}
 use Rattle.mq_tables.specs.Written.{Created}
-use Rattle.mq_tables.specs.Making.{Makes, Puts, HasPut, HasCounters, HasAdded, HasStarted, setting_row, setting_params, four_tables, later_tables, other_tables}
-use Rattle.mq_tables.proofs.Plain.{parsed_in}
-use Rattle.mq_tables.proofs.Creating.{MakesTable, creates_any, counters_kept}
-use Rattle.mq_tables.proofs.Inserting.{IsInsert, understood_insert, unreferred}
-use Rattle.mq_tables.proofs.Statements.{inserts}
-use Rattle.mq_tables.proofs.Places.{placed, unnamed, all_below}
+use Rattle.mq_tables.specs.Making.{Makes, Puts, HasCounters, HasAdded, HasStarted, four_tables, later_tables, other_tables}
+use Rattle.mq_tables.proofs.making.Creating.{MakesTable, creates_any, counters_kept}
+use Rattle.mq_tables.proofs.making.Places.{placed, unnamed, all_below}
 use Rattle.mq_tables.proofs.Chains.{adds_both, all_split, all_both}
-use Rattle.mq_ledger.specs.Day.{minutes_in}
-use Rattle.mq_rows.specs.declared.setting.TheConstants.{VERSION}
 
 pub makes : (text : List ℕ) (table : Table) (it : MakesTable text table) (old new : State) (r : Result ℕ Error) → ExecutesInside 0 text [] old new r → OnOk r (Makes table old new)
 makes text table it old new (Err e) h = tt
@@ -57,20 +38,6 @@ adds_next table more a b z p rest counters = let one = p.1 counters in adds_both
 
 adds_last : (table : Table) (a z : State) → Makes table a z → HasCounters a → HasAdded (table ∷ []) a z
 adds_last table a z p counters = let one = p.1 counters in created_adds table a z one.0 one.1
-
--- ---- a column keeps what fits it
-
-either : (b : Bool) (x : Value) → cond b x x ≡ x
-either true x = refl
-either false x = refl
-
-pub cast_int : (n : ℤ) → cast Integer (Int n) ≡ Int n
-unfolding unary
-cast_int n = either _ (Int n)
-
-pub cast_null : cast Integer Null ≡ Null
-unfolding unary
-cast_null = either _ Null
 
 -- ---- a table and its row
 

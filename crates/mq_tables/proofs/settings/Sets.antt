@@ -1,7 +1,6 @@
 -- The UPDATE of one column in the row of settings, over any schema that has the table at some place.
 use Rattle.std.proofs.Common.{IsTrue, append-nil, ◌≡◌, ℕ, ℤ, pos, List, [], ◌∷◌, Ok, Err, Result, OnOk, codes, refl, ap, subst, ◌∙◌}
 use Rattle.std.specs.List.Sorted.{IsPermutation}
-use Rattle.sqlite.specs.Table.{Table}
 use Rattle.sqlite.specs.Order.{Row, value_cmp}
 use Rattle.sqlite.specs.Ops.{binary}
 use Rattle.sqlite.specs.declared.types.Value.TheVariants.{Null, Int}
@@ -23,7 +22,7 @@ use Rattle.mq_tables.specs.Tables.{setting_table}
 use Rattle.mq_tables.specs.Updates.{HasSetRow, CountsArrivals}
 use Rattle.mq_tables.specs.Written.{chosen as chosen_rows}
 use Rattle.mq_tables.proofs.Changes.{arrivals_changed, version_changed}
-use Rattle.mq_tables.proofs.Makes.{cast_int, cast_null}
+use Rattle.mq_tables.proofs.Casts.{cast_int, cast_null}
 use Rattle.mq_tables.proofs.TermShape.{field}
 use Rattle.mq_tables.proofs.TermShape.Operand.{One}
 use Rattle.mq_tables.proofs.TermShape.Relation.{Same}

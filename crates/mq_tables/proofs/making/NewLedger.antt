@@ -22,8 +22,8 @@ use Rattle.mq_tables.specs.Settings.{HasSetting, setting_after}
 use Rattle.mq_rows.specs.Tables.{Tables}
 use Rattle.mq_tables.specs.Making.{chain, trees_for, is_ours, AllFree, AreUnnamed, other_tables, five_tables, ledger_over, setting_row, new_rows, HasStarted, HasAdded}
 use Rattle.mq_tables.proofs.Chains.{all_joined, all_both, of_chain}
-use Rattle.mq_tables.proofs.Found.{IsFound, apart, begun, still_all, in_database}
-use Rattle.mq_tables.proofs.Places.{all_below}
+use Rattle.mq_tables.proofs.making.Found.{IsFound, apart, begun, still_all, in_database}
+use Rattle.mq_tables.proofs.making.Places.{all_below}
 
 pub names_selves : (same_name setting_table.name setting_table.name ≡ true) × (same_name answer_table.name answer_table.name ≡ true) × (same_name trans_table.name trans_table.name ≡ true)
     × (same_name usage_table.name usage_table.name ≡ true) × (same_name ceiling_table.name ceiling_table.name ≡ true) × (same_name rule_table.name rule_table.name ≡ true) × (same_name retired_table.name retired_table.name ≡ true)

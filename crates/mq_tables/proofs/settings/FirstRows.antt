@@ -14,7 +14,7 @@ use Rattle.mq_tables.specs.declared.setting.NewSetting.{NewSetting}
 use Rattle.mq_tables.specs.Tables.{setting_table, rule_table}
 use Rattle.mq_tables.specs.Settings.{rule_fields}
 use Rattle.mq_tables.specs.Making.{Puts, setting_row, setting_params, rule_params}
-use Rattle.mq_tables.proofs.Makes.{cast_int, cast_null}
+use Rattle.mq_tables.proofs.Casts.{cast_int, cast_null}
 use Rattle.mq_tables.proofs.InsertShape.{InsertShape, IsInsertOf, in_tree, new_row, inserted}
 
 module _ (text : List ℕ) (shape : InsertShape) (it : IsInsertOf text shape) (params row : Row)

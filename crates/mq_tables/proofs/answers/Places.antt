@@ -1,5 +1,5 @@
 -- What the query of the answers of runs answers of their places.
-use Rattle.std.proofs.Common.{◌≡◌, ◌&&◌, ℕ, List, [], ◌∷◌, map, filter, codes, Bool, None, Ok, Err, Result, refl, ap, subst, ◌∙◌}
+use Rattle.std.proofs.Common.{◌≡◌, ◌&&◌, ℕ, List, [], ◌∷◌, map, filter, codes, Bool, None, Result, refl, ap}
 use Rattle.std.specs.Prelude.{Vec, IfOk, nat_le}
 use Rattle.std.specs.declared.alloc.Global.{Global}
 use Rattle.sqlite.specs.declared.error.Error.{Error}

@@ -1,6 +1,5 @@
 -- What is read of the rule, over a store that has its table at any place.
 use Rattle.std.proofs.Common.{◌≡◌, inl, inr, ℕ, suc, List, [], ◌∷◌, codes, length, Option, None, Some, Ok, Err, Result, arith, refl, ap, subst, ◌∙◌}
-use Rattle.std.specs.List.Sorted.{IsPermutation}
 use Rattle.std.proofs.lemmas.List.Sorted.{length_permutation}
 use Rattle.sqlite.specs.declared.types.Value.TheVariants.{Blob}
 use Rattle.sqlite.specs.declared.error.Error.{Error}

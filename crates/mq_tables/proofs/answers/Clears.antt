@@ -12,7 +12,7 @@ use Rattle.sqlite.specs.Cast.{cast_row}
 use Rattle.sqlite.specs.Table.{Table}
 use Rattle.sqlite.specs.Edit.{edit_of, are_fresh, put_all, without_all}
 use Rattle.sqlite.specs.Rowids.TheVariants.{Given}
-use Rattle.sqlite.specs.State.{Executes, ExecutesInside}
+use Rattle.sqlite.specs.State.{ExecutesInside}
 use Rattle.sqlite.specs.State as state
 use Rattle.sqlite.specs.Term.{lit, col, holds}
 use Rattle.sqlite.specs.Tree.{put_row, rowid, without_rowid}
@@ -28,14 +28,14 @@ use Rattle.sqlite_trees.proofs.TreeLemmas.{IsTable-put_row}
 use Rattle.sqlite_value.specs.Order.{value_cmp}
 use Rattle.sqlite_value.proofs.OrderLemmas.{value_cmp-Int}
 use Rattle.mq_rows.specs.declared.record.AnswerRecord.{AnswerRecord}
-use Rattle.mq_tables.specs.Places.{IsAnswerIn, IsUnreferred}
+use Rattle.mq_tables.specs.Places.{IsAnswerIn}
 use Rattle.mq_tables.specs.Records.{answer_fields, AreNumbered, HoldsAnswers}
 use Rattle.mq_tables.specs.Retiring.{clear_params, without_reply, cleared_where, ClearsAt}
 use Rattle.mq_tables.specs.Tables.{answer_table}
 use Rattle.mq_tables.specs.Written.{chosen as chosen_rows, Updated}
 use Rattle.mq_tables.proofs.Changes.{answers_changed}
-use Rattle.mq_tables.proofs.ClearedRows.{shown, set_many, still_numbered, has_permuted}
-use Rattle.mq_tables.proofs.Makes.{cast_int, cast_null}
+use Rattle.mq_tables.proofs.answers.Cleared.{shown, set_many, still_numbered, has_permuted}
+use Rattle.mq_tables.proofs.Casts.{cast_int, cast_null}
 use Rattle.mq_tables.proofs.TermShape.{field, against}
 use Rattle.mq_tables.proofs.TermShape.Relation.{Same}
 use Rattle.mq_tables.proofs.Tests.{day_test}

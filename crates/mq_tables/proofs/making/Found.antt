@@ -14,8 +14,8 @@ use Rattle.sqlite_catalog.specs.Listing.{IsTableRow}
 use Rattle.sqlite_schema.specs.Names.{same_name}
 use Rattle.mq_tables.specs.Places.{IsTableIn}
 use Rattle.mq_tables.specs.Making.{chain}
-use Rattle.mq_tables.proofs.Creating.{place_kept, get_kept}
-use Rattle.mq_tables.proofs.Places.{placed, unnamed, all_below}
+use Rattle.mq_tables.proofs.making.Creating.{place_kept, get_kept}
+use Rattle.mq_tables.proofs.making.Places.{placed, unnamed, all_below}
 
 -- by its name, its place and its tree
 pub record IsFound (tables : List Table) (t : Table) : Type 0 where

@@ -26,7 +26,7 @@ use Rattle.mq_tables.specs.declared.figures.Table.{Table}
 use Rattle.mq_tables.specs.declared.figures.Table.TheVariants.{Usage, Transactions, Limits}
 use Rattle.mq_tables.specs.Figures.{HasFigures, IsUsageRead, IsTransactionRead, IsLimitRead, usage_cells, transaction_cells, limit_cells, usage_columns, transaction_columns, limit_columns, Adds, Took, AreGiven, text_of}
 use Rattle.mq_tables.proofs.Chain.{survives_both}
-use Rattle.mq_tables.proofs.FigureReads.{usage_text, usage_shape, usage_select, usage_shown, usage_read, usage_more, transactions_text, transactions_shape, transactions_select, transactions_shown, transactions_read, transactions_more, limits_text, limits_shape, limits_select, limits_shown, limits_read, limits_more}
+use Rattle.mq_tables.proofs.audits.Reads.{usage_text, usage_shape, usage_select, usage_shown, usage_read, usage_more, transactions_text, transactions_shape, transactions_select, transactions_shown, transactions_read, transactions_more, limits_text, limits_shape, limits_select, limits_shown, limits_read, limits_more}
 use Rattle.mq_tables.proofs.Finds.{mapped_more}
 use Rattle.mq_tables.specs.Reading.{Spares}
 use Rattle.mq_tables.proofs.SelectShape.{bare}

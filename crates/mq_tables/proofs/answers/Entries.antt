@@ -1,8 +1,8 @@
 -- What the query of an answer by its place answers of the records.
-use Rattle.std.proofs.Common.{pos, ◌≡◌, ℕ, List, [], ◌∷◌, ◌==◌, map, filter, length, codes, Bool, true, Option, Some, None, Ok, Err, Result, refl, sym, ap, subst, ◌∙◌}
+use Rattle.std.proofs.Common.{pos, ◌≡◌, ℕ, List, [], ◌∷◌, ◌==◌, map, filter, length, codes, true, Option, Some, None, Ok, Err, Result, refl, sym, ap, subst, ◌∙◌}
 use Rattle.std.specs.Prelude.{Vec, IfOk}
 use Rattle.std.specs.declared.alloc.Global.{Global}
-use Rattle.std.specs.List.{AllByRecursion, list_all}
+use Rattle.std.specs.List.{AllByRecursion}
 use Rattle.std.specs.List.Sorted.{IsPermutation}
 use Rattle.std.specs.Cmp.{unsigned_Decides}
 use Rattle.std.proofs.Math.Bool.{and-true}

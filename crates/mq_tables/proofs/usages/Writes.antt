@@ -11,7 +11,7 @@ use Rattle.mq_tables.specs.Tables.{usage_table}
 use Rattle.mq_tables.specs.Places.{IsTableIn}
 use Rattle.mq_tables.specs.Records.{usage_fields}
 use Rattle.mq_tables.specs.Updates.{WritesUsage}
-use Rattle.mq_tables.proofs.Makes.{cast_int, cast_null}
+use Rattle.mq_tables.proofs.Casts.{cast_int, cast_null}
 use Rattle.mq_tables.proofs.Changes.{usage_changed}
 use Rattle.mq_tables.proofs.InsertShape.{InsertShape, IsInsertOf, new_row, inserted, holds_inserted}
 use Rattle.std.proofs.Math.Bool.{and-true}

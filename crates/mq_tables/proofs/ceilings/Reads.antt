@@ -1,5 +1,5 @@
 -- What the query for a limit by its key answers of the records.
-use Rattle.std.proofs.Common.{◌≡◌, ℕ, ◌&&◌, ◌==◌, List, [], ◌∷◌, map, filter, codes, Bool, true, None, Ok, Err, Result, refl, ap, subst}
+use Rattle.std.proofs.Common.{◌≡◌, ℕ, ◌&&◌, ◌==◌, List, [], ◌∷◌, map, filter, codes, true, None, Result, refl, ap}
 use Rattle.std.specs.Prelude.{Vec, IfOk}
 use Rattle.std.specs.declared.alloc.Global.{Global}
 use Rattle.sqlite.specs.declared.error.Error.{Error}
@@ -22,7 +22,7 @@ use Rattle.mq_tables.specs.Ledger.{HasLedger}
 use Rattle.mq_tables.specs.Lent.{key_params}
 use Rattle.mq_tables.specs.Records.{ceiling_fields}
 use Rattle.mq_tables.specs.Tables.{ceiling_table}
-use Rattle.mq_tables.proofs.Governing.{limit_is}
+use Rattle.mq_tables.proofs.ceilings.Governing.{limit_is}
 use Rattle.mq_tables.proofs.SelectShape.{SelectShape, IsSelect, IsAccepted}
 use Rattle.mq_tables.proofs.TermShape.{field, against}
 use Rattle.mq_tables.proofs.Selected.{pass, finds_all}

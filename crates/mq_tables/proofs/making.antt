@@ -1,0 +1,7 @@
+pub mod Creating
+pub mod Makes
+pub mod Found
+pub mod Places
+pub mod NewLedger
+pub mod WithRule
+pub mod Adding
