@@ -24,8 +24,8 @@ pub mod UpdateShape
 pub mod Updating
 pub mod answers
 pub mod audits
-pub mod ceilings
 pub mod floors
+pub mod governing
 pub mod making
 pub mod settings
 pub mod transactions

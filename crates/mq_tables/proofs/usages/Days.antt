@@ -30,7 +30,7 @@ use Rattle.mq_tables.specs.Records.{usage_fields}
 use Rattle.mq_tables.specs.Tables.{usage_table}
 use Rattle.mq_tables.proofs.Finds.{int_same, shown_of}
 use Rattle.mq_tables.proofs.Firsts as firsts
-use Rattle.mq_tables.proofs.ceilings.Governing.{has_contains}
+use Rattle.mq_tables.proofs.governing.Governing.{has_contains}
 use Rattle.mq_tables.proofs.SelectShape.{SelectShape, IsSelect, IsAccepted}
 use Rattle.mq_tables.proofs.TermShape.{field, against}
 use Rattle.mq_tables.proofs.Selected.{pass, finds_all}

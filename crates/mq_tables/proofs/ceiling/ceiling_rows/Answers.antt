@@ -1,7 +1,7 @@
 use Rattle.sqlite.specs.Held.{state}
 use Rattle.mq_tables.specs.Lent.{key_params}
 use Rattle.mq_tables.proofs.Selected.{shown_same, shown_keeps}
-use Rattle.mq_tables.proofs.ceilings.Reads.{ceiling_text, ceiling_shape, ceiling_select, found_all}
+use Rattle.mq_tables.proofs.governing.Reads.{ceiling_text, ceiling_shape, ceiling_select, found_all}
 use Rattle.mq_tables.proofs.ceiling.ceiling_rows.Goals as goal
 
 pub returns-clause-same : goal.returns-clause-same

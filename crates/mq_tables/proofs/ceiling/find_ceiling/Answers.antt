@@ -3,7 +3,7 @@ use Rattle.mq_rows.specs.Rows.{is_ceiling}
 use Rattle.mq_tables.specs.Governing.{limit_row, IsCeilingShown}
 use Rattle.mq_tables.specs.Ledger.{HasLedger}
 use Rattle.mq_tables.proofs.Finds.{found_after}
-use Rattle.mq_tables.proofs.ceilings.Reads.{is_it}
+use Rattle.mq_tables.proofs.governing.Reads.{is_it}
 use Rattle.mq_tables.proofs.ceiling.find_ceiling.Goals as goal
 
 pub returns-clause-found : goal.returns-clause-found

@@ -1,6 +1,6 @@
 use Rattle.sqlite.specs.Held.{state}
 use Rattle.mq_tables.specs.Ledger.{HasLedger}
-use Rattle.mq_tables.proofs.ceilings.Governing.{governing_after}
+use Rattle.mq_tables.proofs.governing.Governing.{governing_after}
 use Rattle.mq_tables.proofs.ceiling.find_governing.Goals as goal
 
 pub returns-clause-found : goal.returns-clause-found

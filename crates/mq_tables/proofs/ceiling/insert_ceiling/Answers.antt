@@ -1,7 +1,7 @@
 use Rattle.std.proofs.Common.{arith}
 use Rattle.sqlite.specs.State.{HasCleanDisk}
 use Rattle.sqlite.specs.Held.{state}
-use Rattle.mq_tables.proofs.ceilings.Writes.{inserts_ceiling}
+use Rattle.mq_tables.proofs.governing.Writes.{inserts_ceiling}
 use Rattle.mq_tables.proofs.ceiling.insert_ceiling.Goals as goal
 
 pub returns-clause-inside : goal.returns-clause-inside

@@ -1,7 +1,7 @@
 use Rattle.sqlite.specs.Held.{state}
 use Rattle.mq_tables.specs.Lent.{key_params}
 use Rattle.mq_tables.proofs.Selected.{shown_same, shown_keeps}
-use Rattle.mq_tables.proofs.ceilings.Governing.{latest_text, latest_shape, latest_select, found_governing}
+use Rattle.mq_tables.proofs.governing.Governing.{latest_text, latest_shape, latest_select, found_governing}
 use Rattle.mq_tables.proofs.ceiling.latest_rows.Goals as goal
 
 pub returns-clause-same : goal.returns-clause-same

@@ -1,7 +1,7 @@
 use Rattle.std.proofs.Common.{arith}
 use Rattle.sqlite.specs.State.{HasCleanDisk}
 use Rattle.sqlite.specs.Held.{state}
-use Rattle.mq_tables.proofs.ceilings.Writes.{updates_ceiling}
+use Rattle.mq_tables.proofs.governing.Writes.{updates_ceiling}
 use Rattle.mq_tables.proofs.ceiling.update_ceiling.Goals as goal
 
 pub returns-clause-inside : goal.returns-clause-inside

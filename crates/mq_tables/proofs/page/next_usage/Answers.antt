@@ -4,7 +4,7 @@ use Rattle.sqlite.specs.State.{HasCleanDisk}
 use Rattle.mq_rows.specs.Listing.{IsNextLogin}
 use Rattle.mq_tables.specs.Ledger.{HasLedger}
 use Rattle.mq_tables.proofs.Chain.{survives_both, keeps_both}
-use Rattle.mq_tables.proofs.ceilings.Governing.{has_contains}
+use Rattle.mq_tables.proofs.governing.Governing.{has_contains}
 use Rattle.mq_tables.proofs.Still.{unchanged_after, still_after}
 use Rattle.mq_tables.proofs.page.next_usage.Goals as goal
 

@@ -22,7 +22,7 @@ use Rattle.mq_tables.specs.Ledger.{HasLedger}
 use Rattle.mq_tables.specs.Lent.{key_params}
 use Rattle.mq_tables.specs.Records.{ceiling_fields}
 use Rattle.mq_tables.specs.Tables.{ceiling_table}
-use Rattle.mq_tables.proofs.ceilings.Governing.{limit_is}
+use Rattle.mq_tables.proofs.governing.Governing.{limit_is}
 use Rattle.mq_tables.proofs.SelectShape.{SelectShape, IsSelect, IsAccepted}
 use Rattle.mq_tables.proofs.TermShape.{field, against}
 use Rattle.mq_tables.proofs.Selected.{pass, finds_all}
