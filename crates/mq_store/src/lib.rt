@@ -5,10 +5,10 @@
 //! store has, `apply` answers a request, and `carry_over` makes a new ledger of what an old one remembers from a day
 //! on. From `mq_program/src/store.rt`:
 //!
-//!     if create {
-//!         return Ok(SqlLedger::create(alloc, connection, zone, default)?);
+//!     match SqlLedger::open(alloc, connection, settings.zone, settings.default) {
+//!         Ok(ledger) => Ok(ledger),
+//!         Err(refused) => Err(refused_by(log, path, false, settings, refused)),
 //!     }
-//!     Ok(SqlLedger::open(alloc, connection, zone, default)?)
 //!
 //! It stands on `mq_frame`, `mq_ledger`, `mq_forget`, `mq_rows` and `mq_tables`: it knows what a ledger means, its rows
 //! and its statements, and nothing of connections or files. Begin with `specs/Soundness.antt`, when a store is a sound
