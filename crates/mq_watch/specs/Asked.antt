@@ -2,8 +2,8 @@
 use Rattle.std.specs.Prelude.{◌≡◌}
 use Rattle.mq_ledger.specs.Legal.{Book}
 
--- A ledger was asked what it holds, any number of times, and nothing else. While its store keeps its premise its history
--- stays as it is, and it stays sound.
+-- What questions leave of a ledger: its zone and its default; and while its store keeps its premise its history stays as it
+-- is, and it stays sound.
 pub record IsAsked {S : Type 0} (book : S → Book) (has_kept is_sound has_store : S → Type 0) (old new : S) : Type 0 where
   pub zone : (book new).zone ≡ (book old).zone
   pub default : (book new).default ≡ (book old).default
