@@ -29,6 +29,7 @@ def run(world, checks):
     logs_of_nothing(world, checks)
     addresses_of_settings(world, checks)
     rows_of_no_ledger(world, checks)
+    forgets_no_such_rows(world, checks)
     memory(world, checks)
     progress(world, checks)
 
@@ -136,6 +137,14 @@ def rows_of_no_ledger(world, checks):
         checks.equal("a row that spells nothing: the end", (server.status(), text), (1, "mailquota: store failed\n"))
         checks.equal("a row that spells nothing: the cause", log[-1:], [f"[ERROR mq_program::store] {path}: a row is none of a ledger's\n"])
         checks.holds("a row that spells nothing: lines of the log", len(log) == 2 and "store failed" in log[0], "one of the connection and the cause", log)
+
+
+def forgets_no_such_rows(world, checks):
+    """Nor is such a row carried over: the store has failed, and not memory."""
+    source, _ = left_by_a_server(world, "carried", wire.reserve(1) + wire.reserve(2))
+    path = edited(world, source, "carried-nothing", "UPDATE answer SET reply = x'ff' WHERE n = 2")
+    came = world.run("forget", "--config", ledger_settings(world, path), "--before", "1", "--into", f"{path}.new")
+    checks.equal("forget of a row that spells nothing", without_log(came), (1, b"", "mailquota: store failed\n"))
 
 
 def memory(world, checks):
