@@ -240,26 +240,49 @@ fn forget_into<G: Log, T: Alter + Drop, W: Write>(
 {
     match fill_file(rt, log, old, name, day) {
         Ok(Forgotten { old, kept }) => {
-            print_kept(rt.alloc(), kept, output)?;
+            print_kept(log, name, rt.alloc(), kept, output)?;
             Ok(old)
         }
         Err(fault) => {
             if let ProgramFault::Open(OpenFault::Store(cause)) = &fault {
                 error!(log; "{name}, made of {path}: {cause}");
             }
-            error!(log; "remove {name} and {name}-wal");
+            log_left(log, name);
             Err(fault)
         }
     }
 }
 
+/// Logs which files of a `forget` that failed have to be removed.
+fn log_left<G: Log>(log: &G, name: &str) {
+    error!(log; "remove {name} and {name}-wal");
+}
+
 /// Prints how many answers and limits are kept.
-fn print_kept<W: Write>(alloc: Global, kept: Kept, output: &mut W) -> Result<(), ProgramFault>
+fn write_kept<W: Write>(alloc: Global, kept: Kept, output: &mut W) -> Result<(), ProgramFault>
     ensures { OnOk result (Appends (W.contents output.old) (W.contents output.new)
         (kept_line kept.answers kept.all kept.limits)) }
 {
     let line = kept_line(alloc, kept.answers, kept.all, kept.limits)?;
     print(output, line.as_bytes())
+}
+
+/// Prints how many answers and limits are kept. Where that fails nobody knows of the new file, so the log names it.
+fn print_kept<G: Log, W: Write>(
+    log: &G,
+    name: &str,
+    alloc: Global,
+    kept: Kept,
+    output: &mut W,
+) -> Result<(), ProgramFault>
+    ensures { OnOk result (Appends (W.contents output.old) (W.contents output.new)
+        (kept_line kept.answers kept.all kept.limits)) }
+{
+    let printed = write_kept(alloc, kept, output);
+    if printed.is_err() {
+        log_left(log, name);
+    }
+    printed
 }
 
 /// Puts what the ledger of the settings remembers into the new file of the words, and prints how much that is. The ledger
