@@ -87,11 +87,11 @@ impl Write for Unflushed {
 
 /// What an audit of a new ledger says over an output whose flush fails, after what it printed.
 fn audited_unflushed(alloc: Global) -> Result<String, Fail> {
-    let mut ledger = SqlLedger::in_memory(alloc, Zone::of_offset(0)?, 3)?;
+    let ledger = SqlLedger::in_memory(alloc, Zone::of_offset(0)?, 3)?;
     let mut output = Unflushed {
         taken: Vec::new(alloc),
     };
-    let said = match audit_ledger(alloc, &mut ledger, &mut output) {
+    let said = match audit_ledger(alloc, &ledger, &mut output) {
         Ok(()) => String::new(alloc),
         Err(fault) => fault.to_string(alloc)?,
     };
