@@ -5,6 +5,7 @@ pub mod ServingEnds
 pub mod ServingSteps
 pub mod Forgot
 pub mod ListingSteps
+pub mod AuditSteps
 pub mod CountingSteps
 pub mod DescribingSteps
 pub mod MakingSteps

@@ -1,5 +1,5 @@
 //! What `status` prints of a ledger that no server has open.
-ghost use Rattle.std.specs.Prelude.{◌≡◌, ◌⊎◌, IfErr, IfOk, string_bytes};
+ghost use Rattle.std.specs.Prelude.{◌≡◌, ◌≢◌, ◌⊎◌, IfErr, IfOk, string_bytes};
 ghost use Rattle.std.specs.Io.KnownBytes.{Keeps};
 ghost use Rattle.sqlite.specs.Held.{state};
 ghost use Rattle.mq_store.specs.Soundness.{HasKept, IsSound};
@@ -51,6 +51,7 @@ fn count_ledger<S: Alter>(ledger: &mut SqlLedger<S>) -> Result<LedgerCounts, Pro
         → IsSound ledger.old.zone ledger.old.default (state S.Store ledger.old.connection)
         → IfOk result (λ counts. AreCounts ledger.old.zone ledger.old.default
         (state S.Store ledger.old.connection).now ledger.old.found counts) }
+    ensures unprinted { IfErr result (λ fault. fault ≢ ProgramFault.Write) }
 {
     let answers = ledger.count_answers()?;
     let limits = ledger.limits()?;

@@ -10,7 +10,7 @@ returns-clause-counted g c = λ kept sound.
     let one = c.in_ok-answers.ensures in
     let two = c.in_ok-limits.ensures in
     let kept_one = two.kept kept in
-    let found = c.found.ensures ∙ two.counts ∙ one.counts in
+    let found = c.found-found.ensures ∙ two.counts ∙ one.counts in
     record {
       answers = one.counted kept_one sound;
       days = ap (λ f. f.days) found;
