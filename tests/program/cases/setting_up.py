@@ -11,6 +11,8 @@ from wire import BAD, RETRY, frame, limit, number, page_reply, reserve, settle, 
 ASKED = frame(b"\x05" + text(b"-") + number(0))
 ANSWER = frame(b"\x8b" + text(b"-") + number(0) + number(0) * 2 + number(3))
 UNAVAILABLE = fault("quota service unavailable")
+# nothing answers, and there is no file to look at
+NOTHING_TO_LOOK_AT = (*UNAVAILABLE[:2], f"{UNAVAILABLE[2]}mailquota: store is memory\n")
 SETTINGS_ARE_RIGHT = b"settings are right\n"
 MANUAL = f"{TOP}/man/mailquota.8"
 
@@ -87,9 +89,9 @@ def statuses(world, checks):
         checks.equal("status: nothing on the day that it asks of", world.run("report", "--server", address, "--day", "0"), (0, b"", ""))
     with nobody_there() as address:
         config = world.new_file(toml({"listen": address, "store": "memory", "default": 3, "offset": 0}))
-        for words in (["--server", address], ["--config", config]):
+        for words, wanted in ((["--server", address], UNAVAILABLE), (["--config", config], NOTHING_TO_LOOK_AT)):
             came = world.run("status", *words)
-            checks.equal(f"status {words[0]}, nobody there", without_log(came), UNAVAILABLE)
+            checks.equal(f"status {words[0]}, nobody there", without_log(came), wanted)
             log = [f"[ERROR mq_tcp::logged] quota server {address}: Connection refused (os error 111)\n"]
             checks.equal(f"status {words[0]}, nobody there: the log", apart(came[2])[0], log)
     checks.equal("status --config, which isn't there", without_log(world.run("status", "--config", f"{world.folder}/nothing")), fault("settings can't be read"))
