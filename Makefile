@@ -26,11 +26,11 @@ demo: build
 
 # docs/GATE.md says what it does. The last line is 'N passed, M failed'.
 check:
-	@RT=$(RT) python3 tests/edits/run.py gate
+	@RT=$(RT) python3 gate/run.py gate
 
 # The further must-fail edits, which the gate leaves out for its time.
 edits:
-	@RT=$(RT) python3 tests/edits/run.py further
+	@RT=$(RT) python3 gate/run.py further
 
 # The program over loopback, as peers, smtpd and administrators use it: Python 3 alone, a minute or two.
 program-tests:

@@ -8,6 +8,7 @@ usage: run.py [TREE]
   stands on as crates.txt has them. Each other file of its source begins with a line of what it is.
 - docs/ARCHITECTURE.md lists each crate of crates.txt once, and no other.
 - Each place that CONTRIBUTING.md sends a reader to is there, with the words that it says of it.
+- Names of code that were given up stand in no source, definition or proof.
 
 A test of these checks comes first: over small trees with one thing wrong, each has to find it. The last line is 'N passed, M failed', and the status
 1 where anything failed.
@@ -44,7 +45,7 @@ GIVEN_UP = re.compile(r"\b(?:%s)\b" % "|".join(WORDS).replace(" ", r"\s+(?:(?://
 DOCUMENTS = ["*.md", "CHANGELOG", "docs/*.md", "bench/*.md", "man/*", "contrib/*", "examples/*"]
 SOURCES = ["crates/*/src/**/*.rt"]
 DEFINITIONS = ["crates/*/specs/**/*.antt", "crates/*/proofs/**/*.antt"]
-SCRIPTS = ["tests/**/*.py", "bench/**/*.py"]
+SCRIPTS = ["gate/*.py", "tests/**/*.py", "bench/**/*.py"]
 
 # What is excepted: in which files which words, each with its reason.
 EXCEPTED = [
@@ -56,6 +57,19 @@ EXCEPTED = [
 
 # The roots of tests say which libraries they call, and crates.txt has them.
 OF_TESTS = ("mq_ends_tests", "mq_store_tests")
+
+# Names of code that were given up: what is found, and what is said instead. Of sources and definitions the code alone is read, without
+# comments and texts: a ledger's file has a table `ceiling` and a column `seq`.
+NAMES = {
+    r"seq'?": "number",
+    r"at: (?:&\s*)?(?:u64|Option<u64>)": "moment",
+    r"txn at'? (?:login|name)": "moment",
+    r"CloseEnd(?:::|\.)Drop": "Rollback",
+    r"Standing::(?:Login|Open)\s*\{\s*name": "login",
+    r"CeilingRecord|ceilings": "LimitRecord, limits",
+    r"crate::faults|declared\.faults": "fault",
+    r"(\w+) as An?\1": "Any..",
+}
 
 TOKEN = re.compile(r"""//[^\n]* | "(?:\\.|[^"\\])*" | '(?:\\.[^']*|[^'\\])' | [^/"']+ | .""", re.VERBOSE | re.DOTALL)
 PLACE = re.compile(r"`([a-z_]+/src/[a-z_/]+\.rt)`")
@@ -206,7 +220,23 @@ def sent_to(tree):
         yield f"CONTRIBUTING.md, {what.replace('*', '')}", wrong
 
 
-CHECKS = [words, pages, listed, sent_to]
+def without_texts(text, file):
+    """The code of a source or of definitions, without comments and texts."""
+    if file.endswith(".rt"):
+        return "".join(blank(it) if it.startswith(("//", '"')) else it for it in TOKEN.findall(text))
+    return re.sub(r'"(?:\\.|[^"\\\n])*"|(?:(?<=\s)|\A)--[^\n]*', "", text)
+
+
+def names(tree):
+    """Yields of each name of code that was given up where it stands."""
+    texts = {file: without_texts(read(tree, file), file) for file in files(tree, [*SOURCES, *DEFINITIONS])}
+    for name, instead in NAMES.items():
+        found = [f"{file}:{text.count(chr(10), 0, it.start()) + 1}: '{' '.join(it[0].split())}' was given up ({instead})"
+                 for file, text in texts.items() for it in re.finditer(rf"\b(?:{name})\b", text)]
+        yield f"the name {name}", found
+
+
+CHECKS = [words, pages, listed, sent_to, names]
 
 # A tree with nothing wrong, and what each of these changes makes of it: the file, the text there, what takes its place, and the check that finds it.
 TREE = {
@@ -247,6 +277,15 @@ WRONG = [
     ("CONTRIBUTING.md", "`done`", "`well`", sent_to),
     ("CONTRIBUTING.md", "specs/Done", "specs/Gone", sent_to),
     ("crates/mq_high/src/lib.rt", "pub fn call(", "pub fn cell(", sent_to),
+    ("crates/mq_low/src/lib.rt", "pub fn low(at: u8)", "pub fn low(seq: u8)", names),
+    ("crates/mq_low/src/lib.rt", "pub fn low(at: u8)", "pub fn low(at: u64)", names),
+    ("crates/mq_high/specs/Done.antt", "IsDone n = n", "IsDone txn at login = txn", names),
+    ("crates/mq_high/specs/Done.antt", "IsDone n = n", "IsDone seq' = seq'", names),
+    ("crates/mq_high/src/lib.rt", "    low(1)\n}", "    low(1);\n    low(CloseEnd::Drop)\n}", names),
+    ("crates/mq_high/src/lib.rt", "    low(1)\n}", "    low(1);\n    low(Standing::Login { name })\n}", names),
+    ("crates/mq_high/specs/Done.antt", "n ≡ behind", "n.ceilings ≡ behind", names),
+    ("crates/mq_high/src/lib.rt", "pub fn call(", "use crate::faults;\npub fn call(", names),
+    ("crates/mq_high/specs/Done.antt", "IsDone n", "use Low.{Done as ADone}\nIsDone n", names),
 ]
 
 

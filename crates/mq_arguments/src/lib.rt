@@ -145,7 +145,7 @@ pub struct DayArguments<'a> {
     /// The file of the server's settings.
     pub config: &'a str,
     /// The second since 1970-01-01T00:00:00Z whose day is asked for, 86,400 to 32,503,680,000, or the clock's.
-    pub at: Option<u64>,
+    pub moment: Option<u64>,
 }
 
 /// What `retire` is given.

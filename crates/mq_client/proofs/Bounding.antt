@@ -23,10 +23,10 @@ length_asked : (o : Option Held) (txn : ℕ) (live : List ℕ) → length (with_
 length_asked None txn live = omega arith
 length_asked (Some h) txn live = refl
 
-ask_bounded : (s : Source) (n : ℕ) (v : View) (txn at : ℕ) (login : List ℕ) (x : Exchange) (group : List Exchange) → refuses (held_by (v.standing txn)) (length v.live) v.numbers (length v.waiting) at login ≡ false → IsBounded v
-    → IsBounded (after s v (Ask txn at login) (x ∷ group))
-ask_bounded s n v txn at login x group free b =
-    let room = has_room (held_by (v.standing txn)) (length v.live) v.numbers (length v.waiting) at login free b.places b.numbers in
+ask_bounded : (s : Source) (n : ℕ) (v : View) (txn moment : ℕ) (login : List ℕ) (x : Exchange) (group : List Exchange) → refuses (held_by (v.standing txn)) (length v.live) v.numbers (length v.waiting) moment login ≡ false → IsBounded v
+    → IsBounded (after s v (Ask txn moment login) (x ∷ group))
+ask_bounded s n v txn moment login x group free b =
+    let room = has_room (held_by (v.standing txn)) (length v.live) v.numbers (length v.waiting) moment login free b.places b.numbers in
     let long = length_asked (held_by (v.standing txn)) txn v.live in
     record { places = room.places _ long; numbers = room.numbers _ long }
 
@@ -41,8 +41,8 @@ close_bounded s v txn end group (Some h) e all b =
     }
 
 bounded_step : (s : Source) (n : ℕ) (v : View) (a : Action) (group : List Exchange) → ComeInTurn n (queue_of s v (held_for v a) a) group → AreCounted v → IsBounded v → IsBounded (after s v a group)
-bounded_step s n v (Ask txn at login) [] turns all b = b
-bounded_step s n v (Ask txn at login) (x ∷ group) turns all b = ask_bounded s n v txn at login x group (asked_free _ n (reserve_of s (v.numbers + 1) txn at login) x.request group turns.0) b
+bounded_step s n v (Ask txn moment login) [] turns all b = b
+bounded_step s n v (Ask txn moment login) (x ∷ group) turns all b = ask_bounded s n v txn moment login x group (asked_free _ n (reserve_of s (v.numbers + 1) txn moment login) x.request group turns.0) b
 bounded_step s n v (Close txn end) group turns all b = close_bounded s v txn end group (held_by (v.standing txn)) refl all b
 bounded_step s n v Drain group turns all b = record { places = omega (arith, b.places, length-drop (decisions group) v.waiting); numbers = b.numbers }
 
@@ -80,7 +80,7 @@ ask_queue true q = omega arith
 ask_queue false q = omega arith
 
 queue_length : (s : Source) (v : View) (a : Action) (o : Option Held) → held_for v a ≡ o → AreCounted v → IsBounded v → length (queue_of s v o a) ≤ 4096
-queue_length s v (Ask txn at login) o e all b = ask_queue (refuses o (length v.live) v.numbers (length v.waiting) at login) (reserve_of s (v.numbers + 1) txn at login)
+queue_length s v (Ask txn moment login) o e all b = ask_queue (refuses o (length v.live) v.numbers (length v.waiting) moment login) (reserve_of s (v.numbers + 1) txn moment login)
 queue_length s v (Close txn end) None e all b = omega arith
 queue_length s v (Close txn end) (Some h) e all b =
     let q = closing_of s (v.numbers + 1) txn end h in

@@ -58,18 +58,18 @@ ask_counted t txn now v None false e f all = rw f (all t)
 ask_counted t txn now v (Some h) true e f all = ap (λ k. count_in k v.live) (sym (eqb-true txn t f)) ∙ all txn ∙ ap (λ k. one_if (is_some k)) e
 ask_counted t txn now v (Some h) false e f all = all t
 
-close_counted : (t : ℕ) (v : View) (end : CloseEnd) (seq : ℕ) (h : Held) (b : Bool) → count_in t v.live ≡ one_if (is_some (held_by (v.standing t)))
-    → (if b then 0 else count_in t v.live) ≡ one_if (is_some (held_by (if b then Closed end seq h else v.standing t)))
-close_counted t v end seq h true e = refl
-close_counted t v end seq h false e = e
+close_counted : (t : ℕ) (v : View) (end : CloseEnd) (number : ℕ) (h : Held) (b : Bool) → count_in t v.live ≡ one_if (is_some (held_by (v.standing t)))
+    → (if b then 0 else count_in t v.live) ≡ one_if (is_some (held_by (if b then Closed end number h else v.standing t)))
+close_counted t v end number h true e = refl
+close_counted t v end number h false e = e
 
 counted_close : (s : Source) (txn : ℕ) (end : CloseEnd) (group : List Exchange) (v : View) (o : Option Held) → AreCounted v → AreCounted (after_close s txn end group v o)
 counted_close s txn end group v None all = all
 counted_close s txn end group v (Some h) all = λ t. count_without t txn v.live ∙ close_counted t v end (v.numbers + 1) h (txn == t) (all t)
 
 pub counted_step : (s : Source) (v : View) (a : Action) (group : List Exchange) → AreCounted v → AreCounted (after s v a group)
-counted_step s v (Ask txn at login) [] all = all
-counted_step s v (Ask txn at login) (x ∷ group) all = λ t. ask_counted t txn _ v (held_by (v.standing txn)) (txn == t) refl refl all
+counted_step s v (Ask txn moment login) [] all = all
+counted_step s v (Ask txn moment login) (x ∷ group) all = λ t. ask_counted t txn _ v (held_by (v.standing txn)) (txn == t) refl refl all
 counted_step s v (Close txn end) group all = counted_close s txn end group v (held_by (v.standing txn)) all
 counted_step s v Drain group all = all
 

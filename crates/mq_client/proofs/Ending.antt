@@ -9,8 +9,8 @@ use Rattle.mq_client.specs.Turns.{all_outcomes}
 use Rattle.mq_client.specs.Filter.{Filters, push, actions, answer_count}
 use Rattle.mq_client.specs.Run.{Stage, BeforeReady, AfterReady, Reaches, HasText, Outside, StandsFirst, EndsWith, IsFound, IsInHand, StopsAt}
 use Rattle.mq_client.specs.Place.{is_of_input}
-use Rattle.mq_client.specs.declared.faults.FilterFault.{FilterFault}
-use Rattle.mq_client.specs.declared.faults.FilterFault.TheVariants as at
+use Rattle.mq_client.specs.declared.fault.FilterFault.{FilterFault}
+use Rattle.mq_client.specs.declared.fault.FilterFault.TheVariants as faults
 use Rattle.mq_client.specs.declared.filter.Ended.{Ended}
 use Rattle.mq_client.proofs.Looping.{is_line_none}
 use Rattle.mq_client.proofs.Turning.{OneReply}
@@ -50,38 +50,38 @@ no_rest left rest e = ap (λ (l : List ℕ). left ++ l) e ∙ append-nil left
 
 found_fate : (C : Cutting) (f : FilterFault) (stage : Stage) (pieces : List (List ℕ)) (left rest : List ℕ) (read_failed write_failed : Bool) → is_of_input f ≡ true → IsFound f stage pieces left (Some rest) read_failed write_failed
     → Fate stage (all_lines (left ++ rest)) (left_over (left ++ rest)) (Some f)
-found_fate C (at.Line f) stage pieces left rest read_failed write_failed i (line, first, e) = at_line C stage line left rest (Some (at.Line f)) first (Unread f e refl)
-found_fate C (at.Track f) stage pieces left rest read_failed write_failed i (L, m, line, s, first, reads, e) = at_line C stage line left rest (Some (at.Track f)) first (Untracked m L f s reads e refl)
-found_fate C at.NotReady stage pieces left rest read_failed write_failed i (m, line, s, first, reads, e) = at_line C stage line left rest (Some at.NotReady) first (TooEarly m s reads e refl)
-found_fate C at.EndedEarly stage pieces left rest read_failed write_failed i (s, none, end) =
+found_fate C (faults.Line f) stage pieces left rest read_failed write_failed i (line, first, e) = at_line C stage line left rest (Some (faults.Line f)) first (Unread f e refl)
+found_fate C (faults.Track f) stage pieces left rest read_failed write_failed i (L, m, line, s, first, reads, e) = at_line C stage line left rest (Some (faults.Track f)) first (Untracked m L f s reads e refl)
+found_fate C faults.NotReady stage pieces left rest read_failed write_failed i (m, line, s, first, reads, e) = at_line C stage line left rest (Some faults.NotReady) first (TooEarly m s reads e refl)
+found_fate C faults.EndedEarly stage pieces left rest read_failed write_failed i (s, none, end) =
     let (f, g) = nothing_left C (left ++ rest) (both_nil left rest none end) in
     AtEnd f (NeverReady s g refl)
-found_fate C at.CutLine stage pieces left rest read_failed write_failed i (some, one, end) =
+found_fate C faults.CutLine stage pieces left rest read_failed write_failed i (some, one, end) =
     let same = no_rest left rest end in
     let F : List ℕ → Type 0 = IsLine in
     let all : IsLine (left ++ rest) = subst F (sym same) one in
     let (f, g) = no_lines C (left ++ rest) (inl all) in
     AtEnd f (InLine (λ none. some (sym (g ∙ same) ∙ none)) (subst F (sym g) all) refl)
-found_fate C at.TooLong stage pieces left rest read_failed write_failed i long =
+found_fate C faults.TooLong stage pieces left rest read_failed write_failed i long =
     let all = C.too_long left rest long in
     let (f, g) = no_lines C (left ++ rest) (inr all) in
     let F : List ℕ → Type 0 = IsTooLong in
     AtEnd f (Long (subst F (sym g) all) refl)
-found_fate C at.Read stage pieces left rest read_failed write_failed i found = absurd (true_false (sym i))
-found_fate C at.Write stage pieces left rest read_failed write_failed i found = absurd (true_false (sym i))
-found_fate C at.Memory stage pieces left rest read_failed write_failed i found = absurd (true_false (sym i))
+found_fate C faults.Read stage pieces left rest read_failed write_failed i found = absurd (true_false (sym i))
+found_fate C faults.Write stage pieces left rest read_failed write_failed i found = absurd (true_false (sym i))
+found_fate C faults.Memory stage pieces left rest read_failed write_failed i found = absurd (true_false (sym i))
 
 -- at a fault of the input no line is in hand
 quiet : (f : FilterFault) (stage : Stage) (left : List ℕ) (step : Option Step) (next : List ℕ) → is_of_input f ≡ true → IsInHand f stage left step next → (step ≡ None) × (next ≡ [])
-quiet (at.Line f) stage left step next i h = h
-quiet (at.Track f) stage left step next i h = h
-quiet at.NotReady stage left step next i h = h
-quiet at.EndedEarly stage left step next i h = h
-quiet at.CutLine stage left step next i h = h
-quiet at.TooLong stage left step next i h = h
-quiet at.Read stage left step next i h = h
-quiet at.Write stage left step next i h = absurd (true_false (sym i))
-quiet at.Memory stage left step next i h = absurd (true_false (sym i))
+quiet (faults.Line f) stage left step next i h = h
+quiet (faults.Track f) stage left step next i h = h
+quiet faults.NotReady stage left step next i h = h
+quiet faults.EndedEarly stage left step next i h = h
+quiet faults.CutLine stage left step next i h = h
+quiet faults.TooLong stage left step next i h = h
+quiet faults.Read stage left step next i h = h
+quiet faults.Write stage left step next i h = absurd (true_false (sym i))
+quiet faults.Memory stage left step next i h = absurd (true_false (sym i))
 
 front_nil : (front rest : List ℕ) → front ++ rest ≡ [] → front ≡ []
 front_nil [] rest e = refl

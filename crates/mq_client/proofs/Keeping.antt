@@ -17,21 +17,21 @@ held_where old new txn t o h false e n all here f = all t h (sym n ∙ f)
 pub AllHeld-set : (old new : List (ℕ × Held)) (txn : ℕ) (o : Option Held) → ((t : ℕ) → find new t ≡ (if txn == t then o else find old t)) → AllHeld old → ((k : Held) → o ≡ Some k → IsHeld txn k) → AllHeld new
 AllHeld-set old new txn o n all here = λ t h f. held_where old new txn t o h (txn == t) refl (n t) all here f
 
-pub opened_in_range : (held : List (ℕ × Held)) (txn at : ℕ) (login : List ℕ) (o : Option Held) → find held txn ≡ o → AllHeld held → IsOrdinal txn → IsMoment at → IsLogin login → IsHeld txn (opened at login o)
-opened_in_range held txn at login None e all n m l = record { number = n; at = m; login = l; granted = omega arith }
-opened_in_range held txn at login (Some h) e all n m l = all txn h e
+pub opened_in_range : (held : List (ℕ × Held)) (txn moment : ℕ) (login : List ℕ) (o : Option Held) → find held txn ≡ o → AllHeld held → IsOrdinal txn → IsMoment moment → IsLogin login → IsHeld txn (opened moment login o)
+opened_in_range held txn moment login None e all n m l = record { number = n; moment = m; login = l; granted = omega arith }
+opened_in_range held txn moment login (Some h) e all n m l = all txn h e
 
 pub let_in_range : (txn : ℕ) (answer : Asked) (h : Held) → h.granted < 1000 → IsHeld txn h → IsHeld txn (let_through answer h)
-let_in_range txn asked.Granted h few i = record { number = i.number; at = i.at; login = i.login; granted = omega (arith, few) }
+let_in_range txn asked.Granted h few i = record { number = i.number; moment = i.moment; login = i.login; granted = omega (arith, few) }
 let_in_range txn asked.Full h few i = i
 let_in_range txn asked.Unavailable h few i = i
 
 -- a transaction after an ask
-pub asked_in_range : (held new : List (ℕ × Held)) (txn at : ℕ) (login : List ℕ) (answer : Asked) → (opened at login (find held txn)).granted < 1000
-    → ((t : ℕ) → find new t ≡ (if txn == t then Some (let_through answer (opened at login (find held txn))) else find held t))
-    → AllHeld held → IsOrdinal txn → IsMoment at → IsLogin login → AllHeld new
-asked_in_range held new txn at login answer few n all i m l =
-    AllHeld-set held new txn _ n all (λ k e. subst (IsHeld txn) (some_is _ k e) (let_in_range txn answer _ few (opened_in_range held txn at login (find held txn) refl all i m l)))
+pub asked_in_range : (held new : List (ℕ × Held)) (txn moment : ℕ) (login : List ℕ) (answer : Asked) → (opened moment login (find held txn)).granted < 1000
+    → ((t : ℕ) → find new t ≡ (if txn == t then Some (let_through answer (opened moment login (find held txn))) else find held t))
+    → AllHeld held → IsOrdinal txn → IsMoment moment → IsLogin login → AllHeld new
+asked_in_range held new txn moment login answer few n all i m l =
+    AllHeld-set held new txn _ n all (λ k e. subst (IsHeld txn) (some_is _ k e) (let_in_range txn answer _ few (opened_in_range held txn moment login (find held txn) refl all i m l)))
 
 pub closed_in_range : (held new : List (ℕ × Held)) (txn : ℕ) → ((t : ℕ) → find new t ≡ (if txn == t then None else find held t)) → AllHeld held → AllHeld new
 closed_in_range held new txn n all = AllHeld-set held new txn None n all (λ k e. absurd (none_some k e))
@@ -44,21 +44,21 @@ or_false false b e = (refl, e)
 pub record HasRoom (o : Option Held) (live used waiting : ℕ) : Type 0 where
   pub places : (new : ℕ) → new ≡ (if is_some o then live else live + 1) → new + waiting ≤ 4096
   pub numbers : (new : ℕ) → new ≡ (if is_some o then live else live + 1) → used + 1 + new ≤ 4294967295
-  pub few : (at : ℕ) (login : List ℕ) → (opened at login o).granted < 1000
+  pub few : (moment : ℕ) (login : List ℕ) → (opened moment login o).granted < 1000
 
-pub has_room : (o : Option Held) (live numbers waiting at : ℕ) (login : List ℕ) → refuses o live numbers waiting at login ≡ false → live + waiting ≤ 4096 → numbers + live ≤ 4294967295 → HasRoom o live numbers waiting
-has_room None live numbers waiting at login e places limit =
+pub has_room : (o : Option Held) (live numbers waiting moment : ℕ) (login : List ℕ) → refuses o live numbers waiting moment login ≡ false → live + waiting ≤ 4096 → numbers + live ≤ 4294967295 → HasRoom o live numbers waiting
+has_room None live numbers waiting moment login e places limit =
     let (a, b) = or_false (nat_le 4096 (live + waiting)) _ e in
     record {
       places = λ new f. omega (arith, f, leb-false 4096 (live + waiting) a);
       numbers = λ new f. omega (arith, f, ltb-false (4294967295 - numbers) (1 + (live + 1)) b);
-      few = λ at' login'. omega arith;
+      few = λ moment' login'. omega arith;
     }
-has_room (Some h) live numbers waiting at login e places limit =
-    let (a, b) = or_false (is_other h at login) _ e in
+has_room (Some h) live numbers waiting moment login e places limit =
+    let (a, b) = or_false (is_other h moment login) _ e in
     let (c, d) = or_false (nat_le 1000 h.granted) _ b in
     record {
       places = λ new f. omega (arith, f, places);
       numbers = λ new f. omega (arith, f, ltb-false (4294967295 - numbers) (1 + live) d);
-      few = λ at' login'. omega (arith, leb-false 1000 h.granted c);
+      few = λ moment' login'. omega (arith, leb-false 1000 h.granted c);
     }

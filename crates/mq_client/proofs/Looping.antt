@@ -20,8 +20,8 @@ use Rattle.mq_client.specs.Past.{Source, Drain, Step, State, StandsAt, view, Pla
 use Rattle.mq_client.specs.Filter.{Takes, Closes, push, is_filter, answer_count}
 use Rattle.mq_client.specs.Run.{IsEarly, is_early, IsReady, Stage, BeforeReady, AfterReady, Outside, around, StandsFirst, EndsWith, IsAtWork, IsFound, MayGo, IsInHand, StopsAt}
 use Rattle.mq_client.specs.Loop.{Does, MakesOne, told_one, IsAt, SoFar, Carries, IsCut, IsRefused, Replies, StopsWithin}
-use Rattle.mq_client.specs.declared.faults.FilterFault.{FilterFault}
-use Rattle.mq_client.specs.declared.faults.FilterFault.TheVariants as at
+use Rattle.mq_client.specs.declared.fault.FilterFault.{FilterFault}
+use Rattle.mq_client.specs.declared.fault.FilterFault.TheVariants as faults
 use Rattle.mq_client.specs.declared.filter.Ended.{Ended}
 use Rattle.mq_client.specs.declared.filter.Filter.{Filter}
 use Rattle.mq_link.specs.declared.link.Told.{Told}
@@ -218,7 +218,7 @@ pub stops_within : (o : Outside) (pieces : List (List ℕ)) (left : List ℕ) (f
     → SoFar o (concat pieces) left f old → Does old new step front
     → ((stage : Stage) → IsAt f stage → IsFound fault stage pieces left source read_failed write_failed)
     → ((stage : Stage) → IsAt f stage → IsInHand fault stage left step (front ++ rest))
-    → ((stage : Stage) → IsAt f stage → fault ≡ at.Memory → IsAtWork stage left)
+    → ((stage : Stage) → IsAt f stage → fault ≡ faults.Memory → IsAtWork stage left)
     → StopsWithin o pieces source new read_failed write_failed fault
 unfolding stops
 stops_within o pieces left f source old new read_failed write_failed fault step front rest s does found in_hand work =
@@ -226,26 +226,26 @@ stops_within o pieces left f source old new read_failed write_failed fault step 
 
 -- a fault that cuts a line's work short
 pub cut_found : (fault : FilterFault) (stage : Stage) (pieces : List (List ℕ)) (left : List ℕ) (source : Option (List ℕ)) (read_failed write_failed : Bool) → IsCut fault write_failed → IsAtWork stage left → IsFound fault stage pieces left source read_failed write_failed
-cut_found at.Write stage pieces left source read_failed write_failed c w = c
-cut_found at.Memory stage pieces left source read_failed write_failed c w = inr w
-cut_found (at.Line f) stage pieces left source read_failed write_failed c w = absurd c
-cut_found (at.Track f) stage pieces left source read_failed write_failed c w = absurd c
-cut_found at.NotReady stage pieces left source read_failed write_failed c w = absurd c
-cut_found at.EndedEarly stage pieces left source read_failed write_failed c w = absurd c
-cut_found at.CutLine stage pieces left source read_failed write_failed c w = absurd c
-cut_found at.TooLong stage pieces left source read_failed write_failed c w = absurd c
-cut_found at.Read stage pieces left source read_failed write_failed c w = absurd c
+cut_found faults.Write stage pieces left source read_failed write_failed c w = c
+cut_found faults.Memory stage pieces left source read_failed write_failed c w = inr w
+cut_found (faults.Line f) stage pieces left source read_failed write_failed c w = absurd c
+cut_found (faults.Track f) stage pieces left source read_failed write_failed c w = absurd c
+cut_found faults.NotReady stage pieces left source read_failed write_failed c w = absurd c
+cut_found faults.EndedEarly stage pieces left source read_failed write_failed c w = absurd c
+cut_found faults.CutLine stage pieces left source read_failed write_failed c w = absurd c
+cut_found faults.TooLong stage pieces left source read_failed write_failed c w = absurd c
+cut_found faults.Read stage pieces left source read_failed write_failed c w = absurd c
 
 pub cut_in_hand : (fault : FilterFault) (stage : Stage) (left : List ℕ) (write_failed : Bool) (step : Option Step) (next : List ℕ) → IsCut fault write_failed → MayGo stage left step next → IsInHand fault stage left step next
-cut_in_hand at.Write stage left write_failed step next c h = h
-cut_in_hand at.Memory stage left write_failed step next c h = h
-cut_in_hand (at.Line f) stage left write_failed step next c h = absurd c
-cut_in_hand (at.Track f) stage left write_failed step next c h = absurd c
-cut_in_hand at.NotReady stage left write_failed step next c h = absurd c
-cut_in_hand at.EndedEarly stage left write_failed step next c h = absurd c
-cut_in_hand at.CutLine stage left write_failed step next c h = absurd c
-cut_in_hand at.TooLong stage left write_failed step next c h = absurd c
-cut_in_hand at.Read stage left write_failed step next c h = absurd c
+cut_in_hand faults.Write stage left write_failed step next c h = h
+cut_in_hand faults.Memory stage left write_failed step next c h = h
+cut_in_hand (faults.Line f) stage left write_failed step next c h = absurd c
+cut_in_hand (faults.Track f) stage left write_failed step next c h = absurd c
+cut_in_hand faults.NotReady stage left write_failed step next c h = absurd c
+cut_in_hand faults.EndedEarly stage left write_failed step next c h = absurd c
+cut_in_hand faults.CutLine stage left write_failed step next c h = absurd c
+cut_in_hand faults.TooLong stage left write_failed step next c h = absurd c
+cut_in_hand faults.Read stage left write_failed step next c h = absurd c
 
 pub first_of : (line rest : List ℕ) → IsLine line → StandsFirst line (line ++ 10 ∷ rest)
 first_of line rest one = record { is_line = one; rest = rest; whole = refl }
@@ -292,28 +292,28 @@ request_works f stage line rest seconds subsystem phase session token more h a o
     let (L, is, tracks, counted) = at_after f stage h a in
     rw is (FilterLine seconds subsystem phase session token more, line, first_of line rest one, reads, refl, refl)
 
-track_apart : {e : TrackFault} → at.Track e ≡ at.Memory → ⊥
+track_apart : {e : TrackFault} → faults.Track e ≡ faults.Memory → ⊥
 track_apart h = cc (h)
 
 -- a line that wasn't noted
 pub refused_stops : (fault : FilterFault) (f : Filter) (stage : Stage) (pieces : List (List ℕ)) (line rest : List ℕ) (m : Meaning) (source : Option (List ℕ)) (read_failed write_failed : Bool) → f.is_ready ≡ true → IsAt f stage → IsLine line → Reads line m
     → ((L : List Meaning) → TracksAt f.tracker L → IsRefused fault L m)
-    → IsFound fault stage pieces (line ++ 10 ∷ rest) source read_failed write_failed × IsInHand fault stage (line ++ 10 ∷ rest) None [] × (fault ≡ at.Memory → IsAtWork stage (line ++ 10 ∷ rest))
-refused_stops (at.Track e) f stage pieces line rest m source read_failed write_failed h a one reads refused =
+    → IsFound fault stage pieces (line ++ 10 ∷ rest) source read_failed write_failed × IsInHand fault stage (line ++ 10 ∷ rest) None [] × (fault ≡ faults.Memory → IsAtWork stage (line ++ 10 ∷ rest))
+refused_stops (faults.Track e) f stage pieces line rest m source read_failed write_failed h a one reads refused =
     let (L, is, tracks, counted) = at_after f stage h a in
     ((L, m, line, is, first_of line rest one, reads, refused L tracks), (refl, refl), λ e. absurd (track_apart e))
-refused_stops at.Memory f stage pieces line rest m source read_failed write_failed h a one reads refused =
+refused_stops faults.Memory f stage pieces line rest m source read_failed write_failed h a one reads refused =
     let (L, is, tracks, counted) = at_after f stage h a in
     let (none, may) = refused L tracks in
     let work : IsAtWork stage (line ++ 10 ∷ rest) = rw is (m, line, first_of line rest one, reads, none, may) in
     (inr work, inl (refl, refl), λ e. work)
-refused_stops (at.Line e) f stage pieces line rest m source read_failed write_failed h a one reads refused = let (L, is, tracks, counted) = at_after f stage h a in absurd (refused L tracks)
-refused_stops at.NotReady f stage pieces line rest m source read_failed write_failed h a one reads refused = let (L, is, tracks, counted) = at_after f stage h a in absurd (refused L tracks)
-refused_stops at.EndedEarly f stage pieces line rest m source read_failed write_failed h a one reads refused = let (L, is, tracks, counted) = at_after f stage h a in absurd (refused L tracks)
-refused_stops at.CutLine f stage pieces line rest m source read_failed write_failed h a one reads refused = let (L, is, tracks, counted) = at_after f stage h a in absurd (refused L tracks)
-refused_stops at.TooLong f stage pieces line rest m source read_failed write_failed h a one reads refused = let (L, is, tracks, counted) = at_after f stage h a in absurd (refused L tracks)
-refused_stops at.Read f stage pieces line rest m source read_failed write_failed h a one reads refused = let (L, is, tracks, counted) = at_after f stage h a in absurd (refused L tracks)
-refused_stops at.Write f stage pieces line rest m source read_failed write_failed h a one reads refused = let (L, is, tracks, counted) = at_after f stage h a in absurd (refused L tracks)
+refused_stops (faults.Line e) f stage pieces line rest m source read_failed write_failed h a one reads refused = let (L, is, tracks, counted) = at_after f stage h a in absurd (refused L tracks)
+refused_stops faults.NotReady f stage pieces line rest m source read_failed write_failed h a one reads refused = let (L, is, tracks, counted) = at_after f stage h a in absurd (refused L tracks)
+refused_stops faults.EndedEarly f stage pieces line rest m source read_failed write_failed h a one reads refused = let (L, is, tracks, counted) = at_after f stage h a in absurd (refused L tracks)
+refused_stops faults.CutLine f stage pieces line rest m source read_failed write_failed h a one reads refused = let (L, is, tracks, counted) = at_after f stage h a in absurd (refused L tracks)
+refused_stops faults.TooLong f stage pieces line rest m source read_failed write_failed h a one reads refused = let (L, is, tracks, counted) = at_after f stage h a in absurd (refused L tracks)
+refused_stops faults.Read f stage pieces line rest m source read_failed write_failed h a one reads refused = let (L, is, tracks, counted) = at_after f stage h a in absurd (refused L tracks)
+refused_stops faults.Write f stage pieces line rest m source read_failed write_failed h a one reads refused = let (L, is, tracks, counted) = at_after f stage h a in absurd (refused L tracks)
 
 -- ---- the end
 

@@ -42,39 +42,39 @@ match_false false A B e a = a
 -- ---- asks
 
 -- an ask that is refused changes nothing
-pub refused : (c : State) (txn at : ℕ) (login : List ℕ) → refuses (find c.held txn) (length c.held) c.numbers (length c.waiting) at login ≡ true → Makes c c (record { action = Ask txn at login; group = [] })
-refused c txn at login h = record {
+pub refused : (c : State) (txn moment : ℕ) (login : List ℕ) → refuses (find c.held txn) (length c.held) c.numbers (length c.waiting) moment login ≡ true → Makes c c (record { action = Ask txn moment login; group = [] })
+refused c txn moment login h = record {
   source = refl;
   tries = refl;
-  plays = λ P st. plays_alike c.source c.tries (Ask txn at login) [] _ _ _ _ _ _ _ _ (st.held txn) st.live st.numbers st.waiting (match_true _ _ _ h refl);
+  plays = λ P st. plays_alike c.source c.tries (Ask txn moment login) [] _ _ _ _ _ _ _ _ (st.held txn) st.live st.numbers st.waiting (match_true _ _ _ h refl);
   stands = λ P st. record { held = st.held; live = st.live; numbers = st.numbers; waiting = st.waiting };
 }
 
-held_at : (v : View) (txn at : ℕ) (login : List ℕ) (answer now : Asked) (held new : List (ℕ × Held)) (t : ℕ) (b : Bool) → answer ≡ now
-    → find new t ≡ (if b then Some (let_through answer (opened at login (find held txn))) else find held t)
+held_at : (v : View) (txn moment : ℕ) (login : List ℕ) (answer now : Asked) (held new : List (ℕ × Held)) (t : ℕ) (b : Bool) → answer ≡ now
+    → find new t ≡ (if b then Some (let_through answer (opened moment login (find held txn))) else find held t)
     → ((k : ℕ) → find held k ≡ held_by (v.standing k))
-    → find new t ≡ held_by (if b then Live (let_through now (opened at login (held_by (v.standing txn)))) else v.standing t)
-held_at v txn at login answer now held new t true e n h = n ∙ ap (λ o. Some (let_through answer (opened at login o))) (h txn) ∙ ap (λ a. Some (let_through a (opened at login (held_by (v.standing txn))))) e
-held_at v txn at login answer now held new t false e n h = n ∙ h t
+    → find new t ≡ held_by (if b then Live (let_through now (opened moment login (held_by (v.standing txn)))) else v.standing t)
+held_at v txn moment login answer now held new t true e n h = n ∙ ap (λ o. Some (let_through answer (opened moment login o))) (h txn) ∙ ap (λ a. Some (let_through a (opened moment login (held_by (v.standing txn))))) e
+held_at v txn moment login answer now held new t false e n h = n ∙ h t
 
 live_at : (o p : Option Held) (txn : ℕ) (live : List ℕ) (old new : ℕ) → o ≡ p → old ≡ length live → new ≡ (if is_some o then old else old + 1) → new ≡ length (with_asked txn p live)
 live_at None p txn live old new e l n = rw (← e) (omega (arith, n, l))
 live_at (Some h) p txn live old new e l n = rw (← e) (n ∙ l)
 
 -- an ask with its exchanges
-pub asked : (c d : State) (txn at : ℕ) (login : List ℕ) (group : List Exchange) (decided : Option Reply) → 1 ≤ c.tries → d.source ≡ c.source → d.tries ≡ c.tries
-    → refuses (find c.held txn) (length c.held) c.numbers (length c.waiting) at login ≡ false
-    → AreTries c.tries (reserve_of c.source (c.numbers + 1) txn at login) group decided
-    → ((t : ℕ) → find d.held t ≡ (if txn == t then Some (let_through (answer_by decided) (opened at login (find c.held txn))) else find c.held t))
+pub asked : (c d : State) (txn moment : ℕ) (login : List ℕ) (group : List Exchange) (decided : Option Reply) → 1 ≤ c.tries → d.source ≡ c.source → d.tries ≡ c.tries
+    → refuses (find c.held txn) (length c.held) c.numbers (length c.waiting) moment login ≡ false
+    → AreTries c.tries (reserve_of c.source (c.numbers + 1) txn moment login) group decided
+    → ((t : ℕ) → find d.held t ≡ (if txn == t then Some (let_through (answer_by decided) (opened moment login (find c.held txn))) else find c.held t))
     → length d.held ≡ (if is_some (find c.held txn) then length c.held else length c.held + 1) → d.numbers ≡ c.numbers + 1 → d.waiting ≡ c.waiting
-    → Makes c d (record { action = Ask txn at login; group = group })
-asked c d txn at login [] decided pos source same free tries held len numbers waiting = absurd (not_empty c.tries (reserve_of c.source (c.numbers + 1) txn at login) decided pos tries)
-asked c d txn at login (x ∷ group) decided pos source same free tries held len numbers waiting = record {
+    → Makes c d (record { action = Ask txn moment login; group = group })
+asked c d txn moment login [] decided pos source same free tries held len numbers waiting = absurd (not_empty c.tries (reserve_of c.source (c.numbers + 1) txn moment login) decided pos tries)
+asked c d txn moment login (x ∷ group) decided pos source same free tries held len numbers waiting = record {
   source = source;
   tries = same;
-  plays = λ P st. plays_alike c.source c.tries (Ask txn at login) (x ∷ group) _ _ _ _ _ _ _ _ (st.held txn) st.live st.numbers st.waiting (match_false _ _ _ free (decided, tries));
-  stands = λ P st. rw source (let now : answer_by decided ≡ answer_of (x ∷ group) = sym (answer_of_tries c.tries (reserve_of c.source (c.numbers + 1) txn at login) (x ∷ group) decided tries) in record {
-    held = λ t. held_at (view c.source P) txn at login (answer_by decided) (answer_of (x ∷ group)) c.held d.held t (txn == t) now (held t) st.held;
+  plays = λ P st. plays_alike c.source c.tries (Ask txn moment login) (x ∷ group) _ _ _ _ _ _ _ _ (st.held txn) st.live st.numbers st.waiting (match_false _ _ _ free (decided, tries));
+  stands = λ P st. rw source (let now : answer_by decided ≡ answer_of (x ∷ group) = sym (answer_of_tries c.tries (reserve_of c.source (c.numbers + 1) txn moment login) (x ∷ group) decided tries) in record {
+    held = λ t. held_at (view c.source P) txn moment login (answer_by decided) (answer_of (x ∷ group)) c.held d.held t (txn == t) now (held t) st.held;
     live = live_at (find c.held txn) (held_by ((view c.source P).standing txn)) txn (view c.source P).live (length c.held) (length d.held) (st.held txn) st.live len;
     numbers = numbers ∙ ap (λ i. i + 1) st.numbers;
     waiting = waiting ∙ st.waiting;
@@ -86,13 +86,13 @@ pick true x y z w e = refl
 pick false x y z w e = e
 
 -- a transaction is held, and then what was let through is counted
-pub held_and_counted : (txn at : ℕ) (login : List ℕ) (answer : Asked) (old mid new : List (ℕ × Held))
-    → ((t : ℕ) → find mid t ≡ (if txn == t then Some (opened at login (find old txn)) else find old t))
+pub held_and_counted : (txn moment : ℕ) (login : List ℕ) (answer : Asked) (old mid new : List (ℕ × Held))
+    → ((t : ℕ) → find mid t ≡ (if txn == t then Some (opened moment login (find old txn)) else find old t))
     → ((h : Held) → find mid txn ≡ Some h → (t : ℕ) → find new t ≡ (if txn == t then Some (let_through answer h) else find mid t))
-    → (t : ℕ) → find new t ≡ (if txn == t then Some (let_through answer (opened at login (find old txn))) else find old t)
-held_and_counted txn at login answer old mid new h n t =
-    let here : find mid txn ≡ Some (opened at login (find old txn)) = rw (eq-eqb txn txn refl) at (h txn) in
-    n (opened at login (find old txn)) here t ∙ pick (txn == t) _ _ _ _ (h t)
+    → (t : ℕ) → find new t ≡ (if txn == t then Some (let_through answer (opened moment login (find old txn))) else find old t)
+held_and_counted txn moment login answer old mid new h n t =
+    let here : find mid txn ≡ Some (opened moment login (find old txn)) = rw (eq-eqb txn txn refl) at (h txn) in
+    n (opened moment login (find old txn)) here t ∙ pick (txn == t) _ _ _ _ (h t)
 
 -- ---- closings and drains
 

@@ -30,7 +30,7 @@ use Rattle.mq_client.proofs.Basics.{none_some, some_is, all_push, all_append, al
 closing_id : (s : Source) (n txn : ℕ) (end : CloseEnd) (h : Held) → id_in (closing_of s n txn end h) ≡ Some (id_of s n)
 closing_id s n txn end h = by_kind (is_commit end && nat_le 1 h.granted)
   where
-    by_kind : (b : Bool) → id_in (if b then Settle (id_of s n) txn h.at h.login h.granted else Release (id_of s n) txn h.at h.login) ≡ Some (id_of s n)
+    by_kind : (b : Bool) → id_in (if b then Settle (id_of s n) txn h.moment h.login h.granted else Release (id_of s n) txn h.moment h.login) ≡ Some (id_of s n)
     by_kind true = refl
     by_kind false = refl
 
@@ -39,8 +39,8 @@ mapped_some f None y e = absurd (none_some y e)
 mapped_some f (Some x) y e = (x, refl, some_is (f x) y e)
 
 request_id : (s : Source) (P : List Step) (a : Action) (group : List Exchange) (q : Request) → request_by s P a group ≡ Some q → (id_in q ≡ Some (id_of s (numbers_in P + 1))) × (takes_number P a group ≡ true)
-request_id s P (Ask txn at login) [] q e = absurd (none_some q e)
-request_id s P (Ask txn at login) (x ∷ group) q e = (ap id_in (sym (some_is (reserve_of s (numbers_in P + 1) txn at login) q e)), refl)
+request_id s P (Ask txn moment login) [] q e = absurd (none_some q e)
+request_id s P (Ask txn moment login) (x ∷ group) q e = (ap id_in (sym (some_is (reserve_of s (numbers_in P + 1) txn moment login) q e)), refl)
 request_id s P (Close txn end) group q e =
     let (h, there, is) = mapped_some (closing_of s (numbers_in P + 1) txn end) (live_in P txn) q e in
     (ap id_in (sym is) ∙ closing_id s (numbers_in P + 1) txn end h, ap is_some there)
@@ -75,10 +75,10 @@ older s x P q i = record {
 
 -- ---- what is sent
 
-reserve_numbered : (b : Bool) (s : Source) (P : List Step) (txn at : ℕ) (login : List ℕ) (y : Exchange) (group : List Exchange) (n : ℕ) → n ≡ numbers_in P
-    → AllByRecursion (IsNumbered s (record { action = Ask txn at login; group = y ∷ group } ∷ P)) (if b then [] else reserve_of s (n + 1) txn at login ∷ [])
-reserve_numbered true s P txn at login y group n e = tt
-reserve_numbered false s P txn at login y group n e = (newest s (record { action = Ask txn at login; group = y ∷ group }) P (reserve_of s (n + 1) txn at login) (ap (λ k. Some (reserve_of s (k + 1) txn at login)) (sym e)), tt)
+reserve_numbered : (b : Bool) (s : Source) (P : List Step) (txn moment : ℕ) (login : List ℕ) (y : Exchange) (group : List Exchange) (n : ℕ) → n ≡ numbers_in P
+    → AllByRecursion (IsNumbered s (record { action = Ask txn moment login; group = y ∷ group } ∷ P)) (if b then [] else reserve_of s (n + 1) txn moment login ∷ [])
+reserve_numbered true s P txn moment login y group n e = tt
+reserve_numbered false s P txn moment login y group n e = (newest s (record { action = Ask txn moment login; group = y ∷ group }) P (reserve_of s (n + 1) txn moment login) (ap (λ k. Some (reserve_of s (k + 1) txn moment login)) (sym e)), tt)
 
 all_older : (s : Source) (x : Step) (P : List Step) (qs : List Request) → AllByRecursion (IsNumbered s P) qs → AllByRecursion (IsNumbered s (x ∷ P)) qs
 all_older s x P qs all = all_weaker (IsNumbered s P) (IsNumbered s (x ∷ P)) qs (older s x P) all
@@ -93,7 +93,7 @@ closing_numbered s P v txn end group h n live w =
 
 queue_numbered : (s : Source) (P : List Step) (v : View) (a : Action) (group : List Exchange) (o : Option Held) (y : Exchange) → held_for v a ≡ o → v.numbers ≡ numbers_in P → ((t : ℕ) → held_by (v.standing t) ≡ live_in P t) → AllByRecursion (IsNumbered s P) v.waiting
     → AllByRecursion (IsNumbered s (record { action = a; group = y ∷ group } ∷ P)) (queue_of s v o a)
-queue_numbered s P v (Ask txn at login) group o y e n live w = reserve_numbered (refuses o (length v.live) v.numbers (length v.waiting) at login) s P txn at login y group v.numbers n
+queue_numbered s P v (Ask txn moment login) group o y e n live w = reserve_numbered (refuses o (length v.live) v.numbers (length v.waiting) moment login) s P txn moment login y group v.numbers n
 queue_numbered s P v (Close txn end) group None y e n live w = tt
 queue_numbered s P v (Close txn end) group (Some h) y e n live w = closing_numbered s P v txn end (y ∷ group) h n (sym (live txn) ∙ e) w
 queue_numbered s P v Drain group o y e n live w = all_older s (record { action = Drain; group = y ∷ group }) P v.waiting w
@@ -116,8 +116,8 @@ closed_waiting s P v txn end group (Some h) n live w =
 
 waiting_step : (s : Source) (P : List Step) (v : View) (a : Action) (group : List Exchange) → v.numbers ≡ numbers_in P → ((t : ℕ) → held_by (v.standing t) ≡ live_in P t) → AllByRecursion (IsNumbered s P) v.waiting
     → AllByRecursion (IsNumbered s (record { action = a; group = group } ∷ P)) (after s v a group).waiting
-waiting_step s P v (Ask txn at login) [] n live w = all_older s (record { action = Ask txn at login; group = [] }) P v.waiting w
-waiting_step s P v (Ask txn at login) (x ∷ group) n live w = all_older s (record { action = Ask txn at login; group = x ∷ group }) P v.waiting w
+waiting_step s P v (Ask txn moment login) [] n live w = all_older s (record { action = Ask txn moment login; group = [] }) P v.waiting w
+waiting_step s P v (Ask txn moment login) (x ∷ group) n live w = all_older s (record { action = Ask txn moment login; group = x ∷ group }) P v.waiting w
 waiting_step s P v (Close txn end) group n live w = closed_waiting s P v txn end group (held_by (v.standing txn)) n (sym (live txn)) w
 waiting_step s P v Drain group n live w = all_drop (IsNumbered s (record { action = Drain; group = group } ∷ P)) (decisions group) v.waiting (all_older s (record { action = Drain; group = group }) P v.waiting w)
 
@@ -135,7 +135,7 @@ sent_numbered s n (x ∷ P) u =
     (all_weaker (λ y. IsNumbered s P y.request) (λ y. IsNumbered s (x ∷ P) y.request) (exchanges_in P) (λ y. older s x P y.request) (sent_numbered s n P u.1))
 
 seq_is : (s : Source) (m n : ℕ) → Some (id_of s m) ≡ Some (id_of s n) → m ≡ n
-seq_is s m n e = ap (λ (i : Id). i.seq) (some_is (id_of s m) (id_of s n) e)
+seq_is s m n e = ap (λ (i : Id). i.number) (some_is (id_of s m) (id_of s n) e)
 
 one_request : (s : Source) (P : List Step) (q r : Request) → IsNumbered s P q → IsNumbered s P r → id_in q ≡ id_in r → q ≡ r
 one_request s P q r i j e =
@@ -151,39 +151,39 @@ one_for_each s n P u =
 
 -- ---- what a settle asks for
 
-reserve_settle : (id id' : Id) (txn at count txn' at' count' : ℕ) (login login' : List ℕ) → Reserve id txn at login count ≡ Settle id' txn' at' login' count' → ⊥
-reserve_settle id id' txn at count txn' at' count' login login' e = cc
+reserve_settle : (id id' : Id) (txn moment count txn' moment' count' : ℕ) (login login' : List ℕ) → Reserve id txn moment login count ≡ Settle id' txn' moment' login' count' → ⊥
+reserve_settle id id' txn moment count txn' moment' count' login login' e = cc
 
-closing_settle : (s : Source) (n t : ℕ) (end : CloseEnd) (h : Held) (id : Id) (txn at count : ℕ) (login : List ℕ) → closing_of s n t end h ≡ Settle id txn at login count
-    → (t ≡ txn) × (end ≡ ending.Commit) × (h.at ≡ at) × (h.login ≡ login) × (h.granted ≡ count)
-closing_settle s n t ending.Drop h id txn at count login e = let no : ⊥ = cc in absurd no
-closing_settle s n t ending.Commit h id txn at count login e = by_count (nat_le 1 h.granted) e
+closing_settle : (s : Source) (n t : ℕ) (end : CloseEnd) (h : Held) (id : Id) (txn moment count : ℕ) (login : List ℕ) → closing_of s n t end h ≡ Settle id txn moment login count
+    → (t ≡ txn) × (end ≡ ending.Commit) × (h.moment ≡ moment) × (h.login ≡ login) × (h.granted ≡ count)
+closing_settle s n t ending.Rollback h id txn moment count login e = let no : ⊥ = cc in absurd no
+closing_settle s n t ending.Commit h id txn moment count login e = by_count (nat_le 1 h.granted) e
   where
-    by_count : (b : Bool) → (if b then Settle (id_of s n) t h.at h.login h.granted else Release (id_of s n) t h.at h.login) ≡ Settle id txn at login count
-        → (t ≡ txn) × (ending.Commit ≡ ending.Commit) × (h.at ≡ at) × (h.login ≡ login) × (h.granted ≡ count)
+    by_count : (b : Bool) → (if b then Settle (id_of s n) t h.moment h.login h.granted else Release (id_of s n) t h.moment h.login) ≡ Settle id txn moment login count
+        → (t ≡ txn) × (ending.Commit ≡ ending.Commit) × (h.moment ≡ moment) × (h.login ≡ login) × (h.granted ≡ count)
     by_count true f = (cc, refl, cc, cc, cc)
     by_count false f = let no : ⊥ = cc in absurd no
 
-later_committed : (x : Step) (P : List Step) (txn at : ℕ) (login : List ℕ) (count : ℕ) → WasCommitted P txn at login count → WasCommitted (x ∷ P) txn at login count
-later_committed x P txn at login count w = record {
+later_committed : (x : Step) (P : List Step) (txn moment : ℕ) (login : List ℕ) (count : ℕ) → WasCommitted P txn moment login count → WasCommitted (x ∷ P) txn moment login count
+later_committed x P txn moment login count w = record {
   later = x ∷ w.later;
   group = w.group;
   before = w.before;
   held = w.held;
   whole = ap (λ l. x ∷ l) w.whole;
   live = w.live;
-  at_is = w.at_is;
+  moment_is = w.moment_is;
   login_is = w.login_is;
   count_is = w.count_is;
 }
 
-committed_by : (s : Source) (P : List Step) (a : Action) (group : List Exchange) (id : Id) (txn at count : ℕ) (login : List ℕ) → request_by s P a group ≡ Some (Settle id txn at login count) → WasCommitted (record { action = a; group = group } ∷ P) txn at login count
-committed_by s P (Ask t m l) [] id txn at count login e = absurd (none_some _ e)
-committed_by s P (Ask t m l) (x ∷ group) id txn at count login e = absurd (reserve_settle _ _ _ _ _ _ _ _ _ _ (some_is _ _ e))
-committed_by s P Drain group id txn at count login e = absurd (none_some _ e)
-committed_by s P (Close t end) group id txn at count login e =
-    let (h, there, is) = mapped_some (closing_of s (numbers_in P + 1) t end) (live_in P t) (Settle id txn at login count) e in
-    let (same, by, at_is, login_is, count_is) = closing_settle s (numbers_in P + 1) t end h id txn at count login is in
+committed_by : (s : Source) (P : List Step) (a : Action) (group : List Exchange) (id : Id) (txn moment count : ℕ) (login : List ℕ) → request_by s P a group ≡ Some (Settle id txn moment login count) → WasCommitted (record { action = a; group = group } ∷ P) txn moment login count
+committed_by s P (Ask t m l) [] id txn moment count login e = absurd (none_some _ e)
+committed_by s P (Ask t m l) (x ∷ group) id txn moment count login e = absurd (reserve_settle _ _ _ _ _ _ _ _ _ _ (some_is _ _ e))
+committed_by s P Drain group id txn moment count login e = absurd (none_some _ e)
+committed_by s P (Close t end) group id txn moment count login e =
+    let (h, there, is) = mapped_some (closing_of s (numbers_in P + 1) t end) (live_in P t) (Settle id txn moment login count) e in
+    let (same, by, moment_is, login_is, count_is) = closing_settle s (numbers_in P + 1) t end h id txn moment count login is in
     record {
       later = [];
       group = group;
@@ -191,25 +191,25 @@ committed_by s P (Close t end) group id txn at count login e =
       held = h;
       whole = ap (λ k. record { action = Close k end; group = group } ∷ P) same ∙ ap (λ k. record { action = Close txn k; group = group } ∷ P) by;
       live = ap (live_in P) (sym same) ∙ there;
-      at_is = at_is;
+      moment_is = moment_is;
       login_is = login_is;
       count_is = count_is;
     }
 
-committed : (s : Source) (P : List Step) (n : ℕ) (id : Id) (txn at count : ℕ) (login : List ℕ) → request_under s P n ≡ Some (Settle id txn at login count) → WasCommitted P txn at login count
-committed s [] n id txn at count login e = absurd (none_some _ e)
-committed s (x ∷ P) n id txn at count login e = by_number (λ f. later_committed x P txn at login count (committed s P n id txn at count login f)) (numbers_in P + 1 == n) (request_by s P x.action x.group) refl e
+committed : (s : Source) (P : List Step) (n : ℕ) (id : Id) (txn moment count : ℕ) (login : List ℕ) → request_under s P n ≡ Some (Settle id txn moment login count) → WasCommitted P txn moment login count
+committed s [] n id txn moment count login e = absurd (none_some _ e)
+committed s (x ∷ P) n id txn moment count login e = by_number (λ f. later_committed x P txn moment login count (committed s P n id txn moment count login f)) (numbers_in P + 1 == n) (request_by s P x.action x.group) refl e
   where
-    by_number : (request_under s P n ≡ Some (Settle id txn at login count) → WasCommitted (x ∷ P) txn at login count) → (b : Bool) (o : Option Request) → request_by s P x.action x.group ≡ o
-        → (if b then option_or o (request_under s P n) else request_under s P n) ≡ Some (Settle id txn at login count) → WasCommitted (x ∷ P) txn at login count
+    by_number : (request_under s P n ≡ Some (Settle id txn moment login count) → WasCommitted (x ∷ P) txn moment login count) → (b : Bool) (o : Option Request) → request_by s P x.action x.group ≡ o
+        → (if b then option_or o (request_under s P n) else request_under s P n) ≡ Some (Settle id txn moment login count) → WasCommitted (x ∷ P) txn moment login count
     by_number before true None f e = before e
-    by_number before true (Some q) f e = committed_by s P x.action x.group id txn at count login (f ∙ e)
+    by_number before true (Some q) f e = committed_by s P x.action x.group id txn moment count login (f ∙ e)
     by_number before false o f e = before e
 
 settles : (s : Source) (P : List Step) (q : Request) → IsNumbered s P q → SettlesWhatWasLet P q
-settles s P (Settle id txn at login count) i = committed s P i.number id txn at count login i.under
-settles s P (Reserve id txn at login count) i = tt
-settles s P (Release id txn at login) i = tt
+settles s P (Settle id txn moment login count) i = committed s P i.number id txn moment count login i.under
+settles s P (Reserve id txn moment login count) i = tt
+settles s P (Release id txn moment login) i = tt
 settles s P (Limit id from_day cap login) i = tt
 settles s P (Usage login day) i = tt
 settles s P (ListRequest day after) i = tt
@@ -226,13 +226,13 @@ let_login asked.Granted h = refl
 let_login asked.Full h = refl
 let_login asked.Unavailable h = refl
 
-let_at : (answer : Asked) (h : Held) → (let_through answer h).at ≡ h.at
+let_at : (answer : Asked) (h : Held) → (let_through answer h).moment ≡ h.moment
 let_at asked.Granted h = refl
 let_at asked.Full h = refl
 let_at asked.Unavailable h = refl
 
-closed_not : (end : CloseEnd) (seq : ℕ) (h : Held) → is_closed (Closed end seq h) ≡ false → ⊥
-closed_not end seq h e = cc (e)
+closed_not : (end : CloseEnd) (number : ℕ) (h : Held) → is_closed (Closed end number h) ≡ false → ⊥
+closed_not end number h e = cc (e)
 
 first_is : (a b : Bool) → (a || b) ≡ false → a ≡ false
 first_is true b e = e
@@ -247,41 +247,41 @@ not_false true e = refl
 not_false false e = let no : ⊥ = cc (e) in absurd no
 
 -- an ask of a live transaction that isn't refused has its login and moment
-same_asked : (h : Held) (at : ℕ) (login : List ℕ) (more : Bool) → (is_other h at login || more) ≡ false → (h.login ≡ login) × (h.at ≡ at)
-same_asked h at login more e =
-    let same = first_is (is_other h at login) more e in
-    ((bytes_decides h.login login).0 (not_false _ (first_is (not (same_text h.login login)) _ same)), eqb-true h.at at (not_false _ (second_is (not (same_text h.login login)) _ same)))
+same_asked : (h : Held) (moment : ℕ) (login : List ℕ) (more : Bool) → (is_other h moment login || more) ≡ false → (h.login ≡ login) × (h.moment ≡ moment)
+same_asked h moment login more e =
+    let same = first_is (is_other h moment login) more e in
+    ((bytes_decides h.login login).0 (not_false _ (first_is (not (same_text h.login login)) _ same)), eqb-true h.moment moment (not_false _ (second_is (not (same_text h.login login)) _ same)))
 
 -- a reserve of a transaction that an ask finds live
-reserve_stays : (s : Source) (n t at : ℕ) (login : List ℕ) (answer : Asked) (st : Standing) (q : Request) → is_closed st ≡ false → Suits s n t st q → Suits s n t (Live (let_through answer (opened at login (held_by st)))) q
-reserve_stays s n t at login answer Never q e suits = absurd suits
-reserve_stays s n t at login answer (Live h) q e suits = suits ∙ ap (λ (m : ℕ). reserve_of s n t m h.login) (sym (let_at answer h)) ∙ ap (λ (l : List ℕ). reserve_of s n t (let_through answer h).at l) (sym (let_login answer h))
-reserve_stays s n t at login answer (Closed end seq h) q e suits = absurd (closed_not end seq h e)
+reserve_stays : (s : Source) (n t moment : ℕ) (login : List ℕ) (answer : Asked) (st : Standing) (q : Request) → is_closed st ≡ false → Suits s n t st q → Suits s n t (Live (let_through answer (opened moment login (held_by st)))) q
+reserve_stays s n t moment login answer Never q e suits = absurd suits
+reserve_stays s n t moment login answer (Live h) q e suits = suits ∙ ap (λ (m : ℕ). reserve_of s n t m h.login) (sym (let_at answer h)) ∙ ap (λ (l : List ℕ). reserve_of s n t (let_through answer h).moment l) (sym (let_login answer h))
+reserve_stays s n t moment login answer (Closed end number h) q e suits = absurd (closed_not end number h e)
 
-reserve_new : (s : Source) (n t at : ℕ) (login : List ℕ) (answer : Asked) (o : Option Held) (live numbers waiting : ℕ) → refuses o live numbers waiting at login ≡ false
-    → reserve_of s n t at login ≡ reserve_of s n t (let_through answer (opened at login o)).at (let_through answer (opened at login o)).login
-reserve_new s n t at login answer None live numbers waiting free =
-    let h = opened at login None in
-    ap (λ (m : ℕ). reserve_of s n t m login) (sym (let_at answer h)) ∙ ap (λ (l : List ℕ). reserve_of s n t (let_through answer h).at l) (sym (let_login answer h))
-reserve_new s n t at login answer (Some h) live numbers waiting free =
-    let (same_login, same_at) = same_asked h at login _ free in
-    ap (λ (m : ℕ). reserve_of s n t m login) (sym (let_at answer h ∙ same_at)) ∙ ap (λ (l : List ℕ). reserve_of s n t (let_through answer h).at l) (sym (let_login answer h ∙ same_login))
+reserve_new : (s : Source) (n t moment : ℕ) (login : List ℕ) (answer : Asked) (o : Option Held) (live numbers waiting : ℕ) → refuses o live numbers waiting moment login ≡ false
+    → reserve_of s n t moment login ≡ reserve_of s n t (let_through answer (opened moment login o)).moment (let_through answer (opened moment login o)).login
+reserve_new s n t moment login answer None live numbers waiting free =
+    let h = opened moment login None in
+    ap (λ (m : ℕ). reserve_of s n t m login) (sym (let_at answer h)) ∙ ap (λ (l : List ℕ). reserve_of s n t (let_through answer h).moment l) (sym (let_login answer h))
+reserve_new s n t moment login answer (Some h) live numbers waiting free =
+    let (same_login, same_at) = same_asked h moment login _ free in
+    ap (λ (m : ℕ). reserve_of s n t m login) (sym (let_at answer h ∙ same_at)) ∙ ap (λ (l : List ℕ). reserve_of s n t (let_through answer h).moment l) (sym (let_login answer h ∙ same_login))
 
-closed_stays : (s : Source) (n t seq : ℕ) (end : CloseEnd) (h : Held) (st : Standing) (q : Request) → held_by st ≡ Some h → Suits s n t st q → Suits s n t (Closed end seq h) q
-closed_stays s n t seq end h Never q e suits = absurd suits
-closed_stays s n t seq end h (Live k) q e suits = let F : Held → Type 0 = λ x. q ≡ reserve_of s n t x.at x.login in inl (subst F (some_is k h e) suits)
-closed_stays s n t seq end h (Closed end' seq' k) q e suits = absurd (none_some h e)
+closed_stays : (s : Source) (n t number : ℕ) (end : CloseEnd) (h : Held) (st : Standing) (q : Request) → held_by st ≡ Some h → Suits s n t st q → Suits s n t (Closed end number h) q
+closed_stays s n t number end h Never q e suits = absurd suits
+closed_stays s n t number end h (Live k) q e suits = let F : Held → Type 0 = λ x. q ≡ reserve_of s n t x.moment x.login in inl (subst F (some_is k h e) suits)
+closed_stays s n t number end h (Closed end' number' k) q e suits = absurd (none_some h e)
 
 -- an older request
 suits_old : (s : Source) (n t : ℕ) (q : Request) (v : View) (a : Action) (group : List Exchange) → AsksForNoClosed v a → Suits s n t (v.standing t) q → Suits s n t ((after s v a group).standing t) q
-suits_old s n t q v (Ask txn at login) [] fresh suits = suits
-suits_old s n t q v (Ask txn at login) (x ∷ group) fresh suits = by_txn (txn == t) refl
+suits_old s n t q v (Ask txn moment login) [] fresh suits = suits
+suits_old s n t q v (Ask txn moment login) (x ∷ group) fresh suits = by_txn (txn == t) refl
   where
-    by_txn : (b : Bool) → (txn == t) ≡ b → Suits s n t (if b then Live (let_through (answer_of (x ∷ group)) (opened at login (held_by (v.standing txn)))) else v.standing t) q
+    by_txn : (b : Bool) → (txn == t) ≡ b → Suits s n t (if b then Live (let_through (answer_of (x ∷ group)) (opened moment login (held_by (v.standing txn)))) else v.standing t) q
     by_txn true e =
         let is : txn ≡ t = eqb-true txn t e in
         let F : ℕ → Type 0 = λ u. Suits s n t (v.standing u) q in
-        reserve_stays s n t at login (answer_of (x ∷ group)) (v.standing txn) q fresh (subst F (sym is) suits)
+        reserve_stays s n t moment login (answer_of (x ∷ group)) (v.standing txn) q fresh (subst F (sym is) suits)
     by_txn false e = suits
 suits_old s n t q v (Close txn end) group fresh suits = by_held (held_by (v.standing txn)) refl
   where
@@ -300,22 +300,22 @@ suits_old s n t q v Drain group fresh suits = suits
 closing_txn : (s : Source) (n txn : ℕ) (end : CloseEnd) (h : Held) → txn_in (closing_of s n txn end h) ≡ Some txn
 closing_txn s n txn end h = by_kind (is_commit end && nat_le 1 h.granted)
   where
-    by_kind : (b : Bool) → txn_in (if b then Settle (id_of s n) txn h.at h.login h.granted else Release (id_of s n) txn h.at h.login) ≡ Some txn
+    by_kind : (b : Bool) → txn_in (if b then Settle (id_of s n) txn h.moment h.login h.granted else Release (id_of s n) txn h.moment h.login) ≡ Some txn
     by_kind true = refl
     by_kind false = refl
 
 -- the request of the step
 suits_new : (s : Source) (tries n t : ℕ) (q : Request) (P : List Step) (v : View) (a : Action) (group : List Exchange) → v.numbers ≡ numbers_in P → ((u : ℕ) → held_by (v.standing u) ≡ live_in P u) → ComeInTurn tries (queue_of s v (held_for v a) a) group
     → numbers_in P + 1 ≡ n → request_by s P a group ≡ Some q → txn_in q ≡ Some t → Suits s n t ((after s v a group).standing t) q
-suits_new s tries n t q P v (Ask txn at login) [] same live turns is e named = absurd (none_some q e)
-suits_new s tries n t q P v (Ask txn at login) (x ∷ group) same live turns is e named =
-    let r = reserve_of s (numbers_in P + 1) txn at login in
+suits_new s tries n t q P v (Ask txn moment login) [] same live turns is e named = absurd (none_some q e)
+suits_new s tries n t q P v (Ask txn moment login) (x ∷ group) same live turns is e named =
+    let r = reserve_of s (numbers_in P + 1) txn moment login in
     let what : r ≡ q = some_is r q e in
     let mine : txn ≡ t = some_is txn t (ap txn_in what ∙ named) in
-    let free = asked_free _ tries (reserve_of s (v.numbers + 1) txn at login) x.request group turns.0 in
-    let h = let_through (answer_of (x ∷ group)) (opened at login (held_by (v.standing txn))) in
-    let new = reserve_new s n t at login (answer_of (x ∷ group)) (held_by (v.standing txn)) (length v.live) v.numbers (length v.waiting) free in
-    rw (eq-eqb txn t mine) (sym what ∙ ap (λ k. reserve_of s k txn at login) is ∙ ap (λ k. reserve_of s n k at login) mine ∙ new)
+    let free = asked_free _ tries (reserve_of s (v.numbers + 1) txn moment login) x.request group turns.0 in
+    let h = let_through (answer_of (x ∷ group)) (opened moment login (held_by (v.standing txn))) in
+    let new = reserve_new s n t moment login (answer_of (x ∷ group)) (held_by (v.standing txn)) (length v.live) v.numbers (length v.waiting) free in
+    rw (eq-eqb txn t mine) (sym what ∙ ap (λ k. reserve_of s k txn moment login) is ∙ ap (λ k. reserve_of s n k moment login) mine ∙ new)
 suits_new s tries n t q P v Drain group same live turns is e named = absurd (none_some q e)
 suits_new s tries n t q P v (Close txn end) group same live turns is e named =
     let (h, there, what) = mapped_some (closing_of s (numbers_in P + 1) txn end) (live_in P txn) q e in

@@ -4,14 +4,14 @@ use Rattle.std.specs.Prelude.{◌≢◌}
 use Rattle.std.specs.List.{AllByRecursion}
 use Rattle.mq_line.specs.Grammar.{Meaning, ConfigLine, ReadyLine, ReportLine, FilterLine, OtherLine, Reads, fault}
 use Rattle.mq_line.specs.Text.{IsLine, IsTooLong}
-use Rattle.mq_line.specs.declared.faults.LineFault.{LineFault}
+use Rattle.mq_line.specs.declared.fault.LineFault.{LineFault}
 use Rattle.mq_track.specs.Sessions.{fault as track_fault}
 use Rattle.mq_track.specs.declared.fault.TrackFault.{TrackFault}
 use Rattle.mq_client.specs.Past.{Step}
 use Rattle.mq_client.specs.Filter.{Takes, Filters}
 use Rattle.mq_client.specs.Run.{is_early, is_stamped, IsEarly, AreRead, IsReady, Stage, BeforeReady, AfterReady, Reaches, HasText}
-use Rattle.mq_client.specs.declared.faults.FilterFault.{FilterFault}
-use Rattle.mq_client.specs.declared.faults.FilterFault.TheVariants as at
+use Rattle.mq_client.specs.declared.fault.FilterFault.{FilterFault}
+use Rattle.mq_client.specs.declared.fault.FilterFault.TheVariants as faults
 use Rattle.mq_client.proofs.Sameness.{push_front, early_apart, same_after, same_read, same_lines}
 use Rattle.mq_client.proofs.Basics.{none_some, some_is, true_false, nil_cons, cons_head, cons_tail}
 
@@ -24,16 +24,16 @@ pub record Grammar : Type 0 where
 
 -- at the line in front
 pub data Front (stage : Stage) (line : List ℕ) (o : Option FilterFault) : Type 0 where
-  Unread : (f : LineFault) → fault line ≡ Some f → o ≡ Some (at.Line f) → Front stage line o
-  Untracked : (m : Meaning) (L : List Meaning) (f : TrackFault) → stage ≡ AfterReady L → Reads line m → track_fault L m ≡ Some f → o ≡ Some (at.Track f) → Front stage line o
-  TooEarly : (m : Meaning) → stage ≡ BeforeReady → Reads line m → is_stamped m ≡ true → o ≡ Some at.NotReady → Front stage line o
+  Unread : (f : LineFault) → fault line ≡ Some f → o ≡ Some (faults.Line f) → Front stage line o
+  Untracked : (m : Meaning) (L : List Meaning) (f : TrackFault) → stage ≡ AfterReady L → Reads line m → track_fault L m ≡ Some f → o ≡ Some (faults.Track f) → Front stage line o
+  TooEarly : (m : Meaning) → stage ≡ BeforeReady → Reads line m → is_stamped m ≡ true → o ≡ Some faults.NotReady → Front stage line o
 
 -- after the last line
 pub data End (stage : Stage) (last : List ℕ) (o : Option FilterFault) : Type 0 where
-  NeverReady : stage ≡ BeforeReady → last ≡ [] → o ≡ Some at.EndedEarly → End stage last o
+  NeverReady : stage ≡ BeforeReady → last ≡ [] → o ≡ Some faults.EndedEarly → End stage last o
   Over : (L : List Meaning) → stage ≡ AfterReady L → last ≡ [] → o ≡ None → End stage last o
-  InLine : last ≢ [] → IsLine last → o ≡ Some at.CutLine → End stage last o
-  Long : IsTooLong last → o ≡ Some at.TooLong → End stage last o
+  InLine : last ≢ [] → IsLine last → o ≡ Some faults.CutLine → End stage last o
+  Long : IsTooLong last → o ≡ Some faults.TooLong → End stage last o
 
 pub data Fate (stage : Stage) (next : List (List ℕ)) (last : List ℕ) (o : Option FilterFault) : Type 0 where
   AtLine : (line : List ℕ) (more : List (List ℕ)) → next ≡ line ∷ more → Front stage line o → Fate stage next last o
@@ -59,11 +59,11 @@ front_apart G stage line L m n f g s e r M s' e' r' =
     some_is f g (sym e ∙ ap (λ l. track_fault l m) same_past ∙ ap (track_fault M) same ∙ e')
 
 same_front : (G : Grammar) (stage : Stage) (line : List ℕ) (a b : Option FilterFault) → Front stage line a → Front stage line b → a ≡ b
-same_front G stage line a b (Unread f e i) (Unread g e' i') = i ∙ ap (λ x. Some (at.Line x)) (some_is f g (sym e ∙ e')) ∙ sym i'
+same_front G stage line a b (Unread f e i) (Unread g e' i') = i ∙ ap (λ x. Some (faults.Line x)) (some_is f g (sym e ∙ e')) ∙ sym i'
 same_front G stage line a b (Unread f e i) (Untracked m L g s r e' i') = absurd (read_no_fault G line m f r e)
 same_front G stage line a b (Unread f e i) (TooEarly m s r p i') = absurd (read_no_fault G line m f r e)
 same_front G stage line a b (Untracked m L f s r e i) (Unread g e' i') = absurd (read_no_fault G line m g r e')
-same_front G stage line a b (Untracked m L f s r e i) (Untracked n M g s' r' e' i') = i ∙ ap (λ x. Some (at.Track x)) (front_apart G stage line L m n f g s e r M s' e' r') ∙ sym i'
+same_front G stage line a b (Untracked m L f s r e i) (Untracked n M g s' r' e' i') = i ∙ ap (λ x. Some (faults.Track x)) (front_apart G stage line L m n f g s e r M s' e' r') ∙ sym i'
 same_front G stage line a b (Untracked m L f s r e i) (TooEarly n s' r' p i') = absurd (apart_stages stage L s' s)
 same_front G stage line a b (TooEarly m s r p i) (Unread g e' i') = absurd (read_no_fault G line m g r e')
 same_front G stage line a b (TooEarly m s r p i) (Untracked n M g s' r' e' i') = absurd (apart_stages stage M s s')

@@ -14,7 +14,7 @@ use Rattle.mq_client.proofs.Counting.{count_in, one_if, counted}
 
 -- one more ask
 abbrev one_ask : List ℕ → ℕ → Asked → Asking
-one_ask login at answer = record { login = login; at = at; answer = answer }
+one_ask login moment answer = record { login = login; moment = moment; answer = answer }
 
 abbrev granted_in : List Asking → ℕ
 granted_in asks = count_by (λ b. is_granted b.answer) asks
@@ -22,32 +22,32 @@ granted_in asks = count_by (λ b. is_granted b.answer) asks
 granted_more : (a : Asking) (more : List Asking) → granted_in (a ∷ more) ≡ cond (is_granted a.answer) 1 0 + granted_in more
 granted_more a more = sum_by-cons (λ (b : Asking). cond (is_granted b.answer) 1 0) a more
 
-live_more : (login : List ℕ) (at : ℕ) (answer : Asked) (more : List Asking) → live_by (one_ask login at answer ∷ more) ≡ Some (let_through answer (opened at login (live_by more)))
-live_more login at asked.Granted [] = refl
-live_more login at asked.Full [] = refl
-live_more login at asked.Unavailable [] = refl
-live_more login at asked.Granted (b ∷ more) =
-    let F : ℕ → Option Held = λ n. Some (record { login = (first_of b more).login; at = (first_of b more).at; granted = n }) in
-    ap F (omega (arith, granted_more (one_ask login at asked.Granted) (b ∷ more)))
-live_more login at asked.Full (b ∷ more) =
-    let F : ℕ → Option Held = λ n. Some (record { login = (first_of b more).login; at = (first_of b more).at; granted = n }) in
-    ap F (omega (arith, granted_more (one_ask login at asked.Full) (b ∷ more)))
-live_more login at asked.Unavailable (b ∷ more) =
-    let F : ℕ → Option Held = λ n. Some (record { login = (first_of b more).login; at = (first_of b more).at; granted = n }) in
-    ap F (omega (arith, granted_more (one_ask login at asked.Unavailable) (b ∷ more)))
+live_more : (login : List ℕ) (moment : ℕ) (answer : Asked) (more : List Asking) → live_by (one_ask login moment answer ∷ more) ≡ Some (let_through answer (opened moment login (live_by more)))
+live_more login moment asked.Granted [] = refl
+live_more login moment asked.Full [] = refl
+live_more login moment asked.Unavailable [] = refl
+live_more login moment asked.Granted (b ∷ more) =
+    let F : ℕ → Option Held = λ n. Some (record { login = (first_of b more).login; moment = (first_of b more).moment; granted = n }) in
+    ap F (omega (arith, granted_more (one_ask login moment asked.Granted) (b ∷ more)))
+live_more login moment asked.Full (b ∷ more) =
+    let F : ℕ → Option Held = λ n. Some (record { login = (first_of b more).login; moment = (first_of b more).moment; granted = n }) in
+    ap F (omega (arith, granted_more (one_ask login moment asked.Full) (b ∷ more)))
+live_more login moment asked.Unavailable (b ∷ more) =
+    let F : ℕ → Option Held = λ n. Some (record { login = (first_of b more).login; moment = (first_of b more).moment; granted = n }) in
+    ap F (omega (arith, granted_more (one_ask login moment asked.Unavailable) (b ∷ more)))
 
 -- ---- live transactions
 
 abbrev IsLiveRead : View → List Step → Type 0
 IsLiveRead v P = (t : ℕ) → held_by (v.standing t) ≡ live_in P t
 
-ask_live : (t txn at : ℕ) (login : List ℕ) (answer : Asked) (v : View) (P : List Step) (b : Bool) → (txn == t) ≡ b → IsLiveRead v P
-    → held_by (if b then Live (let_through answer (opened at login (held_by (v.standing txn)))) else v.standing t)
-    ≡ live_by (cons_option (if b then Some (one_ask login at answer) else None) (asks_of t P))
-ask_live t txn at login answer v P true e all =
-    let F : Option Held → Option Held = λ o. Some (let_through answer (opened at login o)) in
-    ap F (ap (λ k. held_by (v.standing k)) (eqb-true txn t e) ∙ all t) ∙ sym (live_more login at answer (asks_of t P))
-ask_live t txn at login answer v P false e all = all t
+ask_live : (t txn moment : ℕ) (login : List ℕ) (answer : Asked) (v : View) (P : List Step) (b : Bool) → (txn == t) ≡ b → IsLiveRead v P
+    → held_by (if b then Live (let_through answer (opened moment login (held_by (v.standing txn)))) else v.standing t)
+    ≡ live_by (cons_option (if b then Some (one_ask login moment answer) else None) (asks_of t P))
+ask_live t txn moment login answer v P true e all =
+    let F : Option Held → Option Held = λ o. Some (let_through answer (opened moment login o)) in
+    ap F (ap (λ k. held_by (v.standing k)) (eqb-true txn t e) ∙ all t) ∙ sym (live_more login moment answer (asks_of t P))
+ask_live t txn moment login answer v P false e all = all t
 
 abbrev asks_after : ℕ → Bool → Step → List Step → List Asking
 asks_after t b x P = filter_map (λ x. asking t x.action x.group) (if b then [] else x ∷ since_close t P)
@@ -60,8 +60,8 @@ close_live s t txn end group v P (Some h) true e f all = rw f refl
 close_live s t txn end group v P (Some h) false e f all = rw f (all t)
 
 live_step : (s : Source) (v : View) (P : List Step) (a : Action) (group : List Exchange) → IsLiveRead v P → IsLiveRead (after s v a group) (record { action = a; group = group } ∷ P)
-live_step s v P (Ask txn at login) [] all = all
-live_step s v P (Ask txn at login) (x ∷ group) all = λ t. ask_live t txn at login (answer_of (x ∷ group)) v P (txn == t) refl all
+live_step s v P (Ask txn moment login) [] all = all
+live_step s v P (Ask txn moment login) (x ∷ group) all = λ t. ask_live t txn moment login (answer_of (x ∷ group)) v P (txn == t) refl all
 live_step s v P (Close txn end) group all = λ t. close_live s t txn end group v P (held_by (v.standing txn)) (txn == t) refl refl all
 live_step s v P Drain group all = all
 
@@ -76,8 +76,8 @@ close_numbers s txn end group v n None e = e
 close_numbers s txn end group v n (Some h) e = ap (λ k. k + 1) e
 
 numbers_step : (s : Source) (v : View) (P : List Step) (a : Action) (group : List Exchange) → IsLiveRead v P → v.numbers ≡ numbers_in P → (after s v a group).numbers ≡ numbers_in (record { action = a; group = group } ∷ P)
-numbers_step s v P (Ask txn at login) [] all e = e
-numbers_step s v P (Ask txn at login) (x ∷ group) all e = ap (λ k. k + 1) e
+numbers_step s v P (Ask txn moment login) [] all e = e
+numbers_step s v P (Ask txn moment login) (x ∷ group) all e = ap (λ k. k + 1) e
 numbers_step s v P (Close txn end) group all e = close_numbers s txn end group v (numbers_in P) (held_by (v.standing txn)) e ∙ ap (λ o. if is_some o then numbers_in P + 1 else numbers_in P) (all txn)
 numbers_step s v P Drain group all e = e
 
@@ -90,11 +90,11 @@ numbers_read s (x ∷ P) = numbers_step s (view s P) P x.action x.group (live_re
 abbrev IsRead : View → List Step → Type 0
 IsRead v P = (t : ℕ) → v.standing t ≡ standing_in P t
 
-ask_read : (t txn at : ℕ) (login : List ℕ) (answer : Asked) (v : View) (P : List Step) (b : Bool) → (txn == t) ≡ b → IsLiveRead v P → IsRead v P
-    → (if b then Live (let_through answer (opened at login (held_by (v.standing txn)))) else v.standing t)
-    ≡ live_or (live_by (cons_option (if b then Some (one_ask login at answer) else None) (asks_of t P))) (closed_in P t)
-ask_read t txn at login answer v P true e all read = ap (λ o. live_or o (closed_in P t)) (ask_live t txn at login answer v P true e all)
-ask_read t txn at login answer v P false e all read = read t
+ask_read : (t txn moment : ℕ) (login : List ℕ) (answer : Asked) (v : View) (P : List Step) (b : Bool) → (txn == t) ≡ b → IsLiveRead v P → IsRead v P
+    → (if b then Live (let_through answer (opened moment login (held_by (v.standing txn)))) else v.standing t)
+    ≡ live_or (live_by (cons_option (if b then Some (one_ask login moment answer) else None) (asks_of t P))) (closed_in P t)
+ask_read t txn moment login answer v P true e all read = ap (λ o. live_or o (closed_in P t)) (ask_live t txn moment login answer v P true e all)
+ask_read t txn moment login answer v P false e all read = read t
 
 close_read : (s : Source) (t txn : ℕ) (end : CloseEnd) (group : List Exchange) (v : View) (P : List Step) (o : Option Held) (b : Bool) → held_by (v.standing txn) ≡ o → (txn == t) ≡ b → v.numbers ≡ numbers_in P → IsLiveRead v P → IsRead v P
     → (after_close s txn end group v o).standing t ≡ live_or (live_by (asks_after t b (record { action = Close txn end; group = group }) P)) (standing_or (closed_by t (numbers_in P + 1) (Close txn end) (live_in P t)) (closed_in P t))
@@ -103,22 +103,22 @@ close_read s t txn end group v P None true e f n all read =
     read t ∙ rw absent refl
 close_read s t txn end group v P None false e f n all read = read t ∙ ap (live_or (live_in P t)) (sym (other_ended t (numbers_in P + 1) txn end (live_in P t) (closed_in P t) f))
   where
-    other_ended : (t seq txn : ℕ) (end : CloseEnd) (o : Option Held) (before : Standing) → (txn == t) ≡ false → standing_or (closed_by t seq (Close txn end) o) before ≡ before
-    other_ended t seq txn end None before f = refl
-    other_ended t seq txn end (Some h) before f = rw f refl
+    other_ended : (t number txn : ℕ) (end : CloseEnd) (o : Option Held) (before : Standing) → (txn == t) ≡ false → standing_or (closed_by t number (Close txn end) o) before ≡ before
+    other_ended t number txn end None before f = refl
+    other_ended t number txn end (Some h) before f = rw f refl
 close_read s t txn end group v P (Some h) true e f n all read =
     let there : live_in P t ≡ Some h = sym (all t) ∙ ap (λ k. held_by (v.standing k)) (sym (eqb-true txn t f)) ∙ e in
     rw (f, there, f) (ap (λ k. Closed end (k + 1) h) n)
 close_read s t txn end group v P (Some h) false e f n all read =
     rw f (read t ∙ ap (live_or (live_in P t)) (sym (other_too t (numbers_in P + 1) txn end (live_in P t) (closed_in P t) f)))
   where
-    other_too : (t seq txn : ℕ) (end : CloseEnd) (o : Option Held) (before : Standing) → (txn == t) ≡ false → standing_or (closed_by t seq (Close txn end) o) before ≡ before
-    other_too t seq txn end None before f = refl
-    other_too t seq txn end (Some h) before f = rw f refl
+    other_too : (t number txn : ℕ) (end : CloseEnd) (o : Option Held) (before : Standing) → (txn == t) ≡ false → standing_or (closed_by t number (Close txn end) o) before ≡ before
+    other_too t number txn end None before f = refl
+    other_too t number txn end (Some h) before f = rw f refl
 
 read_step : (s : Source) (v : View) (P : List Step) (a : Action) (group : List Exchange) → v.numbers ≡ numbers_in P → IsLiveRead v P → IsRead v P → IsRead (after s v a group) (record { action = a; group = group } ∷ P)
-read_step s v P (Ask txn at login) [] n all read = read
-read_step s v P (Ask txn at login) (x ∷ group) n all read = λ t. ask_read t txn at login (answer_of (x ∷ group)) v P (txn == t) refl all read
+read_step s v P (Ask txn moment login) [] n all read = read
+read_step s v P (Ask txn moment login) (x ∷ group) n all read = λ t. ask_read t txn moment login (answer_of (x ∷ group)) v P (txn == t) refl all read
 read_step s v P (Close txn end) group n all read = λ t. close_read s t txn end group v P (held_by (v.standing txn)) (txn == t) refl refl n all read
 read_step s v P Drain group n all read = read
 

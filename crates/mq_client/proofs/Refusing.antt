@@ -14,8 +14,8 @@ use Rattle.mq_track.specs.Steps.{needs_memory}
 use Rattle.mq_client.specs.Filter.{is_filter}
 use Rattle.mq_client.specs.Run.{may_ask_for_memory}
 use Rattle.mq_client.specs.Loop.{IsRefused, filter_fault}
-use Rattle.mq_client.specs.declared.faults.FilterFault.{FilterFault}
-use Rattle.mq_client.specs.declared.faults.FilterFault.TheVariants as at
+use Rattle.mq_client.specs.declared.fault.FilterFault.{FilterFault}
+use Rattle.mq_client.specs.declared.fault.FilterFault.TheVariants as faults
 
 -- no lack of memory
 abbrev IsTold : Option TrackFault → Type 0
@@ -92,6 +92,6 @@ refused X L m e told memory needs = by_fault (fault L m) refl told
     by_fault (Some f) is h = let same : e ≡ f = cc (h) in refused_by L m e (is ∙ ap Some (sym same))
 
 -- a closing that wasn't made
-pub closing_refused : {X : Type 0} (r : Result X FilterFault) (B : Type 0) (P : FilterFault → Type 0) → OnErr r ((r ≡ Err at.Memory) × B) → (B → P at.Memory) → IfErr r P
+pub closing_refused : {X : Type 0} (r : Result X FilterFault) (B : Type 0) (P : FilterFault → Type 0) → OnErr r ((r ≡ Err faults.Memory) × B) → (B → P faults.Memory) → IfErr r P
 closing_refused (Ok x) B P h f = tt
-closing_refused (Err e) B P h f = let same : e ≡ at.Memory = cc (h.0) in subst P (sym same) (f h.1)
+closing_refused (Err e) B P h f = let same : e ≡ faults.Memory = cc (h.0) in subst P (sym same) (f h.1)

@@ -23,7 +23,7 @@ use Rattle.mq_client.proofs.Basics.{none_some, nil_cons, cons_head, cons_tail}
 asked_kind : (q : Query) (step : Option Step) (d : Decision) → Answers q step d → kind_of step ≡ asking_of q
 asked_kind Passes step d h = ap kind_of h.0
 asked_kind Refuses step d h = ap kind_of h.0
-asked_kind (Asks txn at name) step d (group, is, answer) = ap kind_of is
+asked_kind (Asks txn moment login) step d (group, is, answer) = ap kind_of is
 
 closed_kind : (c : Option Closing) (step : Option Step) → Closes c step → kind_of step ≡ option_map close_of c
 closed_kind None step h = ap kind_of h
@@ -46,7 +46,7 @@ actions_are (m ∷ L) steps text (s, before, written, next, h, takes, e, f) =
 -- the transaction was closed among these actions
 abbrev IsClosedIn : ℕ → List Action → Type 0
 IsClosedIn t [] = ⊥
-IsClosedIn t (Ask txn at name ∷ acts) = IsClosedIn t acts
+IsClosedIn t (Ask txn moment login ∷ acts) = IsClosedIn t acts
 IsClosedIn t (Close txn end ∷ acts) = (txn ≡ t) ⊎ IsClosedIn t acts
 IsClosedIn t (Drain ∷ acts) = IsClosedIn t acts
 
@@ -63,7 +63,7 @@ record WasClosed (L : List Meaning) (t : ℕ) : Type 0 where
 asks_no_close : (q : Query) (txn : ℕ) (end : CloseEnd) → asking_of q ≡ Some (Close txn end) → ⊥
 asks_no_close Passes txn end e = none_some (Close txn end) e
 asks_no_close Refuses txn end e = none_some (Close txn end) e
-asks_no_close (Asks u at name) txn end e = cc (e)
+asks_no_close (Asks u moment name) txn end e = cc (e)
 
 closes_by : (o : Option Closing) (txn : ℕ) (end : CloseEnd) → option_map close_of o ≡ Some (Close txn end) → (c : Closing) × (o ≡ Some c) × (c.txn ≡ txn)
 closes_by None txn end e = absurd (none_some (Close txn end) e)
@@ -85,7 +85,7 @@ closed_line (m ∷ L) t i = by_action (λ j. later_line m L t (closed_line L t j
   where
     by_action : (IsClosedIn t (actions_of L) → WasClosed (m ∷ L) t) → (o : Option Action) → action_of L m ≡ o → IsClosedIn t (push o (actions_of L)) → WasClosed (m ∷ L) t
     by_action earlier None e i = earlier i
-    by_action earlier (Some (Ask txn at name)) e i = earlier i
+    by_action earlier (Some (Ask txn moment login)) e i = earlier i
     by_action earlier (Some Drain) e i = earlier i
     by_action earlier (Some (Close txn end)) e (inr i) = earlier i
     by_action earlier (Some (Close txn end)) e (inl same) =
@@ -94,43 +94,43 @@ closed_line (m ∷ L) t i = by_action (λ j. later_line m L t (closed_line L t j
 
 -- ---- asks
 
-passes_no_ask : (txn at : ℕ) (name : List ℕ) → Passes ≡ Asks txn at name → ⊥
-passes_no_ask txn at name e = cc (e)
+passes_no_ask : (txn moment : ℕ) (login : List ℕ) → Passes ≡ Asks txn moment login → ⊥
+passes_no_ask txn moment login e = cc (e)
 
-refuses_no_ask : (txn at : ℕ) (name : List ℕ) → Refuses ≡ Asks txn at name → ⊥
-refuses_no_ask txn at name e = cc (e)
+refuses_no_ask : (txn moment : ℕ) (login : List ℕ) → Refuses ≡ Asks txn moment login → ⊥
+refuses_no_ask txn moment login e = cc (e)
 
 asks_txn : (a b u v : ℕ) (n m : List ℕ) → Asks a u n ≡ Asks b v m → a ≡ b
 asks_txn a b u v n m e = cc (e)
 
 -- the transaction that is asked for is open
-asks_open : (b : Bool) (l : Option (List ℕ)) (o : Option Transaction) (txn at : ℕ) (name : List ℕ) → (if b then query_at (position_of l o) else Passes) ≡ Asks txn at name → (t : Transaction) × (o ≡ Some t) × (t.txn ≡ txn)
-asks_open false l o txn at name e = absurd (passes_no_ask txn at name e)
-asks_open true None o txn at name e = absurd (passes_no_ask txn at name e)
-asks_open true (Some n) None txn at name e = absurd (refuses_no_ask txn at name e)
-asks_open true (Some n) (Some t) txn at name e = by_range (is_login n && is_moment t.at) e
+asks_open : (b : Bool) (l : Option (List ℕ)) (o : Option Transaction) (txn moment : ℕ) (login : List ℕ) → (if b then query_at (position_of l o) else Passes) ≡ Asks txn moment login → (t : Transaction) × (o ≡ Some t) × (t.txn ≡ txn)
+asks_open false l o txn moment login e = absurd (passes_no_ask txn moment login e)
+asks_open true None o txn moment login e = absurd (passes_no_ask txn moment login e)
+asks_open true (Some n) None txn moment login e = absurd (refuses_no_ask txn moment login e)
+asks_open true (Some n) (Some t) txn moment login e = by_range (is_login n && is_moment t.moment) e
   where
-    by_range : (c : Bool) → (if c then Asks t.txn t.at n else Refuses) ≡ Asks txn at name → (t' : Transaction) × (Some t ≡ Some t') × (t'.txn ≡ txn)
-    by_range true f = (t, refl, asks_txn t.txn txn t.at at n name f)
-    by_range false f = absurd (refuses_no_ask txn at name f)
+    by_range : (c : Bool) → (if c then Asks t.txn t.moment n else Refuses) ≡ Asks txn moment login → (t' : Transaction) × (Some t ≡ Some t') × (t'.txn ≡ txn)
+    by_range true f = (t, refl, asks_txn t.txn txn t.moment moment n login f)
+    by_range false f = absurd (refuses_no_ask txn moment login f)
 
-asking_asks : (q : Query) (txn at : ℕ) (name : List ℕ) → asking_of q ≡ Some (Ask txn at name) → q ≡ Asks txn at name
-asking_asks Passes txn at name e = absurd (none_some (Ask txn at name) e)
-asking_asks Refuses txn at name e = absurd (none_some (Ask txn at name) e)
-asking_asks (Asks u v n) txn at name e = cc (e)
+asking_asks : (q : Query) (txn moment : ℕ) (login : List ℕ) → asking_of q ≡ Some (Ask txn moment login) → q ≡ Asks txn moment login
+asking_asks Passes txn moment login e = absurd (none_some (Ask txn moment login) e)
+asking_asks Refuses txn moment login e = absurd (none_some (Ask txn moment login) e)
+asking_asks (Asks u v n) txn moment login e = cc (e)
 
-close_no_ask : (o : Option Closing) (txn at : ℕ) (name : List ℕ) → option_map close_of o ≡ Some (Ask txn at name) → ⊥
-close_no_ask None txn at name e = none_some (Ask txn at name) e
-close_no_ask (Some c) txn at name e = cc (e)
+close_no_ask : (o : Option Closing) (txn moment : ℕ) (login : List ℕ) → option_map close_of o ≡ Some (Ask txn moment login) → ⊥
+close_no_ask None txn moment login e = none_some (Ask txn moment login) e
+close_no_ask (Some c) txn moment login e = cc (e)
 
-asked_open : (L : List Meaning) (m : Meaning) (txn at : ℕ) (name : List ℕ) → action_of L m ≡ Some (Ask txn at name) → (session : List ℕ) × (t : Transaction) × (open_transaction L session ≡ Some t) × (t.txn ≡ txn)
-asked_open L (FilterLine seconds subsystem phase session token rest) txn at name e =
-    let (t, is_open, txn_is) = asks_open (bytes_eq subsystem (codes "smtp-in") && bytes_eq phase (codes "rcpt-to")) (login L session) (open_transaction L session) txn at name (asking_asks (query L subsystem phase session) txn at name e) in
+asked_open : (L : List Meaning) (m : Meaning) (txn moment : ℕ) (name : List ℕ) → action_of L m ≡ Some (Ask txn moment name) → (session : List ℕ) × (t : Transaction) × (open_transaction L session ≡ Some t) × (t.txn ≡ txn)
+asked_open L (FilterLine seconds subsystem phase session token rest) txn moment name e =
+    let (t, is_open, txn_is) = asks_open (bytes_eq subsystem (codes "smtp-in") && bytes_eq phase (codes "rcpt-to")) (login L session) (open_transaction L session) txn moment name (asking_asks (query L subsystem phase session) txn moment name e) in
     (session, t, is_open, txn_is)
-asked_open L (ConfigLine key value) txn at name e = absurd (close_no_ask (closing L (ConfigLine key value)) txn at name e)
-asked_open L ReadyLine txn at name e = absurd (close_no_ask (closing L ReadyLine) txn at name e)
-asked_open L (ReportLine seconds subsystem event session params) txn at name e = absurd (close_no_ask (closing L (ReportLine seconds subsystem event session params)) txn at name e)
-asked_open L OtherLine txn at name e = absurd (close_no_ask (closing L OtherLine) txn at name e)
+asked_open L (ConfigLine key value) txn moment name e = absurd (close_no_ask (closing L (ConfigLine key value)) txn moment name e)
+asked_open L ReadyLine txn moment name e = absurd (close_no_ask (closing L ReadyLine) txn moment name e)
+asked_open L (ReportLine seconds subsystem event session params) txn moment name e = absurd (close_no_ask (closing L (ReportLine seconds subsystem event session params)) txn moment name e)
+asked_open L OtherLine txn moment name e = absurd (close_no_ask (closing L OtherLine) txn moment name e)
 
 -- ---- what ended was closed
 
@@ -153,8 +153,8 @@ ended_closed s txn end group v (Some h) acts all = λ t e. by_txn t (txn == t) r
     by_txn t false f e = inr (all t e)
 
 ended_step : (s : Source) (v : View) (a : Action) (group : List Exchange) (acts : List Action) → EndedAreClosed v acts → EndedAreClosed (after s v a group) (a ∷ acts)
-ended_step s v (Ask txn at name) [] acts all = all
-ended_step s v (Ask txn at name) (x ∷ group) acts all = λ t e. ended_asked _ v txn t (txn == t) acts all e
+ended_step s v (Ask txn moment login) [] acts all = all
+ended_step s v (Ask txn moment login) (x ∷ group) acts all = λ t e. ended_asked _ v txn t (txn == t) acts all e
 ended_step s v (Close txn end) group acts all = ended_closed s txn end group v (held_by (v.standing txn)) acts all
 ended_step s v Drain group acts all = all
 
@@ -180,8 +180,8 @@ fresh_ask S s L P session t same is_open = by_standing (is_closed ((view s P).st
     by_standing true e = absurd (none_ended S L session t is_open (subst (IsClosedIn t.txn) same (closed_in s P t.txn e)))
 
 asks_fresh : (S : StayClosed) (s : Source) (L : List Meaning) (m : Meaning) (P : List Step) (a : Action) → actions P ≡ actions_of L → action_of L m ≡ Some a → AsksForNoClosed (view s P) a
-asks_fresh S s L m P (Ask txn at name) same e =
-    let (session, t, is_open, is) = asked_open L m txn at name e in
+asks_fresh S s L m P (Ask txn moment login) same e =
+    let (session, t, is_open, is) = asked_open L m txn moment login e in
     let F : ℕ → Type 0 = λ u. is_closed ((view s P).standing u) ≡ false in
     subst F is (fresh_ask S s L P session t same is_open)
 asks_fresh S s L m P (Close txn end) same e = tt

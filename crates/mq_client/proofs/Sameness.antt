@@ -74,10 +74,10 @@ some_step x y e = cc
 same_answers : (q : Query) (session token : List ℕ) (s t : Option Step) (d c : Decision) (text more : List ℕ) → Answers q s d → Answers q t c → text ≡ result_text session token d → more ≡ result_text session token c → Alike s t text more
 same_answers Passes session token s t d c text more h i e f = record { kind = ap kind_of (h.0 ∙ sym i.0); text_is = λ same. e ∙ ap (result_text session token) (h.1 ∙ sym i.1) ∙ sym f }
 same_answers Refuses session token s t d c text more h i e f = record { kind = ap kind_of (h.0 ∙ sym i.0); text_is = λ same. e ∙ ap (result_text session token) (h.1 ∙ sym i.1) ∙ sym f }
-same_answers (Asks txn at login) session token s t d c text more (g, step, answer) (h, step', answer') e f = record {
+same_answers (Asks txn moment login) session token s t d c text more (g, step, answer) (h, step', answer') e f = record {
   kind = ap kind_of step ∙ sym (ap kind_of step');
   text_is = λ same.
-      let both = some_step (record { action = Ask txn at login; group = g }) (record { action = Ask txn at login; group = h }) (sym step ∙ same ∙ step') in
+      let both = some_step (record { action = Ask txn moment login; group = g }) (record { action = Ask txn moment login; group = h }) (sym step ∙ same ∙ step') in
       let group : g ≡ h = ap (λ (x : Step). x.group) both in
       e ∙ ap (result_text session token) (answer ∙ ap (λ l. decision_of (answer_of l)) group ∙ sym answer') ∙ sym f;
 }

@@ -91,7 +91,7 @@ ask_comes true n q group e = rw e tt
 ask_comes false n q group (decided, t) = tries_come n q group decided t
 
 turns_from : (s : Source) (n : ℕ) (v : View) (o : Option Held) (a : Action) (group : List Exchange) → PlaysFrom s n o (length v.live) v.numbers v.waiting a group → ComeInTurn n (queue_of s v o a) group
-turns_from s n v o (Ask txn at login) group plays = ask_comes (refuses o (length v.live) v.numbers (length v.waiting) at login) n (reserve_of s (v.numbers + 1) txn at login) group plays
+turns_from s n v o (Ask txn moment login) group plays = ask_comes (refuses o (length v.live) v.numbers (length v.waiting) moment login) n (reserve_of s (v.numbers + 1) txn moment login) group plays
 turns_from s n v None (Close txn end) group plays = rw plays tt
 turns_from s n v (Some h) (Close txn end) group (left, sends) = sends_come n _ group left sends
 turns_from s n v o Drain group (left, sends) = sends_come n v.waiting group left sends
@@ -154,7 +154,7 @@ ask_ends true n q group e = rw e (none_by_queue n [] [] refl)
 ask_ends false n q group (decided, t) = tries_end n q group decided t
 
 end_from : (s : Source) (n : ℕ) (v : View) (o : Option Held) (a : Action) (group : List Exchange) → PlaysFrom s n o (length v.live) v.numbers v.waiting a group → next_of n (queue_of s v o a) group ≡ None
-end_from s n v o (Ask txn at login) group plays = ask_ends (refuses o (length v.live) v.numbers (length v.waiting) at login) n (reserve_of s (v.numbers + 1) txn at login) group plays
+end_from s n v o (Ask txn moment login) group plays = ask_ends (refuses o (length v.live) v.numbers (length v.waiting) moment login) n (reserve_of s (v.numbers + 1) txn moment login) group plays
 end_from s n v None (Close txn end) group plays = rw plays (none_by_queue n [] [] refl)
 end_from s n v (Some h) (Close txn end) group (left, sends) = sends_end n _ group left sends
 end_from s n v o Drain group (left, sends) = sends_end n v.waiting group left sends

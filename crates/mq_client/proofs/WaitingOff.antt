@@ -23,17 +23,17 @@ use Rattle.mq_client.proofs.Basics.{none_some, some_is, all_push}
 -- ---- requests of closings
 
 abbrev seq_of : Request → ℕ
-seq_of (Reserve id txn at login count) = id.seq
-seq_of (Settle id txn at login count) = id.seq
-seq_of (Release id txn at login) = id.seq
-seq_of (Limit id from_day cap login) = id.seq
+seq_of (Reserve id txn moment login count) = id.number
+seq_of (Settle id txn moment login count) = id.number
+seq_of (Release id txn moment login) = id.number
+seq_of (Limit id from_day cap login) = id.number
 seq_of (Usage login day) = 0
 seq_of (ListRequest day after) = 0
-seq_of (Retire id) = id.seq
+seq_of (Retire id) = id.number
 
 abbrev IsClosing : Request → Type 0
-IsClosing (Settle id txn at login count) = Unit {0}
-IsClosing (Release id txn at login) = Unit {0}
+IsClosing (Settle id txn moment login count) = Unit {0}
+IsClosing (Release id txn moment login) = Unit {0}
 IsClosing _ = ⊥
 
 text_itself : (a : List ℕ) → same_text a a ≡ true
@@ -43,12 +43,12 @@ number_itself : (n : ℕ) → (n == n) ≡ true
 number_itself n = eq-eqb n n refl
 
 id_itself : (id : Id) → same_id id id ≡ true
-id_itself id = rw (text_itself id.host, number_itself id.run, number_itself id.seq) refl
+id_itself id = rw (text_itself id.host, number_itself id.run, number_itself id.number) refl
 
 request_itself : (q : Request) → IsClosing q → same_request q q ≡ true
-request_itself (Settle id txn at login count) c = rw (id_itself id, number_itself txn, number_itself at, text_itself login, number_itself count) refl
-request_itself (Release id txn at login) c = rw (id_itself id, number_itself txn, number_itself at, text_itself login) refl
-request_itself (Reserve id txn at login count) c = absurd c
+request_itself (Settle id txn moment login count) c = rw (id_itself id, number_itself txn, number_itself moment, text_itself login, number_itself count) refl
+request_itself (Release id txn moment login) c = rw (id_itself id, number_itself txn, number_itself moment, text_itself login) refl
+request_itself (Reserve id txn moment login count) c = absurd c
 request_itself (Limit id from_day cap login) c = absurd c
 request_itself (Usage login day) c = absurd c
 request_itself (ListRequest day after) c = absurd c
@@ -65,47 +65,47 @@ second_false false b e = refl
 other_number : (m n : ℕ) → m < n → (m == n) ≡ false
 other_number m n h = ne_eqb m n (λ e. omega (arith, h, e))
 
-other_id : (a b : Id) → a.seq < b.seq → same_id a b ≡ false
-other_id a b h = second_false (same_text a.host b.host) _ (second_false (a.run == b.run) _ (other_number a.seq b.seq h))
+other_id : (a b : Id) → a.number < b.number → same_id a b ≡ false
+other_id a b h = second_false (same_text a.host b.host) _ (second_false (a.run == b.run) _ (other_number a.number b.number h))
 
 -- a closing under a later number is another request
 other_request : (r q : Request) → IsClosing q → seq_of r < seq_of q → same_request r q ≡ false
-other_request (Settle a txn at login count) (Settle b txn' at' login' count') c h = first_false (same_id a b) _ (other_id a b h)
-other_request (Release a txn at login) (Release b txn' at' login') c h = first_false (same_id a b) _ (other_id a b h)
-other_request (Reserve a txn at login count) (Settle b txn' at' login' count') c h = refl
-other_request (Reserve a txn at login count) (Release b txn' at' login') c h = refl
-other_request (Settle a txn at login count) (Release b txn' at' login') c h = refl
-other_request (Release a txn at login) (Settle b txn' at' login' count') c h = refl
-other_request (Limit a from_day cap login) (Settle b txn' at' login' count') c h = refl
-other_request (Limit a from_day cap login) (Release b txn' at' login') c h = refl
-other_request (Usage login day) (Settle b txn' at' login' count') c h = refl
-other_request (Usage login day) (Release b txn' at' login') c h = refl
-other_request (ListRequest day after) (Settle b txn' at' login' count') c h = refl
-other_request (ListRequest day after) (Release b txn' at' login') c h = refl
-other_request (Retire a) (Settle b txn' at' login' count') c h = refl
-other_request (Retire a) (Release b txn' at' login') c h = refl
-other_request r (Reserve b txn' at' login' count') c h = absurd c
+other_request (Settle a txn moment login count) (Settle b txn' moment' login' count') c h = first_false (same_id a b) _ (other_id a b h)
+other_request (Release a txn moment login) (Release b txn' moment' login') c h = first_false (same_id a b) _ (other_id a b h)
+other_request (Reserve a txn moment login count) (Settle b txn' moment' login' count') c h = refl
+other_request (Reserve a txn moment login count) (Release b txn' moment' login') c h = refl
+other_request (Settle a txn moment login count) (Release b txn' moment' login') c h = refl
+other_request (Release a txn moment login) (Settle b txn' moment' login' count') c h = refl
+other_request (Limit a from_day cap login) (Settle b txn' moment' login' count') c h = refl
+other_request (Limit a from_day cap login) (Release b txn' moment' login') c h = refl
+other_request (Usage login day) (Settle b txn' moment' login' count') c h = refl
+other_request (Usage login day) (Release b txn' moment' login') c h = refl
+other_request (ListRequest day after) (Settle b txn' moment' login' count') c h = refl
+other_request (ListRequest day after) (Release b txn' moment' login') c h = refl
+other_request (Retire a) (Settle b txn' moment' login' count') c h = refl
+other_request (Retire a) (Release b txn' moment' login') c h = refl
+other_request r (Reserve b txn' moment' login' count') c h = absurd c
 other_request r (Limit b from_day cap login) c h = absurd c
 other_request r (Usage login day) c h = absurd c
 other_request r (ListRequest day after) c h = absurd c
 other_request r (Retire b) c h = absurd c
 
 -- a reserve is no closing
-reserve_other : (s : Source) (n txn at : ℕ) (login : List ℕ) (q : Request) → IsClosing q → same_request (reserve_of s n txn at login) q ≡ false
-reserve_other s n txn at login (Settle id txn' at' login' count) c = refl
-reserve_other s n txn at login (Release id txn' at' login') c = refl
-reserve_other s n txn at login (Reserve id txn' at' login' count) c = absurd c
-reserve_other s n txn at login (Limit id from_day cap login') c = absurd c
-reserve_other s n txn at login (Usage login' day) c = absurd c
-reserve_other s n txn at login (ListRequest day after) c = absurd c
-reserve_other s n txn at login (Retire id) c = absurd c
+reserve_other : (s : Source) (n txn moment : ℕ) (login : List ℕ) (q : Request) → IsClosing q → same_request (reserve_of s n txn moment login) q ≡ false
+reserve_other s n txn moment login (Settle id txn' moment' login' count) c = refl
+reserve_other s n txn moment login (Release id txn' moment' login') c = refl
+reserve_other s n txn moment login (Reserve id txn' moment' login' count) c = absurd c
+reserve_other s n txn moment login (Limit id from_day cap login') c = absurd c
+reserve_other s n txn moment login (Usage login' day) c = absurd c
+reserve_other s n txn moment login (ListRequest day after) c = absurd c
+reserve_other s n txn moment login (Retire id) c = absurd c
 
-closing_at : (s : Source) (n txn at count : ℕ) (login : List ℕ) (b : Bool) → let q = (if b then Settle (record { host = s.host; run = s.run; seq = n }) txn at login count else Release (record { host = s.host; run = s.run; seq = n }) txn at login) in IsClosing q × (seq_of q ≡ n)
-closing_at s n txn at count login true = (tt, refl)
-closing_at s n txn at count login false = (tt, refl)
+closing_at : (s : Source) (n txn moment count : ℕ) (login : List ℕ) (b : Bool) → let q = (if b then Settle (record { host = s.host; run = s.run; number = n }) txn moment login count else Release (record { host = s.host; run = s.run; number = n }) txn moment login) in IsClosing q × (seq_of q ≡ n)
+closing_at s n txn moment count login true = (tt, refl)
+closing_at s n txn moment count login false = (tt, refl)
 
 closing_is : (s : Source) (n txn : ℕ) (end : CloseEnd) (h : Held) → IsClosing (closing_of s n txn end h) × (seq_of (closing_of s n txn end h) ≡ n)
-closing_is s n txn end h = closing_at s n txn h.at h.granted h.login _
+closing_is s n txn end h = closing_at s n txn h.moment h.granted h.login _
 
 or_true : (a b : Bool) → b ≡ true → (a || b) ≡ true
 or_true true b e = refl
@@ -298,12 +298,12 @@ waits_asked dec closings waiting n m group w le quiet =
 abbrev WaitsIn : Source → View → List Step → Type 0
 WaitsIn s v P = Waits (is_decided_in P) (closings_in s P) v.waiting v.numbers
 
-ask_waits : (s : Source) (n : ℕ) (v : View) (P : List Step) (txn at : ℕ) (login : List ℕ) (group : List Exchange) (b : Bool) → ComeInTurn n (if b then [] else reserve_of s (v.numbers + 1) txn at login ∷ []) group → (m : ℕ) → v.numbers ≤ m → WaitsIn s v P
+ask_waits : (s : Source) (n : ℕ) (v : View) (P : List Step) (txn moment : ℕ) (login : List ℕ) (group : List Exchange) (b : Bool) → ComeInTurn n (if b then [] else reserve_of s (v.numbers + 1) txn moment login ∷ []) group → (m : ℕ) → v.numbers ≤ m → WaitsIn s v P
     → Waits (λ q. is_decided_by group q || is_decided_in P q) (closings_in s P ++ []) v.waiting m
-ask_waits s n v P txn at login [] b turns m le w = rw append-nil (waits_asked _ _ _ v.numbers m [] w le (λ q c. refl))
-ask_waits s n v P txn at login (x ∷ group) true turns m le w = absurd (none_some x.request (next_in_queue n [] group x.request turns.0).1)
-ask_waits s n v P txn at login (x ∷ group) false turns m le w =
-    rw append-nil (waits_asked _ _ _ v.numbers m (x ∷ group) w le (λ q c. ask_none n (reserve_of s (v.numbers + 1) txn at login) (x ∷ group) q turns (reserve_other s (v.numbers + 1) txn at login q c)))
+ask_waits s n v P txn moment login [] b turns m le w = rw append-nil (waits_asked _ _ _ v.numbers m [] w le (λ q c. refl))
+ask_waits s n v P txn moment login (x ∷ group) true turns m le w = absurd (none_some x.request (next_in_queue n [] group x.request turns.0).1)
+ask_waits s n v P txn moment login (x ∷ group) false turns m le w =
+    rw append-nil (waits_asked _ _ _ v.numbers m (x ∷ group) w le (λ q c. ask_none n (reserve_of s (v.numbers + 1) txn moment login) (x ∷ group) q turns (reserve_other s (v.numbers + 1) txn moment login q c)))
 
 nothing_sent : (n : ℕ) (group : List Exchange) → ComeInTurn n [] group → group ≡ []
 nothing_sent n [] turns = refl
@@ -316,15 +316,15 @@ close_waits s n v P txn end group None same live turns w =
     rw (live, append-nil) (waits_asked (is_decided_in P) (closings_in s P) v.waiting v.numbers v.numbers group w (omega arith) (λ q c. rw (nothing_sent n group turns) refl))
 close_waits s n v P txn end group (Some h) same live turns w =
     let q = closing_of s (v.numbers + 1) txn end h in
-    let (closing, seq) = closing_is s (v.numbers + 1) txn end h in
-    let more = waits_more (is_decided_in P) (closings_in s P) v.waiting v.numbers q w closing seq in
+    let (closing, number) = closing_is s (v.numbers + 1) txn end h in
+    let more = waits_more (is_decided_in P) (closings_in s P) v.waiting v.numbers q w closing number in
     let queue_closing = (all_both IsClosing more.done (v.waiting ++ q ∷ []) (subst (AllByRecursion IsClosing) more.whole more.closing)).1 in
     rw (live, ← same) (waits_sent (is_decided_in P) (closings_in s P ++ q ∷ []) (v.waiting ++ q ∷ []) (drop (decisions group) (v.waiting ++ q ∷ [])) (v.numbers + 1) group more (splits n (v.waiting ++ q ∷ []) group queue_closing turns))
 
 waits_step : (s : Source) (n : ℕ) (v : View) (P : List Step) (a : Action) (group : List Exchange) → v.numbers ≡ numbers_in P → ((t : ℕ) → held_by (v.standing t) ≡ live_in P t)
     → ComeInTurn n (queue_of s v (held_for v a) a) group → WaitsIn s v P → WaitsIn s (after s v a group) (record { action = a; group = group } ∷ P)
-waits_step s n v P (Ask txn at login) [] same live turns w = ask_waits s n v P txn at login [] true turns v.numbers (omega arith) w
-waits_step s n v P (Ask txn at login) (x ∷ group) same live turns w = ask_waits s n v P txn at login (x ∷ group) _ turns (v.numbers + 1) (omega arith) w
+waits_step s n v P (Ask txn moment login) [] same live turns w = ask_waits s n v P txn moment login [] true turns v.numbers (omega arith) w
+waits_step s n v P (Ask txn moment login) (x ∷ group) same live turns w = ask_waits s n v P txn moment login (x ∷ group) _ turns (v.numbers + 1) (omega arith) w
 waits_step s n v P (Close txn end) group same live turns w = close_waits s n v P txn end group (held_by (v.standing txn)) same (sym (live txn)) turns w
 waits_step s n v P Drain group same live turns w =
     let queue_closing = (all_both IsClosing w.done v.waiting (subst (AllByRecursion IsClosing) w.whole w.closing)).1 in

@@ -7,12 +7,12 @@ use Rattle.mq_client.specs.declared.refusal.Cause.{Cause}
 use Rattle.mq_client.specs.declared.refusal.Cause.TheVariants.{Login, Moment, Changed, Recipients, Places, Numbers}
 
 -- of a transaction that is held or isn't, by the live ones, the numbers used and what waits: the first that applies
-abbrev pub cause_by : Option Held → (live numbers waiting at : ℕ) → List ℕ → Option Cause
-cause_by (Some h) live numbers waiting at login =
-    if is_other h at login then Some Changed
+abbrev pub cause_by : Option Held → (live numbers waiting moment : ℕ) → List ℕ → Option Cause
+cause_by (Some h) live numbers waiting moment login =
+    if is_other h moment login then Some Changed
     else (if nat_le 1000 h.granted then Some Recipients
     else (if lacks_numbers numbers live then Some Numbers else None))
-cause_by None live numbers waiting at login =
+cause_by None live numbers waiting moment login =
     if nat_le 4096 (live + waiting) then Some Places
     else (if lacks_numbers numbers (live + 1) then Some Numbers else None)
 

@@ -42,9 +42,9 @@ answers_closing id _ = false
 
 -- whether the reply decides the request
 abbrev pub decides : Request → Reply → Bool
-decides (Reserve id txn at login count) reply = answers_reserve id reply
-decides (Settle id txn at login count) reply = answers_closing id reply
-decides (Release id txn at login) reply = answers_closing id reply
+decides (Reserve id txn moment login count) reply = answers_reserve id reply
+decides (Settle id txn moment login count) reply = answers_closing id reply
+decides (Release id txn moment login) reply = answers_closing id reply
 decides _ reply = false
 
 -- a body came that spells the reply

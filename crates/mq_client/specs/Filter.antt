@@ -19,19 +19,19 @@ use Rattle.mq_client.specs.declared.held.Asked.TheVariants as asked
 pub data Query : Type 0 where
   Passes : Query
   Refuses : Query
-  Asks : (txn at : ℕ) (login : List ℕ) → Query
+  Asks : (txn moment : ℕ) (login : List ℕ) → Query
 
 abbrev pub is_login : List ℕ → Bool
 is_login login = nat_le 1 (length login) && nat_le (length login) 255
 
 abbrev pub is_moment : ℕ → Bool
-is_moment at = nat_le 86400 at && nat_le at 32503680000
+is_moment moment = nat_le 86400 moment && nat_le moment 32503680000
 
 -- without a login it passes; with one it asks, where login and open transaction are in range
 abbrev pub query_at : Position → Query
 query_at Unknown = Passes
-query_at (LoggedIn name) = Refuses
-query_at (Sending name txn at) = if is_login name && is_moment at then Asks txn at name else Refuses
+query_at (LoggedIn login) = Refuses
+query_at (Sending login txn moment) = if is_login login && is_moment moment then Asks txn moment login else Refuses
 
 -- only recipients of the subsystem smtp-in ask
 abbrev pub query : List Meaning → (subsystem phase session : List ℕ) → Query
@@ -47,8 +47,8 @@ decision_of asked.Unavailable = RejectService
 abbrev pub Answers : Query → Option Step → Decision → Type 0
 Answers Passes step d = (step ≡ None) × (d ≡ Proceed)
 Answers Refuses step d = (step ≡ None) × (d ≡ RejectService)
-Answers (Asks txn at login) step d = (group : List Exchange)
-    × (step ≡ Some (record { action = Ask txn at login; group = group })) × (d ≡ decision_of (answer_of group))
+Answers (Asks txn moment login) step d = (group : List Exchange)
+    × (step ≡ Some (record { action = Ask txn moment login; group = group })) × (d ≡ decision_of (answer_of group))
 
 -- the step that a closing makes
 abbrev pub Closes : Option Closing → Option Step → Type 0
@@ -87,7 +87,7 @@ actions (x ∷ steps) = x.action ∷ actions steps
 
 -- what a request of smtpd asks the client
 abbrev pub asking_of : Query → Option Action
-asking_of (Asks txn at login) = Some (Ask txn at login)
+asking_of (Asks txn moment login) = Some (Ask txn moment login)
 asking_of _ = None
 
 abbrev pub close_of : Closing → Action

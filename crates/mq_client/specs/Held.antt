@@ -7,7 +7,7 @@ use Rattle.mq_client.specs.declared.held.Held.{Held}
 -- a live transaction in range: at most 1,000 of its recipients were let through
 pub record IsHeld (txn : ℕ) (h : Held) : Type 0 where
   pub number : IsOrdinal txn
-  pub at : IsMoment h.at
+  pub moment : IsMoment h.moment
   pub login : IsLogin h.login
   pub granted : h.granted ≤ 1000
 

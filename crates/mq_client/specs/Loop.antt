@@ -16,8 +16,8 @@ use Rattle.mq_client.specs.Past.{Step, State, Makes, MakesAll, told_steps}
 use Rattle.mq_client.specs.Filter.{query, Answers, answer_count}
 use Rattle.mq_client.specs.Run.{Stage, BeforeReady, AfterReady, Reaches, HasText, Outside, may_ask_for_memory, IsAtWork}
 use Rattle.mq_client.specs.Run.{StopsAt, is_early, is_stamped}
-use Rattle.mq_client.specs.declared.faults.FilterFault.{FilterFault}
-use Rattle.mq_client.specs.declared.faults.FilterFault.TheVariants as fault
+use Rattle.mq_client.specs.declared.fault.FilterFault.{FilterFault}
+use Rattle.mq_client.specs.declared.fault.FilterFault.TheVariants as fault
 use Rattle.mq_client.specs.declared.filter.Early.{Early}
 use Rattle.mq_client.specs.declared.filter.Early.TheVariants as early
 use Rattle.mq_client.specs.declared.filter.Filter.{Filter}

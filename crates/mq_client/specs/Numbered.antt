@@ -16,9 +16,9 @@ use Rattle.mq_client.specs.declared.held.Held.{Held}
 
 -- the id that a request carries
 abbrev pub id_in : Request → Option Id
-id_in (Reserve id txn at login count) = Some id
-id_in (Settle id txn at login count) = Some id
-id_in (Release id txn at login) = Some id
+id_in (Reserve id txn moment login count) = Some id
+id_in (Settle id txn moment login count) = Some id
+id_in (Release id txn moment login) = Some id
 id_in (Limit id from_day cap login) = Some id
 id_in (Usage login day) = None
 id_in (ListRequest day after) = None
@@ -26,9 +26,9 @@ id_in (Retire id) = Some id
 
 -- the transaction that a request names
 abbrev pub txn_in : Request → Option ℕ
-txn_in (Reserve id txn at login count) = Some txn
-txn_in (Settle id txn at login count) = Some txn
-txn_in (Release id txn at login) = Some txn
+txn_in (Reserve id txn moment login count) = Some txn
+txn_in (Settle id txn moment login count) = Some txn
+txn_in (Release id txn moment login) = Some txn
 txn_in _ = None
 
 -- all exchanges of a past
@@ -38,8 +38,8 @@ exchanges_in (x ∷ P) = x.group ++ exchanges_in P
 
 -- the request of a step after the past, where it takes a number
 abbrev pub request_by : Source → List Step → Action → List Exchange → Option Request
-request_by s P (Ask txn at login) [] = None
-request_by s P (Ask txn at login) (x ∷ group) = Some (reserve_of s (numbers_in P + 1) txn at login)
+request_by s P (Ask txn moment login) [] = None
+request_by s P (Ask txn moment login) (x ∷ group) = Some (reserve_of s (numbers_in P + 1) txn moment login)
 request_by s P (Close txn end) group = option_map (closing_of s (numbers_in P + 1) txn end) (live_in P txn)
 request_by s P Drain group = None
 
@@ -57,30 +57,30 @@ pub record IsNumbered (s : Source) (P : List Step) (q : Request) : Type 0 where
   pub under : request_under s P number ≡ Some q
 
 -- a close by Commit found the transaction live, with that login and moment, and with so many let through
-pub record WasCommitted (P : List Step) (txn at : ℕ) (login : List ℕ) (count : ℕ) : Type 0 where
+pub record WasCommitted (P : List Step) (txn moment : ℕ) (login : List ℕ) (count : ℕ) : Type 0 where
   pub later : List Step
   pub group : List Exchange
   pub before : List Step
   pub held : Held
   pub whole : P ≡ later ++ record { action = Close txn Commit; group = group } ∷ before
   pub live : live_in before txn ≡ Some held
-  pub at_is : held.at ≡ at
+  pub moment_is : held.moment ≡ moment
   pub login_is : held.login ≡ login
   pub count_is : held.granted ≡ count
 
 -- a settle asks for what was let through
 abbrev pub SettlesWhatWasLet : List Step → Request → Type 0
-SettlesWhatWasLet P (Settle id txn at login count) = WasCommitted P txn at login count
+SettlesWhatWasLet P (Settle id txn moment login count) = WasCommitted P txn moment login count
 SettlesWhatWasLet P _ = Unit {0}
 
 abbrev pub is_closed : Standing → Bool
 is_closed Never = false
 is_closed (Live h) = false
-is_closed (Closed end seq h) = true
+is_closed (Closed end number h) = true
 
 -- an action asks for no transaction that was closed
 abbrev pub AsksForNoClosed : View → Action → Type 0
-AsksForNoClosed v (Ask txn at login) = is_closed (v.standing txn) ≡ false
+AsksForNoClosed v (Ask txn moment login) = is_closed (v.standing txn) ≡ false
 AsksForNoClosed v _ = Unit {0}
 
 -- no step of a past did
@@ -91,6 +91,6 @@ NoneReturns s (x ∷ P) = AsksForNoClosed (view s P) x.action × NoneReturns s P
 -- a request under a number suits its transaction: a reserve with its login and moment, or the one request of its close
 abbrev pub Suits : Source → (n txn : ℕ) → Standing → Request → Type 0
 Suits s n txn Never q = ⊥
-Suits s n txn (Live h) q = q ≡ reserve_of s n txn h.at h.login
-Suits s n txn (Closed end seq h) q = (q ≡ reserve_of s n txn h.at h.login)
-    ⊎ ((n ≡ seq) × (q ≡ closing_of s n txn end h))
+Suits s n txn (Live h) q = q ≡ reserve_of s n txn h.moment h.login
+Suits s n txn (Closed end number h) q = (q ≡ reserve_of s n txn h.moment h.login)
+    ⊎ ((n ≡ number) × (q ≡ closing_of s n txn end h))

@@ -25,7 +25,7 @@ pub record Source : Type 0 where
 
 -- one recipient of a transaction is asked for, a transaction ends, or what waits is sent
 pub data Action : Type 0 where
-  Ask : (txn at : ℕ) (login : List ℕ) → Action
+  Ask : (txn moment : ℕ) (login : List ℕ) → Action
   Close : (txn : ℕ) (end : CloseEnd) → Action
   Drain : Action
 
@@ -51,7 +51,7 @@ answer_of (x ∷ group) = answer_by (x.decided)
 
 -- an ask that was answered Granted lets one recipient through
 abbrev pub let_through : Asked → Held → Held
-let_through asked.Granted h = record { login = h.login; at = h.at; granted = h.granted + 1 }
+let_through asked.Granted h = record { login = h.login; moment = h.moment; granted = h.granted + 1 }
 let_through asked.Full h = h
 let_through asked.Unavailable h = h
 
@@ -60,7 +60,7 @@ let_through asked.Unavailable h = h
 pub data Standing : Type 0 where
   Never : Standing
   Live : Held → Standing
-  Closed : (end : CloseEnd) (seq : ℕ) → Held → Standing
+  Closed : (end : CloseEnd) (number : ℕ) → Held → Standing
 
 -- what a past leaves: each transaction, how many numbers are used, the requests that wait, in order, and the
 -- live transactions
@@ -74,29 +74,29 @@ pub record View : Type 0 where
 abbrev pub held_by : Standing → Option Held
 held_by Never = None
 held_by (Live h) = Some h
-held_by (Closed end seq h) = None
+held_by (Closed end number h) = None
 
 -- a transaction from its first exchange on: the first ask gives login and moment
 abbrev pub opened : ℕ → List ℕ → Option Held → Held
-opened at login None = record { login = login; at = at; granted = 0 }
-opened at login (Some h) = h
+opened moment login None = record { login = login; moment = moment; granted = 0 }
+opened moment login (Some h) = h
 
 abbrev pub id_of : Source → ℕ → Id
-id_of s seq = record { host = s.host; run = s.run; seq = seq }
+id_of s number = record { host = s.host; run = s.run; number = number }
 
 -- the request of an ask: one recipient
 abbrev pub reserve_of : Source → ℕ → ℕ → ℕ → List ℕ → Request
-reserve_of s seq txn at login = Reserve (id_of s seq) txn at login 1
+reserve_of s number txn moment login = Reserve (id_of s number) txn moment login 1
 
 abbrev pub is_commit : CloseEnd → Bool
 is_commit ending.Commit = true
-is_commit ending.Drop = false
+is_commit ending.Rollback = false
 
 -- the request that closes a transaction: a settle of what was let through, where it was committed and that is
 -- at least one, and else a release
 abbrev pub closing_of : Source → ℕ → ℕ → CloseEnd → Held → Request
-closing_of s seq txn end h = if is_commit end && nat_le 1 h.granted then Settle (id_of s seq) txn h.at h.login h.granted
-    else Release (id_of s seq) txn h.at h.login
+closing_of s number txn end h = if is_commit end && nat_le 1 h.granted then Settle (id_of s number) txn h.moment h.login h.granted
+    else Release (id_of s number) txn h.moment h.login
 
 abbrev pub set : ℕ → Standing → (ℕ → Standing) → ℕ → Standing
 set txn now standing t = if txn == t then now else standing t
@@ -112,10 +112,10 @@ without txn (t ∷ live) = if t == txn then without txn live else t ∷ without 
 
 -- an ask with no exchange changes nothing
 abbrev pub after_ask : ℕ → ℕ → List ℕ → List Exchange → View → View
-after_ask txn at login [] v = v
-after_ask txn at login (x ∷ group) v = record {
+after_ask txn moment login [] v = v
+after_ask txn moment login (x ∷ group) v = record {
   standing = set txn (Live (let_through (answer_of (x ∷ group))
-      (opened at login (held_by (v.standing txn))))) v.standing;
+      (opened moment login (held_by (v.standing txn))))) v.standing;
   numbers = v.numbers + 1;
   waiting = v.waiting;
   live = with_asked txn (held_by (v.standing txn)) v.live;
@@ -133,7 +133,7 @@ after_close s txn end group v (Some h) = record {
 }
 
 abbrev pub after : Source → View → Action → List Exchange → View
-after s v (Ask txn at login) group = after_ask txn at login group v
+after s v (Ask txn moment login) group = after_ask txn moment login group v
 after s v (Close txn end) group = after_close s txn end group v (held_by (v.standing txn))
 after s v Drain group = record {
   standing = v.standing;
@@ -150,7 +150,7 @@ view s (x ∷ P) = after s (view s P) x.action x.group
 
 -- the transaction is held with another login or moment
 abbrev pub is_other : Held → ℕ → List ℕ → Bool
-is_other h at login = not (same_text h.login login) || not (h.at == at)
+is_other h moment login = not (same_text h.login login) || not (h.moment == moment)
 
 -- the unused numbers are fewer than one and one for the closing of each held transaction
 abbrev pub lacks_numbers : ℕ → ℕ → Bool
@@ -158,26 +158,26 @@ lacks_numbers numbers held = nat_lt (4294967295 - numbers) (1 + held)
 
 -- an ask that makes no exchange: of a held transaction that is another or has let 1,000 recipients through, of
 -- one that isn't held where no place is left, or where numbers are lacking
-abbrev pub refuses : Option Held → (live numbers waiting at : ℕ) → List ℕ → Bool
-refuses (Some h) live numbers waiting at login =
-    is_other h at login || (nat_le 1000 h.granted || lacks_numbers numbers live)
-refuses None live numbers waiting at login = nat_le 4096 (live + waiting) || lacks_numbers numbers (live + 1)
+abbrev pub refuses : Option Held → (live numbers waiting moment : ℕ) → List ℕ → Bool
+refuses (Some h) live numbers waiting moment login =
+    is_other h moment login || (nat_le 1000 h.granted || lacks_numbers numbers live)
+refuses None live numbers waiting moment login = nat_le 4096 (live + waiting) || lacks_numbers numbers (live + 1)
 
 -- the exchanges that an action may have, by what stands before it: the transaction, where it is live, the live
 -- ones, the numbers used and what waits
 abbrev pub PlaysFrom : Source → (tries : ℕ) → Option Held → (live numbers : ℕ) → List Request → Action → List Exchange
     → Type 0
-PlaysFrom s tries held live numbers waiting (Ask txn at login) group =
-    MatchBool (refuses held live numbers (length waiting) at login)
+PlaysFrom s tries held live numbers waiting (Ask txn moment login) group =
+    MatchBool (refuses held live numbers (length waiting) moment login)
     (group ≡ [])
-    ((decided : Option Reply) × AreTries tries (reserve_of s (numbers + 1) txn at login) group decided)
+    ((decided : Option Reply) × AreTries tries (reserve_of s (numbers + 1) txn moment login) group decided)
 PlaysFrom s tries None live numbers waiting (Close txn end) group = group ≡ []
 PlaysFrom s tries (Some h) live numbers waiting (Close txn end) group =
     (left : List Request) × Sends tries (waiting ++ closing_of s (numbers + 1) txn end h ∷ []) group left
 PlaysFrom s tries held live numbers waiting Drain group = (left : List Request) × Sends tries waiting group left
 
 abbrev pub held_for : View → Action → Option Held
-held_for v (Ask txn at login) = held_by (v.standing txn)
+held_for v (Ask txn moment login) = held_by (v.standing txn)
 held_for v (Close txn end) = held_by (v.standing txn)
 held_for v Drain = None
 

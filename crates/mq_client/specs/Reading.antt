@@ -15,11 +15,11 @@ use Rattle.mq_client.specs.declared.held.Held.{Held}
 -- an ask that made an exchange
 pub record Asking : Type 0 where
   pub login : List ℕ
-  pub at : ℕ
+  pub moment : ℕ
   pub answer : Asked
 
 abbrev pub closes : ℕ → Action → Bool
-closes t (Ask txn at login) = false
+closes t (Ask txn moment login) = false
 closes t (Close txn end) = txn == t
 closes t Drain = false
 
@@ -30,9 +30,9 @@ since_close t (x ∷ P) = if closes t x.action then [] else x ∷ since_close t 
 
 -- an ask of the transaction, where the step is one that made an exchange
 abbrev pub asking : ℕ → Action → List Exchange → Option Asking
-asking t (Ask txn at login) [] = None
-asking t (Ask txn at login) (x ∷ group) = if txn == t
-    then Some (record { login = login; at = at; answer = answer_of (x ∷ group) }) else None
+asking t (Ask txn moment login) [] = None
+asking t (Ask txn moment login) (x ∷ group) = if txn == t
+    then Some (record { login = login; moment = moment; answer = answer_of (x ∷ group) }) else None
 asking t (Close txn end) group = None
 asking t Drain group = None
 
@@ -56,7 +56,7 @@ abbrev pub live_by : List Asking → Option Held
 live_by [] = None
 live_by (a ∷ more) = Some (record {
   login = (first_of a more).login;
-  at = (first_of a more).at;
+  moment = (first_of a more).moment;
   granted = count_by (λ b. is_granted b.answer) (a ∷ more);
 })
 
@@ -69,7 +69,7 @@ has_exchange (x ∷ group) = true
 
 -- the step after the past takes a number: an ask with an exchange, or a close of a transaction then live
 abbrev pub takes_number : List Step → Action → List Exchange → Bool
-takes_number P (Ask txn at login) group = has_exchange group
+takes_number P (Ask txn moment login) group = has_exchange group
 takes_number P (Close txn end) group = is_some (live_in P txn)
 takes_number P Drain group = false
 
@@ -79,11 +79,11 @@ numbers_in [] = 0
 numbers_in (x ∷ P) = if takes_number P x.action x.group then numbers_in P + 1 else numbers_in P
 
 -- a transaction that a close found live, under the number of the close
-abbrev pub closed_by : ℕ → (seq : ℕ) → Action → Option Held → Option Standing
-closed_by t seq (Ask txn at login) held = None
-closed_by t seq (Close txn end) None = None
-closed_by t seq (Close txn end) (Some h) = if txn == t then Some (Closed end seq h) else None
-closed_by t seq Drain held = None
+abbrev pub closed_by : ℕ → (number : ℕ) → Action → Option Held → Option Standing
+closed_by t number (Ask txn moment login) held = None
+closed_by t number (Close txn end) None = None
+closed_by t number (Close txn end) (Some h) = if txn == t then Some (Closed end number h) else None
+closed_by t number Drain held = None
 
 abbrev pub standing_or : Option Standing → Standing → Standing
 standing_or None before = before
@@ -102,12 +102,12 @@ abbrev pub standing_in : List Step → ℕ → Standing
 standing_in P t = live_or (live_in P t) (closed_in P t)
 
 -- the request of the close of a transaction, under its number, where it was live
-abbrev pub closing_under : Source → (seq txn : ℕ) → CloseEnd → Option Held → List Request
-closing_under s seq txn end None = []
-closing_under s seq txn end (Some h) = closing_of s seq txn end h ∷ []
+abbrev pub closing_under : Source → (number txn : ℕ) → CloseEnd → Option Held → List Request
+closing_under s number txn end None = []
+closing_under s number txn end (Some h) = closing_of s number txn end h ∷ []
 
 abbrev pub closing_by : Source → List Step → Action → List Request
-closing_by s P (Ask txn at login) = []
+closing_by s P (Ask txn moment login) = []
 closing_by s P (Close txn end) = closing_under s (numbers_in P + 1) txn end (live_in P txn)
 closing_by s P Drain = []
 

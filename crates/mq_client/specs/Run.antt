@@ -14,8 +14,8 @@ use Rattle.mq_link.specs.Link.{Tells}
 use Rattle.mq_client.specs.Exchanges.{Exchange}
 use Rattle.mq_client.specs.Past.{Step, drained, State, StandsAt, view, MakesAll, told_steps}
 use Rattle.mq_client.specs.Filter.{Takes, push, Filters, is_filter, answer_count}
-use Rattle.mq_client.specs.declared.faults.FilterFault.{FilterFault}
-use Rattle.mq_client.specs.declared.faults.FilterFault.TheVariants as at
+use Rattle.mq_client.specs.declared.fault.FilterFault.{FilterFault}
+use Rattle.mq_client.specs.declared.fault.FilterFault.TheVariants as faults
 use Rattle.mq_client.specs.declared.filter.Ended.{Ended}
 use Rattle.mq_link.specs.declared.link.Told.{Told}
 
@@ -144,20 +144,20 @@ IsAtWork (AfterReady L) left = (m : Meaning) × (line : List ℕ) × StandsFirst
 -- what is found where a run stops, after the lines that were handled
 abbrev pub IsFound : FilterFault → Stage → (pieces : List (List ℕ)) → (left : List ℕ) → (source : Option (List ℕ))
     → (read_failed write_failed : Bool) → Type 0
-IsFound (at.Line f) stage pieces left source read_failed write_failed = (line : List ℕ) × StandsFirst line left
+IsFound (faults.Line f) stage pieces left source read_failed write_failed = (line : List ℕ) × StandsFirst line left
     × (fault line ≡ Some f)
-IsFound (at.Track f) stage pieces left source read_failed write_failed = (L : List Meaning) × (m : Meaning)
+IsFound (faults.Track f) stage pieces left source read_failed write_failed = (L : List Meaning) × (m : Meaning)
     × (line : List ℕ) × (stage ≡ AfterReady L) × StandsFirst line left × Reads line m × (track_fault L m ≡ Some f)
-IsFound at.NotReady stage pieces left source read_failed write_failed = (m : Meaning) × (line : List ℕ)
+IsFound faults.NotReady stage pieces left source read_failed write_failed = (m : Meaning) × (line : List ℕ)
     × (stage ≡ BeforeReady) × StandsFirst line left × Reads line m × (is_stamped m ≡ true)
-IsFound at.EndedEarly stage pieces left source read_failed write_failed = (stage ≡ BeforeReady) × (left ≡ [])
+IsFound faults.EndedEarly stage pieces left source read_failed write_failed = (stage ≡ BeforeReady) × (left ≡ [])
     × IsAtEnd source
-IsFound at.CutLine stage pieces left source read_failed write_failed = (left ≢ []) × IsLine left × IsAtEnd source
-IsFound at.TooLong stage pieces left source read_failed write_failed = IsTooLong left
-IsFound at.Read stage pieces left source read_failed write_failed = IsLine left
+IsFound faults.CutLine stage pieces left source read_failed write_failed = (left ≢ []) × IsLine left × IsAtEnd source
+IsFound faults.TooLong stage pieces left source read_failed write_failed = IsTooLong left
+IsFound faults.Read stage pieces left source read_failed write_failed = IsLine left
     × ((read_failed ≡ true) ⊎ (length pieces ≡ 1099511627776))
-IsFound at.Write stage pieces left source read_failed write_failed = write_failed ≡ true
-IsFound at.Memory stage pieces left source read_failed write_failed = IsFed pieces left ⊎ IsAtWork stage left
+IsFound faults.Write stage pieces left source read_failed write_failed = write_failed ≡ true
+IsFound faults.Memory stage pieces left source read_failed write_failed = IsFed pieces left ⊎ IsAtWork stage left
 
 -- the step that the line in front makes, and what is written for it
 abbrev pub Goes : Stage → (line : List ℕ) → Option Step → List ℕ → Type 0
@@ -170,8 +170,8 @@ MayGo stage left step next = ((step ≡ None) × (next ≡ []))
     ⊎ ((line : List ℕ) × StandsFirst line left × Goes stage line step next)
 
 abbrev pub IsInHand : FilterFault → Stage → (left : List ℕ) → Option Step → List ℕ → Type 0
-IsInHand at.Write stage left step next = MayGo stage left step next
-IsInHand at.Memory stage left step next = MayGo stage left step next
+IsInHand faults.Write stage left step next = MayGo stage left step next
+IsInHand faults.Memory stage left step next = MayGo stage left step next
 IsInHand f stage left step next = (step ≡ None) × (next ≡ [])
 
 -- The lines before the place where a run stopped were handled, and the rest is left: steps and exchanges were made

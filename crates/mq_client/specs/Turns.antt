@@ -15,8 +15,8 @@ failures (x ∷ group) = if is_some (x.decided) then 0 else failures group + 1
 
 -- the requests that an action sends, in order
 abbrev pub queue_of : Source → View → Option Held → Action → List Request
-queue_of s v held (Ask txn at login) = if refuses held (length v.live) v.numbers (length v.waiting) at login then []
-    else reserve_of s (v.numbers + 1) txn at login ∷ []
+queue_of s v held (Ask txn moment login) = if refuses held (length v.live) v.numbers (length v.waiting) moment login then []
+    else reserve_of s (v.numbers + 1) txn moment login ∷ []
 queue_of s v None (Close txn end) = []
 queue_of s v (Some h) (Close txn end) = v.waiting ++ closing_of s (v.numbers + 1) txn end h ∷ []
 queue_of s v held Drain = v.waiting

@@ -10,12 +10,12 @@ ghost use Rattle.mq_line.specs.Results.{result_text};
 ghost use Rattle.mq_link.specs.Link.{Tells};
 ghost use Rattle.mq_client.specs.Past.{Step};
 ghost use Rattle.mq_client.specs.Causes.{cause_of as cause_of_lem};
-ghost use Rattle.mq_client.specs.Filter.{is_login, is_moment, query_at, query, decision_of as decision_lem, Answers};
+ghost use Rattle.mq_client.specs.Filter.{is_login, is_moment, query_at, query, decision_of as decision_of_lem, Answers};
 ghost use Rattle.mq_client.specs.Run.{around};
 ghost use Rattle.mq_client.specs.Loop.{MakesOne, told_one, Does, Replies, IsCut};
 
 use crate::client::Client;
-use crate::faults::{FilterFault, Memory};
+use crate::fault::{FilterFault, Memory};
 use crate::held::Asked;
 use crate::refusal::Cause;
 use log::Log;
@@ -35,17 +35,17 @@ pub struct Inquiry<'a> {
 }
 
 /// Whether login and moment are such that a recipient can be asked for.
-fn may_ask(name: &[u8], at: u64) -> bool
-    ensures { result ≡ (is_login name.now && is_moment at) }
+fn may_ask(login: &[u8], moment: u64) -> bool
+    ensures { result ≡ (is_login login.now && is_moment moment) }
 {
-    is_login(name) && is_moment(at)
+    is_login(login) && is_moment(moment)
 }
 
 /// Why a recipient of this login can't be asked for.
-fn cause_of(name: &[u8]) -> Cause
-    ensures { result ≡ cause_of_lem name.now }
+fn cause_of(login: &[u8]) -> Cause
+    ensures { result ≡ cause_of_lem login.now }
 {
-    if is_login(name) {
+    if is_login(login) {
         Cause::Moment
     } else {
         Cause::Login
@@ -59,7 +59,7 @@ fn is_recipient(subsystem: &[u8], phase: &[u8]) -> bool
 }
 
 fn decision_of(answer: Asked) -> Decision
-    ensures { result ≡ decision_lem answer }
+    ensures { result ≡ decision_of_lem answer }
 {
     match answer {
         Asked::Granted => Decision::Proceed,
@@ -72,25 +72,25 @@ fn decision_of(answer: Asked) -> Decision
 fn ask<R: Log, K: Link>(
     rt: &R,
     session: &[u8],
-    name: &[u8],
+    login: &[u8],
     txn: u32,
-    at: u64,
+    moment: u64,
     link: &mut K,
     client: &mut Client,
 ) -> Result<Decision, Memory>
     requires { 0 < txn }
     ensures ok { IfOk result (λ d. (step : Option Step) × Tells (K.told link.old) (K.told link.new) (told_one step)
-        × MakesOne client.old client.new step × Answers (query_at (Sending name.now txn at)) step d) }
+        × MakesOne client.old client.new step × Answers (query_at (Sending login.now txn moment)) step d) }
     ensures client { OnErr result (client.new ≡ client.old) }
     ensures link { OnErr result (link.new ≡ link.old) }
 {
-    if !may_ask(name, at) {
-        client.warn_refused(rt, session, name, cause_of(name));
+    if !may_ask(login, moment) {
+        client.warn_refused(rt, session, login, cause_of(login));
         return Ok(Decision::RejectService);
     }
-    client.warn_before(rt, session, txn, at, name);
+    client.warn_before(rt, session, txn, moment, login);
     client.set_session(session);
-    match client.reserve(rt, link, txn, at, name) {
+    match client.reserve(rt, link, txn, moment, login) {
         Ok(answer) => Ok(decision_of(answer)),
         Err(refused) => Err(refused),
     }
@@ -116,11 +116,19 @@ fn decide<R: Log, K: Link>(
     }
     match tracker.standing(inquiry.session) {
         Standing::Anonymous => Ok(Decision::Proceed),
-        Standing::Login { name, .. } => {
-            client.warn_refused(rt, inquiry.session, name, Cause::NoTransaction);
+        Standing::Login { login, .. } => {
+            client.warn_refused(rt, inquiry.session, login, Cause::NoTransaction);
             Ok(Decision::RejectService)
         }
-        Standing::Open { name, txn, at } => ask(rt, inquiry.session, name, txn, at, link, client),
+        Standing::Open { login, txn, moment } => ask(
+            rt,
+            inquiry.session,
+            login,
+            txn,
+            moment,
+            link,
+            client,
+        ),
     }
 }
 

@@ -10,7 +10,7 @@ ghost use Rattle.mq_client.specs.Held.{IsHeld};
 ghost use Rattle.mq_client.specs.Framed.{IsFramed};
 ghost use Rattle.mq_frame.specs.declared.message.Reply.{Reply};
 
-use crate::faults::Memory;
+use crate::fault::Memory;
 use crate::held::{Asked, Held, answer_to, closing_request, reserve_request};
 use crate::reached::Reached;
 use crate::refusal::{Cause, RefusedRecipient, Warned};
@@ -61,22 +61,22 @@ fn framed_reserve(
     alloc: Global,
     host: &Host,
     run: u64,
-    seq: u32,
+    number: u32,
     txn: u32,
-    at: u64,
+    moment: u64,
     login: &[u8],
 ) -> Result<Framed, Memory>
     requires host { IsHost host.now }
     requires run { IsRun run }
-    requires seq { 1 ≤ seq }
+    requires number { 1 ≤ number }
     requires txn { IsOrdinal txn }
-    requires at { IsMoment at }
+    requires moment { IsMoment moment }
     requires login { IsLogin login.now }
     ensures request { IfOk result (λ framed. framed.request
-        ≡ reserve_of (record { host = host.now; run = run }) seq txn at login.now) }
+        ≡ reserve_of (record { host = host.now; run = run }) number txn moment login.now) }
     ensures frame { IfOk result IsFramed }
 {
-    let request = reserve_request(alloc, host, run, seq, txn, at, login)?;
+    let request = reserve_request(alloc, host, run, number, txn, moment, login)?;
     Framed::new(alloc, request)
 }
 
@@ -85,19 +85,19 @@ fn framed_closing(
     alloc: Global,
     host: &Host,
     run: u64,
-    seq: u32,
+    number: u32,
     closing: Closing,
     known: &Held,
 ) -> Result<Framed, Memory>
     requires host { IsHost host.now }
     requires run { IsRun run }
-    requires seq { 1 ≤ seq }
+    requires number { 1 ≤ number }
     requires held { IsHeld closing.txn known.now }
     ensures request { IfOk result (λ framed. framed.request
-        ≡ closing_of (record { host = host.now; run = run }) seq closing.txn closing.end known.now) }
+        ≡ closing_of (record { host = host.now; run = run }) number closing.txn closing.end known.now) }
     ensures frame { IfOk result IsFramed }
 {
-    let request = closing_request(host, run, seq, closing.txn, closing.end, known)?;
+    let request = closing_request(host, run, number, closing.txn, closing.end, known)?;
     Framed::new(alloc, request)
 }
 
@@ -166,7 +166,7 @@ impl Client {
         self.session = Session::of(session);
     }
 
-    /// Asks whether a recipient of a transaction may go through. `txn` is 1 to 4,294,967,295, `at` is
+    /// Asks whether a recipient of a transaction may go through. `txn` is 1 to 4,294,967,295, `moment` is
     /// 86,400 to 32,503,680,000 and `login` has 1 to 255 bytes.
     ///
     /// It is `Unavailable` with no exchange where the transaction is held with another login or
@@ -178,39 +178,41 @@ impl Client {
         rt: &R,
         link: &mut L,
         txn: u32,
-        at: u64,
+        moment: u64,
         login: &[u8],
     ) -> Result<Asked, Memory>
         requires txn { IsOrdinal txn }
-        requires at { IsMoment at }
+        requires moment { IsMoment moment }
         requires login { IsLogin login.now }
         ensures ok { IfOk result (λ answer. (group : List Exchange)
             × Tells (L.told link.old) (L.told link.new) (told_all group)
             × (answer ≡ answer_of group) × Makes self.old self.new (record {
-              action = Ask txn at login.now;
+              action = Ask txn moment login.now;
               group = group;
             })) }
         // Memory is asked for only where the server is.
         ensures refused { refuses_lem (find self.old.held txn)
-            (length self.old.held) self.old.numbers (length self.old.waiting) at login.now ≡ true → IsOk result }
+            (length self.old.held) self.old.numbers (length self.old.waiting) moment login.now ≡ true → IsOk result }
         ensures client { OnErr result (self.new ≡ self.old) }
         ensures link { OnErr result (link.new ≡ link.old) }
     {
         let closings = self.outbox.len();
         if self
             .held
-            .refusal(self.numbers, closings, txn, at, login)
+            .refusal(self.numbers, closings, txn, moment, login)
             .is_some()
         {
             return Ok(Asked::Unavailable);
         }
-        let seq = self.numbers + 1;
+        let number = self.numbers + 1;
         // All memory comes first: where there is none, no number is used and nothing was sent.
-        let mut reserve = framed_reserve(self.alloc, &self.host, self.run, seq, txn, at, login)?;
+        let mut reserve = framed_reserve(
+            self.alloc, &self.host, self.run, number, txn, moment, login,
+        )?;
         reserve.session = self.session;
-        self.held.hold(txn, at, login)?;
+        self.held.hold(txn, moment, login)?;
         // The number is used from here on, whatever comes of it: the server may have seen it.
-        self.numbers = seq;
+        self.numbers = number;
         let reached = &mut self.reached;
         let answer = ask(rt, self.alloc, link, reserve, self.tries, reached);
         self.held.count(txn, answer);
@@ -218,11 +220,18 @@ impl Client {
     }
 
     /// Warns where `reserve` would refuse a recipient with no exchange, once for each cause in a session.
-    pub fn warn_before<R: Log>(&mut self, rt: &R, session: &[u8], txn: u32, at: u64, login: &[u8])
+    pub fn warn_before<R: Log>(
+        &mut self,
+        rt: &R,
+        session: &[u8],
+        txn: u32,
+        moment: u64,
+        login: &[u8],
+    )
         ensures { self.new ≡ self.old }
     {
         let waiting = self.outbox.len();
-        if let Some(cause) = self.held.refusal(self.numbers, waiting, txn, at, login) {
+        if let Some(cause) = self.held.refusal(self.numbers, waiting, txn, moment, login) {
             self.warn_refused(rt, session, login, cause);
         }
     }
@@ -259,13 +268,13 @@ impl Client {
         let Some(known) = self.held.get(closing.txn) else {
             return Ok(());
         };
-        let seq = self.numbers + 1;
-        let mut framed = framed_closing(self.alloc, &self.host, self.run, seq, closing, known)?;
+        let number = self.numbers + 1;
+        let mut framed = framed_closing(self.alloc, &self.host, self.run, number, closing, known)?;
         framed.session = self.session;
         // It waits before the transaction goes, so that no closing is lost where memory runs out.
         self.outbox.push_back(framed)?;
         self.held.release(closing.txn);
-        self.numbers = seq;
+        self.numbers = number;
         send_all(rt, self.alloc, link, &mut self.outbox, self.tries);
         Ok(())
     }

@@ -20,7 +20,7 @@ ghost use Rattle.mq_client.specs.Loop.{CarriesHeld, HaltsHeld, SinkWorks, SoFar}
 
 use crate::answer::{Inquiry, answer};
 use crate::client::Client;
-use crate::faults::{FilterFault, Memory};
+use crate::fault::{FilterFault, Memory};
 use log::{Log, warn};
 use mq_frame::{Failed, Sink, Source, write_and_flush};
 use mq_line::{Line, LineFeed, read_line, write_registration};

@@ -18,7 +18,7 @@ pub struct Held {
     /// Whose it is.
     pub login: Login,
     /// The moment of its beginning: seconds since 1970-01-01T00:00:00Z.
-    pub at: u64,
+    pub moment: u64,
     /// How many recipients were let through.
     pub granted: u32,
 }
@@ -50,28 +50,28 @@ pub fn reserve_request(
     alloc: Global,
     host: &Host,
     run: u64,
-    seq: u32,
+    number: u32,
     txn: u32,
-    at: u64,
+    moment: u64,
     login: &[u8],
 ) -> Result<Request, AllocError>
     requires host { IsHost host.now }
     requires run { IsRun run }
-    requires seq { 1 ≤ seq }
+    requires number { 1 ≤ number }
     requires txn { IsOrdinal txn }
-    requires at { IsMoment at }
+    requires moment { IsMoment moment }
     requires login { IsLogin login.now }
-    ensures request { IfOk result (λ q. q ≡ reserve_of (record { host = host.now; run = run }) seq txn at login.now) }
+    ensures request { IfOk result (λ q. q ≡ reserve_of (record { host = host.now; run = run }) number txn moment login.now) }
     ensures in_range { IfOk result IsRequest }
 {
     Ok(Request::Reserve {
         id: Id {
             host: host.clone()?,
             run,
-            seq,
+            number,
         },
         txn,
-        at,
+        moment,
         login: Login::from_slice(alloc, login)?,
         count: 1,
     })
@@ -80,20 +80,25 @@ pub fn reserve_request(
 /// The request that closes a held transaction, by its number and a copy of its login.
 fn close_by(id: Id, txn: u32, end: CloseEnd, known: &Held, login: Login) -> Request
     ensures { let h = known.now in result ≡ (if is_commit end && nat_le 1 h.granted
-        then Settle id txn h.at login h.granted else Release id txn h.at login) }
+        then Settle id txn h.moment login h.granted else Release id txn h.moment login) }
 {
-    let at = known.at;
+    let moment = known.moment;
     let count = known.granted;
     if end == CloseEnd::Commit && count >= 1 {
         Request::Settle {
             id,
             txn,
-            at,
+            moment,
             login,
             count,
         }
     } else {
-        Request::Release { id, txn, at, login }
+        Request::Release {
+            id,
+            txn,
+            moment,
+            login,
+        }
     }
 }
 
@@ -101,22 +106,22 @@ fn close_by(id: Id, txn: u32, end: CloseEnd, known: &Held, login: Login) -> Requ
 pub fn closing_request(
     host: &Host,
     run: u64,
-    seq: u32,
+    number: u32,
     txn: u32,
     end: CloseEnd,
     known: &Held,
 ) -> Result<Request, AllocError>
     requires host { IsHost host.now }
     requires run { IsRun run }
-    requires seq { 1 ≤ seq }
+    requires number { 1 ≤ number }
     requires held { IsHeld txn known.now }
-    ensures request { IfOk result (λ q. q ≡ closing_of (record { host = host.now; run = run }) seq txn end known.now) }
+    ensures request { IfOk result (λ q. q ≡ closing_of (record { host = host.now; run = run }) number txn end known.now) }
     ensures in_range { IfOk result IsRequest }
 {
     let id = Id {
         host: host.clone()?,
         run,
-        seq,
+        number,
     };
     let login = known.login.clone()?;
     Ok(close_by(id, txn, end, known, login))

@@ -14,7 +14,7 @@ ghost use Rattle.mq_line.specs.Grammar.{Meaning};
 ghost use Rattle.std.specs.List.{AllByRecursion, concat};
 ghost use Rattle.mq_client.specs.Run.{Outside, EndsWith, StopsAt};
 ghost use Rattle.mq_client.specs.Place.{is_of_input};
-ghost use Rattle.mq_client.specs.declared.faults.FilterFault.{FilterFault};
+ghost use Rattle.mq_client.specs.declared.fault.FilterFault.{FilterFault};
 ghost use Rattle.mq_client.specs.declared.filter.Ended.{Ended};
 
 use mq_frame::laws::one_spelling;

@@ -14,7 +14,7 @@
 
 mod answer;
 mod client;
-mod faults;
+mod fault;
 mod filter;
 mod held;
 mod laws;
@@ -28,7 +28,7 @@ mod verdict;
 mod warnings;
 
 pub use client::Client;
-pub use faults::{FilterFault, Memory};
+pub use fault::{FilterFault, Memory};
 pub use filter::{Ended, run_filter};
 pub use held::{Asked, Held};
 pub use laws::{

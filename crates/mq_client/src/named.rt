@@ -17,7 +17,7 @@ fn write_name<W: fmt::Write>(
     write!(
         f,
         "{kind} {} of transaction {txn} (host {host}{session}, login {login})",
-        id.seq
+        id.number
     )
 }
 

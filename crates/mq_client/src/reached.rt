@@ -99,8 +99,8 @@ impl Reached {
     /// How a refusal of this request by the limit is logged.
     fn level(&mut self, request: &Request) -> Level {
         match request {
-            Request::Reserve { at, login, .. } => {
-                if self.is_first(*at / SECONDS_OF_A_DAY, login.as_slice()) {
+            Request::Reserve { moment, login, .. } => {
+                if self.is_first(*moment / SECONDS_OF_A_DAY, login.as_slice()) {
                     Level::Warn
                 } else {
                     Level::Info

@@ -5,7 +5,7 @@ ghost use Rattle.std.specs.Option.{option_copied};
 ghost use Rattle.mq_client.specs.Past.{find, is_other as is_other_lem, refuses as refuses_lem, let_through};
 ghost use Rattle.mq_client.specs.Past.{opened as opened_lem};
 ghost use Rattle.mq_client.specs.Causes.{cause_by};
-ghost use Rattle.mq_client.specs.declared.held.Held.{Held as AHeld};
+ghost use Rattle.mq_client.specs.declared.held.Held.{Held as AnyHeld};
 
 use crate::held::{Asked, Held};
 use crate::refusal::Cause;
@@ -29,27 +29,27 @@ pub struct Transactions {
 
 impl Model for Transactions {
     ghost use Rattle.std.specs.Prelude.{List, ℕ};
-    ghost use Rattle.mq_client.specs.declared.held.Held.{Held as AHeld};
+    ghost use Rattle.mq_client.specs.declared.held.Held.{Held as AnyHeld};
 
-    ghost Value = { List (ℕ × AHeld) };
+    ghost Value = { List (ℕ × AnyHeld) };
 
     ghost view = { λ held. held.records.entries };
 }
 
 /// Whether a transaction is held with another login or moment.
-fn is_other(known: &Held, at: u64, login: &[u8]) -> bool
-    ensures { result ≡ is_other_lem known.now at login.now }
+fn is_other(known: &Held, moment: u64, login: &[u8]) -> bool
+    ensures { result ≡ is_other_lem known.now moment login.now }
 {
-    known.login.as_slice() != login || known.at != at
+    known.login.as_slice() != login || known.moment != moment
 }
 
 /// What is known of a transaction at its first request.
-fn opened(alloc: Global, at: u64, login: &[u8]) -> Result<Held, AllocError>
-    ensures { IfOk result (λ held. held ≡ opened_lem at login.now None) }
+fn opened(alloc: Global, moment: u64, login: &[u8]) -> Result<Held, AllocError>
+    ensures { IfOk result (λ held. held ≡ opened_lem moment login.now None) }
 {
     Ok(Held {
         login: Login::from_slice(alloc, login)?,
-        at,
+        moment,
         granted: 0,
     })
 }
@@ -87,20 +87,20 @@ impl Transactions {
         numbers: u32,
         waiting: usize,
         txn: u32,
-        at: u64,
+        moment: u64,
         login: &[u8],
     ) -> Option<Cause>
         requires { waiting < 2 ^ 32 }
-        ensures refuses { is_some result ≡ refuses_lem (find self.now txn) (length self.now) numbers waiting at
+        ensures refuses { is_some result ≡ refuses_lem (find self.now txn) (length self.now) numbers waiting moment
             login.now }
-        ensures cause { result ≡ cause_by (find self.now txn) (length self.now) numbers waiting at login.now }
+        ensures cause { result ≡ cause_by (find self.now txn) (length self.now) numbers waiting moment login.now }
     {
         let live = self.records.len();
         let unused = (u32::MAX - numbers) as usize;
         // A number is kept for the closing of each live transaction, and of this one where it is new.
         match self.records.get(&txn) {
             Some(known) => {
-                if is_other(known, at, login) {
+                if is_other(known, moment, login) {
                     Some(Cause::Changed)
                 } else if known.granted >= RECIPIENTS {
                     Some(Cause::Recipients)
@@ -123,9 +123,9 @@ impl Transactions {
     }
 
     /// Holds a transaction, if it isn't held. An `Err` changes nothing.
-    pub fn hold(&mut self, txn: u32, at: u64, login: &[u8]) -> Result<(), AllocError>
+    pub fn hold(&mut self, txn: u32, moment: u64, login: &[u8]) -> Result<(), AllocError>
         ensures find { OnOk result ((t : ℕ) → find self.new t ≡ (if txn == t
-            then Some (opened_lem at login.now (find self.old txn)) else find self.old t)) }
+            then Some (opened_lem moment login.now (find self.old txn)) else find self.old t)) }
         ensures len { OnOk result (length self.new ≡ (if is_some (find self.old txn)
             then length self.old else length self.old + 1)) }
         ensures err { OnErr result (self.new ≡ self.old) }
@@ -133,7 +133,7 @@ impl Transactions {
         if self.records.contains_key(&txn) {
             return Ok(());
         }
-        let opened = opened(self.alloc, at, login)?;
+        let opened = opened(self.alloc, moment, login)?;
         self.records.insert(txn, opened)?;
         Ok(())
     }
@@ -141,7 +141,7 @@ impl Transactions {
     /// Counts a recipient that was let through.
     pub fn count(&mut self, txn: u32, answer: Asked)
         requires { IfSome (find self.old txn) (λ h. h.granted < 1000) }
-        ensures find { (h : AHeld) → find self.old txn ≡ Some h → (t : ℕ) →
+        ensures find { (h : AnyHeld) → find self.old txn ≡ Some h → (t : ℕ) →
             find self.new t ≡ (if txn == t then Some (let_through answer h) else find self.old t) }
         ensures len { length self.new ≡ length self.old }
     {

@@ -6,10 +6,10 @@ ghost use Rattle.mq_link.specs.Link.{Tells};
 ghost use Rattle.mq_client.specs.Exchanges.{Exchange, IsTry, AreTries, IsSent, Sends, request_frame, told_of, told_all};
 ghost use Rattle.mq_client.specs.Verdict.{IsVerdict};
 ghost use Rattle.mq_frame.specs.declared.message.Reply.{Reply};
-ghost use Rattle.mq_client.specs.declared.tries.Framed.{Framed as AFramed};
+ghost use Rattle.mq_client.specs.declared.tries.Framed.{Framed as AnyFramed};
 ghost use Rattle.mq_client.specs.Framed.{IsFramed, requests_of};
 
-use crate::faults::Memory;
+use crate::fault::Memory;
 use crate::session::Session;
 use crate::verdict::{Verdict, is_other_reply, verdict_in};
 use crate::warnings::{Refused, Unanswered, is_refusal};
@@ -135,7 +135,7 @@ fn send<R: Log, L: Link>(rt: &R, alloc: Global, link: &mut L, closing: &Framed, 
 /// Takes the first request away.
 fn drop_front(outbox: &mut VecDeque<Framed>)
     requires { 0 < length outbox.old.items }
-    ensures { (x : AFramed) × (outbox.old.items ≡ x ∷ outbox.new.items) }
+    ensures { (x : AnyFramed) × (outbox.old.items ≡ x ∷ outbox.new.items) }
 {
     // (it is decided, and nobody asks for it again)
     let _ = outbox.pop_front();

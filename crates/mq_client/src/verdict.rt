@@ -32,7 +32,7 @@ pub enum Verdict {
 fn is_id(id: &Id, parts: IdParts<'_>) -> bool
     ensures { result ≡ same_id id.now (shown_id parts.entry) }
 {
-    id.host.as_slice() == parts.host && id.run == parts.run && id.seq == parts.seq
+    id.host.as_slice() == parts.host && id.run == parts.run && id.number == parts.number
 }
 
 /// What a reply says to the reserve with this id, where it is an answer to it.

@@ -52,9 +52,9 @@ to_retire its (says.Retired id) answers = tt
 to_retire its (says.Old id) answers = tt
 
 pub to_order : (request : Request) (reply : Reply) → IsOrder request → fits request reply ≡ true → AnswersOrder request reply
-to_order (asks.Reserve id txn at login count) reply is answers = absurd is
-to_order (asks.Settle id txn at login count) reply is answers = absurd is
-to_order (asks.Release id txn at login) reply is answers = absurd is
+to_order (asks.Reserve id txn moment login count) reply is answers = absurd is
+to_order (asks.Settle id txn moment login count) reply is answers = absurd is
+to_order (asks.Release id txn moment login) reply is answers = absurd is
 to_order (asks.Limit id from_day cap login) reply is answers = to_limit id from_day cap login reply answers
 to_order (asks.Usage login day) reply is answers = absurd is
 to_order (asks.List day after) reply is answers = absurd is

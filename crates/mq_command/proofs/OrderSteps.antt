@@ -11,7 +11,7 @@ use Rattle.mq_command.specs.declared.order.OrderFault.TheVariants.{Unanswered}
 use Rattle.mq_link.specs.declared.link.Told.{Told}
 
 with_run : Id → ℕ → Id
-with_run id run = record { host = id.host; run = run; seq = id.seq }
+with_run id run = record { host = id.host; run = run; number = id.number }
 
 id_none : (id : Id) → later_id 0 id ≡ id
 unfolding with_run
@@ -22,18 +22,18 @@ unfolding with_run
 id_more runs id = let more : (id.run + runs) + (runs + 1) ≡ id.run + (runs * 2 + 1) = omega arith in ap (with_run id) more
 
 pub later_none : (request : Request) → later 0 request ≡ request
-later_none (asks.Reserve id txn at login count) = refl
-later_none (asks.Settle id txn at login count) = refl
-later_none (asks.Release id txn at login) = refl
+later_none (asks.Reserve id txn moment login count) = refl
+later_none (asks.Settle id txn moment login count) = refl
+later_none (asks.Release id txn moment login) = refl
 later_none (asks.Limit id from_day cap login) = ap (λ i. asks.Limit i from_day cap login) (id_none id)
 later_none (asks.Usage login day) = refl
 later_none (asks.List day after) = refl
 later_none (asks.Retire id) = refl
 
 pub later_more : (runs : ℕ) (request : Request) → later (runs + 1) (later runs request) ≡ later (runs * 2 + 1) request
-later_more runs (asks.Reserve id txn at login count) = refl
-later_more runs (asks.Settle id txn at login count) = refl
-later_more runs (asks.Release id txn at login) = refl
+later_more runs (asks.Reserve id txn moment login count) = refl
+later_more runs (asks.Settle id txn moment login count) = refl
+later_more runs (asks.Release id txn moment login) = refl
 later_more runs (asks.Limit id from_day cap login) = ap (λ i. asks.Limit i from_day cap login) (id_more runs id)
 later_more runs (asks.Usage login day) = refl
 later_more runs (asks.List day after) = refl
@@ -46,9 +46,9 @@ ahead_more taken runs is =
 
 -- a limit in range is not so far ahead
 pub ahead_small : (runs : ℕ) (request : Request) → IsLimit (later runs request) → runs ≤ LAST_RUN
-ahead_small runs (asks.Reserve id txn at login count) is = absurd is
-ahead_small runs (asks.Settle id txn at login count) is = absurd is
-ahead_small runs (asks.Release id txn at login) is = absurd is
+ahead_small runs (asks.Reserve id txn moment login count) is = absurd is
+ahead_small runs (asks.Settle id txn moment login count) is = absurd is
+ahead_small runs (asks.Release id txn moment login) is = absurd is
 ahead_small runs (asks.Limit id from_day cap login) is = omega (arith, is.0.run.to)
 ahead_small runs (asks.Usage login day) is = absurd is
 ahead_small runs (asks.List day after) is = absurd is

@@ -24,8 +24,8 @@ pub record IsSetter (setter : Setter) : Type 0 where
 
 -- the limit of a login from a day on, under a number of the run
 abbrev pub limit_of : Setter → ℕ → ℕ → ℕ → Request
-limit_of setter seq day cap =
-    asks.Limit (record { host = setter.host; run = setter.run; seq = seq }) day cap setter.login
+limit_of setter number day cap =
+    asks.Limit (record { host = setter.host; run = setter.run; number = number }) day cap setter.login
 
 -- the room that is added after so many refusals, which grows to twice as much each time
 abbrev pub room : ℕ → ℕ
@@ -59,8 +59,8 @@ pub data AreRefused (setter : Setter) (day most more first : ℕ) (start : Optio
 
 -- What sending the limit of a day leads to: the limit, where it is set.
 abbrev pub SetsTo : Setter → ℕ → ℕ → ℕ → Option (List Told) → Option (List Told) → Result ℕ OrderFault → Type 0
-SetsTo setter seq day cap old new (Ok set) = OrdersFresh (limit_of setter seq day cap) old new (Ok tt) × (set ≡ cap)
-SetsTo setter seq day cap old new (Err fault) = OrdersFresh (limit_of setter seq day cap) old new (Err fault)
+SetsTo setter number day cap old new (Ok set) = OrdersFresh (limit_of setter number day cap) old new (Ok tt) × (set ≡ cap)
+SetsTo setter number day cap old new (Err fault) = OrdersFresh (limit_of setter number day cap) old new (Err fault)
 
 -- more is used on that very day than the limit would allow
 abbrev pub IsOver : ℕ → Result ℕ OrderFault → Type 0

@@ -71,7 +71,7 @@ Orders request told told' ended = (reply : Reply) × IsAnswered request reply to
 
 -- the number of the run that many later
 abbrev pub later_id : ℕ → Id → Id
-later_id runs id = record { host = id.host; run = id.run + runs; seq = id.seq }
+later_id runs id = record { host = id.host; run = id.run + runs; number = id.number }
 
 -- a limit under the number of the run that many later
 abbrev pub later : ℕ → Request → Request

@@ -1,11 +1,11 @@
 //! `stop` and `resume`: how many recipients more a login may have, today and on each later day.
-ghost use Rattle.std.specs.Prelude.{◌≡◌, ◌+◌, ℕ, IfOk, string_bytes, Result as AResult};
+ghost use Rattle.std.specs.Prelude.{◌≡◌, ◌+◌, ℕ, IfOk, string_bytes, Result as AnyResult};
 ghost use Rattle.mq_frame.specs.Range.{IsAmount, IsDay, IsLogin, IsReply, IsWithin};
 ghost use Rattle.mq_command.specs.Allowing.{AsksUsed, IsSetter, IsUsed, Resumes, SetsAbove, SetsBoth, Stops, allowed};
 ghost use Rattle.mq_command.specs.Allowing.{day_line, limit_of, resumed_line, stopped_line};
 ghost use Rattle.mq_command.specs.Orders.{OrdersFresh, Prints};
 ghost use Rattle.mq_command.specs.Report.{AnswersUsage};
-ghost use Rattle.mq_command.specs.declared.order.OrderFault.{OrderFault as AnOrderFault};
+ghost use Rattle.mq_command.specs.declared.order.OrderFault.{OrderFault as AnyOrderFault};
 
 use crate::ask::{AskFault, ask};
 use crate::order::{OrderFault, order_fresh};
@@ -40,17 +40,17 @@ struct DayUsage {
 fn limit_of(
     alloc: Global,
     setter: &Setter,
-    seq: u32,
+    number: u32,
     day: u32,
     cap: u32,
 ) -> Result<Request, AllocError>
-    ensures { IfOk result (λ request. request ≡ limit_of setter.now seq day cap) }
+    ensures { IfOk result (λ request. request ≡ limit_of setter.now number day cap) }
 {
     Ok(Request::Limit {
         id: Id {
             host: setter.host.clone()?,
             run: setter.run,
-            seq,
+            number,
         },
         from_day: day,
         cap,
@@ -63,17 +63,17 @@ fn set_limit<L: Link>(
     alloc: Global,
     link: &mut L,
     setter: &Setter,
-    seq: u32,
+    number: u32,
     day: u32,
     cap: u32,
 ) -> Result<(), OrderFault>
     requires setter { IsSetter setter.now }
-    requires seq { IsWithin 1 100 seq }
+    requires number { IsWithin 1 100 number }
     requires day { IsDay day }
     requires cap { IsAmount cap }
-    ensures { OrdersFresh (limit_of setter.now seq day cap) (L.told link.old) (L.told link.new) result }
+    ensures { OrdersFresh (limit_of setter.now number day cap) (L.told link.old) (L.told link.new) result }
 {
-    match limit_of(alloc, setter, seq, day, cap) {
+    match limit_of(alloc, setter, number, day, cap) {
         Ok(mut request) => order_fresh(alloc, link, &mut request),
         Err(_) => Err(OrderFault::Unanswered(AskFault::Memory)),
     }
@@ -265,7 +265,7 @@ pub fn run_stop<L: Link, W: Write, E: Write>(
 ) -> u8
     requires setter { IsSetter setter.now }
     requires day { IsDay (day + 1) }
-    ensures stops { (ended : AResult ℕ AnOrderFault)
+    ensures stops { (ended : AnyResult ℕ AnyOrderFault)
         × Stops setter.now day (L.told link.old) (L.told link.new) ended
         × Prints (λ used. stopped_line setter.now.login used day) (W.contents output.old) (W.contents output.new) ended
         result }
@@ -294,7 +294,7 @@ pub fn run_resume<L: Link, W: Write, E: Write>(
     requires setter { IsSetter setter.now }
     requires day { IsDay (day + 1) }
     requires more { IsAmount more }
-    ensures resumes { (ended : AResult ℕ AnOrderFault)
+    ensures resumes { (ended : AnyResult ℕ AnyOrderFault)
         × Resumes setter.now day more (L.told link.old) (L.told link.new) ended
         × Prints (λ cap. resumed_line setter.now.login cap day) (W.contents output.old) (W.contents output.new) ended
         result }

@@ -3,9 +3,9 @@ ghost use Rattle.std.specs.Prelude.{◌≡◌, ◌∷◌, [], true, false, IfOk,
 ghost use Rattle.std.specs.Option.{MatchOption};
 ghost use Rattle.mq_frame.specs.Range.{IsReply, IsRequest};
 ghost use Rattle.mq_frame.specs.Spelling.{SpellsReply};
-ghost use Rattle.mq_frame.specs.declared.message.Reply.{Reply as AReply};
+ghost use Rattle.mq_frame.specs.declared.message.Reply.{Reply as AnyReply};
 ghost use Rattle.mq_command.specs.Asking.{fits, frame_of, Asks, Brought, IsMissed, Sends};
-ghost use Rattle.mq_command.specs.declared.ask.AskFault.TheVariants.{Memory as AMemory};
+ghost use Rattle.mq_command.specs.declared.ask.AskFault.TheVariants.{Memory as NoMemory};
 ghost use Rattle.mq_link.specs.Link.{Tells};
 ghost use Rattle.mq_link.specs.declared.link.Told.{Told};
 
@@ -29,7 +29,7 @@ pub enum AskFault {
 }
 
 impl From<Memory> for AskFault {
-    ghost from_gives = { λ _ fault. fault ≡ AMemory };
+    ghost from_gives = { λ _ fault. fault ≡ NoMemory };
 
     fn from(_error: Memory) -> AskFault {
         AskFault::Memory
@@ -74,7 +74,7 @@ pub(crate) fn try_once<L: Link>(
     ensures { (one : Told) × Sends request.now one × Tells (L.told link.old) (L.told link.new) (one ∷ [])
         × MatchResult result (λ answer. MatchOption answer (IsMissed request.now one)
         (λ reply. Brought one.outcome reply × (fits request.now reply ≡ true)))
-        (λ fault. (reply : AReply) × Brought one.outcome reply) }
+        (λ fault. (reply : AnyReply) × Brought one.outcome reply) }
 {
     if link.exchange(frame, body).is_err() {
         return Ok(None);
@@ -85,9 +85,9 @@ pub(crate) fn try_once<L: Link>(
 /// The reply that a body spells, where it answers the request.
 fn answer_in(alloc: Global, request: &Request, body: &[u8]) -> Result<Option<Reply>, Memory>
     ensures { MatchResult result (λ answer. MatchOption answer
-        ((reply : AReply) → SpellsReply body.now reply → fits request.now reply ≡ false)
+        ((reply : AnyReply) → SpellsReply body.now reply → fits request.now reply ≡ false)
         (λ reply. SpellsReply body.now reply × (fits request.now reply ≡ true)))
-        (λ fault. (reply : AReply) × SpellsReply body.now reply) }
+        (λ fault. (reply : AnyReply) × SpellsReply body.now reply) }
 {
     match decode_reply(alloc, body) {
         Ok(reply) => {

@@ -24,14 +24,14 @@ fn day_text(alloc: Global, day: u32) -> Result<String, AllocError>
 pub fn run_day<W: Write, E: Write>(
     alloc: Global,
     zone: &Zone,
-    at: u64,
+    moment: u64,
     output: &mut W,
     errors: &mut E,
 ) -> u8
-    requires { IsMoment at }
-    ensures prints { PrintsLine (decimal (day_of zone.now at) ++ 10 ∷ []) (W.contents output.old)
+    requires { IsMoment moment }
+    ensures prints { PrintsLine (decimal (day_of zone.now moment) ++ 10 ∷ []) (W.contents output.old)
         (W.contents output.new) result }
     ensures quiet { result ≡ 0 → errors.new ≡ errors.old }
 {
-    tell_line(day_text(alloc, zone.day_at(at)), output, errors)
+    tell_line(day_text(alloc, zone.day_at(moment)), output, errors)
 }

@@ -1,9 +1,9 @@
 //! `limit` and `retire`: what an administrator orders, a limit of a login or that a host's runs are given up.
-ghost use Rattle.std.specs.Prelude.{◌≡◌, ◌<◌, ◌+◌, true, false, Result as AResult};
+ghost use Rattle.std.specs.Prelude.{◌≡◌, ◌<◌, ◌+◌, true, false, Result as AnyResult};
 ghost use Rattle.mq_frame.specs.declared.format.TheConstants.{LAST_RUN};
 ghost use Rattle.mq_command.specs.Orders.{AnswersOrder, IsLimit, IsOrder, IsRetire, Orders, OrdersFresh, Prints, Says, conflict};
 ghost use Rattle.mq_command.specs.Orders.{is_taken, later, run_of, word};
-ghost use Rattle.mq_command.specs.declared.order.OrderFault.{OrderFault as AnOrderFault};
+ghost use Rattle.mq_command.specs.declared.order.OrderFault.{OrderFault as AnyOrderFault};
 
 use crate::ask::{AskFault, ask};
 use crate::telling::tell;
@@ -135,7 +135,7 @@ fn run_order<L: Link, W: Write, E: Write>(
     errors: &mut E,
 ) -> u8
     requires { IsOrder request.now }
-    ensures orders { (sent : AResult (Unit {0}) AnOrderFault)
+    ensures orders { (sent : AnyResult (Unit {0}) AnyOrderFault)
         × Orders request.now (L.told link.old) (L.told link.new) sent
         × Prints (λ _. word request.now) (W.contents output.old) (W.contents output.new) sent result }
     ensures quiet { result ≡ 0 → errors.new ≡ errors.old }
@@ -156,7 +156,7 @@ pub fn run_limit<L: Link, W: Write, E: Write>(
     errors: &mut E,
 ) -> u8
     requires { IsLimit request.now }
-    ensures limits { (sent : AResult (Unit {0}) AnOrderFault)
+    ensures limits { (sent : AnyResult (Unit {0}) AnyOrderFault)
         × Orders request.now (L.told link.old) (L.told link.new) sent
         × Prints (λ _. word request.now) (W.contents output.old) (W.contents output.new) sent result }
     ensures quiet { result ≡ 0 → errors.new ≡ errors.old }
@@ -176,7 +176,7 @@ pub fn run_retire<L: Link, W: Write, E: Write>(
     errors: &mut E,
 ) -> u8
     requires { IsRetire request.now }
-    ensures retires { (sent : AResult (Unit {0}) AnOrderFault)
+    ensures retires { (sent : AnyResult (Unit {0}) AnyOrderFault)
         × Orders request.now (L.told link.old) (L.told link.new) sent
         × Prints (λ _. word request.now) (W.contents output.old) (W.contents output.new) sent result }
     ensures quiet { result ≡ 0 → errors.new ≡ errors.old }
@@ -197,7 +197,7 @@ pub fn run_fresh<L: Link, W: Write, E: Write>(
     errors: &mut E,
 ) -> u8
     requires { IsLimit request }
-    ensures limits { (sent : AResult (Unit {0}) AnOrderFault)
+    ensures limits { (sent : AnyResult (Unit {0}) AnyOrderFault)
         × OrdersFresh request (L.told link.old) (L.told link.new) sent
         × Prints (λ _. word request) (W.contents output.old) (W.contents output.new) sent result }
     ensures quiet { result ≡ 0 → errors.new ≡ errors.old }

@@ -1,7 +1,7 @@
 //! `status` and `filter --check`: whether the quota server answers.
-ghost use Rattle.std.specs.Prelude.{◌≡◌, IfOk, Result as AResult, string_bytes};
+ghost use Rattle.std.specs.Prelude.{◌≡◌, IfOk, Result as AnyResult, string_bytes};
 ghost use Rattle.mq_command.specs.Probing.{Checks, PrintsAnswer, Probes, answers_line};
-ghost use Rattle.mq_command.specs.declared.ask.AskFault.{AskFault as AnAskFault};
+ghost use Rattle.mq_command.specs.declared.ask.AskFault.{AskFault as AnyAskFault};
 
 use crate::ask::{AskFault, try_once};
 use crate::telling::{say, tell, tell_line};
@@ -47,7 +47,7 @@ pub fn run_probe<L: Link, W: Write, E: Write>(
     output: &mut W,
     errors: &mut E,
 ) -> u8
-    ensures probes { (ended : AResult (Unit {0}) AnAskFault)
+    ensures probes { (ended : AnyResult (Unit {0}) AnyAskFault)
         × Probes (L.told link.old) (L.told link.new) ended
         × PrintsAnswer server.now (W.contents output.old) (W.contents output.new) ended result }
     ensures quiet { result ≡ 0 → errors.new ≡ errors.old }

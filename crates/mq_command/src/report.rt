@@ -1,11 +1,11 @@
 //! `report`: prints what logins used on a day.
-ghost use Rattle.std.specs.Prelude.{◌≡◌, IfOk, IfSome, option_map, Ok, Err, Result as AResult};
+ghost use Rattle.std.specs.Prelude.{◌≡◌, IfOk, IfSome, option_map, Ok, Err, Result as AnyResult};
 ghost use Rattle.mq_frame.specs.Range.{IsDay, IsAfter, IsLogin, IsPage as IsPageInRange, IsReply};
 ghost use Rattle.mq_command.specs.Asking.{status_of};
 ghost use Rattle.mq_command.specs.Report.{AnswersList, AnswersUsage, AsksPage, AsksUsage, HasRow, output_fault};
 ghost use Rattle.mq_command.specs.Report.{PrintsRow, Reports, ReportsAll, ReportsOne, TakesPage};
-ghost use Rattle.mq_command.specs.declared.report.ReportFault.{ReportFault as AReportFault};
-ghost use Rattle.mq_command.specs.declared.report.ReportFault.TheVariants.{Memory as AMemory};
+ghost use Rattle.mq_command.specs.declared.report.ReportFault.{ReportFault as AnyReportFault};
+ghost use Rattle.mq_command.specs.declared.report.ReportFault.TheVariants.{Memory as NoMemory};
 
 mod page;
 mod row;
@@ -45,7 +45,7 @@ pub enum ReportFault {
 }
 
 impl From<AllocError> for ReportFault {
-    ghost from_gives = { λ _ fault. fault ≡ AMemory };
+    ghost from_gives = { λ _ fault. fault ≡ NoMemory };
 
     fn from(_error: AllocError) -> ReportFault {
         ReportFault::Memory
@@ -239,7 +239,7 @@ pub fn run_report<L: Link, W: Write, E: Write>(
 ) -> u8
     requires day { IsDay day }
     requires login { IfSome login (λ l. IsLogin l.now) }
-    ensures reports { (outcome : AResult (Unit {0}) AReportFault) × (result ≡ status_of outcome)
+    ensures reports { (outcome : AnyResult (Unit {0}) AnyReportFault) × (result ≡ status_of outcome)
         × Reports day (option_map (λ l. l.now) login.entry) (L.told link.old) (L.told link.new) (W.contents output.old)
         (W.contents output.new) outcome }
     ensures quiet { result ≡ 0 → errors.new ≡ errors.old }

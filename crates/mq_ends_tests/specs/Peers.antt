@@ -1,6 +1,6 @@
 -- Connections whose peers are in memory, so that all is known of what they carry.
 use Rattle.std.specs.Prelude.{ℕ, zero, suc, List, [], get_or, Option, Some, None}
-use Rattle.mq_room.specs.Wires.{Wire}
+use Rattle.mq_connections.specs.Wires.{Wire}
 
 -- a peer: what it has still to send, what was written to it, and what it left of the last write, where that was kept
 pub record Stream : Type 0 where

@@ -159,15 +159,15 @@ fn resumed(
 /// The status of the day of a moment.
 fn printed_day(
     alloc: Global,
-    at: u64,
+    moment: u64,
     output: &mut Vec<u8>,
     errors: &mut Vec<u8>,
 ) -> Result<u8, Fail> {
-    if !is_moment(at) {
+    if !is_moment(moment) {
         return Err("a moment out of range".into());
     }
     match Zone::of_rule(RULE) {
-        Ok(zone) => Ok(run_day(alloc, &zone, at, output, errors)),
+        Ok(zone) => Ok(run_day(alloc, &zone, moment, output, errors)),
         Err(_) => Err("no rule".into()),
     }
 }
@@ -185,7 +185,7 @@ fn done(
         Act::SendFresh(digits) => sent_fresh(alloc, link, digits, output, errors),
         Act::Stop(day) => stopped(alloc, link, day, output, errors),
         Act::Resume(day, more) => resumed(alloc, link, day, more, output, errors),
-        Act::Day(at) => printed_day(alloc, at, output, errors),
+        Act::Day(moment) => printed_day(alloc, moment, output, errors),
     }
 }
 

@@ -126,7 +126,7 @@ fn limited(
         id: Id {
             host: Host::from_slice(alloc, b"a")?,
             run: 1,
-            seq: 4,
+            number: 4,
         },
         from_day: 1,
         cap: 2,

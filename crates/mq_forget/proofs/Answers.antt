@@ -25,7 +25,7 @@ pub record Tells (day : ℕ → ℕ) (default : ℕ) (D : ℕ) (K H : List Entry
   pub settles : (l : List ℕ) (d : ℕ) → D ≤ d → settled day K l d ≡ settled day H l d
   pub lists : (l : List ℕ) (d : ℕ) → D ≤ d → has_reserve day K d l ≡ has_reserve day H d l
   pub unused : (l : List ℕ) (d : ℕ) → d < D → used day K l d ≡ 0
-  pub alike : (t : Transaction) (at : ℕ) → nat_le D (day_named day at (named H t)) ≡ true → AreAlike K H t
+  pub alike : (t : Transaction) (moment : ℕ) → nat_le D (day_named day moment (named H t)) ≡ true → AreAlike K H t
   pub caps : (l : List ℕ) (d : ℕ) → cap default K l d ≡ cap default H l d
   pub least : (l : List ℕ) (from c : ℕ) → IsLeastOver day H l from c (over day H l from c)
   pub only_least : (l : List ℕ) (from c : ℕ) (o : Option ℕ) → IsLeastOver day K l from c o → o ≡ over day K l from c
@@ -93,22 +93,22 @@ module _ (day : ℕ → ℕ) (default : ℕ) (D : ℕ) (K H : List Entry) (tells
   same_used : (l : List ℕ) (d : ℕ) → D ≤ d → used day K l d ≡ used day H l d
   same_used l d le = omega (arith, tells.reserves l d le, tells.settles l d le)
 
-  open_same : (id : Id) (txn at : ℕ) (login : List ℕ) (a b : Reply) → AreAlike K H (transaction id txn) → (agrees at login (named H (transaction id txn)) ≡ true → a ≡ b) → if_open K id txn at login a ≡ if_open H id txn at login b
-  open_same id txn at login a b s same = elim (either (agrees at login (named H (transaction id txn)))) [
-    | inr f ↦ (let f' : agrees at login (named K (transaction id txn)) ≡ false = ap (agrees at login) s.named ∙ f in rw (f, f') refl)
-    | inl t ↦ (let t' : agrees at login (named K (transaction id txn)) ≡ true = ap (agrees at login) s.named ∙ t in
+  open_same : (id : Id) (txn moment : ℕ) (login : List ℕ) (a b : Reply) → AreAlike K H (transaction id txn) → (agrees moment login (named H (transaction id txn)) ≡ true → a ≡ b) → if_open K id txn moment login a ≡ if_open H id txn moment login b
+  open_same id txn moment login a b s same = elim (either (agrees moment login (named H (transaction id txn)))) [
+    | inr f ↦ (let f' : agrees moment login (named K (transaction id txn)) ≡ false = ap (agrees moment login) s.named ∙ f in rw (f, f') refl)
+    | inl t ↦ (let t' : agrees moment login (named K (transaction id txn)) ≡ true = ap (agrees moment login) s.named ∙ t in
         let e : a ≡ b = same t in
         let shut : closed K (transaction id txn) ≡ closed H (transaction id txn) = s.closed in
         rw (t, t') (λ i. if shut i then Closed id else e i))
   ]
 
-  reserve_same : (id : Id) (txn at : ℕ) (login : List ℕ) (count : ℕ) → nat_le D (day_named day at (named H (transaction id txn))) ≡ true → agrees at login (named H (transaction id txn)) ≡ true
-      → granted_or_full id (used day K login (day at)) (cap default K login (day at)) count ≡ granted_or_full id (used day H login (day at)) (cap default H login (day at)) count
-  reserve_same id txn at login count late agreed =
-      let same : day_named day at (named H (transaction id txn)) ≡ day at = agreed_day day at login (named H (transaction id txn)) agreed in
-      let le : D ≤ day at = le_of D (day at) (ap (nat_le D) (sym same) ∙ late) in
-      let u = same_used login (day at) le in
-      let c = tells.caps login (day at) in
+  reserve_same : (id : Id) (txn moment : ℕ) (login : List ℕ) (count : ℕ) → nat_le D (day_named day moment (named H (transaction id txn))) ≡ true → agrees moment login (named H (transaction id txn)) ≡ true
+      → granted_or_full id (used day K login (day moment)) (cap default K login (day moment)) count ≡ granted_or_full id (used day H login (day moment)) (cap default H login (day moment)) count
+  reserve_same id txn moment login count late agreed =
+      let same : day_named day moment (named H (transaction id txn)) ≡ day moment = agreed_day day moment login (named H (transaction id txn)) agreed in
+      let le : D ≤ day moment = le_of D (day moment) (ap (nat_le D) (sym same) ∙ late) in
+      let u = same_used login (day moment) le in
+      let c = tells.caps login (day moment) in
       λ i. granted_or_full id (u i) (c i) count
 
   -- no day is over there that isn't here
@@ -164,12 +164,12 @@ module _ (day : ℕ → ℕ) (default : ℕ) (D : ℕ) (K H : List Entry) (tells
 
   -- what is asked about D or a later day is answered alike
   pub answer_same : (r : Request) → is_about day D H r ≡ true → answer day default K r ≡ answer day default H r
-  answer_same (Reserve id txn at login count) late =
-      open_same id txn at login _ _ (tells.alike (transaction id txn) at late) (λ agreed. reserve_same id txn at login count late agreed)
-  answer_same (Settle id txn at login count) late =
-      (let s = tells.alike (transaction id txn) at late in open_same id txn at login _ _ s (λ _. ap (λ n. settled_or_too_many id n count) s.held))
-  answer_same (Release id txn at login) late =
-      (let s = tells.alike (transaction id txn) at late in open_same id txn at login _ _ s (λ _. ap (λ n. Released id n) s.held))
+  answer_same (Reserve id txn moment login count) late =
+      open_same id txn moment login _ _ (tells.alike (transaction id txn) moment late) (λ agreed. reserve_same id txn moment login count late agreed)
+  answer_same (Settle id txn moment login count) late =
+      (let s = tells.alike (transaction id txn) moment late in open_same id txn moment login _ _ s (λ _. ap (λ n. settled_or_too_many id n count) s.held))
+  answer_same (Release id txn moment login) late =
+      (let s = tells.alike (transaction id txn) moment late in open_same id txn moment login _ _ s (λ _. ap (λ n. Released id n) s.held))
   answer_same (Limit id from_day c login) late =
       limit_same id from_day c login (λ d e. later_over login from_day c (le_of D from_day late) (over day H login from_day c) (tells.least login from_day c) d e)
   answer_same (Usage login d) late =
@@ -188,9 +188,9 @@ module _ (day : ℕ → ℕ) (default : ℕ) (D : ℕ) (K H : List Entry) (tells
   set_same (Limit id from_day c login) h = limit_same id from_day c login (λ d e. absurd (not_over d e h)) where
     not_over : (d : ℕ) → over day H login from_day c ≡ Some d → is_set (Limit id from_day c login) (set_or_over day H id login (over day H login from_day c)) ≡ true → ⊥
     not_over d e h = (let b : false ≡ true = rw e at h in cc b)
-  set_same (Reserve id txn at login count) h = absurd (cc h)
-  set_same (Settle id txn at login count) h = absurd (cc h)
-  set_same (Release id txn at login) h = absurd (cc h)
+  set_same (Reserve id txn moment login count) h = absurd (cc h)
+  set_same (Settle id txn moment login count) h = absurd (cc h)
+  set_same (Release id txn moment login) h = absurd (cc h)
   set_same (Usage login d) h = absurd (cc h)
   set_same (ListRequest d after) h = absurd (cc h)
   set_same (Retire id) h = absurd (cc h)

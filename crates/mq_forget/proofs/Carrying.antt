@@ -14,9 +14,9 @@ use Rattle.mq_forget.specs.Carried.{IsFront}
 use Rattle.mq_forget.proofs.Lists.{either}
 
 moment_in_range : (t : Transaction) (r : Request) → is_of t r ≡ true → IsRequest r → IsMoment (moment_of r)
-moment_in_range t (Reserve id txn at login count) h k = k.2
-moment_in_range t (Settle id txn at login count) h k = k.2
-moment_in_range t (Release id txn at login) h k = k.2
+moment_in_range t (Reserve id txn moment login count) h k = k.2
+moment_in_range t (Settle id txn moment login count) h k = k.2
+moment_in_range t (Release id txn moment login) h k = k.2
 moment_in_range t (Limit id from_day c login) h k = absurd (cc h)
 moment_in_range t (Usage login d) h k = absurd (cc h)
 moment_in_range t (ListRequest d after) h k = absurd (cc h)

@@ -42,7 +42,7 @@ module _ (day : ℕ → ℕ) (default : ℕ) (laws : Ledgers day default) (D : �
         settles = λ l d le. settled_kept day default laws.builds D H legal l d le;
         lists = λ l d le. reserves_kept day default laws.builds D H legal l d le;
         unused = unused H legal;
-        alike = λ t at late. alike day D H t at late;
+        alike = λ t moment late. alike day D H t moment late;
         caps = λ l d. same_cap day default D H l d;
         least = λ l from c. laws.least H l from c;
         only_least = λ l from c o is. laws.only_least K l from c o is;

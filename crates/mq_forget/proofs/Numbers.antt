@@ -21,51 +21,51 @@ use Rattle.mq_forget.proofs.Fronts.{Builds, next, behind}
 
 -- Where a transaction is named with that moment, its day is the moment's.
 
-moment_is : (at : ℕ) (login : List ℕ) (r : Request) → is_at at login r ≡ true → moment_of r ≡ at
-moment_is at login (Reserve id txn at' login' count) h = sym (number_is at at' (first_so (at == at') (same_text login login') h))
-moment_is at login (Settle id txn at' login' count) h = sym (number_is at at' (first_so (at == at') (same_text login login') h))
-moment_is at login (Release id txn at' login') h = sym (number_is at at' (first_so (at == at') (same_text login login') h))
-moment_is at login (Limit id from_day c login') h = absurd (cc h)
-moment_is at login (Usage login' d) h = absurd (cc h)
-moment_is at login (ListRequest d after) h = absurd (cc h)
-moment_is at login (Retire id) h = absurd (cc h)
+moment_is : (moment : ℕ) (login : List ℕ) (r : Request) → is_at moment login r ≡ true → moment_of r ≡ moment
+moment_is moment login (Reserve id txn moment' login' count) h = sym (number_is moment moment' (first_so (moment == moment') (same_text login login') h))
+moment_is moment login (Settle id txn moment' login' count) h = sym (number_is moment moment' (first_so (moment == moment') (same_text login login') h))
+moment_is moment login (Release id txn moment' login') h = sym (number_is moment moment' (first_so (moment == moment') (same_text login login') h))
+moment_is moment login (Limit id from_day c login') h = absurd (cc h)
+moment_is moment login (Usage login' d) h = absurd (cc h)
+moment_is moment login (ListRequest d after) h = absurd (cc h)
+moment_is moment login (Retire id) h = absurd (cc h)
 
-pub agreed_day : (day : ℕ → ℕ) (at : ℕ) (login : List ℕ) (o : Option Entry) → agrees at login o ≡ true → day_named day at o ≡ day at
-agreed_day day at login None h = refl
-agreed_day day at login (Some e) h = ap day (moment_is at login e.request h)
+pub agreed_day : (day : ℕ → ℕ) (moment : ℕ) (login : List ℕ) (o : Option Entry) → agrees moment login o ≡ true → day_named day moment o ≡ day moment
+agreed_day day moment login None h = refl
+agreed_day day moment login (Some e) h = ap day (moment_is moment login e.request h)
 
 -- A granted reserve and a settled settle lie on the day of their transaction.
 
 abbrev pub counts : Request → Reply → Bool
-counts (Reserve id txn at login count) (Granted id' n) = true
-counts (Settle id txn at login count) (Settled id' n) = true
+counts (Reserve id txn moment login count) (Granted id' n) = true
+counts (Settle id txn moment login count) (Settled id' n) = true
 counts _ _ = false
 
-open_agrees : (F : List Entry) (id : Id) (txn at : ℕ) (login : List ℕ) (a : Reply) (r : Request) → counts r (Mismatch id) ≡ false → counts r (if_open F id txn at login a) ≡ true → agrees at login (named F (transaction id txn)) ≡ true
-open_agrees F id txn at login a r refused so = elim (either (agrees at login (named F (transaction id txn)))) [
+open_agrees : (F : List Entry) (id : Id) (txn moment : ℕ) (login : List ℕ) (a : Reply) (r : Request) → counts r (Mismatch id) ≡ false → counts r (if_open F id txn moment login a) ≡ true → agrees moment login (named F (transaction id txn)) ≡ true
+open_agrees F id txn moment login a r refused so = elim (either (agrees moment login (named F (transaction id txn)))) [
   | inl t ↦ t
   | inr f ↦ (let k : counts r (Mismatch id) ≡ true = rw f at so in absurd (cc (refused, k)))
 ]
 
-day_behind : (day : ℕ → ℕ) (F S : List Entry) (x : Entry) (t : Transaction) (at : ℕ) (login : List ℕ) → is_of t x.request ≡ true → moment_of x.request ≡ at → agrees at login (named F t) ≡ true → day_named day at (named (F ++ x ∷ S) t) ≡ day at
-day_behind day F S x t at login mine same agreed =
+day_behind : (day : ℕ → ℕ) (F S : List Entry) (x : Entry) (t : Transaction) (moment : ℕ) (login : List ℕ) → is_of t x.request ≡ true → moment_of x.request ≡ moment → agrees moment login (named F t) ≡ true → day_named day moment (named (F ++ x ∷ S) t) ≡ day moment
+day_behind day F S x t moment login mine same agreed =
     let one : named (x ∷ S) t ≡ Some x = rw mine refl in
-    ap (day_named day at) (find-append (λ (y : Entry). is_of t y.request) F (x ∷ S) ∙ ap (option_or (named F t)) one) ∙ by (named F t) agreed
+    ap (day_named day moment) (find-append (λ (y : Entry). is_of t y.request) F (x ∷ S) ∙ ap (option_or (named F t)) one) ∙ by (named F t) agreed
   where
-    by : (o : Option Entry) → agrees at login o ≡ true → day_named day at (option_or o (Some x)) ≡ day at
+    by : (o : Option Entry) → agrees moment login o ≡ true → day_named day moment (option_or o (Some x)) ≡ day moment
     by None h = ap day same
-    by (Some e) h = agreed_day day at login (Some e) h
+    by (Some e) h = agreed_day day moment login (Some e) h
 
 about_behind : (day : ℕ → ℕ) (default D : ℕ) (F S : List Entry) (r : Request) (a : Reply) → a ≡ answer day default F r → counts r a ≡ true → is_about day D (F ++ entry r a ∷ S) r ≡ nat_le D (day (moment_of r))
-about_behind day default D F S (Reserve id txn at login count) a is so =
-    let r : Request = Reserve id txn at login count in
-    let agreed : agrees at login (named F (transaction id txn)) ≡ true = open_agrees F id txn at login _ r refl (ap (counts r) (sym is) ∙ so) in
-    ap (nat_le D) (day_behind day F S (entry r a) (transaction id txn) at login (transaction_itself (transaction id txn)) refl agreed)
-about_behind day default D F S (Settle id txn at login count) a is so =
-    let r : Request = Settle id txn at login count in
-    let agreed : agrees at login (named F (transaction id txn)) ≡ true = open_agrees F id txn at login _ r refl (ap (counts r) (sym is) ∙ so) in
-    ap (nat_le D) (day_behind day F S (entry r a) (transaction id txn) at login (transaction_itself (transaction id txn)) refl agreed)
-about_behind day default D F S (Release id txn at login) a is so = absurd (cc so)
+about_behind day default D F S (Reserve id txn moment login count) a is so =
+    let r : Request = Reserve id txn moment login count in
+    let agreed : agrees moment login (named F (transaction id txn)) ≡ true = open_agrees F id txn moment login _ r refl (ap (counts r) (sym is) ∙ so) in
+    ap (nat_le D) (day_behind day F S (entry r a) (transaction id txn) moment login (transaction_itself (transaction id txn)) refl agreed)
+about_behind day default D F S (Settle id txn moment login count) a is so =
+    let r : Request = Settle id txn moment login count in
+    let agreed : agrees moment login (named F (transaction id txn)) ≡ true = open_agrees F id txn moment login _ r refl (ap (counts r) (sym is) ∙ so) in
+    ap (nat_le D) (day_behind day F S (entry r a) (transaction id txn) moment login (transaction_itself (transaction id txn)) refl agreed)
+about_behind day default D F S (Release id txn moment login) a is so = absurd (cc so)
 about_behind day default D F S (Limit id from_day c login) a is so = absurd (cc so)
 about_behind day default D F S (Usage login d) a is so = absurd (cc so)
 about_behind day default D F S (ListRequest d after) a is so = absurd (cc so)
@@ -76,25 +76,25 @@ counts_unset (Limit id from_day c login) a so = absurd (cc so)
 counts_unset r a so = refl
 
 granted_counts : (r : Request) (a : Reply) → counts r a ≡ false → granted r a ≡ 0
-granted_counts (Reserve id txn at login count) (Granted id' n) so = absurd (cc so)
+granted_counts (Reserve id txn moment login count) (Granted id' n) so = absurd (cc so)
 granted_counts r a so = refl
 
 counted_counts : (r : Request) (a : Reply) → counts r a ≡ false → counted r a ≡ 0
-counted_counts (Settle id txn at login count) (Settled id' n) so = absurd (cc so)
+counted_counts (Settle id txn moment login count) (Settled id' n) so = absurd (cc so)
 counted_counts r a so = refl
 
 on_day : (day : ℕ → ℕ) (l : List ℕ) (d : ℕ) (r : Request) → concerns day l d r ≡ true → day (moment_of r) ≡ d
-on_day day l d (Reserve id txn at login count) h = number_is (day at) d (second_so (same_text l login) (day at == d) h)
-on_day day l d (Settle id txn at login count) h = number_is (day at) d (second_so (same_text l login) (day at == d) h)
-on_day day l d (Release id txn at login) h = absurd (cc h)
+on_day day l d (Reserve id txn moment login count) h = number_is (day moment) d (second_so (same_text l login) (day moment == d) h)
+on_day day l d (Settle id txn moment login count) h = number_is (day moment) d (second_so (same_text l login) (day moment == d) h)
+on_day day l d (Release id txn moment login) h = absurd (cc h)
 on_day day l d (Limit id from_day c login) h = absurd (cc h)
 on_day day l d (Usage login n) h = absurd (cc h)
 on_day day l d (ListRequest n after) h = absurd (cc h)
 on_day day l d (Retire id) h = absurd (cc h)
 
 listed : (day : ℕ → ℕ) (l : List ℕ) (d : ℕ) (r : Request) (a : Reply) → is_login l (login_on day d r a) ≡ true → (counts r a ≡ true) × (day (moment_of r) ≡ d)
-listed day l d (Reserve id txn at login count) (Granted id' n) h = elim (either (day at == d)) [
-  | inl t ↦ (refl, number_is (day at) d t)
+listed day l d (Reserve id txn moment login count) (Granted id' n) h = elim (either (day moment == d)) [
+  | inl t ↦ (refl, number_is (day moment) d t)
   | inr f ↦ (let k : is_login l None ≡ true = rw f at h in absurd (cc k))
 ]
 listed day l d r a h = absurd (cc h)
@@ -143,18 +143,18 @@ module _ (day : ℕ → ℕ) (default : ℕ) (laws : Builds day default) (D : �
       absurd (cc (t, f))
 
   open_kept : (r : Request) (a : Reply) → stays day D H (entry r a) ≡ true → is_open (remembered day D H) r ≡ is_open H r
-  open_kept (Reserve id txn at login count) a stay = ap not (alike day D H (transaction id txn) at (or_or _ false stay refl)).closed
-  open_kept (Settle id txn at login count) a stay = refl
-  open_kept (Release id txn at login) a stay = refl
+  open_kept (Reserve id txn moment login count) a stay = ap not (alike day D H (transaction id txn) moment (or_or _ false stay refl)).closed
+  open_kept (Settle id txn moment login count) a stay = refl
+  open_kept (Release id txn moment login) a stay = refl
   open_kept (Limit id from_day c login) a stay = refl
   open_kept (Usage login n) a stay = refl
   open_kept (ListRequest n after) a stay = refl
   open_kept (Retire id) a stay = refl
 
   abandoned_kept : (r : Request) (a : Reply) → stays day D H (entry r a) ≡ true → is_abandoned (remembered day D H) r ≡ is_abandoned H r
-  abandoned_kept (Reserve id txn at login count) a stay = (alike day D H (transaction id txn) at (or_or _ false stay refl)).abandoned
-  abandoned_kept (Settle id txn at login count) a stay = refl
-  abandoned_kept (Release id txn at login) a stay = refl
+  abandoned_kept (Reserve id txn moment login count) a stay = (alike day D H (transaction id txn) moment (or_or _ false stay refl)).abandoned
+  abandoned_kept (Settle id txn moment login count) a stay = refl
+  abandoned_kept (Release id txn moment login) a stay = refl
   abandoned_kept (Limit id from_day c login) a stay = refl
   abandoned_kept (Usage login n) a stay = refl
   abandoned_kept (ListRequest n after) a stay = refl

@@ -40,16 +40,16 @@ transaction_itself t = rw (text_itself t.host, number_itself t.run, number_itsel
 pub named_in : (H : List Entry) (x : Entry) (t : Transaction) → In x H → is_of t x.request ≡ true → (e : Entry) × (named H t ≡ Some e)
 named_in H x t i mine = found_in (λ e. is_of t e.request) H x i mine
 
-day_before : (day : ℕ → ℕ) (D : ℕ) (H S : List Entry) (t : Transaction) (at : ℕ) (e : Entry) → named H t ≡ Some e → nat_le D (day_named day at (named (H ++ S) t)) ≡ nat_le D (day_named day at (named H t))
-day_before day D H S t at e h =
+day_before : (day : ℕ → ℕ) (D : ℕ) (H S : List Entry) (t : Transaction) (moment : ℕ) (e : Entry) → named H t ≡ Some e → nat_le D (day_named day moment (named (H ++ S) t)) ≡ nat_le D (day_named day moment (named H t))
+day_before day D H S t moment e h =
     let longer : named (H ++ S) t ≡ option_or (named H t) (named S t) = find-append (λ x. is_of t x.request) H S in
     let there : option_or (named H t) (named S t) ≡ named H t = rw h refl in
-    ap (λ o. nat_le D (day_named day at o)) (longer ∙ there)
+    ap (λ o. nat_le D (day_named day moment o)) (longer ∙ there)
 
 about_before : (day : ℕ → ℕ) (D : ℕ) (H S : List Entry) (r : Request) (a : Reply) → In (entry r a) H → is_about day D (H ++ S) r ≡ is_about day D H r
-about_before day D H S (Reserve id txn at login count) a i = let k = named_in H _ (transaction id txn) i (transaction_itself (transaction id txn)) in day_before day D H S (transaction id txn) at k.0 k.1
-about_before day D H S (Settle id txn at login count) a i = let k = named_in H _ (transaction id txn) i (transaction_itself (transaction id txn)) in day_before day D H S (transaction id txn) at k.0 k.1
-about_before day D H S (Release id txn at login) a i = let k = named_in H _ (transaction id txn) i (transaction_itself (transaction id txn)) in day_before day D H S (transaction id txn) at k.0 k.1
+about_before day D H S (Reserve id txn moment login count) a i = let k = named_in H _ (transaction id txn) i (transaction_itself (transaction id txn)) in day_before day D H S (transaction id txn) moment k.0 k.1
+about_before day D H S (Settle id txn moment login count) a i = let k = named_in H _ (transaction id txn) i (transaction_itself (transaction id txn)) in day_before day D H S (transaction id txn) moment k.0 k.1
+about_before day D H S (Release id txn moment login) a i = let k = named_in H _ (transaction id txn) i (transaction_itself (transaction id txn)) in day_before day D H S (transaction id txn) moment k.0 k.1
 about_before day D H S (Limit id from_day c login) a i = refl
 about_before day D H S (Usage login d) a i = refl
 about_before day D H S (ListRequest d after) a i = refl
@@ -62,20 +62,20 @@ stays_before day D H S x i = ap (λ b. b || is_set x.request x.reply) (about_bef
 pub front : (day : ℕ → ℕ) (D : ℕ) (H S : List Entry) → filter (stays day D (H ++ S)) H ≡ remembered day D H
 front day D H S = filter_same (stays day D (H ++ S)) (stays day D H) H (λ x i. stays_before day D H S x i)
 
-or_itself : (day : ℕ → ℕ) (D at : ℕ) (o : Option Entry) (e : Entry) → moment_of e.request ≡ at → nat_le D (day_named day at (option_or o (Some e))) ≡ nat_le D (day_named day at o)
-or_itself day D at None e h = ap (λ n. nat_le D (day n)) h
-or_itself day D at (Some x) e h = refl
+or_itself : (day : ℕ → ℕ) (D moment : ℕ) (o : Option Entry) (e : Entry) → moment_of e.request ≡ moment → nat_le D (day_named day moment (option_or o (Some e))) ≡ nat_le D (day_named day moment o)
+or_itself day D moment None e h = ap (λ n. nat_le D (day n)) h
+or_itself day D moment (Some x) e h = refl
 
-day_itself : (day : ℕ → ℕ) (D : ℕ) (H : List Entry) (t : Transaction) (at : ℕ) (e : Entry) → is_of t e.request ≡ true → moment_of e.request ≡ at → nat_le D (day_named day at (named (H ++ e ∷ []) t)) ≡ nat_le D (day_named day at (named H t))
-day_itself day D H t at e mine same =
+day_itself : (day : ℕ → ℕ) (D : ℕ) (H : List Entry) (t : Transaction) (moment : ℕ) (e : Entry) → is_of t e.request ≡ true → moment_of e.request ≡ moment → nat_le D (day_named day moment (named (H ++ e ∷ []) t)) ≡ nat_le D (day_named day moment (named H t))
+day_itself day D H t moment e mine same =
     let longer : named (H ++ e ∷ []) t ≡ option_or (named H t) (named (e ∷ []) t) = find-append (λ x. is_of t x.request) H (e ∷ []) in
     let one : named (e ∷ []) t ≡ Some e = rw mine refl in
-    ap (λ o. nat_le D (day_named day at o)) (longer ∙ ap (option_or (named H t)) one) ∙ or_itself day D at (named H t) e same
+    ap (λ o. nat_le D (day_named day moment o)) (longer ∙ ap (option_or (named H t)) one) ∙ or_itself day D moment (named H t) e same
 
 about_itself : (day : ℕ → ℕ) (D : ℕ) (H : List Entry) (r : Request) (a : Reply) → is_about day D (H ++ entry r a ∷ []) r ≡ is_about day D H r
-about_itself day D H (Reserve id txn at login count) a = day_itself day D H (transaction id txn) at (entry (Reserve id txn at login count) a) (transaction_itself (transaction id txn)) refl
-about_itself day D H (Settle id txn at login count) a = day_itself day D H (transaction id txn) at (entry (Settle id txn at login count) a) (transaction_itself (transaction id txn)) refl
-about_itself day D H (Release id txn at login) a = day_itself day D H (transaction id txn) at (entry (Release id txn at login) a) (transaction_itself (transaction id txn)) refl
+about_itself day D H (Reserve id txn moment login count) a = day_itself day D H (transaction id txn) moment (entry (Reserve id txn moment login count) a) (transaction_itself (transaction id txn)) refl
+about_itself day D H (Settle id txn moment login count) a = day_itself day D H (transaction id txn) moment (entry (Settle id txn moment login count) a) (transaction_itself (transaction id txn)) refl
+about_itself day D H (Release id txn moment login) a = day_itself day D H (transaction id txn) moment (entry (Release id txn moment login) a) (transaction_itself (transaction id txn)) refl
 about_itself day D H (Limit id from_day c login) a = refl
 about_itself day D H (Usage login d) a = refl
 about_itself day D H (ListRequest d after) a = refl
@@ -96,9 +96,9 @@ one_more day D H e =
 
 raises_nothing : (day : ℕ → ℕ) (D : ℕ) (H : List Entry) (h : List ℕ) (r : Request) → is_about day D H r ≡ false → raised h r ≡ 0
 raises_nothing day D H h (Retire id) gone = absurd (cc gone)
-raises_nothing day D H h (Reserve id txn at login count) gone = refl
-raises_nothing day D H h (Settle id txn at login count) gone = refl
-raises_nothing day D H h (Release id txn at login) gone = refl
+raises_nothing day D H h (Reserve id txn moment login count) gone = refl
+raises_nothing day D H h (Settle id txn moment login count) gone = refl
+raises_nothing day D H h (Release id txn moment login) gone = refl
 raises_nothing day D H h (Limit id from_day c login) gone = refl
 raises_nothing day D H h (Usage login d) gone = refl
 raises_nothing day D H h (ListRequest d after) gone = refl
@@ -123,15 +123,15 @@ same_retired_run day D H t = ap (nat_lt t.run) (same_floor day D H t.host)
 
 -- Of a transaction all entries stay or none.
 
-stays_as : (day : ℕ → ℕ) (D : ℕ) (H : List Entry) (t u : Transaction) (e : Entry) (at : ℕ) (b : Bool) → named H t ≡ Some e → nat_le D (day (moment_of e.request)) ≡ b → same_transaction t u ≡ true → nat_le D (day_named day at (named H u)) ≡ b
-stays_as day D H t u e at b h later same =
+stays_as : (day : ℕ → ℕ) (D : ℕ) (H : List Entry) (t u : Transaction) (e : Entry) (moment : ℕ) (b : Bool) → named H t ≡ Some e → nat_le D (day (moment_of e.request)) ≡ b → same_transaction t u ≡ true → nat_le D (day_named day moment (named H u)) ≡ b
+stays_as day D H t u e moment b h later same =
     let here : named H u ≡ Some e = subst (λ v. named H v ≡ Some e) (transaction_is t u same) h in
-    ap (λ o. nat_le D (day_named day at o)) here ∙ later
+    ap (λ o. nat_le D (day_named day moment o)) here ∙ later
 
 about_of : (day : ℕ → ℕ) (D : ℕ) (H : List Entry) (t : Transaction) (e : Entry) (b : Bool) → named H t ≡ Some e → nat_le D (day (moment_of e.request)) ≡ b → (r : Request) → is_of t r ≡ true → is_about day D H r ≡ b
-about_of day D H t e b h later (Reserve id txn at login count) mine = stays_as day D H t (transaction id txn) e at b h later mine
-about_of day D H t e b h later (Settle id txn at login count) mine = stays_as day D H t (transaction id txn) e at b h later mine
-about_of day D H t e b h later (Release id txn at login) mine = stays_as day D H t (transaction id txn) e at b h later mine
+about_of day D H t e b h later (Reserve id txn moment login count) mine = stays_as day D H t (transaction id txn) e moment b h later mine
+about_of day D H t e b h later (Settle id txn moment login count) mine = stays_as day D H t (transaction id txn) e moment b h later mine
+about_of day D H t e b h later (Release id txn moment login) mine = stays_as day D H t (transaction id txn) e moment b h later mine
 about_of day D H t e b h later (Limit id from_day c login) mine = absurd (cc mine)
 about_of day D H t e b h later (Usage login d) mine = absurd (cc mine)
 about_of day D H t e b h later (ListRequest d after) mine = absurd (cc mine)
@@ -204,10 +204,10 @@ unheard_alike day D H t none =
     (unheard_sum t granted K none' ∙ sym (unheard_sum t granted H none))
     (unheard_sum t counted K none' ∙ sym (unheard_sum t counted H none))
 
-pub alike : (day : ℕ → ℕ) (D : ℕ) (H : List Entry) (t : Transaction) (at : ℕ) → nat_le D (day_named day at (named H t)) ≡ true → AreAlike (remembered day D H) H t
-alike day D H t at later = elim (option_cases (named H t)) [
+pub alike : (day : ℕ → ℕ) (D : ℕ) (H : List Entry) (t : Transaction) (moment : ℕ) → nat_le D (day_named day moment (named H t)) ≡ true → AreAlike (remembered day D H) H t
+alike day D H t moment later = elim (option_cases (named H t)) [
   | inl none ↦ unheard_alike day D H t none
-  | inr p ↦ (let later' : nat_le D (day (moment_of p.0.request)) ≡ true = ap (λ o. nat_le D (day_named day at o)) (sym p.1) ∙ later in
+  | inr p ↦ (let later' : nat_le D (day (moment_of p.0.request)) ≡ true = ap (λ o. nat_le D (day_named day moment o)) (sym p.1) ∙ later in
       later_alike day D H t p.0 p.1 later')
 ]
 
@@ -233,9 +233,9 @@ later_too : (D E n : ℕ) → D ≤ E → nat_le E n ≡ true → nat_le D n ≡
 later_too D E n le k = grind (arith, nat_tests)
 
 about_too : (day : ℕ → ℕ) (D E : ℕ) (H : List Entry) (r : Request) → D ≤ E → is_about day E H r ≡ true → is_about day D H r ≡ true
-about_too day D E H (Reserve id txn at login count) le h = later_too D E _ le h
-about_too day D E H (Settle id txn at login count) le h = later_too D E _ le h
-about_too day D E H (Release id txn at login) le h = later_too D E _ le h
+about_too day D E H (Reserve id txn moment login count) le h = later_too D E _ le h
+about_too day D E H (Settle id txn moment login count) le h = later_too D E _ le h
+about_too day D E H (Release id txn moment login) le h = later_too D E _ le h
 about_too day D E H (Limit id from_day c login) le h = later_too D E _ le h
 about_too day D E H (Usage login d) le h = later_too D E _ le h
 about_too day D E H (ListRequest d after) le h = later_too D E _ le h
@@ -248,20 +248,20 @@ stays_too day D E H x le h = elim (either (is_about day E H x.request)) [
 ]
 
 -- what is remembered is about the day that it was about
-day_kept : (day : ℕ → ℕ) (D E : ℕ) (H : List Entry) (t : Transaction) (at : ℕ) (x : Entry) → In x H → is_of t x.request ≡ true → nat_le D (day_named day at (named H t)) ≡ true → nat_le E (day_named day at (named (remembered day D H) t)) ≡ nat_le E (day_named day at (named H t))
-day_kept day D E H t at x i mine later =
+day_kept : (day : ℕ → ℕ) (D E : ℕ) (H : List Entry) (t : Transaction) (moment : ℕ) (x : Entry) → In x H → is_of t x.request ≡ true → nat_le D (day_named day moment (named H t)) ≡ true → nat_le E (day_named day moment (named (remembered day D H) t)) ≡ nat_le E (day_named day moment (named H t))
+day_kept day D E H t moment x i mine later =
     let n = named_in H x t i mine in
-    let later' : nat_le D (day (moment_of n.0.request)) ≡ true = ap (λ o. nat_le D (day_named day at o)) (sym n.1) ∙ later in
-    ap (λ o. nat_le E (day_named day at o)) (later_alike day D H t n.0 n.1 later').named
+    let later' : nat_le D (day (moment_of n.0.request)) ≡ true = ap (λ o. nat_le D (day_named day moment o)) (sym n.1) ∙ later in
+    ap (λ o. nat_le E (day_named day moment o)) (later_alike day D H t n.0 n.1 later').named
 
 pub or_or : (a b : Bool) → (a || b) ≡ true → b ≡ false → a ≡ true
 or_or true b h k = refl
 or_or false b h k = absurd (cc (h, k))
 
 about_kept : (day : ℕ → ℕ) (D E : ℕ) (H : List Entry) (r : Request) (a : Reply) → In (entry r a) H → stays day D H (entry r a) ≡ true → is_about day E (remembered day D H) r ≡ is_about day E H r
-about_kept day D E H (Reserve id txn at login count) a i stay = (let me = transaction_itself (transaction id txn) in day_kept day D E H (transaction id txn) at _ i me (or_or _ false stay refl))
-about_kept day D E H (Settle id txn at login count) a i stay = (let me = transaction_itself (transaction id txn) in day_kept day D E H (transaction id txn) at _ i me (or_or _ false stay refl))
-about_kept day D E H (Release id txn at login) a i stay = (let me = transaction_itself (transaction id txn) in day_kept day D E H (transaction id txn) at _ i me (or_or _ false stay refl))
+about_kept day D E H (Reserve id txn moment login count) a i stay = (let me = transaction_itself (transaction id txn) in day_kept day D E H (transaction id txn) moment _ i me (or_or _ false stay refl))
+about_kept day D E H (Settle id txn moment login count) a i stay = (let me = transaction_itself (transaction id txn) in day_kept day D E H (transaction id txn) moment _ i me (or_or _ false stay refl))
+about_kept day D E H (Release id txn moment login) a i stay = (let me = transaction_itself (transaction id txn) in day_kept day D E H (transaction id txn) moment _ i me (or_or _ false stay refl))
 about_kept day D E H (Limit id from_day c login) a i stay = refl
 about_kept day D E H (Usage login d) a i stay = refl
 about_kept day D E H (ListRequest d after) a i stay = refl

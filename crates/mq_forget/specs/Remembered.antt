@@ -17,9 +17,9 @@ use Rattle.mq_ledger.specs.History.{requests, transaction, named}
 
 -- the moment of a reserve, settle or release
 abbrev pub moment_of : Request → ℕ
-moment_of (Reserve id txn at login count) = at
-moment_of (Settle id txn at login count) = at
-moment_of (Release id txn at login) = at
+moment_of (Reserve id txn moment login count) = moment
+moment_of (Settle id txn moment login count) = moment
+moment_of (Release id txn moment login) = moment
 moment_of (Limit id from_day cap login) = 0
 moment_of (Usage login day) = 0
 moment_of (ListRequest day after) = 0
@@ -27,15 +27,15 @@ moment_of (Retire id) = 0
 
 -- the day of a transaction: that of the entry that names it, or of the moment where none does
 abbrev pub day_named : (ℕ → ℕ) → ℕ → Option Entry → ℕ
-day_named day at None = day at
-day_named day at (Some e) = day (moment_of e.request)
+day_named day moment None = day moment
+day_named day moment (Some e) = day (moment_of e.request)
 
 -- the request is about D or a later day: by its transaction in H, its from-day, or the day that it asks for; a retire
 -- is about all days
 abbrev pub is_about : (ℕ → ℕ) → ℕ → List Entry → Request → Bool
-is_about day D H (Reserve id txn at login count) = nat_le D (day_named day at (named H (transaction id txn)))
-is_about day D H (Settle id txn at login count) = nat_le D (day_named day at (named H (transaction id txn)))
-is_about day D H (Release id txn at login) = nat_le D (day_named day at (named H (transaction id txn)))
+is_about day D H (Reserve id txn moment login count) = nat_le D (day_named day moment (named H (transaction id txn)))
+is_about day D H (Settle id txn moment login count) = nat_le D (day_named day moment (named H (transaction id txn)))
+is_about day D H (Release id txn moment login) = nat_le D (day_named day moment (named H (transaction id txn)))
 is_about day D H (Limit id from_day cap login) = nat_le D from_day
 is_about day D H (Usage login d) = nat_le D d
 is_about day D H (ListRequest d after) = nat_le D d
@@ -87,9 +87,9 @@ AreLaterOrPast day default D H K (r ∷ rs) =
 
 -- a reserve, settle or release with a moment before D, or a usage or list of an earlier day
 abbrev pub names_earlier : (ℕ → ℕ) → ℕ → Request → Bool
-names_earlier day D (Reserve id txn at login count) = not (nat_le D (day at))
-names_earlier day D (Settle id txn at login count) = not (nat_le D (day at))
-names_earlier day D (Release id txn at login) = not (nat_le D (day at))
+names_earlier day D (Reserve id txn moment login count) = not (nat_le D (day moment))
+names_earlier day D (Settle id txn moment login count) = not (nat_le D (day moment))
+names_earlier day D (Release id txn moment login) = not (nat_le D (day moment))
 names_earlier day D (Limit id from_day cap login) = false
 names_earlier day D (Usage login d) = not (nat_le D d)
 names_earlier day D (ListRequest d after) = not (nat_le D d)

@@ -50,8 +50,9 @@ fn moment_of(request: &Request) -> u64
     ensures { result ≡ moment_of request.now }
 {
     match request {
-        Request::Reserve { at, .. } | Request::Settle { at, .. } | Request::Release { at, .. } =>
-            *at,
+        Request::Reserve { moment, .. }
+        | Request::Settle { moment, .. }
+        | Request::Release { moment, .. } => *moment,
         Request::Limit { .. }
         | Request::Usage { .. }
         | Request::List { .. }
@@ -60,13 +61,13 @@ fn moment_of(request: &Request) -> u64
 }
 
 /// The day of the transaction, or of the moment where no entry names it.
-fn day_named(history: &[Entry], zone: &Zone, id: &Id, txn: u32, at: u64) -> u32
+fn day_named(history: &[Entry], zone: &Zone, id: &Id, txn: u32, moment: u64) -> u32
     requires range { All (λ e. IsRequest e.request) history.now }
-    requires moment { IsMoment at }
-    ensures { result ≡ day_named (day_of zone.now) at (named history.now (transaction id.now txn)) }
+    requires moment { IsMoment moment }
+    ensures { result ≡ day_named (day_of zone.now) moment (named history.now (transaction id.now txn)) }
 {
     match named(history, id, txn) {
-        None => zone.day_at(at),
+        None => zone.day_at(moment),
         Some(entry) => zone.day_at(moment_of(&entry.request)),
     }
 }
@@ -78,9 +79,24 @@ fn is_about(history: &[Entry], zone: &Zone, day: u32, request: &Request) -> bool
     ensures { result ≡ is_about (day_of zone.now) day history.now request.now }
 {
     match request {
-        Request::Reserve { id, txn, at, .. }
-        | Request::Settle { id, txn, at, .. }
-        | Request::Release { id, txn, at, .. } => day <= day_named(history, zone, id, *txn, *at),
+        Request::Reserve {
+            id,
+            txn,
+            moment,
+            ..
+        }
+        | Request::Settle {
+            id,
+            txn,
+            moment,
+            ..
+        }
+        | Request::Release {
+            id,
+            txn,
+            moment,
+            ..
+        } => day <= day_named(history, zone, id, *txn, *moment),
         Request::Limit { from_day, .. } => day <= *from_day,
         Request::Usage { day: asked, .. } | Request::List { day: asked, .. } => day <= *asked,
         Request::Retire { .. } => true,

@@ -21,16 +21,16 @@ number_is a b h = (Decides-eqb a b).0 h
 number_alike : (a : ℕ) → (a == a) ≡ true
 number_alike a = (Decides-eqb a a).1 refl
 
-id_of : (a b : Id) → a.host ≡ b.host → a.run ≡ b.run → a.seq ≡ b.seq → a ≡ b
-id_of a b p q r = λ i. record { host = p i; run = q i; seq = r i }
+id_of : (a b : Id) → a.host ≡ b.host → a.run ≡ b.run → a.number ≡ b.number → a ≡ b
+id_of a b p q r = λ i. record { host = p i; run = q i; number = r i }
 
 pub id_is : (a b : Id) → same_id a b ≡ true → a ≡ b
 id_is a b h =
-    let rest = second_so (same_text a.host b.host) ((a.run == b.run) && (a.seq == b.seq)) h in
-    id_of a b (text_is a.host b.host (first_so (same_text a.host b.host) ((a.run == b.run) && (a.seq == b.seq)) h)) (number_is a.run b.run (first_so (a.run == b.run) (a.seq == b.seq) rest)) (number_is a.seq b.seq (second_so (a.run == b.run) (a.seq == b.seq) rest))
+    let rest = second_so (same_text a.host b.host) ((a.run == b.run) && (a.number == b.number)) h in
+    id_of a b (text_is a.host b.host (first_so (same_text a.host b.host) ((a.run == b.run) && (a.number == b.number)) h)) (number_is a.run b.run (first_so (a.run == b.run) (a.number == b.number) rest)) (number_is a.number b.number (second_so (a.run == b.run) (a.number == b.number) rest))
 
 id_alike : (a : Id) → same_id a a ≡ true
-id_alike a = both_so (same_text a.host a.host) ((a.run == a.run) && (a.seq == a.seq)) (text_alike a.host) (both_so (a.run == a.run) (a.seq == a.seq) (number_alike a.run) (number_alike a.seq))
+id_alike a = both_so (same_text a.host a.host) ((a.run == a.run) && (a.number == a.number)) (text_alike a.host) (both_so (a.run == a.run) (a.number == a.number) (number_alike a.run) (number_alike a.number))
 
 pub same_from_id : (a b : Id) → a ≡ b → same_id a b ≡ true
 same_from_id a b e = subst (λ (x : Id). same_id a x ≡ true) e (id_alike a)
@@ -49,27 +49,27 @@ four_so true false c d h = absurd cc
 four_so false b c d h = absurd cc
 
 pub request_is : (a b : Request) → same_request a b ≡ true → a ≡ b
-request_is (Reserve i t at l n) (Reserve i' t' at' l' n') h =
-    let g = five_so (same_id i i') (t == t') (at == at') (same_text l l') (n == n') h in
+request_is (Reserve i t moment l n) (Reserve i' t' moment' l' n') h =
+    let g = five_so (same_id i i') (t == t') (moment == moment') (same_text l l') (n == n') h in
     let p0 = id_is i i' g.0 in
     let p1 = number_is t t' g.1 in
-    let p2 = number_is at at' g.2 in
+    let p2 = number_is moment moment' g.2 in
     let p3 = text_is l l' g.3 in
     let p4 = number_is n n' g.4 in
     cc
-request_is (Settle i t at l n) (Settle i' t' at' l' n') h =
-    let g = five_so (same_id i i') (t == t') (at == at') (same_text l l') (n == n') h in
+request_is (Settle i t moment l n) (Settle i' t' moment' l' n') h =
+    let g = five_so (same_id i i') (t == t') (moment == moment') (same_text l l') (n == n') h in
     let p0 = id_is i i' g.0 in
     let p1 = number_is t t' g.1 in
-    let p2 = number_is at at' g.2 in
+    let p2 = number_is moment moment' g.2 in
     let p3 = text_is l l' g.3 in
     let p4 = number_is n n' g.4 in
     cc
-request_is (Release i t at l) (Release i' t' at' l') h =
-    let g = four_so (same_id i i') (t == t') (at == at') (same_text l l') h in
+request_is (Release i t moment l) (Release i' t' moment' l') h =
+    let g = four_so (same_id i i') (t == t') (moment == moment') (same_text l l') h in
     let p0 = id_is i i' g.0 in
     let p1 = number_is t t' g.1 in
-    let p2 = number_is at at' g.2 in
+    let p2 = number_is moment moment' g.2 in
     let p3 = text_is l l' g.3 in
     cc
 request_is (Limit i d cap l) (Limit i' d' cap' l') h =
@@ -93,9 +93,9 @@ request_is (Retire i) (Retire i') h =
 request_is _ _ h = absurd cc
 
 request_alike : (a : Request) → same_request a a ≡ true
-request_alike (Reserve i t at l n) = rw (id_alike i, number_alike t, number_alike at, text_alike l, number_alike n) refl
-request_alike (Settle i t at l n) = rw (id_alike i, number_alike t, number_alike at, text_alike l, number_alike n) refl
-request_alike (Release i t at l) = rw (id_alike i, number_alike t, number_alike at, text_alike l) refl
+request_alike (Reserve i t moment l n) = rw (id_alike i, number_alike t, number_alike moment, text_alike l, number_alike n) refl
+request_alike (Settle i t moment l n) = rw (id_alike i, number_alike t, number_alike moment, text_alike l, number_alike n) refl
+request_alike (Release i t moment l) = rw (id_alike i, number_alike t, number_alike moment, text_alike l) refl
 request_alike (Limit i d cap l) = rw (id_alike i, number_alike d, number_alike cap, text_alike l) refl
 request_alike (Usage l d) = rw (text_alike l, number_alike d) refl
 request_alike (ListRequest d l) = rw (number_alike d, text_alike l) refl

@@ -91,7 +91,7 @@ day_field = number_field w32 (2 ^ 32) wide32 0 LAST_DAY (omega arith)
 
 id_field : IsField id IsId
 id_field =
-    as_field id (λ i. IsHost i.host × (IsRun i.run × IsOrdinal i.seq)) IsId (λ i h. record { host = h.0; run = h.1.0; seq = h.1.1 }) (λ i h. (h.host, (h.run, h.seq)))
+    as_field id (λ i. IsHost i.host × (IsRun i.run × IsOrdinal i.number)) IsId (λ i h. record { host = h.0; run = h.1.0; number = h.1.1 }) (λ i h. (h.host, (h.run, h.number)))
     (made_field _ _ _ (λ x. IsHost x.0 × (IsRun x.1.0 × IsOrdinal x.1.1)) (λ x. refl) (λ i. refl)
     (pair_field host _ IsHost (λ x. IsRun x.0 × IsOrdinal x.1) host_field (pair_field run ordinal IsRun IsOrdinal run_field ordinal_field)))
 
@@ -109,13 +109,13 @@ page_field = as_field page (λ rows. IsWithin 0 ROW_LIMIT (length rows) × All I
 record IsTransaction (t : Transaction) : Type 0 where
   id : IsId t.id
   txn : IsOrdinal t.txn
-  at : IsMoment t.at
+  moment : IsMoment t.moment
   login : IsLogin t.login
 
 transaction_field : IsField transaction IsTransaction
 transaction_field =
-    as_field transaction (λ t. IsId t.id × (IsOrdinal t.txn × (IsMoment t.at × IsLogin t.login))) IsTransaction
-    (λ t h. record { id = h.0; txn = h.1.0; at = h.1.1.0; login = h.1.1.1 }) (λ t h. (h.id, (h.txn, (h.at, h.login))))
+    as_field transaction (λ t. IsId t.id × (IsOrdinal t.txn × (IsMoment t.moment × IsLogin t.login))) IsTransaction
+    (λ t h. record { id = h.0; txn = h.1.0; moment = h.1.1.0; login = h.1.1.1 }) (λ t h. (h.id, (h.txn, (h.moment, h.login))))
     (made_field _ _ _ (λ x. IsId x.0 × (IsOrdinal x.1.0 × (IsMoment x.1.1.0 × IsLogin x.1.1.1))) (λ x. refl) (λ t. refl)
     (pair_field id _ IsId (λ x. IsOrdinal x.0 × (IsMoment x.1.0 × IsLogin x.1.1)) id_field
     (pair_field ordinal _ IsOrdinal (λ x. IsMoment x.0 × IsLogin x.1) ordinal_field (pair_field moment login IsMoment IsLogin moment_field login_field))))
@@ -189,11 +189,11 @@ kind_or false here later v e = inr e
 request_spelled : (kind : ℕ) (bytes : List ℕ) (r : Request) → IsBytes bytes → request_of_kind kind bytes ≡ Some r → SpellsRequest (kind ∷ bytes) r
 request_spelled kind bytes r fits e =
     elim (kind_or (kind == RESERVE) _ _ r e) [
-      | inl h ↦ spelled_kind SpellsRequest RESERVE (pair transaction count) _ counting_field reserve_of (λ x h. record { bytes = refl; in_range = (h.0.id, h.0.txn, h.0.at, h.0.login, h.1) }) kind bytes r fits h.0 h.1
+      | inl h ↦ spelled_kind SpellsRequest RESERVE (pair transaction count) _ counting_field reserve_of (λ x h. record { bytes = refl; in_range = (h.0.id, h.0.txn, h.0.moment, h.0.login, h.1) }) kind bytes r fits h.0 h.1
       | inr e2 ↦ elim (kind_or (kind == SETTLE) _ _ r e2) [
-        | inl h ↦ spelled_kind SpellsRequest SETTLE (pair transaction count) _ counting_field settle_of (λ x h. record { bytes = refl; in_range = (h.0.id, h.0.txn, h.0.at, h.0.login, h.1) }) kind bytes r fits h.0 h.1
+        | inl h ↦ spelled_kind SpellsRequest SETTLE (pair transaction count) _ counting_field settle_of (λ x h. record { bytes = refl; in_range = (h.0.id, h.0.txn, h.0.moment, h.0.login, h.1) }) kind bytes r fits h.0 h.1
         | inr e3 ↦ elim (kind_or (kind == RELEASE) _ _ r e3) [
-          | inl h ↦ spelled_kind SpellsRequest RELEASE transaction _ transaction_field release_of (λ x h. record { bytes = refl; in_range = (h.id, h.txn, h.at, h.login) }) kind bytes r fits h.0 h.1
+          | inl h ↦ spelled_kind SpellsRequest RELEASE transaction _ transaction_field release_of (λ x h. record { bytes = refl; in_range = (h.id, h.txn, h.moment, h.login) }) kind bytes r fits h.0 h.1
           | inr e4 ↦ elim (kind_or (kind == LIMIT) _ _ r e4) [
             | inl h ↦ spelled_kind SpellsRequest LIMIT (pair id (pair day (pair amount login))) _ limit_field limit_of (λ x h. record { bytes = refl; in_range = (h.0, h.1.0, h.1.1.0, h.1.1.1) }) kind bytes r fits h.0 h.1
             | inr e5 ↦ elim (kind_or (kind == USAGE) _ _ r e5) [
@@ -281,14 +281,14 @@ reply_at_spelled (kind ∷ bytes) r fits e = reply_spelled kind bytes r (IsBytes
 read_kind : {X V : Type 0} (f : Field X) (F : X → Type 0) → IsField f F → (make : X → V) (x : X) → F x → made_of make f (f.spell x) ≡ Some (make x)
 read_kind {X} {V} f F field make x h = rw (whole_again f F field x h) refl
 
-named : {i : Id} {txn at : ℕ} {name : List ℕ} → IsId i → IsOrdinal txn → IsMoment at → IsLogin name → IsTransaction (transaction_of (i, (txn, (at, name))))
-named h g k l = record { id = h; txn = g; at = k; login = l }
+named : {i : Id} {txn moment : ℕ} {name : List ℕ} → IsId i → IsOrdinal txn → IsMoment moment → IsLogin name → IsTransaction (transaction_of (i, (txn, (moment, name))))
+named h g k l = record { id = h; txn = g; moment = k; login = l }
 
 -- what is spelled so is read
 pub request_at_read : (body : List ℕ) (r : Request) → SpellsRequest body r → request_at body ≡ Some r
-request_at_read body (Reserve i txn at name n) h = let g = h.in_range in ap request_at h.bytes ∙ read_kind (pair transaction count) _ counting_field reserve_of (transaction_of (i, (txn, (at, name))), n) (named g.0 g.1 g.2 g.3, g.4)
-request_at_read body (Settle i txn at name n) h = let g = h.in_range in ap request_at h.bytes ∙ read_kind (pair transaction count) _ counting_field settle_of (transaction_of (i, (txn, (at, name))), n) (named g.0 g.1 g.2 g.3, g.4)
-request_at_read body (Release i txn at name) h = let g = h.in_range in ap request_at h.bytes ∙ read_kind transaction _ transaction_field release_of (transaction_of (i, (txn, (at, name)))) (named g.0 g.1 g.2 g.3)
+request_at_read body (Reserve i txn moment name n) h = let g = h.in_range in ap request_at h.bytes ∙ read_kind (pair transaction count) _ counting_field reserve_of (transaction_of (i, (txn, (moment, name))), n) (named g.0 g.1 g.2 g.3, g.4)
+request_at_read body (Settle i txn moment name n) h = let g = h.in_range in ap request_at h.bytes ∙ read_kind (pair transaction count) _ counting_field settle_of (transaction_of (i, (txn, (moment, name))), n) (named g.0 g.1 g.2 g.3, g.4)
+request_at_read body (Release i txn moment name) h = let g = h.in_range in ap request_at h.bytes ∙ read_kind transaction _ transaction_field release_of (transaction_of (i, (txn, (moment, name)))) (named g.0 g.1 g.2 g.3)
 request_at_read body (Limit i from_day cap name) h = let g = h.in_range in ap request_at h.bytes ∙ read_kind (pair id (pair day (pair amount login))) _ limit_field limit_of (i, (from_day, (cap, name))) (g.0, (g.1, (g.2, g.3)))
 request_at_read body (Usage name d) h = let g = h.in_range in ap request_at h.bytes ∙ read_kind (pair login day) _ login_and_day_field usage_of (name, d) g
 request_at_read body (ListRequest d behind) h = let g = h.in_range in ap request_at h.bytes ∙ read_kind (pair day after) _ day_and_after_field list_of (d, behind) g

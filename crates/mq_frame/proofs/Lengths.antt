@@ -16,20 +16,20 @@ length_then : (a b : List ℕ) (n m k : ℕ) → length a ≤ n → length b ≤
 length_then a b n m k h i j = omega (arith, h, i, j, length-append a b)
 
 length_id : (i : Id) → IsId i → length (id_bytes i) ≤ 77
-length_id i h = length_then (with_length i.host) (in_8_bytes i.run ++ in_4_bytes i.seq) 65 12 77 (omega (arith, h.host.size.to)) (omega arith) (omega arith)
+length_id i h = length_then (with_length i.host) (in_8_bytes i.run ++ in_4_bytes i.number) 65 12 77 (omega (arith, h.host.size.to)) (omega arith) (omega arith)
 
 length_login : (low : ℕ) (l : List ℕ) → IsWithin low 255 (length l) → length (with_length l) ≤ 256
 length_login low l h = omega (arith, h.to)
 
-length_transaction : (i : Id) (txn at : ℕ) (l : List ℕ) → IsId i → IsLogin l → length (transaction_bytes i txn at l) ≤ 345
-length_transaction i txn at l h g =
-    length_then (id_bytes i) (in_4_bytes txn ++ (in_8_bytes at ++ with_length l)) 77 268 345 (length_id i h)
-    (length_then (in_4_bytes txn) (in_8_bytes at ++ with_length l) 4 264 268 (omega arith) (length_then (in_8_bytes at) (with_length l) 8 256 264 (omega arith) (length_login 1 l g) (omega arith)) (omega arith)) (omega arith)
+length_transaction : (i : Id) (txn moment : ℕ) (l : List ℕ) → IsId i → IsLogin l → length (transaction_bytes i txn moment l) ≤ 345
+length_transaction i txn moment l h g =
+    length_then (id_bytes i) (in_4_bytes txn ++ (in_8_bytes moment ++ with_length l)) 77 268 345 (length_id i h)
+    (length_then (in_4_bytes txn) (in_8_bytes moment ++ with_length l) 4 264 268 (omega arith) (length_then (in_8_bytes moment) (with_length l) 8 256 264 (omega arith) (length_login 1 l g) (omega arith)) (omega arith)) (omega arith)
 
 pub longest_request : (r : Request) → IsRequest r → length (request_body r) ≤ 350
-longest_request (Reserve i txn at l count) h = let t = length_then (transaction_bytes i txn at l) (in_4_bytes count) 345 4 349 (length_transaction i txn at l h.0 h.3) (omega arith) (omega arith) in omega (arith, t)
-longest_request (Settle i txn at l count) h = let t = length_then (transaction_bytes i txn at l) (in_4_bytes count) 345 4 349 (length_transaction i txn at l h.0 h.3) (omega arith) (omega arith) in omega (arith, t)
-longest_request (Release i txn at l) h = let t = length_transaction i txn at l h.0 h.3 in omega (arith, t)
+longest_request (Reserve i txn moment l count) h = let t = length_then (transaction_bytes i txn moment l) (in_4_bytes count) 345 4 349 (length_transaction i txn moment l h.0 h.3) (omega arith) (omega arith) in omega (arith, t)
+longest_request (Settle i txn moment l count) h = let t = length_then (transaction_bytes i txn moment l) (in_4_bytes count) 345 4 349 (length_transaction i txn moment l h.0 h.3) (omega arith) (omega arith) in omega (arith, t)
+longest_request (Release i txn moment l) h = let t = length_transaction i txn moment l h.0 h.3 in omega (arith, t)
 longest_request (Limit i day cap l) h =
     let t = length_then (id_bytes i) (in_4_bytes day ++ (in_4_bytes cap ++ with_length l)) 77 264 341 (length_id i h.0)
     (length_then (in_4_bytes day) (in_4_bytes cap ++ with_length l) 4 260 264 (omega arith) (length_then (in_4_bytes cap) (with_length l) 4 256 260 (omega arith) (length_login 1 l h.3) (omega arith)) (omega arith)) (omega arith) in
@@ -75,9 +75,9 @@ longest_reply (Old i) h = id_alone 0x90 i h
 
 -- no body is empty
 pub some_request : (r : Request) → 1 ≤ length (request_body r)
-some_request (Reserve i txn at l count) = omega arith
-some_request (Settle i txn at l count) = omega arith
-some_request (Release i txn at l) = omega arith
+some_request (Reserve i txn moment l count) = omega arith
+some_request (Settle i txn moment l count) = omega arith
+some_request (Release i txn moment l) = omega arith
 some_request (Limit i day cap l) = omega arith
 some_request (Usage l day) = omega arith
 some_request (ListRequest day l) = omega arith

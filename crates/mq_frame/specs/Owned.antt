@@ -10,9 +10,9 @@ use Rattle.mq_frame.specs.declared.message.Reply.TheVariants.{List as ListReply,
 
 -- a host or a login, which are never empty, or the login after which a list begins, where that isn't
 abbrev pub RequestHoldsBytes : Request → Type 0
-RequestHoldsBytes (Reserve id txn at login count) = ⊤
-RequestHoldsBytes (Settle id txn at login count) = ⊤
-RequestHoldsBytes (Release id txn at login) = ⊤
+RequestHoldsBytes (Reserve id txn moment login count) = ⊤
+RequestHoldsBytes (Settle id txn moment login count) = ⊤
+RequestHoldsBytes (Release id txn moment login) = ⊤
 RequestHoldsBytes (Limit id from_day cap login) = ⊤
 RequestHoldsBytes (Usage login day) = ⊤
 RequestHoldsBytes (ListRequest day after) = 0 < length after

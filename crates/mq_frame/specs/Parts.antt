@@ -30,12 +30,12 @@ abbrev pub shown_page : PageParts → List UsageRow
 shown_page x = rows_in x.count x.bytes.now
 
 abbrev pub shown_transaction : TransactionParts → Transaction
-shown_transaction x = record { id = shown_id x.id; txn = x.txn; at = x.at; login = x.login.now }
+shown_transaction x = record { id = shown_id x.id; txn = x.txn; moment = x.moment; login = x.login.now }
 
 abbrev pub shown_request : RequestParts → Request
-shown_request (request_parts.Reserve t count) = Reserve (shown_id t.id) t.txn t.at t.login.now count
-shown_request (request_parts.Settle t count) = Settle (shown_id t.id) t.txn t.at t.login.now count
-shown_request (request_parts.Release t) = Release (shown_id t.id) t.txn t.at t.login.now
+shown_request (request_parts.Reserve t count) = Reserve (shown_id t.id) t.txn t.moment t.login.now count
+shown_request (request_parts.Settle t count) = Settle (shown_id t.id) t.txn t.moment t.login.now count
+shown_request (request_parts.Release t) = Release (shown_id t.id) t.txn t.moment t.login.now
 shown_request (request_parts.Limit id from_day cap login) = Limit (shown_id id) from_day cap login.now
 shown_request (request_parts.Usage login day) = Usage login.now day
 shown_request (request_parts.List day after) = ListRequest day after.now

@@ -46,7 +46,7 @@ IsOrdinal n = IsWithin 1 LAST_ORDINAL n
 
 -- a moment from 1970-01-02T00:00:00Z to 3000-01-01T00:00:00Z
 abbrev pub IsMoment : ℕ → Type 0
-IsMoment at = IsWithin FIRST_MOMENT LAST_MOMENT at
+IsMoment moment = IsWithin FIRST_MOMENT LAST_MOMENT moment
 
 -- a day number from 1970-01-01 on, up to that of the last moment
 abbrev pub IsDay : ℕ → Type 0
@@ -63,7 +63,7 @@ IsAmount n = IsWithin 0 AMOUNT_LIMIT n
 pub record IsId (id : Id) : Type 0 where
   pub host : IsHost id.host
   pub run : IsRun id.run
-  pub seq : IsOrdinal id.seq
+  pub number : IsOrdinal id.number
 
 pub record IsRow (row : UsageRow) : Type 0 where
   pub login : IsLogin row.login
@@ -78,9 +78,9 @@ pub record IsPage (rows : List UsageRow) : Type 0 where
 
 -- each field of the request is in range
 abbrev pub IsRequest : Request → Type 0
-IsRequest (Reserve id txn at login count) = IsId id × IsOrdinal txn × IsMoment at × IsLogin login × IsCount count
-IsRequest (Settle id txn at login count) = IsId id × IsOrdinal txn × IsMoment at × IsLogin login × IsCount count
-IsRequest (Release id txn at login) = IsId id × IsOrdinal txn × IsMoment at × IsLogin login
+IsRequest (Reserve id txn moment login count) = IsId id × IsOrdinal txn × IsMoment moment × IsLogin login × IsCount count
+IsRequest (Settle id txn moment login count) = IsId id × IsOrdinal txn × IsMoment moment × IsLogin login × IsCount count
+IsRequest (Release id txn moment login) = IsId id × IsOrdinal txn × IsMoment moment × IsLogin login
 IsRequest (Limit id from_day cap login) = IsId id × IsDay from_day × IsAmount cap × IsLogin login
 IsRequest (Usage login day) = IsLogin login × IsDay day
 IsRequest (ListRequest day after) = IsDay day × IsAfter after

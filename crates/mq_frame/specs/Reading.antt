@@ -128,10 +128,10 @@ day = number w32 0 LAST_DAY
 
 -- an id from its fields in order, and back
 abbrev pub id_of : List ℕ × (ℕ × ℕ) → Id
-id_of (name, (of_run, place)) = record { host = name; run = of_run; seq = place }
+id_of (name, (of_run, place)) = record { host = name; run = of_run; number = place }
 
 abbrev pub parts_of_id : Id → List ℕ × (ℕ × ℕ)
-parts_of_id i = (i.host, (i.run, i.seq))
+parts_of_id i = (i.host, (i.run, i.number))
 
 abbrev pub id : Field Id
 id = made id_of parts_of_id (pair host (pair run ordinal))
@@ -154,28 +154,28 @@ page = counted ROW_LIMIT row
 pub record Transaction : Type 0 where
   pub id : Id
   pub txn : ℕ
-  pub at : ℕ
+  pub moment : ℕ
   pub login : List ℕ
 
 -- it from its fields in order, and back
 abbrev pub transaction_of : Id × (ℕ × (ℕ × List ℕ)) → Transaction
-transaction_of (i, (place, (begun, name))) = record { id = i; txn = place; at = begun; login = name }
+transaction_of (i, (place, (begun, name))) = record { id = i; txn = place; moment = begun; login = name }
 
 abbrev pub parts_of_transaction : Transaction → Id × (ℕ × (ℕ × List ℕ))
-parts_of_transaction t = (t.id, (t.txn, (t.at, t.login)))
+parts_of_transaction t = (t.id, (t.txn, (t.moment, t.login)))
 
 abbrev pub transaction : Field Transaction
 transaction = made transaction_of parts_of_transaction (pair id (pair ordinal (pair moment login)))
 
 -- each kind of request, from its fields
 abbrev pub reserve_of : Transaction × ℕ → Request
-reserve_of (t, recipients) = Reserve t.id t.txn t.at t.login recipients
+reserve_of (t, recipients) = Reserve t.id t.txn t.moment t.login recipients
 
 abbrev pub settle_of : Transaction × ℕ → Request
-settle_of (t, recipients) = Settle t.id t.txn t.at t.login recipients
+settle_of (t, recipients) = Settle t.id t.txn t.moment t.login recipients
 
 abbrev pub release_of : Transaction → Request
-release_of t = Release t.id t.txn t.at t.login
+release_of t = Release t.id t.txn t.moment t.login
 
 abbrev pub limit_of : Id × (ℕ × (ℕ × List ℕ)) → Request
 limit_of (i, (from_day, (cap, name))) = Limit i from_day cap name

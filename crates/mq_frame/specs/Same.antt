@@ -11,16 +11,16 @@ abbrev pub same_text : List ℕ → List ℕ → Bool
 same_text a b = pointwise nat_eq a b
 
 abbrev pub same_id : Id → Id → Bool
-same_id a b = same_text a.host b.host && ((a.run == b.run) && (a.seq == b.seq))
+same_id a b = same_text a.host b.host && ((a.run == b.run) && (a.number == b.number))
 
 -- the same kind and the same fields
 abbrev pub same_request : Request → Request → Bool
-same_request (Reserve id txn at login count) (Reserve id' txn' at' login' count') =
-    same_id id id' && ((txn == txn') && ((at == at') && (same_text login login' && (count == count'))))
-same_request (Settle id txn at login count) (Settle id' txn' at' login' count') =
-    same_id id id' && ((txn == txn') && ((at == at') && (same_text login login' && (count == count'))))
-same_request (Release id txn at login) (Release id' txn' at' login') =
-    same_id id id' && ((txn == txn') && ((at == at') && same_text login login'))
+same_request (Reserve id txn moment login count) (Reserve id' txn' moment' login' count') =
+    same_id id id' && ((txn == txn') && ((moment == moment') && (same_text login login' && (count == count'))))
+same_request (Settle id txn moment login count) (Settle id' txn' moment' login' count') =
+    same_id id id' && ((txn == txn') && ((moment == moment') && (same_text login login' && (count == count'))))
+same_request (Release id txn moment login) (Release id' txn' moment' login') =
+    same_id id id' && ((txn == txn') && ((moment == moment') && same_text login login'))
 same_request (Limit id from_day cap login) (Limit id' from_day' cap' login') =
     same_id id id' && ((from_day == from_day') && ((cap == cap') && same_text login login'))
 same_request (Usage login day) (Usage login' day') = same_text login login' && (day == day')

@@ -5,7 +5,7 @@ use Rattle.mq_frame.specs.declared.message.Id.{Id}
 use Rattle.mq_frame.specs.declared.usage.UsageRow.{UsageRow}
 
 abbrev pub shown_id : IdParts → Id
-shown_id x = record { host = x.host.now; run = x.run; seq = x.seq }
+shown_id x = record { host = x.host.now; run = x.run; number = x.number }
 
 abbrev pub shown_row : RowParts → UsageRow
 shown_row x = record { login = x.login.now; settled = x.settled; reserved = x.reserved; cap = x.cap }

@@ -32,11 +32,11 @@ abbrev pub with_length : List ℕ → List ℕ
 with_length text = length text ∷ text
 
 abbrev pub id_bytes : Id → List ℕ
-id_bytes id = with_length id.host ++ (in_8_bytes id.run ++ in_4_bytes id.seq)
+id_bytes id = with_length id.host ++ (in_8_bytes id.run ++ in_4_bytes id.number)
 
 -- id, txn, at and login, which three kinds of requests begin with
 abbrev pub transaction_bytes : Id → ℕ → ℕ → List ℕ → List ℕ
-transaction_bytes id txn at login = id_bytes id ++ (in_4_bytes txn ++ (in_8_bytes at ++ with_length login))
+transaction_bytes id txn moment login = id_bytes id ++ (in_4_bytes txn ++ (in_8_bytes moment ++ with_length login))
 
 abbrev pub row_bytes : UsageRow → List ℕ
 row_bytes row = with_length row.login ++ (in_4_bytes row.settled ++ (in_4_bytes row.reserved ++ in_4_bytes row.cap))
@@ -47,9 +47,9 @@ page_bytes rows = length rows ∷ flat_map row_bytes rows
 
 -- the kind of a request in one byte, and then its fields
 abbrev pub request_body : Request → List ℕ
-request_body (Reserve id txn at login count) = RESERVE ∷ (transaction_bytes id txn at login ++ in_4_bytes count)
-request_body (Settle id txn at login count) = SETTLE ∷ (transaction_bytes id txn at login ++ in_4_bytes count)
-request_body (Release id txn at login) = RELEASE ∷ transaction_bytes id txn at login
+request_body (Reserve id txn moment login count) = RESERVE ∷ (transaction_bytes id txn moment login ++ in_4_bytes count)
+request_body (Settle id txn moment login count) = SETTLE ∷ (transaction_bytes id txn moment login ++ in_4_bytes count)
+request_body (Release id txn moment login) = RELEASE ∷ transaction_bytes id txn moment login
 request_body (Limit id from_day cap login) =
     LIMIT ∷ (id_bytes id ++ (in_4_bytes from_day ++ (in_4_bytes cap ++ with_length login)))
 request_body (Usage login day) = USAGE ∷ (with_length login ++ in_4_bytes day)

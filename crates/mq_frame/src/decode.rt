@@ -44,7 +44,7 @@ fn own_id(alloc: Global, parts: IdParts<'_>) -> Result<Id, AllocError>
     Ok(Id {
         host: Host::from_slice(alloc, parts.host)?,
         run: parts.run,
-        seq: parts.seq,
+        number: parts.number,
     })
 }
 
@@ -90,36 +90,56 @@ fn own_request(alloc: Global, parts: RequestParts<'_>) -> Result<Request, AllocE
 {
     Ok(match parts {
         RequestParts::Reserve {
-            transaction: TransactionParts { id, txn, at, login },
+            transaction: TransactionParts {
+                id,
+                txn,
+                moment,
+                login,
+            },
             count,
         } => {
             let (id, login) = own_names(alloc, id, login)?;
             Request::Reserve {
                 id,
                 txn,
-                at,
+                moment,
                 login,
                 count,
             }
         }
         RequestParts::Settle {
-            transaction: TransactionParts { id, txn, at, login },
+            transaction: TransactionParts {
+                id,
+                txn,
+                moment,
+                login,
+            },
             count,
         } => {
             let (id, login) = own_names(alloc, id, login)?;
             Request::Settle {
                 id,
                 txn,
-                at,
+                moment,
                 login,
                 count,
             }
         }
         RequestParts::Release {
-            transaction: TransactionParts { id, txn, at, login },
+            transaction: TransactionParts {
+                id,
+                txn,
+                moment,
+                login,
+            },
         } => {
             let (id, login) = own_names(alloc, id, login)?;
-            Request::Release { id, txn, at, login }
+            Request::Release {
+                id,
+                txn,
+                moment,
+                login,
+            }
         }
         RequestParts::Limit {
             id,

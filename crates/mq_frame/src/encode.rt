@@ -81,7 +81,7 @@ fn put_id(out: &mut Vec<u8>, id: &Id) -> Result<(), AllocError>
 {
     put_host(out, &id.host)?;
     put_u64(out, id.run)?;
-    put_u32(out, id.seq)?;
+    put_u32(out, id.number)?;
     Ok(())
 }
 
@@ -91,19 +91,19 @@ fn put_transaction(
     kind: u8,
     id: &Id,
     txn: u32,
-    at: u64,
+    moment: u64,
     login: &Login,
 ) -> Result<(), AllocError>
     requires id { IsId id.now }
     requires login { IsLogin login.now }
-    ensures ok { OnOk result (out.new.items ≡ out.old.items ++ kind ∷ transaction_bytes id.now txn at login.now) }
+    ensures ok { OnOk result (out.new.items ≡ out.old.items ++ kind ∷ transaction_bytes id.now txn moment login.now) }
     ensures room { vec_capacity out.old ≤ vec_capacity out.new }
-    ensures full { OnErr result (vec_capacity out.old < vec_len out.old + length (kind ∷ transaction_bytes id.now txn at login.now)) }
+    ensures full { OnErr result (vec_capacity out.old < vec_len out.old + length (kind ∷ transaction_bytes id.now txn moment login.now)) }
 {
     out.push(kind)?;
     put_id(out, id)?;
     put_u32(out, txn)?;
-    put_u64(out, at)?;
+    put_u64(out, moment)?;
     put_login(out, login)?;
     Ok(())
 }
@@ -143,26 +143,29 @@ fn put_request(out: &mut Vec<u8>, request: &Request) -> Result<(), AllocError>
         Request::Reserve {
             id,
             txn,
-            at,
+            moment,
             login,
             count,
         } => {
-            put_transaction(out, RESERVE, id, *txn, *at, login)?;
+            put_transaction(out, RESERVE, id, *txn, *moment, login)?;
             put_u32(out, *count)
         }
         Request::Settle {
             id,
             txn,
-            at,
+            moment,
             login,
             count,
         } => {
-            put_transaction(out, SETTLE, id, *txn, *at, login)?;
+            put_transaction(out, SETTLE, id, *txn, *moment, login)?;
             put_u32(out, *count)
         }
-        Request::Release { id, txn, at, login } => {
-            put_transaction(out, RELEASE, id, *txn, *at, login)
-        }
+        Request::Release {
+            id,
+            txn,
+            moment,
+            login,
+        } => { put_transaction(out, RELEASE, id, *txn, *moment, login) }
         Request::Limit {
             id,
             from_day,

@@ -17,7 +17,7 @@ use crate::format::{
 pub struct IdParts<'a> {
     pub host: &'a [u8],
     pub run: u64,
-    pub seq: u32,
+    pub number: u32,
 }
 
 /// A number from `low` to `high` in four bytes, the highest first.
@@ -143,8 +143,8 @@ pub fn id_at(bytes: &[u8]) -> Option<(IdParts<'_>, &[u8])>
 {
     let (host, rest) = host_at(bytes)?;
     let (run, rest) = run_at(rest)?;
-    let (seq, rest) = ordinal_at(rest)?;
-    Some((IdParts { host, run, seq }, rest))
+    let (number, rest) = ordinal_at(rest)?;
+    Some((IdParts { host, run, number }, rest))
 }
 
 /// Whether nothing is left.

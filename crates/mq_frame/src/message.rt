@@ -14,12 +14,12 @@ pub struct Id {
     /// The run of the host's filter, 1 to 281,474,976,710,655.
     pub run: u64,
     /// The number of the request in the run, 1 to 4,294,967,295.
-    pub seq: u32,
+    pub number: u32,
 }
 
 /// What a host or an administrator asks of the quota server.
 ///
-/// `txn` names a transaction within the run of a host, 1 to 4,294,967,295; `at` is the moment of
+/// `txn` names a transaction within the run of a host, 1 to 4,294,967,295; `moment` is the moment of
 /// its beginning, 86,400 to 32,503,680,000 seconds since 1970-01-01T00:00:00Z; `count` is a number of
 /// recipients, 1 to 1,000; a day is a day number since 1970-01-01, 0 to 376,200.
 #[derive(Debug, Drop, PartialEq)]
@@ -28,7 +28,7 @@ pub enum Request {
     Reserve {
         id: Id,
         txn: u32,
-        at: u64,
+        moment: u64,
         login: Login,
         count: u32,
     },
@@ -36,7 +36,7 @@ pub enum Request {
     Settle {
         id: Id,
         txn: u32,
-        at: u64,
+        moment: u64,
         login: Login,
         count: u32,
     },
@@ -44,7 +44,7 @@ pub enum Request {
     Release {
         id: Id,
         txn: u32,
-        at: u64,
+        moment: u64,
         login: Login,
     },
     /// Set the login's limit, 0 to 1,000,000 recipients, from a day on.
@@ -155,7 +155,7 @@ impl Id {
     pub fn is_same(&self, other: &Id) -> bool
         ensures { result ≡ same_id self.now other.now }
     {
-        self.host == other.host && self.run == other.run && self.seq == other.seq
+        self.host == other.host && self.run == other.run && self.number == other.number
     }
 }
 
@@ -187,7 +187,7 @@ impl Clone for Request {
             Request::Reserve {
                 id,
                 txn,
-                at,
+                moment,
                 login,
                 count,
             } => {
@@ -195,7 +195,7 @@ impl Clone for Request {
                 Request::Reserve {
                     id,
                     txn: *txn,
-                    at: *at,
+                    moment: *moment,
                     login,
                     count: *count,
                 }
@@ -203,7 +203,7 @@ impl Clone for Request {
             Request::Settle {
                 id,
                 txn,
-                at,
+                moment,
                 login,
                 count,
             } => {
@@ -211,17 +211,22 @@ impl Clone for Request {
                 Request::Settle {
                     id,
                     txn: *txn,
-                    at: *at,
+                    moment: *moment,
                     login,
                     count: *count,
                 }
             }
-            Request::Release { id, txn, at, login } => {
+            Request::Release {
+                id,
+                txn,
+                moment,
+                login,
+            } => {
                 let (id, login) = clone_names(id, login)?;
                 Request::Release {
                     id,
                     txn: *txn,
-                    at: *at,
+                    moment: *moment,
                     login,
                 }
             }

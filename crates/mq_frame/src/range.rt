@@ -47,10 +47,10 @@ fn is_ordinal(number: u32) -> bool
 
 /// Whether a moment, in seconds since 1970-01-01T00:00:00Z, lies from 1970-01-02T00:00:00Z to
 /// 3000-01-01T00:00:00Z, both included.
-pub fn is_moment(at: u64) -> bool
-    ensures { IsTrue result ↔ IsMoment at }
+pub fn is_moment(moment: u64) -> bool
+    ensures { IsTrue result ↔ IsMoment moment }
 {
-    FIRST_MOMENT <= at && at <= LAST_MOMENT
+    FIRST_MOMENT <= moment && moment <= LAST_MOMENT
 }
 
 fn is_day(day: u32) -> bool
@@ -74,7 +74,7 @@ fn is_amount(amount: u32) -> bool
 fn is_id(id: &Id) -> bool
     ensures { IsTrue result ↔ IsId id.now }
 {
-    is_host(id.host.as_slice()) && is_run(id.run) && is_ordinal(id.seq)
+    is_host(id.host.as_slice()) && is_run(id.run) && is_ordinal(id.number)
 }
 
 fn is_row(row: &UsageRow) -> bool
@@ -101,26 +101,29 @@ pub fn is_request(request: &Request) -> bool
         Request::Reserve {
             id,
             txn,
-            at,
+            moment,
             login,
             count,
         }
         | Request::Settle {
             id,
             txn,
-            at,
+            moment,
             login,
             count,
         } => {
             is_id(id)
                 && is_ordinal(*txn)
-                && is_moment(*at)
+                && is_moment(*moment)
                 && is_login(login.as_slice())
                 && is_count(*count)
         }
-        Request::Release { id, txn, at, login } => {
-            is_id(id) && is_ordinal(*txn) && is_moment(*at) && is_login(login.as_slice())
-        }
+        Request::Release {
+            id,
+            txn,
+            moment,
+            login,
+        } => { is_id(id) && is_ordinal(*txn) && is_moment(*moment) && is_login(login.as_slice()) }
         Request::Limit {
             id,
             from_day,

@@ -13,7 +13,7 @@ use crate::format::{LIMIT, LIST, RELEASE, RESERVE, RETIRE, SETTLE, USAGE};
 pub struct TransactionParts<'a> {
     pub id: IdParts<'a>,
     pub txn: u32,
-    pub at: u64,
+    pub moment: u64,
     pub login: &'a [u8],
 }
 
@@ -55,9 +55,17 @@ fn transaction_at(bytes: &[u8]) -> Option<(TransactionParts<'_>, &[u8])>
 {
     let (id, rest) = id_at(bytes)?;
     let (txn, rest) = ordinal_at(rest)?;
-    let (at, rest) = moment_at(rest)?;
+    let (moment, rest) = moment_at(rest)?;
     let (login, rest) = login_at(rest)?;
-    Some((TransactionParts { id, txn, at, login }, rest))
+    Some((
+        TransactionParts {
+            id,
+            txn,
+            moment,
+            login,
+        },
+        rest,
+    ))
 }
 
 fn whole_transaction(bytes: &[u8]) -> Option<TransactionParts<'_>>

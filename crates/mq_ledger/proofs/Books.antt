@@ -24,12 +24,12 @@ book_ranged b h = legal_ranged (day_of b.zone) b.default b.history h.default (zo
 pub book_used : (b : Book) → IsLegalBook b → (l : List ℕ) (d : ℕ) → used (day_of b.zone) b.history l d ≤ 1000000
 book_used b h l d = used_fits (day_of b.zone) b.default b.history (book_ranged b h) l d
 
-pub book_held : (b : Book) → IsLegalBook b → (id : Id) (txn at : ℕ) (login : List ℕ) → IsOpenTo at login b.history (transaction id txn) → granted_in b.history (transaction id txn) ≤ 1000000
-book_held b h id txn at login o = held_fits (day_of b.zone) b.default b.history (book_ranged b h) id txn at login o.agreed o.open_still
+pub book_held : (b : Book) → IsLegalBook b → (id : Id) (txn moment : ℕ) (login : List ℕ) → IsOpenTo moment login b.history (transaction id txn) → granted_in b.history (transaction id txn) ≤ 1000000
+book_held b h id txn moment login o = held_fits (day_of b.zone) b.default b.history (book_ranged b h) id txn moment login o.agreed o.open_still
 
 -- an open transaction gets the answer itself
-pub open_answer : (H : List Entry) (id : Id) (txn at : ℕ) (login : List ℕ) (a : Reply) → IsOpenTo at login H (transaction id txn) → if_open H id txn at login a ≡ a
-open_answer H id txn at login a o = rw (o.agreed, o.open_still) refl
+pub open_answer : (H : List Entry) (id : Id) (txn moment : ℕ) (login : List ℕ) (a : Reply) → IsOpenTo moment login H (transaction id txn) → if_open H id txn moment login a ≡ a
+open_answer H id txn moment login a o = rw (o.agreed, o.open_still) refl
 
 -- Arrivals.
 

@@ -28,14 +28,14 @@ pub day_of_seconds : (s : ℤ) → pos 0 ≤ℤ s → s ≤ℤ pos 32503766340 �
 day_of_seconds (pos n) first last = omega (arith, signed_arith, last)
 day_of_seconds (negsuc n) first last = absurd (omega (arith, signed_arith))
 
-pub day_by_rule : (text : List ℕ) (at : ℕ) (shown : DateTime) → civil_nanos shown ≡ nanos_of_seconds (pos at) +ℤ nanos_of_seconds (ahead text (nanos_of_seconds (pos at))) → limited (epoch_day shown.date) ≡ day_of (ByRule text) at
-day_by_rule text at shown is = ap limited (whole_days shown (rule_clock text at) (omega (arith, signed_arith, is)))
+pub day_by_rule : (text : List ℕ) (moment : ℕ) (shown : DateTime) → civil_nanos shown ≡ nanos_of_seconds (pos moment) +ℤ nanos_of_seconds (ahead text (nanos_of_seconds (pos moment))) → limited (epoch_day shown.date) ≡ day_of (ByRule text) moment
+day_by_rule text moment shown is = ap limited (whole_days shown (rule_clock text moment) (omega (arith, signed_arith, is)))
 
 -- the same of what `jiff` shows in a zone that it reads from the text
-pub day_in_zone : (text : List ℕ) (zone : TimeZone) (at : ℕ) (shown : DateTime) → IsPosixZone text zone → civil_nanos shown ≡ nanos_of_seconds (pos at) +ℤ nanos_of_seconds (offset_at zone (nanos_of_seconds (pos at))) → day_of (ByRule text) at ≡ limited (epoch_day shown.date)
-day_in_zone text zone at shown reads is =
-    let n : ℤ = nanos_of_seconds (pos at) in
-    sym (day_by_rule text at shown (is ∙ ap (λ s. n +ℤ nanos_of_seconds s) (ahead_posix text zone n reads)))
+pub day_in_zone : (text : List ℕ) (zone : TimeZone) (moment : ℕ) (shown : DateTime) → IsPosixZone text zone → civil_nanos shown ≡ nanos_of_seconds (pos moment) +ℤ nanos_of_seconds (offset_at zone (nanos_of_seconds (pos moment))) → day_of (ByRule text) moment ≡ limited (epoch_day shown.date)
+day_in_zone text zone moment shown reads is =
+    let n : ℤ = nanos_of_seconds (pos moment) in
+    sym (day_by_rule text moment shown (is ∙ ap (λ s. n +ℤ nanos_of_seconds s) (ahead_posix text zone n reads)))
 
 pub day_of_hours : (day since hours : ℤ) → since ≡ day *ℤ pos 86400000000000 → hours ≡ int_div since (pos 3600000000000) → hours ≡ day *ℤ pos 24
 day_of_hours (pos k) since hours g h = omega (arith, signed_arith)
@@ -47,8 +47,8 @@ floor_of : (s : ℤ) → pos 0 ≤ℤ s → (pos (86400 * (natural s / 86400)) �
 floor_of (pos n) h = (omega (arith, signed_arith), omega (arith, signed_arith))
 floor_of (negsuc n) h = absurd (omega (arith, signed_arith))
 
-pub offset_floor : (minutes : ℤ) (at : ℕ) → IsOffset minutes → IsMoment at → (pos (86400 * day_of (ByOffset minutes) at) ≤ℤ clock minutes at) × (clock minutes at <ℤ pos (86400 * (day_of (ByOffset minutes) at + 1)))
-offset_floor minutes at offset moment = floor_of (clock minutes at) (omega (arith, signed_arith, offset.from, moment.from))
+pub offset_floor : (minutes : ℤ) (moment : ℕ) → IsOffset minutes → IsMoment moment → (pos (86400 * day_of (ByOffset minutes) moment) ≤ℤ clock minutes moment) × (clock minutes moment <ℤ pos (86400 * (day_of (ByOffset minutes) moment + 1)))
+offset_floor minutes moment offset moment_is = floor_of (clock minutes moment) (omega (arith, signed_arith, offset.from, moment_is.from))
 
 -- Days in range.
 
@@ -61,5 +61,5 @@ limited_fits (pos n) = omega arith
 limited_fits (negsuc n) = omega arith
 
 pub zone_days : (zone : Days) → IsZone zone → IsDayRule (day_of zone)
-zone_days (ByOffset minutes) h = λ at moment. record { from = omega arith; to = offset_fits (clock minutes at) (omega (arith, signed_arith, h.to, moment.to)) }
-zone_days (ByRule text) h = λ at moment. record { from = omega arith; to = limited_fits _ }
+zone_days (ByOffset minutes) h = λ moment moment_is. record { from = omega arith; to = offset_fits (clock minutes moment) (omega (arith, signed_arith, h.to, moment_is.to)) }
+zone_days (ByRule text) h = λ moment moment_is. record { from = omega arith; to = limited_fits _ }

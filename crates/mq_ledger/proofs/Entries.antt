@@ -61,16 +61,16 @@ not_open H t u still shut = elim (either (same_transaction t u)) [
 ]
 
 pub moves_open_alone : (H : List Entry) (t : Transaction) (r : Request) (a : Reply) → Suits r a → Opens H r a → closed H t ≡ true → Quiet t r a
-moves_open_alone H t (Reserve id txn at login count) (Granted id' n) s o shut =
+moves_open_alone H t (Reserve id txn moment login count) (Granted id' n) s o shut =
     (let other = not_open H t (transaction id txn) o.open_still shut in record { no_end = and_false (same_transaction t (transaction id txn)); no_grant = rw other refl })
-moves_open_alone H t (Settle id txn at login count) (Settled id' n) s o shut =
+moves_open_alone H t (Settle id txn moment login count) (Settled id' n) s o shut =
     (let other = not_open H t (transaction id txn) o.0.open_still shut in record { no_end = rw other refl; no_grant = if_none (same_transaction t (transaction id txn)) 0 refl })
-moves_open_alone H t (Release id txn at login) (Released id' n) s o shut =
+moves_open_alone H t (Release id txn moment login) (Released id' n) s o shut =
     (let other = not_open H t (transaction id txn) o.open_still shut in record { no_end = rw other refl; no_grant = if_none (same_transaction t (transaction id txn)) 0 refl })
-moves_open_alone H t (Reserve id txn at login count) (Settled id' n) s o shut = absurd s
-moves_open_alone H t (Reserve id txn at login count) (Released id' n) s o shut = absurd s
-moves_open_alone H t (Settle id txn at login count) (Released id' n) s o shut = absurd s
-moves_open_alone H t (Release id txn at login) (Settled id' n) s o shut = absurd s
+moves_open_alone H t (Reserve id txn moment login count) (Settled id' n) s o shut = absurd s
+moves_open_alone H t (Reserve id txn moment login count) (Released id' n) s o shut = absurd s
+moves_open_alone H t (Settle id txn moment login count) (Released id' n) s o shut = absurd s
+moves_open_alone H t (Release id txn moment login) (Settled id' n) s o shut = absurd s
 moves_open_alone H t (Limit id from c login) (Settled id' n) s o shut = absurd s
 moves_open_alone H t (Limit id from c login) (Released id' n) s o shut = absurd s
 moves_open_alone H t r a s o shut = record { no_end = and_false (is_of t r); no_grant = if_none (is_of t r) 0 refl }
@@ -78,9 +78,9 @@ moves_open_alone H t r a s o shut = record { no_end = and_false (is_of t r); no_
 -- a retire is of no transaction
 pub retires_of_none : (t u : Transaction) (r : Request) → retires r u ≡ true → is_of t r ≡ false
 retires_of_none t u (Retire id) g = refl
-retires_of_none t u (Reserve id txn at login count) g = cc
-retires_of_none t u (Settle id txn at login count) g = cc
-retires_of_none t u (Release id txn at login) g = cc
+retires_of_none t u (Reserve id txn moment login count) g = cc
+retires_of_none t u (Settle id txn moment login count) g = cc
+retires_of_none t u (Release id txn moment login) g = cc
 retires_of_none t u (Limit id from c login) g = cc
 retires_of_none t u (Usage login d) g = cc
 retires_of_none t u (ListRequest d after) g = cc
@@ -123,7 +123,7 @@ settled_in_push H e t s o = elim (either (retires e.request t)) [
   or_nothing false = refl
 
 counts_where_closes : (r : Request) (a : Reply) → closes a ≡ false → counted r a ≡ 0
-counts_where_closes (Settle id txn at login count) (Settled id' n) h = cc
+counts_where_closes (Settle id txn moment login count) (Settled id' n) h = cc
 counts_where_closes r a h = refl
 
 -- a transaction that was neither settled nor released settled nothing of its own

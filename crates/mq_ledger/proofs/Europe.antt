@@ -41,22 +41,22 @@ in_2020 : (count : ℕ) → nat_le (days_of_years 12020) count ≡ true → nat_
 in_2020 count low high = years_within_is 20000 12020 count (omega arith) (grind (arith, nat_tests)) (grind (arith, nat_tests))
 
 -- the day of a moment of a year with that summer
-day_with : (y : ℤ) (window : ℤ × ℤ) (at : ℕ) → window_in summer y (pos 3600) ≡ window → year_of_nanos (nanos_of_seconds (pos at)) ≡ y
-    → day_of central_europe at ≡ limited (int_div_euclid (pos at +ℤ (if in_window window (nanos_of_seconds (pos at)) then pos 7200 else pos 3600)) (pos 86400))
+day_with : (y : ℤ) (window : ℤ × ℤ) (moment : ℕ) → window_in summer y (pos 3600) ≡ window → year_of_nanos (nanos_of_seconds (pos moment)) ≡ y
+    → day_of central_europe moment ≡ limited (int_div_euclid (pos moment +ℤ (if in_window window (nanos_of_seconds (pos moment)) then pos 7200 else pos 3600)) (pos 86400))
 unfolding ahead
-day_with y window at is year = rw (reads, year, is) refl
+day_with y window moment is year = rw (reads, year, is) refl
 
 abbrev day_2019 : ℕ → ℕ
-day_2019 at = limited (int_div_euclid (pos at +ℤ (if in_window (pos 1553994000000000000, pos 1572138000000000000) (nanos_of_seconds (pos at)) then pos 7200 else pos 3600)) (pos 86400))
+day_2019 moment = limited (int_div_euclid (pos moment +ℤ (if in_window (pos 1553994000000000000, pos 1572138000000000000) (nanos_of_seconds (pos moment)) then pos 7200 else pos 3600)) (pos 86400))
 
 abbrev day_2020 : ℕ → ℕ
-day_2020 at = limited (int_div_euclid (pos at +ℤ (if in_window (pos 1585443600000000000, pos 1603587600000000000) (nanos_of_seconds (pos at)) then pos 7200 else pos 3600)) (pos 86400))
+day_2020 moment = limited (int_div_euclid (pos moment +ℤ (if in_window (pos 1585443600000000000, pos 1603587600000000000) (nanos_of_seconds (pos moment)) then pos 7200 else pos 3600)) (pos 86400))
 
-of_2019 : (at : ℕ) → year_of_nanos (nanos_of_seconds (pos at)) ≡ pos 2019 → day_of central_europe at ≡ day_2019 at
-of_2019 at year = day_with (pos 2019) _ at window_2019 year
+of_2019 : (moment : ℕ) → year_of_nanos (nanos_of_seconds (pos moment)) ≡ pos 2019 → day_of central_europe moment ≡ day_2019 moment
+of_2019 moment year = day_with (pos 2019) _ moment window_2019 year
 
-of_2020 : (at : ℕ) → year_of_nanos (nanos_of_seconds (pos at)) ≡ pos 2020 → day_of central_europe at ≡ day_2020 at
-of_2020 at year = day_with (pos 2020) _ at window_2020 year
+of_2020 : (moment : ℕ) → year_of_nanos (nanos_of_seconds (pos moment)) ≡ pos 2020 → day_of central_europe moment ≡ day_2020 moment
+of_2020 moment year = day_with (pos 2020) _ moment window_2020 year
 
 pub winter : (day_of central_europe 1576105199 ≡ 18241) × (day_of central_europe 1576105200 ≡ 18242)
 unfolding days_of_years

@@ -27,9 +27,9 @@ raised_by h (Retire id) = elim (either (same_text h id.host)) [
   | inl t ↦ (let own : id.host ≡ h = sym (text_is h id.host t) in inr (record { id = id; is = refl; host = own; run = sym (raised_own h id own) }))
   | inr f ↦ inl (rw f refl)
 ]
-raised_by h (Reserve id txn at login count) = inl refl
-raised_by h (Settle id txn at login count) = inl refl
-raised_by h (Release id txn at login) = inl refl
+raised_by h (Reserve id txn moment login count) = inl refl
+raised_by h (Settle id txn moment login count) = inl refl
+raised_by h (Release id txn moment login) = inl refl
 raised_by h (Limit id from cap login) = inl refl
 raised_by h (Usage login d) = inl refl
 raised_by h (ListRequest d after) = inl refl

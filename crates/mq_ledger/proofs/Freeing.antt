@@ -39,9 +39,9 @@ closed_same : (H : List Entry) (e : Entry) → closes e.reply ≡ false → Give
 closed_same H e shut stays t = closed_push H e t ∙ rw (stays t, shut) (or_and_nothing (closed H t) (is_of t e.request))
 
 open_same : (H : List Entry) (e : Entry) → closes e.reply ≡ false → GivesNone e.request → (r : Request) → is_open (H ++ e ∷ []) r ≡ is_open H r
-open_same H e shut stays (Reserve id txn at login count) = ap not (closed_same H e shut stays (transaction id txn))
-open_same H e shut stays (Settle id txn at login count) = refl
-open_same H e shut stays (Release id txn at login) = refl
+open_same H e shut stays (Reserve id txn moment login count) = ap not (closed_same H e shut stays (transaction id txn))
+open_same H e shut stays (Settle id txn moment login count) = refl
+open_same H e shut stays (Release id txn moment login) = refl
 open_same H e shut stays (Limit id from c login) = refl
 open_same H e shut stays (Usage login d) = refl
 open_same H e shut stays (ListRequest d after) = refl
@@ -53,9 +53,9 @@ reserved_stays day H e l d shut stays = sums_are (λ _. Unit {0}) (reserved_of d
 -- One that closes a transaction ends what it holds.
 
 of_one : (t u : Transaction) (r : Request) → is_of t r ≡ true → is_of u r ≡ true → t ≡ u
-of_one t u (Reserve id txn at login count) h g = transaction_is t (transaction id txn) h ∙ sym (transaction_is u (transaction id txn) g)
-of_one t u (Settle id txn at login count) h g = transaction_is t (transaction id txn) h ∙ sym (transaction_is u (transaction id txn) g)
-of_one t u (Release id txn at login) h g = transaction_is t (transaction id txn) h ∙ sym (transaction_is u (transaction id txn) g)
+of_one t u (Reserve id txn moment login count) h g = transaction_is t (transaction id txn) h ∙ sym (transaction_is u (transaction id txn) g)
+of_one t u (Settle id txn moment login count) h g = transaction_is t (transaction id txn) h ∙ sym (transaction_is u (transaction id txn) g)
+of_one t u (Release id txn moment login) h g = transaction_is t (transaction id txn) h ∙ sym (transaction_is u (transaction id txn) g)
 of_one t u (Limit id from c login) h g = cc
 of_one t u (Usage login d) h g = cc
 of_one t u (ListRequest d after) h g = cc
@@ -71,9 +71,9 @@ of_another t u r h other = elim (either (is_of u r)) [
 
 -- a request of a transaction retires no run
 of_gives_none : (t : Transaction) (r : Request) → is_of t r ≡ true → GivesNone r
-of_gives_none t (Reserve id txn at login count) mine = λ u. refl
-of_gives_none t (Settle id txn at login count) mine = λ u. refl
-of_gives_none t (Release id txn at login) mine = λ u. refl
+of_gives_none t (Reserve id txn moment login count) mine = λ u. refl
+of_gives_none t (Settle id txn moment login count) mine = λ u. refl
+of_gives_none t (Release id txn moment login) mine = λ u. refl
 of_gives_none t (Limit id from c login) mine = λ u. refl
 of_gives_none t (Usage login d) mine = λ u. refl
 of_gives_none t (ListRequest d after) mine = λ u. refl
@@ -83,58 +83,58 @@ closed_elsewhere : (H : List Entry) (e : Entry) (t u : Transaction) → is_of t 
 closed_elsewhere H e t u mine apart = closed_push H e u ∙ rw (of_gives_none t e.request mine u, apart) (or_nothing (closed H u))
 
 open_elsewhere : (H : List Entry) (e : Entry) (t : Transaction) → is_of t e.request ≡ true → (r : Request) → is_of t r ≡ false → is_open (H ++ e ∷ []) r ≡ is_open H r
-open_elsewhere H e t mine (Reserve id txn at login count) other = ap not (closed_elsewhere H e t (transaction id txn) mine (of_another t (transaction id txn) e.request mine other))
-open_elsewhere H e t mine (Settle id txn at login count) other = refl
-open_elsewhere H e t mine (Release id txn at login) other = refl
+open_elsewhere H e t mine (Reserve id txn moment login count) other = ap not (closed_elsewhere H e t (transaction id txn) mine (of_another t (transaction id txn) e.request mine other))
+open_elsewhere H e t mine (Settle id txn moment login count) other = refl
+open_elsewhere H e t mine (Release id txn moment login) other = refl
 open_elsewhere H e t mine (Limit id from c login) other = refl
 open_elsewhere H e t mine (Usage login d) other = refl
 open_elsewhere H e t mine (ListRequest d after) other = refl
 open_elsewhere H e t mine (Retire id) other = refl
 
-concerned_at : (day : ℕ → ℕ) (at at' : ℕ) (login login' l : List ℕ) (d : ℕ) → ((at == at') && same_text login login') ≡ true → (same_text l login' && (day at' == d)) ≡ (same_text l login && (day at == d))
-concerned_at day at at' login login' l d here =
-    let moment : at ≡ at' = number_is at at' (first_so (at == at') (same_text login login') here) in
-    let name : login ≡ login' = text_is login login' (second_so (at == at') (same_text login login') here) in
-    rw (moment, name) refl
+concerned_at : (day : ℕ → ℕ) (moment moment' : ℕ) (login login' l : List ℕ) (d : ℕ) → ((moment == moment') && same_text login login') ≡ true → (same_text l login' && (day moment' == d)) ≡ (same_text l login && (day moment == d))
+concerned_at day moment moment' login login' l d here =
+    let moment_is : moment ≡ moment' = number_is moment moment' (first_so (moment == moment') (same_text login login') here) in
+    let name : login ≡ login' = text_is login login' (second_so (moment == moment') (same_text login login') here) in
+    rw (moment_is, name) refl
 
 -- what was granted or settled for that moment and login is of its day and login
-pub concerned : (day : ℕ → ℕ) (at : ℕ) (login : List ℕ) (r : Request) (a : Reply) → 0 < moved r a → is_at at login r ≡ true → (l : List ℕ) (d : ℕ) → concerns day l d r ≡ (same_text l login && (day at == d))
-concerned day at login (Reserve id txn at' login' count) (Granted id' n) some here l d = concerned_at day at at' login login' l d here
-concerned day at login (Settle id txn at' login' count) (Settled id' n) some here l d = concerned_at day at at' login login' l d here
-concerned day at login r a some here l d = absurd (omega arith)
+pub concerned : (day : ℕ → ℕ) (moment : ℕ) (login : List ℕ) (r : Request) (a : Reply) → 0 < moved r a → is_at moment login r ≡ true → (l : List ℕ) (d : ℕ) → concerns day l d r ≡ (same_text l login && (day moment == d))
+concerned day moment login (Reserve id txn moment' login' count) (Granted id' n) some here l d = concerned_at day moment moment' login login' l d here
+concerned day moment login (Settle id txn moment' login' count) (Settled id' n) some here l d = concerned_at day moment moment' login login' l d here
+concerned day moment login r a some here l d = absurd (omega arith)
 
 -- a granted reserve of the transaction that the entry closes: of its login and day, open before, and then not
-record Ends (day : ℕ → ℕ) (H : List Entry) (e : Entry) (at : ℕ) (login : List ℕ) (r : Request) : Type 0 where
-  concerns : (l : List ℕ) (d : ℕ) → concerns day l d r ≡ (same_text l login && (day at == d))
+record Ends (day : ℕ → ℕ) (H : List Entry) (e : Entry) (moment : ℕ) (login : List ℕ) (r : Request) : Type 0 where
+  concerns : (l : List ℕ) (d : ℕ) → concerns day l d r ≡ (same_text l login && (day moment == d))
   before : is_open H r ≡ true
   after : is_open (H ++ e ∷ []) r ≡ false
 
-ends : (day : ℕ → ℕ) (H : List Entry) (e : Entry) (t : Transaction) (at : ℕ) (login : List ℕ) → is_of t e.request ≡ true → closes e.reply ≡ true → closed H t ≡ false → (r : Request) (a : Reply) → is_of t r ≡ true → 0 < granted r a → is_at at login r ≡ true → Ends day H e at login r
-ends day H e t at login mine closing shut (Reserve id txn at' login' count) (Granted id' n) of some here = record {
-  concerns = λ l d. concerned_at day at at' login login' l d here;
+ends : (day : ℕ → ℕ) (H : List Entry) (e : Entry) (t : Transaction) (moment : ℕ) (login : List ℕ) → is_of t e.request ≡ true → closes e.reply ≡ true → closed H t ≡ false → (r : Request) (a : Reply) → is_of t r ≡ true → 0 < granted r a → is_at moment login r ≡ true → Ends day H e moment login r
+ends day H e t moment login mine closing shut (Reserve id txn moment' login' count) (Granted id' n) of some here = record {
+  concerns = λ l d. concerned_at day moment moment' login login' l d here;
   before = open_then H t (transaction id txn) (transaction_is t (transaction id txn) of) shut;
   after = closed_now H e t (transaction id txn) (transaction_is t (transaction id txn) of) mine closing;
 }
-ends day H e t at login mine closing shut r a of some here = absurd (omega arith)
+ends day H e t moment login mine closing shut r a of some here = absurd (omega arith)
 
-ends_at : (day : ℕ → ℕ) (H : List Entry) (e : Entry) (t : Transaction) (at : ℕ) (login l : List ℕ) (d : ℕ) → is_of t e.request ≡ true → closes e.reply ≡ true → closed H t ≡ false → (x : Entry) → IsUniformAt t at login x →
-    reserved_of day (H ++ e ∷ []) l d x + (if same_text l login && (day at == d) then held_of t x else 0) ≡ reserved_of day H l d x
-ends_at day H e t at login l d mine closing shut x uniform =
+ends_at : (day : ℕ → ℕ) (H : List Entry) (e : Entry) (t : Transaction) (moment : ℕ) (login l : List ℕ) (d : ℕ) → is_of t e.request ≡ true → closes e.reply ≡ true → closed H t ≡ false → (x : Entry) → IsUniformAt t moment login x →
+    reserved_of day (H ++ e ∷ []) l d x + (if same_text l login && (day moment == d) then held_of t x else 0) ≡ reserved_of day H l d x
+ends_at day H e t moment login l d mine closing shut x uniform =
     elim (either (is_of t x.request)) [
       | inr other ↦ (let same = open_elsewhere H e t mine x.request other in rw (same, other) (grind arith))
       | inl of ↦ elim (zero_or_more (granted x.request x.reply)) [
         | inl none ↦ grind (arith, none)
-        | inr some ↦ (let g = ends day H e t at login mine closing shut x.request x.reply of some (uniform of (omega (arith, some))) in
+        | inr some ↦ (let g = ends day H e t moment login mine closing shut x.request x.reply of some (uniform of (omega (arith, some))) in
             rw (of, g.concerns l d, g.after, g.before) (grind arith))
       ]
     ]
 
-reserved_ends : (day : ℕ → ℕ) (H : List Entry) (e : Entry) (t : Transaction) (at : ℕ) (login l : List ℕ) (d : ℕ) → is_of t e.request ≡ true → closes e.reply ≡ true → closed H t ≡ false → AllByRecursion (IsUniformAt t at login) H →
-    sum_by (reserved_of day (H ++ e ∷ []) l d) H + (if same_text l login && (day at == d) then granted_in H t else 0) ≡ reserved day H l d
-reserved_ends day H e t at login l d mine closing shut uniform =
-    let c : Bool = same_text l login && (day at == d) in
+reserved_ends : (day : ℕ → ℕ) (H : List Entry) (e : Entry) (t : Transaction) (moment : ℕ) (login l : List ℕ) (d : ℕ) → is_of t e.request ≡ true → closes e.reply ≡ true → closed H t ≡ false → AllByRecursion (IsUniformAt t moment login) H →
+    sum_by (reserved_of day (H ++ e ∷ []) l d) H + (if same_text l login && (day moment == d) then granted_in H t else 0) ≡ reserved day H l d
+reserved_ends day H e t moment login l d mine closing shut uniform =
+    let c : Bool = same_text l login && (day moment == d) in
     let part = sum_if c (held_of t) H in
-    let both = two_sums_are (IsUniformAt t at login) (reserved_of day (H ++ e ∷ []) l d) (λ x. if c then held_of t x else 0) (reserved_of day H l d) (ends_at day H e t at login l d mine closing shut) H uniform in
+    let both = two_sums_are (IsUniformAt t moment login) (reserved_of day (H ++ e ∷ []) l d) (λ x. if c then held_of t x else 0) (reserved_of day H l d) (ends_at day H e t moment login l d mine closing shut) H uniform in
     omega (arith, part, both)
 
 -- The equation.
@@ -151,20 +151,20 @@ quiet day H r a l d shut stays none =
     let own : reserved_of day (H ++ entry r a ∷ []) l d (entry r a) ≡ 0 = nothing_either_way (concerns day l d r && is_open (H ++ entry r a ∷ []) r) (granted r a) none in
     omega (arith, own, own_part day H (entry r a) l d, reserved_stays day H (entry r a) l d shut stays)
 
-closing : (day : ℕ → ℕ) (H : List Entry) (r : Request) (a : Reply) (t : Transaction) (at : ℕ) (login l : List ℕ) (d : ℕ) → IsUniform H → is_of t r ≡ true → closes a ≡ true → granted r a ≡ 0 → IsOpenTo at login H t →
-    reserved day (H ++ entry r a ∷ []) l d + (if same_text l login && (day at == d) then held H t else 0) ≡ reserved day H l d
-closing day H r a t at login l d uniform mine shuts none o =
+closing : (day : ℕ → ℕ) (H : List Entry) (r : Request) (a : Reply) (t : Transaction) (moment : ℕ) (login l : List ℕ) (d : ℕ) → IsUniform H → is_of t r ≡ true → closes a ≡ true → granted r a ≡ 0 → IsOpenTo moment login H t →
+    reserved day (H ++ entry r a ∷ []) l d + (if same_text l login && (day moment == d) then held H t else 0) ≡ reserved day H l d
+closing day H r a t moment login l d uniform mine shuts none o =
     let own : reserved_of day (H ++ entry r a ∷ []) l d (entry r a) ≡ 0 = nothing_either_way (concerns day l d r && is_open (H ++ entry r a ∷ []) r) (granted r a) none in
-    let gone = reserved_ends day H (entry r a) t at login l d mine shuts o.open_still (uniform t at login o.agreed) in
-    let all : reserved day (H ++ entry r a ∷ []) l d + (if same_text l login && (day at == d) then granted_in H t else 0) ≡ reserved day H l d = omega (arith, own, gone, own_part day H (entry r a) l d) in
+    let gone = reserved_ends day H (entry r a) t moment login l d mine shuts o.open_still (uniform t moment login o.agreed) in
+    let all : reserved day (H ++ entry r a ∷ []) l d + (if same_text l login && (day moment == d) then granted_in H t else 0) ≡ reserved day H l d = omega (arith, own, gone, own_part day H (entry r a) l d) in
     rw o.open_still all
 
-granting : (day : ℕ → ℕ) (H : List Entry) (id id' : Id) (txn at : ℕ) (login : List ℕ) (count n : ℕ) (l : List ℕ) (d : ℕ) → IsOpenTo at login H (transaction id txn) →
-    reserved day (H ++ entry (Reserve id txn at login count) (Granted id' n) ∷ []) l d ≡ reserved day H l d + (if same_text l login && (day at == d) then count else 0)
-granting day H id id' txn at login count n l d o =
-    let e : Entry = entry (Reserve id txn at login count) (Granted id' n) in
+granting : (day : ℕ → ℕ) (H : List Entry) (id id' : Id) (txn moment : ℕ) (login : List ℕ) (count n : ℕ) (l : List ℕ) (d : ℕ) → IsOpenTo moment login H (transaction id txn) →
+    reserved day (H ++ entry (Reserve id txn moment login count) (Granted id' n) ∷ []) l d ≡ reserved day H l d + (if same_text l login && (day moment == d) then count else 0)
+granting day H id id' txn moment login count n l d o =
+    let e : Entry = entry (Reserve id txn moment login count) (Granted id' n) in
     let still : closed (H ++ e ∷ []) (transaction id txn) ≡ false = closed_same H e refl (λ u. refl) (transaction id txn) ∙ o.open_still in
-    let own : reserved_of day (H ++ e ∷ []) l d e ≡ (if same_text l login && (day at == d) then count else 0) = rw still (grind arith) in
+    let own : reserved_of day (H ++ e ∷ []) l d e ≡ (if same_text l login && (day moment == d) then count else 0) = rw still (grind arith) in
     omega (arith, own, own_part day H e l d, reserved_stays day H e l d refl (λ u. refl))
 
 -- A retire ends what the runs below its own have reserved.
@@ -183,11 +183,11 @@ and_none false a = refl
 
 retire_at : (day : ℕ → ℕ) (H : List Entry) (id id' : Id) (l : List ℕ) (d : ℕ) (r : Request) (a : Reply) →
     reserved_of day (H ++ entry (Retire id) (Retired id') ∷ []) l d (entry r a) + (if is_retired_by (Retire id) r then reserved_of day H l d (entry r a) else 0) ≡ reserved_of day H l d (entry r a)
-retire_at day H id id' l d (Reserve jd txn at login count) a =
+retire_at day H id id' l d (Reserve jd txn moment login count) a =
     let t : Transaction = transaction jd txn in
-    rw (closed_push H (entry (Retire id) (Retired id')) t) (retire_splits (same_text l login && (day at == d)) (closed H t) (retires (Retire id) t) (granted (Reserve jd txn at login count) a))
-retire_at day H id id' l d (Settle jd txn at login count) a = omega (arith, and_none (same_text l login && (day at == d)) (granted (Settle jd txn at login count) a))
-retire_at day H id id' l d (Release jd txn at login) a = refl
+    rw (closed_push H (entry (Retire id) (Retired id')) t) (retire_splits (same_text l login && (day moment == d)) (closed H t) (retires (Retire id) t) (granted (Reserve jd txn moment login count) a))
+retire_at day H id id' l d (Settle jd txn moment login count) a = omega (arith, and_none (same_text l login && (day moment == d)) (granted (Settle jd txn moment login count) a))
+retire_at day H id id' l d (Release jd txn moment login) a = refl
 retire_at day H id id' l d (Limit jd from c login) a = refl
 retire_at day H id id' l d (Usage login d') a = refl
 retire_at day H id id' l d (ListRequest d' after) a = refl
@@ -202,16 +202,16 @@ retiring day H id id' l d =
     omega (arith, own, both, own_part day H e l d)
 
 reserved_entry : (day : ℕ → ℕ) (H : List Entry) (l : List ℕ) (d : ℕ) → IsUniform H → (r : Request) (a : Reply) → Suits r a → Opens H r a → reserved day (H ++ entry r a ∷ []) l d + freed day H l d r a ≡ reserved day H l d + gained day l d r a
-reserved_entry day H l d uniform (Reserve id txn at login count) (Granted id' n) suits o = omega (arith, granting day H id id' txn at login count n l d o)
-reserved_entry day H l d uniform (Settle id txn at login count) (Settled id' n) suits o =
-    let none : gained day l d (Settle id txn at login count) (Settled id' n) ≡ 0 = grind arith in
-    omega (arith, none, closing day H (Settle id txn at login count) (Settled id' n) (transaction id txn) at login l d uniform (transaction_itself (transaction id txn)) refl refl o.0)
-reserved_entry day H l d uniform (Release id txn at login) (Released id' n) suits o =
-    omega (arith, closing day H (Release id txn at login) (Released id' n) (transaction id txn) at login l d uniform (transaction_itself (transaction id txn)) refl refl o)
-reserved_entry day H l d uniform (Reserve id txn at login count) (Settled id' n) suits o = absurd suits
-reserved_entry day H l d uniform (Reserve id txn at login count) (Released id' n) suits o = absurd suits
-reserved_entry day H l d uniform (Settle id txn at login count) (Released id' n) suits o = absurd suits
-reserved_entry day H l d uniform (Release id txn at login) (Settled id' n) suits o = absurd suits
+reserved_entry day H l d uniform (Reserve id txn moment login count) (Granted id' n) suits o = omega (arith, granting day H id id' txn moment login count n l d o)
+reserved_entry day H l d uniform (Settle id txn moment login count) (Settled id' n) suits o =
+    let none : gained day l d (Settle id txn moment login count) (Settled id' n) ≡ 0 = grind arith in
+    omega (arith, none, closing day H (Settle id txn moment login count) (Settled id' n) (transaction id txn) moment login l d uniform (transaction_itself (transaction id txn)) refl refl o.0)
+reserved_entry day H l d uniform (Release id txn moment login) (Released id' n) suits o =
+    omega (arith, closing day H (Release id txn moment login) (Released id' n) (transaction id txn) moment login l d uniform (transaction_itself (transaction id txn)) refl refl o)
+reserved_entry day H l d uniform (Reserve id txn moment login count) (Settled id' n) suits o = absurd suits
+reserved_entry day H l d uniform (Reserve id txn moment login count) (Released id' n) suits o = absurd suits
+reserved_entry day H l d uniform (Settle id txn moment login count) (Released id' n) suits o = absurd suits
+reserved_entry day H l d uniform (Release id txn moment login) (Settled id' n) suits o = absurd suits
 reserved_entry day H l d uniform (Limit id from c login) (Settled id' n) suits o = absurd suits
 reserved_entry day H l d uniform (Limit id from c login) (Released id' n) suits o = absurd suits
 reserved_entry day H l d uniform (Usage login d') (Settled id' n) suits o = absurd suits
@@ -241,9 +241,9 @@ abandoned_same H r a suits o stays t =
     ]
 
 is_abandoned_same : (H : List Entry) (r : Request) (a : Reply) → Suits r a → Opens H r a → GivesNone r → (q : Request) → is_abandoned (H ++ entry r a ∷ []) q ≡ is_abandoned H q
-is_abandoned_same H r a suits o stays (Reserve id txn at login count) = abandoned_same H r a suits o stays (transaction id txn)
-is_abandoned_same H r a suits o stays (Settle id txn at login count) = refl
-is_abandoned_same H r a suits o stays (Release id txn at login) = refl
+is_abandoned_same H r a suits o stays (Reserve id txn moment login count) = abandoned_same H r a suits o stays (transaction id txn)
+is_abandoned_same H r a suits o stays (Settle id txn moment login count) = refl
+is_abandoned_same H r a suits o stays (Release id txn moment login) = refl
 is_abandoned_same H r a suits o stays (Limit id from c login) = refl
 is_abandoned_same H r a suits o stays (Usage login d) = refl
 is_abandoned_same H r a suits o stays (ListRequest d after) = refl
@@ -259,13 +259,13 @@ settled_by : (day : ℕ → ℕ) (H : List Entry) (r : Request) (a : Reply) (l :
 settled_by day H r a l d n suits o stays own = omega (arith, own, settled_part day H (entry r a) l d, settled_stays day H r a l d suits o stays)
 
 -- what was granted just now isn't abandoned
-just_granted : (day : ℕ → ℕ) (H : List Entry) (id id' : Id) (txn at : ℕ) (login : List ℕ) (count n : ℕ) (l : List ℕ) (d : ℕ) → IsOpenTo at login H (transaction id txn) →
-    settled_of day (H ++ entry (Reserve id txn at login count) (Granted id' n) ∷ []) l d (entry (Reserve id txn at login count) (Granted id' n)) ≡ 0
-just_granted day H id id' txn at login count n l d o =
-    let e : Entry = entry (Reserve id txn at login count) (Granted id' n) in
+just_granted : (day : ℕ → ℕ) (H : List Entry) (id id' : Id) (txn moment : ℕ) (login : List ℕ) (count n : ℕ) (l : List ℕ) (d : ℕ) → IsOpenTo moment login H (transaction id txn) →
+    settled_of day (H ++ entry (Reserve id txn moment login count) (Granted id' n) ∷ []) l d (entry (Reserve id txn moment login count) (Granted id' n)) ≡ 0
+just_granted day H id id' txn moment login count n l d o =
+    let e : Entry = entry (Reserve id txn moment login count) (Granted id' n) in
     let still : closed (H ++ e ∷ []) (transaction id txn) ≡ false = closed_same H e refl (λ u. refl) (transaction id txn) ∙ o.open_still in
     let kept : has_retired_run (H ++ e ∷ []) (transaction id txn) ≡ false = neither_first (has_retired_run (H ++ e ∷ []) (transaction id txn)) (ended (H ++ e ∷ []) (transaction id txn)) still in
-    rw kept (nothing_either_way (same_text l login && (day at == d)) 0 refl)
+    rw kept (nothing_either_way (same_text l login && (day moment == d)) 0 refl)
 
 plus_none : (c b : Bool) (n : ℕ) → (if c then n + (if b then 0 else 0) else 0) ≡ (if c then n else 0)
 plus_none true true n = omega arith
@@ -286,12 +286,12 @@ retire_moves false G X false a k = omega arith
 
 retire_settles_at : (day : ℕ → ℕ) (H : List Entry) (id id' : Id) (l : List ℕ) (d : ℕ) (r : Request) (a : Reply) →
     settled_of day H l d (entry r a) + (if is_retired_by (Retire id) r then reserved_of day H l d (entry r a) else 0) ≡ settled_of day (H ++ entry (Retire id) (Retired id') ∷ []) l d (entry r a)
-retire_settles_at day H id id' l d (Reserve jd txn at login count) a =
+retire_settles_at day H id id' l d (Reserve jd txn moment login count) a =
     let t : Transaction = transaction jd txn in
     let e : Entry = entry (Retire id) (Retired id') in
-    rw (has_retired_run_push H e t, ended_push H e t) (sym (retire_moves (same_text l login && (day at == d)) (has_retired_run H t) (ended H t) (retires (Retire id) t) (granted (Reserve jd txn at login count) a) (counted (Reserve jd txn at login count) a)))
-retire_settles_at day H id id' l d (Settle jd txn at login count) a = omega arith
-retire_settles_at day H id id' l d (Release jd txn at login) a = refl
+    rw (has_retired_run_push H e t, ended_push H e t) (sym (retire_moves (same_text l login && (day moment == d)) (has_retired_run H t) (ended H t) (retires (Retire id) t) (granted (Reserve jd txn moment login count) a) (counted (Reserve jd txn moment login count) a)))
+retire_settles_at day H id id' l d (Settle jd txn moment login count) a = omega arith
+retire_settles_at day H id id' l d (Release jd txn moment login) a = refl
 retire_settles_at day H id id' l d (Limit jd from c login) a = refl
 retire_settles_at day H id id' l d (Usage login d') a = refl
 retire_settles_at day H id id' l d (ListRequest d' after) a = refl
@@ -306,10 +306,10 @@ retire_settles day H id id' l d =
     omega (arith, own, both, settled_part day H e l d)
 
 settled_entry : (day : ℕ → ℕ) (H : List Entry) (l : List ℕ) (d : ℕ) (r : Request) (a : Reply) → Suits r a → Opens H r a → settled day (H ++ entry r a ∷ []) l d ≡ settled day H l d + settles day H l d r a
-settled_entry day H l d (Reserve id txn at login count) (Granted id' n) suits o = settled_by day H _ _ l d 0 suits o (λ u. refl) (just_granted day H id id' txn at login count n l d o)
-settled_entry day H l d (Settle id txn at login count) (Settled id' n) suits o = settled_by day H _ _ l d (if same_text l login && (day at == d) then count else 0) suits o (λ u. refl) (plus_none (same_text l login && (day at == d)) false count)
-settled_entry day H l d (Reserve id txn at login count) (Settled id' n) suits o = absurd suits
-settled_entry day H l d (Release id txn at login) (Settled id' n) suits o = absurd suits
+settled_entry day H l d (Reserve id txn moment login count) (Granted id' n) suits o = settled_by day H _ _ l d 0 suits o (λ u. refl) (just_granted day H id id' txn moment login count n l d o)
+settled_entry day H l d (Settle id txn moment login count) (Settled id' n) suits o = settled_by day H _ _ l d (if same_text l login && (day moment == d) then count else 0) suits o (λ u. refl) (plus_none (same_text l login && (day moment == d)) false count)
+settled_entry day H l d (Reserve id txn moment login count) (Settled id' n) suits o = absurd suits
+settled_entry day H l d (Release id txn moment login) (Settled id' n) suits o = absurd suits
 settled_entry day H l d (Limit id from c login) (Settled id' n) suits o = absurd suits
 settled_entry day H l d (Usage login d') (Settled id' n) suits o = absurd suits
 settled_entry day H l d (ListRequest d' after) (Settled id' n) suits o = absurd suits

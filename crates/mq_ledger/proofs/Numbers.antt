@@ -193,9 +193,9 @@ stored_reply_stays day default A B r id x e above h =
     ∙ sym (reply_stored day default (history_of day default A) r id x e (below_of day default A id false (not_below_before A B id above)) h)
 
 same_itself : (r : Request) → same_request r r ≡ true
-same_itself (Reserve id txn at login count) = rw (id_itself id, number_itself txn, number_itself at, text_itself login, number_itself count) refl
-same_itself (Settle id txn at login count) = rw (id_itself id, number_itself txn, number_itself at, text_itself login, number_itself count) refl
-same_itself (Release id txn at login) = rw (id_itself id, number_itself txn, number_itself at, text_itself login) refl
+same_itself (Reserve id txn moment login count) = rw (id_itself id, number_itself txn, number_itself moment, text_itself login, number_itself count) refl
+same_itself (Settle id txn moment login count) = rw (id_itself id, number_itself txn, number_itself moment, text_itself login, number_itself count) refl
+same_itself (Release id txn moment login) = rw (id_itself id, number_itself txn, number_itself moment, text_itself login) refl
 same_itself (Limit id from_day c login) = rw (id_itself id, number_itself from_day, number_itself c, text_itself login) refl
 same_itself (Usage login d) = rw (text_itself login, number_itself d) refl
 same_itself (ListRequest d after) = rw (number_itself d, text_itself after) refl

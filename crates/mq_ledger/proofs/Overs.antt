@@ -49,19 +49,19 @@ least_in (x ∷ ns) m h = elim (option_cases (least ns)) [
 
 -- Days on which something is used.
 
-day_gives : (day : ℕ → ℕ) (l login : List ℕ) (from d at : ℕ) → from ≤ d → (same_text l login && (day at == d)) ≡ true → (if same_text l login && nat_le from (day at) then Some (day at) else None) ≡ Some d
-day_gives day l login from d at le h =
-    let s = first_so (same_text l login) (day at == d) h in
-    let e = number_is (day at) d (second_so (same_text l login) (day at == d) h) in
+day_gives : (day : ℕ → ℕ) (l login : List ℕ) (from d moment : ℕ) → from ≤ d → (same_text l login && (day moment == d)) ≡ true → (if same_text l login && nat_le from (day moment) then Some (day moment) else None) ≡ Some d
+day_gives day l login from d moment le h =
+    let s = first_so (same_text l login) (day moment == d) h in
+    let e = number_is (day moment) d (second_so (same_text l login) (day moment == d) h) in
     rw (s, e) (grind (arith, nat_tests))
 
 -- an entry that adds to what is used on a day has that day
 adds_reserved : (day : ℕ → ℕ) (H : List Entry) (l : List ℕ) (from d : ℕ) (r : Request) (a : Reply) → from ≤ d → concerns day l d r ≡ true → 0 < granted r a → day_from day l from r a ≡ Some d
-adds_reserved day H l from d (Reserve id txn at login count) (Granted id' n) le h some = day_gives day l login from d at le h
+adds_reserved day H l from d (Reserve id txn moment login count) (Granted id' n) le h some = day_gives day l login from d moment le h
 adds_reserved day H l from d r a le h some = absurd (omega arith)
 
 adds_settled : (day : ℕ → ℕ) (l : List ℕ) (from d : ℕ) (r : Request) (a : Reply) → from ≤ d → concerns day l d r ≡ true → 0 < counted r a → day_from day l from r a ≡ Some d
-adds_settled day l from d (Settle id txn at login count) (Settled id' n) le h some = day_gives day l login from d at le h
+adds_settled day l from d (Settle id txn moment login count) (Settled id' n) le h some = day_gives day l login from d moment le h
 adds_settled day l from d r a le h some = absurd (omega arith)
 
 of_reserved : (day : ℕ → ℕ) (H : List Entry) (l : List ℕ) (from d : ℕ) (e : Entry) → from ≤ d → 0 < reserved_of day H l d e → day_from day l from e.request e.reply ≡ Some d
@@ -95,18 +95,18 @@ used_among day H l from d le some = elim (zero_or_more (reserved day H l d)) [
       in_filter_map (λ e. day_from day l from e.request e.reply) H p.at d p.among (of_settled day H l from d p.at le p.some))
 ]
 
-day_from_le : (day : ℕ → ℕ) (l login : List ℕ) (from d at : ℕ) → (if same_text l login && nat_le from (day at) then Some (day at) else None) ≡ Some d → from ≤ d
-day_from_le day l login from d at h = elim (either (same_text l login && nat_le from (day at))) [
-  | inl t ↦ (let le = second_so (same_text l login) (nat_le from (day at)) t in
-      let e : Some (day at) ≡ Some d = rw t at h in
+day_from_le : (day : ℕ → ℕ) (l login : List ℕ) (from d moment : ℕ) → (if same_text l login && nat_le from (day moment) then Some (day moment) else None) ≡ Some d → from ≤ d
+day_from_le day l login from d moment h = elim (either (same_text l login && nat_le from (day moment))) [
+  | inl t ↦ (let le = second_so (same_text l login) (nat_le from (day moment)) t in
+      let e : Some (day moment) ≡ Some d = rw t at h in
       let s = some_is _ _ e in
       grind (arith, nat_tests))
   | inr f ↦ (let e : None ≡ Some d = rw f at h in absurd (some_none d (sym e)))
 ]
 
 of_day : (day : ℕ → ℕ) (l : List ℕ) (from d : ℕ) (r : Request) (a : Reply) → day_from day l from r a ≡ Some d → from ≤ d
-of_day day l from d (Reserve id txn at login count) (Granted id' n) h = day_from_le day l login from d at h
-of_day day l from d (Settle id txn at login count) (Settled id' n) h = day_from_le day l login from d at h
+of_day day l from d (Reserve id txn moment login count) (Granted id' n) h = day_from_le day l login from d moment h
+of_day day l from d (Settle id txn moment login count) (Settled id' n) h = day_from_le day l login from d moment h
 of_day day l from d r a h = absurd (some_none d (sym h))
 
 -- the login's days from a day on are not before it

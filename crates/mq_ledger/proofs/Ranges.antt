@@ -37,9 +37,9 @@ amount n h = record { from = omega arith; to = h }
 
 cap_of_fits : (r : Request) → IsRequest r → cap_of r ≤ 1000000
 cap_of_fits (Limit id from_day c login) h = h.2.to
-cap_of_fits (Reserve id txn at login count) h = omega arith
-cap_of_fits (Settle id txn at login count) h = omega arith
-cap_of_fits (Release id txn at login) h = omega arith
+cap_of_fits (Reserve id txn moment login count) h = omega arith
+cap_of_fits (Settle id txn moment login count) h = omega arith
+cap_of_fits (Release id txn moment login) h = omega arith
 cap_of_fits (Usage login d) h = omega arith
 cap_of_fits (ListRequest d after) h = omega arith
 cap_of_fits (Retire id) h = omega arith
@@ -68,49 +68,49 @@ unfolding StaysWithin
 used_fits day default H ranged l d = omega (arith, ranged.good.within l d, cap_fits default H ranged.low ranged.all l d)
 
 -- what an open transaction holds is part of what is used
-pub held_fits : (day : ℕ → ℕ) (default : ℕ) (H : List Entry) → IsRanged day default H → (id : Id) (txn at : ℕ) (login : List ℕ) → agrees at login (named H (transaction id txn)) ≡ true → closed H (transaction id txn) ≡ false → granted_in H (transaction id txn) ≤ 1000000
-held_fits day default H ranged id txn at login ok shut =
+pub held_fits : (day : ℕ → ℕ) (default : ℕ) (H : List Entry) → IsRanged day default H → (id : Id) (txn moment : ℕ) (login : List ℕ) → agrees moment login (named H (transaction id txn)) ≡ true → closed H (transaction id txn) ≡ false → granted_in H (transaction id txn) ≤ 1000000
+held_fits day default H ranged id txn moment login ok shut =
     let t : Transaction = transaction id txn in
-    let part = held_goes day H (entry (Release id txn at login) (Released id 0)) t at login (transaction_itself t) refl (neither_second (has_retired_run H t) (ended H t) shut) (ranged.good.uniform t at login ok) in
-    omega (arith, part, used_is day H login (day at), used_fits day default H ranged login (day at))
+    let part = held_goes day H (entry (Release id txn moment login) (Released id 0)) t moment login (transaction_itself t) refl (neither_second (has_retired_run H t) (ended H t) shut) (ranged.good.uniform t moment login ok) in
+    omega (arith, part, used_is day H login (day moment), used_fits day default H ranged login (day moment))
 
 -- Answers.
 
-reserve_range : (day : ℕ → ℕ) (default : ℕ) (H : List Entry) → IsRanged day default H → (id : Id) (txn at : ℕ) (login : List ℕ) (count : ℕ) → IsId id → (b s f : Bool) → nat_lt (cap default H login (day at)) (used day H login (day at) + count) ≡ f →
-    IsReply (if not b then Mismatch id else (if s then Closed id else (if f then Full id (used day H login (day at)) (cap default H login (day at)) else Granted id (used day H login (day at) + count))))
-reserve_range day default H ranged id txn at login count h false s f ef = h
-reserve_range day default H ranged id txn at login count h true true f ef = h
-reserve_range day default H ranged id txn at login count h true false true ef = (h, amount _ (used_fits day default H ranged login (day at)), amount _ (cap_fits default H ranged.low ranged.all login (day at)))
-reserve_range day default H ranged id txn at login count h true false false ef =
-    let fits : used day H login (day at) + count ≤ cap default H login (day at) = grind (arith, nat_tests, ef) in
-    (h, amount _ (omega (arith, fits, cap_fits default H ranged.low ranged.all login (day at))))
+reserve_range : (day : ℕ → ℕ) (default : ℕ) (H : List Entry) → IsRanged day default H → (id : Id) (txn moment : ℕ) (login : List ℕ) (count : ℕ) → IsId id → (b s f : Bool) → nat_lt (cap default H login (day moment)) (used day H login (day moment) + count) ≡ f →
+    IsReply (if not b then Mismatch id else (if s then Closed id else (if f then Full id (used day H login (day moment)) (cap default H login (day moment)) else Granted id (used day H login (day moment) + count))))
+reserve_range day default H ranged id txn moment login count h false s f ef = h
+reserve_range day default H ranged id txn moment login count h true true f ef = h
+reserve_range day default H ranged id txn moment login count h true false true ef = (h, amount _ (used_fits day default H ranged login (day moment)), amount _ (cap_fits default H ranged.low ranged.all login (day moment)))
+reserve_range day default H ranged id txn moment login count h true false false ef =
+    let fits : used day H login (day moment) + count ≤ cap default H login (day moment) = grind (arith, nat_tests, ef) in
+    (h, amount _ (omega (arith, fits, cap_fits default H ranged.low ranged.all login (day moment))))
 
-settle_range : (day : ℕ → ℕ) (default : ℕ) (H : List Entry) → IsRanged day default H → (id : Id) (txn at : ℕ) (login : List ℕ) (count : ℕ) → IsId id → IsCount count → (b : Bool) → agrees at login (named H (transaction id txn)) ≡ b → (s : Bool) → closed H (transaction id txn) ≡ s → (f : Bool) →
+settle_range : (day : ℕ → ℕ) (default : ℕ) (H : List Entry) → IsRanged day default H → (id : Id) (txn moment : ℕ) (login : List ℕ) (count : ℕ) → IsId id → IsCount count → (b : Bool) → agrees moment login (named H (transaction id txn)) ≡ b → (s : Bool) → closed H (transaction id txn) ≡ s → (f : Bool) →
     IsReply (if not b then Mismatch id else (if s then Closed id else (if f then TooMany id (held H (transaction id txn)) else Settled id count)))
-settle_range day default H ranged id txn at login count h k false eb s es f = h
-settle_range day default H ranged id txn at login count h k true eb true es f = h
-settle_range day default H ranged id txn at login count h k true eb false es true =
+settle_range day default H ranged id txn moment login count h k false eb s es f = h
+settle_range day default H ranged id txn moment login count h k true eb true es f = h
+settle_range day default H ranged id txn moment login count h k true eb false es true =
     let have : held H (transaction id txn) ≡ granted_in H (transaction id txn) = rw es refl in
-    (h, amount _ (omega (arith, have, held_fits day default H ranged id txn at login eb es)))
-settle_range day default H ranged id txn at login count h k true eb false es false = (h, k)
+    (h, amount _ (omega (arith, have, held_fits day default H ranged id txn moment login eb es)))
+settle_range day default H ranged id txn moment login count h k true eb false es false = (h, k)
 
-release_range : (day : ℕ → ℕ) (default : ℕ) (H : List Entry) → IsRanged day default H → (id : Id) (txn at : ℕ) (login : List ℕ) → IsId id → (b : Bool) → agrees at login (named H (transaction id txn)) ≡ b → (s : Bool) → closed H (transaction id txn) ≡ s →
+release_range : (day : ℕ → ℕ) (default : ℕ) (H : List Entry) → IsRanged day default H → (id : Id) (txn moment : ℕ) (login : List ℕ) → IsId id → (b : Bool) → agrees moment login (named H (transaction id txn)) ≡ b → (s : Bool) → closed H (transaction id txn) ≡ s →
     IsReply (if not b then Mismatch id else (if s then Closed id else Released id (held H (transaction id txn))))
-release_range day default H ranged id txn at login h false eb s es = h
-release_range day default H ranged id txn at login h true eb true es = h
-release_range day default H ranged id txn at login h true eb false es =
+release_range day default H ranged id txn moment login h false eb s es = h
+release_range day default H ranged id txn moment login h true eb true es = h
+release_range day default H ranged id txn moment login h true eb false es =
     let have : held H (transaction id txn) ≡ granted_in H (transaction id txn) = rw es refl in
-    (h, amount _ (omega (arith, have, held_fits day default H ranged id txn at login eb es)))
+    (h, amount _ (omega (arith, have, held_fits day default H ranged id txn moment login eb es)))
 
-day_given : (day : ℕ → ℕ) → IsDayRule day → (l login : List ℕ) (from at d : ℕ) → IsMoment at → (if same_text l login && nat_le from (day at) then Some (day at) else None) ≡ Some d → IsDay d
-day_given day days l login from at d moment h = elim (either (same_text l login && nat_le from (day at))) [
-  | inl t ↦ (let e : Some (day at) ≡ Some d = rw t at h in subst IsDay (some_is _ _ e) (days at moment))
+day_given : (day : ℕ → ℕ) → IsDayRule day → (l login : List ℕ) (from moment d : ℕ) → IsMoment moment → (if same_text l login && nat_le from (day moment) then Some (day moment) else None) ≡ Some d → IsDay d
+day_given day days l login from moment d moment_is h = elim (either (same_text l login && nat_le from (day moment))) [
+  | inl t ↦ (let e : Some (day moment) ≡ Some d = rw t at h in subst IsDay (some_is _ _ e) (days moment moment_is))
   | inr f ↦ (let e : None ≡ Some d = rw f at h in absurd (some_none d (sym e)))
 ]
 
 day_range : (day : ℕ → ℕ) → IsDayRule day → (l : List ℕ) (from d : ℕ) (r : Request) (a : Reply) → IsRequest r → day_from day l from r a ≡ Some d → IsDay d
-day_range day days l from d (Reserve id txn at login count) (Granted id' n) h e = day_given day days l login from at d h.2 e
-day_range day days l from d (Settle id txn at login count) (Settled id' n) h e = day_given day days l login from at d h.2 e
+day_range day days l from d (Reserve id txn moment login count) (Granted id' n) h e = day_given day days l login from moment d h.2 e
+day_range day days l from d (Settle id txn moment login count) (Settled id' n) h e = day_given day days l login from moment d h.2 e
 day_range day days l from d r a h e = absurd (some_none d (sym e))
 
 over_range : (day : ℕ → ℕ) (default : ℕ) (H : List Entry) → IsRanged day default H → (l : List ℕ) (from c d : ℕ) → over day H l from c ≡ Some d → IsDay d
@@ -124,7 +124,7 @@ limit_range day default H ranged id from c login h None e = h
 limit_range day default H ranged id from c login h (Some d) e = (h, over_range day default H ranged login from c d e, amount _ (used_fits day default H ranged login d))
 
 login_range : (day : ℕ → ℕ) (d : ℕ) (l : List ℕ) (r : Request) (a : Reply) → IsRequest r → login_on day d r a ≡ Some l → IsLogin l
-login_range day d l (Reserve id txn at login count) (Granted id' n) h e = elim (either (day at == d)) [
+login_range day d l (Reserve id txn moment login count) (Granted id' n) h e = elim (either (day moment == d)) [
   | inl t ↦ (let s : Some login ≡ Some l = rw t at e in subst IsLogin (some_is _ _ s) h.3)
   | inr f ↦ (let s : None ≡ Some l = rw f at e in absurd (some_none l (sym s)))
 ]
@@ -149,9 +149,9 @@ page_range day default H ranged d after =
     }
 
 pub answer_range : (day : ℕ → ℕ) (default : ℕ) (H : List Entry) → IsRanged day default H → (r : Request) → IsRequest r → IsReply (answer day default H r)
-answer_range day default H ranged (Reserve id txn at login count) h = reserve_range day default H ranged id txn at login count h.0 _ _ _ refl
-answer_range day default H ranged (Settle id txn at login count) h = settle_range day default H ranged id txn at login count h.0 h.4 _ refl _ refl _
-answer_range day default H ranged (Release id txn at login) h = release_range day default H ranged id txn at login h.0 _ refl _ refl
+answer_range day default H ranged (Reserve id txn moment login count) h = reserve_range day default H ranged id txn moment login count h.0 _ _ _ refl
+answer_range day default H ranged (Settle id txn moment login count) h = settle_range day default H ranged id txn moment login count h.0 h.4 _ refl _ refl _
+answer_range day default H ranged (Release id txn moment login) h = release_range day default H ranged id txn moment login h.0 _ refl _ refl
 answer_range day default H ranged (Limit id from c login) h = limit_range day default H ranged id from c login h.0 _ refl
 answer_range day default H ranged (Usage login d) h = (let r = row_range day default H ranged d login h.0 in (h.0, h.1, r.settled, r.reserved, r.cap))
 answer_range day default H ranged (ListRequest d after) h = (h.0, page_range day default H ranged d after)
@@ -215,9 +215,9 @@ stored_range (e ∷ H) id x all h = elim (either (has_id id e.request)) [
 
 -- a request in range has a number in range
 id_range : (r : Request) (id : Id) → IsRequest r → id_of r ≡ Some id → IsId id
-id_range (Reserve id' txn at login count) id h e = subst IsId (some_is _ _ e) h.0
-id_range (Settle id' txn at login count) id h e = subst IsId (some_is _ _ e) h.0
-id_range (Release id' txn at login) id h e = subst IsId (some_is _ _ e) h.0
+id_range (Reserve id' txn moment login count) id h e = subst IsId (some_is _ _ e) h.0
+id_range (Settle id' txn moment login count) id h e = subst IsId (some_is _ _ e) h.0
+id_range (Release id' txn moment login) id h e = subst IsId (some_is _ _ e) h.0
 id_range (Limit id' from_day c login) id h e = subst IsId (some_is _ _ e) h.0
 id_range (Usage login d) id h e = absurd (some_none id (sym e))
 id_range (ListRequest d after) id h e = absurd (some_none id (sym e))

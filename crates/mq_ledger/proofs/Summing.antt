@@ -118,15 +118,15 @@ in_named (y ∷ H) t x (inr i) mine = elim (either (is_of t y.request)) [
 
 -- the moment and login of a request of a transaction
 record Place (day : ℕ → ℕ) (r : Request) : Type 0 where
-  at : ℕ
+  moment : ℕ
   login : List ℕ
-  here : is_at at login r ≡ true
-  for : (l : List ℕ) (d : ℕ) → is_for day l d r ≡ (same_text l login && (day at == d))
+  here : is_at moment login r ≡ true
+  for : (l : List ℕ) (d : ℕ) → is_for day l d r ≡ (same_text l login && (day moment == d))
 
 place_of : (day : ℕ → ℕ) (t : Transaction) (r : Request) → is_of t r ≡ true → Place day r
-place_of day t (Reserve id txn at login count) mine = record { at = at; login = login; here = rw (number_itself at, text_itself login) refl; for = λ l d. refl }
-place_of day t (Settle id txn at login count) mine = record { at = at; login = login; here = rw (number_itself at, text_itself login) refl; for = λ l d. refl }
-place_of day t (Release id txn at login) mine = record { at = at; login = login; here = rw (number_itself at, text_itself login) refl; for = λ l d. refl }
+place_of day t (Reserve id txn moment login count) mine = record { moment = moment; login = login; here = rw (number_itself moment, text_itself login) refl; for = λ l d. refl }
+place_of day t (Settle id txn moment login count) mine = record { moment = moment; login = login; here = rw (number_itself moment, text_itself login) refl; for = λ l d. refl }
+place_of day t (Release id txn moment login) mine = record { moment = moment; login = login; here = rw (number_itself moment, text_itself login) refl; for = λ l d. refl }
 place_of day t (Limit id from c login) mine = cc
 place_of day t (Usage login d) mine = cc
 place_of day t (ListRequest d after) mine = cc
@@ -135,16 +135,16 @@ place_of day t (Retire id) mine = cc
 -- What a transaction holds on its login's day, by entries.
 
 open_mine : (H : List Entry) (t : Transaction) (r : Request) (a : Reply) → 0 < granted r a → is_of t r ≡ true → is_open H r ≡ not (closed H t)
-open_mine H t (Reserve id txn at login count) (Granted id' n) some mine = (let same = transaction_is t (transaction id txn) mine in ap (λ (u : Transaction). not (closed H u)) (sym same))
+open_mine H t (Reserve id txn moment login count) (Granted id' n) some mine = (let same = transaction_is t (transaction id txn) mine in ap (λ (u : Transaction). not (closed H u)) (sym same))
 open_mine H t r a some mine = absurd (omega arith)
 
-held_cell : (day : ℕ → ℕ) (H : List Entry) (l : List ℕ) (d : ℕ) (t : Transaction) (at : ℕ) (login : List ℕ) (x : Entry) → IsUniformAt t at login x →
-    cell (reserved_of day H l d) t x ≡ (if (same_text l login && (day at == d)) && not (closed H t) then held_of t x else 0)
-held_cell day H l d t at login x uniform = elim (either (is_of t x.request)) [
-  | inr other ↦ rw other (sym (nothing_either_way ((same_text l login && (day at == d)) && not (closed H t)) 0 refl))
+held_cell : (day : ℕ → ℕ) (H : List Entry) (l : List ℕ) (d : ℕ) (t : Transaction) (moment : ℕ) (login : List ℕ) (x : Entry) → IsUniformAt t moment login x →
+    cell (reserved_of day H l d) t x ≡ (if (same_text l login && (day moment == d)) && not (closed H t) then held_of t x else 0)
+held_cell day H l d t moment login x uniform = elim (either (is_of t x.request)) [
+  | inr other ↦ rw other (sym (nothing_either_way ((same_text l login && (day moment == d)) && not (closed H t)) 0 refl))
   | inl mine ↦ elim (zero_or_more (granted x.request x.reply)) [
-    | inl none ↦ rw (mine, none) (nothing_either_way (concerns day l d x.request && is_open H x.request) 0 refl ∙ sym (nothing_either_way ((same_text l login && (day at == d)) && not (closed H t)) 0 refl))
-    | inr some ↦ (let c = concerned day at login x.request x.reply (omega (arith, some)) (uniform mine (omega (arith, some))) l d in
+    | inl none ↦ rw (mine, none) (nothing_either_way (concerns day l d x.request && is_open H x.request) 0 refl ∙ sym (nothing_either_way ((same_text l login && (day moment == d)) && not (closed H t)) 0 refl))
+    | inr some ↦ (let c = concerned day moment login x.request x.reply (omega (arith, some)) (uniform mine (omega (arith, some))) l d in
         rw (mine, c, open_mine H t x.request x.reply some mine) refl)
   ]
 ]
@@ -159,18 +159,18 @@ held_cells day H l d uniform t = elim (option_cases (named H t)) [
       let right = sums_are (IsAnother t) (cell (reserved_of day H l d) t) (λ _. 0) (λ x other. rw other refl) H (unheard_others H t none) in
       left ∙ sym (right ∙ sum_of_none H))
   | inr p ↦ (let place = place_of day t p.0.request (named_mine H t p.0 p.1) in
-      let agreed : agrees place.at place.login (named H t) ≡ true = rw p.1 place.here in
-      let n : Bool = same_text l place.login && (day place.at == d) in
+      let agreed : agrees place.moment place.login (named H t) ≡ true = rw p.1 place.here in
+      let n : Bool = same_text l place.login && (day place.moment == d) in
       let left : held_on day H l d t ≡ (if n then held H t else 0) = rw (p.1, place.for l d) refl in
-      let right = sums_are (IsUniformAt t place.at place.login) (cell (reserved_of day H l d) t) (λ x. if n && not (closed H t) then held_of t x else 0) (held_cell day H l d t place.at place.login) H (uniform t place.at place.login agreed) in
+      let right = sums_are (IsUniformAt t place.moment place.login) (cell (reserved_of day H l d) t) (λ x. if n && not (closed H t) then held_of t x else 0) (held_cell day H l d t place.moment place.login) H (uniform t place.moment place.login agreed) in
       left ∙ sym (held_if H t n) ∙ sym (right ∙ sum_if (n && not (closed H t)) (held_of t) H))
 ]
 
 -- a granted reserve of the transaction is abandoned with it
 abandoned_mine : (H : List Entry) (t : Transaction) (r : Request) (a : Reply) → is_of t r ≡ true → (if is_abandoned H r then granted r a else 0) ≡ (if abandoned H t then granted r a else 0)
-abandoned_mine H t (Reserve id txn at login count) a mine = (let same = transaction_is t (transaction id txn) mine in ap (λ (u : Transaction). if abandoned H u then granted (Reserve id txn at login count) a else 0) (sym same))
-abandoned_mine H t (Settle id txn at login count) a mine = sym (nothing_either_way (abandoned H t) 0 refl)
-abandoned_mine H t (Release id txn at login) a mine = sym (nothing_either_way (abandoned H t) 0 refl)
+abandoned_mine H t (Reserve id txn moment login count) a mine = (let same = transaction_is t (transaction id txn) mine in ap (λ (u : Transaction). if abandoned H u then granted (Reserve id txn moment login count) a else 0) (sym same))
+abandoned_mine H t (Settle id txn moment login count) a mine = sym (nothing_either_way (abandoned H t) 0 refl)
+abandoned_mine H t (Release id txn moment login) a mine = sym (nothing_either_way (abandoned H t) 0 refl)
 abandoned_mine H t (Limit id from c login) a mine = cc
 abandoned_mine H t (Usage login d) a mine = cc
 abandoned_mine H t (ListRequest d after) a mine = cc
@@ -181,16 +181,16 @@ nothing_at_all true true k g h j = omega (arith, h, j)
 nothing_at_all true false k g h j = omega (arith, h)
 nothing_at_all false b k g h j = refl
 
-settled_cell : (day : ℕ → ℕ) (H : List Entry) (l : List ℕ) (d : ℕ) (t : Transaction) (at : ℕ) (login : List ℕ) (x : Entry) → IsUniformAt t at login x →
-    cell (settled_of day H l d) t x ≡ (if same_text l login && (day at == d) then counted_of t x + (if abandoned H t then held_of t x else 0) else 0)
-settled_cell day H l d t at login x uniform = elim (either (is_of t x.request)) [
-  | inr other ↦ rw other (sym (nothing_at_all (same_text l login && (day at == d)) (abandoned H t) 0 0 refl refl))
+settled_cell : (day : ℕ → ℕ) (H : List Entry) (l : List ℕ) (d : ℕ) (t : Transaction) (moment : ℕ) (login : List ℕ) (x : Entry) → IsUniformAt t moment login x →
+    cell (settled_of day H l d) t x ≡ (if same_text l login && (day moment == d) then counted_of t x + (if abandoned H t then held_of t x else 0) else 0)
+settled_cell day H l d t moment login x uniform = elim (either (is_of t x.request)) [
+  | inr other ↦ rw other (sym (nothing_at_all (same_text l login && (day moment == d)) (abandoned H t) 0 0 refl refl))
   | inl mine ↦ elim (zero_or_more (moved x.request x.reply)) [
     | inl none ↦ (let k : counted x.request x.reply ≡ 0 = omega (arith, none) in
         let g : granted x.request x.reply ≡ 0 = omega (arith, none) in
         rw mine (nothing_at_all (concerns day l d x.request) (is_abandoned H x.request) (counted x.request x.reply) (granted x.request x.reply) k g
-        ∙ sym (nothing_at_all (same_text l login && (day at == d)) (abandoned H t) (counted x.request x.reply) (granted x.request x.reply) k g)))
-    | inr some ↦ (let c = concerned day at login x.request x.reply some (uniform mine some) l d in
+        ∙ sym (nothing_at_all (same_text l login && (day moment == d)) (abandoned H t) (counted x.request x.reply) (granted x.request x.reply) k g)))
+    | inr some ↦ (let c = concerned day moment login x.request x.reply some (uniform mine some) l d in
         rw (mine, c, abandoned_mine H t x.request x.reply mine) refl)
   ]
 ]
@@ -209,10 +209,10 @@ settled_cells day H l d uniform t = elim (option_cases (named H t)) [
       let right = sums_are (IsAnother t) (cell (settled_of day H l d) t) (λ _. 0) (λ x other. rw other refl) H (unheard_others H t none) in
       left ∙ sym (right ∙ sum_of_none H))
   | inr p ↦ (let place = place_of day t p.0.request (named_mine H t p.0 p.1) in
-      let agreed : agrees place.at place.login (named H t) ≡ true = rw p.1 place.here in
-      let n : Bool = same_text l place.login && (day place.at == d) in
+      let agreed : agrees place.moment place.login (named H t) ≡ true = rw p.1 place.here in
+      let n : Bool = same_text l place.login && (day place.moment == d) in
       let left : settled_on day H l d t ≡ (if n then settled_in H t else 0) = rw (p.1, place.for l d) refl in
-      let right = sums_are (IsUniformAt t place.at place.login) (cell (settled_of day H l d) t) (λ x. if n then counted_of t x + (if abandoned H t then held_of t x else 0) else 0) (settled_cell day H l d t place.at place.login) H (uniform t place.at place.login agreed) in
+      let right = sums_are (IsUniformAt t place.moment place.login) (cell (settled_of day H l d) t) (λ x. if n then counted_of t x + (if abandoned H t then held_of t x else 0) else 0) (settled_cell day H l d t place.moment place.login) H (uniform t place.moment place.login agreed) in
       left ∙ sym (right ∙ settled_sum H t n))
 ]
 
@@ -222,8 +222,8 @@ record Moves (r : Request) : Type 0 where
   mine : is_of of r ≡ true
 
 moves : (r : Request) (a : Reply) → 0 < moved r a → Moves r
-moves (Reserve id txn at login count) (Granted id' n) some = record { of = transaction id txn; mine = transaction_itself (transaction id txn) }
-moves (Settle id txn at login count) (Settled id' n) some = record { of = transaction id txn; mine = transaction_itself (transaction id txn) }
+moves (Reserve id txn moment login count) (Granted id' n) some = record { of = transaction id txn; mine = transaction_itself (transaction id txn) }
+moves (Settle id txn moment login count) (Settled id' n) some = record { of = transaction id txn; mine = transaction_itself (transaction id txn) }
 moves r a some = absurd (omega arith)
 
 all_count : (v : Entry → ℕ) (H : List Entry) (ts : List Transaction) → ((x : Entry) → moved x.request x.reply ≡ 0 → v x ≡ 0) → HasAllNamed H ts → AllByRecursion (CountsIn v ts) H
@@ -254,40 +254,40 @@ settled_by_all day default H l d ts legal distinct has = together_all (settled_o
 
 -- One transaction.
 
-same_place : (day : ℕ → ℕ) (at at' : ℕ) (login login' : List ℕ) → ((at == at') && same_text login login') ≡ true → (same_text login login' && (day at' == day at)) ≡ true
-same_place day at at' login login' here =
-    let moment : at ≡ at' = number_is at at' (first_so (at == at') (same_text login login') here) in
-    both_so (same_text login login') (day at' == day at) (second_so (at == at') (same_text login login') here) (rw (← moment) (number_itself (day at)))
+same_place : (day : ℕ → ℕ) (moment moment' : ℕ) (login login' : List ℕ) → ((moment == moment') && same_text login login') ≡ true → (same_text login login' && (day moment' == day moment)) ≡ true
+same_place day moment moment' login login' here =
+    let moment_is : moment ≡ moment' = number_is moment moment' (first_so (moment == moment') (same_text login login') here) in
+    both_so (same_text login login') (day moment' == day moment) (second_so (moment == moment') (same_text login login') here) (rw (← moment_is) (number_itself (day moment)))
 
-for_at : (day : ℕ → ℕ) (at : ℕ) (login : List ℕ) (t : Transaction) (r : Request) → is_of t r ≡ true → is_at at login r ≡ true → is_for day login (day at) r ≡ true
-for_at day at login t (Reserve id txn at' login' count) mine here = same_place day at at' login login' here
-for_at day at login t (Settle id txn at' login' count) mine here = same_place day at at' login login' here
-for_at day at login t (Release id txn at' login') mine here = same_place day at at' login login' here
-for_at day at login t (Limit id from c login') mine here = cc
-for_at day at login t (Usage login' d) mine here = cc
-for_at day at login t (ListRequest d after) mine here = cc
-for_at day at login t (Retire id) mine here = cc
+for_at : (day : ℕ → ℕ) (moment : ℕ) (login : List ℕ) (t : Transaction) (r : Request) → is_of t r ≡ true → is_at moment login r ≡ true → is_for day login (day moment) r ≡ true
+for_at day moment login t (Reserve id txn moment' login' count) mine here = same_place day moment moment' login login' here
+for_at day moment login t (Settle id txn moment' login' count) mine here = same_place day moment moment' login login' here
+for_at day moment login t (Release id txn moment' login') mine here = same_place day moment moment' login login' here
+for_at day moment login t (Limit id from c login') mine here = cc
+for_at day moment login t (Usage login' d) mine here = cc
+for_at day moment login t (ListRequest d after) mine here = cc
+for_at day moment login t (Retire id) mine here = cc
 
-named_for : (day : ℕ → ℕ) (H : List Entry) (t : Transaction) (at : ℕ) (login : List ℕ) (y : Entry) → named H t ≡ Some y → agrees at login (named H t) ≡ true → names_for day login (day at) (named H t) ≡ true
-named_for day H t at login y is agreed = (let here : is_at at login y.request ≡ true = rw is at agreed in
-    rw is (for_at day at login t y.request (named_mine H t y is) here))
+named_for : (day : ℕ → ℕ) (H : List Entry) (t : Transaction) (moment : ℕ) (login : List ℕ) (y : Entry) → named H t ≡ Some y → agrees moment login (named H t) ≡ true → names_for day login (day moment) (named H t) ≡ true
+named_for day H t moment login y is agreed = (let here : is_at moment login y.request ≡ true = rw is at agreed in
+    rw is (for_at day moment login t y.request (named_mine H t y is) here))
 
-pub held_is_reserved : (day : ℕ → ℕ) (default : ℕ) (H : List Entry) (t : Transaction) (at : ℕ) (login : List ℕ) → IsLegal day default H → agrees at login (named H t) ≡ true → held H t ≤ reserved day H login (day at)
-held_is_reserved day default H t at login legal agreed = elim (option_cases (named H t)) [
+pub held_is_reserved : (day : ℕ → ℕ) (default : ℕ) (H : List Entry) (t : Transaction) (moment : ℕ) (login : List ℕ) → IsLegal day default H → agrees moment login (named H t) ≡ true → held H t ≤ reserved day H login (day moment)
+held_is_reserved day default H t moment login legal agreed = elim (option_cases (named H t)) [
   | inl none ↦ omega (arith, unheard_held H t none)
-  | inr p ↦ (let here = named_for day H t at login p.0 p.1 agreed in
-      let is : held_on day H login (day at) t ≡ held H t = rw here refl in
-      let less = sums_le (λ _. Unit {0}) (cell (reserved_of day H login (day at)) t) (reserved_of day H login (day at)) (λ x _. cell_le (reserved_of day H login (day at)) t x) H (always H) in
-      omega (arith, is, less, held_cells day H login (day at) (legal_good day default H legal).uniform t))
+  | inr p ↦ (let here = named_for day H t moment login p.0 p.1 agreed in
+      let is : held_on day H login (day moment) t ≡ held H t = rw here refl in
+      let less = sums_le (λ _. Unit {0}) (cell (reserved_of day H login (day moment)) t) (reserved_of day H login (day moment)) (λ x _. cell_le (reserved_of day H login (day moment)) t x) H (always H) in
+      omega (arith, is, less, held_cells day H login (day moment) (legal_good day default H legal).uniform t))
 ]
 
-pub settled_is_settled : (day : ℕ → ℕ) (default : ℕ) (H : List Entry) (t : Transaction) (at : ℕ) (login : List ℕ) → IsLegal day default H → agrees at login (named H t) ≡ true → settled_in H t ≤ settled day H login (day at)
-settled_is_settled day default H t at login legal agreed = elim (option_cases (named H t)) [
+pub settled_is_settled : (day : ℕ → ℕ) (default : ℕ) (H : List Entry) (t : Transaction) (moment : ℕ) (login : List ℕ) → IsLegal day default H → agrees moment login (named H t) ≡ true → settled_in H t ≤ settled day H login (day moment)
+settled_is_settled day default H t moment login legal agreed = elim (option_cases (named H t)) [
   | inl none ↦ omega (arith, unheard_settled H t none)
-  | inr p ↦ (let here = named_for day H t at login p.0 p.1 agreed in
-      let is : settled_on day H login (day at) t ≡ settled_in H t = rw here refl in
-      let less = sums_le (λ _. Unit {0}) (cell (settled_of day H login (day at)) t) (settled_of day H login (day at)) (λ x _. cell_le (settled_of day H login (day at)) t x) H (always H) in
-      omega (arith, is, less, settled_cells day H login (day at) (legal_good day default H legal).uniform t))
+  | inr p ↦ (let here = named_for day H t moment login p.0 p.1 agreed in
+      let is : settled_on day H login (day moment) t ≡ settled_in H t = rw here refl in
+      let less = sums_le (λ _. Unit {0}) (cell (settled_of day H login (day moment)) t) (settled_of day H login (day moment)) (λ x _. cell_le (settled_of day H login (day moment)) t x) H (always H) in
+      omega (arith, is, less, settled_cells day H login (day moment) (legal_good day default H legal).uniform t))
 ]
 
 -- Only where a reserve was granted is any used.
@@ -301,9 +301,9 @@ all_none day (x ∷ H) l d h = (neither_first (is_login l (login_on day d x.requ
 
 -- a granted reserve of that login and day is one
 reserve_there : (day : ℕ → ℕ) (l : List ℕ) (d : ℕ) (r : Request) (a : Reply) → 0 < granted r a → concerns day l d r ≡ true → is_login l (login_on day d r a) ≡ true
-reserve_there day l d (Reserve id txn at login count) (Granted id' n) some here =
-    let of_day : (day at == d) ≡ true = second_so (same_text l login) (day at == d) here in
-    rw of_day (first_so (same_text l login) (day at == d) here)
+reserve_there day l d (Reserve id txn moment login count) (Granted id' n) some here =
+    let of_day : (day moment == d) ≡ true = second_so (same_text l login) (day moment == d) here in
+    rw of_day (first_so (same_text l login) (day moment == d) here)
 reserve_there day l d r a some here = absurd (omega arith)
 
 none_concerns : (day : ℕ → ℕ) (l : List ℕ) (d : ℕ) (x : Entry) → HasNone day l d x → 0 < granted x.request x.reply → concerns day l d x.request ≡ false
@@ -334,8 +334,8 @@ backed_settle H t u e count backed same not_shut enough own =
     omega (arith, own, zero_settled, have, counted_in_push H e u, granted_in_push H e u)
 
 backed_push : (H : List Entry) (r : Request) (a : Reply) → Opens H r a → IsBacked H → IsBacked (H ++ entry r a ∷ [])
-backed_push H (Settle id txn at login count) (Settled id' n) o backed = λ u.
-    let e : Entry = entry (Settle id txn at login count) (Settled id' n) in
+backed_push H (Settle id txn moment login count) (Settled id' n) o backed = λ u.
+    let e : Entry = entry (Settle id txn moment login count) (Settled id' n) in
     let t : Transaction = transaction id txn in
     elim (either (same_transaction u t)) [
       | inl same ↦ backed_settle H t u e count (backed t) (transaction_is u t same) o.0.open_still o.1 (rw same (omega arith))
@@ -367,15 +367,15 @@ settled_has day H l d uniform backed all x i some here =
     elim (option_cases (named H m.of)) [
       | inl none ↦ (let heard = in_named H m.of x i m.mine in let clash : false ≡ true = rw none at heard in cc)
       | inr p ↦ (let place = place_of day m.of p.0.request (named_mine H m.of p.0 p.1) in
-          let agreed : agrees place.at place.login (named H m.of) ≡ true = rw p.1 place.here in
-          let same = uniform m.of place.at place.login agreed in
-          let n : Bool = same_text l place.login && (day place.at == d) in
-          let is_n : n ≡ true = sym (concerned day place.at place.login x.request x.reply (omega (arith, some)) (all_at (IsUniformAt m.of place.at place.login) H x same i m.mine (omega (arith, some))) l d) ∙ here in
+          let agreed : agrees place.moment place.login (named H m.of) ≡ true = rw p.1 place.here in
+          let same = uniform m.of place.moment place.login agreed in
+          let n : Bool = same_text l place.login && (day place.moment == d) in
+          let is_n : n ≡ true = sym (concerned day place.moment place.login x.request x.reply (omega (arith, some)) (all_at (IsUniformAt m.of place.moment place.login) H x same i m.mine (omega (arith, some))) l d) ∙ here in
           elim (either (is_of m.of part.at.request)) [
             | inr other ↦ (let zero_held : held_of m.of part.at ≡ 0 = rw other refl in absurd (omega (arith, zero_held, part.some)))
             | inl mine ↦ (let is_held : held_of m.of part.at ≡ granted part.at.request part.at.reply = rw mine refl in
                 let granted_some : 0 < granted part.at.request part.at.reply = omega (arith, is_held, part.some) in
-                let c : concerns day l d part.at.request ≡ true = concerned day place.at place.login part.at.request part.at.reply (omega (arith, granted_some)) (all_at (IsUniformAt m.of place.at place.login) H part.at same part.among mine (omega (arith, granted_some))) l d ∙ is_n in
+                let c : concerns day l d part.at.request ≡ true = concerned day place.moment place.login part.at.request part.at.reply (omega (arith, granted_some)) (all_at (IsUniformAt m.of place.moment place.login) H part.at same part.among mine (omega (arith, granted_some))) l d ∙ is_n in
                 let clash : true ≡ false = sym c ∙ none_concerns day l d part.at (all_at (HasNone day l d) H part.at all part.among) granted_some in
                 cc)
           ])
@@ -412,7 +412,7 @@ pub held_amounts : (day : ℕ → ℕ) (default : ℕ) (H : List Entry) (t : Tra
 held_amounts day default H t low days legal = elim (option_cases (named H t)) [
   | inl none ↦ (amount _ (omega (arith, unheard_held H t none)), amount _ (omega (arith, unheard_settled H t none)))
   | inr p ↦ (let place = place_of day t p.0.request (named_mine H t p.0 p.1) in
-      let agreed : agrees place.at place.login (named H t) ≡ true = rw p.1 place.here in
-      let most = used_fits day default H (legal_ranged day default H low days legal) place.login (day place.at) in
-      (amount _ (omega (arith, most, held_is_reserved day default H t place.at place.login legal agreed)), amount _ (omega (arith, most, settled_is_settled day default H t place.at place.login legal agreed))))
+      let agreed : agrees place.moment place.login (named H t) ≡ true = rw p.1 place.here in
+      let most = used_fits day default H (legal_ranged day default H low days legal) place.login (day place.moment) in
+      (amount _ (omega (arith, most, held_is_reserved day default H t place.moment place.login legal agreed)), amount _ (omega (arith, most, settled_is_settled day default H t place.moment place.login legal agreed))))
 ]

@@ -36,12 +36,12 @@ transaction_itself t = rw (text_itself t.host, number_itself t.run, number_itsel
 pub id_is : (a b : Id) → same_id a b ≡ true → a ≡ b
 id_is a b h =
     let host : a.host ≡ b.host = text_is _ _ (first_so (same_text a.host b.host) _ h) in
-    let run : a.run ≡ b.run = number_is _ _ (first_so (a.run == b.run) (a.seq == b.seq) (second_so (same_text a.host b.host) _ h)) in
-    let seq : a.seq ≡ b.seq = number_is _ _ (second_so (a.run == b.run) (a.seq == b.seq) (second_so (same_text a.host b.host) _ h)) in
-    λ i. record { host = host i; run = run i; seq = seq i }
+    let run : a.run ≡ b.run = number_is _ _ (first_so (a.run == b.run) (a.number == b.number) (second_so (same_text a.host b.host) _ h)) in
+    let number : a.number ≡ b.number = number_is _ _ (second_so (a.run == b.run) (a.number == b.number) (second_so (same_text a.host b.host) _ h)) in
+    λ i. record { host = host i; run = run i; number = number i }
 
 pub id_itself : (a : Id) → same_id a a ≡ true
-id_itself a = rw (text_itself a.host, number_itself a.run, number_itself a.seq) refl
+id_itself a = rw (text_itself a.host, number_itself a.run, number_itself a.number) refl
 
 -- One more entry.
 
@@ -70,9 +70,9 @@ under_if false m n = under_none m
 
 under_raised : (t : Transaction) (r : Request) → nat_lt t.run (raised t.host r) ≡ retires r t
 under_raised t (Retire id) = under_if (same_text t.host id.host) t.run id.run
-under_raised t (Reserve id txn at login count) = under_none t.run
-under_raised t (Settle id txn at login count) = under_none t.run
-under_raised t (Release id txn at login) = under_none t.run
+under_raised t (Reserve id txn moment login count) = under_none t.run
+under_raised t (Settle id txn moment login count) = under_none t.run
+under_raised t (Release id txn moment login) = under_none t.run
 under_raised t (Limit id from c login) = under_none t.run
 under_raised t (Usage login d) = under_none t.run
 under_raised t (ListRequest d after) = under_none t.run
@@ -100,7 +100,7 @@ named_push H e t = find-append (λ x. is_of t x.request) H (e ∷ [])
 
 -- the request is a reserve whose transaction was neither settled nor released in H
 abbrev pub is_unended : List Entry → Request → Bool
-is_unended H (Reserve id txn at login count) = not (ended H (transaction id txn))
+is_unended H (Reserve id txn moment login count) = not (ended H (transaction id txn))
 is_unended H _ = false
 
 abbrev pub unended_of : (ℕ → ℕ) → List Entry → List ℕ → ℕ → Entry → ℕ
@@ -123,11 +123,11 @@ split true false true a k = omega arith
 split true false false a k = omega arith
 
 used_by : (day : ℕ → ℕ) (H : List Entry) (l : List ℕ) (d : ℕ) (r : Request) (a : Reply) → reserved_of day H l d (entry r a) + settled_of day H l d (entry r a) ≡ unended_of day H l d (entry r a) + counted_for day l d (entry r a)
-used_by day H l d (Reserve id txn at login count) a =
+used_by day H l d (Reserve id txn moment login count) a =
     let t : Transaction = transaction id txn in
-    split (same_text l login && (day at == d)) (has_retired_run H t) (ended H t) (granted (Reserve id txn at login count) a) (counted (Reserve id txn at login count) a)
-used_by day H l d (Settle id txn at login count) a = split (same_text l login && (day at == d)) false true (granted (Settle id txn at login count) a) (counted (Settle id txn at login count) a)
-used_by day H l d (Release id txn at login) a = refl
+    split (same_text l login && (day moment == d)) (has_retired_run H t) (ended H t) (granted (Reserve id txn moment login count) a) (counted (Reserve id txn moment login count) a)
+used_by day H l d (Settle id txn moment login count) a = split (same_text l login && (day moment == d)) false true (granted (Settle id txn moment login count) a) (counted (Settle id txn moment login count) a)
+used_by day H l d (Release id txn moment login) a = refl
 used_by day H l d (Limit id from c login) a = refl
 used_by day H l d (Usage login d') a = refl
 used_by day H l d (ListRequest d' after) a = refl
@@ -141,9 +141,9 @@ used_is day H l d =
     left ∙ sym right
 
 unended_before : (H : List Entry) (e : Entry) (r : Request) → is_unended (H ++ e ∷ []) r ≡ true → is_unended H r ≡ true
-unended_before H e (Reserve id txn at login count) h = grind (arith, ended_push H e (transaction id txn))
-unended_before H e (Settle id txn at login count) h = h
-unended_before H e (Release id txn at login) h = h
+unended_before H e (Reserve id txn moment login count) h = grind (arith, ended_push H e (transaction id txn))
+unended_before H e (Settle id txn moment login count) h = h
+unended_before H e (Release id txn moment login) h = h
 unended_before H e (Limit id from_day c login) h = h
 unended_before H e (Usage login d) h = h
 unended_before H e (ListRequest d after) h = h
@@ -166,22 +166,22 @@ abbrev pub moved : Request → Reply → ℕ
 moved r a = granted r a + counted r a
 
 abbrev pub IsUniformAt : Transaction → ℕ → List ℕ → Entry → Type 0
-IsUniformAt t at login x = is_of t x.request ≡ true → 0 < moved x.request x.reply → is_at at login x.request ≡ true
+IsUniformAt t moment login x = is_of t x.request ≡ true → 0 < moved x.request x.reply → is_at moment login x.request ≡ true
 
 abbrev pub IsUniform : List Entry → Type 0
-IsUniform H = (t : Transaction) (at : ℕ) (login : List ℕ) → agrees at login (named H t) ≡ true → AllByRecursion (IsUniformAt t at login) H
+IsUniform H = (t : Transaction) (moment : ℕ) (login : List ℕ) → agrees moment login (named H t) ≡ true → AllByRecursion (IsUniformAt t moment login) H
 
-both_at : (a b at : ℕ) (l m login : List ℕ) → ((a == at) && same_text l login) ≡ true → ((b == at) && same_text m login) ≡ true → (a ≡ b) × (l ≡ m)
-both_at a b at l m login h g = (
-  number_is a at (first_so (a == at) (same_text l login) h) ∙ sym (number_is b at (first_so (b == at) (same_text m login) g)),
-  text_is l login (second_so (a == at) (same_text l login) h) ∙ sym (text_is m login (second_so (b == at) (same_text m login) g)),
+both_at : (a b moment : ℕ) (l m login : List ℕ) → ((a == moment) && same_text l login) ≡ true → ((b == moment) && same_text m login) ≡ true → (a ≡ b) × (l ≡ m)
+both_at a b moment l m login h g = (
+  number_is a moment (first_so (a == moment) (same_text l login) h) ∙ sym (number_is b moment (first_so (b == moment) (same_text m login) g)),
+  text_is l login (second_so (a == moment) (same_text l login) h) ∙ sym (text_is m login (second_so (b == moment) (same_text m login) g)),
 )
 
 -- a request has one moment and one login
 pub one_place : (a b : ℕ) (l m : List ℕ) (r : Request) → is_at a l r ≡ true → is_at b m r ≡ true → (a ≡ b) × (l ≡ m)
-one_place a b l m (Reserve id txn at login count) h g = both_at a b at l m login h g
-one_place a b l m (Settle id txn at login count) h g = both_at a b at l m login h g
-one_place a b l m (Release id txn at login) h g = both_at a b at l m login h g
+one_place a b l m (Reserve id txn moment login count) h g = both_at a b moment l m login h g
+one_place a b l m (Settle id txn moment login count) h g = both_at a b moment l m login h g
+one_place a b l m (Release id txn moment login) h g = both_at a b moment l m login h g
 one_place a b l m (Limit id from c login) h g = cc
 one_place a b l m (Usage login d) h g = cc
 one_place a b l m (ListRequest d after) h g = cc
@@ -189,37 +189,37 @@ one_place a b l m (Retire id) h g = cc
 
 -- what a granted reserve and a settled settle were checked for
 abbrev pub IsAgreed : List Entry → Request → Reply → Type 0
-IsAgreed H (Reserve id txn at login count) (Granted id' n) = agrees at login (named H (transaction id txn)) ≡ true
-IsAgreed H (Settle id txn at login count) (Settled id' n) = agrees at login (named H (transaction id txn)) ≡ true
+IsAgreed H (Reserve id txn moment login count) (Granted id' n) = agrees moment login (named H (transaction id txn)) ≡ true
+IsAgreed H (Settle id txn moment login count) (Settled id' n) = agrees moment login (named H (transaction id txn)) ≡ true
 IsAgreed H _ _ = Unit {0}
 
-new_is_uniform_at : (H : List Entry) (t u : Transaction) (at at' : ℕ) (login login' : List ℕ) (x : Entry) → named H t ≡ Some x → is_at at login x.request ≡ true → agrees at' login' (named H u) ≡ true → same_transaction t u ≡ true → ((at == at') && same_text login login') ≡ true
-new_is_uniform_at H t u at at' login login' x naming here agreed mine =
+new_is_uniform_at : (H : List Entry) (t u : Transaction) (moment moment' : ℕ) (login login' : List ℕ) (x : Entry) → named H t ≡ Some x → is_at moment login x.request ≡ true → agrees moment' login' (named H u) ≡ true → same_transaction t u ≡ true → ((moment == moment') && same_text login login') ≡ true
+new_is_uniform_at H t u moment moment' login login' x naming here agreed mine =
     let same : t ≡ u = transaction_is t u mine in
     let P : Transaction → Type 0 = λ u. named H u ≡ Some x in
-    let here' : is_at at' login' x.request ≡ true = rw (subst P same naming) at agreed in
-    let p = one_place at at' login login' x.request here here' in
-    both_so (at == at') (same_text login login') (rw (← p.0) (number_itself at)) (rw (← p.1) (text_itself login))
+    let here' : is_at moment' login' x.request ≡ true = rw (subst P same naming) at agreed in
+    let p = one_place moment moment' login login' x.request here here' in
+    both_so (moment == moment') (same_text login login') (rw (← p.0) (number_itself moment)) (rw (← p.1) (text_itself login))
 
-new_is_uniform : (H : List Entry) (t : Transaction) (at : ℕ) (login : List ℕ) (x : Entry) → named H t ≡ Some x → is_at at login x.request ≡ true → (r : Request) (a : Reply) → IsAgreed H r a → is_of t r ≡ true → 0 < moved r a → is_at at login r ≡ true
-new_is_uniform H t at login x naming here (Reserve id txn at' login' count) (Granted id' n) agreed mine some = new_is_uniform_at H t (transaction id txn) at at' login login' x naming here agreed mine
-new_is_uniform H t at login x naming here (Settle id txn at' login' count) (Settled id' n) agreed mine some = new_is_uniform_at H t (transaction id txn) at at' login login' x naming here agreed mine
-new_is_uniform H t at login x naming here r a agreed mine some = absurd (omega arith)
+new_is_uniform : (H : List Entry) (t : Transaction) (moment : ℕ) (login : List ℕ) (x : Entry) → named H t ≡ Some x → is_at moment login x.request ≡ true → (r : Request) (a : Reply) → IsAgreed H r a → is_of t r ≡ true → 0 < moved r a → is_at moment login r ≡ true
+new_is_uniform H t moment login x naming here (Reserve id txn moment' login' count) (Granted id' n) agreed mine some = new_is_uniform_at H t (transaction id txn) moment moment' login login' x naming here agreed mine
+new_is_uniform H t moment login x naming here (Settle id txn moment' login' count) (Settled id' n) agreed mine some = new_is_uniform_at H t (transaction id txn) moment moment' login login' x naming here agreed mine
+new_is_uniform H t moment login x naming here r a agreed mine some = absurd (omega arith)
 
 pub uniform_push : (H : List Entry) (e : Entry) → IsAgreed H e.request e.reply → IsUniform H → IsUniform (H ++ e ∷ [])
-uniform_push H e agreed h = λ t at login ok.
-    let ok' : agrees at login (option_or (named H t) (if is_of t e.request then Some e else None)) ≡ true = rw named_push at ok in
+uniform_push H e agreed h = λ t moment login ok.
+    let ok' : agrees moment login (option_or (named H t) (if is_of t e.request then Some e else None)) ≡ true = rw named_push at ok in
     elim (option_cases (named H t)) [
-      | inl none ↦ (let naming : agrees at login (if is_of t e.request then Some e else None) ≡ true = rw none at ok' in
-          all_push (IsUniformAt t at login) H e (h t at login (rw none refl)) (λ mine some. rw mine at naming))
-      | inr p ↦ (let here : is_at at login p.0.request ≡ true = rw p.1 at ok' in
-          all_push (IsUniformAt t at login) H e (h t at login (rw p.1 here)) (λ mine some. new_is_uniform H t at login p.0 p.1 here e.request e.reply agreed mine some))
+      | inl none ↦ (let naming : agrees moment login (if is_of t e.request then Some e else None) ≡ true = rw none at ok' in
+          all_push (IsUniformAt t moment login) H e (h t moment login (rw none refl)) (λ mine some. rw mine at naming))
+      | inr p ↦ (let here : is_at moment login p.0.request ≡ true = rw p.1 at ok' in
+          all_push (IsUniformAt t moment login) H e (h t moment login (rw p.1 here)) (λ mine some. new_is_uniform H t moment login p.0 p.1 here e.request e.reply agreed mine some))
     ]
 
 -- What a transaction was granted was used by it, and is so no more once it is settled or released.
 
-record Goes (day : ℕ → ℕ) (H : List Entry) (e : Entry) (at : ℕ) (login : List ℕ) (r : Request) : Type 0 where
-  concerns : concerns day login (day at) r ≡ true
+record Goes (day : ℕ → ℕ) (H : List Entry) (e : Entry) (moment : ℕ) (login : List ℕ) (r : Request) : Type 0 where
+  concerns : concerns day login (day moment) r ≡ true
   before : is_unended H r ≡ true
   after : is_unended (H ++ e ∷ []) r ≡ false
 
@@ -244,30 +244,30 @@ open_then H t u same f = let P : Transaction → Type 0 = λ v. not (closed H v)
 same_day : (day : ℕ → ℕ) (a b : ℕ) → (a == b) ≡ true → (day b == day a) ≡ true
 same_day day a b h = let e = number_is a b h in rw e (number_itself (day b))
 
-goes : (day : ℕ → ℕ) (H : List Entry) (e : Entry) (t : Transaction) (at : ℕ) (login : List ℕ) → is_of t e.request ≡ true → closes e.reply ≡ true → ended H t ≡ false → (r : Request) (a : Reply) → is_of t r ≡ true → 0 < granted r a → is_at at login r ≡ true → Goes day H e at login r
-goes day H e t at login mine closing shut (Reserve id txn at' login' count) (Granted id' n) of some here = record {
-  concerns = both_so (same_text login login') (day at' == day at) (second_so (at == at') (same_text login login') here) (same_day day at at' (first_so (at == at') (same_text login login') here));
+goes : (day : ℕ → ℕ) (H : List Entry) (e : Entry) (t : Transaction) (moment : ℕ) (login : List ℕ) → is_of t e.request ≡ true → closes e.reply ≡ true → ended H t ≡ false → (r : Request) (a : Reply) → is_of t r ≡ true → 0 < granted r a → is_at moment login r ≡ true → Goes day H e moment login r
+goes day H e t moment login mine closing shut (Reserve id txn moment' login' count) (Granted id' n) of some here = record {
+  concerns = both_so (same_text login login') (day moment' == day moment) (second_so (moment == moment') (same_text login login') here) (same_day day moment moment' (first_so (moment == moment') (same_text login login') here));
   before = unended_then H t (transaction id txn) (transaction_is t (transaction id txn) of) shut;
   after = ended_now H e t (transaction id txn) (transaction_is t (transaction id txn) of) mine closing;
 }
-goes day H e t at login mine closing shut r a of some here = absurd (omega arith)
+goes day H e t moment login mine closing shut r a of some here = absurd (omega arith)
 
 abbrev pub held_of : Transaction → Entry → ℕ
 held_of t x = if is_of t x.request then granted x.request x.reply else 0
 
-held_goes_at : (day : ℕ → ℕ) (H : List Entry) (e : Entry) (t : Transaction) (at : ℕ) (login : List ℕ) → is_of t e.request ≡ true → closes e.reply ≡ true → ended H t ≡ false → (x : Entry) → IsUniformAt t at login x →
-    unended_of day (H ++ e ∷ []) login (day at) x + held_of t x ≤ unended_of day H login (day at) x
-held_goes_at day H e t at login mine closing shut x uniform =
+held_goes_at : (day : ℕ → ℕ) (H : List Entry) (e : Entry) (t : Transaction) (moment : ℕ) (login : List ℕ) → is_of t e.request ≡ true → closes e.reply ≡ true → ended H t ≡ false → (x : Entry) → IsUniformAt t moment login x →
+    unended_of day (H ++ e ∷ []) login (day moment) x + held_of t x ≤ unended_of day H login (day moment) x
+held_goes_at day H e t moment login mine closing shut x uniform =
     elim (either (is_of t x.request)) [
-      | inr f ↦ (let falls = unended_of_falls day H e login (day at) x in rw f (omega (arith, falls)))
+      | inr f ↦ (let falls = unended_of_falls day H e login (day moment) x in rw f (omega (arith, falls)))
       | inl of ↦ elim (zero_or_more (granted x.request x.reply)) [
         | inl none ↦ grind (arith, none)
-        | inr some ↦ (let g = goes day H e t at login mine closing shut x.request x.reply of some (uniform of (omega (arith, some))) in rw (of, g.concerns, g.after, g.before) (omega arith))
+        | inr some ↦ (let g = goes day H e t moment login mine closing shut x.request x.reply of some (uniform of (omega (arith, some))) in rw (of, g.concerns, g.after, g.before) (omega arith))
       ]
     ]
 
 -- what was granted to a transaction that the entry settles or releases was used on its login and day
-pub held_goes : (day : ℕ → ℕ) (H : List Entry) (e : Entry) (t : Transaction) (at : ℕ) (login : List ℕ) → is_of t e.request ≡ true → closes e.reply ≡ true → ended H t ≡ false → AllByRecursion (IsUniformAt t at login) H →
-    sum_by (unended_of day (H ++ e ∷ []) login (day at)) H + granted_in H t ≤ unended day H login (day at)
-held_goes day H e t at login mine closing shut uniform =
-    two_sums_le (IsUniformAt t at login) (unended_of day (H ++ e ∷ []) login (day at)) (held_of t) (unended_of day H login (day at)) (held_goes_at day H e t at login mine closing shut) H uniform
+pub held_goes : (day : ℕ → ℕ) (H : List Entry) (e : Entry) (t : Transaction) (moment : ℕ) (login : List ℕ) → is_of t e.request ≡ true → closes e.reply ≡ true → ended H t ≡ false → AllByRecursion (IsUniformAt t moment login) H →
+    sum_by (unended_of day (H ++ e ∷ []) login (day moment)) H + granted_in H t ≤ unended day H login (day moment)
+held_goes day H e t moment login mine closing shut uniform =
+    two_sums_le (IsUniformAt t moment login) (unended_of day (H ++ e ∷ []) login (day moment)) (held_of t) (unended_of day H login (day moment)) (held_goes_at day H e t moment login mine closing shut) H uniform

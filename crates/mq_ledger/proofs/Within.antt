@@ -47,38 +47,38 @@ at_most_there true n true = omega arith
 at_most_there true n false = omega arith
 at_most_there false n c = omega arith
 
-there_or_not : (day : ℕ → ℕ) (login l : List ℕ) (at d : ℕ) → ((same_text l login && (day at == d)) ≡ false) ⊎ ((l ≡ login) × (d ≡ day at))
-there_or_not day login l at d = elim (either (same_text l login && (day at == d))) [
+there_or_not : (day : ℕ → ℕ) (login l : List ℕ) (moment d : ℕ) → ((same_text l login && (day moment == d)) ≡ false) ⊎ ((l ≡ login) × (d ≡ day moment))
+there_or_not day login l moment d = elim (either (same_text l login && (day moment == d))) [
   | inr f ↦ inl f
-  | inl t ↦ inr (text_is l login (first_so (same_text l login) (day at == d) t), sym (number_is (day at) d (second_so (same_text l login) (day at == d) t)))
+  | inl t ↦ inr (text_is l login (first_so (same_text l login) (day moment == d) t), sym (number_is (day moment) d (second_so (same_text l login) (day moment == d) t)))
 ]
 
 -- a granted reserve adds its count on its login and day alone
-within_granted : (day : ℕ → ℕ) (default : ℕ) (H : List Entry) (id id' : Id) (txn at : ℕ) (login : List ℕ) (count n : ℕ) → used day H login (day at) + count ≤ cap default H login (day at) → StaysWithin day default H → StaysWithin day default (H ++ entry (Reserve id txn at login count) (Granted id' n) ∷ [])
+within_granted : (day : ℕ → ℕ) (default : ℕ) (H : List Entry) (id id' : Id) (txn moment : ℕ) (login : List ℕ) (count n : ℕ) → used day H login (day moment) + count ≤ cap default H login (day moment) → StaysWithin day default H → StaysWithin day default (H ++ entry (Reserve id txn moment login count) (Granted id' n) ∷ [])
 unfolding StaysWithin
-within_granted day default H id id' txn at login count n room h = λ l d.
-    let e : Entry = entry (Reserve id txn at login count) (Granted id' n) in
+within_granted day default H id id' txn moment login count n room h = λ l d.
+    let e : Entry = entry (Reserve id txn moment login count) (Granted id' n) in
     let same : cap default (H ++ e ∷ []) l d ≡ cap default H l d = cap_push_other default H l d e refl in
-    let own : unended_of day (H ++ e ∷ []) l d e ≤ (if same_text l login && (day at == d) then count else 0) = at_most_there (same_text l login && (day at == d)) count (not (ended (H ++ e ∷ []) (transaction id txn))) in
+    let own : unended_of day (H ++ e ∷ []) l d e ≤ (if same_text l login && (day moment == d) then count else 0) = at_most_there (same_text l login && (day moment == d)) count (not (ended (H ++ e ∷ []) (transaction id txn))) in
     let zero : counted_for day l d e ≡ 0 = grind arith in
-    let more : used day (H ++ e ∷ []) l d ≤ used day H l d + (if same_text l login && (day at == d) then count else 0) = omega (arith, own, zero, used_is day H l d, used_is day (H ++ e ∷ []) l d, counted_push day H e l d, unended_push day H e l d, unended_falls day H e l d) in
-    elim (there_or_not day login l at d) [
+    let more : used day (H ++ e ∷ []) l d ≤ used day H l d + (if same_text l login && (day moment == d) then count else 0) = omega (arith, own, zero, used_is day H l d, used_is day (H ++ e ∷ []) l d, counted_push day H e l d, unended_push day H e l d, unended_falls day H e l d) in
+    elim (there_or_not day login l moment d) [
       | inl f ↦ (let less : used day (H ++ e ∷ []) l d ≤ used day H l d + 0 = rw f at more in omega (arith, less, same, h l d))
       | inr p ↦ (let room' : used day H l d + count ≤ cap default H l d = (let P : List ℕ → ℕ → Type 0 = λ m k. used day H m k + count ≤ cap default H m k in subst (λ m. P m d) (sym p.0) (subst (λ k. P login k) (sym p.1) room)) in
-          let part : (if same_text l login && (day at == d) then count else 0) ≤ count = grind arith in omega (arith, more, same, room', part))
+          let part : (if same_text l login && (day moment == d) then count else 0) ≤ count = grind arith in omega (arith, more, same, room', part))
     ]
 
 -- a settled settle counts no more than what it takes from what was granted
-within_settled : (day : ℕ → ℕ) (default : ℕ) (H : List Entry) (id id' : Id) (txn at : ℕ) (login : List ℕ) (count n : ℕ) → AllByRecursion (IsUniformAt (transaction id txn) at login) H → ended H (transaction id txn) ≡ false → count ≤ granted_in H (transaction id txn) → StaysWithin day default H → StaysWithin day default (H ++ entry (Settle id txn at login count) (Settled id' n) ∷ [])
+within_settled : (day : ℕ → ℕ) (default : ℕ) (H : List Entry) (id id' : Id) (txn moment : ℕ) (login : List ℕ) (count n : ℕ) → AllByRecursion (IsUniformAt (transaction id txn) moment login) H → ended H (transaction id txn) ≡ false → count ≤ granted_in H (transaction id txn) → StaysWithin day default H → StaysWithin day default (H ++ entry (Settle id txn moment login count) (Settled id' n) ∷ [])
 unfolding StaysWithin
-within_settled day default H id id' txn at login count n uniform shut enough h = λ l d.
-    let e : Entry = entry (Settle id txn at login count) (Settled id' n) in
+within_settled day default H id id' txn moment login count n uniform shut enough h = λ l d.
+    let e : Entry = entry (Settle id txn moment login count) (Settled id' n) in
     let t : Transaction = transaction id txn in
     let same : cap default (H ++ e ∷ []) l d ≡ cap default H l d = cap_push_other default H l d e refl in
     let zero : unended_of day (H ++ e ∷ []) l d e ≡ 0 = grind arith in
-    elim (there_or_not day login l at d) [
+    elim (there_or_not day login l moment d) [
       | inl f ↦ (let none : counted_for day l d e ≡ 0 = grind (arith, f) in omega (arith, none, zero, same, h l d, used_is day H l d, used_is day (H ++ e ∷ []) l d, counted_push day H e l d, unended_push day H e l d, unended_falls day H e l d))
-      | inr p ↦ (let gone = held_goes day H e t at login (transaction_itself t) refl shut uniform in
+      | inr p ↦ (let gone = held_goes day H e t moment login (transaction_itself t) refl shut uniform in
           let gone' : sum_by (unended_of day (H ++ e ∷ []) l d) H + granted_in H t ≤ unended day H l d = (let P : List ℕ → ℕ → Type 0 = λ m k. sum_by (unended_of day (H ++ e ∷ []) m k) H + granted_in H t ≤ unended day H m k in subst (λ m. P m d) (sym p.0) (subst (λ k. P login k) (sym p.1) gone)) in
           let part : counted_for day l d e ≤ count = grind arith in
           omega (arith, part, zero, same, gone', h l d, used_is day H l d, used_is day (H ++ e ∷ []) l d, counted_push day H e l d, unended_push day H e l d))
@@ -116,35 +116,35 @@ good_quiet day default H r a g s other agreed good = record {
   uniform = uniform_push H (entry r a) agreed good.uniform;
 }
 
-good_reserve : (day : ℕ → ℕ) (default : ℕ) (H : List Entry) (id : Id) (txn at : ℕ) (login : List ℕ) (count : ℕ) → IsGood day default H → (b : Bool) → agrees at login (named H (transaction id txn)) ≡ b → (s : Bool) → closed H (transaction id txn) ≡ s → (f : Bool) → nat_lt (cap default H login (day at)) (used day H login (day at) + count) ≡ f →
-    IsGoodWith day default H (Reserve id txn at login count) (if not b then Mismatch id else (if s then Closed id else (if f then Full id (used day H login (day at)) (cap default H login (day at)) else Granted id (used day H login (day at) + count))))
-good_reserve day default H id txn at login count good false eb s es f ef = good_quiet day default H _ _ refl refl (λ l d. refl) tt good
-good_reserve day default H id txn at login count good true eb true es f ef = good_quiet day default H _ _ refl refl (λ l d. refl) tt good
-good_reserve day default H id txn at login count good true eb false es true ef = good_quiet day default H _ _ refl refl (λ l d. refl) tt good
-good_reserve day default H id txn at login count good true eb false es false ef = record {
-  within = within_granted day default H id id txn at login count (used day H login (day at) + count) (grind (arith, nat_tests, ef)) good.within;
-  uniform = uniform_push H (entry (Reserve id txn at login count) (Granted id (used day H login (day at) + count))) eb good.uniform;
+good_reserve : (day : ℕ → ℕ) (default : ℕ) (H : List Entry) (id : Id) (txn moment : ℕ) (login : List ℕ) (count : ℕ) → IsGood day default H → (b : Bool) → agrees moment login (named H (transaction id txn)) ≡ b → (s : Bool) → closed H (transaction id txn) ≡ s → (f : Bool) → nat_lt (cap default H login (day moment)) (used day H login (day moment) + count) ≡ f →
+    IsGoodWith day default H (Reserve id txn moment login count) (if not b then Mismatch id else (if s then Closed id else (if f then Full id (used day H login (day moment)) (cap default H login (day moment)) else Granted id (used day H login (day moment) + count))))
+good_reserve day default H id txn moment login count good false eb s es f ef = good_quiet day default H _ _ refl refl (λ l d. refl) tt good
+good_reserve day default H id txn moment login count good true eb true es f ef = good_quiet day default H _ _ refl refl (λ l d. refl) tt good
+good_reserve day default H id txn moment login count good true eb false es true ef = good_quiet day default H _ _ refl refl (λ l d. refl) tt good
+good_reserve day default H id txn moment login count good true eb false es false ef = record {
+  within = within_granted day default H id id txn moment login count (used day H login (day moment) + count) (grind (arith, nat_tests, ef)) good.within;
+  uniform = uniform_push H (entry (Reserve id txn moment login count) (Granted id (used day H login (day moment) + count))) eb good.uniform;
 }
 
-good_settle : (day : ℕ → ℕ) (default : ℕ) (H : List Entry) (id : Id) (txn at : ℕ) (login : List ℕ) (count : ℕ) → IsGood day default H → (b : Bool) → agrees at login (named H (transaction id txn)) ≡ b → (s : Bool) → closed H (transaction id txn) ≡ s → (f : Bool) → nat_lt (held H (transaction id txn)) count ≡ f →
-    IsGoodWith day default H (Settle id txn at login count) (if not b then Mismatch id else (if s then Closed id else (if f then TooMany id (held H (transaction id txn)) else Settled id count)))
-good_settle day default H id txn at login count good false eb s es f ef = good_quiet day default H _ _ refl refl (λ l d. refl) tt good
-good_settle day default H id txn at login count good true eb true es f ef = good_quiet day default H _ _ refl refl (λ l d. refl) tt good
-good_settle day default H id txn at login count good true eb false es true ef = good_quiet day default H _ _ refl refl (λ l d. refl) tt good
-good_settle day default H id txn at login count good true eb false es false ef =
+good_settle : (day : ℕ → ℕ) (default : ℕ) (H : List Entry) (id : Id) (txn moment : ℕ) (login : List ℕ) (count : ℕ) → IsGood day default H → (b : Bool) → agrees moment login (named H (transaction id txn)) ≡ b → (s : Bool) → closed H (transaction id txn) ≡ s → (f : Bool) → nat_lt (held H (transaction id txn)) count ≡ f →
+    IsGoodWith day default H (Settle id txn moment login count) (if not b then Mismatch id else (if s then Closed id else (if f then TooMany id (held H (transaction id txn)) else Settled id count)))
+good_settle day default H id txn moment login count good false eb s es f ef = good_quiet day default H _ _ refl refl (λ l d. refl) tt good
+good_settle day default H id txn moment login count good true eb true es f ef = good_quiet day default H _ _ refl refl (λ l d. refl) tt good
+good_settle day default H id txn moment login count good true eb false es true ef = good_quiet day default H _ _ refl refl (λ l d. refl) tt good
+good_settle day default H id txn moment login count good true eb false es false ef =
     let t : Transaction = transaction id txn in
     let have : held H t ≡ granted_in H t = rw es refl in
     let enough : count ≤ held H t = grind (arith, nat_tests, ef) in
     record {
-      within = within_settled day default H id id txn at login count count (good.uniform t at login eb) (neither_second (has_retired_run H t) (ended H t) es) (omega (arith, have, enough)) good.within;
-      uniform = uniform_push H (entry (Settle id txn at login count) (Settled id count)) eb good.uniform;
+      within = within_settled day default H id id txn moment login count count (good.uniform t moment login eb) (neither_second (has_retired_run H t) (ended H t) es) (omega (arith, have, enough)) good.within;
+      uniform = uniform_push H (entry (Settle id txn moment login count) (Settled id count)) eb good.uniform;
     }
 
-good_release : (day : ℕ → ℕ) (default : ℕ) (H : List Entry) (id : Id) (txn at : ℕ) (login : List ℕ) → IsGood day default H → (b s : Bool) →
-    IsGoodWith day default H (Release id txn at login) (if not b then Mismatch id else (if s then Closed id else Released id (held H (transaction id txn))))
-good_release day default H id txn at login good false s = good_quiet day default H _ _ refl refl (λ l d. refl) tt good
-good_release day default H id txn at login good true true = good_quiet day default H _ _ refl refl (λ l d. refl) tt good
-good_release day default H id txn at login good true false = good_quiet day default H _ _ refl refl (λ l d. refl) tt good
+good_release : (day : ℕ → ℕ) (default : ℕ) (H : List Entry) (id : Id) (txn moment : ℕ) (login : List ℕ) → IsGood day default H → (b s : Bool) →
+    IsGoodWith day default H (Release id txn moment login) (if not b then Mismatch id else (if s then Closed id else Released id (held H (transaction id txn))))
+good_release day default H id txn moment login good false s = good_quiet day default H _ _ refl refl (λ l d. refl) tt good
+good_release day default H id txn moment login good true true = good_quiet day default H _ _ refl refl (λ l d. refl) tt good
+good_release day default H id txn moment login good true false = good_quiet day default H _ _ refl refl (λ l d. refl) tt good
 
 good_limit : (day : ℕ → ℕ) (default : ℕ) (H : List Entry) (id : Id) (from c : ℕ) (login : List ℕ) → IsGood day default H → (o : Option ℕ) → over day H login from c ≡ o → IsGoodWith day default H (Limit id from c login) (set_or_over day H id login o)
 good_limit day default H id from c login good None e = record {
@@ -155,9 +155,9 @@ good_limit day default H id from c login good (Some d) e = good_quiet day defaul
 
 -- one more request keeps it
 pub good_step : (day : ℕ → ℕ) (default : ℕ) (H : List Entry) (r : Request) → IsGood day default H → IsGood day default (appended day default H r)
-good_step day default H (Reserve id txn at login count) good = good_reserve day default H id txn at login count good _ refl _ refl _ refl
-good_step day default H (Settle id txn at login count) good = good_settle day default H id txn at login count good _ refl _ refl _ refl
-good_step day default H (Release id txn at login) good = good_release day default H id txn at login good _ _
+good_step day default H (Reserve id txn moment login count) good = good_reserve day default H id txn moment login count good _ refl _ refl _ refl
+good_step day default H (Settle id txn moment login count) good = good_settle day default H id txn moment login count good _ refl _ refl _ refl
+good_step day default H (Release id txn moment login) good = good_release day default H id txn moment login good _ _
 good_step day default H (Limit id from c login) good = good_limit day default H id from c login good _ refl
 good_step day default H (Usage login d) good = good_quiet day default H _ _ refl refl (λ l d. refl) tt good
 good_step day default H (ListRequest d after) good = good_quiet day default H _ _ refl refl (λ l d. refl) tt good
@@ -169,7 +169,7 @@ good_steps day default H (r ∷ rs) good = good_steps day default (appended day 
 
 good_empty : (day : ℕ → ℕ) (default : ℕ) → IsGood day default []
 unfolding StaysWithin
-good_empty day default = record { within = λ l d. omega arith; uniform = λ t at login ok. tt }
+good_empty day default = record { within = λ l d. omega arith; uniform = λ t moment login ok. tt }
 
 pub good_build : (day : ℕ → ℕ) (default : ℕ) (rs : List Request) → IsGood day default (build day default rs)
 good_build day default rs = good_steps day default [] rs (good_empty day default)

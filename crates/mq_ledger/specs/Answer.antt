@@ -22,8 +22,8 @@ use Rattle.mq_ledger.specs.Page.{page, row}
 -- Mismatch where the transaction is named with another login or moment, Closed where it is closed,
 -- else that reply
 abbrev pub if_open : List Entry → Id → ℕ → ℕ → List ℕ → Reply → Reply
-if_open H id txn at login a =
-    if not (agrees at login (named H (transaction id txn))) then Mismatch id
+if_open H id txn moment login a =
+    if not (agrees moment login (named H (transaction id txn))) then Mismatch id
     else (if closed H (transaction id txn) then Closed id else a)
 
 -- a reserve of that count, where n is used already
@@ -41,12 +41,12 @@ set_or_over day H id login (Some d) = Over id d (used day H login d)
 
 -- the answer to a request whose number isn't in H
 abbrev pub answer : (ℕ → ℕ) → ℕ → List Entry → Request → Reply
-answer day default H (Reserve id txn at login count) =
-    if_open H id txn at login (granted_or_full id (used day H login (day at)) (cap default H login (day at)) count)
-answer day default H (Settle id txn at login count) =
-    if_open H id txn at login (settled_or_too_many id (held H (transaction id txn)) count)
-answer day default H (Release id txn at login) =
-    if_open H id txn at login (Released id (held H (transaction id txn)))
+answer day default H (Reserve id txn moment login count) =
+    if_open H id txn moment login (granted_or_full id (used day H login (day moment)) (cap default H login (day moment)) count)
+answer day default H (Settle id txn moment login count) =
+    if_open H id txn moment login (settled_or_too_many id (held H (transaction id txn)) count)
+answer day default H (Release id txn moment login) =
+    if_open H id txn moment login (Released id (held H (transaction id txn)))
 answer day default H (Limit id from_day asked login) =
     set_or_over day H id login (over day H login from_day asked)
 answer day default H (Usage login d) =

@@ -10,9 +10,9 @@ use Rattle.mq_frame.specs.Same.{same_text, same_id}
 
 -- the number of a request: usage and list have none
 abbrev pub id_of : Request → Option Id
-id_of (Reserve id txn at login count) = Some id
-id_of (Settle id txn at login count) = Some id
-id_of (Release id txn at login) = Some id
+id_of (Reserve id txn moment login count) = Some id
+id_of (Settle id txn moment login count) = Some id
+id_of (Release id txn moment login) = Some id
 id_of (Limit id from_day cap login) = Some id
 id_of (Usage login day) = None
 id_of (ListRequest day after) = None

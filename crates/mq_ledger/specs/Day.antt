@@ -43,25 +43,25 @@ natural (negsuc n) = 0
 
 -- what a clock at that offset shows at the moment, in seconds since 1970-01-01 on that clock
 abbrev pub clock : ℤ → ℕ → ℤ
-clock minutes at = pos at +ℤ (pos 60 *ℤ minutes)
+clock minutes moment = pos moment +ℤ (pos 60 *ℤ minutes)
 
 -- what a clock that goes by the rule shows
 abbrev pub rule_clock : List ℕ → ℕ → ℤ
-rule_clock text at = pos at +ℤ ahead text (nanos_of_seconds (pos at))
+rule_clock text moment = pos moment +ℤ ahead text (nanos_of_seconds (pos moment))
 
 -- a day number, from the first to the last day of a ledger
 abbrev pub limited : ℤ → ℕ
 limited (pos day) = min day 376200
 limited (negsuc day) = 0
 
--- with an offset floor((at + 60 minutes) / 86400); with a rule the whole days that its clock shows, limited
+-- with an offset floor((moment + 60 minutes) / 86400); with a rule the whole days that its clock shows, limited
 abbrev pub day_of : Days → ℕ → ℕ
-day_of (ByOffset minutes) at = natural (clock minutes at) / 86400
-day_of (ByRule text) at = limited (int_div_euclid (rule_clock text at) (pos 86400))
+day_of (ByOffset minutes) moment = natural (clock minutes moment) / 86400
+day_of (ByRule text) moment = limited (int_div_euclid (rule_clock text moment) (pos 86400))
 
 -- a rule for days gives each moment in range a day in range
 abbrev pub IsDayRule : (ℕ → ℕ) → Type 0
-IsDayRule day = (at : ℕ) → IsMoment at → IsDay (day at)
+IsDayRule day = (moment : ℕ) → IsMoment moment → IsDay (day moment)
 
 -- the rule of most of Europe: an hour ahead of UTC, and two from the last Sunday of March to that of October
 abbrev pub central_europe : Days

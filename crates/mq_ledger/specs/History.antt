@@ -35,9 +35,9 @@ same_transaction t u = same_text t.host u.host && ((t.run == u.run) && (t.txn ==
 
 -- the request is a reserve, settle or release of the transaction
 abbrev pub is_of : Transaction → Request → Bool
-is_of t (Reserve id txn at login count) = same_transaction t (transaction id txn)
-is_of t (Settle id txn at login count) = same_transaction t (transaction id txn)
-is_of t (Release id txn at login) = same_transaction t (transaction id txn)
+is_of t (Reserve id txn moment login count) = same_transaction t (transaction id txn)
+is_of t (Settle id txn moment login count) = same_transaction t (transaction id txn)
+is_of t (Release id txn moment login) = same_transaction t (transaction id txn)
 is_of t (Limit id from_day cap login) = false
 is_of t (Usage login day) = false
 is_of t (ListRequest day after) = false
@@ -45,13 +45,13 @@ is_of t (Retire id) = false
 
 -- the request is a reserve, settle or release of that moment and login
 abbrev pub is_at : ℕ → List ℕ → Request → Bool
-is_at at login (Reserve id txn at' login' count) = (at == at') && same_text login login'
-is_at at login (Settle id txn at' login' count) = (at == at') && same_text login login'
-is_at at login (Release id txn at' login') = (at == at') && same_text login login'
-is_at at login (Limit id from_day cap login') = false
-is_at at login (Usage login' day) = false
-is_at at login (ListRequest day after) = false
-is_at at login (Retire id) = false
+is_at moment login (Reserve id txn moment' login' count) = (moment == moment') && same_text login login'
+is_at moment login (Settle id txn moment' login' count) = (moment == moment') && same_text login login'
+is_at moment login (Release id txn moment' login') = (moment == moment') && same_text login login'
+is_at moment login (Limit id from_day cap login') = false
+is_at moment login (Usage login' day) = false
+is_at moment login (ListRequest day after) = false
+is_at moment login (Retire id) = false
 
 -- the first entry of the transaction, whatever its reply: it gives the login and the moment
 abbrev pub named : List Entry → Transaction → Option Entry
@@ -59,8 +59,8 @@ named H t = find (λ e. is_of t e.request) H
 
 -- no entry named another login or moment
 abbrev pub agrees : ℕ → List ℕ → Option Entry → Bool
-agrees at login None = true
-agrees at login (Some e) = is_at at login e.request
+agrees moment login None = true
+agrees moment login (Some e) = is_at moment login e.request
 
 -- Settled or Released
 abbrev pub closes : Reply → Bool
@@ -90,18 +90,18 @@ abbrev pub abandoned : List Entry → Transaction → Bool
 abandoned H t = has_retired_run H t && not (ended H t)
 
 -- the transaction is open to requests of that moment and login
-pub record IsOpenTo (at : ℕ) (login : List ℕ) (H : List Entry) (t : Transaction) : Type 0 where
-  pub agreed : agrees at login (named H t) ≡ true
+pub record IsOpenTo (moment : ℕ) (login : List ℕ) (H : List Entry) (t : Transaction) : Type 0 where
+  pub agreed : agrees moment login (named H t) ≡ true
   pub open_still : closed H t ≡ false
 
 -- the count of a granted reserve
 abbrev pub granted : Request → Reply → ℕ
-granted (Reserve id txn at login count) (Granted id' used) = count
+granted (Reserve id txn moment login count) (Granted id' used) = count
 granted _ _ = 0
 
 -- the count of a settled settle
 abbrev pub counted : Request → Reply → ℕ
-counted (Settle id txn at login count) (Settled id' count') = count
+counted (Settle id txn moment login count) (Settled id' count') = count
 counted _ _ = 0
 
 -- the sum of counts of the transaction's granted reserves
@@ -122,13 +122,13 @@ settled_in H t = counted_in H t + (if abandoned H t then granted_in H t else 0)
 
 -- the request is a reserve or settle of that login and day
 abbrev pub concerns : (ℕ → ℕ) → List ℕ → ℕ → Request → Bool
-concerns day l d (Reserve id txn at login count) = same_text l login && (day at == d)
-concerns day l d (Settle id txn at login count) = same_text l login && (day at == d)
+concerns day l d (Reserve id txn moment login count) = same_text l login && (day moment == d)
+concerns day l d (Settle id txn moment login count) = same_text l login && (day moment == d)
 concerns day l d _ = false
 
 -- the request is a reserve whose transaction isn't closed in H
 abbrev pub is_open : List Entry → Request → Bool
-is_open H (Reserve id txn at login count) = not (closed H (transaction id txn))
+is_open H (Reserve id txn moment login count) = not (closed H (transaction id txn))
 is_open H _ = false
 
 -- what the entry reserves of that login and day, as H stands
@@ -137,7 +137,7 @@ reserved_of day H l d e = if concerns day l d e.request && is_open H e.request t
 
 -- the request is a reserve whose transaction a retire alone closed in H
 abbrev pub is_abandoned : List Entry → Request → Bool
-is_abandoned H (Reserve id txn at login count) = abandoned H (transaction id txn)
+is_abandoned H (Reserve id txn moment login count) = abandoned H (transaction id txn)
 is_abandoned H _ = false
 
 -- what the entry settles of that login and day, as H stands
@@ -166,7 +166,7 @@ gained day l d r a = if concerns day l d r then granted r a else 0
 
 -- the request is a reserve of a run that the other retires
 abbrev pub is_retired_by : Request → Request → Bool
-is_retired_by r (Reserve id txn at login count) = retires r (transaction id txn)
+is_retired_by r (Reserve id txn moment login count) = retires r (transaction id txn)
 is_retired_by r _ = false
 
 -- what of that login and day is reserved by the runs that a request retires
@@ -176,16 +176,16 @@ reserved_by_retired day H l d r = sum_by (λ e. if is_retired_by r e.request the
 -- what an entry after H ends of what the login has reserved on that day: what its transaction holds, where it
 -- closes it; of a retire what the runs that it retires have reserved
 abbrev pub freed : (ℕ → ℕ) → List Entry → List ℕ → ℕ → Request → Reply → ℕ
-freed day H l d (Settle id txn at login count) (Settled id' count') =
-    if same_text l login && (day at == d) then held H (transaction id txn) else 0
-freed day H l d (Release id txn at login) (Released id' n) =
-    if same_text l login && (day at == d) then held H (transaction id txn) else 0
+freed day H l d (Settle id txn moment login count) (Settled id' count') =
+    if same_text l login && (day moment == d) then held H (transaction id txn) else 0
+freed day H l d (Release id txn moment login) (Released id' n) =
+    if same_text l login && (day moment == d) then held H (transaction id txn) else 0
 freed day H l d (Retire id) (Retired id') = reserved_by_retired day H l d (Retire id)
 freed day H l d _ _ = 0
 
 -- what an entry after H settles of that login and day
 abbrev pub settles : (ℕ → ℕ) → List Entry → List ℕ → ℕ → Request → Reply → ℕ
-settles day H l d (Settle id txn at login count) (Settled id' count') =
-    if same_text l login && (day at == d) then count else 0
+settles day H l d (Settle id txn moment login count) (Settled id' count') =
+    if same_text l login && (day moment == d) then count else 0
 settles day H l d (Retire id) (Retired id') = reserved_by_retired day H l d (Retire id)
 settles day H l d _ _ = 0

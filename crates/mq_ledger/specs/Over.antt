@@ -12,10 +12,10 @@ use Rattle.mq_ledger.specs.History.{used}
 
 -- the day of the login's granted reserve or settled settle, where it is that day or a later one
 abbrev pub day_from : (ℕ → ℕ) → List ℕ → ℕ → Request → Reply → Option ℕ
-day_from day l from (Reserve id txn at login count) (Granted id' n) =
-    if same_text l login && nat_le from (day at) then Some (day at) else None
-day_from day l from (Settle id txn at login count) (Settled id' n) =
-    if same_text l login && nat_le from (day at) then Some (day at) else None
+day_from day l from (Reserve id txn moment login count) (Granted id' n) =
+    if same_text l login && nat_le from (day moment) then Some (day moment) else None
+day_from day l from (Settle id txn moment login count) (Settled id' n) =
+    if same_text l login && nat_le from (day moment) then Some (day moment) else None
 day_from day l from _ _ = None
 
 -- the days from that day on on which the login has any

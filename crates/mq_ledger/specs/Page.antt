@@ -20,7 +20,7 @@ below l m = is_lt (slice_cmp nat_cmp l m)
 
 -- the login of a granted reserve of that day
 abbrev pub login_on : (ℕ → ℕ) → ℕ → Request → Reply → Option (List ℕ)
-login_on day d (Reserve id txn at login count) (Granted id' used) = if day at == d then Some login else None
+login_on day d (Reserve id txn moment login count) (Granted id' used) = if day moment == d then Some login else None
 login_on day d _ _ = None
 
 -- the logins of the granted reserves of that day, in order of arrival

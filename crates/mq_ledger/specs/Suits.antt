@@ -11,23 +11,23 @@ use Rattle.mq_frame.specs.declared.message.Reply.TheVariants.{List as ListReply,
 -- The reply is one to such a request, and has its number: Granted and Full come to reserves alone, Settled and TooMany
 -- to settles, Released to releases, Retired to retires; Settled has the settle's count.
 abbrev pub Suits : Request → Reply → Type 0
-Suits (Reserve id txn at login count) (Granted id' used) = id' ≡ id
-Suits (Reserve id txn at login count) (Full id' used cap) = id' ≡ id
-Suits (Reserve id txn at login count) (Closed id') = id' ≡ id
-Suits (Reserve id txn at login count) (Mismatch id') = id' ≡ id
-Suits (Reserve id txn at login count) (Conflict id') = id' ≡ id
-Suits (Reserve id txn at login count) (Old id') = id' ≡ id
-Suits (Settle id txn at login count) (Settled id' count') = (id' ≡ id) × (count' ≡ count)
-Suits (Settle id txn at login count) (TooMany id' held) = id' ≡ id
-Suits (Settle id txn at login count) (Closed id') = id' ≡ id
-Suits (Settle id txn at login count) (Mismatch id') = id' ≡ id
-Suits (Settle id txn at login count) (Conflict id') = id' ≡ id
-Suits (Settle id txn at login count) (Old id') = id' ≡ id
-Suits (Release id txn at login) (Released id' held) = id' ≡ id
-Suits (Release id txn at login) (Closed id') = id' ≡ id
-Suits (Release id txn at login) (Mismatch id') = id' ≡ id
-Suits (Release id txn at login) (Conflict id') = id' ≡ id
-Suits (Release id txn at login) (Old id') = id' ≡ id
+Suits (Reserve id txn moment login count) (Granted id' used) = id' ≡ id
+Suits (Reserve id txn moment login count) (Full id' used cap) = id' ≡ id
+Suits (Reserve id txn moment login count) (Closed id') = id' ≡ id
+Suits (Reserve id txn moment login count) (Mismatch id') = id' ≡ id
+Suits (Reserve id txn moment login count) (Conflict id') = id' ≡ id
+Suits (Reserve id txn moment login count) (Old id') = id' ≡ id
+Suits (Settle id txn moment login count) (Settled id' count') = (id' ≡ id) × (count' ≡ count)
+Suits (Settle id txn moment login count) (TooMany id' held) = id' ≡ id
+Suits (Settle id txn moment login count) (Closed id') = id' ≡ id
+Suits (Settle id txn moment login count) (Mismatch id') = id' ≡ id
+Suits (Settle id txn moment login count) (Conflict id') = id' ≡ id
+Suits (Settle id txn moment login count) (Old id') = id' ≡ id
+Suits (Release id txn moment login) (Released id' held) = id' ≡ id
+Suits (Release id txn moment login) (Closed id') = id' ≡ id
+Suits (Release id txn moment login) (Mismatch id') = id' ≡ id
+Suits (Release id txn moment login) (Conflict id') = id' ≡ id
+Suits (Release id txn moment login) (Old id') = id' ≡ id
 Suits (Limit id from_day cap login) (LimitSet id') = id' ≡ id
 Suits (Limit id from_day cap login) (Over id' day used) = id' ≡ id
 Suits (Limit id from_day cap login) (Conflict id') = id' ≡ id

@@ -11,9 +11,9 @@ use Rattle.mq_ledger.specs.History.{Transaction, same_transaction, named, held, 
 
 -- the request is a reserve, settle or release of that login and day
 abbrev pub is_for : (ℕ → ℕ) → List ℕ → ℕ → Request → Bool
-is_for day l d (Reserve id txn at login count) = same_text l login && (day at == d)
-is_for day l d (Settle id txn at login count) = same_text l login && (day at == d)
-is_for day l d (Release id txn at login) = same_text l login && (day at == d)
+is_for day l d (Reserve id txn moment login count) = same_text l login && (day moment == d)
+is_for day l d (Settle id txn moment login count) = same_text l login && (day moment == d)
+is_for day l d (Release id txn moment login) = same_text l login && (day moment == d)
 is_for day l d (Limit id from_day cap login) = false
 is_for day l d (Usage login day') = false
 is_for day l d (ListRequest day' after) = false

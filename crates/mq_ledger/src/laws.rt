@@ -116,19 +116,19 @@ pub fn replies_in_range()
 
 /// At an offset the day of a moment is the floor of the clock's seconds over 86,400.
 pub fn day_is_the_floor()
-    ensures { (minutes : ℤ) (at : ℕ) → IsOffset minutes → IsMoment at →
-        (pos (86400 * day_of (ByOffset minutes) at) ≤ℤ clock minutes at)
-        × (clock minutes at <ℤ pos (86400 * (day_of (ByOffset minutes) at + 1))) }
+    ensures { (minutes : ℤ) (moment : ℕ) → IsOffset minutes → IsMoment moment →
+        (pos (86400 * day_of (ByOffset minutes) moment) ≤ℤ clock minutes moment)
+        × (clock minutes moment <ℤ pos (86400 * (day_of (ByOffset minutes) moment + 1))) }
 {}
 
 /// With a rule the day of a moment is that of the civil date that `jiff` shows: in whatever zone it
 /// reads from the rule's text, at that instant, the day number of the date, limited.
 pub fn day_of_the_civil_date()
-    ensures { (text : List ℕ) (zone : AnyTimeZone) (at : ℕ) (shown : AnyDateTime) →
+    ensures { (text : List ℕ) (zone : AnyTimeZone) (moment : ℕ) (shown : AnyDateTime) →
         IsPosixZone text zone →
-        civil_nanos shown ≡ nanos_of_seconds (pos at)
-        +ℤ nanos_of_seconds (offset_at zone (nanos_of_seconds (pos at))) →
-        day_of (ByRule text) at ≡ limited (epoch_day shown.date) }
+        civil_nanos shown ≡ nanos_of_seconds (pos moment)
+        +ℤ nanos_of_seconds (offset_at zone (nanos_of_seconds (pos moment))) →
+        day_of (ByRule text) moment ≡ limited (epoch_day shown.date) }
 {}
 
 /// Days of Central Europe: in winter, in summer, and around a day of 23 hours.
@@ -267,11 +267,11 @@ pub fn sums_over_transactions()
 /// is settled there, and only a login and day with a granted reserve has used any.
 pub fn used_where_reserved()
     ensures held { (day : ℕ → ℕ) (default : ℕ) (H : List AnyEntry) (t : Transaction)
-        (at : ℕ) (login : List ℕ) → IsLegal day default H → agrees at login (named H t) ≡ true →
-        held H t ≤ reserved day H login (day at) }
+        (moment : ℕ) (login : List ℕ) → IsLegal day default H → agrees moment login (named H t) ≡ true →
+        held H t ≤ reserved day H login (day moment) }
     ensures settled { (day : ℕ → ℕ) (default : ℕ) (H : List AnyEntry) (t : Transaction)
-        (at : ℕ) (login : List ℕ) → IsLegal day default H → agrees at login (named H t) ≡ true →
-        settled_in H t ≤ settled day H login (day at) }
+        (moment : ℕ) (login : List ℕ) → IsLegal day default H → agrees moment login (named H t) ≡ true →
+        settled_in H t ≤ settled day H login (day moment) }
     ensures none { (day : ℕ → ℕ) (default : ℕ) (H : List AnyEntry) (l : List ℕ) (d : ℕ) →
         IsLegal day default H → has_reserve day H d l ≡ false →
         (reserved day H l d ≡ 0) × (settled day H l d ≡ 0) }

@@ -93,13 +93,13 @@ impl Eq for Zone {
 /// The ledger day of a moment on a clock so many minutes east of UTC.
 ///
 /// A ledger in memory asks for a day at each entry that it looks back at, so no civil date is made of it.
-fn day_at_offset(minutes: i32, at: u64) -> u32
+fn day_at_offset(minutes: i32, moment: u64) -> u32
     requires offset { IsOffset minutes }
-    requires moment { IsMoment at }
-    ensures { result ≡ day_of (ByOffset minutes) at }
+    requires moment { IsMoment moment }
+    ensures { result ≡ day_of (ByOffset minutes) moment }
 {
     // (a moment lies a day or more after 1970-01-01, so no clock shows less than a minute since then)
-    let shown = at as i64 + i64::from(minutes * 60);
+    let shown = moment as i64 + i64::from(minutes * 60);
     (shown / DAY_SECONDS) as u32
 }
 
@@ -137,12 +137,12 @@ fn limited(day: i64) -> u32
 }
 
 /// The ledger day of a moment on a clock that goes by the rule.
-fn day_by_rule(text: &str, at: u64) -> u32
+fn day_by_rule(text: &str, moment: u64) -> u32
     requires rule { IsRule text.now }
-    requires moment { IsMoment at }
-    ensures { result ≡ day_of (ByRule text.now) at }
+    requires moment { IsMoment moment }
+    ensures { result ≡ day_of (ByRule text.now) moment }
 {
-    let shown = shown_by_rule(text, Timestamp::constant(at as i64, 0));
+    let shown = shown_by_rule(text, Timestamp::constant(moment as i64, 0));
     limited(day_number(shown.date()))
 }
 
@@ -218,25 +218,25 @@ impl Zone {
     }
 
     /// The ledger day of a moment: the day number since 1970-01-01 of the date that a clock in the
-    /// zone shows, from 0 to 376,200. `at` is seconds since 1970-01-01T00:00:00Z.
-    pub fn day_at(&self, at: u64) -> u32
-        requires { IsMoment at }
-        ensures value { result ≡ day_of self.now at }
+    /// zone shows, from 0 to 376,200. `moment` is seconds since 1970-01-01T00:00:00Z.
+    pub fn day_at(&self, moment: u64) -> u32
+        requires { IsMoment moment }
+        ensures value { result ≡ day_of self.now moment }
         ensures in_range { IsDay result }
     {
         match &self.kind {
-            Kind::Offset(minutes) => day_at_offset(*minutes, at),
-            Kind::Rule { bytes, len } => day_by_rule(text_of(&bytes[..*len as usize]), at),
+            Kind::Offset(minutes) => day_at_offset(*minutes, moment),
+            Kind::Rule { bytes, len } => day_by_rule(text_of(&bytes[..*len as usize]), moment),
         }
     }
 
     /// The same. It never wants memory.
-    pub fn day(&self, at: u64) -> Result<u32, Memory>
-        requires { IsMoment at }
+    pub fn day(&self, moment: u64) -> Result<u32, Memory>
+        requires { IsMoment moment }
         ensures always { IsOk result }
-        ensures value { IfOk result (λ day. day ≡ day_of self.now at) }
+        ensures value { IfOk result (λ day. day ≡ day_of self.now moment) }
         ensures in_range { IfOk result IsDay }
     {
-        Ok(self.day_at(at))
+        Ok(self.day_at(moment))
     }
 }

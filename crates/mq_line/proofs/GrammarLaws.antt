@@ -11,8 +11,8 @@ use Rattle.std.proofs.lemmas.Slice.Eq.{bytes_eq-Decides}
 use Rattle.mq_line.specs.Pieces.{fields, fields_left, joined}
 use Rattle.mq_line.specs.Grammar.{Meaning, ConfigLine, ReadyLine, ReportLine, FilterLine, OtherLine, IsStamp, stamp_fault, config_fault, report_fault, filter_fault, first_fault, seconds_of, Means, meaning}
 use Rattle.mq_line.specs.declared.reading.Line.{Line}
-use Rattle.mq_line.specs.declared.faults.LineFault.{LineFault}
-use Rattle.mq_line.specs.declared.faults.LineFault.TheVariants.{Short, Version, Time, EmptyField}
+use Rattle.mq_line.specs.declared.fault.LineFault.{LineFault}
+use Rattle.mq_line.specs.declared.fault.LineFault.TheVariants.{Short, Version, Time, EmptyField}
 use Rattle.mq_line.proofs.PieceLaws.{some_piece}
 
 -- a config line that has a value

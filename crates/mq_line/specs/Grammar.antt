@@ -8,8 +8,8 @@ use Rattle.std.specs.Str.Parse.{digits_value}
 use Rattle.mq_line.specs.Pieces.{pieces, fields, joined}
 use Rattle.mq_line.specs.declared.reading.Line.{Line}
 use Rattle.mq_line.specs.declared.reading.Line.TheVariants.{Config, Ready, Report, Filter, Other}
-use Rattle.mq_line.specs.declared.faults.LineFault.{LineFault}
-use Rattle.mq_line.specs.declared.faults.LineFault.TheVariants.{Short, Version, Time, EmptyField}
+use Rattle.mq_line.specs.declared.fault.LineFault.{LineFault}
+use Rattle.mq_line.specs.declared.fault.LineFault.TheVariants.{Short, Version, Time, EmptyField}
 
 -- what a line says, by the bytes of its parts
 pub data Meaning : Type 0 where

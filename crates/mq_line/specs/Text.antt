@@ -4,7 +4,7 @@ use Rattle.std.specs.Prelude.{Option, None, Some, Result, Ok, Err}
 use Rattle.std.specs.List.{AllByRecursion, join_with_byte}
 use Rattle.std.specs.Borrow.{Bor}
 use Rattle.mq_line.specs.Pieces.{pieces, Lacks}
-use Rattle.mq_line.specs.declared.faults.FeedFault.{FeedFault}
+use Rattle.mq_line.specs.declared.fault.FeedFault.{FeedFault}
 
 -- the most bytes of a line, its LF not counted
 abbrev pub max_line : ℕ

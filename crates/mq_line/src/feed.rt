@@ -8,7 +8,7 @@ ghost use Rattle.mq_line.specs.Text.{IsLine, IsTooLong, Holds, Leaves, HasNoLine
 ghost use Rattle.mq_line.specs.Search.{IsSearched, IsFront};
 ghost use Rattle.mq_line.specs.contracts.feed.LineFeed.{the_row};
 
-use crate::faults::{FeedFault, Memory};
+use crate::fault::{FeedFault, Memory};
 use bstr::ByteSlice;
 use std::alloc::Global;
 use std::marker::Model;

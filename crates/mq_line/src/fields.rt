@@ -1,9 +1,9 @@
 //! The fields of a line, which bars part.
 ghost use Rattle.std.specs.Prelude.{◌≡◌, ◌<◌, ◌∷◌, ◌++◌, [], ℕ, List, MatchResult, length};
 ghost use Rattle.mq_line.specs.Pieces.{fields, fields_left, joined};
-ghost use Rattle.mq_line.specs.declared.faults.LineFault.TheVariants.{Short};
+ghost use Rattle.mq_line.specs.declared.fault.LineFault.TheVariants.{Short};
 
-use crate::faults::LineFault;
+use crate::fault::LineFault;
 use bstr::ByteSlice;
 
 /// The first field, and what stands after its bar where it has one.

@@ -13,7 +13,7 @@
 //! `specs/Grammar.antt`, what a line means and which fault it has, and `reading.rt`. docs/LINES.md has the protocol.
 #![tactic(auto)]
 
-mod faults;
+mod fault;
 mod feed;
 mod fields;
 mod laws;
@@ -21,7 +21,7 @@ mod parameters;
 mod reading;
 mod results;
 
-pub use faults::{FeedFault, LineFault, Memory};
+pub use fault::{FeedFault, LineFault, Memory};
 pub use feed::{LineFeed, MAX_LINE};
 pub use laws::{any_cutting, one_meaning, one_splitting};
 pub use parameters::{AuthResult, auth_of, message_of};

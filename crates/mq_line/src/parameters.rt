@@ -2,7 +2,7 @@
 ghost use Rattle.std.specs.Prelude.{◌≡◌, Option};
 ghost use Rattle.std.specs.Option.{option_map, option_copied};
 ghost use Rattle.mq_line.specs.Pieces.{fields};
-ghost use Rattle.mq_line.specs.Parameters.{result_of as result_lem, auth_at_end as end_lem, auth, message};
+ghost use Rattle.mq_line.specs.Parameters.{result_of as result_of_lem, auth_at_end as auth_at_end_lem, auth, message};
 
 use crate::fields::{first_field, last_field, rest_of};
 
@@ -16,7 +16,7 @@ pub enum AuthResult {
 
 /// The result that a word stands for.
 fn result_of(word: &[u8]) -> Option<AuthResult>
-    ensures { result ≡ result_lem word.now }
+    ensures { result ≡ result_of_lem word.now }
 {
     if word == b"pass".as_slice() {
         Some(AuthResult::Pass)
@@ -31,7 +31,7 @@ fn result_of(word: &[u8]) -> Option<AuthResult>
 
 /// The result and the user name where the result stands last.
 fn auth_at_end<'a>(params: &'a [u8]) -> Option<(AuthResult, &'a [u8])>
-    ensures { option_map (λ found. (found.0, found.1.now)) result ≡ end_lem (fields params.now) }
+    ensures { option_map (λ found. (found.0, found.1.now)) result ≡ auth_at_end_lem (fields params.now) }
 {
     let (name, last) = last_field(params);
     match result_of(last) {

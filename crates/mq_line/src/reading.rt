@@ -5,10 +5,10 @@ ghost use Rattle.std.specs.List.{list_all, list_any};
 ghost use Rattle.std.specs.Char.{is_ascii_digit};
 ghost use Rattle.mq_line.specs.Pieces.{fields_left};
 ghost use Rattle.mq_line.specs.Grammar.{Meaning, meaning, Means, Reads, fault as fault_lem};
-ghost use Rattle.mq_line.specs.Grammar.{is_number, max_fraction_digits, seconds_of as seconds_lem};
+ghost use Rattle.mq_line.specs.Grammar.{is_number, max_fraction_digits, seconds_of as seconds_of_lem};
 ghost use Rattle.mq_line.specs.Grammar.{IsStamp, stamp_fault, config_fault, report_fault, filter_fault};
 
-use crate::faults::LineFault;
+use crate::fault::LineFault;
 use crate::fields::{first_field, next_field, next_three, rest_of};
 
 /// A line of smtpd, taken apart. Its parts are slices of the line, byte for byte.
@@ -70,7 +70,7 @@ fn is_fraction(digits: &[u8]) -> bool
 
 /// The seconds of a time such as `1576146008.006099`. The part after the point isn't used.
 fn seconds_of(time: &[u8]) -> Option<u64>
-    ensures { result ≡ seconds_lem time.now }
+    ensures { result ≡ seconds_of_lem time.now }
 {
     let mut seconds = 0;
     for (place, byte) in time.iter().enumerate() {

@@ -2,7 +2,7 @@
 ghost use Rattle.std.specs.Prelude.{◌≡◌, ◌+◌, ◌<◌, ◌++◌, OnOk, OnErr, length, vec_capacity, vec_len, take};
 ghost use Rattle.mq_line.specs.Results.{registration, answer as answer_lem, in_a_row, result_text};
 
-use crate::faults::Memory;
+use crate::fault::Memory;
 
 /// What smtpd is to do with a request of a filter line.
 #[derive(Clone, Copy, Debug, PartialEq, Eq)]

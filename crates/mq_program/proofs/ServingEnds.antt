@@ -1,8 +1,8 @@
 -- The end of a serving, as the program reports it.
 use Rattle.std.proofs.Common.{◌≡◌, ◌∙◌, ℕ, Result, Ok, Err, sym}
-use Rattle.mq_room.specs.declared.fault.RoomFault.{RoomFault}
-use Rattle.mq_room.specs.declared.fault.RoomFault.TheVariants.{Store}
-use Rattle.mq_room.specs.Sessions.{EndsServing, Outside}
+use Rattle.mq_connections.specs.declared.fault.RoomFault.{RoomFault}
+use Rattle.mq_connections.specs.declared.fault.RoomFault.TheVariants.{Store}
+use Rattle.mq_connections.specs.Sessions.{EndsServing, Outside}
 use Rattle.mq_program.specs.declared.fault.ProgramFault.{ProgramFault}
 use Rattle.mq_program.specs.declared.fault.ProgramFault.TheVariants.{Listen, Serve}
 

@@ -106,11 +106,11 @@ fn link_to<'a, R: Clock + Net, G: Log>(
 
 /// The first number of a run.
 fn first_id(alloc: Global, host: &str, run: u64) -> Result<Id, AllocError>
-    ensures { IfOk result (λ id. id ≡ record { host = host.now; run = run; seq = 1 }) }
+    ensures { IfOk result (λ id. id ≡ record { host = host.now; run = run; number = 1 }) }
 {
     Ok(Id {
         host: Host::from_slice(alloc, host.as_bytes())?,
         run,
-        seq: 1,
+        number: 1,
     })
 }

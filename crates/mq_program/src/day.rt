@@ -35,16 +35,16 @@ fn moment_of_clock(rt: &impl Clock) -> Option<u64>
 }
 
 /// The given moment, or the clock's.
-pub(crate) fn moment(rt: &impl Clock, given: Option<u64>) -> Result<u64, ProgramFault>
+pub(crate) fn moment_or_now(rt: &impl Clock, given: Option<u64>) -> Result<u64, ProgramFault>
     requires { IfSome given IsMoment }
     ensures moment { IfOk result IsMoment }
-    ensures given { IfSome given (λ at. result ≡ Ok at) }
+    ensures given { IfSome given (λ moment. result ≡ Ok moment) }
     ensures unavailable { IfErr result (λ fault. fault ≡ ProgramFault.NoMoment) }
 {
     match given {
-        Some(at) => Ok(at),
+        Some(moment) => Ok(moment),
         None => match moment_of_clock(rt) {
-            Some(at) => Ok(at),
+            Some(moment) => Ok(moment),
             None => Err(ProgramFault::NoMoment),
         },
     }
@@ -56,9 +56,15 @@ pub fn day<E: Write>(
     given: DayArguments<'_>,
     errors: &mut E,
 ) -> Result<u8, ProgramFault>
-    requires { IfSome given.at IsMoment }
+    requires { IfSome given.moment IsMoment }
 {
     let settings = server_settings(rt, given.config)?;
-    let at = moment(rt, given.at)?;
-    Ok(run_day(rt.alloc(), &settings.zone, at, &mut io::writer(rt), errors))
+    let moment = moment_or_now(rt, given.moment)?;
+    Ok(run_day(
+        rt.alloc(),
+        &settings.zone,
+        moment,
+        &mut io::writer(rt),
+        errors,
+    ))
 }

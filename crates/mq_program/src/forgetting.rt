@@ -11,7 +11,7 @@ ghost use Rattle.mq_store.specs.Forgetting.{IsFree, IsRemembered};
 ghost use Rattle.mq_store.specs.Soundness.{HasKept, IsSound, book_in};
 
 use crate::auditing::print;
-use crate::day::moment;
+use crate::day::moment_or_now;
 use crate::fault::ProgramFault;
 use crate::progress::{Progress, Terminal};
 use crate::server::server_settings;
@@ -110,7 +110,7 @@ pub fn carry_over<S: Alter + Drop, T: Alter, P: Progress>(
 
 /// Refuses a day after the one that the clock shows.
 fn check_day(rt: &impl Clock, zone: &Zone, day: u32) -> Result<(), ProgramFault> {
-    let now = moment(rt, None)?;
+    let now = moment_or_now(rt, None)?;
     if zone.day_at(now) < day {
         return Err(ProgramFault::Later);
     }

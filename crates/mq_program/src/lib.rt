@@ -7,7 +7,7 @@
 //!         Ok(given) => run_subcommand(rt, given, start, errors),
 //!
 //! It stands on all that a subcommand needs: `mq_arguments`, `mq_frame`, `mq_ledger`, `mq_forget`, `mq_rows`, `mq_tables`,
-//! `mq_server`, `mq_link`, `mq_client`, `mq_settings`, `mq_tcp`, `mq_room`, `mq_watch`, `mq_command` and `mq_store`. It knows no
+//! `mq_server`, `mq_link`, `mq_client`, `mq_settings`, `mq_tcp`, `mq_connections`, `mq_watch`, `mq_command` and `mq_store`. It knows no
 //! words of the command line, and decides nothing by itself. Begin with `subcommand.rt`, then `filter.rt` and
 //! `server.rt`, where the program is put together.
 #![tactic(auto)]

@@ -1,9 +1,9 @@
 //! `replay`: answers frames from standard input over a new ledger.
-ghost use Rattle.std.specs.Prelude.{◌≡◌, ⊤, true, Err, Result as AResult, map};
+ghost use Rattle.std.specs.Prelude.{◌≡◌, ⊤, true, Err, Result as AnyResult, map};
 ghost use Rattle.mq_arguments.specs.Arguments.{IsReplayArguments};
 ghost use Rattle.mq_frame.specs.Range.{IsAmount};
 ghost use Rattle.mq_command.specs.Replay.{IsForCause, Replays, ReplaysOver, status_of};
-ghost use Rattle.mq_command.specs.declared.replay.ReplayFault.{ReplayFault as AReplayFault};
+ghost use Rattle.mq_command.specs.declared.replay.ReplayFault.{ReplayFault as AnyReplayFault};
 ghost use Rattle.mq_program.specs.Refusals.{IsZoneByRule, IsZoneOf, ReplayRefuses};
 
 use crate::fault::{ProgramFault, or_memory};
@@ -111,7 +111,7 @@ pub fn run_replay<W: Write, E: Write>(
 ) -> u8
     requires { IsAmount default }
     // Without `sql` there is no store that could fail.
-    ensures replays { (outcome : AResult (Unit {0}) AReplayFault) × (result ≡ status_of outcome)
+    ensures replays { (outcome : AnyResult (Unit {0}) AnyReplayFault) × (result ≡ status_of outcome)
         × IsForCause (sql ≡ true) outcome × Replays zone default text.now (W.contents output.old) (W.contents output.new) outcome }
     ensures quiet { result ≡ 0 → errors.new ≡ errors.old }
 {

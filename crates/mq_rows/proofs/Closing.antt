@@ -59,7 +59,7 @@ pub record Retires (H : List Entry) (id : Id) : Type 0 where
 
 -- And of what is reserved in a legal history.
 pub record Reserves (day : ℕ → ℕ) (H : List Entry) : Type 0 where
-  pub held_is_reserved : (t : Transaction) (at : ℕ) (login : List ℕ) → agrees at login (named H t) ≡ true → held H t ≤ reserved day H login (day at)
+  pub held_is_reserved : (t : Transaction) (moment : ℕ) (login : List ℕ) → agrees moment login (named H t) ≡ true → held H t ≤ reserved day H login (day moment)
   pub none : (l : List ℕ) (d : ℕ) → has_reserve day H d l ≡ false → (reserved day H l d ≡ 0) × (settled day H l d ≡ 0)
 
 first_so : (a b : Bool) → (a && b) ≡ true → a ≡ true
@@ -171,10 +171,10 @@ module _ (day : ℕ → ℕ) (H : List Entry) (id : Id) (L : Retires H id) where
     between : (t : Transaction) → IsBetween day H id after t
     between t = elim (either (is_transaction t was)) [
       | inl y ↦ (let same : t ≡ k = L.same t k y in
-          let at : filter (is_transaction k) after ≡ those (transaction_row day H' k) =
+          let moment : filter (is_transaction k) after ≡ those (transaction_row day H' k) =
           updated (is_transaction k) (set_transaction next was) was part.rest rows (Some was) (transaction_row day H' k) part.order here refl (λ _ _. abandoned_is was before open_so) (λ f. absurd (cc (f, part.there))) in
           let P : Transaction → Type 0 = λ u. IsBetween day H id after u in
-          subst P (sym same) (inr at))
+          subst P (sym same) (inr moment))
       | inr f ↦ elim (b.transactions t) [
         | inl e ↦ inl (between_other t f (transaction_row day H t) e)
         | inr e ↦ inr (between_other t f (transaction_row day H' t) e)

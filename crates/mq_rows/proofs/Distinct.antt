@@ -20,12 +20,12 @@ both_true false b h = absurd (cc h)
 
 pub id_is : (a b : Id) → same_id a b ≡ true → a ≡ b
 id_is a b h =
-    let one = both_true (same_text a.host b.host) ((a.run == b.run) && (a.seq == b.seq)) h in
-    let two = both_true (a.run == b.run) (a.seq == b.seq) one.1 in
+    let one = both_true (same_text a.host b.host) ((a.run == b.run) && (a.number == b.number)) h in
+    let two = both_true (a.run == b.run) (a.number == b.number) one.1 in
     let host : a.host ≡ b.host = text_is a.host b.host one.0 in
     let run : a.run ≡ b.run = number_is a.run b.run two.0 in
-    let seq : a.seq ≡ b.seq = number_is a.seq b.seq two.1 in
-    λ i. record { host = host i; run = run i; seq = seq i }
+    let number : a.number ≡ b.number = number_is a.number b.number two.1 in
+    λ i. record { host = host i; run = run i; number = number i }
 
 any_more : (id : Id) (xs : List Request) (r : Request) → list_any (has_id id) xs ≡ true → list_any (has_id id) (xs ++ r ∷ []) ≡ true
 any_more id [] r h = absurd (cc h)

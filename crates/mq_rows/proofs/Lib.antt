@@ -1,5 +1,5 @@
 pub mod Booking
-pub mod Ceilings
+pub mod Limits
 pub mod Clearing
 pub mod Closing
 pub mod Days

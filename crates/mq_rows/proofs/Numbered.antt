@@ -21,9 +21,9 @@ rows_from G n H = map (λ p. answer_row G p.0 p.1) (enumerate_from n H)
 
 -- a request in range has its number in range
 pub number_in_range : (r : Request) (id : Id) → IsRequest r → id_of r ≡ Some id → IsId id
-number_in_range (Reserve id txn at login count) id' h e = (let same : id ≡ id' = cc e in rw (← same) h.0)
-number_in_range (Settle id txn at login count) id' h e = (let same : id ≡ id' = cc e in rw (← same) h.0)
-number_in_range (Release id txn at login) id' h e = (let same : id ≡ id' = cc e in rw (← same) h.0)
+number_in_range (Reserve id txn moment login count) id' h e = (let same : id ≡ id' = cc e in rw (← same) h.0)
+number_in_range (Settle id txn moment login count) id' h e = (let same : id ≡ id' = cc e in rw (← same) h.0)
+number_in_range (Release id txn moment login) id' h e = (let same : id ≡ id' = cc e in rw (← same) h.0)
 number_in_range (Limit id from_day cap login) id' h e = (let same : id ≡ id' = cc e in rw (← same) h.0)
 number_in_range (Retire id) id' h e = (let same : id ≡ id' = cc e in rw (← same) h)
 number_in_range (Usage login day) id' h e = absurd (cc e)
@@ -41,13 +41,13 @@ some_run n h = elim (either (n == 0)) [
 
 -- the number of a row is that of its request, where it is a number in range
 pub number_test : (id : Id) (r : Request) → IsId id → same_id id (number_of r) ≡ has_id id r
-number_test id (Reserve id' txn at login count) h = refl
-number_test id (Settle id' txn at login count) h = refl
-number_test id (Release id' txn at login) h = refl
+number_test id (Reserve id' txn moment login count) h = refl
+number_test id (Settle id' txn moment login count) h = refl
+number_test id (Release id' txn moment login) h = refl
 number_test id (Limit id' from_day cap login) h = refl
 number_test id (Retire id') h = refl
-number_test id (Usage login day) h = never_both (same_text id.host []) (id.run == 0) (id.seq == 0) (some_run id.run h.run.from)
-number_test id (ListRequest day after) h = never_both (same_text id.host []) (id.run == 0) (id.seq == 0) (some_run id.run h.run.from)
+number_test id (Usage login day) h = never_both (same_text id.host []) (id.run == 0) (id.number == 0) (some_run id.run h.run.from)
+number_test id (ListRequest day after) h = never_both (same_text id.host []) (id.run == 0) (id.number == 0) (some_run id.run h.run.from)
 
 -- the entry that a row stands for
 pub record Stored (G H : List Entry) (id : Id) (row : AnswerRecord) : Type 0 where

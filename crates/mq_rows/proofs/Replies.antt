@@ -17,16 +17,16 @@ use Rattle.mq_ledger.specs.Over.{over, IsLeastOver}
 use Rattle.mq_ledger.specs.Page.{has_reserve}
 use Rattle.mq_rows.specs.declared.record.TransactionRecord.{TransactionRecord}
 use Rattle.mq_rows.specs.declared.record.UsageRecord.{UsageRecord}
-use Rattle.mq_rows.specs.declared.record.CeilingRecord.{CeilingRecord}
+use Rattle.mq_rows.specs.declared.record.LimitRecord.{LimitRecord}
 use Rattle.mq_rows.specs.declared.plan.Found.{Found}
-use Rattle.mq_rows.specs.Rows.{login_of, moment_of, transaction_of, transaction_row, usage_row, ceiling_row, is_usage, is_ceiling}
-use Rattle.mq_rows.specs.Tables.{Tables, those, AreUsage, AreCeilings}
+use Rattle.mq_rows.specs.Rows.{login_of, moment_of, transaction_of, transaction_row, usage_row, limit_row, is_usage, is_limit}
+use Rattle.mq_rows.specs.Tables.{Tables, those, AreUsage, AreLimits}
 use Rattle.mq_rows.specs.Found.{is_due, IsGoverning, is_over, IsFirstOver, IsFound}
 use Rattle.mq_rows.specs.Plan.{agrees_with, is_closed, held_by, reserved_by, used_by, cap_by, set_or_over_by, decided, fits, fits_if_open, is_day_over, may_be_found}
 use Rattle.mq_rows.proofs.Lists.{either, option_cases, one_of_those, text_is, text_itself, number_itself}
 use Rattle.mq_rows.proofs.Trans.{IsHeard, IsTransactionFound}
 use Rattle.mq_rows.proofs.Days.{Uses, IsUsageFound, both_split}
-use Rattle.mq_rows.proofs.Ceilings.{row_of_cap}
+use Rattle.mq_rows.proofs.Limits.{row_of_cap}
 
 -- Members.
 
@@ -74,28 +74,28 @@ le_or_lt a b = grind arith
 
 -- The row of a transaction says how it stands.
 
-at_is : (T : Transaction) (at : ℕ) (login : List ℕ) (r : Request) → is_of T r ≡ true → ((at == moment_of r) && same_text login (login_of r)) ≡ is_at at login r
-at_is T at login (Reserve id txn at' login' count) h = refl
-at_is T at login (Settle id txn at' login' count) h = refl
-at_is T at login (Release id txn at' login') h = refl
-at_is T at login (Limit id from c login') h = absurd (cc h)
-at_is T at login (Usage login' d) h = absurd (cc h)
-at_is T at login (ListRequest d l) h = absurd (cc h)
-at_is T at login (Retire id) h = absurd (cc h)
+at_is : (T : Transaction) (moment : ℕ) (login : List ℕ) (r : Request) → is_of T r ≡ true → ((moment == moment_of r) && same_text login (login_of r)) ≡ is_at moment login r
+at_is T moment login (Reserve id txn moment' login' count) h = refl
+at_is T moment login (Settle id txn moment' login' count) h = refl
+at_is T moment login (Release id txn moment' login') h = refl
+at_is T moment login (Limit id from c login') h = absurd (cc h)
+at_is T moment login (Usage login' d) h = absurd (cc h)
+at_is T moment login (ListRequest d l) h = absurd (cc h)
+at_is T moment login (Retire id) h = absurd (cc h)
 
-pub record Stands (H : List Entry) (T : Transaction) (at : ℕ) (login : List ℕ) (o : Option TransactionRecord) : Type 0 where
-  pub agreed : agrees_with at login o ≡ agrees at login (named H T)
+pub record Stands (H : List Entry) (T : Transaction) (moment : ℕ) (login : List ℕ) (o : Option TransactionRecord) : Type 0 where
+  pub agreed : agrees_with moment login o ≡ agrees moment login (named H T)
   pub shut : is_closed o ≡ closed H T
   pub holds : held_by o ≡ held H T
 
-pub stands : (day : ℕ → ℕ) (H : List Entry) (r : Request) → IsHeard H r → (T : Transaction) (at : ℕ) (login : List ℕ) (o : Option TransactionRecord) → is_of T r ≡ true → o ≡ transaction_row day H T → Stands H T at login o
-stands day H r heard T at login o own h = elim (option_cases (named H T)) [
+pub stands : (day : ℕ → ℕ) (H : List Entry) (r : Request) → IsHeard H r → (T : Transaction) (moment : ℕ) (login : List ℕ) (o : Option TransactionRecord) → is_of T r ≡ true → o ≡ transaction_row day H T → Stands H T moment login o
+stands day H r heard T moment login o own h = elim (option_cases (named H T)) [
   | inl none ↦ (let u = heard T own none in
       let k : o ≡ None = h ∙ (rw none refl) in
       record { agreed = rw (k, none) refl; shut = rw k (sym u.0); holds = rw k (sym u.1) })
   | inr p ↦ (let k : o ≡ Some (transaction_of day H T p.0) = h ∙ (rw p.1 refl) in
       let mine : is_of T p.0.request ≡ true = found_passes (λ e. is_of T e.request) H p.0 p.1 in
-      record { agreed = rw (k, p.1) (at_is T at login p.0.request mine); shut = rw k refl; holds = rw k refl })
+      record { agreed = rw (k, p.1) (at_is T moment login p.0.request mine); shut = rw k refl; holds = rw k refl })
 ]
 
 module _ (day : ℕ → ℕ) (default : ℕ) (H : List Entry) (us : Uses day default H) where
@@ -180,57 +180,57 @@ pub record Governs (default : ℕ) (H : List Entry) : Type 0 where
   pub none : (l : List ℕ) (d : ℕ) → ((from : ℕ) → from ≤ d → set_cap H l from ≡ None) → cap default H l d ≡ default
   pub latest : (l : List ℕ) (d from c : ℕ) → from ≤ d → set_cap H l from ≡ Some c → ((later : ℕ) → from < later → later ≤ d → set_cap H l later ≡ None) → cap default H l d ≡ c
 
-cap_of_row : (l : List ℕ) (d : ℕ) (o : Option ℕ) (c : CeilingRecord) → row_of_cap l d o ≡ Some c → o ≡ Some c.cap
+cap_of_row : (l : List ℕ) (d : ℕ) (o : Option ℕ) (c : LimitRecord) → row_of_cap l d o ≡ Some c → o ≡ Some c.cap
 cap_of_row l d None c h = absurd (cc h)
-cap_of_row l d (Some n) c h = (let e : record { login = l; day = d; cap = n } ≡ c = cc h in ap (λ (x : CeilingRecord). Some x.cap) e)
+cap_of_row l d (Some n) c h = (let e : record { login = l; day = d; cap = n } ≡ c = cc h in ap (λ (x : LimitRecord). Some x.cap) e)
 
-module _ (default : ℕ) (H : List Entry) (gs : Governs default H) (rows : List CeilingRecord) (are : AreCeilings H rows) where
+module _ (default : ℕ) (H : List Entry) (gs : Governs default H) (rows : List LimitRecord) (are : AreLimits H rows) where
   due : (l : List ℕ) (d from n : ℕ) → from ≤ d → is_due l d (record { login = l; day = from; cap = n }) ≡ true
   due l d from n h = rw (text_itself l, le_true from d h) refl
 
-  set_row : (l : List ℕ) (from n : ℕ) → set_cap H l from ≡ Some n → filter (is_ceiling l from) rows ≡ record { login = l; day = from; cap = n } ∷ []
+  set_row : (l : List ℕ) (from n : ℕ) → set_cap H l from ≡ Some n → filter (is_limit l from) rows ≡ record { login = l; day = from; cap = n } ∷ []
   set_row l from n h = are l from ∙ ap (λ (o : Option ℕ). those (row_of_cap l from o)) h
 
-  pub governs : (l : List ℕ) (d : ℕ) (o : Option CeilingRecord) → IsGoverning l d rows o → cap_by default o ≡ cap default H l d
+  pub governs : (l : List ℕ) (d : ℕ) (o : Option LimitRecord) → IsGoverning l d rows o → cap_by default o ≡ cap default H l d
   governs l d None none = sym (gs.none l d (λ from h. elim (option_cases (set_cap H l from)) [
     | inl z ↦ z
-    | inr p ↦ (let f : is_due l d (record { login = l; day = from; cap = p.0 }) ≡ false = one_has (is_ceiling l from) (λ c. is_due l d c ≡ false) rows (record { login = l; day = from; cap = p.0 }) (set_row l from p.0 p.1) none in
+    | inr p ↦ (let f : is_due l d (record { login = l; day = from; cap = p.0 }) ≡ false = one_has (is_limit l from) (λ c. is_due l d c ≡ false) rows (record { login = l; day = from; cap = p.0 }) (set_row l from p.0 p.1) none in
         absurd (cc (f, due l d from p.0 h)))
   ]))
   governs l d (Some c) first =
       let b = both_split (same_text l c.login) (nat_le c.day d) first.1 in
       let l_is : l ≡ c.login = text_is l c.login b.0 in
       let before : c.day ≤ d = true_le c.day d b.1 in
-      let mine : is_ceiling l c.day c ≡ true = rw (l_is, text_itself c.login, number_itself c.day) refl in
-      let row : ceiling_row H l c.day ≡ Some c = member_is (is_ceiling l c.day) rows first.0.0 c first.0.1 first.0.2 mine (ceiling_row H l c.day) (are l c.day) in
+      let mine : is_limit l c.day c ≡ true = rw (l_is, text_itself c.login, number_itself c.day) refl in
+      let row : limit_row H l c.day ≡ Some c = member_is (is_limit l c.day) rows first.0.0 c first.0.1 first.0.2 mine (limit_row H l c.day) (are l c.day) in
       let set_is : set_cap H l c.day ≡ Some c.cap = cap_of_row l c.day (set_cap H l c.day) c row in
       sym (gs.latest l d c.day c.cap before set_is (λ later h k. elim (option_cases (set_cap H l later)) [
         | inl z ↦ z
-        | inr p ↦ (let g = one_has (is_ceiling l later) (λ other. is_due l d other ≡ true → other.day ≤ c.day) rows (record { login = l; day = later; cap = p.0 }) (set_row l later p.0 p.1) first.2 in
+        | inr p ↦ (let g = one_has (is_limit l later) (λ other. is_due l d other ≡ true → other.day ≤ c.day) rows (record { login = l; day = later; cap = p.0 }) (set_row l later p.0 p.1) first.2 in
             absurd (omega (arith, g (due l d later p.0 k))))
       ]))
 
 -- The reply.
 module _ (itself : (t : Transaction) → same_transaction t t ≡ true) (day : ℕ → ℕ) (default : ℕ) (H : List Entry) (us : Uses day default H) (gs : Governs default H)
     (only : (l : List ℕ) (from c : ℕ) (o : Option ℕ) → IsLeastOver day H l from c o → o ≡ over day H l from c) where
-  pub decided_is_answer : (t : Tables) (r : Request) (f : Found) → IsHeard H r → AreUsage day H t.usage → AreCeilings H t.ceilings → IsTransactionFound day H r f.transaction → IsUsageFound day default H us r f.usage → IsFound day t r f → is_some (id_of r) ≡ true
+  pub decided_is_answer : (t : Tables) (r : Request) (f : Found) → IsHeard H r → AreUsage day H t.usage → AreLimits H t.limits → IsTransactionFound day H r f.transaction → IsUsageFound day default H us r f.usage → IsFound day t r f → is_some (id_of r) ≡ true
       → decided default r f ≡ answer day default H r
-  decided_is_answer t (Reserve id txn at login count) f heard are_usage are_ceilings tf uf found numbered =
-      let s : Stands H (transaction id txn) at login f.transaction = stands day H (Reserve id txn at login count) heard (transaction id txn) at login f.transaction (itself (transaction id txn)) tf in
-      let w : Tells day default H us login (day at) f.usage = tells day default H us login (day at) f.usage uf in
-      let g : cap_by default f.governing ≡ cap default H login (day at) = governs default H gs t.ceilings are_ceilings login (day at) f.governing found.2 in
+  decided_is_answer t (Reserve id txn moment login count) f heard are_usage are_limits tf uf found numbered =
+      let s : Stands H (transaction id txn) moment login f.transaction = stands day H (Reserve id txn moment login count) heard (transaction id txn) moment login f.transaction (itself (transaction id txn)) tf in
+      let w : Tells day default H us login (day moment) f.usage = tells day default H us login (day moment) f.usage uf in
+      let g : cap_by default f.governing ≡ cap default H login (day moment) = governs default H gs t.limits are_limits login (day moment) f.governing found.2 in
       λ i. if not (s.agreed i) then Mismatch id else (if s.shut i then Closed id else granted_or_full id (w.uses i) (g i) count)
-  decided_is_answer t (Settle id txn at login count) f heard are_usage are_ceilings tf uf found numbered =
-      let s : Stands H (transaction id txn) at login f.transaction = stands day H (Settle id txn at login count) heard (transaction id txn) at login f.transaction (itself (transaction id txn)) tf in
+  decided_is_answer t (Settle id txn moment login count) f heard are_usage are_limits tf uf found numbered =
+      let s : Stands H (transaction id txn) moment login f.transaction = stands day H (Settle id txn moment login count) heard (transaction id txn) moment login f.transaction (itself (transaction id txn)) tf in
       λ i. if not (s.agreed i) then Mismatch id else (if s.shut i then Closed id else settled_or_too_many id (s.holds i) count)
-  decided_is_answer t (Release id txn at login) f heard are_usage are_ceilings tf uf found numbered =
-      let s : Stands H (transaction id txn) at login f.transaction = stands day H (Release id txn at login) heard (transaction id txn) at login f.transaction (itself (transaction id txn)) tf in
+  decided_is_answer t (Release id txn moment login) f heard are_usage are_limits tf uf found numbered =
+      let s : Stands H (transaction id txn) moment login f.transaction = stands day H (Release id txn moment login) heard (transaction id txn) moment login f.transaction (itself (transaction id txn)) tf in
       λ i. if not (s.agreed i) then Mismatch id else (if s.shut i then Closed id else Released id (s.holds i))
-  decided_is_answer t (Limit id from asked login) f heard are_usage are_ceilings tf uf found numbered =
+  decided_is_answer t (Limit id from asked login) f heard are_usage are_limits tf uf found numbered =
       over_reply day default H us t.usage are_usage only id login from asked f.over found.0
-  decided_is_answer t (Usage login d) f heard are_usage are_ceilings tf uf found numbered = absurd (cc numbered)
-  decided_is_answer t (ListRequest d l) f heard are_usage are_ceilings tf uf found numbered = absurd (cc numbered)
-  decided_is_answer t (Retire id) f heard are_usage are_ceilings tf uf found numbered = refl
+  decided_is_answer t (Usage login d) f heard are_usage are_limits tf uf found numbered = absurd (cc numbered)
+  decided_is_answer t (ListRequest d l) f heard are_usage are_limits tf uf found numbered = absurd (cc numbered)
+  decided_is_answer t (Retire id) f heard are_usage are_limits tf uf found numbered = refl
 
 -- What was found may be found.
 
@@ -238,8 +238,8 @@ day_over : (id : Id) (o : Option UsageRecord) → IsReply (set_or_over_by id o) 
 day_over id None fits = refl
 day_over id (Some u) fits = rw (le_true u.day 376200 fits.1.to, le_true (u.reserved + u.settled) 1000000 fits.2.to) refl
 
-fit : (at : ℕ) (login : List ℕ) (c : ℕ) (t : Option TransactionRecord) (u : Option UsageRecord) → used_by u ≤ 1000000 → c ≤ 1000000 → (agrees_with at login t ≡ true → held_by t ≤ reserved_by u) → fits_if_open at login c t u ≡ true
-fit at login c t u n k held = elim (either (agrees_with at login t)) [
+fit : (moment : ℕ) (login : List ℕ) (c : ℕ) (t : Option TransactionRecord) (u : Option UsageRecord) → used_by u ≤ 1000000 → c ≤ 1000000 → (agrees_with moment login t ≡ true → held_by t ≤ reserved_by u) → fits_if_open moment login c t u ≡ true
+fit moment login c t u n k held = elim (either (agrees_with moment login t)) [
   | inr f ↦ rw f refl
   | inl a ↦ elim (either (is_closed t)) [
     | inl shut ↦ rw (a, shut) refl
@@ -249,20 +249,20 @@ fit at login c t u n k held = elim (either (agrees_with at login t)) [
 
 module _ (itself : (t : Transaction) → same_transaction t t ≡ true) (day : ℕ → ℕ) (default : ℕ) (H : List Entry) (us : Uses day default H) (gs : Governs default H)
     (used_in_range : (l : List ℕ) (d : ℕ) → used day H l d ≤ 1000000) (cap_in_range : (l : List ℕ) (d : ℕ) → cap default H l d ≤ 1000000) where
-  fit_here : (r : Request) → IsHeard H r → (id : Id) (txn at : ℕ) (login : List ℕ) (c : ℕ) (t : Option TransactionRecord) (u : Option UsageRecord) → is_of (transaction id txn) r ≡ true → t ≡ transaction_row day H (transaction id txn) → u ≡ usage_row day H login (day at) → c ≤ 1000000 → fits_if_open at login c t u ≡ true
-  fit_here r heard id txn at login c t u own tf uf k =
-      let s : Stands H (transaction id txn) at login t = stands day H r heard (transaction id txn) at login t own tf in
-      let w : Tells day default H us login (day at) u = tells day default H us login (day at) u uf in
-      let n : used_by u ≤ 1000000 = rw w.uses (used_in_range login (day at)) in
-      fit at login c t u n k (λ a. let le : held H (transaction id txn) ≤ reserved day H login (day at) = us.held_is_reserved id txn at login (sym s.agreed ∙ a) in rw (s.holds, w.reserves) le)
+  fit_here : (r : Request) → IsHeard H r → (id : Id) (txn moment : ℕ) (login : List ℕ) (c : ℕ) (t : Option TransactionRecord) (u : Option UsageRecord) → is_of (transaction id txn) r ≡ true → t ≡ transaction_row day H (transaction id txn) → u ≡ usage_row day H login (day moment) → c ≤ 1000000 → fits_if_open moment login c t u ≡ true
+  fit_here r heard id txn moment login c t u own tf uf k =
+      let s : Stands H (transaction id txn) moment login t = stands day H r heard (transaction id txn) moment login t own tf in
+      let w : Tells day default H us login (day moment) u = tells day default H us login (day moment) u uf in
+      let n : used_by u ≤ 1000000 = rw w.uses (used_in_range login (day moment)) in
+      fit moment login c t u n k (λ a. let le : held H (transaction id txn) ≤ reserved day H login (day moment) = us.held_is_reserved id txn moment login (sym s.agreed ∙ a) in rw (s.holds, w.reserves) le)
 
-  pub may_be : (t : Tables) (r : Request) (f : Found) → IsHeard H r → AreCeilings H t.ceilings → IsTransactionFound day H r f.transaction → IsUsageFound day default H us r f.usage → IsFound day t r f → IsReply (decided default r f) → may_be_found default r f ≡ true
-  may_be t (Reserve id txn at login count) f heard are tf uf found fits =
-      let g : cap_by default f.governing ≡ cap default H login (day at) = governs default H gs t.ceilings are login (day at) f.governing found.2 in
-      let k : cap_by default f.governing ≤ 1000000 = rw g (cap_in_range login (day at)) in
-      fit_here (Reserve id txn at login count) heard id txn at login (cap_by default f.governing) f.transaction f.usage (itself (transaction id txn)) tf uf k
-  may_be t (Settle id txn at login count) f heard are tf uf found fits = fit_here (Settle id txn at login count) heard id txn at login 0 f.transaction f.usage (itself (transaction id txn)) tf uf (omega arith)
-  may_be t (Release id txn at login) f heard are tf uf found fits = fit_here (Release id txn at login) heard id txn at login 0 f.transaction f.usage (itself (transaction id txn)) tf uf (omega arith)
+  pub may_be : (t : Tables) (r : Request) (f : Found) → IsHeard H r → AreLimits H t.limits → IsTransactionFound day H r f.transaction → IsUsageFound day default H us r f.usage → IsFound day t r f → IsReply (decided default r f) → may_be_found default r f ≡ true
+  may_be t (Reserve id txn moment login count) f heard are tf uf found fits =
+      let g : cap_by default f.governing ≡ cap default H login (day moment) = governs default H gs t.limits are login (day moment) f.governing found.2 in
+      let k : cap_by default f.governing ≤ 1000000 = rw g (cap_in_range login (day moment)) in
+      fit_here (Reserve id txn moment login count) heard id txn moment login (cap_by default f.governing) f.transaction f.usage (itself (transaction id txn)) tf uf k
+  may_be t (Settle id txn moment login count) f heard are tf uf found fits = fit_here (Settle id txn moment login count) heard id txn moment login 0 f.transaction f.usage (itself (transaction id txn)) tf uf (omega arith)
+  may_be t (Release id txn moment login) f heard are tf uf found fits = fit_here (Release id txn moment login) heard id txn moment login 0 f.transaction f.usage (itself (transaction id txn)) tf uf (omega arith)
   may_be t (Limit id from asked login) f heard are tf uf found fits = day_over id f.over fits
   may_be t (Usage login d) f heard are tf uf found fits = refl
   may_be t (ListRequest d l) f heard are tf uf found fits = refl

@@ -24,7 +24,7 @@ use Rattle.mq_ledger.specs.Page.{has_reserve}
 use Rattle.mq_ledger.specs.Sums.{is_for, names_for, held_on, settled_on, AreDistinct, HasAllNamed}
 use Rattle.mq_rows.specs.declared.record.TransactionRecord.{TransactionRecord}
 use Rattle.mq_rows.specs.declared.record.UsageRecord.{UsageRecord}
-use Rattle.mq_rows.specs.declared.record.CeilingRecord.{CeilingRecord}
+use Rattle.mq_rows.specs.declared.record.LimitRecord.{LimitRecord}
 use Rattle.mq_rows.specs.declared.audited.Pair.{Pair}
 use Rattle.mq_rows.specs.declared.audited.TransactionFigures.{TransactionFigures}
 use Rattle.mq_rows.specs.declared.audited.LimitFigures.{LimitFigures}
@@ -34,8 +34,8 @@ use Rattle.mq_rows.specs.Figured.{usage_figures, transaction_figures, limit_figu
 use Rattle.mq_rows.specs.Found.{is_due, IsGoverning}
 use Rattle.mq_rows.specs.Pair.{same_pair}
 use Rattle.mq_rows.specs.Plan.{key_of, cap_by}
-use Rattle.mq_rows.specs.Rows.{login_of, moment_of, transaction_of, transaction_row, usage_row, ceiling_row, is_transaction, is_usage, is_ceiling}
-use Rattle.mq_rows.specs.Tables.{Tables, those, AreTransactions, AreUsage, AreCeilings}
+use Rattle.mq_rows.specs.Rows.{login_of, moment_of, transaction_of, transaction_row, usage_row, limit_row, is_transaction, is_usage, is_limit}
+use Rattle.mq_rows.specs.Tables.{Tables, those, AreTransactions, AreUsage, AreLimits}
 use Rattle.mq_rows.proofs.Replies.{Governs, governs}
 use Rattle.mq_rows.proofs.Lists.{either, option_cases, number_is, number_itself, none_pass, those_are_found, find_of_those, in_any_order}
 
@@ -148,18 +148,18 @@ row_of day H r h = elim (option_cases (named H (key_of r))) [
 
 -- the login and the moment of a request of a transaction
 for_pair : (day : ℕ → ℕ) (t : Transaction) (r : Request) (l : List ℕ) (d : ℕ) → is_of t r ≡ true → is_for day l d r ≡ (same_text l (login_of r) && (day (moment_of r) == d))
-for_pair day t (Reserve id txn at login count) l d mine = refl
-for_pair day t (Settle id txn at login count) l d mine = refl
-for_pair day t (Release id txn at login) l d mine = refl
+for_pair day t (Reserve id txn moment login count) l d mine = refl
+for_pair day t (Settle id txn moment login count) l d mine = refl
+for_pair day t (Release id txn moment login) l d mine = refl
 for_pair day t (Limit id from c login) l d mine = absurd (cc mine)
 for_pair day t (Usage login k) l d mine = absurd (cc mine)
 for_pair day t (ListRequest k after) l d mine = absurd (cc mine)
 for_pair day t (Retire id) l d mine = absurd (cc mine)
 
 moment_in : (t : Transaction) (r : Request) → is_of t r ≡ true → IsRequest r → IsMoment (moment_of r)
-moment_in t (Reserve id txn at login count) mine h = h.2
-moment_in t (Settle id txn at login count) mine h = h.2
-moment_in t (Release id txn at login) mine h = h.2
+moment_in t (Reserve id txn moment login count) mine h = h.2
+moment_in t (Settle id txn moment login count) mine h = h.2
+moment_in t (Release id txn moment login) mine h = h.2
 moment_in t (Limit id from c login) mine h = absurd (cc mine)
 moment_in t (Usage login k) mine h = absurd (cc mine)
 moment_in t (ListRequest k after) mine h = absurd (cc mine)
@@ -239,14 +239,14 @@ weaker P Q h (x ∷ xs) all = (h x all.0, weaker P Q h xs all.1)
 
 -- The limit that governs.
 
-abbrev is_later : Option CeilingRecord → CeilingRecord → Bool
+abbrev is_later : Option LimitRecord → LimitRecord → Bool
 is_later None c = true
 is_later (Some b) c = nat_lt b.day c.day
 
-abbrev pick : List ℕ → ℕ → Option CeilingRecord → CeilingRecord → Option CeilingRecord
+abbrev pick : List ℕ → ℕ → Option LimitRecord → LimitRecord → Option LimitRecord
 pick l d best c = if is_due l d c && is_later best c then Some c else best
 
-picked_figures : (l : List ℕ) (d : ℕ) (best : Option CeilingRecord) (c : CeilingRecord) →
+picked_figures : (l : List ℕ) (d : ℕ) (best : Option LimitRecord) (c : LimitRecord) →
     (if audit.is_due (record { login = l; day = pos d }) (limit_figures c) && audit.is_later (option_map limit_figures best) (limit_figures c) then Some (limit_figures c) else option_map limit_figures best)
     ≡ option_map limit_figures (pick l d best c)
 picked_figures l d None c = elim (either (is_due l d c && true)) [ inl t ↦ rw t refl | inr f ↦ rw f refl ]
@@ -255,35 +255,35 @@ picked_figures l d (Some b) c = elim (either (is_due l d c && nat_lt b.day c.day
 abbrev choose : Pair → Option LimitFigures → LimitFigures → Option LimitFigures
 choose p latest c = if audit.is_due p c && audit.is_later latest c then Some c else latest
 
-fold_mapped : (l : List ℕ) (d : ℕ) (best : Option CeilingRecord) (cs : List CeilingRecord) →
+fold_mapped : (l : List ℕ) (d : ℕ) (best : Option LimitRecord) (cs : List LimitRecord) →
     fold (choose (record { login = l; day = pos d })) (option_map limit_figures best) (map limit_figures cs) ≡ option_map limit_figures (fold (pick l d) best cs)
 fold_mapped l d best [] = refl
 fold_mapped l d best (c ∷ cs) =
     ap (λ o. fold (choose (record { login = l; day = pos d })) o (map limit_figures cs)) (picked_figures l d best c) ∙ fold_mapped l d (pick l d best c) cs
 
-abbrev IsBelow : Option CeilingRecord → CeilingRecord → Type 0
+abbrev IsBelow : Option LimitRecord → LimitRecord → Type 0
 IsBelow None c = Unit {0}
 IsBelow (Some b) c = b.day ≤ c.day
 
 -- of those that are due and the best before them it is the latest
-abbrev IsBest : List ℕ → ℕ → Option CeilingRecord → List CeilingRecord → Option CeilingRecord → Type 0
+abbrev IsBest : List ℕ → ℕ → Option LimitRecord → List LimitRecord → Option LimitRecord → Type 0
 IsBest l d best cs None = (best ≡ None) × AllByRecursion (λ c. is_due l d c ≡ false) cs
 IsBest l d best cs (Some c) =
     ((best ≡ Some c) ⊎ (In c cs × (is_due l d c ≡ true))) × AllByRecursion (λ other. is_due l d other ≡ true → other.day ≤ c.day) cs × IsBelow best c
 
 module _ (l : List ℕ) (d : ℕ) where
   -- the next one isn't due
-  passed_over : (best : Option CeilingRecord) (c : CeilingRecord) (cs : List CeilingRecord) (g : Option CeilingRecord) → is_due l d c ≡ false → IsBest l d best cs g → IsBest l d best (c ∷ cs) g
+  passed_over : (best : Option LimitRecord) (c : LimitRecord) (cs : List LimitRecord) (g : Option LimitRecord) → is_due l d c ≡ false → IsBest l d best cs g → IsBest l d best (c ∷ cs) g
   passed_over best c cs None f h = (h.0, (f, h.1))
   passed_over best c cs (Some g) f h = (elim h.0 [ inl e ↦ inl e | inr i ↦ inr (inr i.0, i.1) ], ((λ t. absurd (cc (f, t))), h.1), h.2)
 
   -- it is due, and not later
-  kept : (b c : CeilingRecord) (cs : List CeilingRecord) (g : Option CeilingRecord) → c.day ≤ b.day → IsBest l d (Some b) cs g → IsBest l d (Some b) (c ∷ cs) g
+  kept : (b c : LimitRecord) (cs : List LimitRecord) (g : Option LimitRecord) → c.day ≤ b.day → IsBest l d (Some b) cs g → IsBest l d (Some b) (c ∷ cs) g
   kept b c cs None le h = absurd (cc (h.0))
   kept b c cs (Some g) le h = (elim h.0 [ inl e ↦ inl e | inr i ↦ inr (inr i.0, i.1) ], ((λ t. omega (arith, le, h.2)), h.1), h.2)
 
   -- it is due, and later
-  taken : (best : Option CeilingRecord) (c : CeilingRecord) (cs : List CeilingRecord) (g : Option CeilingRecord) → is_due l d c ≡ true → IsBelow best c → IsBest l d (Some c) cs g → IsBest l d best (c ∷ cs) g
+  taken : (best : Option LimitRecord) (c : LimitRecord) (cs : List LimitRecord) (g : Option LimitRecord) → is_due l d c ≡ true → IsBelow best c → IsBest l d (Some c) cs g → IsBest l d best (c ∷ cs) g
   taken best c cs None t low h = absurd (cc (h.0))
   taken best c cs (Some g) t low h = (
     elim h.0 [ inl e ↦ (let same : c ≡ g = cc e in inr (inl same, subst (λ x. is_due l d x ≡ true) same t)) | inr i ↦ inr (inr i.0, i.1) ],
@@ -291,11 +291,11 @@ module _ (l : List ℕ) (d : ℕ) where
     below best low,
   )
     where
-      below : (b : Option CeilingRecord) → IsBelow b c → IsBelow b g
+      below : (b : Option LimitRecord) → IsBelow b c → IsBelow b g
       below None low = tt
       below (Some b) low = omega (arith, low, h.2)
 
-  best_of : (best : Option CeilingRecord) (cs : List CeilingRecord) → IsBest l d best cs (fold (pick l d) best cs)
+  best_of : (best : Option LimitRecord) (cs : List LimitRecord) → IsBest l d best cs (fold (pick l d) best cs)
   best_of None [] = (refl, tt)
   best_of (Some b) [] = (inl refl, tt, omega arith)
   best_of None (c ∷ cs) = elim (either (is_due l d c)) [
@@ -318,11 +318,11 @@ module _ (l : List ℕ) (d : ℕ) where
         subst (λ o. IsBest l d (Some b) (c ∷ cs) (fold (pick l d) o cs)) (sym e) (passed_over (Some b) c cs _ f (best_of (Some b) cs)))
   ]
 
-  governing_of : (cs : List CeilingRecord) (g : Option CeilingRecord) → IsBest l d None cs g → IsGoverning l d cs g
+  governing_of : (cs : List LimitRecord) (g : Option LimitRecord) → IsBest l d None cs g → IsGoverning l d cs g
   governing_of cs None h = h.1
   governing_of cs (Some c) h = elim h.0 [ inl e ↦ absurd (cc e) | inr i ↦ (in_contains cs c i.0, i.1, h.1) ]
 
-cap_of_figures : (default : ℕ) (g : Option CeilingRecord) → audit.cap_or default (option_map limit_figures g) ≡ pos (cap_by default g)
+cap_of_figures : (default : ℕ) (g : Option LimitRecord) → audit.cap_or default (option_map limit_figures g) ≡ pos (cap_by default g)
 cap_of_figures default None = refl
 cap_of_figures default (Some c) = refl
 
@@ -348,7 +348,7 @@ paired P each [] [] = tt
 paired P each [] (t ∷ ts) = (each t.login t.day, paired P each [] ts)
 
 module _ (day : ℕ → ℕ) (default : ℕ) (H : List Entry) (laws : Laws day default H) (t : Tables)
-    (are_transactions : AreTransactions day H t.transactions) (are_usage : AreUsage day H t.usage) (are_ceilings : AreCeilings H t.ceilings) where
+    (are_transactions : AreTransactions day H t.transactions) (are_usage : AreUsage day H t.usage) (are_limits : AreLimits H t.limits) where
   once : Once t.transactions
   once k = subst (λ xs. length xs ≤ 1) (sym (are_transactions k)) (few_of (transaction_row day H k))
 
@@ -395,11 +395,11 @@ module _ (day : ℕ → ℕ) (default : ℕ) (H : List Entry) (laws : Laws day d
       | inr none ↦ rw none (ap pos (sym (laws.none l d none).0))
     ]
 
-    cap_is : audit.cap_or default (audit.governing p (map limit_figures t.ceilings)) ≡ pos (cap default H l d)
+    cap_is : audit.cap_or default (audit.governing p (map limit_figures t.limits)) ≡ pos (cap default H l d)
     cap_is =
-        let g : Option CeilingRecord = fold (pick l d) None t.ceilings in
-        ap (audit.cap_or default) (fold_mapped l d None t.ceilings) ∙ cap_of_figures default g
-        ∙ ap pos (governs default H laws.governs t.ceilings are_ceilings l d g (governing_of l d t.ceilings g (best_of l d None t.ceilings)))
+        let g : Option LimitRecord = fold (pick l d) None t.limits in
+        ap (audit.cap_or default) (fold_mapped l d None t.limits) ∙ cap_of_figures default g
+        ∙ ap pos (governs default H laws.governs t.limits are_limits l d g (governing_of l d t.limits g (best_of l d None t.limits)))
 
     pub right_here : is_right day default (figures t) p ≡ true
     right_here =
@@ -440,17 +440,17 @@ unmapped f xs ys = IsPermutation-keeps (map f xs) (Unmapped f xs) (record { sour
     }) ys
 
 module _ (day : ℕ → ℕ) (default : ℕ) (H : List Entry) (laws : Laws day default H) (t : Tables)
-    (are_transactions : AreTransactions day H t.transactions) (are_usage : AreUsage day H t.usage) (are_ceilings : AreCeilings H t.ceilings) where
+    (are_transactions : AreTransactions day H t.transactions) (are_usage : AreUsage day H t.usage) (are_limits : AreLimits H t.limits) where
   pub reordered_right : (g : Figures) → IsPermutation (figures t).usage g.usage → IsPermutation (figures t).transactions g.transactions → IsPermutation (figures t).limits g.limits
       → AllByRecursion (λ p. is_right day default g p ≡ true) (pairs g)
   reordered_right g same_usage same_transactions same_limits =
       let us = unmapped usage_figures t.usage g.usage same_usage in
       let ts = unmapped transaction_figures t.transactions g.transactions same_transactions in
-      let cs = unmapped limit_figures t.ceilings g.limits same_limits in
-      let other : Tables = record t { transactions = ts.source; usage = us.source; ceilings = cs.source } in
+      let cs = unmapped limit_figures t.limits g.limits same_limits in
+      let other : Tables = record t { transactions = ts.source; usage = us.source; limits = cs.source } in
       let is : figures other ≡ g = λ i. record { usage = us.mapped i; transactions = ts.mapped i; limits = cs.mapped i } in
       subst (λ f. AllByRecursion (λ p. is_right day default f p ≡ true) (pairs f)) is
       (all_right day default H laws other
       (λ k. in_any_order (is_transaction k) t.transactions ts.source ts.same (transaction_row day H k) (are_transactions k))
       (λ l d. in_any_order (is_usage l d) t.usage us.source us.same (usage_row day H l d) (are_usage l d))
-      (λ l d. in_any_order (is_ceiling l d) t.ceilings cs.source cs.same (ceiling_row H l d) (are_ceilings l d)))
+      (λ l d. in_any_order (is_limit l d) t.limits cs.source cs.same (limit_row H l d) (are_limits l d)))

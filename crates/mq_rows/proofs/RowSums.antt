@@ -107,18 +107,18 @@ pub is_mine : (day : ℕ → ℕ) (H : List Entry) (r : TransactionRecord) (is :
 is_mine day H r is = found (λ e. is_of (key_of r) e.request) H is.first is.names
 
 for_pair : (day : ℕ → ℕ) (t : Transaction) (r : Request) (l : List ℕ) (d : ℕ) → is_of t r ≡ true → is_for day l d r ≡ (same_text l (login_of r) && (day (moment_of r) == d))
-for_pair day t (Reserve id txn at login count) l d mine = refl
-for_pair day t (Settle id txn at login count) l d mine = refl
-for_pair day t (Release id txn at login) l d mine = refl
+for_pair day t (Reserve id txn moment login count) l d mine = refl
+for_pair day t (Settle id txn moment login count) l d mine = refl
+for_pair day t (Release id txn moment login) l d mine = refl
 for_pair day t (Limit id from c login) l d mine = absurd (cc mine)
 for_pair day t (Usage login k) l d mine = absurd (cc mine)
 for_pair day t (ListRequest k after) l d mine = absurd (cc mine)
 for_pair day t (Retire id) l d mine = absurd (cc mine)
 
 at_own : (t : Transaction) (r : Request) → is_of t r ≡ true → is_at (moment_of r) (login_of r) r ≡ true
-at_own t (Reserve id txn at login count) mine = rw (number_itself at, text_itself login) refl
-at_own t (Settle id txn at login count) mine = rw (number_itself at, text_itself login) refl
-at_own t (Release id txn at login) mine = rw (number_itself at, text_itself login) refl
+at_own t (Reserve id txn moment login count) mine = rw (number_itself moment, text_itself login) refl
+at_own t (Settle id txn moment login count) mine = rw (number_itself moment, text_itself login) refl
+at_own t (Release id txn moment login) mine = rw (number_itself moment, text_itself login) refl
 at_own t (Limit id from c login) mine = absurd (cc mine)
 at_own t (Usage login k) mine = absurd (cc mine)
 at_own t (ListRequest k after) mine = absurd (cc mine)

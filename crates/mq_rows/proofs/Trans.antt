@@ -51,9 +51,9 @@ abbrev pub entry : Request → Reply → Entry
 entry r a = record { request = r; reply = a }
 
 pub retires_nothing : (r : Request) (t : Transaction) → is_retire r ≡ false → retires r t ≡ false
-retires_nothing (Reserve id txn at login count) t h = refl
-retires_nothing (Settle id txn at login count) t h = refl
-retires_nothing (Release id txn at login) t h = refl
+retires_nothing (Reserve id txn moment login count) t h = refl
+retires_nothing (Settle id txn moment login count) t h = refl
+retires_nothing (Release id txn moment login) t h = refl
 retires_nothing (Limit id from cap login) t h = refl
 retires_nothing (Usage login d) t h = refl
 retires_nothing (ListRequest d l) t h = refl
@@ -72,9 +72,9 @@ module _ (day : ℕ → ℕ) (default : ℕ) (laws : Ledger day default) (H : Li
       (subst (λ x. closed H x ≡ false) (sym is) c, u.1, u.2)
 
   pub heard : (r : Request) → IsUnretired H r → IsHeard H r
-  heard (Reserve id txn at login count) above = λ t own none. open_of id txn t (above id refl) own none
-  heard (Settle id txn at login count) above = λ t own none. open_of id txn t (above id refl) own none
-  heard (Release id txn at login) above = λ t own none. open_of id txn t (above id refl) own none
+  heard (Reserve id txn moment login count) above = λ t own none. open_of id txn t (above id refl) own none
+  heard (Settle id txn moment login count) above = λ t own none. open_of id txn t (above id refl) own none
+  heard (Release id txn moment login) above = λ t own none. open_of id txn t (above id refl) own none
   heard (Limit id from cap login) above = λ t own none. absurd (cc own)
   heard (Usage login d) above = λ t own none. absurd (cc own)
   heard (ListRequest d l) above = λ t own none. absurd (cc own)
@@ -218,32 +218,32 @@ pub record IsStanding (t : TransactionRecord) (a : Reply) : Type 0 where
 
 -- the count of a reserve or settle
 abbrev pub count_of : Request → ℕ
-count_of (Reserve id txn at login count) = count
-count_of (Settle id txn at login count) = count
+count_of (Reserve id txn moment login count) = count
+count_of (Settle id txn moment login count) = count
 count_of _ = 0
 
 pub after_is_moved : (r : Request) (a : Reply) (t : TransactionRecord) → Suits r a → IsStanding t a → after r a t ≡ moved (count_of r) a t
-after_is_moved (Reserve id txn at login count) (Granted id' n) t suits h = grants (Reserve id txn at login count) (Granted id' n) t count refl refl refl (h.open_to refl)
-after_is_moved (Reserve id txn at login count) (Full id' n cap) t suits h = stay (Reserve id txn at login count) (Full id' n cap) t refl refl refl h.nothing_held
-after_is_moved (Reserve id txn at login count) (Closed id') t suits h = stay (Reserve id txn at login count) (Closed id') t refl refl refl h.nothing_held
-after_is_moved (Reserve id txn at login count) (Mismatch id') t suits h = stay (Reserve id txn at login count) (Mismatch id') t refl refl refl h.nothing_held
-after_is_moved (Reserve id txn at login count) (Conflict id') t suits h = stay (Reserve id txn at login count) (Conflict id') t refl refl refl h.nothing_held
-after_is_moved (Reserve id txn at login count) (Old id') t suits h = stay (Reserve id txn at login count) (Old id') t refl refl refl h.nothing_held
-after_is_moved (Settle id txn at login count) (Settled id' n) t suits h =
+after_is_moved (Reserve id txn moment login count) (Granted id' n) t suits h = grants (Reserve id txn moment login count) (Granted id' n) t count refl refl refl (h.open_to refl)
+after_is_moved (Reserve id txn moment login count) (Full id' n cap) t suits h = stay (Reserve id txn moment login count) (Full id' n cap) t refl refl refl h.nothing_held
+after_is_moved (Reserve id txn moment login count) (Closed id') t suits h = stay (Reserve id txn moment login count) (Closed id') t refl refl refl h.nothing_held
+after_is_moved (Reserve id txn moment login count) (Mismatch id') t suits h = stay (Reserve id txn moment login count) (Mismatch id') t refl refl refl h.nothing_held
+after_is_moved (Reserve id txn moment login count) (Conflict id') t suits h = stay (Reserve id txn moment login count) (Conflict id') t refl refl refl h.nothing_held
+after_is_moved (Reserve id txn moment login count) (Old id') t suits h = stay (Reserve id txn moment login count) (Old id') t refl refl refl h.nothing_held
+after_is_moved (Settle id txn moment login count) (Settled id' n) t suits h =
     let s : t.settled + count ≡ count = omega (arith, h.nothing_settled (h.open_to refl)) in
-    shuts (Settle id txn at login count) (Settled id' n) t count refl s
-after_is_moved (Settle id txn at login count) (TooMany id' n) t suits h = stay (Settle id txn at login count) (TooMany id' n) t refl refl refl h.nothing_held
-after_is_moved (Settle id txn at login count) (Closed id') t suits h = stay (Settle id txn at login count) (Closed id') t refl refl refl h.nothing_held
-after_is_moved (Settle id txn at login count) (Mismatch id') t suits h = stay (Settle id txn at login count) (Mismatch id') t refl refl refl h.nothing_held
-after_is_moved (Settle id txn at login count) (Conflict id') t suits h = stay (Settle id txn at login count) (Conflict id') t refl refl refl h.nothing_held
-after_is_moved (Settle id txn at login count) (Old id') t suits h = stay (Settle id txn at login count) (Old id') t refl refl refl h.nothing_held
-after_is_moved (Release id txn at login) (Released id' n) t suits h =
+    shuts (Settle id txn moment login count) (Settled id' n) t count refl s
+after_is_moved (Settle id txn moment login count) (TooMany id' n) t suits h = stay (Settle id txn moment login count) (TooMany id' n) t refl refl refl h.nothing_held
+after_is_moved (Settle id txn moment login count) (Closed id') t suits h = stay (Settle id txn moment login count) (Closed id') t refl refl refl h.nothing_held
+after_is_moved (Settle id txn moment login count) (Mismatch id') t suits h = stay (Settle id txn moment login count) (Mismatch id') t refl refl refl h.nothing_held
+after_is_moved (Settle id txn moment login count) (Conflict id') t suits h = stay (Settle id txn moment login count) (Conflict id') t refl refl refl h.nothing_held
+after_is_moved (Settle id txn moment login count) (Old id') t suits h = stay (Settle id txn moment login count) (Old id') t refl refl refl h.nothing_held
+after_is_moved (Release id txn moment login) (Released id' n) t suits h =
     let s : t.settled + 0 ≡ t.settled = omega arith in
-    shuts (Release id txn at login) (Released id' n) t t.settled refl s
-after_is_moved (Release id txn at login) (Closed id') t suits h = stay (Release id txn at login) (Closed id') t refl refl refl h.nothing_held
-after_is_moved (Release id txn at login) (Mismatch id') t suits h = stay (Release id txn at login) (Mismatch id') t refl refl refl h.nothing_held
-after_is_moved (Release id txn at login) (Conflict id') t suits h = stay (Release id txn at login) (Conflict id') t refl refl refl h.nothing_held
-after_is_moved (Release id txn at login) (Old id') t suits h = stay (Release id txn at login) (Old id') t refl refl refl h.nothing_held
+    shuts (Release id txn moment login) (Released id' n) t t.settled refl s
+after_is_moved (Release id txn moment login) (Closed id') t suits h = stay (Release id txn moment login) (Closed id') t refl refl refl h.nothing_held
+after_is_moved (Release id txn moment login) (Mismatch id') t suits h = stay (Release id txn moment login) (Mismatch id') t refl refl refl h.nothing_held
+after_is_moved (Release id txn moment login) (Conflict id') t suits h = stay (Release id txn moment login) (Conflict id') t refl refl refl h.nothing_held
+after_is_moved (Release id txn moment login) (Old id') t suits h = stay (Release id txn moment login) (Old id') t refl refl refl h.nothing_held
 after_is_moved (Limit id from c login) (LimitSet id') t suits h = stay (Limit id from c login) (LimitSet id') t refl refl refl h.nothing_held
 after_is_moved (Limit id from c login) (Over id' d n) t suits h = stay (Limit id from c login) (Over id' d n) t refl refl refl h.nothing_held
 after_is_moved (Limit id from c login) (Conflict id') t suits h = stay (Limit id from c login) (Conflict id') t refl refl refl h.nothing_held
@@ -274,8 +274,8 @@ unmoved count (Released id n) t h = absurd (cc h)
 unmoved count a t h = refl
 
 -- a closed transaction's reply moves nothing
-shut_moves_nothing : (H : List Entry) (id : Id) (txn at : ℕ) (login : List ℕ) (a : Reply) → closed H (transaction id txn) ≡ true → moves (if_open H id txn at login a) ≡ false
-shut_moves_nothing H id txn at login a h = elim (either (agrees at login (named H (transaction id txn)))) [
+shut_moves_nothing : (H : List Entry) (id : Id) (txn moment : ℕ) (login : List ℕ) (a : Reply) → closed H (transaction id txn) ≡ true → moves (if_open H id txn moment login a) ≡ false
+shut_moves_nothing H id txn moment login a h = elim (either (agrees moment login (named H (transaction id txn)))) [
   | inl t ↦ rw (t, h) refl
   | inr f ↦ rw f refl
 ]
@@ -286,9 +286,9 @@ open_if_moved false m h g = refl
 
 -- the row that was found of the request's transaction
 abbrev pub IsTransactionFound : (ℕ → ℕ) → List Entry → Request → Option TransactionRecord → Type 0
-IsTransactionFound day H (Reserve id txn at login count) o = o ≡ transaction_row day H (transaction id txn)
-IsTransactionFound day H (Settle id txn at login count) o = o ≡ transaction_row day H (transaction id txn)
-IsTransactionFound day H (Release id txn at login) o = o ≡ transaction_row day H (transaction id txn)
+IsTransactionFound day H (Reserve id txn moment login count) o = o ≡ transaction_row day H (transaction id txn)
+IsTransactionFound day H (Settle id txn moment login count) o = o ≡ transaction_row day H (transaction id txn)
+IsTransactionFound day H (Release id txn moment login) o = o ≡ transaction_row day H (transaction id txn)
 IsTransactionFound day H _ o = Unit {0}
 
 module _ (H : List Entry) (r : Request) (a : Reply) (es : Entries H r a) where
@@ -368,18 +368,18 @@ module _ (H : List Entry) (r : Request) (a : Reply) (es : Entries H r a) where
 pub transactions_lead : (day : ℕ → ℕ) (default : ℕ) (H : List Entry) (rows : List TransactionRecord) (r : Request) (o : Option TransactionRecord) → Entries H r (answer day default H r)
     → is_retire r ≡ false → Suits r (answer day default H r) → AreTransactions day H rows → IsTransactionFound day H r o
     → Leads same_key set_transaction (transaction_write day r (answer day default H r) o) rows (AreTransactions day (H ++ entry r (answer day default H r) ∷ []))
-transactions_lead day default H rows (Reserve id txn at login count) o es plain suits are found =
-    let r : Request = Reserve id txn at login count in
-    follow H r (answer day default H r) es day rows (transaction id txn) (fresh day id txn at login) o are found (λ t. refl) refl suits
-    (shut_moves_nothing H id txn at login (granted_or_full id (used day H login (day at)) (cap default H login (day at)) count))
-transactions_lead day default H rows (Settle id txn at login count) o es plain suits are found =
-    let r : Request = Settle id txn at login count in
-    follow H r (answer day default H r) es day rows (transaction id txn) (fresh day id txn at login) o are found (λ t. refl) refl suits
-    (shut_moves_nothing H id txn at login (settled_or_too_many id (held H (transaction id txn)) count))
-transactions_lead day default H rows (Release id txn at login) o es plain suits are found =
-    let r : Request = Release id txn at login in
-    follow H r (answer day default H r) es day rows (transaction id txn) (fresh day id txn at login) o are found (λ t. refl) refl suits
-    (shut_moves_nothing H id txn at login (Released id (held H (transaction id txn))))
+transactions_lead day default H rows (Reserve id txn moment login count) o es plain suits are found =
+    let r : Request = Reserve id txn moment login count in
+    follow H r (answer day default H r) es day rows (transaction id txn) (fresh day id txn moment login) o are found (λ t. refl) refl suits
+    (shut_moves_nothing H id txn moment login (granted_or_full id (used day H login (day moment)) (cap default H login (day moment)) count))
+transactions_lead day default H rows (Settle id txn moment login count) o es plain suits are found =
+    let r : Request = Settle id txn moment login count in
+    follow H r (answer day default H r) es day rows (transaction id txn) (fresh day id txn moment login) o are found (λ t. refl) refl suits
+    (shut_moves_nothing H id txn moment login (settled_or_too_many id (held H (transaction id txn)) count))
+transactions_lead day default H rows (Release id txn moment login) o es plain suits are found =
+    let r : Request = Release id txn moment login in
+    follow H r (answer day default H r) es day rows (transaction id txn) (fresh day id txn moment login) o are found (λ t. refl) refl suits
+    (shut_moves_nothing H id txn moment login (Released id (held H (transaction id txn))))
 transactions_lead day default H rows (Limit id from c login) o es plain suits are found =
     let r : Request = Limit id from c login in λ t. are t ∙ ap those (sym (others_stay H r (answer day default H r) es day t refl))
 transactions_lead day default H rows (Usage login d) o es plain suits are found =

@@ -62,8 +62,8 @@ cap_or default (Some c) = c.cap
 
 -- a moment in range, of that day
 abbrev pub is_moment_of : (ℕ → ℕ) → ℤ → ℤ → Bool
-is_moment_of day d (pos at) = nat_le FIRST_MOMENT at && (nat_le at LAST_MOMENT && int_eq (pos (day at)) d)
-is_moment_of day d (negsuc at) = false
+is_moment_of day d (pos moment) = nat_le FIRST_MOMENT moment && (nat_le moment LAST_MOMENT && int_eq (pos (day moment)) d)
+is_moment_of day d (negsuc moment) = false
 
 -- each of them has a moment of its day
 abbrev pub are_dated : (ℕ → ℕ) → List TransactionFigures → Bool

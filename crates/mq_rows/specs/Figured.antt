@@ -3,7 +3,7 @@ use Rattle.std.specs.Prelude.{pos, map}
 use Rattle.mq_rows.specs.declared.audited.LimitFigures.{LimitFigures}
 use Rattle.mq_rows.specs.declared.audited.TransactionFigures.{TransactionFigures}
 use Rattle.mq_rows.specs.declared.audited.UsageFigures.{UsageFigures}
-use Rattle.mq_rows.specs.declared.record.CeilingRecord.{CeilingRecord}
+use Rattle.mq_rows.specs.declared.record.LimitRecord.{LimitRecord}
 use Rattle.mq_rows.specs.declared.record.TransactionRecord.{TransactionRecord}
 use Rattle.mq_rows.specs.declared.record.UsageRecord.{UsageRecord}
 use Rattle.mq_rows.specs.Audit.{Figures}
@@ -24,7 +24,7 @@ transaction_figures t = record {
   settled = pos t.settled;
 }
 
-abbrev pub limit_figures : CeilingRecord → LimitFigures
+abbrev pub limit_figures : LimitRecord → LimitFigures
 limit_figures c = record { pair = record { login = c.login; day = pos c.day }; cap = pos c.cap }
 
 -- those of all rows
@@ -32,5 +32,5 @@ abbrev pub figures : Tables → Figures
 figures t = record {
   usage = map usage_figures t.usage;
   transactions = map transaction_figures t.transactions;
-  limits = map limit_figures t.ceilings;
+  limits = map limit_figures t.limits;
 }

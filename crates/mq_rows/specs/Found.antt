@@ -8,17 +8,17 @@ use Rattle.mq_frame.specs.declared.message.Request.TheVariants.{List as ListRequ
 use Rattle.mq_frame.specs.Same.{same_text}
 use Rattle.mq_ledger.specs.History.{transaction}
 use Rattle.mq_rows.specs.declared.record.UsageRecord.{UsageRecord}
-use Rattle.mq_rows.specs.declared.record.CeilingRecord.{CeilingRecord}
+use Rattle.mq_rows.specs.declared.record.LimitRecord.{LimitRecord}
 use Rattle.mq_rows.specs.declared.plan.Found.{Found}
-use Rattle.mq_rows.specs.Rows.{is_transaction, is_usage, is_ceiling, is_host}
+use Rattle.mq_rows.specs.Rows.{is_transaction, is_usage, is_limit, is_host}
 use Rattle.mq_rows.specs.Tables.{Tables}
 
 -- the limit is the login's, and holds from that day or an earlier one on
-abbrev pub is_due : List ℕ → ℕ → CeilingRecord → Bool
+abbrev pub is_due : List ℕ → ℕ → LimitRecord → Bool
 is_due login day c = same_text login c.login && nat_le c.day day
 
 -- of the rows that are due it is the latest; none where none is due
-abbrev pub IsGoverning : List ℕ → ℕ → List CeilingRecord → Option CeilingRecord → Type 0
+abbrev pub IsGoverning : List ℕ → ℕ → List LimitRecord → Option LimitRecord → Type 0
 IsGoverning login day rows None = AllByRecursion (λ c. is_due login day c ≡ false) rows
 IsGoverning login day rows (Some c) =
     Contains rows c × (is_due login day c ≡ true)
@@ -37,19 +37,19 @@ IsFirstOver login from cap rows (Some u) =
 
 -- what was found is what the tables have about the request
 abbrev pub IsFound : (ℕ → ℕ) → Tables → Request → Found → Type 0
-IsFound day t (Reserve id txn at login count) f =
+IsFound day t (Reserve id txn moment login count) f =
     (f.transaction ≡ find (is_transaction (transaction id txn)) t.transactions)
-    × (f.usage ≡ find (is_usage login (day at)) t.usage)
-    × IsGoverning login (day at) t.ceilings f.governing
-IsFound day t (Settle id txn at login count) f =
+    × (f.usage ≡ find (is_usage login (day moment)) t.usage)
+    × IsGoverning login (day moment) t.limits f.governing
+IsFound day t (Settle id txn moment login count) f =
     (f.transaction ≡ find (is_transaction (transaction id txn)) t.transactions)
-    × (f.usage ≡ find (is_usage login (day at)) t.usage)
-IsFound day t (Release id txn at login) f =
+    × (f.usage ≡ find (is_usage login (day moment)) t.usage)
+IsFound day t (Release id txn moment login) f =
     (f.transaction ≡ find (is_transaction (transaction id txn)) t.transactions)
-    × (f.usage ≡ find (is_usage login (day at)) t.usage)
+    × (f.usage ≡ find (is_usage login (day moment)) t.usage)
 IsFound day t (Limit id from_day asked login) f =
     IsFirstOver login from_day asked t.usage f.over
-    × (f.ceiling ≡ find (is_ceiling login from_day) t.ceilings)
+    × (f.limit ≡ find (is_limit login from_day) t.limits)
 IsFound day t (Usage login d) f = Unit {0}
 IsFound day t (ListRequest d after) f = Unit {0}
 IsFound day t (Retire id) f = f.floor ≡ find (is_host id.host) t.retired

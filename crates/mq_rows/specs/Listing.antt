@@ -7,7 +7,7 @@ use Rattle.mq_frame.specs.declared.message.Reply.TheVariants.{Usage as UsageRepl
 use Rattle.mq_frame.specs.declared.usage.UsageRow.{UsageRow}
 use Rattle.mq_ledger.specs.Page.{below}
 use Rattle.mq_rows.specs.declared.record.UsageRecord.{UsageRecord}
-use Rattle.mq_rows.specs.declared.record.CeilingRecord.{CeilingRecord}
+use Rattle.mq_rows.specs.declared.record.LimitRecord.{LimitRecord}
 use Rattle.mq_rows.specs.Plan.{reserved_by, cap_by}
 
 abbrev pub settled_by : Option UsageRecord → ℕ
@@ -15,11 +15,11 @@ settled_by None = 0
 settled_by (Some u) = u.settled
 
 -- what the login has used on that day, and its limit
-abbrev pub usage_reply_by : ℕ → List ℕ → ℕ → Option UsageRecord → Option CeilingRecord → Reply
+abbrev pub usage_reply_by : ℕ → List ℕ → ℕ → Option UsageRecord → Option LimitRecord → Reply
 usage_reply_by default login day u c = UsageReply login day (settled_by u) (reserved_by u) (cap_by default c)
 
 -- the same as a row of a page
-abbrev pub page_row_by : ℕ → UsageRecord → Option CeilingRecord → UsageRow
+abbrev pub page_row_by : ℕ → UsageRecord → Option LimitRecord → UsageRow
 page_row_by default u c = record { login = u.login; settled = u.settled; reserved = u.reserved; cap = cap_by default c }
 
 -- the amounts are in range

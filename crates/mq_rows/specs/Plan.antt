@@ -16,7 +16,7 @@ use Rattle.mq_ledger.specs.Answer.{granted_or_full, settled_or_too_many}
 use Rattle.mq_rows.specs.declared.record.TransactionRecord.{TransactionRecord}
 use Rattle.mq_rows.specs.declared.record.UsageRecord.{UsageRecord}
 use Rattle.mq_rows.specs.declared.record.AnswerRecord.{AnswerRecord}
-use Rattle.mq_rows.specs.declared.record.CeilingRecord.{CeilingRecord}
+use Rattle.mq_rows.specs.declared.record.LimitRecord.{LimitRecord}
 use Rattle.mq_rows.specs.declared.record.RetiredRecord.{RetiredRecord}
 use Rattle.mq_rows.specs.declared.plan.Found.{Found}
 use Rattle.mq_rows.specs.declared.plan.Plan.{Plan}
@@ -24,14 +24,14 @@ use Rattle.mq_rows.specs.declared.plan.Runs.{Runs}
 use Rattle.mq_rows.specs.declared.plan.Write.{Write}
 use Rattle.mq_rows.specs.declared.plan.Write.TheVariants.{Keep, Insert, Update}
 use Rattle.mq_ledger.specs.History.{Transaction}
-use Rattle.mq_rows.specs.Rows.{answer_of, is_transaction, is_usage, is_ceiling, is_host}
+use Rattle.mq_rows.specs.Rows.{answer_of, is_transaction, is_usage, is_limit, is_host}
 
 -- What was found, as numbers: nothing where there is no row.
 
 -- no row has another login or moment
 abbrev pub agrees_with : ℕ → List ℕ → Option TransactionRecord → Bool
-agrees_with at login None = true
-agrees_with at login (Some t) = (at == t.moment) && same_text login t.login
+agrees_with moment login None = true
+agrees_with moment login (Some t) = (moment == t.moment) && same_text login t.login
 
 abbrev pub is_closed : Option TransactionRecord → Bool
 is_closed None = false
@@ -50,7 +50,7 @@ used_by None = 0
 used_by (Some u) = u.reserved + u.settled
 
 -- the limit that governs, or the default
-abbrev pub cap_by : ℕ → Option CeilingRecord → ℕ
+abbrev pub cap_by : ℕ → Option LimitRecord → ℕ
 cap_by default None = default
 cap_by default (Some c) = c.cap
 
@@ -58,8 +58,8 @@ cap_by default (Some c) = c.cap
 
 -- Mismatch where the row has another login or moment, Closed where it is closed, else that reply
 abbrev pub if_row_open : Id → ℕ → List ℕ → Option TransactionRecord → Reply → Reply
-if_row_open id at login t a =
-    if not (agrees_with at login t) then Mismatch id else (if is_closed t then Closed id else a)
+if_row_open id moment login t a =
+    if not (agrees_with moment login t) then Mismatch id else (if is_closed t then Closed id else a)
 
 -- a limit, where that row is the first with more used
 abbrev pub set_or_over_by : Id → Option UsageRecord → Reply
@@ -68,12 +68,12 @@ set_or_over_by id (Some u) = Over id u.day (u.reserved + u.settled)
 
 -- the reply to a numbered request
 abbrev pub decided : ℕ → Request → Found → Reply
-decided default (Reserve id txn at login count) f =
-    if_row_open id at login f.transaction (granted_or_full id (used_by f.usage) (cap_by default f.governing) count)
-decided default (Settle id txn at login count) f =
-    if_row_open id at login f.transaction (settled_or_too_many id (held_by f.transaction) count)
-decided default (Release id txn at login) f =
-    if_row_open id at login f.transaction (Released id (held_by f.transaction))
+decided default (Reserve id txn moment login count) f =
+    if_row_open id moment login f.transaction (granted_or_full id (used_by f.usage) (cap_by default f.governing) count)
+decided default (Settle id txn moment login count) f =
+    if_row_open id moment login f.transaction (settled_or_too_many id (held_by f.transaction) count)
+decided default (Release id txn moment login) f =
+    if_row_open id moment login f.transaction (Released id (held_by f.transaction))
 decided default (Limit id from_day asked login) f = set_or_over_by id f.over
 decided default (Usage login day) f = Bad
 decided default (ListRequest day after) f = Bad
@@ -83,13 +83,13 @@ decided default (Retire id) f = Retired id
 
 -- the row of a transaction before its first request is answered
 abbrev pub fresh : (ℕ → ℕ) → Id → ℕ → ℕ → List ℕ → TransactionRecord
-fresh day id txn at login = record {
+fresh day id txn moment login = record {
   host = id.host;
   run = id.run;
   txn = txn;
   login = login;
-  moment = at;
-  day = day at;
+  moment = moment;
+  day = day moment;
   held = 0;
   settled = 0;
   closed = false;
@@ -116,9 +116,9 @@ moved_or_made count a new (Some t) = if moves a then Update (moved count a t) el
 
 -- trans
 abbrev pub transaction_write : (ℕ → ℕ) → Request → Reply → Option TransactionRecord → Write TransactionRecord
-transaction_write day (Reserve id txn at login count) a t = moved_or_made count a (fresh day id txn at login) t
-transaction_write day (Settle id txn at login count) a t = moved_or_made count a (fresh day id txn at login) t
-transaction_write day (Release id txn at login) a t = moved_or_made 0 a (fresh day id txn at login) t
+transaction_write day (Reserve id txn moment login count) a t = moved_or_made count a (fresh day id txn moment login) t
+transaction_write day (Settle id txn moment login count) a t = moved_or_made count a (fresh day id txn moment login) t
+transaction_write day (Release id txn moment login) a t = moved_or_made 0 a (fresh day id txn moment login) t
 transaction_write day _ a t = Keep
 
 -- so many more are reserved
@@ -134,20 +134,20 @@ freed count held (Some u) =
 
 -- usage, where the transaction held so many
 abbrev pub usage_write : (ℕ → ℕ) → Request → Reply → ℕ → Option UsageRecord → Write UsageRecord
-usage_write day (Reserve id txn at login count) (Granted id' used) held u = reserved_more login (day at) count u
-usage_write day (Settle id txn at login count) (Settled id' settled) held u = freed count held u
-usage_write day (Release id txn at login) (Released id' released) held u = freed 0 held u
+usage_write day (Reserve id txn moment login count) (Granted id' used) held u = reserved_more login (day moment) count u
+usage_write day (Settle id txn moment login count) (Settled id' settled) held u = freed count held u
+usage_write day (Release id txn moment login) (Released id' released) held u = freed 0 held u
 usage_write day _ _ held u = Keep
 
 -- the limit of that login and day is set
-abbrev pub set_ceiling_to : List ℕ → ℕ → ℕ → Option CeilingRecord → Write CeilingRecord
-set_ceiling_to login day cap None = Insert (record { login = login; day = day; cap = cap })
-set_ceiling_to login day cap (Some c) = Update (record c { cap = cap })
+abbrev pub set_limit_to : List ℕ → ℕ → ℕ → Option LimitRecord → Write LimitRecord
+set_limit_to login day cap None = Insert (record { login = login; day = day; cap = cap })
+set_limit_to login day cap (Some c) = Update (record c { cap = cap })
 
 -- `ceiling`
-abbrev pub ceiling_write : Request → Reply → Option CeilingRecord → Write CeilingRecord
-ceiling_write (Limit id from_day asked login) (LimitSet id') c = set_ceiling_to login from_day asked c
-ceiling_write _ _ c = Keep
+abbrev pub limit_write : Request → Reply → Option LimitRecord → Write LimitRecord
+limit_write (Limit id from_day asked login) (LimitSet id') c = set_limit_to login from_day asked c
+limit_write _ _ c = Keep
 
 -- the floor that was found, and 0 where there is no row
 abbrev pub floor_by : Option RetiredRecord → ℕ
@@ -178,7 +178,7 @@ written day arrivals r f a = record {
   given_up = given_up_by r f;
   transaction = transaction_write day r a f.transaction;
   usage = usage_write day r a (held_by f.transaction) f.usage;
-  ceiling = ceiling_write r a f.ceiling;
+  limit = limit_write r a f.limit;
   retired = retired_write r f.floor;
 }
 
@@ -198,8 +198,8 @@ fits t u = fits_held (held_by t) u
 
 -- so they are where the transaction is open to the request, and the limit is in range
 abbrev pub fits_if_open : ℕ → List ℕ → ℕ → Option TransactionRecord → Option UsageRecord → Bool
-fits_if_open at login cap t u =
-    if agrees_with at login t && not (is_closed t) then fits t u && nat_le cap 1000000 else true
+fits_if_open moment login cap t u =
+    if agrees_with moment login t && not (is_closed t) then fits t u && nat_le cap 1000000 else true
 
 -- the day and what is used on it are in range
 abbrev pub is_day_over : Option UsageRecord → Bool
@@ -208,10 +208,10 @@ is_day_over (Some u) = nat_le u.day 376200 && nat_le (u.reserved + u.settled) 10
 
 -- the rows that were found may be those of a legal history
 abbrev pub may_be_found : ℕ → Request → Found → Bool
-may_be_found default (Reserve id txn at login count) f =
-    fits_if_open at login (cap_by default f.governing) f.transaction f.usage
-may_be_found default (Settle id txn at login count) f = fits_if_open at login 0 f.transaction f.usage
-may_be_found default (Release id txn at login) f = fits_if_open at login 0 f.transaction f.usage
+may_be_found default (Reserve id txn moment login count) f =
+    fits_if_open moment login (cap_by default f.governing) f.transaction f.usage
+may_be_found default (Settle id txn moment login count) f = fits_if_open moment login 0 f.transaction f.usage
+may_be_found default (Release id txn moment login) f = fits_if_open moment login 0 f.transaction f.usage
 may_be_found default (Limit id from_day asked login) f = is_day_over f.over
 may_be_found default _ f = true
 
@@ -256,11 +256,11 @@ same_day new other = is_usage new.login new.day other
 abbrev pub set_usage : UsageRecord → UsageRecord → UsageRecord
 set_usage new was = record was { settled = new.settled; reserved = new.reserved }
 
-abbrev pub same_from : CeilingRecord → CeilingRecord → Bool
-same_from new other = is_ceiling new.login new.day other
+abbrev pub same_from : LimitRecord → LimitRecord → Bool
+same_from new other = is_limit new.login new.day other
 
-abbrev pub set_ceiling : CeilingRecord → CeilingRecord → CeilingRecord
-set_ceiling new was = record was { cap = new.cap }
+abbrev pub set_limit : LimitRecord → LimitRecord → LimitRecord
+set_limit new was = record was { cap = new.cap }
 
 abbrev pub same_host : RetiredRecord → RetiredRecord → Bool
 same_host new other = is_host new.host other

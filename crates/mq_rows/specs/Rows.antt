@@ -23,7 +23,7 @@ use Rattle.mq_rows.specs.declared.record.SettingRecord.{SettingRecord}
 use Rattle.mq_rows.specs.declared.record.AnswerRecord.{AnswerRecord}
 use Rattle.mq_rows.specs.declared.record.TransactionRecord.{TransactionRecord}
 use Rattle.mq_rows.specs.declared.record.UsageRecord.{UsageRecord}
-use Rattle.mq_rows.specs.declared.record.CeilingRecord.{CeilingRecord}
+use Rattle.mq_rows.specs.declared.record.LimitRecord.{LimitRecord}
 use Rattle.mq_rows.specs.declared.record.RetiredRecord.{RetiredRecord}
 use Rattle.mq_rows.specs.declared.setting.TheConstants.{VERSION}
 
@@ -53,7 +53,7 @@ pub record IsSetting (b : Book) (s : SettingRecord) : Type 0 where
 
 -- the number of a request; every request of a history has one
 abbrev pub number_of : Request → Id
-number_of r = unwrap_or (id_of r) (record { host = []; run = 0; seq = 0 })
+number_of r = unwrap_or (id_of r) (record { host = []; run = 0; number = 0 })
 
 -- the n-th entry's number, and the bodies that spell its request and its reply
 abbrev pub answer_of : ℕ → Entry → AnswerRecord
@@ -75,16 +75,16 @@ answer_rows H = map (λ p. answer_row H p.0 p.1) (enumerate_from 1 H)
 
 -- the login of a reserve, settle or release
 abbrev pub login_of : Request → List ℕ
-login_of (Reserve id txn at login count) = login
-login_of (Settle id txn at login count) = login
-login_of (Release id txn at login) = login
+login_of (Reserve id txn moment login count) = login
+login_of (Settle id txn moment login count) = login
+login_of (Release id txn moment login) = login
 login_of _ = []
 
 -- the moment of a reserve, settle or release
 abbrev pub moment_of : Request → ℕ
-moment_of (Reserve id txn at login count) = at
-moment_of (Settle id txn at login count) = at
-moment_of (Release id txn at login) = at
+moment_of (Reserve id txn moment login count) = moment
+moment_of (Settle id txn moment login count) = moment
+moment_of (Release id txn moment login) = moment
 moment_of _ = 0
 
 -- the row of a transaction that the entry is the first of
@@ -113,8 +113,8 @@ usage_row day H l d =
     else None
 
 -- `ceiling`: a row for each login and day from which a limit was set, with the cap of the last of them
-abbrev pub ceiling_row : List Entry → List ℕ → ℕ → Option CeilingRecord
-ceiling_row H l d = option_map (λ c. record { login = l; day = d; cap = c }) (set_cap H l d)
+abbrev pub limit_row : List Entry → List ℕ → ℕ → Option LimitRecord
+limit_row H l d = option_map (λ c. record { login = l; day = d; cap = c }) (set_cap H l d)
 
 -- retired: a row for each host whose floor is above 0
 abbrev pub retired_row : List Entry → List ℕ → Option RetiredRecord
@@ -133,5 +133,5 @@ abbrev pub is_usage : List ℕ → ℕ → UsageRecord → Bool
 is_usage l d r = same_text l r.login && (r.day == d)
 
 -- the row is of that login and day
-abbrev pub is_ceiling : List ℕ → ℕ → CeilingRecord → Bool
-is_ceiling l d r = same_text l r.login && (r.day == d)
+abbrev pub is_limit : List ℕ → ℕ → LimitRecord → Bool
+is_limit l d r = same_text l r.login && (r.day == d)

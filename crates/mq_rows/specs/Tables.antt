@@ -8,10 +8,10 @@ use Rattle.mq_rows.specs.declared.record.SettingRecord.{SettingRecord}
 use Rattle.mq_rows.specs.declared.record.AnswerRecord.{AnswerRecord}
 use Rattle.mq_rows.specs.declared.record.TransactionRecord.{TransactionRecord}
 use Rattle.mq_rows.specs.declared.record.UsageRecord.{UsageRecord}
-use Rattle.mq_rows.specs.declared.record.CeilingRecord.{CeilingRecord}
+use Rattle.mq_rows.specs.declared.record.LimitRecord.{LimitRecord}
 use Rattle.mq_rows.specs.declared.record.RetiredRecord.{RetiredRecord}
-use Rattle.mq_rows.specs.Rows.{IsSetting, answer_rows, transaction_row, usage_row, ceiling_row, retired_row}
-use Rattle.mq_rows.specs.Rows.{is_transaction, is_usage, is_ceiling, is_host}
+use Rattle.mq_rows.specs.Rows.{IsSetting, answer_rows, transaction_row, usage_row, limit_row, retired_row}
+use Rattle.mq_rows.specs.Rows.{is_transaction, is_usage, is_limit, is_host}
 
 -- the tables' rows: that of the settings with the rule, which has a table of its own from version 2 on; the answers in the
 -- order of n; the rows of the others in any order; those of the floors have a table of their own from version 3 on
@@ -20,7 +20,7 @@ pub record Tables : Type 0 where
   pub answers : List AnswerRecord
   pub transactions : List TransactionRecord
   pub usage : List UsageRecord
-  pub ceilings : List CeilingRecord
+  pub limits : List LimitRecord
   pub retired : List RetiredRecord
 
 -- the one, or none
@@ -37,8 +37,8 @@ abbrev pub AreUsage : (ℕ → ℕ) → List Entry → List UsageRecord → Type
 AreUsage day H rows = (l : List ℕ) (d : ℕ) → filter (is_usage l d) rows ≡ those (usage_row day H l d)
 
 -- the rows are those of the limits that were set: of each login and day the one, once, and no others
-abbrev pub AreCeilings : List Entry → List CeilingRecord → Type 0
-AreCeilings H rows = (l : List ℕ) (d : ℕ) → filter (is_ceiling l d) rows ≡ those (ceiling_row H l d)
+abbrev pub AreLimits : List Entry → List LimitRecord → Type 0
+AreLimits H rows = (l : List ℕ) (d : ℕ) → filter (is_limit l d) rows ≡ those (limit_row H l d)
 
 -- the rows are those of the floors: of each host the one, once, and no others
 abbrev pub AreRetired : List Entry → List RetiredRecord → Type 0
@@ -50,5 +50,5 @@ pub record AreRows (b : Book) (t : Tables) : Type 0 where
   pub answers : t.answers ≡ answer_rows b.history
   pub transactions : AreTransactions (day_of b.zone) b.history t.transactions
   pub usage : AreUsage (day_of b.zone) b.history t.usage
-  pub ceilings : AreCeilings b.history t.ceilings
+  pub limits : AreLimits b.history t.limits
   pub retired : AreRetired b.history t.retired

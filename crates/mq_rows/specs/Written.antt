@@ -6,8 +6,8 @@ use Rattle.mq_rows.specs.declared.plan.Plan.{Plan}
 use Rattle.mq_rows.specs.declared.record.TransactionRecord.{TransactionRecord}
 use Rattle.mq_rows.specs.declared.record.UsageRecord.{UsageRecord}
 use Rattle.mq_rows.specs.Rows.{IsSetting, answer_rows}
-use Rattle.mq_rows.specs.Tables.{Tables, AreTransactions, AreUsage, AreCeilings, AreRetired}
-use Rattle.mq_rows.specs.Plan.{Leads, same_key, set_transaction, same_day, set_usage, same_from, set_ceiling}
+use Rattle.mq_rows.specs.Tables.{Tables, AreTransactions, AreUsage, AreLimits, AreRetired}
+use Rattle.mq_rows.specs.Plan.{Leads, same_key, set_transaction, same_day, set_usage, same_from, set_limit}
 use Rattle.mq_rows.specs.Plan.{same_host, set_run, AreToClose, LeadsAll, cleared}
 
 -- the planned writes of a transaction and of what its login has used lead to those rows of the book
@@ -23,5 +23,5 @@ pub record LeadTo (b : Book) (t : Tables) (p : Plan) : Type 0 where
   pub answers : cleared p.given_up t.answers ++ p.answer ∷ [] ≡ answer_rows b.history
   pub moves : (these : List TransactionRecord) → AreToClose p.given_up t.transactions these
       → LeadsAll these t.transactions t.usage (MovesLead b p)
-  pub ceilings : Leads same_from set_ceiling p.ceiling t.ceilings (AreCeilings b.history)
+  pub limits : Leads same_from set_limit p.limit t.limits (AreLimits b.history)
   pub retired : Leads same_host set_run p.retired t.retired (AreRetired b.history)

@@ -2,7 +2,7 @@
 ghost use Rattle.std.specs.Prelude.{◌≡◌, List, IfSome};
 ghost use Rattle.mq_ledger.specs.Day.{day_of};
 ghost use Rattle.mq_rows.specs.Audit.{is_moment_of, cap_or, governing};
-ghost use Rattle.mq_rows.specs.declared.audited.LimitFigures.{LimitFigures as AnyLimit};
+ghost use Rattle.mq_rows.specs.declared.audited.LimitFigures.{LimitFigures as AnyLimitFigures};
 ghost use Rattle.mq_rows.specs.Books.{with_row, HasCaps};
 
 use crate::audited::{Pair, TransactionFigures};
@@ -37,10 +37,10 @@ impl Amounts {
 fn is_moment_of(zone: Zone, day: i64, moment: i64) -> bool
     ensures { result ≡ is_moment_of (day_of zone) day moment }
 {
-    let Ok(at) = u64::try_from(moment) else {
+    let Ok(moment) = u64::try_from(moment) else {
         return false;
     };
-    is_moment(at) && i64::from(zone.day_at(at)) == day
+    is_moment(moment) && i64::from(zone.day_at(moment)) == day
 }
 
 impl Sums {
@@ -79,7 +79,7 @@ impl Day {
 
 /// The limit of a pair: that of the login's latest day up to the pair's, or the default.
 pub(crate) fn cap_of(caps: &BTreeMap<Pair, i64>, default: u32, pair: &Pair) -> i64
-    ensures { (limits : List AnyLimit) → HasCaps limits caps.now
+    ensures { (limits : List AnyLimitFigures) → HasCaps limits caps.now
         → result ≡ cap_or default (governing pair.now limits) }
 {
     // (pairs go by login and then by day, so the last one up to it is the login's latest, or another login's)

@@ -22,20 +22,20 @@ ghost use Rattle.mq_ledger.specs.Page.{row, page};
 ghost use Rattle.mq_rows.specs.declared.record.AnswerRecord.{AnswerRecord};
 ghost use Rattle.mq_rows.specs.declared.record.TransactionRecord.{TransactionRecord};
 ghost use Rattle.mq_rows.specs.declared.record.UsageRecord.{UsageRecord};
-ghost use Rattle.mq_rows.specs.declared.record.CeilingRecord.{CeilingRecord};
+ghost use Rattle.mq_rows.specs.declared.record.LimitRecord.{LimitRecord};
 ghost use Rattle.mq_rows.specs.declared.record.RetiredRecord.{RetiredRecord};
 ghost use Rattle.mq_rows.specs.declared.setting.TheConstants.{VERSION};
 ghost use Rattle.mq_rows.specs.declared.plan.Found.{Found};
-ghost use Rattle.mq_rows.specs.Rows.{setting_row, is_version, answer_of, answer_rows, transaction_row, usage_row, ceiling_row};
-ghost use Rattle.mq_rows.specs.Rows.{retired_row, is_transaction, is_usage, is_ceiling, is_host};
-ghost use Rattle.mq_rows.specs.Tables.{Tables, AreTransactions, AreUsage, AreCeilings, AreRetired, AreRows};
+ghost use Rattle.mq_rows.specs.Rows.{setting_row, is_version, answer_of, answer_rows, transaction_row, usage_row, limit_row};
+ghost use Rattle.mq_rows.specs.Rows.{retired_row, is_transaction, is_usage, is_limit, is_host};
+ghost use Rattle.mq_rows.specs.Tables.{Tables, AreTransactions, AreUsage, AreLimits, AreRetired, AreRows};
 ghost use Rattle.mq_rows.specs.Meaning.{meaning, AreSound};
 ghost use Rattle.mq_rows.specs.Found.{IsFound, IsGoverning};
 ghost use Rattle.mq_rows.specs.Repeat.{IsRepeatOf};
 ghost use Rattle.mq_rows.specs.Listing.{usage_reply_by, page_row_by, IsNext, IsNextLogin, AreNext, behind};
-ghost use Rattle.mq_rows.specs.Plan.{held_by, decided, transaction_write, usage_write, ceiling_write, planned};
+ghost use Rattle.mq_rows.specs.Plan.{held_by, decided, transaction_write, usage_write, limit_write, planned};
 ghost use Rattle.mq_rows.specs.Plan.{may_be_found, Leads, same_key, set_transaction, same_day, set_usage, same_from};
-ghost use Rattle.mq_rows.specs.Plan.{set_ceiling, same_host, set_run, retired_write, is_open_in, AreToClose, LeadsAll};
+ghost use Rattle.mq_rows.specs.Plan.{set_limit, same_host, set_run, retired_write, is_open_in, AreToClose, LeadsAll};
 ghost use Rattle.mq_rows.specs.Plan.{cleared, given_up_by, floor_by};
 ghost use Rattle.mq_rows.specs.Retiring.{is_retire, retire_entry, IsUnretired, runs_below, AreMovesOf, CanBeClosed};
 ghost use Rattle.mq_rows.specs.Written.{LeadTo};
@@ -56,8 +56,8 @@ pub fn any_order()
         IsPermutation rows others → AreTransactions day H rows → AreTransactions day H others }
     ensures usage { (day : ℕ → ℕ) (H : List AnyEntry) (rows others : List UsageRecord) →
         IsPermutation rows others → AreUsage day H rows → AreUsage day H others }
-    ensures ceilings { (H : List AnyEntry) (rows others : List CeilingRecord) →
-        IsPermutation rows others → AreCeilings H rows → AreCeilings H others }
+    ensures limits { (H : List AnyEntry) (rows others : List LimitRecord) →
+        IsPermutation rows others → AreLimits H rows → AreLimits H others }
     ensures retired { (H : List AnyEntry) (rows others : List RetiredRecord) →
         IsPermutation rows others → AreRetired H rows → AreRetired H others }
 {}
@@ -68,8 +68,8 @@ pub fn rows_by_key()
         AreTransactions day H rows → find (is_transaction t) rows ≡ transaction_row day H t }
     ensures usage { (day : ℕ → ℕ) (H : List AnyEntry) (rows : List UsageRecord) (l : List ℕ) (d : ℕ) →
         AreUsage day H rows → find (is_usage l d) rows ≡ usage_row day H l d }
-    ensures ceiling { (H : List AnyEntry) (rows : List CeilingRecord) (l : List ℕ) (d : ℕ) →
-        AreCeilings H rows → find (is_ceiling l d) rows ≡ ceiling_row H l d }
+    ensures limit { (H : List AnyEntry) (rows : List LimitRecord) (l : List ℕ) (d : ℕ) →
+        AreLimits H rows → find (is_limit l d) rows ≡ limit_row H l d }
     ensures retired { (H : List AnyEntry) (rows : List RetiredRecord) (h : List ℕ) →
         AreRetired H rows → find (is_host h) rows ≡ retired_row H h }
     ensures only_usage { (day : ℕ → ℕ) (H : List AnyEntry) (rows : List UsageRecord) (l : List ℕ) (d : ℕ) →
@@ -110,11 +110,11 @@ pub fn usage_follows()
 
 /// What is written of a limit leads to the rows of limits with one more answer. At most one row
 /// changes.
-pub fn ceilings_follow()
+pub fn limits_follow()
     ensures { (day : ℕ → ℕ) (default : ℕ) (H : List AnyEntry) (t : Tables) (r : AnyRequest) (f : Found) →
-        AreCeilings H t.ceilings → IsFound day t r f →
-        Leads same_from set_ceiling (ceiling_write r (answer day default H r) f.ceiling)
-        t.ceilings (AreCeilings (appended day default H r)) }
+        AreLimits H t.limits → IsFound day t r f →
+        Leads same_from set_limit (limit_write r (answer day default H r) f.limit)
+        t.limits (AreLimits (appended day default H r)) }
 {
     // (which limit one entry more sets)
     one_more_limit();
@@ -176,7 +176,7 @@ pub fn retired_runs_follow()
 pub fn reply_follows()
     ensures { (day : ℕ → ℕ) (default : ℕ) (H : List AnyEntry) (t : Tables) (r : AnyRequest) (f : Found) →
         IsUnretired H r → IsLegal day default H → AreTransactions day H t.transactions → AreUsage day H t.usage →
-        AreCeilings H t.ceilings → IsFound day t r f → is_some (id_of r) ≡ true →
+        AreLimits H t.limits → IsFound day t r f → is_some (id_of r) ≡ true →
         decided default r f ≡ answer day default H r }
 {
     // The rows have what the answer is read off: the transaction, the day's sums, the first day over, the limit.
@@ -223,7 +223,7 @@ pub fn one_more_answer()
     // Table by table, with what a retire closes and clears before.
     transactions_follow();
     usage_follows();
-    ceilings_follow();
+    limits_follow();
     floors_follow();
     answers_follow();
     retired_runs_follow();
@@ -312,7 +312,7 @@ pub fn rows_mean_their_history()
           answers = [];
           transactions = [];
           usage = [];
-          ceilings = [];
+          limits = [];
           retired = [];
         }) }
     ensures version { (b : Book) (t : Tables) (version : ℕ) → AreRows b t →
@@ -329,14 +329,14 @@ pub fn rows_mean_their_history()
 /// What is replied of a login's numbers is the ledger's.
 pub fn usage_is_answered()
     ensures reply { (day : ℕ → ℕ) (default : ℕ) (H : List AnyEntry) (t : Tables) (l : List ℕ) (d : ℕ)
-        (u : Option UsageRecord) (g : Option CeilingRecord) →
-        IsLegal day default H → AreUsage day H t.usage → AreCeilings H t.ceilings →
-        u ≡ find (is_usage l d) t.usage → IsGoverning l d t.ceilings g →
+        (u : Option UsageRecord) (g : Option LimitRecord) →
+        IsLegal day default H → AreUsage day H t.usage → AreLimits H t.limits →
+        u ≡ find (is_usage l d) t.usage → IsGoverning l d t.limits g →
         usage_reply_by default l d u g ≡ reply day default H (AnyRequest.Usage l d) }
     ensures row { (day : ℕ → ℕ) (default : ℕ) (H : List AnyEntry) (t : Tables) (l : List ℕ) (d : ℕ)
-        (u : UsageRecord) (g : Option CeilingRecord) →
-        IsLegal day default H → AreUsage day H t.usage → AreCeilings H t.ceilings →
-        Some u ≡ find (is_usage l d) t.usage → IsGoverning l d t.ceilings g →
+        (u : UsageRecord) (g : Option LimitRecord) →
+        IsLegal day default H → AreUsage day H t.usage → AreLimits H t.limits →
+        Some u ≡ find (is_usage l d) t.usage → IsGoverning l d t.limits g →
         page_row_by default u g ≡ row day default H d l }
 {
     // (where a login has no row of the day, nothing is used)

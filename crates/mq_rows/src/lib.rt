@@ -31,7 +31,7 @@ pub use auditing::Books;
 pub use body::Body;
 pub use plan::{Found, Plan, Runs, Write};
 pub use record::{
-    AnswerRecord, CeilingRecord, RetiredRecord, SettingRecord, TransactionRecord, UsageRecord,
+    AnswerRecord, LimitRecord, RetiredRecord, SettingRecord, TransactionRecord, UsageRecord,
 };
 pub use repeat::stored_reply;
 pub use setting::{VERSION, older_version};

@@ -1,5 +1,5 @@
 //! What is read of the tables for a request, and what the request then writes.
-use crate::record::{AnswerRecord, CeilingRecord, RetiredRecord, TransactionRecord, UsageRecord};
+use crate::record::{AnswerRecord, LimitRecord, RetiredRecord, TransactionRecord, UsageRecord};
 use mq_frame::{Host, Reply};
 
 /// What becomes of the rows of a table. At most one row changes.
@@ -22,12 +22,12 @@ pub struct Found {
     pub usage: Option<UsageRecord>,
     /// For a reserve: of the limits of its login that hold on that day or from an earlier one on,
     /// the latest.
-    pub governing: Option<CeilingRecord>,
+    pub governing: Option<LimitRecord>,
     /// For a limit: of the days from its own on on which its login has used more than it asks for,
     /// the first.
     pub over: Option<UsageRecord>,
     /// For a limit: the row of its login and day.
-    pub ceiling: Option<CeilingRecord>,
+    pub limit: Option<LimitRecord>,
     /// For a retire: the row of its host's floor.
     pub floor: Option<RetiredRecord>,
 }
@@ -55,6 +55,6 @@ pub struct Plan {
     pub given_up: Option<Runs>,
     pub transaction: Write<TransactionRecord>,
     pub usage: Write<UsageRecord>,
-    pub ceiling: Write<CeilingRecord>,
+    pub limit: Write<LimitRecord>,
     pub retired: Write<RetiredRecord>,
 }

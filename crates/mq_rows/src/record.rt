@@ -65,7 +65,7 @@ pub struct UsageRecord {
 
 /// A row of `ceiling`: a limit of a login that was set.
 #[derive(Debug, Drop)]
-pub struct CeilingRecord {
+pub struct LimitRecord {
     pub login: Login,
     /// The ledger day from which it holds.
     pub day: u32,

@@ -61,12 +61,12 @@ pub(crate) fn fitting(held: u32, usage: &Option<UsageRecord>) -> Result<u32, Led
 
 impl Found {
     /// Whether the transaction has that moment and login, or no row yet.
-    fn agrees(&self, at: u64, login: &Login) -> bool
-        ensures { result ≡ agrees_with at login.now self.now.transaction }
+    fn agrees(&self, moment: u64, login: &Login) -> bool
+        ensures { result ≡ agrees_with moment login.now self.now.transaction }
     {
         match &self.transaction {
             None => true,
-            Some(row) => at == row.moment && *login == row.login,
+            Some(row) => moment == row.moment && *login == row.login,
         }
     }
 
@@ -109,26 +109,26 @@ impl Found {
     }
 
     /// Whether the transaction is open to a request of that moment and login.
-    fn is_open(&self, at: u64, login: &Login) -> bool
-        ensures { result ≡ (agrees_with at login.now self.now.transaction
+    fn is_open(&self, moment: u64, login: &Login) -> bool
+        ensures { result ≡ (agrees_with moment login.now self.now.transaction
             && not (is_closed self.now.transaction)) }
     {
-        self.agrees(at, login) && !self.is_closed()
+        self.agrees(moment, login) && !self.is_closed()
     }
 
     /// The reply to a request whose transaction isn't open to it: it has another moment or login,
     /// or is closed.
-    fn refusal(&self, id: &Id, at: u64, login: &Login) -> Result<Reply, AllocError>
+    fn refusal(&self, id: &Id, moment: u64, login: &Login) -> Result<Reply, AllocError>
         requires id { IsId id.now }
-        requires refused { (agrees_with at login.now self.now.transaction
+        requires refused { (agrees_with moment login.now self.now.transaction
             && not (is_closed self.now.transaction)) ≡ false }
         ensures refused { IfOk result (λ reply. (a : AnyReply)
-            → reply ≡ if_row_open id.now at login.now self.now.transaction a) }
+            → reply ≡ if_row_open id.now moment login.now self.now.transaction a) }
         ensures still { IfOk result (λ reply. moves reply ≡ false) }
         ensures in_range { IfOk result IsReply }
     {
         let id = id.clone()?;
-        if self.agrees(at, login) {
+        if self.agrees(moment, login) {
             Ok(Reply::Closed { id })
         } else {
             Ok(Reply::Mismatch { id })
@@ -139,22 +139,22 @@ impl Found {
         &self,
         default: u32,
         id: &Id,
-        at: u64,
+        moment: u64,
         login: &Login,
         count: u32,
     ) -> Result<Reply, LedgerFault>
         requires id { IsId id.now }
         requires count { IsCount count }
-        ensures reply { IfOk result (λ a. a ≡ if_row_open id.now at login.now self.now.transaction
+        ensures reply { IfOk result (λ a. a ≡ if_row_open id.now moment login.now self.now.transaction
             (granted_or_full id.now (used_by self.now.usage) (cap_by default self.now.governing) count)) }
         ensures in_range { IfOk result IsReply }
         ensures fits { IfOk result (λ a. moves a ≡ true → fits self.now.transaction self.now.usage ≡ true) }
         ensures store { IfErr result (λ fault. fault ≡ LedgerFault.Store
-            → fits_if_open at login.now (cap_by default self.now.governing) self.now.transaction self.now.usage
+            → fits_if_open moment login.now (cap_by default self.now.governing) self.now.transaction self.now.usage
             ≡ false) }
     {
-        if !self.is_open(at, login) {
-            return Ok(self.refusal(id, at, login)?);
+        if !self.is_open(moment, login) {
+            return Ok(self.refusal(id, moment, login)?);
         }
         let used = self.fitting()?;
         let cap = self.cap(default);
@@ -177,21 +177,21 @@ impl Found {
     fn settle_reply(
         &self,
         id: &Id,
-        at: u64,
+        moment: u64,
         login: &Login,
         count: u32,
     ) -> Result<Reply, LedgerFault>
         requires id { IsId id.now }
         requires count { IsCount count }
-        ensures reply { IfOk result (λ a. a ≡ if_row_open id.now at login.now self.now.transaction
+        ensures reply { IfOk result (λ a. a ≡ if_row_open id.now moment login.now self.now.transaction
             (settled_or_too_many id.now (held_by self.now.transaction) count)) }
         ensures in_range { IfOk result IsReply }
         ensures fits { IfOk result (λ a. moves a ≡ true → fits self.now.transaction self.now.usage ≡ true) }
         ensures store { IfErr result (λ fault. fault ≡ LedgerFault.Store
-            → fits_if_open at login.now 0 self.now.transaction self.now.usage ≡ false) }
+            → fits_if_open moment login.now 0 self.now.transaction self.now.usage ≡ false) }
     {
-        if !self.is_open(at, login) {
-            return Ok(self.refusal(id, at, login)?);
+        if !self.is_open(moment, login) {
+            return Ok(self.refusal(id, moment, login)?);
         }
         // (what is used isn't asked: rows that no legal history has are `Store` here as at a reserve)
         let _used = self.fitting()?;
@@ -208,17 +208,17 @@ impl Found {
         })
     }
 
-    fn release_reply(&self, id: &Id, at: u64, login: &Login) -> Result<Reply, LedgerFault>
+    fn release_reply(&self, id: &Id, moment: u64, login: &Login) -> Result<Reply, LedgerFault>
         requires { IsId id.now }
-        ensures reply { IfOk result (λ a. a ≡ if_row_open id.now at login.now self.now.transaction
+        ensures reply { IfOk result (λ a. a ≡ if_row_open id.now moment login.now self.now.transaction
             (AnyReply.Released id.now (held_by self.now.transaction))) }
         ensures in_range { IfOk result IsReply }
         ensures fits { IfOk result (λ a. moves a ≡ true → fits self.now.transaction self.now.usage ≡ true) }
         ensures store { IfErr result (λ fault. fault ≡ LedgerFault.Store
-            → fits_if_open at login.now 0 self.now.transaction self.now.usage ≡ false) }
+            → fits_if_open moment login.now 0 self.now.transaction self.now.usage ≡ false) }
     {
-        if !self.is_open(at, login) {
-            return Ok(self.refusal(id, at, login)?);
+        if !self.is_open(moment, login) {
+            return Ok(self.refusal(id, moment, login)?);
         }
         // (as at a settle)
         let _used = self.fitting()?;
@@ -262,19 +262,24 @@ impl Found {
         match request {
             Request::Reserve {
                 id,
-                at,
+                moment,
                 login,
                 count,
                 ..
-            } => self.reserve_reply(default, id, *at, login, *count),
+            } => self.reserve_reply(default, id, *moment, login, *count),
             Request::Settle {
                 id,
-                at,
+                moment,
                 login,
                 count,
                 ..
-            } => self.settle_reply(id, *at, login, *count),
-            Request::Release { id, at, login, .. } => self.release_reply(id, *at, login),
+            } => self.settle_reply(id, *moment, login, *count),
+            Request::Release {
+                id,
+                moment,
+                login,
+                ..
+            } => self.release_reply(id, *moment, login),
             Request::Limit { id, .. } => self.limit_reply(id),
             Request::Usage { .. } | Request::List { .. } => Ok(Reply::Bad),
             Request::Retire { id } => Ok(Reply::Retired { id: id.clone()? }),

@@ -4,7 +4,7 @@ ghost use Rattle.mq_frame.specs.Range.{IsLogin, IsDay, IsReply, IsRow};
 ghost use Rattle.mq_rows.specs.Plan.{reserved_by, cap_by};
 ghost use Rattle.mq_rows.specs.Listing.{settled_by, usage_reply_by, page_row_by, are_amounts};
 
-use crate::record::{CeilingRecord, UsageRecord};
+use crate::record::{LimitRecord, UsageRecord};
 use mq_frame::format::AMOUNT_LIMIT;
 use mq_frame::{Login, Reply, UsageRow, is_login};
 use mq_ledger::LedgerFault;
@@ -16,7 +16,7 @@ fn are_amounts(settled: u32, reserved: u32, cap: u32) -> bool
 }
 
 /// The limit that governs, or the default.
-fn cap_by(default: u32, governing: &Option<CeilingRecord>) -> u32
+fn cap_by(default: u32, governing: &Option<LimitRecord>) -> u32
     ensures { result ≡ cap_by default governing.now }
 {
     match governing {
@@ -33,7 +33,7 @@ pub fn usage_reply(
     login: &Login,
     day: u32,
     usage: &Option<UsageRecord>,
-    governing: &Option<CeilingRecord>,
+    governing: &Option<LimitRecord>,
 ) -> Result<Reply, LedgerFault>
     requires login { IsLogin login.now }
     requires day { IsDay day }
@@ -65,7 +65,7 @@ pub fn usage_reply(
 pub fn page_row(
     default: u32,
     usage: UsageRecord,
-    governing: &Option<CeilingRecord>,
+    governing: &Option<LimitRecord>,
 ) -> Result<UsageRow, LedgerFault>
     ensures row { IfOk result (λ row. row ≡ page_row_by default usage governing.now) }
     ensures in_range { IfOk result IsRow }

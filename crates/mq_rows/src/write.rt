@@ -7,14 +7,14 @@ ghost use Rattle.mq_ledger.specs.Arrivals.{id_of};
 ghost use Rattle.mq_ledger.specs.Day.{day_of};
 ghost use Rattle.mq_rows.specs.Rows.{number_of, answer_of};
 ghost use Rattle.mq_rows.specs.Plan.{moves, moved, fresh, moved_or_made, transaction_write};
-ghost use Rattle.mq_rows.specs.Plan.{reserved_more, freed, usage_write, set_ceiling_to, ceiling_write};
+ghost use Rattle.mq_rows.specs.Plan.{reserved_more, freed, usage_write, set_limit_to, limit_write};
 ghost use Rattle.mq_rows.specs.Plan.{floor_by, given_up_by, raised_to, retired_write};
 ghost use Rattle.mq_rows.specs.Plan.{held_by, reserved_by, used_by, fits, written, planned, may_be_found, abandoned_row};
 ghost use Rattle.mq_rows.specs.Storable.{AreStorableIf, IsStorableFloor, IsStorablePlan};
 
 use crate::body::Body;
 use crate::plan::{Found, Plan, Runs, Write};
-use crate::record::{AnswerRecord, CeilingRecord, RetiredRecord, TransactionRecord, UsageRecord};
+use crate::record::{AnswerRecord, LimitRecord, RetiredRecord, TransactionRecord, UsageRecord};
 use crate::reply::fitting;
 use mq_frame::format::HEAD_BYTES;
 use mq_frame::{Id, Login, Memory, Reply, Request, encode_reply, encode_request};
@@ -29,17 +29,17 @@ fn fresh(
     day: u32,
     id: &Id,
     txn: u32,
-    at: u64,
+    moment: u64,
     login: &Login,
 ) -> Result<TransactionRecord, AllocError>
-    ensures { IfOk result (λ row. row ≡ fresh (λ _. day) id.now txn at login.now) }
+    ensures { IfOk result (λ row. row ≡ fresh (λ _. day) id.now txn moment login.now) }
 {
     Ok(TransactionRecord {
         host: id.host.clone()?,
         run: id.run,
         txn,
         login: login.clone()?,
-        moment: at,
+        moment,
         day,
         held: 0,
         settled: 0,
@@ -88,27 +88,32 @@ fn transaction_write(
     requires room { moves reply.now ≡ true → held_by row ≤ 1000000 }
     ensures { IfOk result (λ write. write ≡ transaction_write (day_of zone) request.now reply.now row) }
 {
-    let (id, txn, at, login, count) = match request {
+    let (id, txn, moment, login, count) = match request {
         Request::Reserve {
             id,
             txn,
-            at,
+            moment,
             login,
             count,
         }
         | Request::Settle {
             id,
             txn,
-            at,
+            moment,
             login,
             count,
-        } => (id, *txn, *at, login, *count),
-        Request::Release { id, txn, at, login } => (id, *txn, *at, login, 0),
+        } => (id, *txn, *moment, login, *count),
+        Request::Release {
+            id,
+            txn,
+            moment,
+            login,
+        } => (id, *txn, *moment, login, 0),
         _ => return Ok(Write::Keep),
     };
     match row {
         None => {
-            let row = fresh(zone.day_at(at), id, txn, at, login)?;
+            let row = fresh(zone.day_at(moment), id, txn, moment, login)?;
             Ok(Write::Insert(moved(count, reply, row)))
         }
         Some(row) if moves(reply) => Ok(Write::Update(moved(count, reply, row))),
@@ -173,13 +178,13 @@ fn usage_write(
     match (request, reply) {
         (
             Request::Reserve {
-                at,
+                moment,
                 login,
                 count,
                 ..
             },
             Reply::Granted { .. },
-        ) => { reserved_more(login, zone.day_at(*at), *count, row) }
+        ) => { reserved_more(login, zone.day_at(*moment), *count, row) }
         (Request::Settle { count, .. }, Reply::Settled { .. }) => Ok(freed(*count, held, row)),
         (Request::Release { .. }, Reply::Released { .. }) => Ok(freed(0, held, row)),
         _ => Ok(Write::Keep),
@@ -187,12 +192,12 @@ fn usage_write(
 }
 
 /// What becomes of the row of the request's login and day among the limits.
-fn ceiling_write(
+fn limit_write(
     request: &Request,
     reply: &Reply,
-    row: Option<CeilingRecord>,
-) -> Result<Write<CeilingRecord>, AllocError>
-    ensures { IfOk result (λ write. write ≡ ceiling_write request.now reply.now row) }
+    row: Option<LimitRecord>,
+) -> Result<Write<LimitRecord>, AllocError>
+    ensures { IfOk result (λ write. write ≡ limit_write request.now reply.now row) }
 {
     match (request, reply) {
         (
@@ -204,12 +209,12 @@ fn ceiling_write(
             },
             Reply::LimitSet { .. },
         ) => match row {
-            None => Ok(Write::Insert(CeilingRecord {
+            None => Ok(Write::Insert(LimitRecord {
                 login: login.clone()?,
                 day: *from_day,
                 cap: *cap,
             })),
-            Some(row) => Ok(Write::Update(CeilingRecord { cap: *cap, ..row })),
+            Some(row) => Ok(Write::Update(LimitRecord { cap: *cap, ..row })),
         },
         _ => Ok(Write::Keep),
     }
@@ -312,7 +317,7 @@ fn writes(
     (
         Write<TransactionRecord>,
         Write<UsageRecord>,
-        Write<CeilingRecord>,
+        Write<LimitRecord>,
     ),
     AllocError,
 >
@@ -322,13 +327,13 @@ fn writes(
         ≡ transaction_write (day_of zone) request.now reply.now found.old.transaction) }
     ensures usage { IfOk result (λ writes. writes.1
         ≡ usage_write (day_of zone) request.now reply.now (held_by found.old.transaction) found.old.usage) }
-    ensures ceiling { IfOk result (λ writes. writes.2 ≡ ceiling_write request.now reply.now found.old.ceiling) }
+    ensures limit { IfOk result (λ writes. writes.2 ≡ limit_write request.now reply.now found.old.limit) }
 {
     let held = found.held();
-    let ceiling = ceiling_write(request, reply, found.ceiling.take())?;
+    let limit = limit_write(request, reply, found.limit.take())?;
     let usage = usage_write(zone, request, reply, held, found.usage.take())?;
     let transaction = transaction_write(zone, request, reply, found.transaction.take())?;
-    Ok((transaction, usage, ceiling))
+    Ok((transaction, usage, limit))
 }
 
 /// The row of the answer, and what becomes of the rows that were found.
@@ -346,7 +351,7 @@ fn changes(
         (
             Write<TransactionRecord>,
             Write<UsageRecord>,
-            Write<CeilingRecord>,
+            Write<LimitRecord>,
         ),
     ),
     Memory,
@@ -361,8 +366,8 @@ fn changes(
         ≡ transaction_write (day_of zone) request.now reply.now found.old.transaction) }
     ensures usage { IfOk result (λ changes. changes.1.1
         ≡ usage_write (day_of zone) request.now reply.now (held_by found.old.transaction) found.old.usage) }
-    ensures ceiling { IfOk result (λ changes. changes.1.2
-        ≡ ceiling_write request.now reply.now found.old.ceiling) }
+    ensures limit { IfOk result (λ changes. changes.1.2
+        ≡ limit_write request.now reply.now found.old.limit) }
 {
     let answer = answer_row(alloc, n, id, request, reply)?;
     Ok((answer, writes(zone, request, reply, found)?))
@@ -388,7 +393,7 @@ fn plan(
     let arrivals = arrivals + 1;
     let given_up = given_up(request, &found.floor)?;
     let retired = retired_write(request, found.floor.take())?;
-    let (answer, (transaction, usage, ceiling)) = changes(
+    let (answer, (transaction, usage, limit)) = changes(
         alloc, zone, arrivals, id, request, &reply, found,
     )?;
     Ok(Plan {
@@ -397,7 +402,7 @@ fn plan(
         given_up,
         transaction,
         usage,
-        ceiling,
+        limit,
         retired,
         reply,
     })

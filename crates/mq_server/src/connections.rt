@@ -4,7 +4,7 @@ ghost use Rattle.std.specs.Prelude.{IfErr};
 ghost use Rattle.std.specs.List.{AllZip};
 ghost use Rattle.mq_frame.specs.Flow.{IsFlushed};
 ghost use Rattle.mq_ledger.specs.Told.{Tells};
-ghost use Rattle.mq_server.specs.declared.connections.ConnectionEnd.{ConnectionEnd as AnEnd};
+ghost use Rattle.mq_server.specs.declared.connections.ConnectionEnd.{ConnectionEnd as AnyConnectionEnd};
 ghost use Rattle.mq_server.specs.Connections.{wires, result_of, AreServed, AreStopped, calls_until, DevicesAgree};
 ghost use Rattle.mq_server.specs.Delivery.{Delivery, answer_to, history_after, calls};
 
@@ -87,7 +87,7 @@ pub fn serve_all<S: Source, W: Sink, L: Ledger>(
         × Tells (L.told ledger.old) (L.told ledger.new) (calls (answer_to (L.book ledger.old)) seen)) }
 
     // Where the store failed: how the connections before ended, and after them the one at which it did.
-    ensures store { result ≡ Err ServeFault.Store → (ends : List AnEnd)
+    ensures store { result ≡ Err ServeFault.Store → (ends : List AnyConnectionEnd)
         × DevicesAgree S.has_failed W.has_failed W.has_flushed inputs.old inputs.new outputs.old outputs.new
         (map result_of ends ++ Err ServeFault.Store ∷ [])
         × (L.has_kept ledger.new → L.is_sound ledger.old → (seen : List Delivery)

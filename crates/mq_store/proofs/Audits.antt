@@ -29,7 +29,7 @@ has_figures db t l = record {
   whole = map whole_of t.transactions;
   holds_trans = subst (IsPermutation (map (drop 1) (db.trees l.at.trans))) (sym (map-map whole_cells whole_of t.transactions)) l.holds.transactions.same;
   holds_usage = subst (IsPermutation (map (drop 1) (db.trees l.at.usage))) (sym (map-map usage_cells usage_figures t.usage)) l.holds.usage.same;
-  holds_ceiling = subst (IsPermutation (map (drop 1) (db.trees l.at.ceiling))) (sym (map-map limit_cells limit_figures t.ceilings)) l.holds.ceilings.same;
+  holds_ceiling = subst (IsPermutation (map (drop 1) (db.trees l.at.ceiling))) (sym (map-map limit_cells limit_figures t.limits)) l.holds.limits.same;
   transactions = sym (map-map (λ (w : WholeTransaction). w.figures) whole_of t.transactions);
 }
 

@@ -83,30 +83,30 @@ has_left p (x ∷ rows) r (inl e) k = (let t : p x ≡ true = ap p (sym e) ∙ k
 has_left p (x ∷ rows) r (inr h) k = elim (cases_Bool (p x)) [ inl t ↦ rw t (inr (has_left p rows r h k)) | inr f ↦ rw f (has_left p rows r h k) ]
 
 same_moment : (r : Request) → moment_of r ≡ moment_in r
-same_moment (Reserve id txn at login count) = refl
-same_moment (Settle id txn at login count) = refl
-same_moment (Release id txn at login) = refl
+same_moment (Reserve id txn moment login count) = refl
+same_moment (Settle id txn moment login count) = refl
+same_moment (Release id txn moment login) = refl
 same_moment (Limit id from c login) = refl
 same_moment (Usage login d) = refl
 same_moment (ListRequest d after) = refl
 same_moment (Retire id) = refl
 
-unnamed_day : (day : ℕ → ℕ) (H : List Entry) (t : Transaction) (at : ℕ) (o : Option Entry) → named H t ≡ o → those (transaction_row day H t) ≡ [] → day at ≡ day_named day at o
-unnamed_day day H t at None h empty = refl
-unnamed_day day H t at (Some e) h empty = absurd (let b : transaction_of day H t e ∷ [] ≡ [] = rw h at empty in cc b)
+unnamed_day : (day : ℕ → ℕ) (H : List Entry) (t : Transaction) (moment : ℕ) (o : Option Entry) → named H t ≡ o → those (transaction_row day H t) ≡ [] → day moment ≡ day_named day moment o
+unnamed_day day H t moment None h empty = refl
+unnamed_day day H t moment (Some e) h empty = absurd (let b : transaction_of day H t e ∷ [] ≡ [] = rw h at empty in cc b)
 
-named_day : (day : ℕ → ℕ) (H : List Entry) (t : Transaction) (at : ℕ) (row : TransactionRecord) (o : Option Entry) → named H t ≡ o → Has (those (transaction_row day H t)) row → row.day ≡ day_named day at o
-named_day day H t at row None h there = absurd (let b : ⊥ = rw h at there in b)
-named_day day H t at row (Some e) h there =
+named_day : (day : ℕ → ℕ) (H : List Entry) (t : Transaction) (moment : ℕ) (row : TransactionRecord) (o : Option Entry) → named H t ≡ o → Has (those (transaction_row day H t)) row → row.day ≡ day_named day moment o
+named_day day H t moment row None h there = absurd (let b : ⊥ = rw h at there in b)
+named_day day H t moment row (Some e) h there =
     let k : Has (transaction_of day H t e ∷ []) row = rw h at there in
     elim k [
       | inl is ↦ ap (λ (r : TransactionRecord). r.day) is ∙ ap day (same_moment e.request)
       | inr none ↦ absurd none
     ]
 
-pub day_is : (day : ℕ → ℕ) (H : List Entry) (rows : List TransactionRecord) (t : Transaction) (at : ℕ) (found : Option TransactionRecord) → AreTransactions day H rows → IsOneOf (is_transaction t) rows found → day_by day at found ≡ day_named day at (named H t)
-day_is day H rows t at None are none = unnamed_day day H t at (named H t) refl (sym (are t) ∙ none_left (is_transaction t) rows none)
-day_is day H rows t at (Some row) are found = named_day day H t at row (named H t) refl (subst (λ all. Has all row) (are t) (has_left (is_transaction t) rows row found.0 found.1))
+pub day_is : (day : ℕ → ℕ) (H : List Entry) (rows : List TransactionRecord) (t : Transaction) (moment : ℕ) (found : Option TransactionRecord) → AreTransactions day H rows → IsOneOf (is_transaction t) rows found → day_by day moment found ≡ day_named day moment (named H t)
+day_is day H rows t moment None are none = unnamed_day day H t moment (named H t) refl (sym (are t) ∙ none_left (is_transaction t) rows none)
+day_is day H rows t moment (Some row) are found = named_day day H t moment row (named H t) refl (subst (λ all. Has all row) (are t) (has_left (is_transaction t) rows row found.0 found.1))
 
 -- The next entry.
 

@@ -26,7 +26,7 @@ made_blank zone default old new is_zone amount made free = record {
   has = record {
     tables = new_rows (made_with zone default);
     holds = (made.made free.counters).ledger free.unnamed;
-    rows = record { setting = record { row = refl; version = refl }; answers = refl; transactions = λ t. refl; usage = λ l d. refl; ceilings = λ l d. refl; retired = λ h. sym (ap those (no_floor h)) };
+    rows = record { setting = record { row = refl; version = refl }; answers = refl; transactions = λ t. refl; usage = λ l d. refl; limits = λ l d. refl; retired = λ h. sym (ap those (no_floor h)) };
     current = refl;
   };
 }

@@ -46,7 +46,7 @@ same_amounts l m d e s r c s' r' c' same p q o =
 -- ---- logins
 
 login_given : (day : ℕ → ℕ) (d : ℕ) (l : List ℕ) (r : Request) (a : Reply) → IsRequest r → is_login l (login_on day d r a) ≡ true → IsLogin l
-login_given day d l (Reserve id txn at login count) (Granted id' used) range hit = elim (cases_Bool (day at == d)) [
+login_given day d l (Reserve id txn moment login count) (Granted id' used) range hit = elim (cases_Bool (day moment == d)) [
   | inl on ↦ (let same : same_text l login ≡ true = rw on at hit in subst IsLogin (sym ((bytes_decides l login).0 same)) range.3)
   | inr off ↦ absurd (let none : false ≡ true = rw off at hit in cc)
 ]

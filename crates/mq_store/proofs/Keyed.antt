@@ -4,7 +4,7 @@ use Rattle.std.proofs.lemmas.Bool.{cases_Bool}
 use Rattle.std.specs.List.{AllByRecursion}
 use Rattle.sqlite_rules.specs.Lists.{Has}
 use Rattle.mq_ledger.specs.Legal.{Book}
-use Rattle.mq_rows.specs.Rows.{transaction_row, usage_row, ceiling_row, retired_row}
+use Rattle.mq_rows.specs.Rows.{transaction_row, usage_row, limit_row, retired_row}
 use Rattle.mq_ledger.specs.Day.{day_of}
 use Rattle.mq_rows.specs.Tables.{Tables, AreRows, those}
 use Rattle.mq_tables.specs.Finding.{AreKeyed}
@@ -28,7 +28,7 @@ pub keyed : (b : Book) (t : Tables) → AreRows b t → AreKeyed t
 keyed b t rows = record {
   transactions = λ k. one_at_most _ (transaction_row (day_of b.zone) b.history k) (rows.transactions k);
   usage = λ l d. one_at_most _ (usage_row (day_of b.zone) b.history l d) (rows.usage l d);
-  ceilings = λ l d. one_at_most _ (ceiling_row b.history l d) (rows.ceilings l d);
+  limits = λ l d. one_at_most _ (limit_row b.history l d) (rows.limits l d);
   retired = λ h. one_at_most _ (retired_row b.history h) (rows.retired h);
 }
 

@@ -154,7 +154,7 @@ module _ (b : Book) (db : Database) (has : HasStored b db) where
     answers = has.rows.answers;
     transactions = has.rows.transactions;
     usage = has.rows.usage;
-    ceilings = has.rows.ceilings;
+    limits = has.rows.limits;
     retired = has.rows.retired;
   }
 

@@ -58,7 +58,7 @@ made_new zone default old new offset amount made kept counters unnamed =
         tables = new_rows (made_with zone default);
         holds = l;
         rows = subst (λ rs. AreRows (record { zone = zone; default = default; history = build (day_of zone) default rs }) (new_rows (made_with zone default))) (sym none)
-            (record { setting = record { row = refl; version = refl }; answers = refl; transactions = λ t. refl; usage = λ l d. refl; ceilings = λ l d. refl; retired = λ h. sym (ap those (no_floor h)) });
+            (record { setting = record { row = refl; version = refl }; answers = refl; transactions = λ t. refl; usage = λ l d. refl; limits = λ l d. refl; retired = λ h. sym (ap those (no_floor h)) });
         current = refl;
       };
       blank = none;

@@ -11,18 +11,18 @@ use Rattle.mq_rows.specs.declared.plan.Plan.{Plan}
 use Rattle.mq_rows.specs.declared.record.AnswerRecord.{AnswerRecord}
 use Rattle.mq_rows.specs.declared.record.TransactionRecord.{TransactionRecord}
 use Rattle.mq_rows.specs.declared.record.UsageRecord.{UsageRecord}
-use Rattle.mq_rows.specs.declared.record.CeilingRecord.{CeilingRecord}
+use Rattle.mq_rows.specs.declared.record.LimitRecord.{LimitRecord}
 use Rattle.mq_rows.specs.declared.record.RetiredRecord.{RetiredRecord}
-use Rattle.mq_rows.specs.Plan.{same_key, set_transaction, same_day, set_usage, same_from, set_ceiling, same_host, set_run, cleared}
+use Rattle.mq_rows.specs.Plan.{same_key, set_transaction, same_day, set_usage, same_from, set_limit, same_host, set_run, cleared}
 use Rattle.mq_rows.specs.Rows.{answer_row}
-use Rattle.mq_rows.specs.Tables.{Tables, AreTransactions, AreUsage, AreCeilings, AreRetired}
+use Rattle.mq_rows.specs.Tables.{Tables, AreTransactions, AreUsage, AreLimits, AreRetired}
 use Rattle.mq_tables.specs.Ledger.{HasLedger}
-use Rattle.mq_tables.specs.Updates.{Appends, CountsArrivals, WritesTransaction, WritesUsage, WritesCeiling, WritesFloor}
+use Rattle.mq_tables.specs.Updates.{Appends, CountsArrivals, WritesTransaction, WritesUsage, WritesLimit, WritesFloor}
 use Rattle.mq_store.specs.GivingUp.{GivesUp, with_rows}
 use Rattle.mq_store.specs.Taking.{MovesRows, WritesPlan}
 use Rattle.mq_store.proofs.Closings.{both}
 
-moves : (p : Plan) (s0 s1 s2 s3 s4 : State) → WritesTransaction p.transaction s0 s1 → WritesUsage p.usage s1 s2 → WritesCeiling p.ceiling s2 s3 → WritesFloor p.retired s3 s4 → MovesRows p s0.now s4.now
+moves : (p : Plan) (s0 s1 s2 s3 s4 : State) → WritesTransaction p.transaction s0 s1 → WritesUsage p.usage s1 s2 → WritesLimit p.limit s2 s3 → WritesFloor p.retired s3 s4 → MovesRows p s0.now s4.now
 moves p s0 s1 s2 s3 s4 one two three four = λ (b : Book) (t : Tables) l lead.
     let ts = both same_key set_transaction p.transaction t.transactions (AreTransactions (day_of b.zone) b.history)
     (λ (after : List TransactionRecord). HasLedger s1.now (record t { transactions = after })) lead.moves.transactions (one t l) in
@@ -30,19 +30,19 @@ moves p s0 s1 s2 s3 s4 one two three four = λ (b : Book) (t : Tables) l lead.
     let us = both same_day set_usage p.usage t1.usage (AreUsage (day_of b.zone) b.history)
     (λ (after : List UsageRecord). HasLedger s2.now (record t1 { usage = after })) lead.moves.usage (two t1 ts.2) in
     let t2 : Tables = record t1 { usage = us.0 } in
-    let cs = both same_from set_ceiling p.ceiling t2.ceilings (AreCeilings b.history)
-    (λ (after : List CeilingRecord). HasLedger s3.now (record t2 { ceilings = after })) lead.ceilings (three t2 us.2) in
-    let t3 : Tables = record t2 { ceilings = cs.0 } in
+    let cs = both same_from set_limit p.limit t2.limits (AreLimits b.history)
+    (λ (after : List LimitRecord). HasLedger s3.now (record t2 { limits = after })) lead.limits (three t2 us.2) in
+    let t3 : Tables = record t2 { limits = cs.0 } in
     let fs = both same_host set_run p.retired t3.retired (AreRetired b.history)
     (λ (after : List RetiredRecord). HasLedger s4.now (record t3 { retired = after })) lead.retired (four t3 cs.2 lead.current) in
     record {
       tables = record t3 { retired = fs.0 };
       holds = fs.2;
-      rows = record { setting = lead.setting; answers = lead.answers; transactions = ts.1; usage = us.1; ceilings = cs.1; retired = fs.1 };
+      rows = record { setting = lead.setting; answers = lead.answers; transactions = ts.1; usage = us.1; limits = cs.1; retired = fs.1 };
       current = lead.current;
     }
 
-pub moves_ok : (p : Plan) (s0 s1 s2 s3 s4 : State) (r : Result ℕ Error) → WritesTransaction p.transaction s0 s1 → WritesUsage p.usage s1 s2 → WritesCeiling p.ceiling s2 s3 → OnOk r (WritesFloor p.retired s3 s4) → OnOk r (MovesRows p s0.now s4.now)
+pub moves_ok : (p : Plan) (s0 s1 s2 s3 s4 : State) (r : Result ℕ Error) → WritesTransaction p.transaction s0 s1 → WritesUsage p.usage s1 s2 → WritesLimit p.limit s2 s3 → OnOk r (WritesFloor p.retired s3 s4) → OnOk r (MovesRows p s0.now s4.now)
 moves_ok p s0 s1 s2 s3 s4 (Ok n) one two three four = moves p s0 s1 s2 s3 s4 one two three four
 moves_ok p s0 s1 s2 s3 s4 (Err e) one two three four = tt
 
@@ -67,7 +67,7 @@ writes p s0 s1 s2 s3 s4 zero one two three = λ (b : Book) (t : Tables) l curren
       setting = lead.setting;
       answers = lead.answers;
       moves = up.so;
-      ceilings = lead.ceilings;
+      limits = lead.limits;
       retired = lead.retired;
     })
 

@@ -20,13 +20,13 @@ use Rattle.mq_store.specs.Taking.{HasBook, book_of}
 
 -- the day of a transaction by its row, or of the moment where it has none
 abbrev pub day_by : (ℕ → ℕ) → ℕ → Option TransactionRecord → ℕ
-day_by day at None = day at
-day_by day at (Some row) = row.day
+day_by day moment None = day moment
+day_by day moment (Some row) = row.day
 
 -- this is the day of the transaction, or of the moment where no entry names it
 abbrev pub Names : Zone → Transaction → ℕ → Database → ℕ → Type 0
-Names zone t at db d =
-    (default : ℕ) (H : List Entry) → HasBook (book_of zone default H) db → d ≡ day_named (day_of zone) at (named H t)
+Names zone t moment db d =
+    (default : ℕ) (H : List Entry) → HasBook (book_of zone default H) db → d ≡ day_named (day_of zone) moment (named H t)
 
 -- a body that isn't empty spells the reply, where there is one
 abbrev pub SpellsWhereKnown : List ℕ → Option Reply → Type 0

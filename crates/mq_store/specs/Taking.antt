@@ -13,9 +13,9 @@ use Rattle.mq_ledger.specs.Day.{day_of}
 use Rattle.mq_ledger.specs.History.{requests}
 use Rattle.mq_ledger.specs.Legal.{Book, IsLegalBook}
 use Rattle.mq_rows.specs.declared.plan.Plan.{Plan}
-use Rattle.mq_rows.specs.Plan.{Leads, same_from, set_ceiling, same_host, set_run}
+use Rattle.mq_rows.specs.Plan.{Leads, same_from, set_limit, same_host, set_run}
 use Rattle.mq_rows.specs.Rows.{IsSetting, answer_rows}
-use Rattle.mq_rows.specs.Tables.{Tables, AreCeilings, AreRetired, AreRows}
+use Rattle.mq_rows.specs.Tables.{Tables, AreLimits, AreRetired, AreRows}
 use Rattle.mq_rows.specs.Written.{MovesLead, LeadTo}
 use Rattle.mq_tables.specs.Ledger.{HasLedger, IsCurrent}
 use Rattle.mq_store.specs.declared.take.Taken.{Taken}
@@ -49,7 +49,7 @@ pub record RowsLead (b : Book) (t : Tables) (p : Plan) : Type 0 where
   pub setting : IsSetting b t.setting
   pub answers : t.answers ≡ answer_rows b.history
   pub moves : MovesLead b p t.transactions t.usage
-  pub ceilings : Leads same_from set_ceiling p.ceiling t.ceilings (AreCeilings b.history)
+  pub limits : Leads same_from set_limit p.limit t.limits (AreLimits b.history)
   pub retired : Leads same_host set_run p.retired t.retired (AreRetired b.history)
 
 -- where the planned writes of those rows lead to a book, the tables are its rows

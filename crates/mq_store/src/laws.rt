@@ -23,7 +23,7 @@ ghost use Rattle.mq_ledger.specs.Legal.{Book, IsLegalBook};
 ghost use Rattle.mq_rows.specs.declared.audited.Audit.{Audit as AnyAudit};
 ghost use Rattle.mq_rows.specs.declared.record.AnswerRecord.{AnswerRecord};
 ghost use Rattle.mq_rows.specs.declared.record.UsageRecord.{UsageRecord};
-ghost use Rattle.mq_rows.specs.declared.record.CeilingRecord.{CeilingRecord};
+ghost use Rattle.mq_rows.specs.declared.record.LimitRecord.{LimitRecord};
 ghost use Rattle.mq_rows.specs.declared.record.RetiredRecord.{RetiredRecord};
 ghost use Rattle.mq_rows.specs.declared.record.TransactionRecord.{TransactionRecord};
 ghost use Rattle.mq_rows.specs.declared.plan.Found.{Found};
@@ -138,13 +138,13 @@ pub(crate) fn later_arrivals_add_nothing()
 pub(crate) fn reads_are_answered()
     ensures usage { (zone : AnyZone) (default : ℕ) (H : List AnyEntry) (db : Database)
         (b : HasBook (book_of zone default H) db) (l : List ℕ) (d : ℕ) (u : Option UsageRecord)
-        (g : Option CeilingRecord) → IsOneOf (is_usage l d) b.has.tables.usage u →
-        IsGoverning l d b.has.tables.ceilings g →
+        (g : Option LimitRecord) → IsOneOf (is_usage l d) b.has.tables.usage u →
+        IsGoverning l d b.has.tables.limits g →
         usage_reply_by default l d u g ≡ reply (day_of zone) default H (AnyRequest.Usage l d) }
     ensures row { (zone : AnyZone) (default : ℕ) (H : List AnyEntry) (db : Database)
         (b : HasBook (book_of zone default H) db) (d : ℕ) (after : List ℕ) (u : UsageRecord)
-        (g : Option CeilingRecord) → IsNext d after b.has.tables.usage (Some u) →
-        IsGoverning u.login d b.has.tables.ceilings g →
+        (g : Option LimitRecord) → IsNext d after b.has.tables.usage (Some u) →
+        IsGoverning u.login d b.has.tables.limits g →
         page_row_by default u g ≡ row (day_of zone) default H d u.login }
     ensures begun { (default : ℕ) (d : ℕ) (after : List ℕ) (db : Database) →
         IsBegunIn default d after db 0 [] after }
@@ -166,13 +166,13 @@ pub(crate) fn reads_are_answered()
 pub(crate) fn reads_are_in_range()
     ensures usage { (zone : AnyZone) (default : ℕ) (H : List AnyEntry) (db : Database)
         (b : HasBook (book_of zone default H) db) (l : List ℕ) (d : ℕ) (u : Option UsageRecord)
-        (g : Option CeilingRecord) → IsOneOf (is_usage l d) b.has.tables.usage u →
-        IsGoverning l d b.has.tables.ceilings g →
+        (g : Option LimitRecord) → IsOneOf (is_usage l d) b.has.tables.usage u →
+        IsGoverning l d b.has.tables.limits g →
         are_amounts (settled_by u) (reserved_by u) (cap_by default g) ≡ true }
     ensures row { (zone : AnyZone) (default : ℕ) (H : List AnyEntry) (db : Database)
         (b : HasBook (book_of zone default H) db) (d : ℕ) (after : List ℕ) (u : UsageRecord)
-        (g : Option CeilingRecord) → IsNext d after b.has.tables.usage (Some u) →
-        IsGoverning u.login d b.has.tables.ceilings g →
+        (g : Option LimitRecord) → IsNext d after b.has.tables.usage (Some u) →
+        IsGoverning u.login d b.has.tables.limits g →
         are_amounts u.settled u.reserved (cap_by default g) ≡ true }
     ensures login { (zone : AnyZone) (default : ℕ) (H : List AnyEntry) (db : Database)
         (b : HasBook (book_of zone default H) db) (d : ℕ) (after : List ℕ) (u : UsageRecord) →
@@ -214,10 +214,10 @@ pub(crate) fn answers_are_entries()
 
 /// A transaction has the day of its row, and without a row it has no entry.
 pub(crate) fn transactions_have_days()
-    ensures { (day : ℕ → ℕ) (H : List AnyEntry) (rows : List TransactionRecord) (t : Transaction) (at : ℕ)
+    ensures { (day : ℕ → ℕ) (H : List AnyEntry) (rows : List TransactionRecord) (t : Transaction) (moment : ℕ)
         (found : Option TransactionRecord) → AreTransactions day H rows →
         IsOneOf (is_transaction t) rows found →
-        day_by day at found ≡ day_named day at (named H t) }
+        day_by day moment found ≡ day_named day moment (named H t) }
 {}
 
 /// Over a prefix of a history the next request gets the reply of its entry, and leads to the prefix with it.

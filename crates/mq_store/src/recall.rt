@@ -92,15 +92,15 @@ fn day_named<S: Alter>(
     zone: Zone,
     id: &Id,
     txn: u32,
-    at: u64,
+    moment: u64,
 ) -> Result<u32, Refused>
     requires id { IsId id.now }
-    requires moment { IsMoment at }
+    requires moment { IsMoment moment }
     ensures same_reference { tx.new.conn.ghost_name ≡ tx.old.conn.ghost_name }
     ensures stays { HasCleanDisk (state S.Store tx.new.conn.now)
         → OnOk result (Stays (state S.Store tx.old.conn.now) (state S.Store tx.new.conn.now)) }
     ensures named { HasCleanDisk (state S.Store tx.new.conn.now)
-        → IfOk result (Names zone (transaction id.now txn) at (state S.Store tx.old.conn.now).now) }
+        → IfOk result (Names zone (transaction id.now txn) moment (state S.Store tx.old.conn.now).now) }
     ensures kept { HasCleanDisk (state S.Store tx.new.conn.now)
         → KeepsCommit (state S.Store tx.old.conn.now) (state S.Store tx.new.conn.now) }
     ensures survives { Survives (state S.Store tx.old.conn.now) (state S.Store tx.new.conn.now) (λ _. ⊥) }
@@ -108,7 +108,7 @@ fn day_named<S: Alter>(
     transactions_have_days();
     match find_transaction(tx, &id.host, id.run, txn)? {
         Some(row) => Ok(row.day),
-        None => Ok(zone.day_at(at)),
+        None => Ok(zone.day_at(moment)),
     }
 }
 
@@ -142,10 +142,25 @@ pub(crate) fn stays<S: Alter>(
 {
     let request = &answered.request;
     match request {
-        Request::Reserve { id, txn, at, .. }
-        | Request::Settle { id, txn, at, .. }
-        | Request::Release { id, txn, at, .. } => {
-            let named = day_named(tx, zone, id, *txn, *at)?;
+        Request::Reserve {
+            id,
+            txn,
+            moment,
+            ..
+        }
+        | Request::Settle {
+            id,
+            txn,
+            moment,
+            ..
+        }
+        | Request::Release {
+            id,
+            txn,
+            moment,
+            ..
+        } => {
+            let named = day_named(tx, zone, id, *txn, *moment)?;
             Ok(Some(day <= named))
         }
         Request::Limit { from_day, .. } => {

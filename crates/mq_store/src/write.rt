@@ -9,7 +9,7 @@ ghost use Rattle.mq_store.specs.Taking.{MovesRows, WritesPlan};
 use crate::giving_up::give_up;
 use mq_rows::Plan;
 use mq_tables::answer::append_answer;
-use mq_tables::ceiling::write_ceiling;
+use mq_tables::ceiling::write_limit;
 use mq_tables::floor::write_floor;
 use mq_tables::setting::set_arrivals;
 use mq_tables::transaction::write_transaction;
@@ -35,7 +35,7 @@ fn write_rows<S: Alter>(tx: &mut Transaction<'_, S>, plan: &Plan) -> Result<usiz
 {
     write_transaction(tx, &plan.transaction)?;
     write_usage(tx, &plan.usage)?;
-    write_ceiling(tx, &plan.ceiling)?;
+    write_limit(tx, &plan.limit)?;
     write_floor(tx, &plan.retired)
 }
 

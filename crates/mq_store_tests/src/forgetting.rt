@@ -45,7 +45,7 @@ struct Asking {
     kind: Kind,
     host: u32,
     run: u32,
-    seq: u32,
+    number: u32,
     txn: u32,
     day: u32,
     login: u32,
@@ -82,29 +82,34 @@ fn request_of(alloc: Global, asking: &Asking) -> Option<Request> {
     let id = Id {
         host,
         run: u64::from(asking.run),
-        seq: asking.seq,
+        number: asking.number,
     };
     let login = login_of(alloc, asking.login)?;
     let (txn, count) = (asking.txn, asking.count);
-    let at = u64::from(asking.day)
+    let moment = u64::from(asking.day)
         .saturating_mul(86_400)
         .saturating_add(5);
     Some(match asking.kind {
         Kind::Reserve => Request::Reserve {
             id,
             txn,
-            at,
+            moment,
             login,
             count,
         },
         Kind::Settle => Request::Settle {
             id,
             txn,
-            at,
+            moment,
             login,
             count,
         },
-        Kind::Release => Request::Release { id, txn, at, login },
+        Kind::Release => Request::Release {
+            id,
+            txn,
+            moment,
+            login,
+        },
         Kind::Limit => Request::Limit {
             id,
             from_day: asking.day,
@@ -143,7 +148,7 @@ struct Asker {
     dice: Pcg32,
     /// The run of each host.
     runs: [u32; 2],
-    seq: u32,
+    number: u32,
     answered: Vec<Answered>,
 }
 
@@ -152,7 +157,7 @@ impl Asker {
         Asker {
             dice: Pcg32::new(seed, 54),
             runs: [1, 1],
-            seq: 0,
+            number: 0,
             answered: Vec::new(alloc),
         }
     }
@@ -193,8 +198,8 @@ impl Asker {
             8..=10 => Kind::Limit,
             _ => Kind::Retire,
         };
-        self.seq = self.seq.saturating_add(1);
-        let seq = self.seq;
+        self.number = self.number.saturating_add(1);
+        let number = self.number;
         let host = self.below(2);
         let run = if kind == Kind::Retire {
             self.retire(host)
@@ -216,7 +221,7 @@ impl Asker {
             kind,
             host,
             run,
-            seq,
+            number,
             txn,
             day,
             login: txn % 2,

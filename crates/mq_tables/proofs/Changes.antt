@@ -9,14 +9,14 @@ use Rattle.sqlite.specs.Effect.{Database, IsDatabase}
 use Rattle.mq_rows.specs.declared.record.AnswerRecord.{AnswerRecord}
 use Rattle.mq_rows.specs.declared.record.TransactionRecord.{TransactionRecord}
 use Rattle.mq_rows.specs.declared.record.UsageRecord.{UsageRecord}
-use Rattle.mq_rows.specs.declared.record.CeilingRecord.{CeilingRecord}
+use Rattle.mq_rows.specs.declared.record.LimitRecord.{LimitRecord}
 use Rattle.mq_rows.specs.declared.record.RetiredRecord.{RetiredRecord}
 use Rattle.mq_rows.specs.declared.record.SettingRecord.{SettingRecord}
 use Rattle.mq_rows.specs.declared.setting.TheConstants.{VERSION}
 use Rattle.mq_rows.specs.Tables.{Tables}
 use Rattle.mq_tables.specs.Tables.{setting_table, answer_table, trans_table, usage_table, ceiling_table, rule_table, retired_table}
 use Rattle.mq_tables.specs.Places.{IsTableIn, IsUnreferred, IsUnnamed}
-use Rattle.mq_tables.specs.Records.{HoldsAnswers, HoldsTransactions, HoldsUsage, HoldsCeilings, HoldsRetired}
+use Rattle.mq_tables.specs.Records.{HoldsAnswers, HoldsTransactions, HoldsUsage, HoldsLimits, HoldsRetired}
 use Rattle.mq_tables.specs.Settings.{setting_fields, rule_rows}
 use Rattle.mq_tables.specs.Ledger.{IsLedgerIn, HasRule, Since, HasFloors, HasNoFloors, HasLater, HasLedger, HoldsRows, setting_in}
 use Rattle.mq_tables.specs.Updates.{KeepsOthers}
@@ -77,8 +77,8 @@ module _ (old new : Database) (t : Tables) (l : HasLedger old t) (schema : new.s
     usage_kept : differ usage_table.name changed.name ≡ true → HoldsUsage (new.trees l.at.usage) t.usage
     usage_kept apart = subst (λ rows. HoldsUsage rows t.usage) (sym (kept usage_table l.at.usage l.tables.usage apart)) l.holds.usage
 
-    ceilings_kept : differ ceiling_table.name changed.name ≡ true → HoldsCeilings (new.trees l.at.ceiling) t.ceilings
-    ceilings_kept apart = subst (λ rows. HoldsCeilings rows t.ceilings) (sym (kept ceiling_table l.at.ceiling l.tables.ceiling apart)) l.holds.ceilings
+    ceilings_kept : differ ceiling_table.name changed.name ≡ true → HoldsLimits (new.trees l.at.ceiling) t.limits
+    ceilings_kept apart = subst (λ rows. HoldsLimits rows t.limits) (sym (kept ceiling_table l.at.ceiling l.tables.ceiling apart)) l.holds.limits
 
     rule_kept : differ rule_table.name changed.name ≡ true → HasRule old t.setting.rule → HasRule new t.setting.rule
     rule_kept apart it = record { tree = it.tree; table = subst (λ s. IsTableIn s rule_table it.tree) (sym schema) it.table; holds = kept rule_table it.tree it.table apart ∙ it.holds }
@@ -102,7 +102,7 @@ module _ (old new : Database) (t : Tables) (l : HasLedger old t) (schema : new.s
 
     five_kept : differ setting_table.name changed.name ≡ true → differ answer_table.name changed.name ≡ true → differ trans_table.name changed.name ≡ true → differ usage_table.name changed.name ≡ true → differ ceiling_table.name changed.name ≡ true
         → HoldsRows new.trees l.at t
-    five_kept a b c d e = record { setting = setting_kept a; answers = answers_kept b; transactions = transactions_kept c; usage = usage_kept d; ceilings = ceilings_kept e }
+    five_kept a b c d e = record { setting = setting_kept a; answers = answers_kept b; transactions = transactions_kept c; usage = usage_kept d; limits = ceilings_kept e }
 
   setting_changed : KeepsOthers old.schema l.at.setting old.trees new.trees → (s : SettingRecord) → new.trees l.at.setting ≡ setting_fields (setting_in s) ∷ [] → HasLater new (record t { setting = s }) → HasLedger new (record t { setting = s })
   setting_changed others s holds later =
@@ -116,7 +116,7 @@ module _ (old new : Database) (t : Tables) (l : HasLedger old t) (schema : new.s
           answers = answers_kept setting_table _ place others refl;
           transactions = transactions_kept setting_table _ place others refl;
           usage = usage_kept setting_table _ place others refl;
-          ceilings = ceilings_kept setting_table _ place others refl;
+          limits = ceilings_kept setting_table _ place others refl;
         };
         later = later;
       }
@@ -145,7 +145,7 @@ module _ (old new : Database) (t : Tables) (l : HasLedger old t) (schema : new.s
           answers = holds;
           transactions = transactions_kept answer_table _ place others refl;
           usage = usage_kept answer_table _ place others refl;
-          ceilings = ceilings_kept answer_table _ place others refl;
+          limits = ceilings_kept answer_table _ place others refl;
         };
         later = record { rule = later.rule; retired = later.retired };
       }
@@ -163,7 +163,7 @@ module _ (old new : Database) (t : Tables) (l : HasLedger old t) (schema : new.s
           answers = answers_kept trans_table _ place others refl;
           transactions = holds;
           usage = usage_kept trans_table _ place others refl;
-          ceilings = ceilings_kept trans_table _ place others refl;
+          limits = ceilings_kept trans_table _ place others refl;
         };
         later = record { rule = later.rule; retired = later.retired };
       }
@@ -181,13 +181,13 @@ module _ (old new : Database) (t : Tables) (l : HasLedger old t) (schema : new.s
           answers = answers_kept usage_table _ place others refl;
           transactions = transactions_kept usage_table _ place others refl;
           usage = holds;
-          ceilings = ceilings_kept usage_table _ place others refl;
+          limits = ceilings_kept usage_table _ place others refl;
         };
         later = record { rule = later.rule; retired = later.retired };
       }
 
-  pub ceilings_changed : KeepsOthers old.schema l.at.ceiling old.trees new.trees → (after : List CeilingRecord) → HoldsCeilings (new.trees l.at.ceiling) after → HasLedger new (record t { ceilings = after })
-  ceilings_changed others after holds =
+  pub limits_changed : KeepsOthers old.schema l.at.ceiling old.trees new.trees → (after : List LimitRecord) → HoldsLimits (new.trees l.at.ceiling) after → HasLedger new (record t { limits = after })
+  limits_changed others after holds =
       let place = l.tables.ceiling in
       let later = later_kept ceiling_table _ place others refl refl in
       record {
@@ -199,7 +199,7 @@ module _ (old new : Database) (t : Tables) (l : HasLedger old t) (schema : new.s
           answers = answers_kept ceiling_table _ place others refl;
           transactions = transactions_kept ceiling_table _ place others refl;
           usage = usage_kept ceiling_table _ place others refl;
-          ceilings = holds;
+          limits = holds;
         };
         later = record { rule = later.rule; retired = later.retired };
       }
@@ -219,7 +219,7 @@ module _ (old new : Database) (t : Tables) (l : HasLedger old t) (schema : new.s
         sound = sound;
         at = l.at;
         tables = tables;
-        holds = record { setting = kept.setting; answers = kept.answers; transactions = kept.transactions; usage = kept.usage; ceilings = kept.ceilings };
+        holds = record { setting = kept.setting; answers = kept.answers; transactions = kept.transactions; usage = kept.usage; limits = kept.limits };
         later = record { rule = since_2 retired_table it.tree it.table others refl; retired = rw from_3 floors };
       }
 
@@ -232,6 +232,6 @@ module _ (old new : Database) (t : Tables) (l : HasLedger old t) (schema : new.s
         sound = sound;
         at = l.at;
         tables = tables;
-        holds = record { setting = kept.setting; answers = kept.answers; transactions = kept.transactions; usage = kept.usage; ceilings = kept.ceilings };
+        holds = record { setting = kept.setting; answers = kept.answers; transactions = kept.transactions; usage = kept.usage; limits = kept.limits };
         later = record { rule = rw from_2 there; retired = since_3 rule_table it.tree it.table others refl };
       }

@@ -8,10 +8,10 @@ use Rattle.mq_frame.specs.declared.message.Id.{Id}
 use Rattle.mq_ledger.specs.History.{transaction}
 use Rattle.mq_rows.specs.declared.record.TransactionRecord.{TransactionRecord}
 use Rattle.mq_rows.specs.declared.record.UsageRecord.{UsageRecord}
-use Rattle.mq_rows.specs.declared.record.CeilingRecord.{CeilingRecord}
+use Rattle.mq_rows.specs.declared.record.LimitRecord.{LimitRecord}
 use Rattle.mq_rows.specs.declared.plan.Found.{Found}
 use Rattle.mq_rows.specs.Found.{IsGoverning, IsFirstOver}
-use Rattle.mq_rows.specs.Rows.{is_transaction, is_usage, is_ceiling}
+use Rattle.mq_rows.specs.Rows.{is_transaction, is_usage, is_limit}
 use Rattle.mq_rows.specs.Tables.{Tables}
 use Rattle.mq_tables.specs.Finding.{AreKeyed, IsTransactionFound, IsReserveFound}
 use Rattle.mq_tables.specs.Ledger.{HasLedger}
@@ -66,14 +66,14 @@ module _ (a b : State) (same : IsUnchanged a b) where
     the_one (is_usage login day) t.usage usage (keyed.usage login day) (two t (later t l)),
   )
 
-  pub reserve_so : (id : Id) (txn : ℕ) (login : List ℕ) (day : ℕ) (f : Found) (governing : Option CeilingRecord)
+  pub reserve_so : (id : Id) (txn : ℕ) (login : List ℕ) (day : ℕ) (f : Found) (governing : Option LimitRecord)
       → ((t : Tables) → HasLedger a.now t → AreKeyed t → IsTransactionFound id txn login day t f)
-      → ((t : Tables) → HasLedger b.now t → IsGoverning login day t.ceilings governing)
+      → ((t : Tables) → HasLedger b.now t → IsGoverning login day t.limits governing)
       → (t : Tables) → HasLedger a.now t → AreKeyed t → IsReserveFound id txn login day t (record f { governing = governing })
   reserve_so id txn login day f governing one two t l keyed = let named = one t l keyed in (named.0, named.1, two t (later t l))
 
-  pub limit_so : (login : List ℕ) (from cap : ℕ) (over : Option UsageRecord) (ceiling : Option CeilingRecord)
+  pub limit_so : (login : List ℕ) (from cap : ℕ) (over : Option UsageRecord) (limit : Option LimitRecord)
       → ((t : Tables) → HasLedger a.now t → IsFirstOver login from cap t.usage over)
-      → ((t : Tables) → HasLedger b.now t → IsOneOf (is_ceiling login from) t.ceilings ceiling)
-      → (t : Tables) → HasLedger a.now t → AreKeyed t → IsFirstOver login from cap t.usage over × (ceiling ≡ find (is_ceiling login from) t.ceilings)
-  limit_so login from cap over ceiling one two t l keyed = (one t l, the_one (is_ceiling login from) t.ceilings ceiling (keyed.ceilings login from) (two t (later t l)))
+      → ((t : Tables) → HasLedger b.now t → IsOneOf (is_limit login from) t.limits limit)
+      → (t : Tables) → HasLedger a.now t → AreKeyed t → IsFirstOver login from cap t.usage over × (limit ≡ find (is_limit login from) t.limits)
+  limit_so login from cap over limit one two t l keyed = (one t l, the_one (is_limit login from) t.limits limit (keyed.limits login from) (two t (later t l)))

@@ -4,14 +4,14 @@ use Rattle.mq_frame.specs.declared.message.Id.{Id}
 use Rattle.mq_ledger.specs.History.{Transaction, transaction}
 use Rattle.mq_rows.specs.declared.plan.Found.{Found}
 use Rattle.mq_rows.specs.Found.{IsGoverning, IsFirstOver}
-use Rattle.mq_rows.specs.Rows.{is_transaction, is_usage, is_ceiling, is_host}
+use Rattle.mq_rows.specs.Rows.{is_transaction, is_usage, is_limit, is_host}
 use Rattle.mq_rows.specs.Tables.{Tables}
 
 -- at most one row has a key
 pub record AreKeyed (t : Tables) : Type 0 where
   pub transactions : (k : Transaction) → length (filter (is_transaction k) t.transactions) ≤ 1
   pub usage : (l : List ℕ) (d : ℕ) → length (filter (is_usage l d) t.usage) ≤ 1
-  pub ceilings : (l : List ℕ) (d : ℕ) → length (filter (is_ceiling l d) t.ceilings) ≤ 1
+  pub limits : (l : List ℕ) (d : ℕ) → length (filter (is_limit l d) t.limits) ≤ 1
   pub retired : (h : List ℕ) → length (filter (is_host h) t.retired) ≤ 1
 
 -- the rows of the transaction, and of the login and day
@@ -25,9 +25,9 @@ abbrev pub IsReserveFound : Id → ℕ → List ℕ → ℕ → Tables → Found
 IsReserveFound id txn login day t f =
     (f.transaction ≡ find (is_transaction (transaction id txn)) t.transactions)
     × (f.usage ≡ find (is_usage login day) t.usage)
-    × IsGoverning login day t.ceilings f.governing
+    × IsGoverning login day t.limits f.governing
 
 -- the first day past the cap, and the limit from that day on
 abbrev pub IsLimitFound : List ℕ → ℕ → ℕ → Tables → Found → Type 0
 IsLimitFound login from cap t f =
-    IsFirstOver login from cap t.usage f.over × (f.ceiling ≡ find (is_ceiling login from) t.ceilings)
+    IsFirstOver login from cap t.usage f.over × (f.limit ≡ find (is_limit login from) t.limits)

@@ -2,26 +2,26 @@
 use Rattle.std.specs.Prelude.{◌≡◌, ℕ, pos, List, [], ◌∷◌, Option, Some, None}
 use Rattle.sqlite.specs.Order.{Row, column}
 use Rattle.sqlite.specs.declared.types.Value.TheVariants.{Int}
-use Rattle.mq_rows.specs.declared.record.CeilingRecord.{CeilingRecord}
+use Rattle.mq_rows.specs.declared.record.LimitRecord.{LimitRecord}
 use Rattle.mq_rows.specs.Found.{IsGoverning}
 use Rattle.mq_tables.specs.Records.{IsFirstBy}
 
 -- what a query for limits shows
-abbrev pub limit_row : CeilingRecord → Row
+abbrev pub limit_row : LimitRecord → Row
 limit_row c = Int (pos c.day) ∷ Int (pos c.cap) ∷ []
 
 -- none is due, or the one row shows the latest
-abbrev pub IsGoverningShown : List ℕ → ℕ → List CeilingRecord → List Row → Type 0
+abbrev pub IsGoverningShown : List ℕ → ℕ → List LimitRecord → List Row → Type 0
 IsGoverningShown login day all [] = IsGoverning login day all None
 IsGoverningShown login day all (row ∷ more) =
-    (c : CeilingRecord) × IsGoverning login day all (Some c) × (row ≡ limit_row c)
+    (c : LimitRecord) × IsGoverning login day all (Some c) × (row ≡ limit_row c)
 
 -- what the row of a limit of that login shows
-pub record IsCeilingShown (l : List ℕ) (row : Row) (c : CeilingRecord) : Type 0 where
+pub record IsLimitShown (l : List ℕ) (row : Row) (c : LimitRecord) : Type 0 where
   pub login : c.login ≡ l
   pub day : column row 0 ≡ Int (pos c.day)
   pub cap : column row 1 ≡ Int (pos c.cap)
 
 -- no row, or what the first shows
-abbrev pub IsFirstCeiling : List ℕ → List Row → Option CeilingRecord → Type 0
-IsFirstCeiling login = IsFirstBy (IsCeilingShown login)
+abbrev pub IsFirstLimit : List ℕ → List Row → Option LimitRecord → Type 0
+IsFirstLimit login = IsFirstBy (IsLimitShown login)

@@ -11,7 +11,7 @@ use Rattle.mq_rows.specs.Tables.{Tables}
 use Rattle.mq_rows.specs.declared.record.RetiredRecord.{RetiredRecord}
 use Rattle.mq_tables.specs.Places.{IsTableIn, IsSettingIn, IsAnswerIn, IsTransIn, IsUsageIn, IsCeilingIn, IsRetiredIn}
 use Rattle.mq_tables.specs.Places.{IsUnreferred, IsUnnamed}
-use Rattle.mq_tables.specs.Records.{HoldsAnswers, HoldsTransactions, HoldsUsage, HoldsCeilings, HoldsRetired}
+use Rattle.mq_tables.specs.Records.{HoldsAnswers, HoldsTransactions, HoldsUsage, HoldsLimits, HoldsRetired}
 use Rattle.mq_tables.specs.Settings.{SettingRow, setting_fields, rule_rows}
 use Rattle.mq_tables.specs.Tables.{rule_table, retired_table}
 
@@ -45,7 +45,7 @@ pub record HoldsRows (trees : Trees) (at : Places) (t : Tables) : Type 0 where
   pub answers : HoldsAnswers (trees at.answer) t.answers
   pub transactions : HoldsTransactions (trees at.trans) t.transactions
   pub usage : HoldsUsage (trees at.usage) t.usage
-  pub ceilings : HoldsCeilings (trees at.ceiling) t.ceilings
+  pub limits : HoldsLimits (trees at.ceiling) t.limits
 
 -- the table is there, at some place, and has these rows
 pub record IsThere (db : Database) (made : Table) (rows : List Row) : Type 0 where

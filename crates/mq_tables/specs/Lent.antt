@@ -7,14 +7,14 @@ use Rattle.mq_frame.specs.declared.message.Id.{Id}
 use Rattle.mq_rows.specs.declared.record.AnswerRecord.{AnswerRecord}
 use Rattle.mq_rows.specs.declared.record.TransactionRecord.{TransactionRecord}
 use Rattle.mq_rows.specs.declared.record.UsageRecord.{UsageRecord}
-use Rattle.mq_rows.specs.declared.record.CeilingRecord.{CeilingRecord}
+use Rattle.mq_rows.specs.declared.record.LimitRecord.{LimitRecord}
 use Rattle.mq_rows.specs.declared.record.RetiredRecord.{RetiredRecord}
 use Rattle.mq_tables.specs.Records.{bit, IsFirstBy}
 
 -- the parameters of the INSERT of an answer
 abbrev pub answer_params : AnswerRecord → Row
 answer_params a =
-    Int (pos a.n) ∷ Blob a.id.host ∷ Int (pos a.id.run) ∷ Int (pos a.id.seq) ∷ Blob a.request ∷ Blob a.reply ∷ []
+    Int (pos a.n) ∷ Blob a.id.host ∷ Int (pos a.id.run) ∷ Int (pos a.id.number) ∷ Blob a.request ∷ Blob a.reply ∷ []
 
 abbrev pub key_params : List ℕ → ℕ → Row
 key_params login day = Blob login ∷ Int (pos day) ∷ []
@@ -70,7 +70,7 @@ abbrev pub IsFirstTransaction : List ℕ → ℕ → ℕ → List Row → Option
 IsFirstTransaction h r x = IsFirstBy (IsTransactionShown h r x)
 
 -- the parameters of the UPDATE of a limit
-abbrev pub cap_params : CeilingRecord → Row
+abbrev pub cap_params : LimitRecord → Row
 cap_params c = Int (pos c.cap) ∷ Blob c.login ∷ Int (pos c.day) ∷ []
 
 -- the parameter of the query for a floor
@@ -96,7 +96,7 @@ abbrev pub IsFirstFloor : List ℕ → List Row → Option RetiredRecord → Typ
 IsFirstFloor h = IsFirstBy (IsFloorShown h)
 
 abbrev pub id_key : Id → Row
-id_key id = Blob id.host ∷ Int (pos id.run) ∷ Int (pos id.seq) ∷ []
+id_key id = Blob id.host ∷ Int (pos id.run) ∷ Int (pos id.number) ∷ []
 
 -- what the query for an answer shows
 abbrev pub bodies_row : AnswerRecord → Row

@@ -69,7 +69,7 @@ new_rows made_with = record {
   answers = [];
   transactions = [];
   usage = [];
-  ceilings = [];
+  limits = [];
   retired = [];
 }
 

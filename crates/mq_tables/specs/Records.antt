@@ -10,13 +10,13 @@ use Rattle.sqlite_trees.specs.declared.store.Shape.TheVariants.{Table}
 use Rattle.mq_rows.specs.declared.record.AnswerRecord.{AnswerRecord}
 use Rattle.mq_rows.specs.declared.record.TransactionRecord.{TransactionRecord}
 use Rattle.mq_rows.specs.declared.record.UsageRecord.{UsageRecord}
-use Rattle.mq_rows.specs.declared.record.CeilingRecord.{CeilingRecord}
+use Rattle.mq_rows.specs.declared.record.LimitRecord.{LimitRecord}
 use Rattle.mq_rows.specs.declared.record.RetiredRecord.{RetiredRecord}
 
 -- a column that stands for the rowid is kept as NULL
 abbrev pub answer_fields : AnswerRecord → Row
 answer_fields a =
-    Int (pos a.n) ∷ Null ∷ Blob a.id.host ∷ Int (pos a.id.run) ∷ Int (pos a.id.seq) ∷ Blob a.request ∷ Blob a.reply ∷ []
+    Int (pos a.n) ∷ Null ∷ Blob a.id.host ∷ Int (pos a.id.run) ∷ Int (pos a.id.number) ∷ Blob a.request ∷ Blob a.reply ∷ []
 
 abbrev pub bit : Bool → ℕ
 bit false = 0
@@ -30,8 +30,8 @@ transaction_fields t =
 abbrev pub usage_fields : UsageRecord → Row
 usage_fields u = Blob u.login ∷ Int (pos u.day) ∷ Int (pos u.settled) ∷ Int (pos u.reserved) ∷ []
 
-abbrev pub ceiling_fields : CeilingRecord → Row
-ceiling_fields c = Blob c.login ∷ Int (pos c.day) ∷ Int (pos c.cap) ∷ []
+abbrev pub limit_fields : LimitRecord → Row
+limit_fields c = Blob c.login ∷ Int (pos c.day) ∷ Int (pos c.cap) ∷ []
 
 abbrev pub retired_fields : RetiredRecord → Row
 retired_fields r = Blob r.host ∷ Int (pos r.run) ∷ []
@@ -57,8 +57,8 @@ HoldsTransactions rows all = Holds 1 transaction_fields rows all
 abbrev pub HoldsUsage : List Row → List UsageRecord → Type 0
 HoldsUsage rows all = Holds 1 usage_fields rows all
 
-abbrev pub HoldsCeilings : List Row → List CeilingRecord → Type 0
-HoldsCeilings rows all = Holds 1 ceiling_fields rows all
+abbrev pub HoldsLimits : List Row → List LimitRecord → Type 0
+HoldsLimits rows all = Holds 1 limit_fields rows all
 
 abbrev pub HoldsRetired : List Row → List RetiredRecord → Type 0
 HoldsRetired rows all = Holds 1 retired_fields rows all

@@ -12,10 +12,10 @@ use Rattle.mq_rows.specs.declared.plan.Write.TheVariants.{Keep, Insert, Update}
 use Rattle.mq_rows.specs.declared.record.AnswerRecord.{AnswerRecord}
 use Rattle.mq_rows.specs.declared.record.TransactionRecord.{TransactionRecord}
 use Rattle.mq_rows.specs.declared.record.UsageRecord.{UsageRecord}
-use Rattle.mq_rows.specs.declared.record.CeilingRecord.{CeilingRecord}
+use Rattle.mq_rows.specs.declared.record.LimitRecord.{LimitRecord}
 use Rattle.mq_rows.specs.declared.record.RetiredRecord.{RetiredRecord}
 use Rattle.mq_rows.specs.Tables.{Tables}
-use Rattle.mq_rows.specs.Plan.{same_key, set_transaction, same_day, set_usage, same_from, set_ceiling, same_host, set_run}
+use Rattle.mq_rows.specs.Plan.{same_key, set_transaction, same_day, set_usage, same_from, set_limit, same_host, set_run}
 use Rattle.mq_tables.specs.Ledger.{HasLedger, IsCurrent}
 use Rattle.mq_tables.specs.Settings.{SettingRow, setting_fields}
 
@@ -72,10 +72,10 @@ WritesTransaction write old new =
     → Leaves same_key set_transaction write t.transactions
     (λ after. HasLedger new.now (record t { transactions = after }))
 
-abbrev pub WritesCeiling : Write CeilingRecord → State → State → Type 0
-WritesCeiling write old new =
+abbrev pub WritesLimit : Write LimitRecord → State → State → Type 0
+WritesLimit write old new =
     (t : Tables) → HasLedger old.now t
-    → Leaves same_from set_ceiling write t.ceilings (λ after. HasLedger new.now (record t { ceilings = after }))
+    → Leaves same_from set_limit write t.limits (λ after. HasLedger new.now (record t { limits = after }))
 
 abbrev pub WritesFloor : Write RetiredRecord → State → State → Type 0
 WritesFloor write old new =

@@ -48,7 +48,7 @@ fn answer_params(answer: &AnswerRecord) -> [ValueRef<'_>; 6]
         ValueRef::Int(answer.n as i64),
         ValueRef::Blob(answer.id.host.as_slice()),
         ValueRef::Int(answer.id.run as i64),
-        ValueRef::Int(i64::from(answer.id.seq)),
+        ValueRef::Int(i64::from(answer.id.number)),
         ValueRef::Blob(answer.request.as_slice()),
         ValueRef::Blob(answer.reply.as_slice()),
     ]
@@ -61,7 +61,7 @@ fn id_params(id: &Id) -> [ValueRef<'_>; 3]
     [
         ValueRef::Blob(id.host.as_slice()),
         ValueRef::Int(id.run as i64),
-        ValueRef::Int(i64::from(id.seq)),
+        ValueRef::Int(i64::from(id.number)),
     ]
 }
 

@@ -7,51 +7,48 @@ ghost use Rattle.sqlite.specs.State.{HasCleanDisk, IsUnchanged, KeepsCommit, Sur
 ghost use Rattle.sqlite.specs.Values.{bound};
 ghost use Rattle.mq_rows.specs.declared.plan.Write.TheVariants.{Insert, Update};
 ghost use Rattle.mq_rows.specs.Found.{IsGoverning};
-ghost use Rattle.mq_rows.specs.Rows.{is_ceiling};
+ghost use Rattle.mq_rows.specs.Rows.{is_limit};
 ghost use Rattle.mq_rows.specs.Tables.{Tables};
-ghost use Rattle.mq_tables.specs.Governing.{limit_row, IsGoverningShown, IsFirstCeiling};
+ghost use Rattle.mq_tables.specs.Governing.{limit_row, IsGoverningShown, IsFirstLimit};
 ghost use Rattle.mq_tables.specs.Ledger.{HasLedger};
 ghost use Rattle.mq_tables.specs.Lent.{cap_params};
-ghost use Rattle.mq_tables.specs.Records.{ceiling_fields, IsOneOf};
-ghost use Rattle.mq_tables.specs.Updates.{WritesCeiling};
+ghost use Rattle.mq_tables.specs.Records.{limit_fields, IsOneOf};
+ghost use Rattle.mq_tables.specs.Updates.{WritesLimit};
 
 use crate::usage::key_params;
 use mq_frame::Login;
-use mq_rows::{CeilingRecord, Write};
+use mq_rows::{LimitRecord, Write};
 use sqlite::types::ValueRef;
 use sqlite::{Alter, Error, Row, Transaction};
 
-fn ceiling_params(ceiling: &CeilingRecord) -> [ValueRef<'_>; 3]
-    ensures { bound result ≡ ceiling_fields ceiling.now }
+fn limit_params(limit: &LimitRecord) -> [ValueRef<'_>; 3]
+    ensures { bound result ≡ limit_fields limit.now }
 {
     [
-        ValueRef::Blob(ceiling.login.as_slice()),
-        ValueRef::Int(i64::from(ceiling.day)),
-        ValueRef::Int(i64::from(ceiling.cap)),
+        ValueRef::Blob(limit.login.as_slice()),
+        ValueRef::Int(i64::from(limit.day)),
+        ValueRef::Int(i64::from(limit.cap)),
     ]
 }
 
-fn cap_params(ceiling: &CeilingRecord) -> [ValueRef<'_>; 3]
-    ensures { bound result ≡ cap_params ceiling.now }
+fn cap_params(limit: &LimitRecord) -> [ValueRef<'_>; 3]
+    ensures { bound result ≡ cap_params limit.now }
 {
     [
-        ValueRef::Int(i64::from(ceiling.cap)),
-        ValueRef::Blob(ceiling.login.as_slice()),
-        ValueRef::Int(i64::from(ceiling.day)),
+        ValueRef::Int(i64::from(limit.cap)),
+        ValueRef::Blob(limit.login.as_slice()),
+        ValueRef::Int(i64::from(limit.day)),
     ]
 }
 
-fn insert_ceiling<S: Alter>(
-    tx: &mut Transaction<'_, S>,
-    ceiling: &CeilingRecord,
-) -> Result<usize, Error>
+fn insert_limit<S: Alter>(tx: &mut Transaction<'_, S>, limit: &LimitRecord) -> Result<usize, Error>
     requires inside { HasCleanDisk (state S.Store tx.old.conn.now)
         → IsTrue (state S.Store tx.old.conn.now).in_transaction }
     ensures same_reference { tx.new.conn.ghost_name ≡ tx.old.conn.ghost_name }
     ensures inside { HasCleanDisk (state S.Store tx.new.conn.now)
         → OnOk result (IsTrue (state S.Store tx.new.conn.now).in_transaction) }
     ensures written { HasCleanDisk (state S.Store tx.new.conn.now)
-        → OnOk result (WritesCeiling (Insert ceiling.now)
+        → OnOk result (WritesLimit (Insert limit.now)
         (state S.Store tx.old.conn.now) (state S.Store tx.new.conn.now)) }
     ensures kept { HasCleanDisk (state S.Store tx.new.conn.now)
         → KeepsCommit (state S.Store tx.old.conn.now) (state S.Store tx.new.conn.now) }
@@ -59,21 +56,18 @@ fn insert_ceiling<S: Alter>(
 {
     tx.execute(
         "INSERT INTO ceiling (login, day, cap) VALUES (?1, ?2, ?3)",
-        &ceiling_params(ceiling),
+        &limit_params(limit),
     )
 }
 
-fn update_ceiling<S: Alter>(
-    tx: &mut Transaction<'_, S>,
-    ceiling: &CeilingRecord,
-) -> Result<usize, Error>
+fn update_limit<S: Alter>(tx: &mut Transaction<'_, S>, limit: &LimitRecord) -> Result<usize, Error>
     requires inside { HasCleanDisk (state S.Store tx.old.conn.now)
         → IsTrue (state S.Store tx.old.conn.now).in_transaction }
     ensures same_reference { tx.new.conn.ghost_name ≡ tx.old.conn.ghost_name }
     ensures inside { HasCleanDisk (state S.Store tx.new.conn.now)
         → OnOk result (IsTrue (state S.Store tx.new.conn.now).in_transaction) }
     ensures written { HasCleanDisk (state S.Store tx.new.conn.now)
-        → OnOk result (WritesCeiling (Update ceiling.now)
+        → OnOk result (WritesLimit (Update limit.now)
         (state S.Store tx.old.conn.now) (state S.Store tx.new.conn.now)) }
     ensures kept { HasCleanDisk (state S.Store tx.new.conn.now)
         → KeepsCommit (state S.Store tx.old.conn.now) (state S.Store tx.new.conn.now) }
@@ -81,14 +75,14 @@ fn update_ceiling<S: Alter>(
 {
     tx.execute(
         "UPDATE ceiling SET cap = ?1 WHERE login = ?2 AND day = ?3",
-        &cap_params(ceiling),
+        &cap_params(limit),
     )
 }
 
 /// Writes what becomes of the table, and answers how many rows that are.
-pub fn write_ceiling<S: Alter>(
+pub fn write_limit<S: Alter>(
     tx: &mut Transaction<'_, S>,
-    write: &Write<CeilingRecord>,
+    write: &Write<LimitRecord>,
 ) -> Result<usize, Error>
     requires inside { HasCleanDisk (state S.Store tx.old.conn.now)
         → IsTrue (state S.Store tx.old.conn.now).in_transaction }
@@ -96,19 +90,19 @@ pub fn write_ceiling<S: Alter>(
     ensures inside { HasCleanDisk (state S.Store tx.new.conn.now)
         → OnOk result (IsTrue (state S.Store tx.new.conn.now).in_transaction) }
     ensures written { HasCleanDisk (state S.Store tx.new.conn.now)
-        → OnOk result (WritesCeiling write.now (state S.Store tx.old.conn.now) (state S.Store tx.new.conn.now)) }
+        → OnOk result (WritesLimit write.now (state S.Store tx.old.conn.now) (state S.Store tx.new.conn.now)) }
     ensures kept { HasCleanDisk (state S.Store tx.new.conn.now)
         → KeepsCommit (state S.Store tx.old.conn.now) (state S.Store tx.new.conn.now) }
     ensures survives { Survives (state S.Store tx.old.conn.now) (state S.Store tx.new.conn.now) (λ _. ⊥) }
 {
     match write {
         Write::Keep => Ok(0),
-        Write::Insert(ceiling) => insert_ceiling(tx, ceiling),
-        Write::Update(ceiling) => update_ceiling(tx, ceiling),
+        Write::Insert(limit) => insert_limit(tx, limit),
+        Write::Update(limit) => update_limit(tx, limit),
     }
 }
 
-fn ceiling_rows<S: Alter>(
+fn limit_rows<S: Alter>(
     tx: &mut Transaction<'_, S>,
     login: &Login,
     day: u32,
@@ -118,7 +112,7 @@ fn ceiling_rows<S: Alter>(
         → OnOk result (IsUnchanged (state S.Store tx.old.conn.now) (state S.Store tx.new.conn.now)) }
     ensures found { HasCleanDisk (state S.Store tx.new.conn.now)
         → IfOk result (λ rows. (t : Tables) → HasLedger (state S.Store tx.old.conn.now).now t
-        → IsPermutation (map limit_row (filter (is_ceiling login.now day) t.ceilings)) rows.items) }
+        → IsPermutation (map limit_row (filter (is_limit login.now day) t.limits)) rows.items) }
     ensures kept { HasCleanDisk (state S.Store tx.new.conn.now)
         → KeepsCommit (state S.Store tx.old.conn.now) (state S.Store tx.new.conn.now) }
     ensures survives { Survives (state S.Store tx.old.conn.now) (state S.Store tx.new.conn.now) (λ _. ⊥) }
@@ -139,7 +133,7 @@ fn latest_rows<S: Alter>(
         → OnOk result (IsUnchanged (state S.Store tx.old.conn.now) (state S.Store tx.new.conn.now)) }
     ensures found { HasCleanDisk (state S.Store tx.new.conn.now)
         → IfOk result (λ rows. (t : Tables) → HasLedger (state S.Store tx.old.conn.now).now t
-        → IsGoverningShown login.now day t.ceilings rows.items) }
+        → IsGoverningShown login.now day t.limits rows.items) }
     ensures kept { HasCleanDisk (state S.Store tx.new.conn.now)
         → KeepsCommit (state S.Store tx.old.conn.now) (state S.Store tx.new.conn.now) }
     ensures survives { Survives (state S.Store tx.old.conn.now) (state S.Store tx.new.conn.now) (λ _. ⊥) }
@@ -151,13 +145,13 @@ fn latest_rows<S: Alter>(
 }
 
 /// What the first row shows, where there is one.
-fn first_ceiling(rows: &[Row], login: &Login) -> Result<Option<CeilingRecord>, Error>
-    ensures { IfOk result (IsFirstCeiling login.now rows.now) }
+fn first_limit(rows: &[Row], login: &Login) -> Result<Option<LimitRecord>, Error>
+    ensures { IfOk result (IsFirstLimit login.now rows.now) }
 {
     let Some(row) = rows.first() else {
         return Ok(None);
     };
-    Ok(Some(CeilingRecord {
+    Ok(Some(LimitRecord {
         login: login.clone()?,
         day: row.get(0)?,
         cap: row.get(1)?,
@@ -165,23 +159,23 @@ fn first_ceiling(rows: &[Row], login: &Login) -> Result<Option<CeilingRecord>, E
 }
 
 /// The limit of a login from that very day on, where there is one.
-pub fn find_ceiling<S: Alter>(
+pub fn find_limit<S: Alter>(
     tx: &mut Transaction<'_, S>,
     login: &Login,
     day: u32,
-) -> Result<Option<CeilingRecord>, Error>
+) -> Result<Option<LimitRecord>, Error>
     ensures same_reference { tx.new.conn.ghost_name ≡ tx.old.conn.ghost_name }
     ensures same { HasCleanDisk (state S.Store tx.new.conn.now)
         → OnOk result (IsUnchanged (state S.Store tx.old.conn.now) (state S.Store tx.new.conn.now)) }
     ensures found { HasCleanDisk (state S.Store tx.new.conn.now)
         → IfOk result (λ found. (t : Tables) → HasLedger (state S.Store tx.old.conn.now).now t
-        → IsOneOf (is_ceiling login.now day) t.ceilings found) }
+        → IsOneOf (is_limit login.now day) t.limits found) }
     ensures kept { HasCleanDisk (state S.Store tx.new.conn.now)
         → KeepsCommit (state S.Store tx.old.conn.now) (state S.Store tx.new.conn.now) }
     ensures survives { Survives (state S.Store tx.old.conn.now) (state S.Store tx.new.conn.now) (λ _. ⊥) }
 {
-    let rows = ceiling_rows(tx, login, day)?;
-    first_ceiling(rows.as_slice(), login)
+    let rows = limit_rows(tx, login, day)?;
+    first_limit(rows.as_slice(), login)
 }
 
 /// The limit that governs a login's day: of those from no later day the latest. `None` where there
@@ -190,17 +184,17 @@ pub fn find_governing<S: Alter>(
     tx: &mut Transaction<'_, S>,
     login: &Login,
     day: u32,
-) -> Result<Option<CeilingRecord>, Error>
+) -> Result<Option<LimitRecord>, Error>
     ensures same_reference { tx.new.conn.ghost_name ≡ tx.old.conn.ghost_name }
     ensures same { HasCleanDisk (state S.Store tx.new.conn.now)
         → OnOk result (IsUnchanged (state S.Store tx.old.conn.now) (state S.Store tx.new.conn.now)) }
     ensures found { HasCleanDisk (state S.Store tx.new.conn.now)
         → IfOk result (λ found. (t : Tables) → HasLedger (state S.Store tx.old.conn.now).now t
-        → IsGoverning login.now day t.ceilings found) }
+        → IsGoverning login.now day t.limits found) }
     ensures kept { HasCleanDisk (state S.Store tx.new.conn.now)
         → KeepsCommit (state S.Store tx.old.conn.now) (state S.Store tx.new.conn.now) }
     ensures survives { Survives (state S.Store tx.old.conn.now) (state S.Store tx.new.conn.now) (λ _. ⊥) }
 {
     let rows = latest_rows(tx, login, day)?;
-    first_ceiling(rows.as_slice(), login)
+    first_limit(rows.as_slice(), login)
 }

@@ -13,7 +13,7 @@ ghost use Rattle.mq_rows.specs.Tables.{Tables};
 ghost use Rattle.mq_tables.specs.Finding.{AreKeyed, IsTransactionFound, IsReserveFound, IsLimitFound};
 ghost use Rattle.mq_tables.specs.Ledger.{HasLedger, IsCurrent};
 
-use crate::ceiling::{find_ceiling, find_governing};
+use crate::ceiling::{find_governing, find_limit};
 use crate::floor::find_floor;
 use crate::over::find_over;
 use crate::transaction::find_transaction;
@@ -29,7 +29,7 @@ const NOTHING: Found = Found {
     usage: None,
     governing: None,
     over: None,
-    ceiling: None,
+    limit: None,
     floor: None,
 };
 
@@ -61,7 +61,7 @@ fn find_named<S: Alter>(
         usage,
         governing: None,
         over: None,
-        ceiling: None,
+        limit: None,
         floor: None,
     })
 }
@@ -112,13 +112,13 @@ fn find_for_limit<S: Alter>(
     ensures survives { Survives (state S.Store tx.old.conn.now) (state S.Store tx.new.conn.now) (λ _. ⊥) }
 {
     let over = find_over(tx, login, from_day, cap)?;
-    let ceiling = find_ceiling(tx, login, from_day)?;
+    let limit = find_limit(tx, login, from_day)?;
     Ok(Found {
         transaction: None,
         usage: None,
         governing: None,
         over,
-        ceiling,
+        limit,
         floor: None,
     })
 }
@@ -143,7 +143,7 @@ fn find_for_retire<S: Alter>(tx: &mut Transaction<'_, S>, id: &Id) -> Result<Fou
         usage: None,
         governing: None,
         over: None,
-        ceiling: None,
+        limit: None,
         floor,
     })
 }
@@ -174,20 +174,23 @@ pub fn find<S: Alter>(
         Request::Reserve {
             id,
             txn,
-            at,
+            moment,
             login,
             ..
-        } => find_for_reserve(tx, id, *txn, login, zone.day_at(*at)),
+        } => find_for_reserve(tx, id, *txn, login, zone.day_at(*moment)),
         Request::Settle {
             id,
             txn,
-            at,
+            moment,
             login,
             ..
         }
-        | Request::Release { id, txn, at, login } => {
-            find_named(tx, id, *txn, login, zone.day_at(*at))
-        }
+        | Request::Release {
+            id,
+            txn,
+            moment,
+            login,
+        } => { find_named(tx, id, *txn, login, zone.day_at(*moment)) }
         Request::Limit {
             from_day,
             cap,

@@ -6,7 +6,7 @@
 //!
 //!     write_transaction(tx, &plan.transaction)?;
 //!     write_usage(tx, &plan.usage)?;
-//!     write_ceiling(tx, &plan.ceiling)?;
+//!     write_limit(tx, &plan.limit)?;
 //!     write_floor(tx, &plan.retired)
 //!
 //! It stands on `mq_frame`, `mq_ledger` and `mq_rows`, and knows typed rows; it doesn't know what a request is

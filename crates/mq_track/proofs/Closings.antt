@@ -31,14 +31,14 @@ record IsSent (o : Option Transaction) (txn : ℕ) : Type 0 where
   is : o ≡ Some t
   number : t.txn ≡ txn
 
-sent : (l : Option (List ℕ)) (o : Option Transaction) (name : List ℕ) (txn at : ℕ) → position_of l o ≡ Sending name txn at → IsSent o txn
-sent None o name txn at h = absurd (cc (h))
-sent (Some known) None name txn at h = absurd (cc (h))
-sent (Some known) (Some t) name txn at h = record { t = t; is = refl; number = cc (h) }
+sent : (l : Option (List ℕ)) (o : Option Transaction) (login : List ℕ) (txn moment : ℕ) → position_of l o ≡ Sending login txn moment → IsSent o txn
+sent None o login txn moment h = absurd (cc (h))
+sent (Some known) None login txn moment h = absurd (cc (h))
+sent (Some known) (Some t) login txn moment h = record { t = t; is = refl; number = cc (h) }
 
 pub none_stands_closed : NoneStandsClosed
-none_stands_closed past s name txn at h =
-    let here = sent (login past s) (open_transaction past s) name txn at h in
+none_stands_closed past s name txn moment h =
+    let here = sent (login past s) (open_transaction past s) name txn moment h in
     subst (λ (n : ℕ). IsUnclosed past n) here.number (unclosed past s here.t here.is)
 
 pub closed_once : AreClosedOnce

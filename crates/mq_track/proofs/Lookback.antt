@@ -12,7 +12,7 @@ use Rattle.mq_track.specs.Steps.{left_open}
 -- ---- login
 
 abbrev pub login_after : List ℕ → Event → Option (List ℕ) → Option (List ℕ)
-login_after s (Passed session name) before = if bytes_eq session s then Some name else before
+login_after s (Passed session login) before = if bytes_eq session s then Some login else before
 login_after s (Left session) before = if bytes_eq session s then None else before
 login_after s _ before = before
 
@@ -25,8 +25,8 @@ name_unless true line rest s e = refl
 name_unless false line rest s e = e
 
 login_by : (e : Event) (line : Meaning) (rest : List Meaning) (s : List ℕ) → event line ≡ e → last_name s (if leaves s e then [] else line ∷ rest) ≡ login_after s e (last_name s rest)
-login_by (Passed session name) line rest s is = rw is (or_if (bytes_eq session s) name (last_name s rest))
-login_by (Began session message at) line rest s is = rw is refl
+login_by (Passed session login) line rest s is = rw is (or_if (bytes_eq session s) login (last_name s rest))
+login_by (Began session message moment) line rest s is = rw is refl
 login_by (Ended session message end) line rest s is = rw is refl
 login_by (Left session) line rest s is = name_unless (bytes_eq session s) line rest s (rw is refl)
 login_by Nothing line rest s is = rw is refl
@@ -38,7 +38,7 @@ login-more line past s = login_by (event line) line (since (λ l. leaves s (even
 -- ---- open transaction
 
 abbrev pub open_after : List ℕ → ℕ → Event → Option Transaction → Option Transaction
-open_after s n (Began session message at) before = if bytes_eq session s then Some (record { txn = n; message = message; at = at }) else before
+open_after s n (Began session message moment) before = if bytes_eq session s then Some (record { txn = n; message = message; moment = moment }) else before
 open_after s n (Ended session message end) before = if bytes_eq session s then option_and_then (left_open message) before else before
 open_after s n (Left session) before = if bytes_eq session s then None else before
 open_after s n _ before = before
@@ -91,8 +91,8 @@ began false line rest s t o none = simp none
 
 open_by : (e : Event) (n : ℕ) (line : Meaning) (rest : List Meaning) (s : List ℕ) (o : Option Transaction) → event line ≡ e
     → still (ended_in s (if begins s e then [] else line ∷ rest)) (option_or (opened_by s n e) o) ≡ open_after s n e (still (ended_in s rest) o)
-open_by (Passed session name) n line rest s o is = rw is refl
-open_by (Began session message at) n line rest s o is = began (bytes_eq session s) line rest s _ o (λ m. rw is refl)
+open_by (Passed session login) n line rest s o is = rw is refl
+open_by (Began session message moment) n line rest s o is = began (bytes_eq session s) line rest s _ o (λ m. rw is refl)
 open_by (Ended session message end) n line rest s o is = rw is (still-or (λ t. bytes_eq session s && is_named message t.message) (ended_in s rest) o ∙ still-named (bytes_eq session s) message (still (ended_in s rest) o))
 open_by (Left session) n line rest s o is = rw is (still-or (λ t. bytes_eq session s) (ended_in s rest) o ∙ still-left (bytes_eq session s) (still (ended_in s rest) o))
 open_by Nothing n line rest s o is = rw is refl
@@ -104,15 +104,15 @@ open-more line past s = open_by (event line) (begin_count (line ∷ past)) line 
 -- ---- two sessions
 
 login_apart : (e : Event) (session s : List ℕ) (before : Option (List ℕ)) → session_of e ≡ Some session → bytes_eq session s ≡ false → login_after s e before ≡ before
-login_apart (Passed u name) session s before is n = let same : u ≡ session = cc in rw (same, n) refl
-login_apart (Began u message at) session s before is n = refl
+login_apart (Passed u login) session s before is n = let same : u ≡ session = cc in rw (same, n) refl
+login_apart (Began u message moment) session s before is n = refl
 login_apart (Ended u message end) session s before is n = refl
 login_apart (Left u) session s before is n = let same : u ≡ session = cc in rw (same, n) refl
 login_apart Nothing session s before is n = refl
 
 open_apart : (e : Event) (n : ℕ) (session s : List ℕ) (before : Option Transaction) → session_of e ≡ Some session → bytes_eq session s ≡ false → open_after s n e before ≡ before
-open_apart (Passed u name) n session s before is other = refl
-open_apart (Began u message at) n session s before is other = let same : u ≡ session = cc in rw (same, other) refl
+open_apart (Passed u login) n session s before is other = refl
+open_apart (Began u message moment) n session s before is other = let same : u ≡ session = cc in rw (same, other) refl
 open_apart (Ended u message end) n session s before is other = let same : u ≡ session = cc in rw (same, other) refl
 open_apart (Left u) n session s before is other = let same : u ≡ session = cc in rw (same, other) refl
 open_apart Nothing n session s before is other = refl

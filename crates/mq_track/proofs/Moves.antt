@@ -34,12 +34,12 @@ learned old new past line s what stands learns of here q = either (bytes_eq s q)
 
 -- how many tx-begins there are after an event
 abbrev count_after : Event → ℕ → ℕ
-count_after (Began session message at) n = n + 1
+count_after (Began session message moment) n = n + 1
 count_after _ n = n
 
 count-more : (e : Event) (line : Meaning) (past : List Meaning) → event line ≡ e → begin_count (line ∷ past) ≡ count_after e (begin_count past)
-count-more (Passed session name) line past is = rw is refl
-count-more (Began session message at) line past is = rw is refl
+count-more (Passed session login) line past is = rw is refl
+count-more (Began session message moment) line past is = rw is refl
 count-more (Ended session message end) line past is = rw is refl
 count-more (Left session) line past is = rw is refl
 count-more Nothing line past is = rw is refl
@@ -69,15 +69,15 @@ of_session : (e : Event) (line : Meaning) (s : List ℕ) → event line ≡ e �
 of_session e line s is of = rw is of
 
 stands_by : (e : Event) (old new : State) (past : List Meaning) (line : Meaning) → event line ≡ e → TracksAt old past → Steps old new e → TracksAt new (line ∷ past)
-stands_by (Passed s name) old new past line is stands steps = record {
-  sessions = learned old new past line s _ stands steps.0 (of_session (Passed s name) line s is refl)
-      (here (Passed s name) old past line s _ is (rw (same_bytes s, given_open old past s stands) refl));
-  begins = steps.1 ∙ (stands.begins ∙ sym (count-more (Passed s name) line past is));
+stands_by (Passed s login) old new past line is stands steps = record {
+  sessions = learned old new past line s _ stands steps.0 (of_session (Passed s login) line s is refl)
+      (here (Passed s login) old past line s _ is (rw (same_bytes s, given_open old past s stands) refl));
+  begins = steps.1 ∙ (stands.begins ∙ sym (count-more (Passed s login) line past is));
 }
-stands_by (Began s message at) old new past line is stands steps = record {
-  sessions = learned old new past line s _ stands steps.0 (of_session (Began s message at) line s is refl)
-      (here (Began s message at) old past line s _ is (rw (same_bytes s, given_login old past s stands, stands.begins) refl));
-  begins = steps.1 ∙ (ap (λ n. n + 1) stands.begins ∙ sym (count-more (Began s message at) line past is));
+stands_by (Began s message moment) old new past line is stands steps = record {
+  sessions = learned old new past line s _ stands steps.0 (of_session (Began s message moment) line s is refl)
+      (here (Began s message moment) old past line s _ is (rw (same_bytes s, given_login old past s stands, stands.begins) refl));
+  begins = steps.1 ∙ (ap (λ n. n + 1) stands.begins ∙ sym (count-more (Began s message moment) line past is));
 }
 stands_by (Ended s message end) old new past line is stands steps = record {
   sessions = learned old new past line s _ stands steps.0 (of_session (Ended s message end) line s is refl)

@@ -22,10 +22,10 @@ record IsNew (s : List ℕ) (n : ℕ) (e : Event) (t : Transaction) : Type 0 whe
 abbrev Came : List ℕ → ℕ → Event → Option Transaction → Transaction → Type 0
 Came s n e before t = IsNew s n e t ⊎ (before ≡ Some t)
 
-began : (b : Bool) (u s message : List ℕ) (at n : ℕ) (before : Option Transaction) (t : Transaction) → (b ≡ true → u ≡ s)
-    → (if b then Some (record { txn = n; message = message; at = at }) else before) ≡ Some t → Came s n (Began u message at) before t
-began true u s message at n before t same h = inl (record { of = ap Some (same refl); begins = refl; number = let e : n ≡ t.txn = cc in sym e })
-began false u s message at n before t same h = inr h
+began : (b : Bool) (u s message : List ℕ) (moment n : ℕ) (before : Option Transaction) (t : Transaction) → (b ≡ true → u ≡ s)
+    → (if b then Some (record { txn = n; message = message; moment = moment }) else before) ≡ Some t → Came s n (Began u message moment) before t
+began true u s message moment n before t same h = inl (record { of = ap Some (same refl); begins = refl; number = let e : n ≡ t.txn = cc in sym e })
+began false u s message moment n before t same h = inr h
 
 kept : (b : Bool) (message : Option (List ℕ)) (o t : Transaction) → (if b then None else Some o) ≡ Some t → Some o ≡ Some t
 kept true message o t h = absurd (none-some t h)
@@ -45,8 +45,8 @@ left false before t h = h
 
 -- what is open after an event began by it, or was open before
 came : (e : Event) (s : List ℕ) (n : ℕ) (before : Option Transaction) (t : Transaction) → open_after s n e before ≡ Some t → Came s n e before t
-came (Passed u name) s n before t h = inr h
-came (Began u message at) s n before t h = began (bytes_eq u s) u s message at n before t (bytes_decides u s).0 h
+came (Passed u login) s n before t h = inr h
+came (Began u message moment) s n before t h = began (bytes_eq u s) u s message moment n before t (bytes_decides u s).0 h
 came (Ended u message end) s n before t h = inr (ended (bytes_eq u s) message before t h)
 came (Left u) s n before t h = inr (left (bytes_eq u s) before t h)
 came Nothing s n before t h = inr h
@@ -105,10 +105,10 @@ over_later (line ∷ later) past n over = over_stays line (later ++ past) n (ove
 
 -- ---- a closing
 
-begin_gone : (b : Bool) (u s message : List ℕ) (at n : ℕ) (o t : Transaction) → (b ≡ true → u ≡ s) → (b || false) ≡ true
-    → (if b then Some (record { txn = n; message = message; at = at }) else Some o) ≡ Some t → IsNew s n (Began u message at) t
-begin_gone true u s message at n o t same is h = record { of = ap Some (same refl); begins = refl; number = let e : n ≡ t.txn = cc in sym e }
-begin_gone false u s message at n o t same is h = absurd (false≢true is)
+begin_gone : (b : Bool) (u s message : List ℕ) (moment n : ℕ) (o t : Transaction) → (b ≡ true → u ≡ s) → (b || false) ≡ true
+    → (if b then Some (record { txn = n; message = message; moment = moment }) else Some o) ≡ Some t → IsNew s n (Began u message moment) t
+begin_gone true u s message moment n o t same is h = record { of = ap Some (same refl); begins = refl; number = let e : n ≡ t.txn = cc in sym e }
+begin_gone false u s message moment n o t same is h = absurd (false≢true is)
 
 end_gone : (b named : Bool) (o t : Transaction) → (b && named) ≡ true → (if b then (if named then None else Some o) else Some o) ≡ Some t → ⊥
 end_gone true true o t is h = none-some t h
@@ -121,8 +121,8 @@ left_gone false o t is h = false≢true is
 
 -- what is open in s after an event that ends o began by it
 gone : (e : Event) (s : List ℕ) (n : ℕ) (o t : Transaction) → (begins s e || ends s o.message e) ≡ true → open_after s n e (Some o) ≡ Some t → IsNew s n e t
-gone (Passed u name) s n o t is h = absurd (false≢true is)
-gone (Began u message at) s n o t is h = begin_gone (bytes_eq u s) u s message at n o t (bytes_decides u s).0 is h
+gone (Passed u login) s n o t is h = absurd (false≢true is)
+gone (Began u message moment) s n o t is h = begin_gone (bytes_eq u s) u s message moment n o t (bytes_decides u s).0 is h
 gone (Ended u message end) s n o t is h = absurd (end_gone (bytes_eq u s) (is_named message o.message) o t is h)
 gone (Left u) s n o t is h = absurd (left_gone (bytes_eq u s) o t is h)
 gone Nothing s n o t is h = absurd (false≢true is)

@@ -11,7 +11,7 @@ use Rattle.mq_track.specs.Steps.{left_open}
 use Rattle.mq_track.specs.Laws.{NoneVanishes}
 use Rattle.mq_track.specs.declared.closing.Closing.{Closing}
 use Rattle.mq_track.specs.declared.closing.CloseEnd.{CloseEnd}
-use Rattle.mq_track.specs.declared.closing.CloseEnd.TheVariants.{Drop}
+use Rattle.mq_track.specs.declared.closing.CloseEnd.TheVariants.{Rollback}
 use Rattle.mq_track.proofs.Lookback.{open_after, open-more}
 
 -- the closing that an event of the session u brings
@@ -31,14 +31,14 @@ itself u = (bytes_decides u u).1 refl
 at_u : (past : List Meaning) (u s : List ℕ) (t : Transaction) → u ≡ s → open_transaction past s ≡ Some t → open_transaction past u ≡ Some t
 at_u past u s t same is = rw same is
 
-by_begin : (b : Bool) (past : List Meaning) (u message s : List ℕ) (at n : ℕ) (t : Transaction) → (b ≡ true → u ≡ s) → open_transaction past s ≡ Some t
-    → ((if b then Some (record { txn = n; message = message; at = at }) else Some t) ≡ Some t) ⊎ Closes (brought_in past (Began u message at) u) t
-by_begin true past u message s at n t same is = inr (Drop, rw (at_u past u s t (same refl) is, itself u) refl)
-by_begin false past u message s at n t same is = inl refl
+by_begin : (b : Bool) (past : List Meaning) (u message s : List ℕ) (moment n : ℕ) (t : Transaction) → (b ≡ true → u ≡ s) → open_transaction past s ≡ Some t
+    → ((if b then Some (record { txn = n; message = message; moment = moment }) else Some t) ≡ Some t) ⊎ Closes (brought_in past (Began u message moment) u) t
+by_begin true past u message s moment n t same is = inr (Rollback, rw (at_u past u s t (same refl) is, itself u) refl)
+by_begin false past u message s moment n t same is = inl refl
 
 by_leaving : (b : Bool) (past : List Meaning) (u s : List ℕ) (t : Transaction) → (b ≡ true → u ≡ s) → open_transaction past s ≡ Some t
     → ((if b then None else Some t) ≡ Some t) ⊎ Closes (brought_in past (Left u) u) t
-by_leaving true past u s t same is = inr (Drop, rw (at_u past u s t (same refl) is, itself u) refl)
+by_leaving true past u s t same is = inr (Rollback, rw (at_u past u s t (same refl) is, itself u) refl)
 by_leaving false past u s t same is = inl refl
 
 by_name : (named : Bool) (past : List Meaning) (u s : List ℕ) (message : Option (List ℕ)) (end : CloseEnd) (t : Transaction) → u ≡ s → is_named message t.message ≡ named → open_transaction past s ≡ Some t
@@ -53,8 +53,8 @@ by_end false past u s message end t same is = inl refl
 
 by_event : (e : Event) (n : ℕ) (past : List Meaning) (s : List ℕ) (t : Transaction) → open_transaction past s ≡ Some t
     → (open_after s n e (Some t) ≡ Some t) ⊎ Closes (option_and_then (brought_in past e) (session_of e)) t
-by_event (Passed u name) n past s t is = inl refl
-by_event (Began u message at) n past s t is = by_begin (bytes_eq u s) past u message s at n t (bytes_decides u s).0 is
+by_event (Passed u login) n past s t is = inl refl
+by_event (Began u message moment) n past s t is = by_begin (bytes_eq u s) past u message s moment n t (bytes_decides u s).0 is
 by_event (Ended u message end) n past s t is = by_end (bytes_eq u s) past u s message end t (bytes_decides u s).0 is
 by_event (Left u) n past s t is = by_leaving (bytes_eq u s) past u s t (bytes_decides u s).0 is
 by_event Nothing n past s t is = inl refl

@@ -6,14 +6,14 @@ use Rattle.mq_line.specs.Parameters.{auth, message}
 use Rattle.mq_line.specs.declared.parameters.AuthResult.{AuthResult}
 use Rattle.mq_line.specs.declared.parameters.AuthResult.TheVariants.{Pass, Fail, Error}
 use Rattle.mq_track.specs.declared.closing.CloseEnd.{CloseEnd}
-use Rattle.mq_track.specs.declared.closing.CloseEnd.TheVariants.{Commit, Drop}
+use Rattle.mq_track.specs.declared.closing.CloseEnd.TheVariants.{Commit, Rollback}
 use Rattle.mq_track.specs.declared.fault.TrackFault.{TrackFault}
 use Rattle.mq_track.specs.declared.fault.TrackFault.TheVariants.{Auth, Message}
 
 -- a login passed, a transaction began, the transaction with a message id (without one: any) ended, the session left
 pub data Event : Type 0 where
-  Passed : (session name : List ℕ) → Event
-  Began : (session message : List ℕ) (at : ℕ) → Event
+  Passed : (session login : List ℕ) → Event
+  Began : (session message : List ℕ) (moment : ℕ) → Event
   Ended : (session : List ℕ) (message : Option (List ℕ)) (end : CloseEnd) → Event
   Left : (session : List ℕ) → Event
   Nothing : Event
@@ -21,9 +21,9 @@ pub data Event : Type 0 where
 -- a link-auth says something where it can be read and passed
 abbrev pub auth_event : List ℕ → Option (AuthResult × List ℕ) → Event
 auth_event session None = Nothing
-auth_event session (Some (Pass, name)) = Passed session name
-auth_event session (Some (Fail, name)) = Nothing
-auth_event session (Some (Error, name)) = Nothing
+auth_event session (Some (Pass, login)) = Passed session login
+auth_event session (Some (Fail, login)) = Nothing
+auth_event session (Some (Error, login)) = Nothing
 
 -- a tx-begin says something where it has a message id
 abbrev pub begin_event : List ℕ → ℕ → Option (List ℕ) → Event
@@ -42,8 +42,8 @@ report_event seconds name session params =
     else (if bytes_eq name (codes "link-disconnect") then Left session
     else (if bytes_eq name (codes "tx-begin") then begin_event session seconds (message params)
     else (if bytes_eq name (codes "tx-commit") then end_event session Commit (message params)
-    else (if bytes_eq name (codes "tx-rollback") then end_event session Drop (message params)
-    else (if bytes_eq name (codes "tx-reset") then Ended session (message params) Drop
+    else (if bytes_eq name (codes "tx-rollback") then end_event session Rollback (message params)
+    else (if bytes_eq name (codes "tx-reset") then Ended session (message params) Rollback
     else Nothing)))))
 
 -- what a line says: only reports of the subsystem smtp-in say something

@@ -12,7 +12,7 @@ abbrev pub bytes : Vec ℕ Global → List ℕ
 bytes v = v.items
 
 abbrev pub kept : Kept → Transaction
-kept t = record { txn = t.txn; message = t.message.items; at = t.at }
+kept t = record { txn = t.txn; message = t.message.items; moment = t.moment }
 
 abbrev pub known_by : Session → Known
 known_by s = record { login = option_map bytes s.login; transaction = option_map kept s.transaction }

@@ -59,8 +59,8 @@ IsUnclosed past txn = AllByRecursion (λ closed. closed.txn ≢ txn) (closings p
 
 -- no session stands in a transaction that was closed
 abbrev pub NoneStandsClosed : Type 0
-NoneStandsClosed = (past : List Meaning) (s name : List ℕ) (txn at : ℕ) →
-    position past s ≡ Sending name txn at → IsUnclosed past txn
+NoneStandsClosed = (past : List Meaning) (s login : List ℕ) (txn moment : ℕ) →
+    position past s ≡ Sending login txn moment → IsUnclosed past txn
 
 -- a transaction is closed once
 abbrev pub AreClosedOnce : Type 0

@@ -8,7 +8,7 @@ use Rattle.mq_line.specs.Grammar.{Meaning}
 use Rattle.mq_track.specs.Events.{Event, Passed, Began, Ended, Left, Nothing, event, unreadable}
 use Rattle.mq_track.specs.declared.closing.Closing.{Closing}
 use Rattle.mq_track.specs.declared.closing.CloseEnd.{CloseEnd}
-use Rattle.mq_track.specs.declared.closing.CloseEnd.TheVariants.{Drop}
+use Rattle.mq_track.specs.declared.closing.CloseEnd.TheVariants.{Rollback}
 use Rattle.mq_track.specs.declared.fault.TrackFault.{TrackFault}
 use Rattle.mq_track.specs.declared.fault.TrackFault.TheVariants.{Exhausted}
 
@@ -21,7 +21,7 @@ since test (line ∷ past) = if test line then [] else line ∷ since test past
 
 -- the name in a link-auth of s with result pass
 abbrev pub name_of : List ℕ → Event → Option (List ℕ)
-name_of s (Passed session name) = if bytes_eq session s then Some name else None
+name_of s (Passed session login) = if bytes_eq session s then Some login else None
 name_of s _ = None
 
 -- a link-disconnect of s
@@ -31,12 +31,12 @@ leaves s _ = false
 
 -- a tx-begin of any session
 abbrev pub is_begin : Event → Bool
-is_begin (Began session message at) = true
+is_begin (Began session message moment) = true
 is_begin _ = false
 
 -- a tx-begin of s
 abbrev pub begins : List ℕ → Event → Bool
-begins s (Began session message at) = bytes_eq session s
+begins s (Began session message moment) = bytes_eq session s
 begins s _ = false
 
 -- the message id of an ending, where it has one, is this one
@@ -67,7 +67,7 @@ login past s = last_name s (since (λ line. leaves s (event line)) past)
 pub record Transaction : Type 0 where
   pub txn : ℕ
   pub message : List ℕ
-  pub at : ℕ
+  pub moment : ℕ
 
 -- how many tx-begins there are, over all sessions
 abbrev pub begin_count : List Meaning → ℕ
@@ -76,8 +76,8 @@ begin_count (line ∷ past) = if is_begin (event line) then begin_count past + 1
 
 -- the transaction that an event begins in s, under this number
 abbrev pub opened_by : List ℕ → ℕ → Event → Option Transaction
-opened_by s n (Began session message at) =
-    if bytes_eq session s then Some (record { txn = n; message = message; at = at }) else None
+opened_by s n (Began session message moment) =
+    if bytes_eq session s then Some (record { txn = n; message = message; moment = moment }) else None
 opened_by s n _ = None
 
 -- the last tx-begin of s: its number counts the tx-begins up to it
@@ -96,8 +96,8 @@ open_transaction past s = option_and_then
 
 -- the session that an event is of
 abbrev pub session_of : Event → Option (List ℕ)
-session_of (Passed session name) = Some session
-session_of (Began session message at) = Some session
+session_of (Passed session login) = Some session
+session_of (Began session message moment) = Some session
 session_of (Ended session message end) = Some session
 session_of (Left session) = Some session
 session_of Nothing = None
@@ -105,7 +105,7 @@ session_of Nothing = None
 -- how an event closes a transaction
 abbrev pub end_of : Event → CloseEnd
 end_of (Ended session message end) = end
-end_of _ = Drop
+end_of _ = Rollback
 
 -- the closing of the transaction o of s that an event brings: a tx-begin of s brings it, and each line that ends o
 abbrev pub closing_of : List ℕ → Event → Transaction → Option Closing
@@ -138,13 +138,13 @@ fault past line =
 -- how a session stands
 pub data Position : Type 0 where
   Unknown : Position
-  LoggedIn : (name : List ℕ) → Position
-  Sending : (name : List ℕ) (txn at : ℕ) → Position
+  LoggedIn : (login : List ℕ) → Position
+  Sending : (login : List ℕ) (txn moment : ℕ) → Position
 
 abbrev pub position_of : Option (List ℕ) → Option Transaction → Position
 position_of None o = Unknown
-position_of (Some name) None = LoggedIn name
-position_of (Some name) (Some o) = Sending name o.txn o.at
+position_of (Some login) None = LoggedIn login
+position_of (Some login) (Some o) = Sending login o.txn o.moment
 
 -- by its login and its open transaction after the past
 abbrev pub position : List Meaning → List ℕ → Position

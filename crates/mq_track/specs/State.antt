@@ -38,10 +38,10 @@ pub record TracksAt (state : State) (past : List Meaning) : Type 0 where
 -- the same of an answer, by the bytes of its parts
 abbrev pub shown : Standing → Position
 shown standing.Anonymous = Unknown
-shown (standing.Login name) = LoggedIn name.now
-shown (standing.Open name txn at) = Sending name.now txn at
+shown (standing.Login login) = LoggedIn login.now
+shown (standing.Open login txn moment) = Sending login.now txn moment
 
 -- numbers of transactions begin at 1
 abbrev pub IsNumbered : Standing → Type 0
-IsNumbered (standing.Open name txn at) = 0 < txn
+IsNumbered (standing.Open name txn moment) = 0 < txn
 IsNumbered _ = Unit {0}

@@ -6,7 +6,7 @@ use Rattle.mq_track.specs.Sessions.{Transaction, is_named}
 use Rattle.mq_track.specs.State.{State, Known, known, nothing, Learns}
 use Rattle.mq_track.specs.declared.closing.Closing.{Closing}
 use Rattle.mq_track.specs.declared.closing.CloseEnd.{CloseEnd}
-use Rattle.mq_track.specs.declared.closing.CloseEnd.TheVariants.{Drop}
+use Rattle.mq_track.specs.declared.closing.CloseEnd.TheVariants.{Rollback}
 
 -- the closing of an open transaction, where an ending with this message id ends it
 abbrev pub closed_by : Option (List ℕ) → CloseEnd → Transaction → Option Closing
@@ -18,10 +18,10 @@ closing_in t s message end = option_and_then (closed_by message end) (known t.se
 
 -- the closing that an event brings
 abbrev pub brought : State → Event → Option Closing
-brought t (Passed s name) = None
-brought t (Began s message at) = closing_in t s None Drop
+brought t (Passed s login) = None
+brought t (Began s message moment) = closing_in t s None Rollback
 brought t (Ended s message end) = closing_in t s message end
-brought t (Left s) = closing_in t s None Drop
+brought t (Left s) = closing_in t s None Rollback
 brought t Nothing = None
 
 -- what is left of an open transaction after an ending with this message id
@@ -34,13 +34,13 @@ Sets old new s what begins = Learns old.sessions new.sessions s what × (new.beg
 
 -- what an event changes
 abbrev pub Steps : State → State → Event → Type 0
-Steps old new (Passed s name) = Sets old new s
-    (record { login = Some name; transaction = (known old.sessions s).transaction })
+Steps old new (Passed s login) = Sets old new s
+    (record { login = Some login; transaction = (known old.sessions s).transaction })
     old.begins
-Steps old new (Began s message at) = Sets old new s
+Steps old new (Began s message moment) = Sets old new s
     (record {
       login = (known old.sessions s).login;
-      transaction = Some (record { txn = old.begins + 1; message = message; at = at });
+      transaction = Some (record { txn = old.begins + 1; message = message; moment = moment });
     })
     (old.begins + 1)
 Steps old new (Ended s message end) = Sets old new s
@@ -54,6 +54,6 @@ Steps old new Nothing = new ≡ old
 
 -- the event needs memory
 abbrev pub needs_memory : Event → Bool
-needs_memory (Passed s name) = true
-needs_memory (Began s message at) = true
+needs_memory (Passed s login) = true
+needs_memory (Began s message moment) = true
 needs_memory _ = false

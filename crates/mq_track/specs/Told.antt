@@ -5,8 +5,8 @@ use Rattle.mq_track.specs.declared.event.Event.{Event as CodeEvent}
 use Rattle.mq_track.specs.declared.event.Event.TheVariants as code
 
 abbrev pub told : CodeEvent → Event
-told (code.Passed session name) = Passed session.now name.now
-told (code.Began session message at) = Began session.now message.now at
+told (code.Passed session login) = Passed session.now login.now
+told (code.Began session message moment) = Began session.now message.now moment
 told (code.Ended session message end) = Ended session.now (option_map (λ m. m.now) message) end
 told (code.Left session) = Left session.now
 told code.Nothing = Nothing

@@ -6,7 +6,7 @@ pub enum CloseEnd {
     /// smtpd took the message.
     Commit,
     /// It was rolled back or reset, its session left, or another began in its place.
-    Drop,
+    Rollback,
 }
 
 /// The end of a transaction that was open.

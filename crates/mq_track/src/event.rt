@@ -15,13 +15,13 @@ pub(crate) enum Event<'a> {
     /// A login passed.
     Passed {
         session: &'a [u8],
-        name: &'a [u8],
+        login: &'a [u8],
     },
     /// A transaction began.
     Began {
         session: &'a [u8],
         message: &'a [u8],
-        at: u64,
+        moment: u64,
     },
     /// The transaction with this message id ended; without one, any that is open.
     Ended {
@@ -74,7 +74,7 @@ fn report_event<'a>(
 {
     if name == b"link-auth".as_slice() {
         return match auth_of(params) {
-            Some((AuthResult::Pass, name)) => Ok(Event::Passed { session, name }),
+            Some((AuthResult::Pass, login)) => Ok(Event::Passed { session, login }),
             Some(_) => Ok(Event::Nothing),
             None => Err(TrackFault::Auth),
         };
@@ -87,7 +87,7 @@ fn report_event<'a>(
             Some(message) => Ok(Event::Began {
                 session,
                 message,
-                at: seconds,
+                moment: seconds,
             }),
             None => Err(TrackFault::Message),
         };
@@ -96,13 +96,13 @@ fn report_event<'a>(
         return end_event(session, params, CloseEnd::Commit);
     }
     if name == b"tx-rollback".as_slice() {
-        return end_event(session, params, CloseEnd::Drop);
+        return end_event(session, params, CloseEnd::Rollback);
     }
     if name == b"tx-reset".as_slice() {
         return Ok(Event::Ended {
             session,
             message: message_of(params),
-            end: CloseEnd::Drop,
+            end: CloseEnd::Rollback,
         });
     }
     Ok(Event::Nothing)

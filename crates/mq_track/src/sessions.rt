@@ -11,7 +11,7 @@ use std::marker::Model;
 pub(crate) struct Transaction {
     pub(crate) txn: u32,
     pub(crate) message: Vec<u8>,
-    pub(crate) at: u64,
+    pub(crate) moment: u64,
     ghost numbered: { 0 < txn },
 }
 
@@ -74,12 +74,12 @@ impl Sessions {
     }
 
     /// Notes a login. An `Err` changes nothing.
-    pub(crate) fn log_in(&mut self, session: &[u8], name: &[u8]) -> Result<(), AllocError>
+    pub(crate) fn log_in(&mut self, session: &[u8], login: &[u8]) -> Result<(), AllocError>
         ensures ok { OnOk result (Learns self.old self.new session.now
-            (record { login = Some name.now; transaction = (known self.old session.now).transaction })) }
+            (record { login = Some login.now; transaction = (known self.old session.now).transaction })) }
         ensures err { OnErr result (self.new ≡ self.old) }
     {
-        let login = Some(Vec::from_slice(self.alloc, name)?);
+        let login = Some(Vec::from_slice(self.alloc, login)?);
         if let Some(record) = self.records.get_mut(session) {
             record.login = login;
             return Ok(());

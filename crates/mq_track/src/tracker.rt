@@ -78,17 +78,17 @@ impl Tracker {
         let Some(record) = self.sessions.get(session) else {
             return Standing::Anonymous;
         };
-        let Some(name) = &record.login else {
+        let Some(login) = &record.login else {
             return Standing::Anonymous;
         };
-        let name = name.as_slice();
+        let login = login.as_slice();
         match &record.transaction {
             Some(open) => Standing::Open {
-                name,
+                login,
                 txn: open.txn,
-                at: open.at,
+                moment: open.moment,
             },
-            None => Standing::Login { name },
+            None => Standing::Login { login },
         }
     }
 
@@ -102,15 +102,15 @@ impl Tracker {
         ensures err { OnErr result (self.new ≡ self.old) }
     {
         match event {
-            Event::Passed { session, name } => {
-                self.sessions.log_in(session, name)?;
+            Event::Passed { session, login } => {
+                self.sessions.log_in(session, login)?;
                 Ok(None)
             }
             Event::Began {
                 session,
                 message,
-                at,
-            } => self.begin(session, message, at),
+                moment,
+            } => self.begin(session, message, moment),
             Event::Ended {
                 session,
                 message,
@@ -137,12 +137,12 @@ impl Tracker {
         &mut self,
         session: &[u8],
         message: &[u8],
-        at: u64,
+        moment: u64,
     ) -> Result<Option<Closing>, TrackFault>
         ensures exhausted { last_number ≤ self.old.begins → result ≡ Err TrackFault.Exhausted }
         ensures ok { self.old.begins < last_number → MatchResult result
-            (λ c. (c ≡ brought self.old (Began session.now message.now at))
-            × Steps self.old self.new (Began session.now message.now at))
+            (λ c. (c ≡ brought self.old (Began session.now message.now moment))
+            × Steps self.old self.new (Began session.now message.now moment))
             (λ f. f ≡ TrackFault.Memory) }
         ensures err { OnErr result (self.new ≡ self.old) }
     {
@@ -150,11 +150,11 @@ impl Tracker {
             return Err(TrackFault::Exhausted);
         }
         // What it ends is found before anything changes, and so is the memory: an `Err` leaves all as it was.
-        let closing = self.closing(session, None, CloseEnd::Drop);
+        let closing = self.closing(session, None, CloseEnd::Rollback);
         let transaction = Transaction {
             txn: self.begins + 1,
             message: Vec::from_slice(self.alloc, message)?,
-            at,
+            moment,
         };
         self.sessions.begin(session, transaction)?;
         self.begins += 1;
@@ -178,7 +178,7 @@ impl Tracker {
         ensures closing { result ≡ brought self.old (Left session.now) }
         ensures after { Steps self.old self.new (Left session.now) }
     {
-        let closing = self.closing(session, None, CloseEnd::Drop);
+        let closing = self.closing(session, None, CloseEnd::Rollback);
         self.sessions.forget(session);
         closing
     }

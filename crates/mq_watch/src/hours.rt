@@ -26,16 +26,16 @@ fn are_far(day: u32, today: u32) -> bool
 }
 
 /// Whether two moments are less than half a day apart, in seconds.
-fn are_close(at: u64, now: u64) -> bool
-    ensures { IsTrue result ↔ AreClose at now }
+fn are_close(moment: u64, now: u64) -> bool
+    ensures { IsTrue result ↔ AreClose moment now }
 {
-    at.abs_diff(now) < HALF_DAY
+    moment.abs_diff(now) < HALF_DAY
 }
 
 /// By an offset no day lies between those of two moments that are less than half a day apart.
 fn close_moments_have_near_days()
-    ensures { (minutes : ℤ) (at now : ℕ) → IsOffset minutes → IsMoment at → IsMoment now → AreClose at now →
-        AreFar (day_of (ByOffset minutes) at) (day_of (ByOffset minutes) now) → ⊥ }
+    ensures { (minutes : ℤ) (moment now : ℕ) → IsOffset minutes → IsMoment moment → IsMoment now → AreClose moment now →
+        AreFar (day_of (ByOffset minutes) moment) (day_of (ByOffset minutes) now) → ⊥ }
 {
     day_is_the_floor();
 }
@@ -44,20 +44,20 @@ fn close_moments_have_near_days()
 ///
 /// By an offset no day lies between those of moments that are closer; by a rule one does only where its summer time is
 /// half a day or more ahead of its winter time. So mostly no day has to be worked out.
-pub fn far_days(zone: &Zone, at: u64, now: u64) -> Option<(u32, u32)>
-    requires at { IsMoment at }
+pub fn far_days(zone: &Zone, moment: u64, now: u64) -> Option<(u32, u32)>
+    requires moment { IsMoment moment }
     requires now { IsMoment now }
-    ensures some { IfSome result (λ days. (days ≡ (day_of zone.now at, day_of zone.now now)) × AreFar days.0 days.1) }
+    ensures some { IfSome result (λ days. (days ≡ (day_of zone.now moment, day_of zone.now now)) × AreFar days.0 days.1) }
     ensures none { IsNone result →
-        AreClose at now ⊎ (AreFar (day_of zone.now at) (day_of zone.now now) → ⊥) }
+        AreClose moment now ⊎ (AreFar (day_of zone.now moment) (day_of zone.now now) → ⊥) }
     ensures offset { (minutes : ℤ) → IsOffset minutes → zone.now ≡ ByOffset minutes → IsNone result →
-        AreFar (day_of zone.now at) (day_of zone.now now) → ⊥ }
+        AreFar (day_of zone.now moment) (day_of zone.now now) → ⊥ }
 {
     close_moments_have_near_days();
-    if are_close(at, now) {
+    if are_close(moment, now) {
         return None;
     }
-    let day = zone.day_at(at);
+    let day = zone.day_at(moment);
     let today = zone.day_at(now);
     if are_far(day, today) {
         Some((day, today))

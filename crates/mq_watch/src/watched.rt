@@ -104,10 +104,15 @@ impl<'a, L: Ledger, C: Clock, G: Log> Watched<'a, L, C, G> {
                 login,
                 ..
             } => self.note_limit(login, *from_day, *cap, before, answer),
-            Request::Reserve { id, at, login, .. } => {
-                self.check_day(&id.host, *at);
+            Request::Reserve {
+                id,
+                moment,
+                login,
+                ..
+            } => {
+                self.check_day(&id.host, *moment);
                 if let Ok(Reply::Granted { used, .. }) = answer {
-                    self.check_limit(login, *at, *used);
+                    self.check_limit(login, *moment, *used);
                 }
             }
             _ => {}
@@ -167,15 +172,15 @@ impl<'a, L: Ledger, C: Clock, G: Log> Watched<'a, L, C, G> {
     }
 
     /// Logs that a host reserves for a day that is far from the server's, once an hour.
-    fn check_day(&mut self, host: &Host, at: u64)
-        requires { IsMoment at }
+    fn check_day(&mut self, host: &Host, moment: u64)
+        requires { IsMoment moment }
         ensures { self.new ≡ self.old }
     {
         let Some(seconds) = seconds_of(self.clock) else {
             return;
         };
         let zone = self.ledger.zone();
-        let Some((day, today)) = far_days(zone, at, moment_of(seconds)) else {
+        let Some((day, today)) = far_days(zone, moment, moment_of(seconds)) else {
             return;
         };
         if self.hosts.is_due(host, seconds) {
@@ -186,12 +191,12 @@ impl<'a, L: Ledger, C: Clock, G: Log> Watched<'a, L, C, G> {
     }
 
     /// Logs that a login nears its limit, of which it was granted so much on the day of that moment.
-    fn check_limit(&mut self, login: &Login, at: u64, used: u32)
+    fn check_limit(&mut self, login: &Login, moment: u64, used: u32)
         requires login { IsLogin login.now }
-        requires at { IsMoment at }
+        requires moment { IsMoment moment }
         ensures { IsAsked L.book L.has_kept L.is_sound L.has_store self.old self.new }
     {
-        let day = self.ledger.zone().day_at(at);
+        let day = self.ledger.zone().day_at(moment);
         if !self.nearing.is_open(login, day, used) {
             return;
         }

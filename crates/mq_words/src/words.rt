@@ -82,7 +82,7 @@ fn arguments_of<'a>(name: &str, found: &ArgMatches<'a>) -> Arguments<'a>
         "resume" => Arguments::Resume(resume_of(found)),
         "day" => Arguments::Day(DayArguments {
             config: text_of(found, "config"),
-            at: moment_of(found),
+            moment: moment_of(found),
         }),
         "retire" => Arguments::Retire(RetireArguments {
             server: text_of(found, "server"),
@@ -189,7 +189,7 @@ fn moment_of(found: &ArgMatches<'_>) -> Option<u64>
     ensures { IfSome result IsMoment }
 {
     match found.get_one::<u64>("at") {
-        Some(at) => Some(at.clamp(86_400, 32_503_680_000)),
+        Some(moment) => Some(moment.clamp(86_400, 32_503_680_000)),
         None => None,
     }
 }

@@ -51,17 +51,17 @@ all_filter P p (x ∷ xs) all = elim (either (p x)) [
 
 -- ---- the day of a run's transaction
 
-own_day : (day : ℕ → ℕ) (H : List Entry) (t : Transaction) (at : ℕ) → ((e : Entry) → In e H → is_of t e.request ≡ true → moment_of e.request ≡ at) → day_named day at (named H t) ≡ day at
-own_day day H t at same = elim (option_cases (named H t)) [
-  | inl none ↦ ap (day_named day at) none
-  | inr p ↦ (let f = found (λ x. is_of t x.request) H p.0 p.1 in ap (day_named day at) p.1 ∙ ap day (same p.0 f.among f.so))
+own_day : (day : ℕ → ℕ) (H : List Entry) (t : Transaction) (moment : ℕ) → ((e : Entry) → In e H → is_of t e.request ≡ true → moment_of e.request ≡ moment) → day_named day moment (named H t) ≡ day moment
+own_day day H t moment same = elim (option_cases (named H t)) [
+  | inl none ↦ ap (day_named day moment) none
+  | inr p ↦ (let f = found (λ x. is_of t x.request) H p.0 p.1 in ap (day_named day moment) p.1 ∙ ap day (same p.0 f.among f.so))
 ]
 
 -- where all entries of a transaction are of one moment, a request of it is about that day
 about_own : OfLedgers → (day : ℕ → ℕ) (D : ℕ) (H : List Entry) (t : Transaction) (r : Request) → is_of t r ≡ true → ((e : Entry) → In e H → is_of t e.request ≡ true → moment_of e.request ≡ moment_of r) → is_about day D H r ≡ nat_le D (day (moment_of r))
-about_own L day D H t (Reserve id txn at login count) mine same = ap (nat_le D) (ap (λ u. day_named day at (named H u)) (sym (L.same t (transaction id txn) mine)) ∙ own_day day H t at same)
-about_own L day D H t (Settle id txn at login count) mine same = ap (nat_le D) (ap (λ u. day_named day at (named H u)) (sym (L.same t (transaction id txn) mine)) ∙ own_day day H t at same)
-about_own L day D H t (Release id txn at login) mine same = ap (nat_le D) (ap (λ u. day_named day at (named H u)) (sym (L.same t (transaction id txn) mine)) ∙ own_day day H t at same)
+about_own L day D H t (Reserve id txn moment login count) mine same = ap (nat_le D) (ap (λ u. day_named day moment (named H u)) (sym (L.same t (transaction id txn) mine)) ∙ own_day day H t moment same)
+about_own L day D H t (Settle id txn moment login count) mine same = ap (nat_le D) (ap (λ u. day_named day moment (named H u)) (sym (L.same t (transaction id txn) mine)) ∙ own_day day H t moment same)
+about_own L day D H t (Release id txn moment login) mine same = ap (nat_le D) (ap (λ u. day_named day moment (named H u)) (sym (L.same t (transaction id txn) mine)) ∙ own_day day H t moment same)
 about_own L day D H t (Limit id from c login) mine same = absurd (clash false mine refl)
 about_own L day D H t (Usage login d) mine same = absurd (clash false mine refl)
 about_own L day D H t (ListRequest d after) mine same = absurd (clash false mine refl)
@@ -85,9 +85,9 @@ reserve_is_of L s n id txn e = let S : Id → Type 0 = λ i. same_transaction (o
 
 -- an entry of the run that was granted is of a transaction
 granted_of_run : OfLedgers → (s : Source) (r : Request) (a : Reply) → IsOwn s r → RepliesSuit r a → is_grant a ≡ true → IsOfRun s r
-granted_of_run L s (Reserve id txn at login count) a own suits g = record { txn = txn; is = reserve_is_of L s own.number id txn (some_is id (id_of s own.number) own.id) }
-granted_of_run L s (Settle id txn at login count) (reply.Granted j u) own suits g = absurd suits
-granted_of_run L s (Release id txn at login) (reply.Granted j u) own suits g = absurd suits
+granted_of_run L s (Reserve id txn moment login count) a own suits g = record { txn = txn; is = reserve_is_of L s own.number id txn (some_is id (id_of s own.number) own.id) }
+granted_of_run L s (Settle id txn moment login count) (reply.Granted j u) own suits g = absurd suits
+granted_of_run L s (Release id txn moment login) (reply.Granted j u) own suits g = absurd suits
 granted_of_run L s (Limit id from c login) (reply.Granted j u) own suits g = absurd suits
 granted_of_run L s (Usage login d) (reply.Granted j u) own suits g = absurd suits
 granted_of_run L s (ListRequest d after) (reply.Granted j u) own suits g = absurd suits
@@ -99,14 +99,14 @@ granted_of_run L s r a own suits g = absurd (clash false g refl)
 stays_if : (day : ℕ → ℕ) (D : ℕ) (H : List Entry) (e : Entry) → is_about day D H e.request ≡ true → stays day D H e ≡ true
 stays_if day D H e about = rw about refl
 
-granted_kept : {day : ℕ → ℕ} {F : ℕ} → OfClients → OfLedgers → (D : ℕ) → D ≤ F → (s : Source) (tries : ℕ) (P : List Step) (H : List Entry) (sent written : List (List ℕ)) → Holds day F s tries P H sent written → (n txn at : ℕ) (login : List ℕ)
-    → F ≤ day at → GrantedIn s H n txn at login → GrantedIn s (remembered day D H) n txn at login
-granted_kept {day = day} {F = F} C L D below s tries P H sent written h n txn at login on k =
+granted_kept : {day : ℕ → ℕ} {F : ℕ} → OfClients → OfLedgers → (D : ℕ) → D ≤ F → (s : Source) (tries : ℕ) (P : List Step) (H : List Entry) (sent written : List (List ℕ)) → Holds day F s tries P H sent written → (n txn moment : ℕ) (login : List ℕ)
+    → F ≤ day moment → GrantedIn s H n txn moment login → GrantedIn s (remembered day D H) n txn moment login
+granted_kept {day = day} {F = F} C L D below s tries P H sent written h n txn moment login on k =
     let own : is_of (of_source s txn) k.entry.request ≡ true = ap (is_of (of_source s txn)) k.request ∙ L.itself (of_source s txn) in
     let about = entry_about C L D s tries P H sent written h txn k.entry k.among own in
-    let moment : moment_of k.entry.request ≡ at = ap moment_of k.request in
-    let late : nat_le D (day at) ≡ true = grind (arith, nat_tests, below, on) in
-    let yes : is_about day D H k.entry.request ≡ true = about ∙ ap (λ m. nat_le D (day m)) moment ∙ late in
+    let moment_is : moment_of k.entry.request ≡ moment = ap moment_of k.request in
+    let late : nat_le D (day moment) ≡ true = grind (arith, nat_tests, below, on) in
+    let yes : is_about day D H k.entry.request ≡ true = about ∙ ap (λ m. nat_le D (day m)) moment_is ∙ late in
     record {
       entry = k.entry;
       among = filter_in (stays day D H) H k.entry k.among (stays_if day D H k.entry yes);

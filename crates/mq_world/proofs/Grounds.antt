@@ -27,15 +27,15 @@ is_grant (reply.Granted id used) = true
 is_grant _ = false
 
 -- the reserve under the next number was granted
-pub record GrantedIn (s : Source) (H : List Entry) (n txn at : ℕ) (login : List ℕ) : Type 0 where
+pub record GrantedIn (s : Source) (H : List Entry) (n txn moment : ℕ) (login : List ℕ) : Type 0 where
   pub entry : Entry
   pub among : In entry H
-  pub request : entry.request ≡ reserve_of s (n + 1) txn at login
+  pub request : entry.request ≡ reserve_of s (n + 1) txn moment login
   pub granted : is_grant entry.reply ≡ true
 
 -- on F or a later day a recipient that was let through was granted
 abbrev pub IsGround : (day : ℕ → ℕ) → (F : ℕ) → Source → List Entry → View → Action → List Exchange → Type 0
-IsGround day F s H v (Ask txn at login) g = answer_of g ≡ asked.Granted → F ≤ day at → GrantedIn s H v.numbers txn at login
+IsGround day F s H v (Ask txn moment login) g = answer_of g ≡ asked.Granted → F ≤ day moment → GrantedIn s H v.numbers txn moment login
 IsGround day F s H v (Close txn end) g = Unit {0}
 IsGround day F s H v Drain g = Unit {0}
 
@@ -46,22 +46,22 @@ IsGrounded day F s H (x ∷ P) = IsGround day F s H (view s P) x.action x.group 
 -- the moment of a transaction
 abbrev pub at_of : Standing → ℕ
 at_of Never = 0
-at_of (Live h) = h.at
-at_of (Closed end seq h) = h.at
+at_of (Live h) = h.moment
+at_of (Closed end number h) = h.moment
 
 abbrev pub let_at : Standing → ℕ
 let_at Never = 0
 let_at (Live h) = h.granted
-let_at (Closed end seq h) = h.granted
+let_at (Closed end number h) = h.granted
 
 abbrev pub seq_of : Request → ℕ
-seq_of (Reserve id txn at login count) = id.seq
-seq_of (Settle id txn at login count) = id.seq
-seq_of (Release id txn at login) = id.seq
-seq_of (Limit id from_day cap login) = id.seq
+seq_of (Reserve id txn moment login count) = id.number
+seq_of (Settle id txn moment login count) = id.number
+seq_of (Release id txn moment login) = id.number
+seq_of (Limit id from_day cap login) = id.number
 seq_of (Usage login day) = 0
 seq_of (ListRequest day after) = 0
-seq_of (Retire id) = id.seq
+seq_of (Retire id) = id.number
 
 abbrev pub one_upto : Transaction → ℕ → Entry → ℕ
 one_upto t n e = if is_of t e.request && nat_le (seq_of e.request) n then granted e.request e.reply else 0
@@ -85,40 +85,40 @@ upto_all H t n = sum_below (one_upto t n) (λ e. if is_of t e.request then grant
   | inr k ↦ rw k (omega arith)
 ]) H
 
-granted_one : (s : Source) (n txn at : ℕ) (login : List ℕ) (a : Reply) → is_grant a ≡ true → granted (reserve_of s n txn at login) a ≡ 1
-granted_one s n txn at login (reply.Granted i u) h = refl
-granted_one s n txn at login a h = absurd (clash false h refl)
+granted_one : (s : Source) (n txn moment : ℕ) (login : List ℕ) (a : Reply) → is_grant a ≡ true → granted (reserve_of s n txn moment login) a ≡ 1
+granted_one s n txn moment login (reply.Granted i u) h = refl
+granted_one s n txn moment login a h = absurd (clash false h refl)
 
 abbrev pub IsSameAsItself : Type 0
 IsSameAsItself = (t : Transaction) → same_transaction t t ≡ true
 
-one_there : IsSameAsItself → (s : Source) (n txn at : ℕ) (login : List ℕ) (r : Request) (a : Reply) → r ≡ reserve_of s (n + 1) txn at login → is_grant a ≡ true
+one_there : IsSameAsItself → (s : Source) (n txn moment : ℕ) (login : List ℕ) (r : Request) (a : Reply) → r ≡ reserve_of s (n + 1) txn moment login → is_grant a ≡ true
     → one_upto (of_source s txn) n (record { request = r; reply = a }) + 1 ≤ one_upto (of_source s txn) (n + 1) (record { request = r; reply = a })
-one_there I s n txn at login r a e h =
+one_there I s n txn moment login r a e h =
     let F : Request → Type 0 = λ q. one_upto (of_source s txn) n (record { request = q; reply = a }) + 1 ≤ one_upto (of_source s txn) (n + 1) (record { request = q; reply = a }) in
     let y : same_transaction (of_source s txn) (of_source s txn) ≡ true = I (of_source s txn) in
     let m : nat_le (n + 1) (n + 1) ≡ true = grind (arith, nat_tests) in
     let k : nat_le (n + 1) n ≡ false = grind (arith, nat_tests) in
-    subst F (sym e) (rw (y, m, k, granted_one s (n + 1) txn at login a h) (omega arith))
+    subst F (sym e) (rw (y, m, k, granted_one s (n + 1) txn moment login a h) (omega arith))
 
-upto_grows : IsSameAsItself → (s : Source) (H : List Entry) (n txn at : ℕ) (login : List ℕ) → GrantedIn s H n txn at login → upto H (of_source s txn) n + 1 ≤ upto H (of_source s txn) (n + 1)
-upto_grows I s H n txn at login g = sum_grows (one_upto (of_source s txn) n) (one_upto (of_source s txn) (n + 1)) (one_more (of_source s txn) n) g.entry H g.among (one_there I s n txn at login g.entry.request g.entry.reply g.request g.granted)
+upto_grows : IsSameAsItself → (s : Source) (H : List Entry) (n txn moment : ℕ) (login : List ℕ) → GrantedIn s H n txn moment login → upto H (of_source s txn) n + 1 ≤ upto H (of_source s txn) (n + 1)
+upto_grows I s H n txn moment login g = sum_grows (one_upto (of_source s txn) n) (one_upto (of_source s txn) (n + 1)) (one_more (of_source s txn) n) g.entry H g.among (one_there I s n txn moment login g.entry.request g.entry.reply g.request g.granted)
 
 -- what was let through of a transaction of F or a later day
 abbrev pub AllLet : (day : ℕ → ℕ) → (F : ℕ) → Source → List Entry → View → Type 0
 AllLet day F s H v = (t : ℕ) → F ≤ day (at_of (v.standing t)) → let_at (v.standing t) ≤ upto H (of_source s t) v.numbers
 
-opened_let : (day : ℕ → ℕ) (F at : ℕ) (login : List ℕ) (st : Standing) (n : ℕ) → (opened at login (held_by st)).at ≡ at → F ≤ day at → (F ≤ day (at_of st) → let_at st ≤ n) → (opened at login (held_by st)).granted ≤ n
-opened_let day F at login Never n same f all = omega arith
-opened_let day F at login (Live h) n same f all = all (subst (λ x. F ≤ day x) (sym same) f)
-opened_let day F at login (Closed end seq h) n same f all = omega arith
+opened_let : (day : ℕ → ℕ) (F moment : ℕ) (login : List ℕ) (st : Standing) (n : ℕ) → (opened moment login (held_by st)).moment ≡ moment → F ≤ day moment → (F ≤ day (at_of st) → let_at st ≤ n) → (opened moment login (held_by st)).granted ≤ n
+opened_let day F moment login Never n same f all = omega arith
+opened_let day F moment login (Live h) n same f all = all (subst (λ x. F ≤ day x) (sym same) f)
+opened_let day F moment login (Closed end number h) n same f all = omega arith
 
-let_here : IsSameAsItself → (s : Source) (H : List Entry) (n txn at : ℕ) (login : List ℕ) (a : Asked) (h : Held) → (a ≡ asked.Granted → GrantedIn s H n txn at login) → h.granted ≤ upto H (of_source s txn) n → (let_through a h).granted ≤ upto H (of_source s txn) (n + 1)
-let_here I s H n txn at login asked.Granted h ground le = (let m = upto_grows I s H n txn at login (ground refl) in omega (arith, le, m))
-let_here I s H n txn at login asked.Full h ground le = (let m = upto_more H (of_source s txn) n in omega (arith, le, m))
-let_here I s H n txn at login asked.Unavailable h ground le = (let m = upto_more H (of_source s txn) n in omega (arith, le, m))
+let_here : IsSameAsItself → (s : Source) (H : List Entry) (n txn moment : ℕ) (login : List ℕ) (a : Asked) (h : Held) → (a ≡ asked.Granted → GrantedIn s H n txn moment login) → h.granted ≤ upto H (of_source s txn) n → (let_through a h).granted ≤ upto H (of_source s txn) (n + 1)
+let_here I s H n txn moment login asked.Granted h ground le = (let m = upto_grows I s H n txn moment login (ground refl) in omega (arith, le, m))
+let_here I s H n txn moment login asked.Full h ground le = (let m = upto_more H (of_source s txn) n in omega (arith, le, m))
+let_here I s H n txn moment login asked.Unavailable h ground le = (let m = upto_more H (of_source s txn) n in omega (arith, le, m))
 
-let_through_at : (a : Asked) (h : Held) → (let_through a h).at ≡ h.at
+let_through_at : (a : Asked) (h : Held) → (let_through a h).moment ≡ h.moment
 let_through_at asked.Granted h = refl
 let_through_at asked.Full h = refl
 let_through_at asked.Unavailable h = refl
@@ -128,30 +128,30 @@ not_is true e = refl
 not_is false e = absurd (clash true refl e)
 
 -- an ask that isn't refused is of the moment of its transaction
-opened_at : (at : ℕ) (login : List ℕ) (o : Option Held) (live numbers waiting : ℕ) → refuses o live numbers waiting at login ≡ false → (opened at login o).at ≡ at
-opened_at at login None live numbers waiting free = refl
-opened_at at login (Some h) live numbers waiting free =
-    let same : is_other h at login ≡ false = first_not (is_other h at login) _ free in
-    number_is h.at at (not_is (h.at == at) (second_not (not (same_text h.login login)) (not (h.at == at)) same))
+opened_at : (moment : ℕ) (login : List ℕ) (o : Option Held) (live numbers waiting : ℕ) → refuses o live numbers waiting moment login ≡ false → (opened moment login o).moment ≡ moment
+opened_at moment login None live numbers waiting free = refl
+opened_at moment login (Some h) live numbers waiting free =
+    let same : is_other h moment login ≡ false = first_not (is_other h moment login) _ free in
+    number_is h.moment moment (not_is (h.moment == moment) (second_not (not (same_text h.login login)) (not (h.moment == moment)) same))
 
-let_ask : (day : ℕ → ℕ) (F : ℕ) → IsSameAsItself → (s : Source) (H : List Entry) (v : View) (txn at : ℕ) (login : List ℕ) (x : Exchange) (g : List Exchange) → (opened at login (held_by (v.standing txn))).at ≡ at
-    → (answer_of (x ∷ g) ≡ asked.Granted → F ≤ day at → GrantedIn s H v.numbers txn at login) → AllLet day F s H v → AllLet day F s H (after_ask txn at login (x ∷ g) v)
-let_ask day F I s H v txn at login x g same_at ground all = λ t. elim (either (txn == t)) [
+let_ask : (day : ℕ → ℕ) (F : ℕ) → IsSameAsItself → (s : Source) (H : List Entry) (v : View) (txn moment : ℕ) (login : List ℕ) (x : Exchange) (g : List Exchange) → (opened moment login (held_by (v.standing txn))).moment ≡ moment
+    → (answer_of (x ∷ g) ≡ asked.Granted → F ≤ day moment → GrantedIn s H v.numbers txn moment login) → AllLet day F s H v → AllLet day F s H (after_ask txn moment login (x ∷ g) v)
+let_ask day F I s H v txn moment login x g same_at ground all = λ t. elim (either (txn == t)) [
   | inr n ↦ rw n (λ f. (let a = all t f in let m = upto_more H (of_source s t) v.numbers in omega (arith, a, m)))
   | inl y ↦ (let same : txn ≡ t = number_is txn t y in
-      let o : Held = opened at login (held_by (v.standing txn)) in
-      let here : F ≤ day (let_through (answer_of (x ∷ g)) o).at → (let_through (answer_of (x ∷ g)) o).granted ≤ upto H (of_source s txn) (v.numbers + 1) = λ f. (
-      let g' : F ≤ day at = subst (λ z. F ≤ day z) (let_through_at (answer_of (x ∷ g)) o ∙ same_at) f in
-      let b = opened_let day F at login (v.standing txn) (upto H (of_source s txn) v.numbers) same_at g' (all txn) in
-      let_here I s H v.numbers txn at login (answer_of (x ∷ g)) o (λ z. ground z g') b) in
-      let G : ℕ → Type 0 = λ u. F ≤ day (let_through (answer_of (x ∷ g)) o).at → (let_through (answer_of (x ∷ g)) o).granted ≤ upto H (of_source s u) (v.numbers + 1) in
+      let o : Held = opened moment login (held_by (v.standing txn)) in
+      let here : F ≤ day (let_through (answer_of (x ∷ g)) o).moment → (let_through (answer_of (x ∷ g)) o).granted ≤ upto H (of_source s txn) (v.numbers + 1) = λ f. (
+      let g' : F ≤ day moment = subst (λ z. F ≤ day z) (let_through_at (answer_of (x ∷ g)) o ∙ same_at) f in
+      let b = opened_let day F moment login (v.standing txn) (upto H (of_source s txn) v.numbers) same_at g' (all txn) in
+      let_here I s H v.numbers txn moment login (answer_of (x ∷ g)) o (λ z. ground z g') b) in
+      let G : ℕ → Type 0 = λ u. F ≤ day (let_through (answer_of (x ∷ g)) o).moment → (let_through (answer_of (x ∷ g)) o).granted ≤ upto H (of_source s u) (v.numbers + 1) in
       rw y (subst G same here))
 ]
 
-held_let : (st : Standing) (h : Held) → held_by st ≡ Some h → (let_at st ≡ h.granted) × (at_of st ≡ h.at)
+held_let : (st : Standing) (h : Held) → held_by st ≡ Some h → (let_at st ≡ h.granted) × (at_of st ≡ h.moment)
 held_let Never h e = absurd (none_some h e)
-held_let (Live k) h e = (ap (λ (x : Held). x.granted) (some_is k h e), ap (λ (x : Held). x.at) (some_is k h e))
-held_let (Closed end seq k) h e = absurd (none_some h e)
+held_let (Live k) h e = (ap (λ (x : Held). x.granted) (some_is k h e), ap (λ (x : Held). x.moment) (some_is k h e))
+held_let (Closed end number k) h e = absurd (none_some h e)
 
 let_close : (day : ℕ → ℕ) (F : ℕ) (s : Source) (H : List Entry) (v : View) (txn : ℕ) (end : CloseEnd) (g : List Exchange) (o : Option Held) → held_by (v.standing txn) ≡ o → AllLet day F s H v → AllLet day F s H (after_close s txn end g v o)
 let_close day F s H v txn end g None e all = all
@@ -159,22 +159,22 @@ let_close day F s H v txn end g (Some h) e all = λ t. elim (either (txn == t)) 
   | inr n ↦ rw n (λ f. (let a = all t f in let m = upto_more H (of_source s t) v.numbers in omega (arith, a, m)))
   | inl y ↦ (let same : txn ≡ t = number_is txn t y in
       let b = held_let (v.standing txn) h e in
-      let here : F ≤ day h.at → h.granted ≤ upto H (of_source s txn) (v.numbers + 1) = λ f. (
+      let here : F ≤ day h.moment → h.granted ≤ upto H (of_source s txn) (v.numbers + 1) = λ f. (
       let a = all txn (subst (λ z. F ≤ day z) (sym b.1) f) in
       let c = b.0 in
       let m = upto_more H (of_source s txn) v.numbers in
       omega (arith, a, c, m)) in
-      let G : ℕ → Type 0 = λ u. F ≤ day h.at → h.granted ≤ upto H (of_source s u) (v.numbers + 1) in
+      let G : ℕ → Type 0 = λ u. F ≤ day h.moment → h.granted ≤ upto H (of_source s u) (v.numbers + 1) in
       rw y (subst G same here))
 ]
 
 let_step : (day : ℕ → ℕ) (F : ℕ) → IsSameAsItself → (s : Source) (tries : ℕ) (H : List Entry) (P : List Step) (a : Action) (g : List Exchange) → IsUnderway s tries P (record { action = a; group = g }) → IsGround day F s H (view s P) a g → AllLet day F s H (view s P)
     → AllLet day F s H (after s (view s P) a g)
-let_step day F I s tries H P (Ask txn at login) [] u ok all = all
-let_step day F I s tries H P (Ask txn at login) (x ∷ g) u ok all =
+let_step day F I s tries H P (Ask txn moment login) [] u ok all = all
+let_step day F I s tries H P (Ask txn moment login) (x ∷ g) u ok all =
     let v = view s P in
-    let free = (free_ask (refuses (held_by (v.standing txn)) (length v.live) v.numbers (length v.waiting) at login) (reserve_of s (v.numbers + 1) txn at login) x.request (next_among tries _ g x.request u.0)).0 in
-    let_ask day F I s H v txn at login x g (opened_at at login (held_by (v.standing txn)) (length v.live) v.numbers (length v.waiting) free) ok all
+    let free = (free_ask (refuses (held_by (v.standing txn)) (length v.live) v.numbers (length v.waiting) moment login) (reserve_of s (v.numbers + 1) txn moment login) x.request (next_among tries _ g x.request u.0)).0 in
+    let_ask day F I s H v txn moment login x g (opened_at moment login (held_by (v.standing txn)) (length v.live) v.numbers (length v.waiting) free) ok all
 let_step day F I s tries H P (Close txn end) g u ok all = let_close day F s H (view s P) txn end g (held_by ((view s P).standing txn)) refl all
 let_step day F I s tries H P Drain g u ok all = all
 
@@ -188,15 +188,15 @@ was_granted day F I s tries H P u ground t f = let a = all_let day F I s tries H
 
 -- ---- what was granted stays granted
 
-ground_one : (day : ℕ → ℕ) (F : ℕ) (s : Source) (H K : List Entry) (v : View) (a : Action) (g : List Exchange) → ((txn at : ℕ) (login : List ℕ) → F ≤ day at → GrantedIn s H v.numbers txn at login → GrantedIn s K v.numbers txn at login) → IsGround day F s H v a g → IsGround day F s K v a g
-ground_one day F s H K v (Ask txn at login) g stays h = λ o f. stays txn at login f (h o f)
+ground_one : (day : ℕ → ℕ) (F : ℕ) (s : Source) (H K : List Entry) (v : View) (a : Action) (g : List Exchange) → ((txn moment : ℕ) (login : List ℕ) → F ≤ day moment → GrantedIn s H v.numbers txn moment login → GrantedIn s K v.numbers txn moment login) → IsGround day F s H v a g → IsGround day F s K v a g
+ground_one day F s H K v (Ask txn moment login) g stays h = λ o f. stays txn moment login f (h o f)
 ground_one day F s H K v (Close txn end) g stays h = tt
 ground_one day F s H K v Drain g stays h = tt
 
 -- in another history that has it still
-pub ground_kept : (day : ℕ → ℕ) (F : ℕ) (s : Source) (H K : List Entry) → ((n txn at : ℕ) (login : List ℕ) → F ≤ day at → GrantedIn s H n txn at login → GrantedIn s K n txn at login) → (P : List Step) → IsGrounded day F s H P → IsGrounded day F s K P
+pub ground_kept : (day : ℕ → ℕ) (F : ℕ) (s : Source) (H K : List Entry) → ((n txn moment : ℕ) (login : List ℕ) → F ≤ day moment → GrantedIn s H n txn moment login → GrantedIn s K n txn moment login) → (P : List Step) → IsGrounded day F s H P → IsGrounded day F s K P
 ground_kept day F s H K stays [] h = tt
 ground_kept day F s H K stays (x ∷ P) h = (ground_one day F s H K (view s P) x.action x.group (stays (view s P).numbers) h.0, ground_kept day F s H K stays P h.1)
 
 pub ground_stays : (day : ℕ → ℕ) (F : ℕ) (s : Source) (H K : List Entry) (P : List Step) → IsGrounded day F s H P → IsGrounded day F s (H ++ K) P
-ground_stays day F s H K P h = ground_kept day F s H (H ++ K) (λ n txn at login f k. record { entry = k.entry; among = in_front H K k.entry k.among; request = k.request; granted = k.granted }) P h
+ground_stays day F s H K P h = ground_kept day F s H (H ++ K) (λ n txn moment login f k. record { entry = k.entry; among = in_front H K k.entry k.among; request = k.request; granted = k.granted }) P h

@@ -38,17 +38,17 @@ counted L line e le = count_more (is_begin (event line)) (begin_count L) (not_ex
 login_range : (name : List ℕ) → is_login name ≡ true → IsLogin name
 login_range name e = record { from = grind (arith, nat_tests, first_so (nat_le 1 (length name)) _ e); to = grind (arith, nat_tests, second_so (nat_le 1 (length name)) _ e) }
 
-moment_range : (at : ℕ) → is_moment at ≡ true → IsMoment at
-moment_range at e = record { from = grind (arith, nat_tests, first_so (nat_le 86400 at) _ e); to = grind (arith, nat_tests, second_so (nat_le 86400 at) _ e) }
+moment_range : (moment : ℕ) → is_moment moment ≡ true → IsMoment moment
+moment_range moment e = record { from = grind (arith, nat_tests, first_so (nat_le 86400 moment) _ e); to = grind (arith, nat_tests, second_so (nat_le 86400 moment) _ e) }
 
-asked_at : (b : Bool) (txn at : ℕ) (name : List ℕ) (a : Action) → (b ≡ true → IsAsked (Ask txn at name)) → asking_of (if b then Asks txn at name else Refuses) ≡ Some a → IsAsked a
-asked_at true txn at name a f e = subst IsAsked (some_is (Ask txn at name) a e) (f refl)
-asked_at false txn at name a f e = absurd (none_some a e)
+asked_at : (b : Bool) (txn moment : ℕ) (login : List ℕ) (a : Action) → (b ≡ true → IsAsked (Ask txn moment login)) → asking_of (if b then Asks txn moment login else Refuses) ≡ Some a → IsAsked a
+asked_at true txn moment login a f e = subst IsAsked (some_is (Ask txn moment login) a e) (f refl)
+asked_at false txn moment login a f e = absurd (none_some a e)
 
 asked_by : (o : Option (List ℕ)) (t : Option Transaction) (a : Action) → ((u : Transaction) → t ≡ Some u → IsOrdinal u.txn) → asking_of (query_at (position_of o t)) ≡ Some a → IsAsked a
 asked_by None t a f e = absurd (none_some a e)
 asked_by (Some name) None a f e = absurd (none_some a e)
-asked_by (Some name) (Some u) a f e = asked_at (is_login name && is_moment u.at) u.txn u.at name a (λ y. (f u refl, moment_range u.at (second_so (is_login name) _ y), login_range name (first_so (is_login name) _ y))) e
+asked_by (Some name) (Some u) a f e = asked_at (is_login name && is_moment u.moment) u.txn u.moment name a (λ y. (f u refl, moment_range u.moment (second_so (is_login name) _ y), login_range name (first_so (is_login name) _ y))) e
 
 asked_if : (b : Bool) (p : Position) (a : Action) → (asking_of (query_at p) ≡ Some a → IsAsked a) → asking_of (if b then query_at p else Passes) ≡ Some a → IsAsked a
 asked_if true p a f e = f e

@@ -23,7 +23,7 @@ pub same_own : (s u : Source) (q : Request) → IsOwn s q → IsOwn u q → s �
 same_own s u q a b = ap source_of (some_is (id_of s a.number) (id_of u b.number) (sym a.id ∙ b.id))
 
 seq_is : (s : Source) (m n : ℕ) → Some (id_of s m) ≡ Some (id_of s n) → m ≡ n
-seq_is s m n e = ap (λ (i : Id). i.seq) (some_is (id_of s m) (id_of s n) e)
+seq_is s m n e = ap (λ (i : Id). i.number) (some_is (id_of s m) (id_of s n) e)
 
 -- a number has one request
 pub one_request : (s : Source) (P : List Step) (q r : Request) → IsNumbered s P q → IsNumbered s P r → id_in q ≡ id_in r → q ≡ r
@@ -46,7 +46,7 @@ begun_numbered s a P q i = record {
 
 -- an exchange more
 pub more_numbered : (s : Source) (a : Action) (x : Exchange) (g : List Exchange) (P : List Step) (q : Request) → IsNumbered s (record { action = a; group = g } ∷ P) q → IsNumbered s (record { action = a; group = x ∷ g } ∷ P) q
-more_numbered s (Ask txn at login) x [] P q i = record {
+more_numbered s (Ask txn moment login) x [] P q i = record {
   number = i.number;
   used = (let u : i.number ≤ numbers_in P = i.used in omega (arith, u));
   id = i.id;
@@ -55,12 +55,12 @@ more_numbered s (Ask txn at login) x [] P q i = record {
       let old : request_under s P i.number ≡ Some q = rw other at i.under in
       rw other old);
 }
-more_numbered s (Ask txn at login) x (y ∷ g) P q i = record { number = i.number; used = i.used; id = i.id; under = i.under }
+more_numbered s (Ask txn moment login) x (y ∷ g) P q i = record { number = i.number; used = i.used; id = i.id; under = i.under }
 more_numbered s (Close txn end) x g P q i = record { number = i.number; used = i.used; id = i.id; under = i.under }
 more_numbered s Drain x g P q i = record { number = i.number; used = i.used; id = i.id; under = i.under }
 
 -- an exchange ends otherwise
 pub ended_numbered : (s : Source) (a : Action) (x y : Exchange) (g : List Exchange) (P : List Step) (q : Request) → IsNumbered s (record { action = a; group = x ∷ g } ∷ P) q → IsNumbered s (record { action = a; group = y ∷ g } ∷ P) q
-ended_numbered s (Ask txn at login) x y g P q i = record { number = i.number; used = i.used; id = i.id; under = i.under }
+ended_numbered s (Ask txn moment login) x y g P q i = record { number = i.number; used = i.used; id = i.id; under = i.under }
 ended_numbered s (Close txn end) x y g P q i = record { number = i.number; used = i.used; id = i.id; under = i.under }
 ended_numbered s Drain x y g P q i = record { number = i.number; used = i.used; id = i.id; under = i.under }

@@ -19,7 +19,7 @@ use Rattle.mq_world.proofs.Basics.{either, none_some, some_is, first_not, second
 
 -- an action asks with a transaction, a moment and a login in range
 abbrev pub IsAsked : Action → Type 0
-IsAsked (Ask txn at login) = IsOrdinal txn × IsMoment at × IsLogin login
+IsAsked (Ask txn moment login) = IsOrdinal txn × IsMoment moment × IsLogin login
 IsAsked (Close txn end) = Unit {0}
 IsAsked Drain = Unit {0}
 
@@ -45,8 +45,8 @@ pub next_among : (tries : ℕ) (queue : List Request) (g : List Exchange) (q : R
 next_among tries queue g q e = in_get queue (decisions g) q (unless (nat_le tries (failures g)) (slice_get queue (decisions g)) q e)
 
 -- an ask that has a next exchange isn't refused, and that exchange is of its reserve
-pub record IsFree (o : Option Held) (live numbers waiting at : ℕ) (login : List ℕ) (r q : Request) : Type 0 where
-  pub free : refuses o live numbers waiting at login ≡ false
+pub record IsFree (o : Option Held) (live numbers waiting moment : ℕ) (login : List ℕ) (r q : Request) : Type 0 where
+  pub free : refuses o live numbers waiting moment login ≡ false
   pub is : r ≡ q
 
 pub free_ask : (b : Bool) (r q : Request) → In q (if b then [] else r ∷ []) → (b ≡ false) × (r ≡ q)
@@ -57,15 +57,15 @@ free_ask false r q (inr i) = absurd i
 -- ---- requests
 
 is_id : (s : Source) (n : ℕ) → IsHost s.host → IsRun s.run → n < 4294967295 → IsId (id_of s (n + 1))
-is_id s n h r less = record { host = h; run = r; seq = record { from = omega arith; to = omega (arith, less) } }
+is_id s n h r less = record { host = h; run = r; number = record { from = omega arith; to = omega (arith, less) } }
 
 closing_in_range : (s : Source) (n txn : ℕ) (end : CloseEnd) (h : Held) → IsHost s.host → IsRun s.run → n < 4294967295 → IsHeld txn h → IsRequest (closing_of s (n + 1) txn end h)
 closing_in_range s n txn end h host run less i = by_kind (is_commit end) (nat_le 1 h.granted) refl
   where
-    by_kind : (b c : Bool) → nat_le 1 h.granted ≡ c → IsRequest (if b && c then Settle (id_of s (n + 1)) txn h.at h.login h.granted else Release (id_of s (n + 1)) txn h.at h.login)
-    by_kind true true e = (is_id s n host run less, i.number, i.at, i.login, record { from = grind (arith, nat_tests, e); to = (let g = i.granted in omega (arith, g)) })
-    by_kind true false e = (is_id s n host run less, i.number, i.at, i.login)
-    by_kind false c e = (is_id s n host run less, i.number, i.at, i.login)
+    by_kind : (b c : Bool) → nat_le 1 h.granted ≡ c → IsRequest (if b && c then Settle (id_of s (n + 1)) txn h.moment h.login h.granted else Release (id_of s (n + 1)) txn h.moment h.login)
+    by_kind true true e = (is_id s n host run less, i.number, i.moment, i.login, record { from = grind (arith, nat_tests, e); to = (let g = i.granted in omega (arith, g)) })
+    by_kind true false e = (is_id s n host run less, i.number, i.moment, i.login)
+    by_kind false c e = (is_id s n host run less, i.number, i.moment, i.login)
 
 -- ---- steps
 
@@ -74,10 +74,10 @@ let_granted asked.Granted h = omega arith
 let_granted asked.Full h = omega arith
 let_granted asked.Unavailable h = omega arith
 
-let_held : (txn : ℕ) (a : Asked) (h : Held) → IsOrdinal txn → IsMoment h.at → IsLogin h.login → h.granted < 1000 → IsHeld txn (let_through a h)
-let_held txn asked.Granted h t m l g = record { number = t; at = m; login = l; granted = omega (arith, g) }
-let_held txn asked.Full h t m l g = record { number = t; at = m; login = l; granted = omega (arith, g) }
-let_held txn asked.Unavailable h t m l g = record { number = t; at = m; login = l; granted = omega (arith, g) }
+let_held : (txn : ℕ) (a : Asked) (h : Held) → IsOrdinal txn → IsMoment h.moment → IsLogin h.login → h.granted < 1000 → IsHeld txn (let_through a h)
+let_held txn asked.Granted h t m l g = record { number = t; moment = m; login = l; granted = omega (arith, g) }
+let_held txn asked.Full h t m l g = record { number = t; moment = m; login = l; granted = omega (arith, g) }
+let_held txn asked.Unavailable h t m l g = record { number = t; moment = m; login = l; granted = omega (arith, g) }
 
 live_is : (h k : Held) → Live h ≡ Live k → h ≡ k
 live_is h k e = cc
@@ -85,23 +85,23 @@ live_is h k e = cc
 held_by_live : (st : Standing) (h : Held) → held_by st ≡ Some h → st ≡ Live h
 held_by_live Never h e = absurd (none_some h e)
 held_by_live (Live k) h e = ap Live (some_is k h e)
-held_by_live (Closed end seq k) h e = absurd (none_some h e)
+held_by_live (Closed end number k) h e = absurd (none_some h e)
 
-asked_held : (txn at : ℕ) (login : List ℕ) (answer : Asked) (o : Option Held) (live numbers waiting : ℕ) → IsOrdinal txn × IsMoment at × IsLogin login → ((h : Held) → o ≡ Some h → IsHeld txn h) → refuses o live numbers waiting at login ≡ false → IsHeld txn (let_through answer (opened at login o))
-asked_held txn at login answer None live numbers waiting i held free = let_held txn answer (opened at login None) i.0 i.1 i.2 (omega arith)
-asked_held txn at login answer (Some h) live numbers waiting i held free =
+asked_held : (txn moment : ℕ) (login : List ℕ) (answer : Asked) (o : Option Held) (live numbers waiting : ℕ) → IsOrdinal txn × IsMoment moment × IsLogin login → ((h : Held) → o ≡ Some h → IsHeld txn h) → refuses o live numbers waiting moment login ≡ false → IsHeld txn (let_through answer (opened moment login o))
+asked_held txn moment login answer None live numbers waiting i held free = let_held txn answer (opened moment login None) i.0 i.1 i.2 (omega arith)
+asked_held txn moment login answer (Some h) live numbers waiting i held free =
     let k = held h refl in
-    let few : nat_le 1000 h.granted ≡ false = first_not (nat_le 1000 h.granted) (lacks_numbers numbers live) (second_not (is_other h at login) _ free) in
-    let_held txn answer h k.number k.at k.login (grind (arith, nat_tests, few))
+    let few : nat_le 1000 h.granted ≡ false = first_not (nat_le 1000 h.granted) (lacks_numbers numbers live) (second_not (is_other h moment login) _ free) in
+    let_held txn answer h k.number k.moment k.login (grind (arith, nat_tests, few))
 
-ranged_ask : (s : Source) (tries txn at : ℕ) (login : List ℕ) (x : Exchange) (g : List Exchange) (v : View) → IsOrdinal txn × IsMoment at × IsLogin login → ComeInTurn tries (queue_of s v (held_for v (Ask txn at login)) (Ask txn at login)) (x ∷ g) → IsRanged v → IsRanged (after_ask txn at login (x ∷ g) v)
-ranged_ask s tries txn at login x g v i turns r =
-    let free = (free_ask (refuses (held_by (v.standing txn)) (length v.live) v.numbers (length v.waiting) at login) _ x.request (next_among tries _ g x.request turns.0)).0 in
+ranged_ask : (s : Source) (tries txn moment : ℕ) (login : List ℕ) (x : Exchange) (g : List Exchange) (v : View) → IsOrdinal txn × IsMoment moment × IsLogin login → ComeInTurn tries (queue_of s v (held_for v (Ask txn moment login)) (Ask txn moment login)) (x ∷ g) → IsRanged v → IsRanged (after_ask txn moment login (x ∷ g) v)
+ranged_ask s tries txn moment login x g v i turns r =
+    let free = (free_ask (refuses (held_by (v.standing txn)) (length v.live) v.numbers (length v.waiting) moment login) _ x.request (next_among tries _ g x.request turns.0)).0 in
     let old = λ (h : Held) (e : held_by (v.standing txn) ≡ Some h). r.held txn h (held_by_live (v.standing txn) h e) in
-    let new : IsHeld txn (let_through (answer_of (x ∷ g)) (opened at login (held_by (v.standing txn)))) = asked_held txn at login (answer_of (x ∷ g)) (held_by (v.standing txn)) (length v.live) v.numbers (length v.waiting) i old free in
+    let new : IsHeld txn (let_through (answer_of (x ∷ g)) (opened moment login (held_by (v.standing txn)))) = asked_held txn moment login (answer_of (x ∷ g)) (held_by (v.standing txn)) (length v.live) v.numbers (length v.waiting) i old free in
     record {
       held = λ t h e. elim (either (txn == t)) [
-        | inl y ↦ (let is : let_through (answer_of (x ∷ g)) (opened at login (held_by (v.standing txn))) ≡ h = live_is _ h (rw y at e) in
+        | inl y ↦ (let is : let_through (answer_of (x ∷ g)) (opened moment login (held_by (v.standing txn))) ≡ h = live_is _ h (rw y at e) in
             let same : txn ≡ t = number_is txn t y in
             let F : ℕ → Type 0 = λ u. IsHeld u h in
             subst F same (subst (IsHeld txn) is new))
@@ -110,8 +110,8 @@ ranged_ask s tries txn at login x g v i turns r =
       waiting = r.waiting;
     }
 
-ended_live : (end : CloseEnd) (seq : ℕ) (h k : Held) → Closed end seq h ≡ Live k → ⊥
-ended_live end seq h k e = cc
+ended_live : (end : CloseEnd) (number : ℕ) (h k : Held) → Closed end number h ≡ Live k → ⊥
+ended_live end number h k e = cc
 
 ranged_close : (s : Source) (txn : ℕ) (end : CloseEnd) (g : List Exchange) (v : View) (o : Option Held) → held_by (v.standing txn) ≡ o → IsHost s.host → IsRun s.run → ((h : Held) → o ≡ Some h → v.numbers < 4294967295) → IsRanged v → IsRanged (after_close s txn end g v o)
 ranged_close s txn end g v None is host run less r = r
@@ -134,8 +134,8 @@ abbrev pub AreBounded : Type 0
 AreBounded = (s : Source) (tries : ℕ) (P : List Step) → AreUnderway s tries P → IsBounded (view s P)
 
 ranged_step : AreBounded → (s : Source) (tries : ℕ) (a : Action) (g : List Exchange) (P : List Step) → IsHost s.host → IsRun s.run → IsAsked a → AreUnderway s tries (record { action = a; group = g } ∷ P) → IsRanged (view s P) → IsRanged (after s (view s P) a g)
-ranged_step B s tries (Ask txn at login) [] P host run i u r = r
-ranged_step B s tries (Ask txn at login) (x ∷ g) P host run i u r = ranged_ask s tries txn at login x g (view s P) i u.0 r
+ranged_step B s tries (Ask txn moment login) [] P host run i u r = r
+ranged_step B s tries (Ask txn moment login) (x ∷ g) P host run i u r = ranged_ask s tries txn moment login x g (view s P) i u.0 r
 ranged_step B s tries (Close txn end) g P host run i u r =
     ranged_close s txn end g (view s P) (held_by ((view s P).standing txn)) refl host run (close_number s txn end (view s P) (held_by ((view s P).standing txn)) (B s tries (begun (Close txn end) ∷ P) (tt, u.1))) r
 ranged_step B s tries Drain g P host run i u r = record { held = r.held; waiting = all_drop IsRequest (decisions g) _ r.waiting }
@@ -149,10 +149,10 @@ ranged B s tries (x ∷ P) host run asked u = ranged_step B s tries x.action x.g
 
 -- ---- the next request is in range
 
-next_ask : (s : Source) (tries txn at : ℕ) (login : List ℕ) (g : List Exchange) (v : View) (q : Request) → IsHost s.host → IsRun s.run → IsOrdinal txn × IsMoment at × IsLogin login → v.numbers < 4294967295 → next s tries v (Ask txn at login) g ≡ Some q → IsRequest q
-next_ask s tries txn at login g v q host run i less e =
-    let f = free_ask (refuses (held_by (v.standing txn)) (length v.live) v.numbers (length v.waiting) at login) (reserve_of s (v.numbers + 1) txn at login) q (next_among tries _ g q e) in
-    let r : IsRequest (reserve_of s (v.numbers + 1) txn at login) = (is_id s v.numbers host run less, i.0, i.1, i.2, record { from = omega arith; to = omega arith }) in
+next_ask : (s : Source) (tries txn moment : ℕ) (login : List ℕ) (g : List Exchange) (v : View) (q : Request) → IsHost s.host → IsRun s.run → IsOrdinal txn × IsMoment moment × IsLogin login → v.numbers < 4294967295 → next s tries v (Ask txn moment login) g ≡ Some q → IsRequest q
+next_ask s tries txn moment login g v q host run i less e =
+    let f = free_ask (refuses (held_by (v.standing txn)) (length v.live) v.numbers (length v.waiting) moment login) (reserve_of s (v.numbers + 1) txn moment login) q (next_among tries _ g q e) in
+    let r : IsRequest (reserve_of s (v.numbers + 1) txn moment login) = (is_id s v.numbers host run less, i.0, i.1, i.2, record { from = omega arith; to = omega arith }) in
     subst IsRequest f.1 r
 
 next_close : (s : Source) (tries txn : ℕ) (end : CloseEnd) (g : List Exchange) (v : View) (o : Option Held) (q : Request) → held_by (v.standing txn) ≡ o → IsHost s.host → IsRun s.run → ((h : Held) → o ≡ Some h → v.numbers < 4294967295) → IsRanged v → next_of tries (queue_of s v o (Close txn end)) g ≡ Some q → IsRequest q
@@ -163,13 +163,13 @@ next_close s tries txn end g v (Some h) q is host run less r e =
     all_at IsRequest _ q all (next_among tries _ g q e)
 
 -- an ask with an exchange used a number
-ask_number : (s : Source) (txn at : ℕ) (login : List ℕ) (x : Exchange) (g : List Exchange) (v : View) → IsBounded (after_ask txn at login (x ∷ g) v) → v.numbers < 4294967295
-ask_number s txn at login x g v b = let n = b.numbers in omega (arith, n)
+ask_number : (s : Source) (txn moment : ℕ) (login : List ℕ) (x : Exchange) (g : List Exchange) (v : View) → IsBounded (after_ask txn moment login (x ∷ g) v) → v.numbers < 4294967295
+ask_number s txn moment login x g v b = let n = b.numbers in omega (arith, n)
 
 -- x is the exchange of the next request
 pub next_in_range : AreBounded → (s : Source) (tries : ℕ) (a : Action) (g : List Exchange) (x : Exchange) (P : List Step) → IsHost s.host → IsRun s.run → AreAsked (record { action = a; group = g } ∷ P) → AreUnderway s tries (record { action = a; group = x ∷ g } ∷ P) → IsRequest x.request
-next_in_range B s tries (Ask txn at login) g x P host run asked u =
-    next_ask s tries txn at login g (view s P) x.request host run asked.0 (ask_number s txn at login x g (view s P) (B s tries (record { action = Ask txn at login; group = x ∷ g } ∷ P) u)) u.0.0
+next_in_range B s tries (Ask txn moment login) g x P host run asked u =
+    next_ask s tries txn moment login g (view s P) x.request host run asked.0 (ask_number s txn moment login x g (view s P) (B s tries (record { action = Ask txn moment login; group = x ∷ g } ∷ P) u)) u.0.0
 next_in_range B s tries (Close txn end) g x P host run asked u =
     next_close s tries txn end g (view s P) (held_by ((view s P).standing txn)) x.request refl host run (close_number s txn end (view s P) (held_by ((view s P).standing txn)) (B s tries (begun (Close txn end) ∷ P) (tt, u.1))) (ranged B s tries P host run asked.1 u.1) u.0.0
 next_in_range B s tries Drain g x P host run asked u =

@@ -28,11 +28,11 @@ use Rattle.mq_world.proofs.Ranges.{IsAsked, AreAsked, next_among, free_ask, next
 use Rattle.mq_world.proofs.Grounds.{is_grant, GrantedIn, IsGround, IsGrounded}
 
 abbrev pub is_settle : Request → Bool
-is_settle (Settle id txn at login count) = true
+is_settle (Settle id txn moment login count) = true
 is_settle _ = false
 
 abbrev pub count_of : Request → ℕ
-count_of (Settle id txn at login count) = count
+count_of (Settle id txn moment login count) = count
 count_of _ = 0
 
 -- the entry that a reply is of: Granted is that of an entry, and Old of none
@@ -113,30 +113,30 @@ closing_answered F id a h = absurd (clash false h refl)
 
 -- a reply that decides a request has its number
 pub decided_id : OfFrames → (q : Request) (a : Reply) → decides q a ≡ true → id_in q ≡ reply_id a
-decided_id F (Reserve id txn at login count) a h = reserve_answered F id a h
-decided_id F (Settle id txn at login count) a h = closing_answered F id a h
-decided_id F (Release id txn at login) a h = closing_answered F id a h
+decided_id F (Reserve id txn moment login count) a h = reserve_answered F id a h
+decided_id F (Settle id txn moment login count) a h = closing_answered F id a h
+decided_id F (Release id txn moment login) a h = closing_answered F id a h
 decided_id F q a h = absurd (clash false h refl)
 
 -- a reply to a request has its number
 pub suited_id : (r : Request) (a : Reply) (i : Id) → RepliesSuit r a → reply_id a ≡ Some i → id_in r ≡ Some i
-suited_id (Reserve id txn at login count) (reply.Granted j used) i h e = ap Some (sym h) ∙ e
-suited_id (Reserve id txn at login count) (reply.Full j used cap) i h e = ap Some (sym h) ∙ e
-suited_id (Reserve id txn at login count) (reply.Closed j) i h e = ap Some (sym h) ∙ e
-suited_id (Reserve id txn at login count) (reply.Mismatch j) i h e = ap Some (sym h) ∙ e
-suited_id (Reserve id txn at login count) (reply.Conflict j) i h e = ap Some (sym h) ∙ e
-suited_id (Reserve id txn at login count) (reply.Old j) i h e = ap Some (sym h) ∙ e
-suited_id (Settle id txn at login count) (reply.Settled j n) i h e = ap Some (sym h.0) ∙ e
-suited_id (Settle id txn at login count) (reply.TooMany j held) i h e = ap Some (sym h) ∙ e
-suited_id (Settle id txn at login count) (reply.Closed j) i h e = ap Some (sym h) ∙ e
-suited_id (Settle id txn at login count) (reply.Mismatch j) i h e = ap Some (sym h) ∙ e
-suited_id (Settle id txn at login count) (reply.Conflict j) i h e = ap Some (sym h) ∙ e
-suited_id (Settle id txn at login count) (reply.Old j) i h e = ap Some (sym h) ∙ e
-suited_id (Release id txn at login) (reply.Released j held) i h e = ap Some (sym h) ∙ e
-suited_id (Release id txn at login) (reply.Closed j) i h e = ap Some (sym h) ∙ e
-suited_id (Release id txn at login) (reply.Mismatch j) i h e = ap Some (sym h) ∙ e
-suited_id (Release id txn at login) (reply.Conflict j) i h e = ap Some (sym h) ∙ e
-suited_id (Release id txn at login) (reply.Old j) i h e = ap Some (sym h) ∙ e
+suited_id (Reserve id txn moment login count) (reply.Granted j used) i h e = ap Some (sym h) ∙ e
+suited_id (Reserve id txn moment login count) (reply.Full j used cap) i h e = ap Some (sym h) ∙ e
+suited_id (Reserve id txn moment login count) (reply.Closed j) i h e = ap Some (sym h) ∙ e
+suited_id (Reserve id txn moment login count) (reply.Mismatch j) i h e = ap Some (sym h) ∙ e
+suited_id (Reserve id txn moment login count) (reply.Conflict j) i h e = ap Some (sym h) ∙ e
+suited_id (Reserve id txn moment login count) (reply.Old j) i h e = ap Some (sym h) ∙ e
+suited_id (Settle id txn moment login count) (reply.Settled j n) i h e = ap Some (sym h.0) ∙ e
+suited_id (Settle id txn moment login count) (reply.TooMany j held) i h e = ap Some (sym h) ∙ e
+suited_id (Settle id txn moment login count) (reply.Closed j) i h e = ap Some (sym h) ∙ e
+suited_id (Settle id txn moment login count) (reply.Mismatch j) i h e = ap Some (sym h) ∙ e
+suited_id (Settle id txn moment login count) (reply.Conflict j) i h e = ap Some (sym h) ∙ e
+suited_id (Settle id txn moment login count) (reply.Old j) i h e = ap Some (sym h) ∙ e
+suited_id (Release id txn moment login) (reply.Released j held) i h e = ap Some (sym h) ∙ e
+suited_id (Release id txn moment login) (reply.Closed j) i h e = ap Some (sym h) ∙ e
+suited_id (Release id txn moment login) (reply.Mismatch j) i h e = ap Some (sym h) ∙ e
+suited_id (Release id txn moment login) (reply.Conflict j) i h e = ap Some (sym h) ∙ e
+suited_id (Release id txn moment login) (reply.Old j) i h e = ap Some (sym h) ∙ e
 suited_id (Limit id from c login) (reply.LimitSet j) i h e = ap Some (sym h) ∙ e
 suited_id (Limit id from c login) (reply.Over j day used) i h e = ap Some (sym h) ∙ e
 suited_id (Limit id from c login) (reply.Conflict j) i h e = ap Some (sym h) ∙ e
@@ -161,7 +161,7 @@ unavailable_not : asked.Unavailable ≡ asked.Granted → ⊥
 unavailable_not e = cc
 
 no_ground : (day : ℕ → ℕ) (F : ℕ) (s : Source) (H : List Entry) (v : View) (a : Action) (g : List Exchange) → answer_of g ≡ asked.Unavailable → IsGround day F s H v a g
-no_ground day F s H v (Ask txn at login) g z = λ o f. absurd (unavailable_not (sym z ∙ o))
+no_ground day F s H v (Ask txn moment login) g z = λ o f. absurd (unavailable_not (sym z ∙ o))
 no_ground day F s H v (Close txn end) g z = tt
 no_ground day F s H v Drain g z = tt
 
@@ -235,18 +235,18 @@ granted_by o e = absurd (unavailable_not e)
 grant_of : (q : Request) (o : Outcome) (d : Option Reply) (a : Reply) → IsDecision q o d → d ≡ Some a → Brings o a × (decides q a ≡ true)
 grant_of q o d a dec e = let D : Option Reply → Type 0 = λ x. IsDecision q o x in subst D e dec
 
-heard : {day : ℕ → ℕ} {F : ℕ} → OfFrames → OfClients → (s : Source) (tries : ℕ) (P : List Step) (H : List Entry) (sent written : List (List ℕ)) (txn at : ℕ) (login : List ℕ) (g : List Exchange) (x : Exchange)
-    → AllSuit H → Holds day F s tries (step (Ask txn at login) (failing x.request ∷ g) ∷ P) H sent written → Comes written x.request x.outcome → IsDecision x.request x.outcome x.decided
-    → answer_by x.decided ≡ asked.Granted → F ≤ day at → GrantedIn s H (view s P).numbers txn at login
-heard {day = day} {F = since} F C s tries P H sent written txn at login g x suits h may dec e on =
+heard : {day : ℕ → ℕ} {F : ℕ} → OfFrames → OfClients → (s : Source) (tries : ℕ) (P : List Step) (H : List Entry) (sent written : List (List ℕ)) (txn moment : ℕ) (login : List ℕ) (g : List Exchange) (x : Exchange)
+    → AllSuit H → Holds day F s tries (step (Ask txn moment login) (failing x.request ∷ g) ∷ P) H sent written → Comes written x.request x.outcome → IsDecision x.request x.outcome x.decided
+    → answer_by x.decided ≡ asked.Granted → F ≤ day moment → GrantedIn s H (view s P).numbers txn moment login
+heard {day = day} {F = since} F C s tries P H sent written txn moment login g x suits h may dec e on =
     let v = view s P in
-    let Q : List Step = step (Ask txn at login) (failing x.request ∷ g) ∷ P in
+    let Q : List Step = step (Ask txn moment login) (failing x.request ∷ g) ∷ P in
     let k = granted_by x.decided e in
     let d = grant_of x.request x.outcome x.decided k.0 dec k.1 in
     let came = may k.0 d.0 d.1 in
     let number : IsNumbered s Q x.request = (C.sent s tries Q h.underway).0 in
     let own : IsOwn s x.request = numbered_own s Q x.request number in
-    let free = free_ask (refuses (held_by (v.standing txn)) (length v.live) v.numbers (length v.waiting) at login) (reserve_of s (v.numbers + 1) txn at login) x.request (next_among tries _ g x.request h.underway.0.0) in
+    let free = free_ask (refuses (held_by (v.standing txn)) (length v.live) v.numbers (length v.waiting) moment login) (reserve_of s (v.numbers + 1) txn moment login) x.request (next_among tries _ g x.request h.underway.0.0) in
     elim (h.wrote k.0 x.request came.0 came.1 own d.1 k.2) [
       | inl w ↦ (let R : Reply → Type 0 = λ a. RepliesSuit w.entry.request a in
           let fits : RepliesSuit w.entry.request k.0 = subst R w.is (suits w.entry w.among) in
@@ -260,14 +260,14 @@ heard {day = day} {F = since} F C s tries P H sent written txn at login g x suit
             granted = ap is_grant w.is ∙ k.2;
           })
       | inr f ↦ (let is : f.request ≡ x.request = one_request s Q f.request x.request f.numbered number f.same in
-          let at_is : moment_of f.request ≡ at = ap moment_of (is ∙ sym free.1) in
+          let at_is : moment_of f.request ≡ moment = ap moment_of (is ∙ sym free.1) in
           let less = subst (λ m. day m < since) at_is f.earlier in
           absurd (omega (arith, less, on)))
     ]
 
 heard_ground : {day : ℕ → ℕ} {F : ℕ} → OfFrames → OfClients → (s : Source) (tries : ℕ) (P : List Step) (H : List Entry) (sent written : List (List ℕ)) (a : Action) (g : List Exchange) (x : Exchange)
     → AllSuit H → Holds day F s tries (step a (failing x.request ∷ g) ∷ P) H sent written → Comes written x.request x.outcome → IsDecision x.request x.outcome x.decided → IsGround day F s H (view s P) a (x ∷ g)
-heard_ground F C s tries P H sent written (Ask txn at login) g x suits h may dec = λ e on. heard F C s tries P H sent written txn at login g x suits h may dec e on
+heard_ground F C s tries P H sent written (Ask txn moment login) g x suits h may dec = λ e on. heard F C s tries P H sent written txn moment login g x suits h may dec e on
 heard_ground F C s tries P H sent written (Close txn end) g x suits h may dec = tt
 heard_ground F C s tries P H sent written Drain g x suits h may dec = tt
 

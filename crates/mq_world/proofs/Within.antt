@@ -49,26 +49,26 @@ still_unavailable tries r q b [] e = refl
 still_unavailable tries r q b (x ∷ g) e =
     decided_one x.decided (decisions g) (undecided_at r b (decisions (x ∷ g)) q (unless (nat_le tries (failures (x ∷ g))) (slice_get (if b then [] else r ∷ []) (decisions (x ∷ g))) q e))
 
-ended_not : (end : CloseEnd) (seq : ℕ) (h : Held) → is_closed (Closed end seq h) ≡ false → ⊥
-ended_not end seq h e = cc (e)
+ended_not : (end : CloseEnd) (number : ℕ) (h : Held) → is_closed (Closed end number h) ≡ false → ⊥
+ended_not end number h e = cc (e)
 
-first_exchange : (at : ℕ) (login : List ℕ) (st : Standing) → is_closed st ≡ false → Counts st (Live (let_through asked.Unavailable (opened at login (held_by st))))
-first_exchange at login Never e = inl refl
-first_exchange at login (Live h) e = inr refl
-first_exchange at login (Closed end seq h) e = absurd (ended_not end seq h e)
+first_exchange : (moment : ℕ) (login : List ℕ) (st : Standing) → is_closed st ≡ false → Counts st (Live (let_through asked.Unavailable (opened moment login (held_by st))))
+first_exchange moment login Never e = inl refl
+first_exchange moment login (Live h) e = inr refl
+first_exchange moment login (Closed end number h) e = absurd (ended_not end number h e)
 
-counts_ask : (tries txn at : ℕ) (login : List ℕ) (r q : Request) (b : Bool) (g : List Exchange) (v : View) → is_closed (v.standing txn) ≡ false → next_of tries (if b then [] else r ∷ []) g ≡ Some q → (t : ℕ)
-    → Counts ((after_ask txn at login g v).standing t) ((after_ask txn at login (failing q ∷ g) v).standing t)
-counts_ask tries txn at login r q b [] v fresh_one e t = elim (either (txn == t)) [
+counts_ask : (tries txn moment : ℕ) (login : List ℕ) (r q : Request) (b : Bool) (g : List Exchange) (v : View) → is_closed (v.standing txn) ≡ false → next_of tries (if b then [] else r ∷ []) g ≡ Some q → (t : ℕ)
+    → Counts ((after_ask txn moment login g v).standing t) ((after_ask txn moment login (failing q ∷ g) v).standing t)
+counts_ask tries txn moment login r q b [] v fresh_one e t = elim (either (txn == t)) [
   | inr n ↦ rw n (inr refl)
   | inl y ↦ (let same : txn ≡ t = number_is txn t y in
-      let F : ℕ → Type 0 = λ u. Counts (v.standing u) (Live (let_through asked.Unavailable (opened at login (held_by (v.standing txn))))) in
-      rw y (subst F same (first_exchange at login (v.standing txn) fresh_one)))
+      let F : ℕ → Type 0 = λ u. Counts (v.standing u) (Live (let_through asked.Unavailable (opened moment login (held_by (v.standing txn))))) in
+      rw y (subst F same (first_exchange moment login (v.standing txn) fresh_one)))
 ]
-counts_ask tries txn at login r q b (x ∷ g) v fresh_one e t = elim (either (txn == t)) [
+counts_ask tries txn moment login r q b (x ∷ g) v fresh_one e t = elim (either (txn == t)) [
   | inr n ↦ rw n (inr refl)
   | inl y ↦ (let none : answer_of (x ∷ g) ≡ asked.Unavailable = still_unavailable tries r q b (x ∷ g) e in
-      rw y (inr (ap (λ a. Some (let_through a (opened at login (held_by (v.standing txn))))) none)))
+      rw y (inr (ap (λ a. Some (let_through a (opened moment login (held_by (v.standing txn))))) none)))
 ]
 
 counts_close : (s : Source) (txn : ℕ) (end : CloseEnd) (g : List Exchange) (q : Request) (v : View) (o : Option Held) (t : ℕ) → Counts ((after_close s txn end g v o).standing t) ((after_close s txn end (failing q ∷ g) v o).standing t)
@@ -77,8 +77,8 @@ counts_close s txn end g q v (Some h) t = inr refl
 
 counts_step : (s : Source) (tries : ℕ) (a : Action) (g : List Exchange) (q : Request) (P : List Step) → AreUnderway s tries (step a (failing q ∷ g) ∷ P) → NoneReturns s (step a (failing q ∷ g) ∷ P) → (t : ℕ)
     → Counts ((after s (view s P) a g).standing t) ((after s (view s P) a (failing q ∷ g)).standing t)
-counts_step s tries (Ask txn at login) g q P u back t =
-    counts_ask tries txn at login (reserve_of s ((view s P).numbers + 1) txn at login) q (refuses (held_by ((view s P).standing txn)) (length (view s P).live) (view s P).numbers (length (view s P).waiting) at login) g (view s P) back.0 u.0.0 t
+counts_step s tries (Ask txn moment login) g q P u back t =
+    counts_ask tries txn moment login (reserve_of s ((view s P).numbers + 1) txn moment login) q (refuses (held_by ((view s P).standing txn)) (length (view s P).live) (view s P).numbers (length (view s P).waiting) moment login) g (view s P) back.0 u.0.0 t
 counts_step s tries (Close txn end) g q P u back t = counts_close s txn end g q (view s P) (held_by ((view s P).standing txn)) t
 counts_step s tries Drain g q P u back t = inr refl
 
@@ -102,18 +102,18 @@ held_each L H t n suits enough each = (let kept = L.kept H t (not_ended H t suit
 closing_count : (s : Source) (n t : ℕ) (k : Held) → is_settle (closing_of s n t ending.Commit k) ≡ true → count_of (closing_of s n t ending.Commit k) ≡ k.granted
 closing_count s n t k y = by_kind (nat_le 1 k.granted) y
   where
-    by_kind : (b : Bool) → is_settle (if b then Settle (id_of s n) t k.at k.login k.granted else Release (id_of s n) t k.at k.login) ≡ true → count_of (if b then Settle (id_of s n) t k.at k.login k.granted else Release (id_of s n) t k.at k.login) ≡ k.granted
+    by_kind : (b : Bool) → is_settle (if b then Settle (id_of s n) t k.moment k.login k.granted else Release (id_of s n) t k.moment k.login) ≡ true → count_of (if b then Settle (id_of s n) t k.moment k.login k.granted else Release (id_of s n) t k.moment k.login) ≡ k.granted
     by_kind true y = refl
     by_kind false y = absurd (clash false y refl)
 
 closing_settle : (s : Source) (n t : ℕ) (k : Held) → 0 < k.granted → is_settle (closing_of s n t ending.Commit k) ≡ true
 closing_settle s n t k some = let one : nat_le 1 k.granted ≡ true = grind (arith, nat_tests, some) in rw one refl
 
-settled_each : {day : ℕ → ℕ} {F : ℕ} → (s : Source) (tries : ℕ) (P : List Step) (H : List Entry) (sent written : List (List ℕ)) → OfLedgers → Holds day F s tries P H sent written → (t seq : ℕ) (k : Held) (e : Entry) → In e H → is_of (of_source s t) e.request ≡ true → is_settle e.request ≡ true
-    → SuitsUnder s t (Closed ending.Commit seq k) e.request → F ≤ day k.at → k.granted ≤ settled_in H (of_source s t)
-settled_each {day = day} {F = since} s tries P H sent written L h t seq k e i mine y u on = by_suits u.suits
+settled_each : {day : ℕ → ℕ} {F : ℕ} → (s : Source) (tries : ℕ) (P : List Step) (H : List Entry) (sent written : List (List ℕ)) → OfLedgers → Holds day F s tries P H sent written → (t number : ℕ) (k : Held) (e : Entry) → In e H → is_of (of_source s t) e.request ≡ true → is_settle e.request ≡ true
+    → SuitsUnder s t (Closed ending.Commit number k) e.request → F ≤ day k.moment → k.granted ≤ settled_in H (of_source s t)
+settled_each {day = day} {F = since} s tries P H sent written L h t number k e i mine y u on = by_suits u.suits
   where
-    by_suits : Suits s u.number t (Closed ending.Commit seq k) e.request → k.granted ≤ settled_in H (of_source s t)
+    by_suits : Suits s u.number t (Closed ending.Commit number k) e.request → k.granted ≤ settled_in H (of_source s t)
     by_suits (inl r) = absurd (clash (is_settle e.request) y (reserve_settle s u.number t k e.request r))
     by_suits (inr p) =
         let count : count_of e.request ≡ k.granted = ap count_of p.1 ∙ closing_count s u.number t k (sym (ap is_settle p.1) ∙ y) in
@@ -124,10 +124,10 @@ settled_each {day = day} {F = since} s tries P H sent written L h t seq k e i mi
         omega (arith, count, all, own)
 
 -- no settle of it has come: its entries are reserves
-unsettled : (s : Source) (t seq : ℕ) (k : Held) (e : Entry) → 0 < k.granted → is_of (of_source s t) e.request ≡ true → settles_it (of_source s t) e ≡ false → SuitsUnder s t (Closed ending.Commit seq k) e.request → is_closing e.request ≡ false
-unsettled s t seq k e some mine none u = by_suits u.suits
+unsettled : (s : Source) (t number : ℕ) (k : Held) (e : Entry) → 0 < k.granted → is_of (of_source s t) e.request ≡ true → settles_it (of_source s t) e ≡ false → SuitsUnder s t (Closed ending.Commit number k) e.request → is_closing e.request ≡ false
+unsettled s t number k e some mine none u = by_suits u.suits
   where
-    by_suits : Suits s u.number t (Closed ending.Commit seq k) e.request → is_closing e.request ≡ false
+    by_suits : Suits s u.number t (Closed ending.Commit number k) e.request → is_closing e.request ≡ false
     by_suits (inl r) = reserve_closes s u.number t k e.request r
     by_suits (inr p) =
         let y : is_settle e.request ≡ true = ap is_settle p.1 ∙ closing_settle s u.number t k some in
@@ -139,15 +139,15 @@ pub standing_each : {day : ℕ → ℕ} {F : ℕ} → (s : Source) (tries : ℕ)
 standing_each s tries P H sent written L suits h t Never on enough each = omega arith
 standing_each s tries P H sent written L suits h t (Live k) on enough each =
     held_each L H (of_source s t) k.granted suits enough (λ e i mine. (let u = each e i mine in reserve_closes s u.number t k e.request u.suits))
-standing_each s tries P H sent written L suits h t (Closed ending.Drop seq k) on enough each = omega arith
-standing_each s tries P H sent written L suits h t (Closed ending.Commit seq k) on enough each = elim (zero_or_more k.granted) [
+standing_each s tries P H sent written L suits h t (Closed ending.Rollback number k) on enough each = omega arith
+standing_each s tries P H sent written L suits h t (Closed ending.Commit number k) on enough each = elim (zero_or_more k.granted) [
   | inl z ↦ omega (arith, z)
   | inr some ↦ elim (either (list_any (settles_it (of_source s t)) H)) [
     | inl y ↦ (let f = any_found (settles_it (of_source s t)) H y in
         let mine = first_so (is_of (of_source s t) f.0.request) (is_settle f.0.request) f.1.so in
         let settles = second_so (is_of (of_source s t) f.0.request) (is_settle f.0.request) f.1.so in
-        let a = settled_each s tries P H sent written L h t seq k f.0 f.1.among mine settles (each f.0 f.1.among mine) on in omega (arith, a))
-    | inr m ↦ held_each L H (of_source s t) k.granted suits enough (λ e i mine. unsettled s t seq k e some mine (not_any (settles_it (of_source s t)) H m e i) (each e i mine))
+        let a = settled_each s tries P H sent written L h t number k f.0 f.1.among mine settles (each f.0 f.1.among mine) on in omega (arith, a))
+    | inr m ↦ held_each L H (of_source s t) k.granted suits enough (λ e i mine. unsettled s t number k e some mine (not_any (settles_it (of_source s t)) H m e i) (each e i mine))
   ]
 ]
 
@@ -156,11 +156,11 @@ standing_each s tries P H sent written L suits h t (Closed ending.Commit seq k) 
 suits_for : (day : ℕ → ℕ) (l : List ℕ) (d : ℕ) (s : Source) (n t : ℕ) (st : Standing) (q : Request) → Suits s n t st q → is_on day l d (counting st) ≡ true → is_for day l d q ≡ true
 suits_for day l d s n t Never q u on = absurd u
 suits_for day l d s n t (Live k) q u on = ap (is_for day l d) u ∙ on
-suits_for day l d s n t (Closed ending.Drop seq k) q u on = absurd (clash false on refl)
-suits_for day l d s n t (Closed ending.Commit seq k) q (inl r) on = ap (is_for day l d) r ∙ on
-suits_for day l d s n t (Closed ending.Commit seq k) q (inr p) on = ap (is_for day l d) p.1 ∙ by_kind (nat_le 1 k.granted)
+suits_for day l d s n t (Closed ending.Rollback number k) q u on = absurd (clash false on refl)
+suits_for day l d s n t (Closed ending.Commit number k) q (inl r) on = ap (is_for day l d) r ∙ on
+suits_for day l d s n t (Closed ending.Commit number k) q (inr p) on = ap (is_for day l d) p.1 ∙ by_kind (nat_le 1 k.granted)
   where
-    by_kind : (b : Bool) → is_for day l d (if b then Settle (id_of s n) t k.at k.login k.granted else Release (id_of s n) t k.at k.login) ≡ true
+    by_kind : (b : Bool) → is_for day l d (if b then Settle (id_of s n) t k.moment k.login k.granted else Release (id_of s n) t k.moment k.login) ≡ true
     by_kind true = on
     by_kind false = on
 
@@ -192,19 +192,19 @@ by_from st now n (inr same) le = (let e : let_by st ≡ let_by now = ap granted_
 
 -- ---- the day of what counts
 
-pub counting_at : (st : Standing) (h : Held) → counting st ≡ Some h → at_of st ≡ h.at
+pub counting_at : (st : Standing) (h : Held) → counting st ≡ Some h → at_of st ≡ h.moment
 counting_at Never h e = absurd (none_some h e)
-counting_at (Live k) h e = ap (λ (x : Held). x.at) (some_is k h e)
-counting_at (Closed ending.Commit seq k) h e = ap (λ (x : Held). x.at) (some_is k h e)
-counting_at (Closed ending.Drop seq k) h e = absurd (none_some h e)
+counting_at (Live k) h e = ap (λ (x : Held). x.moment) (some_is k h e)
+counting_at (Closed ending.Commit number k) h e = ap (λ (x : Held). x.moment) (some_is k h e)
+counting_at (Closed ending.Rollback number k) h e = absurd (none_some h e)
 
 pub on_at : (day : ℕ → ℕ) (l : List ℕ) (d : ℕ) (st : Standing) → is_on day l d (counting st) ≡ true → day (at_of st) ≡ d
 on_at day l d Never on = absurd (clash false on refl)
-on_at day l d (Live k) on = number_is (day k.at) d (second_so (same_text l k.login) (day k.at == d) on)
-on_at day l d (Closed ending.Commit seq k) on = number_is (day k.at) d (second_so (same_text l k.login) (day k.at == d) on)
-on_at day l d (Closed ending.Drop seq k) on = absurd (clash false on refl)
+on_at day l d (Live k) on = number_is (day k.moment) d (second_so (same_text l k.login) (day k.moment == d) on)
+on_at day l d (Closed ending.Commit number k) on = number_is (day k.moment) d (second_so (same_text l k.login) (day k.moment == d) on)
+on_at day l d (Closed ending.Rollback number k) on = absurd (clash false on refl)
 
 -- what counted before an exchange that is on its way
-pub counts_at : (st now : Standing) (n : ℕ) (h : Held) → Counts st now → counting st ≡ Some h → (at_of now ≡ h.at → let_by now ≤ n) → let_by st ≤ n
+pub counts_at : (st now : Standing) (n : ℕ) (h : Held) → Counts st now → counting st ≡ Some h → (at_of now ≡ h.moment → let_by now ≤ n) → let_by st ≤ n
 counts_at st now n h (inl z) is le = omega (arith, z)
 counts_at st now n h (inr same) is le = by_from st now n (inr same) (le (counting_at now h (sym same ∙ is)))

@@ -154,7 +154,7 @@ pub record WentOnThoughForgotten (site : Site) (start w : World) : Type 0 where
   pub asked : Held
   pub counts : counting (standing_of now transaction) ≡ Some asked
   pub is_one : asked.granted ≡ 1
-  pub is_first_day : day_of now.ledger.zone asked.at ≡ day
+  pub is_first_day : day_of now.ledger.zone asked.moment ≡ day
   pub request : Request
   pub taken_again : requests now.ledger.history ≡ request ∷ reserve ∷ []
 

@@ -21,7 +21,7 @@ standing_of w t = standing_in (w.runs (run_of t)).past t.txn
 abbrev pub counting : Standing → Option Held
 counting Never = None
 counting (Live h) = Some h
-counting (Closed end seq h) = if is_commit end then Some h else None
+counting (Closed end number h) = if is_commit end then Some h else None
 
 abbrev pub granted_of : Option Held → ℕ
 granted_of None = 0
@@ -33,7 +33,7 @@ let_by st = granted_of (counting st)
 
 abbrev pub is_on : (ℕ → ℕ) → List ℕ → ℕ → Option Held → Bool
 is_on day l d None = false
-is_on day l d (Some h) = same_text l h.login && (day h.at == d)
+is_on day l d (Some h) = same_text l h.login && (day h.moment == d)
 
 -- the same, where it is of that login and day
 abbrev pub let_on : (ℕ → ℕ) → List ℕ → ℕ → Standing → ℕ

@@ -18,7 +18,7 @@ ghost use Rattle.mq_client.specs.Numbered.{exchanges_in};
 ghost use Rattle.mq_client.specs.Filter.{Takes, push};
 ghost use Rattle.mq_client.specs.Run.{Outside, EndsWith, StopsAt};
 ghost use Rattle.mq_client.specs.declared.held.Held.{Held};
-ghost use Rattle.mq_client.specs.declared.faults.FilterFault.{FilterFault};
+ghost use Rattle.mq_client.specs.declared.fault.FilterFault.{FilterFault};
 ghost use Rattle.mq_client.specs.declared.filter.Ended.{Ended};
 ghost use Rattle.mq_world.specs.World.{Site, World, IsStart, Reaches, Next, with_run, with_sent, with_on_way, after_stop};
 ghost use Rattle.mq_world.specs.World.{MayCome};
@@ -76,7 +76,7 @@ pub fn never_past_the_limit_over_a_forgetting()
     // A start whose ledger has forgotten some days is a start.
     ensures start { (site : Site) (w : World) (D : ℕ) → IsStart site w → IsStart site (forgotten D w) }
     ensures one { (site : Site) (start w : World) (F : ℕ) → IsStart site start → ReachesForgetting site start F w →
-        (t : Transaction) (h : Held) → counting (standing_of w t) ≡ Some h → F ≤ day_of w.ledger.zone h.at →
+        (t : Transaction) (h : Held) → counting (standing_of w t) ≡ Some h → F ≤ day_of w.ledger.zone h.moment →
         let_by (standing_of w t) ≤ held w.ledger.history t + settled_in w.ledger.history t }
     ensures together { (site : Site) (start w : World) (F : ℕ) → IsStart site start →
         ReachesForgetting site start F w → (l : List ℕ) (d : ℕ) (ts : List Transaction) → AreDistinct ts → F ≤ d →

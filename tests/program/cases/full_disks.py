@@ -71,7 +71,7 @@ def says_why(checks, what, server, path):
     """After the line of the connection the log says which file it is, and what the system or the disk said."""
     log = apart("".join(f"{line}\n" for line in server.log_lines()))[0]
     cause = re.escape(f"[ERROR mq_program::store] {path}: ") + "(database or disk is full|disk I/O error)\n"
-    good = len(log) == 2 and log[0].startswith("[ERROR mq_room::") and log[0].endswith(": store failed\n") and re.fullmatch(cause, log[1])
+    good = len(log) == 2 and log[0].startswith("[ERROR mq_connections::") and log[0].endswith(": store failed\n") and re.fullmatch(cause, log[1])
     checks.holds(f"{what}: the log", good, "the connection, and the path with the cause", log)
 
 

@@ -157,7 +157,7 @@ def connections_in_turn(world, checks):
             checks.equal(f"{what}, of eight: what it is answered", read_all(peer).hex(), wanted)
             peer.close()
         checks.equal("eight peers: the server's status", server.status(), 0)
-        wanted = [f"[WARN  mq_room::room] connection of {name}: {end}" for name, (_, _, _, end) in zip(names, TURNS) if end]
+        wanted = [f"[WARN  mq_connections::room] connection of {name}: {end}" for name, (_, _, _, end) in zip(names, TURNS) if end]
         checks.equal("eight peers: the log", server.log_lines(), wanted)
 
 

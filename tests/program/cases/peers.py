@@ -253,7 +253,7 @@ def no_files_left(world, checks):
         checks.equal("a server that may open no file: the reply once it may", read_all(peer), NOTHING_USED)
         peer.close()
         lines = server.log_lines()[before:]
-        said = "[WARN  mq_room::accept] no connection accepted: Too many open files (os error 24); next attempt in {} ms"
+        said = "[WARN  mq_connections::accept] no connection accepted: Too many open files (os error 24); next attempt in {} ms"
         wanted = [said.format(min(10 * 2 ** place, 1_000)) for place in range(len(lines))]
         what = "a server that may open no file: a line for each attempt, with pauses that grow"
         checks.equal(what, (len(lines) >= 4, lines), (True, wanted))

@@ -137,20 +137,20 @@ fn add_numbered(
     alloc: Global,
     script: &mut VecDeque<Outcome>,
     front: &str,
-    seq: u32,
+    number: u32,
     count: u32,
 ) {
     let mut body = bytes_of(rt, alloc, front);
-    append(rt, &mut body, &seq.to_be_bytes());
+    append(rt, &mut body, &number.to_be_bytes());
     append(rt, &mut body, &count.to_be_bytes());
     add(rt, script, Outcome::Answered(Bytes::new(body)));
 }
 
 /// Adds the refusal of the request with that number, with 1 used of 1.
-fn add_full(rt: &impl Abort, alloc: Global, script: &mut VecDeque<Outcome>, seq: u32) {
+fn add_full(rt: &impl Abort, alloc: Global, script: &mut VecDeque<Outcome>, number: u32) {
     let mut body = bytes_of(rt, alloc, "82 036d7831 0000000000000001");
-    for number in [seq, 1, 1] {
-        append(rt, &mut body, &number.to_be_bytes());
+    for part in [number, 1, 1] {
+        append(rt, &mut body, &part.to_be_bytes());
     }
     add(rt, script, Outcome::Answered(Bytes::new(body)));
 }
@@ -163,18 +163,18 @@ fn add_reply(rt: &impl Abort, alloc: Global, script: &mut VecDeque<Outcome>, rep
         }
         Reply::Fault(fault) => add(rt, script, Outcome::Faulted(fault)),
         Reply::Transactions(last) => {
-            for seq in 1..=last {
-                add_numbered(rt, alloc, script, GRANT, seq, 1);
+            for number in 1..=last {
+                add_numbered(rt, alloc, script, GRANT, number, 1);
             }
         }
         Reply::Recipients(last) => {
-            for seq in 1..=last {
-                add_numbered(rt, alloc, script, GRANT, seq, seq);
+            for number in 1..=last {
+                add_numbered(rt, alloc, script, GRANT, number, number);
             }
         }
         Reply::Full(last) => {
-            for seq in 1..=last {
-                add_full(rt, alloc, script, seq);
+            for number in 1..=last {
+                add_full(rt, alloc, script, number);
             }
         }
     }

@@ -17,11 +17,11 @@ pub fn request_of(rt: &impl Abort, alloc: Global, body: &str) -> Request {
 }
 
 /// The number of a request of the host's first run.
-pub fn id(rt: &impl Abort, alloc: Global, host: &[u8], seq: u32) -> Id {
+pub fn id(rt: &impl Abort, alloc: Global, host: &[u8], number: u32) -> Id {
     Id {
         host: Host::from_slice(alloc, host).expect(rt, MEMORY),
         run: 1,
-        seq,
+        number,
     }
 }
 

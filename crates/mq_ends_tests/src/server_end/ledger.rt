@@ -11,22 +11,22 @@ use std::process::Abort;
 const CENTRAL_EUROPE: &str = "CET-1CEST,M3.5.0,M10.5.0/3";
 
 /// The day of a moment where clocks are so many minutes ahead of UTC.
-fn day_at(rt: &impl Abort, offset: i32, at: u64) -> u32
-    requires { IsMoment at }
+fn day_at(rt: &impl Abort, offset: i32, moment: u64) -> u32
+    requires { IsMoment moment }
 {
     Zone::of_offset(offset)
         .expect(rt, "an offset")
-        .day(at)
+        .day(moment)
         .expect(rt, "a day")
 }
 
 /// The day of a moment by a zone rule.
-fn day_by_rule(rt: &impl Abort, rule: &str, at: u64) -> u32
-    requires { IsMoment at }
+fn day_by_rule(rt: &impl Abort, rule: &str, moment: u64) -> u32
+    requires { IsMoment moment }
 {
     Zone::of_rule(rule)
         .expect(rt, "a rule")
-        .day(at)
+        .day(moment)
         .expect(rt, "a day")
 }
 

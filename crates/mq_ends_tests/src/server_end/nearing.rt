@@ -154,7 +154,7 @@ fn reserve(rt: &impl Abort, alloc: Global, name: &[u8], count: u32) -> Request {
     Request::Reserve {
         id: id(rt, alloc, b"a", 1),
         txn: 1,
-        at: 86_400,
+        moment: 86_400,
         login: login(rt, alloc, name),
         count,
     }

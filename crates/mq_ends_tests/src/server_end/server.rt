@@ -216,10 +216,10 @@ fn ten_thousand_frames(rt: HostRuntime) {
 
 /// What a ledger told that had no memory for its first call. The host is `a`, and the login `u`.
 const CALLS: &str = "[\
-    Told { request: Reserve { id: Id { host: [97], run: 1, seq: 1 }, txn: 1, at: 86400, login: [117], count: 1 }, \
+    Told { request: Reserve { id: Id { host: [97], run: 1, number: 1 }, txn: 1, moment: 86400, login: [117], count: 1 }, \
     answer: Err(Memory) }, \
-    Told { request: Reserve { id: Id { host: [97], run: 1, seq: 1 }, txn: 1, at: 86400, login: [117], count: 1 }, \
-    answer: Ok(Granted { id: Id { host: [97], run: 1, seq: 1 }, used: 1 }) }, \
+    Told { request: Reserve { id: Id { host: [97], run: 1, number: 1 }, txn: 1, moment: 86400, login: [117], count: 1 }, \
+    answer: Ok(Granted { id: Id { host: [97], run: 1, number: 1 }, used: 1 }) }, \
     Told { request: Usage { login: [117], day: 1 }, \
     answer: Ok(Usage { login: [117], day: 1, settled: 0, reserved: 1, cap: 3 }) }]";
 

@@ -37,18 +37,18 @@ impl PlainLedger {
         &self,
         id: &Id,
         txn: u32,
-        at: u64,
+        moment: u64,
         login: &Login,
         count: u32,
     ) -> Result<Reply, AllocError>
-        requires { IsRequest (Request.Reserve id.now txn at login.now count) }
+        requires { IsRequest (Request.Reserve id.now txn moment login.now count) }
         ensures { IfOk result (λ a. a ≡ answer (day_of self.now.zone) self.now.default self.now.history
-            (Request.Reserve id.now txn at login.now count)) }
+            (Request.Reserve id.now txn moment login.now count)) }
     {
-        if let Some(refused) = refusal(&self.entries, id, txn, at, login)? {
+        if let Some(refused) = refusal(&self.entries, id, txn, moment, login)? {
             return Ok(refused);
         }
-        let day = self.zone.day_at(at);
+        let day = self.zone.day_at(moment);
         let used = used(&self.entries, self.zone, login, day);
         let cap = cap(&self.entries, self.default, login, day);
         granted_or_full(id, used, cap, count)
@@ -58,14 +58,14 @@ impl PlainLedger {
         &self,
         id: &Id,
         txn: u32,
-        at: u64,
+        moment: u64,
         login: &Login,
         count: u32,
     ) -> Result<Reply, AllocError>
         ensures { IfOk result (λ a. a ≡ answer (day_of self.now.zone) self.now.default self.now.history
-            (Request.Settle id.now txn at login.now count)) }
+            (Request.Settle id.now txn moment login.now count)) }
     {
-        if let Some(refused) = refusal(&self.entries, id, txn, at, login)? {
+        if let Some(refused) = refusal(&self.entries, id, txn, moment, login)? {
             return Ok(refused);
         }
         let held = granted_in(&self.entries, id, txn);
@@ -82,11 +82,17 @@ impl PlainLedger {
         }
     }
 
-    fn answer_release(&self, id: &Id, txn: u32, at: u64, login: &Login) -> Result<Reply, AllocError>
+    fn answer_release(
+        &self,
+        id: &Id,
+        txn: u32,
+        moment: u64,
+        login: &Login,
+    ) -> Result<Reply, AllocError>
         ensures { IfOk result (λ a. a ≡ answer (day_of self.now.zone) self.now.default self.now.history
-            (Request.Release id.now txn at login.now)) }
+            (Request.Release id.now txn moment login.now)) }
     {
-        if let Some(refused) = refusal(&self.entries, id, txn, at, login)? {
+        if let Some(refused) = refusal(&self.entries, id, txn, moment, login)? {
             return Ok(refused);
         }
         Ok(Reply::Released {
@@ -161,18 +167,23 @@ impl PlainLedger {
             Request::Reserve {
                 id,
                 txn,
-                at,
+                moment,
                 login,
                 count,
-            } => self.answer_reserve(id, *txn, *at, login, *count),
+            } => self.answer_reserve(id, *txn, *moment, login, *count),
             Request::Settle {
                 id,
                 txn,
-                at,
+                moment,
                 login,
                 count,
-            } => self.answer_settle(id, *txn, *at, login, *count),
-            Request::Release { id, txn, at, login } => self.answer_release(id, *txn, *at, login),
+            } => self.answer_settle(id, *txn, *moment, login, *count),
+            Request::Release {
+                id,
+                txn,
+                moment,
+                login,
+            } => self.answer_release(id, *txn, *moment, login),
             Request::Limit {
                 id,
                 from_day,

@@ -20,7 +20,7 @@ fn day_from(entry: &Entry, zone: Zone, login: &Login, from: u32) -> Option<u32>
         (
             Request::Reserve {
                 login: other,
-                at,
+                moment,
                 ..
             },
             Reply::Granted { .. },
@@ -28,7 +28,7 @@ fn day_from(entry: &Entry, zone: Zone, login: &Login, from: u32) -> Option<u32>
         | (
             Request::Settle {
                 login: other,
-                at,
+                moment,
                 ..
             },
             Reply::Settled { .. },
@@ -36,7 +36,7 @@ fn day_from(entry: &Entry, zone: Zone, login: &Login, from: u32) -> Option<u32>
             if *login != *other {
                 return None;
             }
-            let day = zone.day_at(*at);
+            let day = zone.day_at(*moment);
             if from <= day { Some(day) } else { None }
         }
         _ => None,

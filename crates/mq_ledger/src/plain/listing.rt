@@ -28,8 +28,8 @@ fn login_on(entry: &Entry, zone: Zone, day: u32) -> Option<&Login>
     ensures { option_copied result ≡ login_on (day_of zone) day entry.now.request entry.now.reply }
 {
     match (&entry.request, &entry.reply) {
-        (Request::Reserve { at, login, .. }, Reply::Granted { .. }) => {
-            if zone.day_at(*at) == day {
+        (Request::Reserve { moment, login, .. }, Reply::Granted { .. }) => {
+            if zone.day_at(*moment) == day {
                 Some(login)
             } else {
                 None

@@ -36,25 +36,25 @@ fn is_of(request: &Request, id: &Id, txn: u32) -> bool
 }
 
 /// Whether the request is of that moment and login.
-fn is_at(request: &Request, at: u64, login: &Login) -> bool
-    ensures { result ≡ is_at at login.now request.now }
+fn is_at(request: &Request, moment: u64, login: &Login) -> bool
+    ensures { result ≡ is_at moment login.now request.now }
 {
     match request {
         Request::Reserve {
-            at: moment,
+            moment: begun,
             login: other,
             ..
         }
         | Request::Settle {
-            at: moment,
+            moment: begun,
             login: other,
             ..
         }
         | Request::Release {
-            at: moment,
+            moment: begun,
             login: other,
             ..
-        } => at == *moment && *login == *other,
+        } => moment == *begun && *login == *other,
         _ => false,
     }
 }
@@ -67,12 +67,12 @@ fn named<'a>(entries: &'a [Entry], id: &Id, txn: u32) -> Option<&'a Entry>
 }
 
 /// Whether the transaction has that moment and login, or no entry yet.
-fn agrees(entries: &[Entry], id: &Id, txn: u32, at: u64, login: &Login) -> bool
-    ensures { result ≡ agrees at login.now (named entries.now (transaction id.now txn)) }
+fn agrees(entries: &[Entry], id: &Id, txn: u32, moment: u64, login: &Login) -> bool
+    ensures { result ≡ agrees moment login.now (named entries.now (transaction id.now txn)) }
 {
     match named(entries, id, txn) {
         None => true,
-        Some(entry) => is_at(&entry.request, at, login),
+        Some(entry) => is_at(&entry.request, moment, login),
     }
 }
 
@@ -111,14 +111,14 @@ pub fn refusal(
     entries: &[Entry],
     id: &Id,
     txn: u32,
-    at: u64,
+    moment: u64,
     login: &Login,
 ) -> Result<Option<Reply>, AllocError>
     ensures { IfOk result (λ refused. MatchOption refused
-        (IsOpenTo at login.now entries.now (transaction id.now txn))
-        (λ reply. (a : AnyReply) → reply ≡ if_open entries.now id.now txn at login.now a)) }
+        (IsOpenTo moment login.now entries.now (transaction id.now txn))
+        (λ reply. (a : AnyReply) → reply ≡ if_open entries.now id.now txn moment login.now a)) }
 {
-    if !agrees(entries, id, txn, at, login) {
+    if !agrees(entries, id, txn, moment, login) {
         return Ok(Some(Reply::Mismatch { id: id.clone()? }));
     }
     if is_closed(entries, id, txn) {

@@ -18,14 +18,14 @@ fn concerns(request: &Request, zone: Zone, login: &Login, day: u32) -> bool
     match request {
         Request::Reserve {
             login: other,
-            at,
+            moment,
             ..
         }
         | Request::Settle {
             login: other,
-            at,
+            moment,
             ..
-        } => *login == *other && zone.day_at(*at) == day,
+        } => *login == *other && zone.day_at(*moment) == day,
         _ => false,
     }
 }

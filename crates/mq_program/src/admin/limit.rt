@@ -31,7 +31,7 @@ fn limit_request(
     requires login { NamesLogin given.login }
     requires run { IsRun run }
     ensures request { IfOk result (λ request. (login : List ℕ) × Names given.entry.login login × (request
-        ≡ Limit (record { host = given.entry.host.now; run = run; seq = 1 }) given.entry.from given.entry.cap login)) }
+        ≡ Limit (record { host = given.entry.host.now; run = run; number = 1 }) given.entry.from given.entry.cap login)) }
     ensures in_range { IfOk result IsLimit }
 {
     Ok(Request::Limit {

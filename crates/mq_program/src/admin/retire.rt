@@ -21,7 +21,7 @@ use std::rt::Clock;
 
 /// The request that gives up the runs of a host below this one, the first of its run.
 fn retire_request(alloc: Global, host: &str, run: u64) -> Result<Request, AllocError>
-    ensures { IfOk result (λ request. request ≡ Retire (record { host = host.now; run = run; seq = 1 })) }
+    ensures { IfOk result (λ request. request ≡ Retire (record { host = host.now; run = run; number = 1 })) }
 {
     Ok(Request::Retire {
         id: first_id(alloc, host, run)?,

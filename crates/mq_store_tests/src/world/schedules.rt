@@ -75,11 +75,11 @@ fn reserve<L: Ledger + Drop>(
     open: &Open,
 ) -> Option<bool> {
     let login = LOGINS[(open.login % 2) as usize];
-    let at = MOMENTS[(open.moment % 4) as usize];
-    if open.txn < 1 || !is_login(login) || !is_moment(at) {
+    let moment = MOMENTS[(open.moment % 4) as usize];
+    if open.txn < 1 || !is_login(login) || !is_moment(moment) {
         return Some(false);
     }
-    match client.reserve(&Discard, link, open.txn, at, login) {
+    match client.reserve(&Discard, link, open.txn, moment, login) {
         Ok(asked) => Some(asked == Asked::Granted),
         Err(_) => None,
     }
@@ -158,7 +158,7 @@ impl Sender {
         let open = self.open.swap_remove(place);
         let end = if link.dice.below(3) == 0 {
             subtract(&mut link.let_through, open.place(), open.let_through);
-            CloseEnd::Drop
+            CloseEnd::Rollback
         } else {
             CloseEnd::Commit
         };
@@ -187,7 +187,7 @@ fn id_of_others(alloc: Global, dice: &mut Dice) -> Option<Id> {
         Ok(host) => Some(Id {
             host,
             run: 1,
-            seq: dice.from_one(30),
+            number: dice.from_one(30),
         }),
         Err(_) => None,
     }
@@ -210,7 +210,7 @@ fn request_of_others(alloc: Global, dice: &mut Dice) -> Option<Request> {
 
 /// A request of any kind that has a number.
 fn any_request(dice: &mut Dice, id: Id, login: Login) -> Request {
-    let at = MOMENTS[(dice.below(4) % 4) as usize];
+    let moment = MOMENTS[(dice.below(4) % 4) as usize];
     let txn = dice.from_one(5);
     let count = dice.from_one(2);
     match dice.below(6) {
@@ -220,18 +220,23 @@ fn any_request(dice: &mut Dice, id: Id, login: Login) -> Request {
             cap: dice.below(9),
             login,
         },
-        1 => Request::Release { id, txn, at, login },
+        1 => Request::Release {
+            id,
+            txn,
+            moment,
+            login,
+        },
         2 => Request::Settle {
             id,
             txn,
-            at,
+            moment,
             login,
             count,
         },
         _ => Request::Reserve {
             id,
             txn,
-            at,
+            moment,
             login,
             count,
         },
@@ -256,7 +261,7 @@ fn id_beside(alloc: Global, dice: &mut Dice, sender: &Sender) -> Option<Id> {
         Ok(host) => Some(Id {
             host,
             run,
-            seq: dice.from_one(3),
+            number: dice.from_one(3),
         }),
         Err(_) => None,
     }

@@ -28,7 +28,7 @@ unfolding everything
 is_insert = record { parsed = refl; insert = record { name = _; columns = _; rows = _; statement = refl; timeless = refl }; named = refl; rows = λ s tree. refl; whole = λ params. refl; uncounted = refl; formats = refl; timeless = λ params. append-nil params }
 
 row_is : (old new : State) (a : AnswerRecord) (tree : ℕ) (place : IsAnswerIn old.now.schema tree) → new_row append_text shape is_insert (answer_params a) old new tree place.at place.named place.there ≡ answer_fields a
-row_is old new a tree place = rw (cast_int (pos a.n), cast_null, cast_int (pos a.id.run), cast_int (pos a.id.seq)) refl
+row_is old new a tree place = rw (cast_int (pos a.n), cast_null, cast_int (pos a.id.run), cast_int (pos a.id.number)) refl
 
 pub appends : (old new : State) (a : AnswerRecord) (r : Result ℕ Error) → ExecutesInside 0 append_text (answer_params a) old new r → OnOk r (IsTrue new.in_transaction) × OnOk r (Appends a old new)
 appends old new a (Err e) h = (tt, tt)

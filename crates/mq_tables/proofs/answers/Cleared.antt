@@ -68,10 +68,10 @@ same_record a b e =
     let n : a.n ≡ b.n = cc in
     let host : a.id.host ≡ b.id.host = cc in
     let run : a.id.run ≡ b.id.run = cc in
-    let seq : a.id.seq ≡ b.id.seq = cc in
+    let number : a.id.number ≡ b.id.number = cc in
     let request : a.request ≡ b.request = cc in
     let reply : a.reply ≡ b.reply = cc in
-    λ i. record { n = n i; id = record { host = host i; run = run i; seq = seq i }; request = request i; reply = reply i }
+    λ i. record { n = n i; id = record { host = host i; run = run i; number = number i }; request = request i; reply = reply i }
 
 module _ (passes : AnswerRecord → Bool) where
   abbrev next : AnswerRecord → AnswerRecord

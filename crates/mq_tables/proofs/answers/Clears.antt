@@ -118,7 +118,7 @@ module _ (old new : state.State) (n : ℕ) (t : ℕ) (place' : IsAnswerIn old.no
   table = in_tree shape t
 
   cast_is : (a : AnswerRecord) → cast_row table (answer_fields (without_reply a)) ≡ answer_fields (without_reply a)
-  cast_is a = rw (cast_int (pos a.n), cast_null, cast_int (pos a.id.run), cast_int (pos a.id.seq)) refl
+  cast_is a = rw (cast_int (pos a.n), cast_null, cast_int (pos a.id.run), cast_int (pos a.id.number)) refl
 
   clears : Updated old.now.schema table (tests_in shape) shape.row (clear_params n) old new → (answers : List AnswerRecord) → HoldsAnswers (old.now.trees t) answers
       → HoldsAnswers (new.now.trees t) (cleared_where (passes n) answers)

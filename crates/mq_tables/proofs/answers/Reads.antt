@@ -51,18 +51,18 @@ module _ (id : Id) where
   is_of a = same_id id a.id
 
   decides : (r : AnswerRecord) → whole_pass answer_fields answer_text answer_shape answer_select answer_accepted (id_key id) r ≡ is_of r
-  decides r = rw (text_test r.id.host id.host, nat_test r.id.run id.run, nat_test r.id.seq id.seq) (ap (λ b. same_text id.host r.id.host && b) (ap (λ b. (id.run == r.id.run) && b) (and-true (id.seq == r.id.seq))))
+  decides r = rw (text_test r.id.host id.host, nat_test r.id.run id.run, nat_test r.id.number id.number) (ap (λ b. same_text id.host r.id.host && b) (ap (λ b. (id.run == r.id.run) && b) (and-true (id.number == r.id.number))))
 
   pub found_all : (old new : State) (outcome : Result (Vec Row Global) Error) → IfOk outcome (λ rows. Shown answer_text (id_key id) old new rows.items)
       → IfOk outcome (λ rows. (t : Tables) → HasLedger old.now t → IsPermutation (map bodies_row (filter is_of t.answers)) rows.items)
   found_all old new =
       finds_each answer_fields answer_text answer_shape answer_select answer_accepted (id_key id) old new is_of decides refl (λ t. t.answers) (HasLedger old.now) (λ t l. (l.at.answer, l.tables.answer, l.holds.answers.rows))
 
-  keyed_so : (a : AnswerRecord) → is_of a ≡ true → (id.host ≡ a.id.host) × (id.run ≡ a.id.run) × (id.seq ≡ a.id.seq)
+  keyed_so : (a : AnswerRecord) → is_of a ≡ true → (id.host ≡ a.id.host) × (id.run ≡ a.id.run) × (id.number ≡ a.id.number)
   keyed_so a hit =
       let both = and_parts _ _ hit in
       let rest = and_parts _ _ both.1 in
-      ((slice_eq-Decides unsigned_Decides id.host a.id.host _ refl).0 both.0, (unsigned_Decides id.run a.id.run).0 rest.0, (unsigned_Decides id.seq a.id.seq).0 rest.1)
+      ((slice_eq-Decides unsigned_Decides id.host a.id.host _ refl).0 both.0, (unsigned_Decides id.run a.id.run).0 rest.0, (unsigned_Decides id.number a.id.number).0 rest.1)
 
   pub is_it : (row : Row) (u v : AnswerRecord) → IsAnswerShown id row u → is_of v ≡ true → row ≡ bodies_row v → v ≡ u
   is_it row u v shown hit is =
@@ -70,5 +70,5 @@ module _ (id : Id) where
       let n : v.n ≡ u.n = int_same (sym (ap (λ r. column r 0) is) ∙ shown.n) in
       let request : v.request ≡ u.request = blob_same (sym (ap (λ r. column r 1) is) ∙ shown.request) in
       let reply : v.reply ≡ u.reply = blob_same (sym (ap (λ r. column r 2) is) ∙ shown.reply) in
-      let same : v.id ≡ u.id = (λ i. record { host = sym key.0 i; run = sym key.1 i; seq = sym key.2 i }) ∙ sym shown.id in
+      let same : v.id ≡ u.id = (λ i. record { host = sym key.0 i; run = sym key.1 i; number = sym key.2 i }) ∙ sym shown.id in
       λ i. record { n = n i; id = same i; request = request i; reply = reply i }

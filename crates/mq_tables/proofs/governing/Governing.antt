@@ -17,13 +17,13 @@ use Rattle.sqlite_trees.proofs.ListLemmas.{all_weaker}
 use Rattle.sqlite_value.proofs.OrderLemmas.{value_cmp-Int}
 use Rattle.sqlite_rules.specs.Lists.{Has}
 use Rattle.mq_frame.specs.Same.{same_text}
-use Rattle.mq_rows.specs.declared.record.CeilingRecord.{CeilingRecord}
+use Rattle.mq_rows.specs.declared.record.LimitRecord.{LimitRecord}
 use Rattle.mq_rows.specs.Found.{is_due, IsGoverning}
 use Rattle.mq_rows.specs.Tables.{Tables}
-use Rattle.mq_tables.specs.Governing.{limit_row, IsGoverningShown, IsCeilingShown, IsFirstCeiling}
+use Rattle.mq_tables.specs.Governing.{limit_row, IsGoverningShown, IsLimitShown, IsFirstLimit}
 use Rattle.mq_tables.specs.Ledger.{HasLedger}
 use Rattle.mq_tables.specs.Lent.{key_params}
-use Rattle.mq_tables.specs.Records.{ceiling_fields}
+use Rattle.mq_tables.specs.Records.{limit_fields}
 use Rattle.mq_tables.specs.Tables.{ceiling_table}
 use Rattle.mq_tables.proofs.Finds.{int_same}
 use Rattle.mq_tables.proofs.Firsts as firsts
@@ -77,19 +77,19 @@ module _ (login : List ℕ) (day : ℕ) where
   abbrev params : Row
   params = key_params login day
 
-  decides : (c : CeilingRecord) → pass ceiling_fields latest_text latest_shape latest_select latest_accepted refl params c ≡ is_due login day c
+  decides : (c : LimitRecord) → pass limit_fields latest_text latest_shape latest_select latest_accepted refl params c ≡ is_due login day c
   decides c = rw (text_test c.login login, until_test c.day day) (ap (λ b. same_text login c.login && b) (and-true (nat_le c.day day)))
 
-  abbrev IsFirst : ℕ → List CeilingRecord → List Row → Type 0
-  IsFirst = firsts.IsFirstRow ceiling_fields (filter_in latest_shape) (shown_in latest_shape) params (order_by None latest)
+  abbrev IsFirst : ℕ → List LimitRecord → List Row → Type 0
+  IsFirst = firsts.IsFirstRow limit_fields (filter_in latest_shape) (shown_in latest_shape) params (order_by None latest)
 
-  abbrev out : CeilingRecord → Row × Row
-  out c = firsts.out ceiling_fields (filter_in latest_shape) (shown_in latest_shape) params (order_by None latest) c
+  abbrev out : LimitRecord → Row × Row
+  out c = firsts.out limit_fields (filter_in latest_shape) (shown_in latest_shape) params (order_by None latest) c
 
-  ordered : (t : ℕ) (c other : CeilingRecord) → firsts.before ceiling_fields (filter_in latest_shape) (shown_in latest_shape) params (order_by None latest) t (out other) (out c) ≡ is_lt (int_cmp (pos c.day) (pos other.day))
+  ordered : (t : ℕ) (c other : LimitRecord) → firsts.before limit_fields (filter_in latest_shape) (shown_in latest_shape) params (order_by None latest) t (out other) (out c) ≡ is_lt (int_cmp (pos c.day) (pos other.day))
   ordered t c other = rw (value_cmp-Int (pos c.day) (pos other.day)) (then_nothing (int_cmp (pos c.day) (pos other.day)))
 
-  governing : (t : ℕ) (all : List CeilingRecord) (rows : List Row) → IsFirst t all rows → IsGoverningShown login day all rows
+  governing : (t : ℕ) (all : List LimitRecord) (rows : List Row) → IsFirst t all rows → IsGoverningShown login day all rows
   governing t all [] none = all_weaker _ (λ c. is_due login day c ≡ false) (λ c free. sym (decides c) ∙ free) all none
   governing t all (row ∷ more) (c, it, is) = (
     c,
@@ -102,23 +102,23 @@ module _ (login : List ℕ) (day : ℕ) where
   )
 
   pub found_governing : (old new : State) (outcome : Result (Vec Row Global) Error) → IfOk outcome (λ rows. Shown latest_text (key_params login day) old new rows.items)
-      → IfOk outcome (λ rows. (t : Tables) → HasLedger old.now t → IsGoverningShown login day t.ceilings rows.items)
+      → IfOk outcome (λ rows. (t : Tables) → HasLedger old.now t → IsGoverningShown login day t.limits rows.items)
   found_governing old new (Ok rows) h = λ t l.
-      governing l.at.ceiling t.ceilings rows.items (shows_first ceiling_fields latest_text latest_shape latest_select latest_accepted refl params old new l.at.ceiling l.tables.ceiling rows.items h t.ceilings latest refl l.holds.ceilings)
+      governing l.at.ceiling t.limits rows.items (shows_first limit_fields latest_text latest_shape latest_select latest_accepted refl params old new l.at.ceiling l.tables.ceiling rows.items h t.limits latest refl l.holds.limits)
   found_governing old new (Err e) h = tt
 
   -- the row shows that limit, whose login is known
-  pub limit_is : (row : Row) (u v : CeilingRecord) → IsCeilingShown login row u → login ≡ v.login → row ≡ limit_row v → v ≡ u
+  pub limit_is : (row : Row) (u v : LimitRecord) → IsLimitShown login row u → login ≡ v.login → row ≡ limit_row v → v ≡ u
   limit_is row u v shown key is =
       let day' : v.day ≡ u.day = int_same (sym (ap (λ r. column r 0) is) ∙ shown.day) in
       let cap : v.cap ≡ u.cap = int_same (sym (ap (λ r. column r 1) is) ∙ shown.cap) in
       λ i. record { login = (sym key ∙ sym shown.login) i; day = day' i; cap = cap i }
 
   -- what is due where the first row shows it
-  due_login : (c : CeilingRecord) → is_due login day c ≡ true → login ≡ c.login
+  due_login : (c : LimitRecord) → is_due login day c ≡ true → login ≡ c.login
   due_login c hit = (slice_eq-Decides unsigned_Decides login c.login _ refl).0 (and_parts _ _ hit).0
 
-  governing_so : (all : List CeilingRecord) (rows : List Row) (found : Option CeilingRecord) → IsGoverningShown login day all rows → IsFirstCeiling login rows found → IsGoverning login day all found
+  governing_so : (all : List LimitRecord) (rows : List Row) (found : Option LimitRecord) → IsGoverningShown login day all rows → IsFirstLimit login rows found → IsGoverning login day all found
   governing_so all [] None shown first = shown
   governing_so all (row ∷ more) None shown first = absurd cc
   governing_so all [] (Some u) shown first = absurd (let e = first.2 in cc)
@@ -127,7 +127,7 @@ module _ (login : List ℕ) (day : ℕ) where
       let same = limit_is r u c shown (due_login c it.1) (head ∙ is) in
       subst (λ x. IsGoverning login day all (Some x)) same it
 
-  pub governing_after : (Held : Tables → Type 0) (rows : List Row) (outcome : Result (Option CeilingRecord) Error) → ((t : Tables) → Held t → IsGoverningShown login day t.ceilings rows)
-      → IfOk outcome (IsFirstCeiling login rows) → IfOk outcome (λ found. (t : Tables) → Held t → IsGoverning login day t.ceilings found)
-  governing_after Held rows (Ok found) shown first = λ t l. governing_so t.ceilings rows found (shown t l) first
+  pub governing_after : (Held : Tables → Type 0) (rows : List Row) (outcome : Result (Option LimitRecord) Error) → ((t : Tables) → Held t → IsGoverningShown login day t.limits rows)
+      → IfOk outcome (IsFirstLimit login rows) → IfOk outcome (λ found. (t : Tables) → Held t → IsGoverning login day t.limits found)
+  governing_after Held rows (Ok found) shown first = λ t l. governing_so t.limits rows found (shown t l) first
   governing_after Held rows (Err e) shown first = tt

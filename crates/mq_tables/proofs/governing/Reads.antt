@@ -14,13 +14,13 @@ use Rattle.std.proofs.Math.Bool.{and-true}
 use Rattle.std.proofs.lemmas.Bool.{and_parts}
 use Rattle.std.proofs.lemmas.Slice.Eq.{slice_eq-Decides}
 use Rattle.mq_frame.specs.Same.{same_text}
-use Rattle.mq_rows.specs.declared.record.CeilingRecord.{CeilingRecord}
-use Rattle.mq_rows.specs.Rows.{is_ceiling}
+use Rattle.mq_rows.specs.declared.record.LimitRecord.{LimitRecord}
+use Rattle.mq_rows.specs.Rows.{is_limit}
 use Rattle.mq_rows.specs.Tables.{Tables}
-use Rattle.mq_tables.specs.Governing.{limit_row, IsCeilingShown}
+use Rattle.mq_tables.specs.Governing.{limit_row, IsLimitShown}
 use Rattle.mq_tables.specs.Ledger.{HasLedger}
 use Rattle.mq_tables.specs.Lent.{key_params}
-use Rattle.mq_tables.specs.Records.{ceiling_fields}
+use Rattle.mq_tables.specs.Records.{limit_fields}
 use Rattle.mq_tables.specs.Tables.{ceiling_table}
 use Rattle.mq_tables.proofs.governing.Governing.{limit_is}
 use Rattle.mq_tables.proofs.SelectShape.{SelectShape, IsSelect, IsAccepted}
@@ -48,16 +48,16 @@ ceiling_accepted : IsAccepted ceiling_shape
 ceiling_accepted s t low found = rw (low, found)
 
 module _ (login : List ℕ) (day : ℕ) where
-  decides : (c : CeilingRecord) → pass ceiling_fields ceiling_text ceiling_shape ceiling_select ceiling_accepted refl (key_params login day) c ≡ is_ceiling login day c
+  decides : (c : LimitRecord) → pass limit_fields ceiling_text ceiling_shape ceiling_select ceiling_accepted refl (key_params login day) c ≡ is_limit login day c
   decides c = rw (text_test c.login login, day_test c.day day) (ap (λ b. same_text login c.login && b) (and-true (c.day == day)))
 
   pub found_all : (old new : State) (outcome : Result (Vec Row Global) Error) → IfOk outcome (λ rows. Shown ceiling_text (key_params login day) old new rows.items)
-      → IfOk outcome (λ rows. (t : Tables) → HasLedger old.now t → IsPermutation (map limit_row (filter (is_ceiling login day) t.ceilings)) rows.items)
+      → IfOk outcome (λ rows. (t : Tables) → HasLedger old.now t → IsPermutation (map limit_row (filter (is_limit login day) t.limits)) rows.items)
   found_all old new =
-      finds_all ceiling_fields ceiling_text ceiling_shape ceiling_select ceiling_accepted refl (key_params login day) old new (is_ceiling login day) decides refl (λ t. t.ceilings) (HasLedger old.now) (λ t l. (l.at.ceiling, l.tables.ceiling, l.holds.ceilings.same))
+      finds_all limit_fields ceiling_text ceiling_shape ceiling_select ceiling_accepted refl (key_params login day) old new (is_limit login day) decides refl (λ t. t.limits) (HasLedger old.now) (λ t l. (l.at.ceiling, l.tables.ceiling, l.holds.limits.same))
 
-  keyed : (c : CeilingRecord) → is_ceiling login day c ≡ true → login ≡ c.login
+  keyed : (c : LimitRecord) → is_limit login day c ≡ true → login ≡ c.login
   keyed c hit = (slice_eq-Decides unsigned_Decides login c.login _ refl).0 (and_parts _ _ hit).0
 
-  pub is_it : (row : Row) (u v : CeilingRecord) → IsCeilingShown login row u → is_ceiling login day v ≡ true → row ≡ limit_row v → v ≡ u
+  pub is_it : (row : Row) (u v : LimitRecord) → IsLimitShown login row u → is_limit login day v ≡ true → row ≡ limit_row v → v ≡ u
   is_it row u v shown hit is = limit_is login day row u v shown (keyed v hit) is

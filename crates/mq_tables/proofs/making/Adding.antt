@@ -16,7 +16,7 @@ use Rattle.mq_rows.specs.Tables.{Tables}
 use Rattle.mq_tables.specs.Tables.{setting_table, answer_table, trans_table, usage_table, ceiling_table, rule_table, retired_table}
 use Rattle.mq_tables.specs.Settings.{rule_rows}
 use Rattle.mq_tables.specs.Places.{IsTableIn, IsUnreferred, IsUnnamed, is_tree, refers}
-use Rattle.mq_tables.specs.Records.{retired_fields, HoldsAnswers, HoldsTransactions, HoldsUsage, HoldsCeilings, HoldsRetired}
+use Rattle.mq_tables.specs.Records.{retired_fields, HoldsAnswers, HoldsTransactions, HoldsUsage, HoldsLimits, HoldsRetired}
 use Rattle.mq_tables.specs.Ledger.{IsThere, HasRule, HasFloors, HasNoFloors, Since, HasLedger}
 use Rattle.mq_tables.specs.Written.{Created}
 use Rattle.mq_tables.specs.Making.{Makes}
@@ -117,7 +117,7 @@ module _ (old new : State) (t : Table) (none : t.references ≡ []) (it : Create
       answers = subst (λ rs. HoldsAnswers rs rows.answers) (sym (same_rows answer_table _ l.tables.answer)) l.holds.answers;
       transactions = subst (λ rs. HoldsTransactions rs rows.transactions) (sym (same_rows trans_table _ l.tables.trans)) l.holds.transactions;
       usage = subst (λ rs. HoldsUsage rs rows.usage) (sym (same_rows usage_table _ l.tables.usage)) l.holds.usage;
-      ceilings = subst (λ rs. HoldsCeilings rs rows.ceilings) (sym (same_rows ceiling_table _ l.tables.ceiling)) l.holds.ceilings;
+      limits = subst (λ rs. HoldsLimits rs rows.limits) (sym (same_rows ceiling_table _ l.tables.ceiling)) l.holds.limits;
     };
     later = record {
       rule = since _ _ _ _ (nat_le 2 rows.setting.version) (rule_stays rows) (λ none. none) l.later.rule;

@@ -142,7 +142,7 @@ module _ (made_with : NewSetting) (old new : Database) (sound : IsDatabase new) 
     sound = sound;
     at = _;
     tables = ledger_in unnamed;
-    holds = record { setting = row; answers = record { rows = empty.0; numbered = tt }; transactions = holds_none _ _ empty.1.0; usage = holds_none _ _ empty.1.1.0; ceilings = holds_none _ _ empty.1.1.1.0 };
+    holds = record { setting = row; answers = record { rows = empty.0; numbered = tt }; transactions = holds_none _ _ empty.1.0; usage = holds_none _ _ empty.1.1.0; limits = holds_none _ _ empty.1.1.1.0 };
     later = record {
       rule = record { tree = next_tree s5; table = rule_place; holds = empty.1.1.1.1.0 };
       retired = record {

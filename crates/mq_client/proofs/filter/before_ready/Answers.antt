@@ -2,7 +2,7 @@ use Rattle.std.proofs.Common.{◌++◌, ◌∷◌, [], refl, sym, inr, None}
 use Rattle.mq_line.specs.Grammar.{meaning}
 use Rattle.mq_client.specs.Loop.{IsAt}
 use Rattle.mq_client.specs.Run.{Stage, IsAtWork}
-use Rattle.mq_client.specs.declared.faults.FilterFault.TheVariants as at
+use Rattle.mq_client.specs.declared.fault.FilterFault.TheVariants as faults
 use Rattle.mq_client.proofs.Looping.{carries_early, carries_ready, at_before, Does-still, stops_within, cut_found, cut_in_hand, first_of}
 use Rattle.mq_client.proofs.Telling.{Tells-none}
 use Rattle.mq_client.proofs.filter.before_ready.Goals as goal
@@ -15,7 +15,7 @@ returns-in-Ok-clause-ok g c = λ told client. carries_ready (meaning c.args.line
 
 pub returns-in-TooEarly-clause-fault : goal.returns-in-TooEarly-clause-fault
 returns-in-TooEarly-clause-fault g c = λ told client o pieces line rest source read_failed one reads s.
-    stops_within o pieces (line ++ 10 ∷ rest) c.args.filter.now source _ _ read_failed _ at.NotReady None [] [] s (Does-still _)
+    stops_within o pieces (line ++ 10 ∷ rest) c.args.filter.now source _ _ read_failed _ faults.NotReady None [] [] s (Does-still _)
     (λ stage a. (meaning c.args.line.now, line, at_before c.args.filter.now stage c.requires a, first_of line rest one, reads, c.in-TooEarly.ensures))
     (λ stage a. (refl, refl))
     (λ stage a e. absurd (cc (e)))

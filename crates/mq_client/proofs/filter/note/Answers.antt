@@ -5,7 +5,7 @@ use Rattle.mq_track.specs.Sessions.{fault}
 use Rattle.mq_track.specs.declared.closing.Closing.{Closing}
 use Rattle.mq_client.specs.Filter.{Closes}
 use Rattle.mq_client.specs.Loop.{IsRefused}
-use Rattle.mq_client.specs.declared.faults.FilterFault.{FilterFault}
+use Rattle.mq_client.specs.declared.fault.FilterFault.{FilterFault}
 use Rattle.mq_client.proofs.Looping.{accepted}
 use Rattle.mq_client.proofs.Refusing.{refused, may_by_closing, closing_refused}
 use Rattle.mq_client.proofs.filter.note.Goals as goal

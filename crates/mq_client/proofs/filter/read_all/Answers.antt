@@ -2,7 +2,7 @@ use Rattle.std.proofs.Common.{◌≡◌, ◌≤◌, ◌<◌, ◌∷◌, [], ◌+
 use Rattle.std.proofs.lemmas.List.{length-take-le}
 use Rattle.std.specs.List.{concat}
 use Rattle.std.specs.Io.KnownBytes.{IsAtEnd}
-use Rattle.mq_client.specs.declared.faults.FilterFault.TheVariants as at
+use Rattle.mq_client.specs.declared.fault.FilterFault.TheVariants as faults
 use Rattle.mq_client.proofs.Looping.{Does-still, stops, so_far_start, so_far_fed, so_far_none, is_line_none}
 use Rattle.mq_client.proofs.Supplying.{supplied_start, supplied_more, consumes_kept}
 use Rattle.mq_client.proofs.filter.read_all.Goals as goal
@@ -27,7 +27,7 @@ returns-in-Err-clause-fault g c =
     let few : length i.pieces < 1099511627776 = omega (arith, i.reads) in (
       i.pieces ++ [] ∷ [],
       supplied_more _ _ _ i.pieces [] i.supplied (consumes_kept _ _ c.in-Err.ensures.bytes) c.in-Err.ensures.told (omega arith) few,
-      stops _ (i.pieces ++ [] ∷ []) c.loop-read.feed.rest c.loop-read.filter _ _ _ _ _ at.Read None [] []
+      stops _ (i.pieces ++ [] ∷ []) c.loop-read.feed.rest c.loop-read.filter _ _ _ _ _ faults.Read None [] []
           (so_far_none _ i.pieces [] c.loop-read.feed.rest c.loop-read.filter _ refl i.so_far) (Does-still _)
           (λ stage a. (i.held, inl (c.in-Err.ensures.failed)))
           (λ stage a. (refl, refl)),
@@ -46,7 +46,7 @@ returns-in-Err-feed-clause-fault g c =
     let few : length i.pieces < 1099511627776 = omega (arith, i.reads) in (
       i.pieces ++ piece ∷ [],
       supplied_more _ _ _ i.pieces piece i.supplied c.in-Ok.ensures.bytes.0 c.in-Ok.ensures.told short few,
-      stops _ (i.pieces ++ piece ∷ []) (c.loop-read.feed.rest ++ piece) c.loop-read.filter _ _ _ _ _ at.Memory None [] []
+      stops _ (i.pieces ++ piece ∷ []) (c.loop-read.feed.rest ++ piece) c.loop-read.filter _ _ _ _ _ faults.Memory None [] []
           (so_far_fed _ i.pieces c.loop-read.feed.rest (c.loop-read.feed.rest ++ piece) piece c.loop-read.filter _ refl i.so_far) (Does-still _)
           (λ stage a. inl (record { before = i.pieces; piece = piece; held = c.loop-read.feed.rest; last = refl; whole = refl; is_line = i.held; some = some }))
           (λ stage a. inl (refl, refl)),
@@ -101,7 +101,7 @@ returns-clause-fault g c =
     let all : length i.pieces ≡ 1099511627776 = omega (arith, i.reads) in (
       i.pieces,
       i.supplied,
-      stops _ i.pieces c.loop-read.feed.rest c.loop-read.filter _ _ _ _ _ at.Read None [] [] i.so_far (Does-still _)
+      stops _ i.pieces c.loop-read.feed.rest c.loop-read.filter _ _ _ _ _ faults.Read None [] [] i.so_far (Does-still _)
           (λ stage a. (i.held, inr all))
           (λ stage a. (refl, refl)),
     )
@@ -170,10 +170,10 @@ pub returns-in-Err-feed-clause-source_works : goal.returns-in-Err-feed-clause-so
 returns-in-Err-feed-clause-source_works g c = λ works differs. c.in-Ok.ensures.failed
 
 pub returns-in-Err-take_lines-clause-sink_works : goal.returns-in-Err-take_lines-clause-sink_works
-returns-in-Err-take_lines-clause-sink_works g c = λ works differs. c.in-Err-take_lines.ensures.works (c.loop-read.invariant.sink_works works) (λ same. let fault : c.in-Err-take_lines.fault ≡ at.Write = cc (same) in differs (ap Err fault))
+returns-in-Err-take_lines-clause-sink_works g c = λ works differs. c.in-Err-take_lines.ensures.works (c.loop-read.invariant.sink_works works) (λ same. let fault : c.in-Err-take_lines.fault ≡ faults.Write = cc (same) in differs (ap Err fault))
 
 pub returns-in-Err-take_lines-clause-flushed : goal.returns-in-Err-take_lines-clause-flushed
-returns-in-Err-take_lines-clause-flushed g c = λ flushed differs. c.in-Err-take_lines.ensures.flushed (c.loop-read.invariant.flushed flushed) (λ same. let fault : c.in-Err-take_lines.fault ≡ at.Write = cc (same) in differs (ap Err fault))
+returns-in-Err-take_lines-clause-flushed g c = λ flushed differs. c.in-Err-take_lines.ensures.flushed (c.loop-read.invariant.flushed flushed) (λ same. let fault : c.in-Err-take_lines.fault ≡ faults.Write = cc (same) in differs (ap Err fault))
 
 pub returns-in-Err-take_lines-clause-source_works : goal.returns-in-Err-take_lines-clause-source_works
 returns-in-Err-take_lines-clause-source_works g c = λ works differs. c.in-Ok.ensures.failed

@@ -2,7 +2,7 @@ use Rattle.std.proofs.Common.{[], ℕ, List, refl, subst, ap, arith, Err, None}
 use Rattle.std.specs.List.{concat}
 use Rattle.mq_client.specs.Run.{around}
 use Rattle.mq_client.specs.Loop.{SoFar}
-use Rattle.mq_client.specs.declared.faults.FilterFault.TheVariants as at
+use Rattle.mq_client.specs.declared.fault.FilterFault.TheVariants as faults
 use Rattle.mq_client.proofs.Looping.{Does-still, stops_within}
 use Rattle.mq_client.proofs.filter.take_lines.Goals as goal
 
@@ -14,7 +14,7 @@ returns-in-Err-handle-clause-fault g c = λ o pieces source read_failed s.
 
 pub returns-in-Err-clause-fault : goal.returns-in-Err-clause-fault
 returns-in-Err-clause-fault g c = λ o pieces source read_failed s.
-    stops_within o pieces c.lines.feed.rest c.lines.filter source _ _ read_failed _ at.TooLong None [] [] (c.lines.invariant.carries o (concat pieces) s) (Does-still _)
+    stops_within o pieces c.lines.feed.rest c.lines.filter source _ _ read_failed _ faults.TooLong None [] [] (c.lines.invariant.carries o (concat pieces) s) (Does-still _)
     (λ stage a. c.in-Err.ensures.too_long.0 (ap Err c.in-Err.ensures.fault))
     (λ stage a. (refl, refl))
     (λ stage a e. absurd (cc (e)))

@@ -29,7 +29,9 @@ enum Step<'a> {
 /// Takes a step, and asserts what comes of it.
 fn take(rt: &impl Abort, rig: &mut Rig, step: Step<'_>) {
     match step {
-        Step::Reserve(txn, at, login, wanted) => assert_asked(rt, rig, txn, at, login, wanted),
+        Step::Reserve(txn, moment, login, wanted) => assert_asked(
+            rt, rig, txn, moment, login, wanted,
+        ),
         Step::Begin(last) => begin(rt, rig, last),
         Step::Close(txn, end) => close(rt, rig, txn, end),
         Step::Warn(session, txn) => warn(rig, session, txn),
@@ -41,19 +43,26 @@ fn take(rt: &impl Abort, rig: &mut Rig, step: Step<'_>) {
     }
 }
 
-fn reserve(rt: &impl Abort, rig: &mut Rig, txn: u32, at: u64, login: &[u8]) -> Asked {
-    if txn == 0 || !is_moment(at) || !is_login(login) {
+fn reserve(rt: &impl Abort, rig: &mut Rig, txn: u32, moment: u64, login: &[u8]) -> Asked {
+    if txn == 0 || !is_moment(moment) || !is_login(login) {
         panic!(rt; "no such transaction");
     }
     rig.client
-        .reserve(&rig.log, &mut rig.link, txn, at, login)
+        .reserve(&rig.log, &mut rig.link, txn, moment, login)
         .expect(rt, MEMORY)
 }
 
 /// Asserts what comes of asking for a recipient.
-fn assert_asked(rt: &impl Abort, rig: &mut Rig, txn: u32, at: u64, login: &[u8], wanted: Asked) {
+fn assert_asked(
+    rt: &impl Abort,
+    rig: &mut Rig,
+    txn: u32,
+    moment: u64,
+    login: &[u8],
+    wanted: Asked,
+) {
     assert_eq!(rt;
-        reserve(rt, rig, txn, at, login),
+        reserve(rt, rig, txn, moment, login),
         wanted,
         "transaction {txn}"
     );
@@ -133,7 +142,7 @@ const FULL: Case<'static> = Case {
         Step::Exchanges(4096),
         Step::Held(4096),
         // a closing that waits takes its place
-        Step::Close(1, CloseEnd::Drop),
+        Step::Close(1, CloseEnd::Rollback),
         Step::Waiting(1),
         Step::Held(4095),
         Step::Exchanges(4099),
@@ -221,7 +230,7 @@ const TWO_WAIT: Case<'static> = Case {
     steps: &[
         Step::Begin(2),
         Step::Close(1, CloseEnd::Commit),
-        Step::Close(2, CloseEnd::Drop),
+        Step::Close(2, CloseEnd::Rollback),
         Step::Waiting(2),
         Step::Drain(0),
         Step::Waiting(0),
@@ -238,7 +247,7 @@ const UNANSWERED: Case<'static> = Case {
     replies: &[],
     steps: &[
         Step::Reserve(7, 86_400, b"u", Asked::Unavailable),
-        Step::Close(7, CloseEnd::Drop),
+        Step::Close(7, CloseEnd::Rollback),
     ],
     sent: Sent::Frames(&[
         "0023 01 036d7831 0000000000000001 00000001 00000007 0000000000015180 0175 00000001",
@@ -382,7 +391,7 @@ fn each_reply_that_decides_a_closing(rt: HostRuntime) {
 /// A closing that waits, and the number of its request.
 #[derive(Clone, Copy)]
 struct Waiting {
-    seq: u32,
+    number: u32,
     txn: u32,
     end: CloseEnd,
 }
@@ -392,10 +401,10 @@ struct Waiting {
 fn closing_at(place: u32) -> Waiting {
     let txn = (ROOM + 1).wrapping_sub(place);
     Waiting {
-        seq: ROOM.wrapping_add(place),
+        number: ROOM.wrapping_add(place),
         txn,
         end: if txn % 3 == 0 {
-            CloseEnd::Drop
+            CloseEnd::Rollback
         } else {
             CloseEnd::Commit
         },
@@ -409,10 +418,10 @@ fn frame_of(rt: &impl Abort, alloc: Global, waiting: Waiting) -> Vec<u8> {
             "0023 02 036d7831 0000000000000001",
             "0000000000015180 0175 00000001",
         ),
-        CloseEnd::Drop => ("001f 03 036d7831 0000000000000001", "0000000000015180 0175"),
+        CloseEnd::Rollback => ("001f 03 036d7831 0000000000000001", "0000000000015180 0175"),
     };
     let mut frame = bytes_of(rt, alloc, front);
-    append(rt, &mut frame, &waiting.seq.to_be_bytes());
+    append(rt, &mut frame, &waiting.number.to_be_bytes());
     append(rt, &mut frame, &waiting.txn.to_be_bytes());
     append(rt, &mut frame, &bytes_of(rt, alloc, back));
     frame
@@ -422,12 +431,12 @@ fn frame_of(rt: &impl Abort, alloc: Global, waiting: Waiting) -> Vec<u8> {
 fn deciding(rt: &impl Abort, alloc: Global) -> ScriptLink {
     let mut script = VecDeque::new(alloc);
     for place in 1..=ROOM {
-        let Waiting { seq, end, .. } = closing_at(place);
+        let Waiting { number, end, .. } = closing_at(place);
         let front = match end {
             CloseEnd::Commit => "83 036d7831 0000000000000001",
-            CloseEnd::Drop => "84 036d7831 0000000000000001",
+            CloseEnd::Rollback => "84 036d7831 0000000000000001",
         };
-        add_numbered(rt, alloc, &mut script, front, seq, 1);
+        add_numbered(rt, alloc, &mut script, front, number, 1);
     }
     ScriptLink::new(alloc, script)
 }

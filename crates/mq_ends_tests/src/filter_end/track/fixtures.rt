@@ -22,12 +22,12 @@ pub const NOTHING: Answer = Ok(None);
 
 pub const DROPS_1: Answer = Ok(Some(Closing {
     txn: 1,
-    end: CloseEnd::Drop,
+    end: CloseEnd::Rollback,
 }));
 
 pub const DROPS_2: Answer = Ok(Some(Closing {
     txn: 2,
-    end: CloseEnd::Drop,
+    end: CloseEnd::Rollback,
 }));
 
 pub const COMMITS_2: Answer = Ok(Some(Closing {

@@ -3,18 +3,18 @@
 use super::fixtures::{Answer, COMMITS_3, DROPS_1, DROPS_2, NOTHING, Step};
 use mq_track::{Standing, TrackFault};
 
-const LOGIN_A: Standing<'static> = Standing::Login { name: b"a" };
+const LOGIN_A: Standing<'static> = Standing::Login { login: b"a" };
 
 const FIRST: Standing<'static> = Standing::Open {
-    name: b"a",
+    login: b"a",
     txn: 1,
-    at: 12,
+    moment: 12,
 };
 
 const THIRD: Standing<'static> = Standing::Open {
-    name: b"a",
+    login: b"a",
     txn: 3,
-    at: 15,
+    moment: 15,
 };
 
 const TWO_SESSIONS: &[Step<'static>] = &[
@@ -34,13 +34,13 @@ const NO_RESULT: Answer = Err(TrackFault::Auth);
 /// Result and name of a login in either order.
 const EITHER_ORDER: &[Step<'static>] = &[
     Step::Line("report|0.7|10.0|smtp-in|link-auth|s1|pass|a|b", NOTHING),
-    Step::Session("s1", Standing::Login { name: b"a|b" }),
+    Step::Session("s1", Standing::Login { login: b"a|b" }),
     Step::Line("report|0.7|10.0|smtp-in|link-auth|s2|a|b|pass", NOTHING),
-    Step::Session("s2", Standing::Login { name: b"a|b" }),
+    Step::Session("s2", Standing::Login { login: b"a|b" }),
     Step::Line("report|0.7|10.0|smtp-in|link-auth|s3|pass|fail", NOTHING),
-    Step::Session("s3", Standing::Login { name: b"fail" }),
+    Step::Session("s3", Standing::Login { login: b"fail" }),
     Step::Line("report|0.7|10.0|smtp-in|link-auth|s4|pass", NOTHING),
-    Step::Session("s4", Standing::Login { name: b"" }),
+    Step::Session("s4", Standing::Login { login: b"" }),
     Step::Line("report|0.7|10.0|smtp-in|link-auth|s5|a|b", NO_RESULT),
     Step::Session("s5", Standing::Anonymous),
     Step::Line("report|0.7|10.0|smtp-in|link-auth|s6|", NO_RESULT),
@@ -70,9 +70,9 @@ const ONLY_ONE_PASSED: &[Step<'static>] = &[
 ];
 
 const OPEN: Standing<'static> = Standing::Open {
-    name: b"a",
+    login: b"a",
     txn: 1,
-    at: 10,
+    moment: 10,
 };
 
 const NO_MESSAGE: Answer = Err(TrackFault::Message);
@@ -110,7 +110,7 @@ const GIVEN_AGAIN: &[Step<'static>] = &[
     Step::Again("report|0.7|14.0|smtp-in|link-auth|s|pass|b", NOTHING),
     Step::Again("report|0.7|15.0|smtp-in|tx-commit|s|m3|1", COMMITS_3),
     Step::Again("report|0.7|16.0|smtp-in|link-disconnect|t", DROPS_2),
-    Step::Session("s", Standing::Login { name: b"b" }),
+    Step::Session("s", Standing::Login { login: b"b" }),
     Step::Session("t", Standing::Anonymous),
 ];
 

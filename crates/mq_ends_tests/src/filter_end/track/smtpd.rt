@@ -50,18 +50,18 @@ const A_SITTING: &[Step<'static>] = &[
 ];
 
 const FIRST: Standing<'static> = Standing::Open {
-    name: b"u01",
+    login: b"u01",
     txn: 1,
-    at: 1_795_329_227,
+    moment: 1_795_329_227,
 };
 
 const SECOND: Standing<'static> = Standing::Open {
-    name: b"u02",
+    login: b"u02",
     txn: 2,
-    at: 1_795_329_227,
+    moment: 1_795_329_227,
 };
 
-const CLOSED: Standing<'static> = Standing::Login { name: b"u01" };
+const CLOSED: Standing<'static> = Standing::Login { login: b"u01" };
 
 // Two clients at once, as OpenSMTPD 7.6.0p1 wrote their reports: one commits, the other resets.
 const TWO_SITTINGS: &[Step<'static>] = &[

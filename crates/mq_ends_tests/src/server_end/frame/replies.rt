@@ -30,71 +30,71 @@ fn check_reply(rt: &impl Abort, alloc: Global, frame: &[u8], text: &str) {
 const FRAMES: &[(&str, &str)] = &[
     (
         "0013 81 0161 0000000000000001 00000001 00000001",
-        "Granted { id: Id { host: [97], run: 1, seq: 1 }, used: 1 }",
+        "Granted { id: Id { host: [97], run: 1, number: 1 }, used: 1 }",
     ),
     (
         "0013 81 0161 0000000000000001 00000002 00000003",
-        "Granted { id: Id { host: [97], run: 1, seq: 2 }, used: 3 }",
+        "Granted { id: Id { host: [97], run: 1, number: 2 }, used: 3 }",
     ),
     (
         "0013 81 0161 0000000000000001 00000005 00000001",
-        "Granted { id: Id { host: [97], run: 1, seq: 5 }, used: 1 }",
+        "Granted { id: Id { host: [97], run: 1, number: 5 }, used: 1 }",
     ),
     (
         "0013 81 0162 0000000000000001 00000001 00000002",
-        "Granted { id: Id { host: [98], run: 1, seq: 1 }, used: 2 }",
+        "Granted { id: Id { host: [98], run: 1, number: 1 }, used: 2 }",
     ),
     (
         "0013 81 0161 0000000000000001 00000002 00000002",
-        "Granted { id: Id { host: [97], run: 1, seq: 2 }, used: 2 }",
+        "Granted { id: Id { host: [97], run: 1, number: 2 }, used: 2 }",
     ),
     (
         "0017 82 0161 0000000000000001 00000003 00000003 00000003",
-        "Full { id: Id { host: [97], run: 1, seq: 3 }, used: 3, cap: 3 }",
+        "Full { id: Id { host: [97], run: 1, number: 3 }, used: 3, cap: 3 }",
     ),
     (
         "000f 88 0161 0000000000000001 00000002",
-        "Mismatch { id: Id { host: [97], run: 1, seq: 2 } }",
+        "Mismatch { id: Id { host: [97], run: 1, number: 2 } }",
     ),
     (
         "000f 8a 0161 0000000000000001 00000001",
-        "Conflict { id: Id { host: [97], run: 1, seq: 1 } }",
+        "Conflict { id: Id { host: [97], run: 1, number: 1 } }",
     ),
     (
         "0013 83 0161 0000000000000001 00000003 00000001",
-        "Settled { id: Id { host: [97], run: 1, seq: 3 }, count: 1 }",
+        "Settled { id: Id { host: [97], run: 1, number: 3 }, count: 1 }",
     ),
     (
         "0013 89 0161 0000000000000001 00000003 00000001",
-        "TooMany { id: Id { host: [97], run: 1, seq: 3 }, held: 1 }",
+        "TooMany { id: Id { host: [97], run: 1, number: 3 }, held: 1 }",
     ),
     (
         "0013 84 0161 0000000000000001 00000004 00000003",
-        "Released { id: Id { host: [97], run: 1, seq: 4 }, held: 3 }",
+        "Released { id: Id { host: [97], run: 1, number: 4 }, held: 3 }",
     ),
     (
         "0013 84 0161 0000000000000001 00000002 00000000",
-        "Released { id: Id { host: [97], run: 1, seq: 2 }, held: 0 }",
+        "Released { id: Id { host: [97], run: 1, number: 2 }, held: 0 }",
     ),
     (
         "000f 87 0161 0000000000000001 00000001",
-        "Closed { id: Id { host: [97], run: 1, seq: 1 } }",
+        "Closed { id: Id { host: [97], run: 1, number: 1 } }",
     ),
     (
         "000f 87 0161 0000000000000001 00000004",
-        "Closed { id: Id { host: [97], run: 1, seq: 4 } }",
+        "Closed { id: Id { host: [97], run: 1, number: 4 } }",
     ),
     (
         "000f 85 0161 0000000000000001 00000005",
-        "LimitSet { id: Id { host: [97], run: 1, seq: 5 } }",
+        "LimitSet { id: Id { host: [97], run: 1, number: 5 } }",
     ),
     (
         "0017 86 0161 0000000000000001 00000004 00000001 00000003",
-        "Over { id: Id { host: [97], run: 1, seq: 4 }, day: 1, used: 3 }",
+        "Over { id: Id { host: [97], run: 1, number: 4 }, day: 1, used: 3 }",
     ),
     (
         "0017 86 0161 0000000000000001 00000006 00000001 00000003",
-        "Over { id: Id { host: [97], run: 1, seq: 6 }, day: 1, used: 3 }",
+        "Over { id: Id { host: [97], run: 1, number: 6 }, day: 1, used: 3 }",
     ),
     (
         "0013 8b 0175 00000001 00000000 00000001 00000003",
@@ -115,11 +115,11 @@ const FRAMES: &[(&str, &str)] = &[
     ),
     (
         "000f 8f 0161 0000000000000002 00000001",
-        "Retired { id: Id { host: [97], run: 2, seq: 1 } }",
+        "Retired { id: Id { host: [97], run: 2, number: 1 } }",
     ),
     (
         "000f 90 0161 0000000000000001 00000001",
-        "Old { id: Id { host: [97], run: 1, seq: 1 } }",
+        "Old { id: Id { host: [97], run: 1, number: 1 } }",
     ),
     ("0001 8d", "Retry"),
     ("0001 8e", "Bad"),

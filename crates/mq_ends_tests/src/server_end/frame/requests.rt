@@ -30,74 +30,74 @@ fn check_request(rt: &impl Abort, alloc: Global, frame: &[u8], text: &str) {
 const FRAMES: &[(&str, &str)] = &[
     (
         "0021 01 0161 0000000000000001 00000001 00000001 0000000000015180 0175 00000001",
-        "Reserve { id: Id { host: [97], run: 1, seq: 1 }, txn: 1, at: 86400, login: [117], count: 1 }",
+        "Reserve { id: Id { host: [97], run: 1, number: 1 }, txn: 1, moment: 86400, login: [117], count: 1 }",
     ),
     (
         "0021 01 0161 0000000000000001 00000001 00000001 0000000000015180 0175 00000002",
-        "Reserve { id: Id { host: [97], run: 1, seq: 1 }, txn: 1, at: 86400, login: [117], count: 2 }",
+        "Reserve { id: Id { host: [97], run: 1, number: 1 }, txn: 1, moment: 86400, login: [117], count: 2 }",
     ),
     (
         "0021 01 0161 0000000000000001 00000002 00000001 0000000000015180 0175 00000002",
-        "Reserve { id: Id { host: [97], run: 1, seq: 2 }, txn: 1, at: 86400, login: [117], count: 2 }",
+        "Reserve { id: Id { host: [97], run: 1, number: 2 }, txn: 1, moment: 86400, login: [117], count: 2 }",
     ),
     (
         "0021 01 0161 0000000000000001 00000003 00000001 0000000000015180 0175 00000001",
-        "Reserve { id: Id { host: [97], run: 1, seq: 3 }, txn: 1, at: 86400, login: [117], count: 1 }",
+        "Reserve { id: Id { host: [97], run: 1, number: 3 }, txn: 1, moment: 86400, login: [117], count: 1 }",
     ),
     (
         "0021 01 0161 0000000000000001 00000005 00000002 0000000000015180 0175 00000001",
-        "Reserve { id: Id { host: [97], run: 1, seq: 5 }, txn: 2, at: 86400, login: [117], count: 1 }",
+        "Reserve { id: Id { host: [97], run: 1, number: 5 }, txn: 2, moment: 86400, login: [117], count: 1 }",
     ),
     (
         "0021 01 0162 0000000000000001 00000001 00000001 0000000000015180 0175 00000001",
-        "Reserve { id: Id { host: [98], run: 1, seq: 1 }, txn: 1, at: 86400, login: [117], count: 1 }",
+        "Reserve { id: Id { host: [98], run: 1, number: 1 }, txn: 1, moment: 86400, login: [117], count: 1 }",
     ),
     (
         "0021 01 0161 0000000000000001 00000002 00000001 0000000000015180 0175 00000001",
-        "Reserve { id: Id { host: [97], run: 1, seq: 2 }, txn: 1, at: 86400, login: [117], count: 1 }",
+        "Reserve { id: Id { host: [97], run: 1, number: 2 }, txn: 1, moment: 86400, login: [117], count: 1 }",
     ),
     (
         "0021 01 0161 0000000000000001 00000002 00000001 0000000000015180 0176 00000001",
-        "Reserve { id: Id { host: [97], run: 1, seq: 2 }, txn: 1, at: 86400, login: [118], count: 1 }",
+        "Reserve { id: Id { host: [97], run: 1, number: 2 }, txn: 1, moment: 86400, login: [118], count: 1 }",
     ),
     (
         "0021 02 0161 0000000000000001 00000003 00000001 0000000000015180 0175 00000001",
-        "Settle { id: Id { host: [97], run: 1, seq: 3 }, txn: 1, at: 86400, login: [117], count: 1 }",
+        "Settle { id: Id { host: [97], run: 1, number: 3 }, txn: 1, moment: 86400, login: [117], count: 1 }",
     ),
     (
         "0021 02 0161 0000000000000001 00000004 00000001 0000000000015180 0175 00000001",
-        "Settle { id: Id { host: [97], run: 1, seq: 4 }, txn: 1, at: 86400, login: [117], count: 1 }",
+        "Settle { id: Id { host: [97], run: 1, number: 4 }, txn: 1, moment: 86400, login: [117], count: 1 }",
     ),
     (
         "0021 02 0161 0000000000000001 00000003 00000001 0000000000015180 0175 00000002",
-        "Settle { id: Id { host: [97], run: 1, seq: 3 }, txn: 1, at: 86400, login: [117], count: 2 }",
+        "Settle { id: Id { host: [97], run: 1, number: 3 }, txn: 1, moment: 86400, login: [117], count: 2 }",
     ),
     (
         "001d 03 0161 0000000000000001 00000004 00000001 0000000000015180 0175",
-        "Release { id: Id { host: [97], run: 1, seq: 4 }, txn: 1, at: 86400, login: [117] }",
+        "Release { id: Id { host: [97], run: 1, number: 4 }, txn: 1, moment: 86400, login: [117] }",
     ),
     (
         "001d 03 0161 0000000000000001 00000002 00000001 0000000000015180 0175",
-        "Release { id: Id { host: [97], run: 1, seq: 2 }, txn: 1, at: 86400, login: [117] }",
+        "Release { id: Id { host: [97], run: 1, number: 2 }, txn: 1, moment: 86400, login: [117] }",
     ),
     (
         "0019 04 0161 0000000000000001 00000004 00000001 00000002 0175",
-        "Limit { id: Id { host: [97], run: 1, seq: 4 }, from_day: 1, cap: 2, login: [117] }",
+        "Limit { id: Id { host: [97], run: 1, number: 4 }, from_day: 1, cap: 2, login: [117] }",
     ),
     (
         "0019 04 0161 0000000000000001 00000005 00000001 00000003 0175",
-        "Limit { id: Id { host: [97], run: 1, seq: 5 }, from_day: 1, cap: 3, login: [117] }",
+        "Limit { id: Id { host: [97], run: 1, number: 5 }, from_day: 1, cap: 3, login: [117] }",
     ),
     (
         "0019 04 0161 0000000000000001 00000006 00000000 00000002 0175",
-        "Limit { id: Id { host: [97], run: 1, seq: 6 }, from_day: 0, cap: 2, login: [117] }",
+        "Limit { id: Id { host: [97], run: 1, number: 6 }, from_day: 0, cap: 2, login: [117] }",
     ),
     ("0007 05 0175 00000001", "Usage { login: [117], day: 1 }"),
     ("0006 06 00000001 00", "List { day: 1, after: [] }"),
     ("0007 06 00000001 0175", "List { day: 1, after: [117] }"),
     (
         "000f 07 0161 0000000000000002 00000001",
-        "Retire { id: Id { host: [97], run: 2, seq: 1 } }",
+        "Retire { id: Id { host: [97], run: 2, number: 1 } }",
     ),
 ];
 

@@ -79,7 +79,7 @@ fn check_replies<L: Ledger>(rt: &impl Abort, alloc: Global, ledger: &mut L, text
 }
 
 /// The host is `a`, and the login `u`.
-const REPLIES: &str = "Ok([Granted { id: Id { host: [97], run: 1, seq: 1 }, used: 1 }, \
+const REPLIES: &str = "Ok([Granted { id: Id { host: [97], run: 1, number: 1 }, used: 1 }, \
                        Usage { login: [117], day: 1, settled: 0, reserved: 1, cap: 3 }])";
 
 #[test]

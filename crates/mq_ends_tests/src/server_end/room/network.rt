@@ -3,13 +3,13 @@
 ghost use Rattle.std.specs.Prelude.{◌≡◌, ◌≤◌, ◌<◌, [], length, take, vec_len, Some, IfOk, IfSome};
 ghost use Rattle.std.specs.Io.{ReadsAtMost, WritesAtMost};
 ghost use Rattle.std.specs.Io.KnownBytes.{ReadConsumes, WriteAppends};
-ghost use Rattle.mq_room.specs.Wires.{Leaves};
-ghost use Rattle.mq_room.specs.Sessions.{EndsServing};
+ghost use Rattle.mq_connections.specs.Wires.{Leaves};
+ghost use Rattle.mq_connections.specs.Sessions.{EndsServing};
 ghost use Rattle.mq_ends_tests.specs.Peers.{wires_of};
 
 use log::Log;
+use mq_connections::{Network, RoomFault, serve_network};
 use mq_ledger::Ledger;
-use mq_room::{Network, RoomFault, serve_network};
 use mq_watch::Hear;
 use std::alloc::{AllocError, Global};
 use std::cell::Cell;

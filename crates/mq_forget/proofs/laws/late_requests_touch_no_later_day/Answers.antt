@@ -98,48 +98,48 @@ module _ (day : ℕ → ℕ) (D : ℕ) (H K : List Entry) (h : Alike day D H K) 
   below_alike id = sym (same_below day D K id) ∙ ap (λ x. is_below (requests x) id) h.same ∙ same_below day D H id
 
   -- a transaction of D or a later day is one over both
-  named_later : (t : Transaction) (at : ℕ) → nat_le D (day_named day at (named H t)) ≡ true → nat_le D (day_named day at (named K t)) ≡ true
-  named_later t at later = elim (option_cases (named H t)) [
-    | inl none ↦ ap (λ o. nat_le D (day_named day at o)) (h.unheard t none ∙ sym none) ∙ later
-    | inr p ↦ (let day_is : nat_le D (day (moment_of p.0.request)) ≡ true = ap (λ o. nat_le D (day_named day at o)) (sym p.1) ∙ later in
+  named_later : (t : Transaction) (moment : ℕ) → nat_le D (day_named day moment (named H t)) ≡ true → nat_le D (day_named day moment (named K t)) ≡ true
+  named_later t moment later = elim (option_cases (named H t)) [
+    | inl none ↦ ap (λ o. nat_le D (day_named day moment o)) (h.unheard t none ∙ sym none) ∙ later
+    | inr p ↦ (let day_is : nat_le D (day (moment_of p.0.request)) ≡ true = ap (λ o. nat_le D (day_named day moment o)) (sym p.1) ∙ later in
         let there : named (remembered day D K) t ≡ Some p.0 = ap (λ x. named x t) h.same ∙ (later_alike day D H t p.0 p.1 day_is).named ∙ p.1 in
         elim (option_cases (named K t)) [
           | inl none ↦ absurd (none_some p.0 (sym none ∙ sym (unheard_alike day D K t none).named ∙ there))
           | inr q ↦ elim (either (nat_le D (day (moment_of q.0.request)))) [
-            | inl y ↦ ap (λ o. nat_le D (day_named day at o)) q.1 ∙ y
+            | inl y ↦ ap (λ o. nat_le D (day_named day moment o)) q.1 ∙ y
             | inr n ↦ absurd (none_some p.0 (sym (early_lost day D K t q.0 q.1 n) ∙ there))
           ]
         ])
   ]
 
   -- one of an earlier day is of none that is later over the other
-  named_early : (t : Transaction) (at : ℕ) → nat_le D (day at) ≡ false → nat_le D (day_named day at (named H t)) ≡ false → nat_le D (day_named day at (named K t)) ≡ false
-  named_early t at own early = elim (option_cases (named K t)) [
-    | inl none ↦ ap (λ o. nat_le D (day_named day at o)) none ∙ own
+  named_early : (t : Transaction) (moment : ℕ) → nat_le D (day moment) ≡ false → nat_le D (day_named day moment (named H t)) ≡ false → nat_le D (day_named day moment (named K t)) ≡ false
+  named_early t moment own early = elim (option_cases (named K t)) [
+    | inl none ↦ ap (λ o. nat_le D (day_named day moment o)) none ∙ own
     | inr q ↦ elim (either (nat_le D (day (moment_of q.0.request)))) [
-      | inr n ↦ ap (λ o. nat_le D (day_named day at o)) q.1 ∙ n
+      | inr n ↦ ap (λ o. nat_le D (day_named day moment o)) q.1 ∙ n
       | inl y ↦ (let there : named (remembered day D H) t ≡ Some q.0 = ap (λ x. named x t) (sym h.same) ∙ (later_alike day D K t q.0 q.1 y).named ∙ q.1 in
           elim (option_cases (named H t)) [
             | inl none ↦ absurd (none_some q.0 (sym none ∙ sym (unheard_alike day D H t none).named ∙ there))
-            | inr p ↦ (let day_is : nat_le D (day (moment_of p.0.request)) ≡ false = ap (λ o. nat_le D (day_named day at o)) (sym p.1) ∙ early in
+            | inr p ↦ (let day_is : nat_le D (day (moment_of p.0.request)) ≡ false = ap (λ o. nat_le D (day_named day moment o)) (sym p.1) ∙ early in
                 absurd (none_some q.0 (sym (early_lost day D H t p.0 p.1 day_is) ∙ there)))
           ])
     ]
   ]
 
   about_later : (r : Request) → is_about day D H r ≡ true → is_about day D K r ≡ true
-  about_later (Reserve id txn at login count) e = named_later (transaction id txn) at e
-  about_later (Settle id txn at login count) e = named_later (transaction id txn) at e
-  about_later (Release id txn at login) e = named_later (transaction id txn) at e
+  about_later (Reserve id txn moment login count) e = named_later (transaction id txn) moment e
+  about_later (Settle id txn moment login count) e = named_later (transaction id txn) moment e
+  about_later (Release id txn moment login) e = named_later (transaction id txn) moment e
   about_later (Limit id from c login) e = e
   about_later (Usage login d) e = e
   about_later (ListRequest d after) e = e
   about_later (Retire id) e = e
 
   about_late : (r : Request) → names_earlier day D r ≡ true → is_about day D H r ≡ false → is_about day D K r ≡ false
-  about_late (Reserve id txn at login count) own e = named_early (transaction id txn) at (is_not (nat_le D (day at)) own) e
-  about_late (Settle id txn at login count) own e = named_early (transaction id txn) at (is_not (nat_le D (day at)) own) e
-  about_late (Release id txn at login) own e = named_early (transaction id txn) at (is_not (nat_le D (day at)) own) e
+  about_late (Reserve id txn moment login count) own e = named_early (transaction id txn) moment (is_not (nat_le D (day moment)) own) e
+  about_late (Settle id txn moment login count) own e = named_early (transaction id txn) moment (is_not (nat_le D (day moment)) own) e
+  about_late (Release id txn moment login) own e = named_early (transaction id txn) moment (is_not (nat_le D (day moment)) own) e
   about_late (Limit id from c login) own e = absurd (clash false own refl)
   about_late (Usage login d) own e = e
   about_late (ListRequest d after) own e = e
@@ -174,9 +174,9 @@ module _ (day : ℕ → ℕ) (D : ℕ) (H K : List Entry) (h : Alike day D H K) 
 -- ---- a late request
 
 sets_none : (day : ℕ → ℕ) (D : ℕ) (r : Request) (a : Reply) → names_earlier day D r ≡ true → is_set r a ≡ false
-sets_none day D (Reserve id txn at login count) a own = refl
-sets_none day D (Settle id txn at login count) a own = refl
-sets_none day D (Release id txn at login) a own = refl
+sets_none day D (Reserve id txn moment login count) a own = refl
+sets_none day D (Settle id txn moment login count) a own = refl
+sets_none day D (Release id txn moment login) a own = refl
 sets_none day D (Limit id from c login) a own = absurd (clash false own refl)
 sets_none day D (Usage login d) a own = refl
 sets_none day D (ListRequest d after) a own = refl

@@ -1,7 +1,7 @@
 use Rattle.std.proofs.Common.{Err, Ok, refl}
 use Rattle.std.proofs.lemmas.Result.{err_from_is_err_and}
-use Rattle.mq_room.specs.Sessions.{Outside}
-use Rattle.mq_room.specs.Wires.{unknown}
+use Rattle.mq_connections.specs.Sessions.{Outside}
+use Rattle.mq_connections.specs.Wires.{unknown}
 use Rattle.mq_program.specs.declared.fault.ProgramFault.TheVariants.{Listen}
 use Rattle.mq_program.proofs.ServingEnds.{ends_faulty, ends_unheard, ends_well}
 use Rattle.mq_program.proofs.server.listen.Goals as goal

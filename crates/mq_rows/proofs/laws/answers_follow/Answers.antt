@@ -17,9 +17,9 @@ as_many G n [] = refl
 as_many G n (x ∷ H) = omega (arith, as_many G (n + 1) H)
 
 own_number : (H : List Entry) (r : Request) → IsUnretired H r → is_some (id_of r) ≡ true → is_below (requests H) (number_of r) ≡ false
-own_number H (Reserve id txn at login count) above some = above id refl
-own_number H (Settle id txn at login count) above some = above id refl
-own_number H (Release id txn at login) above some = above id refl
+own_number H (Reserve id txn moment login count) above some = above id refl
+own_number H (Settle id txn moment login count) above some = above id refl
+own_number H (Release id txn moment login) above some = above id refl
 own_number H (Limit id from cap login) above some = above id refl
 own_number H (Usage login d) above some = absurd (cc some)
 own_number H (ListRequest d l) above some = absurd (cc some)

@@ -18,9 +18,9 @@ follow : (F : Floors) (day : ℕ → ℕ) (default : ℕ) (H : List Entry) (t : 
     → Leads same_host set_run (retired_write r f.floor) t.retired (AreRetired (appended day default H r))
 follow F day default H t (Retire id) f in_range above are found =
     floor_leads F H id (above id refl) (λ z. absurd (omega (arith, in_range.run.from, z))) t.retired f.floor are found
-follow F day default H t (Reserve id txn at login count) f in_range above are found = let r : Request = Reserve id txn at login count in floors_stay F H (entry r (answer day default H r)) t.retired (λ h. refl) are
-follow F day default H t (Settle id txn at login count) f in_range above are found = let r : Request = Settle id txn at login count in floors_stay F H (entry r (answer day default H r)) t.retired (λ h. refl) are
-follow F day default H t (Release id txn at login) f in_range above are found = let r : Request = Release id txn at login in floors_stay F H (entry r (answer day default H r)) t.retired (λ h. refl) are
+follow F day default H t (Reserve id txn moment login count) f in_range above are found = let r : Request = Reserve id txn moment login count in floors_stay F H (entry r (answer day default H r)) t.retired (λ h. refl) are
+follow F day default H t (Settle id txn moment login count) f in_range above are found = let r : Request = Settle id txn moment login count in floors_stay F H (entry r (answer day default H r)) t.retired (λ h. refl) are
+follow F day default H t (Release id txn moment login) f in_range above are found = let r : Request = Release id txn moment login in floors_stay F H (entry r (answer day default H r)) t.retired (λ h. refl) are
 follow F day default H t (Limit id from cap login) f in_range above are found = let r : Request = Limit id from cap login in floors_stay F H (entry r (answer day default H r)) t.retired (λ h. refl) are
 follow F day default H t (Usage login d) f in_range above are found = let r : Request = Usage login d in floors_stay F H (entry r (answer day default H r)) t.retired (λ h. refl) are
 follow F day default H t (ListRequest d l) f in_range above are found = let r : Request = ListRequest d l in floors_stay F H (entry r (answer day default H r)) t.retired (λ h. refl) are

@@ -18,4 +18,4 @@ returns c = λ b t f legal are usage transactions limits.
       range = legal.legal.range;
       governs = gs;
     } in
-    reordered_right (day_of b.zone) b.default b.history laws t are.transactions are.usage are.ceilings f usage transactions limits
+    reordered_right (day_of b.zone) b.default b.history laws t are.transactions are.usage are.limits f usage transactions limits

@@ -66,18 +66,18 @@ unretired H r id h above = λ other k. (let e : Some id ≡ Some other = sym h �
 -- the request is a retire, or it isn't
 retire_or_not : (r : Request) → ((id : Id) × (r ≡ Retire id)) ⊎ (is_retire r ≡ false)
 retire_or_not (Retire id) = inl (id, refl)
-retire_or_not (Reserve id txn at login count) = inr refl
-retire_or_not (Settle id txn at login count) = inr refl
-retire_or_not (Release id txn at login) = inr refl
+retire_or_not (Reserve id txn moment login count) = inr refl
+retire_or_not (Settle id txn moment login count) = inr refl
+retire_or_not (Release id txn moment login) = inr refl
 retire_or_not (Limit id from cap login) = inr refl
 retire_or_not (Usage login d) = inr refl
 retire_or_not (ListRequest d l) = inr refl
 
 keeps_all : (r : Request) (f : Found) → is_retire r ≡ false → given_up_by r f ≡ None
 keeps_all (Retire id) f h = absurd (cc h)
-keeps_all (Reserve id txn at login count) f h = refl
-keeps_all (Settle id txn at login count) f h = refl
-keeps_all (Release id txn at login) f h = refl
+keeps_all (Reserve id txn moment login count) f h = refl
+keeps_all (Settle id txn moment login count) f h = refl
+keeps_all (Release id txn moment login) f h = refl
 keeps_all (Limit id from cap login) f h = refl
 keeps_all (Usage login d) f h = refl
 keeps_all (ListRequest d l) f h = refl
@@ -112,7 +112,7 @@ record Gives (default : ℕ) (day : ℕ → ℕ) (H : List Entry) (t : Tables) (
 
 pub returns-clause-reply : goal.returns-clause-reply
 returns-clause-reply c = λ b t r id f legal rows h above none found.
-    c.reply_follows.ensures (day_of b.zone) b.default b.history t r f (unretired b.history r id h above) legal.legal rows.transactions rows.usage rows.ceilings found (numbered r id h)
+    c.reply_follows.ensures (day_of b.zone) b.default b.history t r f (unretired b.history r id h above) legal.legal rows.transactions rows.usage rows.limits found (numbered r id h)
     ∙ sym (new_reply (day_of b.zone) b.default b.history r id h above none)
 
 pub returns-clause-rows : goal.returns-clause-rows
@@ -122,7 +122,7 @@ returns-clause-rows c = λ b t r id f legal rows in_range h above none found.
     let a : Reply = answer day b.default H r in
     let b' : Book = record b { history = appended day b.default H r } in
     let un : IsUnretired H r = unretired H r id h above in
-    let same : decided b.default r f ≡ a = c.reply_follows.ensures day b.default H t r f un legal.legal rows.transactions rows.usage rows.ceilings found (numbered r id h) in
+    let same : decided b.default r f ≡ a = c.reply_follows.ensures day b.default H t r f un legal.legal rows.transactions rows.usage rows.limits found (numbered r id h) in
     let arrivals : t.setting.arrivals ≡ length H = ap (λ (s : SettingRecord). s.arrivals) rows.setting.row in
     let more : IsLegal day b.default (appended day b.default H r) =
     subst (IsLegal day b.default) (c.one_more_arrival.ensures.legal day b.default H r legal.legal ∙ arrival_new day b.default H r id h above none)
@@ -160,7 +160,7 @@ returns-clause-rows c = λ b t r id f legal rows in_range h above none found.
       setting = counted_setting b t.setting (entry r a) rows.setting;
       answers = answers;
       moves = moves;
-      ceilings = c.ceilings_follow.ensures day b.default H t r f rows.ceilings found;
+      limits = c.limits_follow.ensures day b.default H t r f rows.limits found;
       retired = c.floors_follow.ensures day b.default H t r f in_range un rows.retired found;
     } in
     subst (λ (x : Reply). LeadTo b' t (written day t.setting.arrivals r f x)) (sym same) lead
@@ -187,7 +187,7 @@ returns-clause-found c = λ b t r id f legal rows in_range h above none found.
       reserves_more = λ e l d is. c.one_more_on_a_day.ensures.reserved day b.default H e l d legal.legal is;
       settled_more = λ e l d is. c.one_more_on_a_day.ensures.settled day b.default H e l d is;
       reserve_more = λ e l d. c.one_more_on_a_day.ensures.has_reserve day H e l d;
-      held_is_reserved = λ i txn at login agreed. c.used_where_reserved.ensures.held day b.default H _ at login legal.legal agreed;
+      held_is_reserved = λ i txn moment login agreed. c.used_where_reserved.ensures.held day b.default H _ moment login legal.legal agreed;
       none = λ l d no_reserve. c.used_where_reserved.ensures.none day b.default H l d legal.legal no_reserve;
     } in
     let gs : Governs b.default H = record {
@@ -195,13 +195,13 @@ returns-clause-found c = λ b t r id f legal rows in_range h above none found.
       latest = λ l d from n before set_is nothing. c.latest_limit_governs.ensures.latest b.default H l d from n before set_is nothing;
     } in
     let days = c.replies_in_range.ensures.days b.zone legal.zone in
-    let same : decided b.default r f ≡ answer day b.default H r = c.reply_follows.ensures day b.default H t r f un legal.legal rows.transactions rows.usage rows.ceilings found (numbered r id h) in
+    let same : decided b.default r f ≡ answer day b.default H r = c.reply_follows.ensures day b.default H t r f un legal.legal rows.transactions rows.usage rows.limits found (numbered r id h) in
     let fits : IsReply (reply day b.default H r) = c.replies_in_range.ensures.replies day b.default H r legal.default days legal.legal in_range in
     let fits' : IsReply (decided b.default r f) = subst IsReply (new_reply day b.default H r id h above none ∙ sym same) fits in
     may_be laws.itself day b.default H us gs
     (λ l d. (c.amounts_in_range.ensures.used day b.default H l d legal.default days legal.legal).0.to)
     (λ l d. (c.amounts_in_range.ensures.used day b.default H l d legal.default days legal.legal).3.to)
-    t r f (heard day b.default laws H r un) rows.ceilings (transaction_found day H t r f rows.transactions found) (usage_found day b.default H us t r f rows.usage found) found fits'
+    t r f (heard day b.default laws H r un) rows.limits (transaction_found day H t r f rows.transactions found) (usage_found day b.default H us t r f rows.usage found) found fits'
 
 pub returns-clause-legal : goal.returns-clause-legal
 returns-clause-legal c = λ day default H r id legal in_range h above none.

@@ -86,7 +86,7 @@ returns-clause-rows c = λ day default H id rows usage these some legal more ts 
       itself = c.open_transactions.ensures.itself;
     } in
     let R : Reserves day H = record {
-      held_is_reserved = λ t at login. c.used_where_reserved.ensures.held day default H t at login legal;
+      held_is_reserved = λ t moment login. c.used_where_reserved.ensures.held day default H t moment login legal;
       none = λ l d. c.used_where_reserved.ensures.none day default H l d legal;
     } in
     let before : Laws day H = record {
@@ -123,7 +123,7 @@ returns-clause-fits c = λ day default H id rows usage done rest was amount days
       itself = c.open_transactions.ensures.itself;
     } in
     let R : Reserves day H = record {
-      held_is_reserved = λ t at login. c.used_where_reserved.ensures.held day default H t at login legal;
+      held_is_reserved = λ t moment login. c.used_where_reserved.ensures.held day default H t moment login legal;
       none = λ l d. c.used_where_reserved.ensures.none day default H l d legal;
     } in
     let before : Laws day H = record {

@@ -1,4 +1,4 @@
-use Rattle.mq_rows.specs.Rows.{transaction_row, usage_row, ceiling_row, retired_row, is_transaction, is_usage, is_ceiling, is_host}
+use Rattle.mq_rows.specs.Rows.{transaction_row, usage_row, limit_row, retired_row, is_transaction, is_usage, is_limit, is_host}
 use Rattle.mq_rows.proofs.Lists.{find_of_those, those_are_found}
 use Rattle.mq_rows.proofs.laws.rows_by_key.Goals as goal
 
@@ -8,8 +8,8 @@ returns-clause-transaction c = λ day H rows t are. find_of_those (is_transactio
 pub returns-clause-usage : goal.returns-clause-usage
 returns-clause-usage c = λ day H rows l d are. find_of_those (is_usage l d) rows (usage_row day H l d) (are l d)
 
-pub returns-clause-ceiling : goal.returns-clause-ceiling
-returns-clause-ceiling c = λ H rows l d are. find_of_those (is_ceiling l d) rows (ceiling_row H l d) (are l d)
+pub returns-clause-limit : goal.returns-clause-limit
+returns-clause-limit c = λ H rows l d are. find_of_those (is_limit l d) rows (limit_row H l d) (are l d)
 
 pub returns-clause-only_usage : goal.returns-clause-only_usage
 returns-clause-only_usage c = λ day H rows l d are. those_are_found (is_usage l d) rows (usage_row day H l d) (are l d)

@@ -45,7 +45,7 @@ returns-clause-new c = λ zone default offset amount. record {
     answers = refl;
     transactions = λ t. refl;
     usage = λ l d. refl;
-    ceilings = λ l d. refl;
+    limits = λ l d. refl;
     retired = λ h. sym (ap those (no_floor h (c.one_more_floor.ensures.none h)));
   };
 }
@@ -56,6 +56,6 @@ returns-clause-version c = λ b t version rows so. record {
   answers = rows.answers;
   transactions = rows.transactions;
   usage = rows.usage;
-  ceilings = rows.ceilings;
+  limits = rows.limits;
   retired = rows.retired;
 }

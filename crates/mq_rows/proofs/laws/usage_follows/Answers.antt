@@ -22,7 +22,7 @@ returns c = λ day default H t r f plain above legal are_transactions are found.
       reserves_more = λ e l d is. c.one_more_on_a_day.ensures.reserved day default H e l d legal is;
       settled_more = λ e l d is. c.one_more_on_a_day.ensures.settled day default H e l d is;
       reserve_more = λ e l d. c.one_more_on_a_day.ensures.has_reserve day H e l d;
-      held_is_reserved = λ id txn at login agreed. c.used_where_reserved.ensures.held day default H _ at login legal agreed;
+      held_is_reserved = λ id txn moment login agreed. c.used_where_reserved.ensures.held day default H _ moment login legal agreed;
       none = λ l d none. c.used_where_reserved.ensures.none day default H l d legal none;
     } in
     usage_leads day default H us r (answer day default H r) plain (c.replies_suit.ensures.answer day default H r) refl

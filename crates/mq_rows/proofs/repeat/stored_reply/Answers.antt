@@ -5,4 +5,4 @@ pub returns-then-not-same-clause-in_range : goal.returns-then-not-same-clause-in
 returns-then-not-same-clause-in_range c =
     let same = c.in_ok-clone.ensures.cases in
     let fits = number_in_range _ _ c.requires.in_range c.requires.number in
-    record { host = rw same.0 fits.host; run = rw same.1.0 fits.run; seq = rw same.1.1 fits.seq }
+    record { host = rw same.0 fits.host; run = rw same.1.0 fits.run; number = rw same.1.1 fits.number }

@@ -42,9 +42,9 @@ moved_or_made_has count a new (Some t) made has = elim (either (moves a)) [
 ]
 
 write_has : (day : ℕ → ℕ) (r : Request) (a : Reply) (o : Option TransactionRecord) → IsRequest r → AreStorableIf o → AreStorable (transaction_write day r a o)
-write_has day (Reserve id txn at login count) a o h has = moved_or_made_has count a _ o (omega (arith, h.0.run.to), omega (arith, h.2.to)) has
-write_has day (Settle id txn at login count) a o h has = moved_or_made_has count a _ o (omega (arith, h.0.run.to), omega (arith, h.2.to)) has
-write_has day (Release id txn at login) a o h has = moved_or_made_has 0 a _ o (omega (arith, h.0.run.to), omega (arith, h.2.to)) has
+write_has day (Reserve id txn moment login count) a o h has = moved_or_made_has count a _ o (omega (arith, h.0.run.to), omega (arith, h.2.to)) has
+write_has day (Settle id txn moment login count) a o h has = moved_or_made_has count a _ o (omega (arith, h.0.run.to), omega (arith, h.2.to)) has
+write_has day (Release id txn moment login) a o h has = moved_or_made_has 0 a _ o (omega (arith, h.0.run.to), omega (arith, h.2.to)) has
 write_has day (Limit id from_day cap login) a o h has = tt
 write_has day (Usage login d) a o h has = tt
 write_has day (ListRequest d after) a o h has = tt
@@ -56,9 +56,9 @@ floor_has (Some r) has = has
 
 runs_have : (r : Request) (f : Found) → IsRequest r → IsStorableFloor f.floor → AreStorableRuns (given_up_by r f)
 runs_have (Retire id) f h has = (floor_has f.floor has, omega (arith, h.run.to))
-runs_have (Reserve id txn at login count) f h has = tt
-runs_have (Settle id txn at login count) f h has = tt
-runs_have (Release id txn at login) f h has = tt
+runs_have (Reserve id txn moment login count) f h has = tt
+runs_have (Settle id txn moment login count) f h has = tt
+runs_have (Release id txn moment login) f h has = tt
 runs_have (Limit id from_day cap login) f h has = tt
 runs_have (Usage login d) f h has = tt
 runs_have (ListRequest d after) f h has = tt
@@ -69,9 +69,9 @@ raised_has id (Some r) h = omega (arith, h.run.to)
 
 run_has : (r : Request) (o : Option RetiredRecord) → IsRequest r → IsStorableRun (retired_write r o)
 run_has (Retire id) o h = raised_has id o h
-run_has (Reserve id txn at login count) o h = tt
-run_has (Settle id txn at login count) o h = tt
-run_has (Release id txn at login) o h = tt
+run_has (Reserve id txn moment login count) o h = tt
+run_has (Settle id txn moment login count) o h = tt
+run_has (Release id txn moment login) o h = tt
 run_has (Limit id from_day cap login) o h = tt
 run_has (Usage login d) o h = tt
 run_has (ListRequest d after) o h = tt

@@ -25,14 +25,14 @@ the_one test rows (Some x) only one = has_all (λ (y : UsageRecord). test y ≡ 
 pub returns-clause-usage : goal.returns-clause-usage
 returns-clause-usage c = λ zone default H db b l d u g one governs.
     let only = c.rows_by_key.ensures.only_usage (day_of zone) H b.has.tables.usage l d b.has.rows.usage in
-    c.usage_is_answered.ensures.reply (day_of zone) default H b.has.tables l d u g b.legal.legal b.has.rows.usage b.has.rows.ceilings
+    c.usage_is_answered.ensures.reply (day_of zone) default H b.has.tables l d u g b.legal.legal b.has.rows.usage b.has.rows.limits
     (the_one (is_usage l d) b.has.tables.usage u only one) governs
 
 pub returns-clause-row : goal.returns-clause-row
 returns-clause-row c = λ zone default H db b d after u g next governs.
     let only = c.rows_by_key.ensures.only_usage (day_of zone) H b.has.tables.usage u.login d b.has.rows.usage in
     let found : Some u ≡ find (is_usage u.login d) b.has.tables.usage = row_found d after b.has.tables.usage u only next in
-    c.usage_is_answered.ensures.row (day_of zone) default H b.has.tables u.login d u g b.legal.legal b.has.rows.usage b.has.rows.ceilings found governs
+    c.usage_is_answered.ensures.row (day_of zone) default H b.has.tables u.login d u g b.legal.legal b.has.rows.usage b.has.rows.limits found governs
 
 pub returns-clause-begun : goal.returns-clause-begun
 returns-clause-begun c = λ default d after db zone H b. record { us = []; next = tt; count = refl; are = refl; ends = refl }

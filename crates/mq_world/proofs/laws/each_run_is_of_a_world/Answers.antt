@@ -13,8 +13,8 @@ use Rattle.mq_client.specs.Turns.{next, next_of, queue_of, ComeInTurn, IsUnderwa
 use Rattle.mq_client.specs.Numbered.{exchanges_in}
 use Rattle.mq_client.specs.Filter.{Query, Passes, Refuses, Asks, query, Answers, Closes, Takes, push, Filters, asking_of, close_of, action_of}
 use Rattle.mq_client.specs.Run.{Stage, BeforeReady, AfterReady, HasText, Outside, Goes, IsInHand, EndsWith, StopsAt}
-use Rattle.mq_client.specs.declared.faults.FilterFault.{FilterFault}
-use Rattle.mq_client.specs.declared.faults.FilterFault.TheVariants as at
+use Rattle.mq_client.specs.declared.fault.FilterFault.{FilterFault}
+use Rattle.mq_client.specs.declared.fault.FilterFault.TheVariants as faults
 use Rattle.mq_client.specs.declared.filter.Ended.{Ended}
 use Rattle.std.specs.Prelude.{◌⊎◌}
 use Rattle.mq_world.specs.World.{Site, Run, World, fresh, IsUp, ReadsOn, begun, after_line, after_end, next_request, with_on_way, after_exchange, after_stop, MayCome, with_run, with_sent, Next, Reads, ReadsEnd, Sends, Ends, Stops, AtOnce, Later}
@@ -31,7 +31,7 @@ InTurn = (s : Source) (tries : ℕ) (P : List Step) (x : Step) → Plays s tries
 asks : (q : Query) (step : Option Step) (d : Decision) → Answers q step d → option_map unsent step ≡ option_map begun (asking_of q)
 asks Passes step d h = ap (option_map unsent) h.0
 asks Refuses step d h = ap (option_map unsent) h.0
-asks (Asks txn at name) step d (group, is, answer) = ap (option_map unsent) is
+asks (Asks txn moment login) step d (group, is, answer) = ap (option_map unsent) is
 
 closes : (c : Option Closing) (step : Option Step) → Closes c step → option_map unsent step ≡ option_map begun (option_map close_of c)
 closes None step h = ap (option_map unsent) h
@@ -232,17 +232,17 @@ stage_goes T site w s (AfterReady L) steps text y is (results, filters, whole) p
 
 -- the line in hand made no step, or the one that it makes
 in_hand : (f : FilterFault) (stage : Stage) (left : List ℕ) (step : Option Step) (next : List ℕ) → IsInHand f stage left step next → (step ≡ None) ⊎ ((line : List ℕ) × Goes stage line step next)
-in_hand (at.Line f) stage left step next h = inl h.0
-in_hand (at.Track f) stage left step next h = inl h.0
-in_hand at.NotReady stage left step next h = inl h.0
-in_hand at.EndedEarly stage left step next h = inl h.0
-in_hand at.CutLine stage left step next h = inl h.0
-in_hand at.TooLong stage left step next h = inl h.0
-in_hand at.Read stage left step next h = inl h.0
-in_hand at.Write stage left step next (inl h) = inl h.0
-in_hand at.Write stage left step next (inr (line, first, goes)) = inr (line, goes)
-in_hand at.Memory stage left step next (inl h) = inl h.0
-in_hand at.Memory stage left step next (inr (line, first, goes)) = inr (line, goes)
+in_hand (faults.Line f) stage left step next h = inl h.0
+in_hand (faults.Track f) stage left step next h = inl h.0
+in_hand faults.NotReady stage left step next h = inl h.0
+in_hand faults.EndedEarly stage left step next h = inl h.0
+in_hand faults.CutLine stage left step next h = inl h.0
+in_hand faults.TooLong stage left step next h = inl h.0
+in_hand faults.Read stage left step next h = inl h.0
+in_hand faults.Write stage left step next (inl h) = inl h.0
+in_hand faults.Write stage left step next (inr (line, first, goes)) = inr (line, goes)
+in_hand faults.Memory stage left step next (inl h) = inl h.0
+in_hand faults.Memory stage left step next (inr (line, first, goes)) = inr (line, goes)
 
 -- a run that stopped after these steps, with these lines or one more
 abbrev pub StopsIn : Site → World → Source → List Meaning → List Step → Type 0

@@ -75,15 +75,15 @@ sound_start F site w z = record {
 -- ---- what an exchange brings
 
 retry_not : (q : Request) → decides q reply.Retry ≡ true → ⊥
-retry_not (Reserve id txn at login count) h = clash false h refl
-retry_not (Settle id txn at login count) h = clash false h refl
-retry_not (Release id txn at login) h = clash false h refl
+retry_not (Reserve id txn moment login count) h = clash false h refl
+retry_not (Settle id txn moment login count) h = clash false h refl
+retry_not (Release id txn moment login) h = clash false h refl
 retry_not q h = clash false h refl
 
 bad_not : (q : Request) → decides q reply.Bad ≡ true → ⊥
-bad_not (Reserve id txn at login count) h = clash false h refl
-bad_not (Settle id txn at login count) h = clash false h refl
-bad_not (Release id txn at login) h = clash false h refl
+bad_not (Reserve id txn moment login count) h = clash false h refl
+bad_not (Settle id txn moment login count) h = clash false h refl
+bad_not (Release id txn moment login) h = clash false h refl
 bad_not q h = clash false h refl
 
 -- what comes and decides was written
@@ -300,7 +300,7 @@ idle_let r t n e = let F : Run → Type 0 = λ x. let_by (standing_in x.past t) 
 idle_on : (day : ℕ → ℕ) (l : List ℕ) (d : ℕ) (r : Run) (t n : ℕ) → r ≡ fresh → let_on day l d (standing_in r.past t) ≤ n
 idle_on day l d r t n e = let F : Run → Type 0 = λ x. let_on day l d (standing_in x.past t) ≤ n in subst F (sym e) (omega arith)
 
-pub sound_each : {F : ℕ} → Known → (site : Site) (w : World) → IsSound site F w → (t : Transaction) (k : Held) → counting (standing_of w t) ≡ Some k → F ≤ day_of w.ledger.zone k.at
+pub sound_each : {F : ℕ} → Known → (site : Site) (w : World) → IsSound site F w → (t : Transaction) (k : Held) → counting (standing_of w t) ≡ Some k → F ≤ day_of w.ledger.zone k.moment
     → let_by (standing_of w t) ≤ held w.ledger.history t + settled_in w.ledger.history t
 sound_each {F = F} K site w h t = elim (either (site.is_run (run_of t))) [
   | inr n ↦ λ k is on. idle_let (w.runs (run_of t)) t.txn _ (h.idle (run_of t) n)
@@ -314,7 +314,7 @@ sound_each {F = F} K site w h t = elim (either (site.is_run (run_of t))) [
       let now : F ≤ day (at_of st) → let_by st ≤ held w.ledger.history t + settled_in w.ledger.history t = λ on. standing_each s (site.tries s) P w.ledger.history w.sent w.written K.ledgers suits own t.txn st on
       (was_granted day F K.ledgers.itself s (site.tries s) w.ledger.history P own.underway own.ground t.txn on)
       (entry_suits K.clients K.ledgers s (site.tries s) P w.ledger.history w.sent w.written own t.txn) in
-      let S : Standing → Type 0 = λ x. (k : Held) → counting x ≡ Some k → F ≤ day k.at → let_by x ≤ held w.ledger.history t + settled_in w.ledger.history t in
+      let S : Standing → Type 0 = λ x. (k : Held) → counting x ≡ Some k → F ≤ day k.moment → let_by x ≤ held w.ledger.history t + settled_in w.ledger.history t in
       subst S (K.clients.standing s r.past t.txn) (λ k is on. counts_at ((view s r.past).standing t.txn) st _ k (counts_so_far s (site.tries s) r.on_way r.past own.underway own.returns t.txn) is
       (λ same. now (subst (λ m. F ≤ day m) (sym same) on))))
 ]

@@ -80,7 +80,7 @@ late = brought (request there) reply None
 
 -- the retire of the first run, under a number of another one of its host
 abbrev pub retire_id : Id
-retire_id = record { host = codes "a"; run = 2; seq = 1 }
+retire_id = record { host = codes "a"; run = 2; number = 1 }
 
 abbrev pub closing : Request
 closing = Settle (id_of here 2) 1 noon (codes "u") 1
@@ -170,7 +170,7 @@ hosts : (s : Source) → site.is_run s ≡ true → IsHost s.host × IsRun s.run
 hosts s e = elim (either_of (same_source here s) (same_source there s) e) [ inl h ↦ host_range s h | inr t ↦ host_there s t ]
 
 id_range : IsId (id_of here 1)
-id_range = let h = host_range here refl in record { host = h.0; run = h.1; seq = record { from = omega arith; to = omega arith } }
+id_range = let h = host_range here refl in record { host = h.0; run = h.1; number = record { from = omega arith; to = omega arith } }
 
 request_range : IsRequest (request here)
 request_range = (id_range, record { from = omega arith; to = omega arith }, record { from = omega arith; to = omega arith }, record { from = omega arith; to = omega arith }, record { from = omega arith; to = omega arith })
@@ -179,10 +179,10 @@ reply_range : IsReply reply
 reply_range = (id_range, record { from = omega arith; to = omega arith })
 
 retire_range : IsRequest (Retire retire_id)
-retire_range = record { host = (host_range here refl).0; run = record { from = omega arith; to = omega arith }; seq = record { from = omega arith; to = omega arith } }
+retire_range = record { host = (host_range here refl).0; run = record { from = omega arith; to = omega arith }; number = record { from = omega arith; to = omega arith } }
 
 second_range : IsId (id_of here 2)
-second_range = let h = host_range here refl in record { host = h.0; run = h.1; seq = record { from = omega arith; to = omega arith } }
+second_range = let h = host_range here refl in record { host = h.0; run = h.1; number = record { from = omega arith; to = omega arith } }
 
 closing_range : IsRequest closing
 closing_range = (second_range, record { from = omega arith; to = omega arith }, record { from = omega arith; to = omega arith }, record { from = omega arith; to = omega arith }, record { from = omega arith; to = omega arith })
@@ -414,71 +414,71 @@ afterwards = 1700172800
 
 -- the mail of another session: its login, the beginning of a transaction, a recipient
 abbrev pub login_at : ℕ → Meaning
-login_at at = ReportLine at (codes "smtp-in") (codes "link-auth") (codes "v") (codes "pass|u")
+login_at moment = ReportLine moment (codes "smtp-in") (codes "link-auth") (codes "v") (codes "pass|u")
 
 abbrev pub begin_at : ℕ → Meaning
-begin_at at = ReportLine at (codes "smtp-in") (codes "tx-begin") (codes "v") (codes "n")
+begin_at moment = ReportLine moment (codes "smtp-in") (codes "tx-begin") (codes "v") (codes "n")
 
 abbrev pub recipient_at : ℕ → Meaning
-recipient_at at = FilterLine at (codes "smtp-in") (codes "rcpt-to") (codes "v") (codes "t") (codes "r")
+recipient_at moment = FilterLine moment (codes "smtp-in") (codes "rcpt-to") (codes "v") (codes "t") (codes "r")
 
 abbrev pub request_at : ℕ → Request
-request_at at = reserve_of here 2 2 at (codes "u")
+request_at moment = reserve_of here 2 2 moment (codes "u")
 
 abbrev pub second_reply : Reply
 second_reply = Granted (id_of here 2) 1
 
 abbrev pub answered_at : ℕ → Exchange
-answered_at at = brought (request_at at) second_reply (Some second_reply)
+answered_at moment = brought (request_at moment) second_reply (Some second_reply)
 
 -- the ledger as it is then: with no answer
 abbrev pub cleared : Book → World
 cleared b = record { runs = (granted b).runs; ledger = unused b; sent = (granted b).sent; written = (granted b).written }
 
 abbrev pub logged_in_at : ℕ → Book → World
-logged_in_at at b = reads (cleared b) here (login_at at)
+logged_in_at moment b = reads (cleared b) here (login_at moment)
 
 abbrev pub begun_at : ℕ → Book → World
-begun_at at b = reads (logged_in_at at b) here (begin_at at)
+begun_at moment b = reads (logged_in_at moment b) here (begin_at moment)
 
 abbrev pub asked_at : ℕ → Book → World
-asked_at at b = reads (begun_at at b) here (recipient_at at)
+asked_at moment b = reads (begun_at moment b) here (recipient_at moment)
 
 abbrev pub sent_at : ℕ → Book → World
-sent_at at b = with_sent (with_run (asked_at at b) here (with_on_way (Some (request_at at)) ((asked_at at b).runs here))) (request_frame (request_at at))
+sent_at moment b = with_sent (with_run (asked_at moment b) here (with_on_way (Some (request_at moment)) ((asked_at moment b).runs here))) (request_frame (request_at moment))
 
 abbrev pub taken_at : ℕ → Book → World
-taken_at at b = after_arrival (sent_at at b) (request_at at)
+taken_at moment b = after_arrival (sent_at moment b) (request_at moment)
 
 abbrev pub granted_at : ℕ → Book → World
-granted_at at b = ends (taken_at at b) here (answered_at at)
+granted_at moment b = ends (taken_at moment b) here (answered_at moment)
 
 -- a frame of the forgotten reserve comes once more
 abbrev pub taken_later : Book → World
 taken_later b = takes (granted_at afterwards b)
 
-request_at_range : (at : ℕ) → IsMoment at → IsRequest (request_at at)
-request_at_range at moment = (second_range, record { from = omega arith; to = omega arith }, moment, record { from = omega arith; to = omega arith }, record { from = omega arith; to = omega arith })
+request_at_range : (moment : ℕ) → IsMoment moment → IsRequest (request_at moment)
+request_at_range moment moment_is = (second_range, record { from = omega arith; to = omega arith }, moment_is, record { from = omega arith; to = omega arith }, record { from = omega arith; to = omega arith })
 
 second_granted : (b : Book) (t : Bool) → t ≡ false → (if t then Full (id_of here 2) 0 b.default else second_reply) ≡ second_reply
 second_granted b t e = rw e refl
 
-reply_at : (at : ℕ) (b : Book) → 1 ≤ b.default → reply_from (sent_at at b).ledger (request_at at) ≡ second_reply
+reply_at : (moment : ℕ) (b : Book) → 1 ≤ b.default → reply_from (sent_at moment b).ledger (request_at moment) ≡ second_reply
 unfolding floor
-reply_at at b le = second_granted b (nat_lt b.default 1) (grind (arith, nat_tests, le))
+reply_at moment b le = second_granted b (nat_lt b.default 1) (grind (arith, nat_tests, le))
 
 -- once it is sent
-sent_on : (at : ℕ) (b : Book) → IsMoment at → 1 ≤ b.default → Reaches site (cleared b) (sent_at at b) → Reaches site (cleared b) (granted_at at b)
-sent_on at b moment le r =
-    let taken : Reaches site (cleared b) (taken_at at b) = Later (sent_at at b) (taken_at at b) r (Takes 0 (request_body (request_at at)) (request_at at) refl (record { bytes = refl; in_range = request_at_range at moment })) in
-    Later (taken_at at b) (granted_at at b) taken (Ends here (answered_at at) (record { is_run = refl; is_up = refl }) refl
-    (inr (inr (0, ap (λ a. Some (frame (reply_body a))) (reply_at at b le))))
+sent_on : (moment : ℕ) (b : Book) → IsMoment moment → 1 ≤ b.default → Reaches site (cleared b) (sent_at moment b) → Reaches site (cleared b) (granted_at moment b)
+sent_on moment b moment_is le r =
+    let taken : Reaches site (cleared b) (taken_at moment b) = Later (sent_at moment b) (taken_at moment b) r (Takes 0 (request_body (request_at moment)) (request_at moment) refl (record { bytes = refl; in_range = request_at_range moment moment_is })) in
+    Later (taken_at moment b) (granted_at moment b) taken (Ends here (answered_at moment) (record { is_run = refl; is_up = refl }) refl
+    (inr (inr (0, ap (λ a. Some (frame (reply_body a))) (reply_at moment b le))))
     (record { bytes = refl; in_range = (second_range, record { from = omega arith; to = omega arith }) }, refl))
 
-to_begun_at : (at : ℕ) (b : Book) → Reaches site (cleared b) (begun_at at b)
-to_begun_at at b =
-    let r1 : Reaches site (cleared b) (logged_in_at at b) = Later (cleared b) (logged_in_at at b) AtOnce (Reads here (login_at at) (record { up = record { is_run = refl; is_up = refl }; before_end = refl; none_on_way = refl; played = asked_once }) refl) in
-    Later (logged_in_at at b) (begun_at at b) r1 (Reads here (begin_at at) (record { up = record { is_run = refl; is_up = refl }; before_end = refl; none_on_way = refl; played = asked_once }) refl)
+to_begun_at : (moment : ℕ) (b : Book) → Reaches site (cleared b) (begun_at moment b)
+to_begun_at moment b =
+    let r1 : Reaches site (cleared b) (logged_in_at moment b) = Later (cleared b) (logged_in_at moment b) AtOnce (Reads here (login_at moment) (record { up = record { is_run = refl; is_up = refl }; before_end = refl; none_on_way = refl; played = asked_once }) refl) in
+    Later (logged_in_at moment b) (begun_at moment b) r1 (Reads here (begin_at moment) (record { up = record { is_run = refl; is_up = refl }; before_end = refl; none_on_way = refl; played = asked_once }) refl)
 
 moment_then : IsMoment afterwards
 moment_then = record { from = omega arith; to = omega arith }
@@ -515,7 +515,7 @@ is_cleared b D before =
 
 -- at an offset noon is on an earlier day
 abbrev pub Floors : Type 0
-Floors = (minutes : ℤ) (at : ℕ) → IsOffset minutes → IsMoment at → (pos (86400 * day_of (ByOffset minutes) at) ≤ℤ clock minutes at) × (clock minutes at <ℤ pos (86400 * (day_of (ByOffset minutes) at + 1)))
+Floors = (minutes : ℤ) (moment : ℕ) → IsOffset minutes → IsMoment moment → (pos (86400 * day_of (ByOffset minutes) moment) ≤ℤ clock minutes moment) × (clock minutes moment <ℤ pos (86400 * (day_of (ByOffset minutes) moment + 1)))
 
 noon_is_earlier : Floors → (minutes : ℤ) → IsOffset minutes → nat_le (day_of (ByOffset minutes) afterwards) (day_of (ByOffset minutes) noon) ≡ false
 noon_is_earlier floors minutes offset =
@@ -554,7 +554,7 @@ goes_on b before legal le =
       reached = with_steps site D (start b) (forgotten D (granted b)) (taken_later b) (Forgets (granted b) D (with_steps site D (start b) (start b) (granted b) FromStart (to_granted b le)) (omega arith)) went;
       transaction = record { host = codes "a"; run = 1; txn = 2 };
       same_run = refl;
-      asked = record { login = codes "u"; at = afterwards; granted = 1 };
+      asked = record { login = codes "u"; moment = afterwards; granted = 1 };
       counts = refl;
       is_one = refl;
       is_first_day = refl;

@@ -19,7 +19,7 @@ answered day H id copy login d n o same used_is over_is = ap (λ i. Over i d n) 
 
 pub returns-in_ok-clone-in-Some : goal.returns-in_ok-clone-in-Some
 returns-in_ok-clone-in-Some c =
-    let same : c.in_ok-clone-in-Some.field-0 ≡ c.args.id.now = (let e = c.in_ok-clone-in-Some.ensures.cases in λ i. record { host = e.0 i; run = e.1.0 i; seq = e.1.1 i }) in
+    let same : c.in_ok-clone-in-Some.field-0 ≡ c.args.id.now = (let e = c.in_ok-clone-in-Some.ensures.cases in λ i. record { host = e.0 i; run = e.1.0 i; number = e.1.1 i }) in
     rw (← c.self.view_is) (answered (day_of c.self.inside.zone) c.self.inside.entries.items c.args.id.now _ c.args.login.now c.in-Some.day c.used.result _ same
     (rw c.deref-in-Some.ensures.value at c.used.ensures)
     (sym c.in-Some.is ∙ rw c.deref.ensures.value at c.over.ensures))

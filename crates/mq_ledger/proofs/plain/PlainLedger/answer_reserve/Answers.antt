@@ -18,15 +18,15 @@ granted_or_full-requires c =
     omega (arith, fits, used, c.requires)
 
 -- of an open transaction the answer is that by what is used and the limit
-answered : (H : List Entry) (id : Id) (txn at : ℕ) (login : List ℕ) (count n limit n' limit' : ℕ) → IsOpenTo at login H (transaction id txn) → n ≡ n' → limit ≡ limit' → granted_or_full id n limit count ≡ if_open H id txn at login (granted_or_full id n' limit' count)
-answered H id txn at login count n limit n' limit' open_so used_is cap_is =
-    ap (λ m. granted_or_full id m limit count) used_is ∙ ap (λ m. granted_or_full id n' m count) cap_is ∙ sym (open_answer H id txn at login (granted_or_full id n' limit' count) open_so)
+answered : (H : List Entry) (id : Id) (txn moment : ℕ) (login : List ℕ) (count n limit n' limit' : ℕ) → IsOpenTo moment login H (transaction id txn) → n ≡ n' → limit ≡ limit' → granted_or_full id n limit count ≡ if_open H id txn moment login (granted_or_full id n' limit' count)
+answered H id txn moment login count n limit n' limit' open_so used_is cap_is =
+    ap (λ m. granted_or_full id m limit count) used_is ∙ ap (λ m. granted_or_full id n' m count) cap_is ∙ sym (open_answer H id txn moment login (granted_or_full id n' limit' count) open_so)
 
 pub returns : goal.returns
 returns c = elim (option_cases c.in_ok-refused.field-0) [
   | inr p ↦ absurd (c.in_default.not-Some p.0 p.1)
   | inl none ↦ IfOk-weaker c.granted_or_full.result _ _ (λ r told. told ∙ (rw (← c.self.view_is)
-      (answered _ c.args.id.now c.args.txn c.args.at c.args.login.now c.args.count c.used-used.result c.cap-cap.result _ _
+      (answered _ c.args.id.now c.args.txn c.args.moment c.args.login.now c.args.count c.used-used.result c.cap-cap.result _ _
       (rw (none, c.deref.ensures.value) at c.in_ok-refused.ensures)
       (rw (c.deref-2.ensures.value, c.day_at-day.ensures.value) at c.used-used.ensures)
       (rw (c.deref-3.ensures.value, c.day_at-day.ensures.value) at c.cap-cap.ensures)))) c.granted_or_full.ensures

@@ -7,7 +7,7 @@ pub returns-in-Ok-clause-set : goal.returns-in-Ok-clause-set
 returns-in-Ok-clause-set g c = rw (← c.self.view_is) (λ kept sound.
     let old = state g.S.Store c.self.inside.connection in
     record {
-      rows = sound.tables.ceilings;
-      set = sound.rows.ceilings;
+      rows = sound.tables.limits;
+      set = sound.rows.limits;
       same = c.in-Ok.ensures.found kept.clean (figures sound.tables) (has_figures old.now sound.tables sound.holds);
     })

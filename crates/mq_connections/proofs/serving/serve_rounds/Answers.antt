@@ -1,0 +1,90 @@
+use Rattle.std.proofs.Common.{◌∙◌, None, Ok, Err, refl, sym, ap}
+use Rattle.std.proofs.lemmas.Result.{err_from_is_err_and}
+use Rattle.mq_connections.specs.declared.fault.RoomFault.TheVariants as faults
+use Rattle.mq_connections.specs.Sessions.{Outside, held}
+use Rattle.mq_connections.proofs.Standing.{goes_as, goes_last, goes_on, goes_so, not_store, ok_not, rewired}
+use Rattle.mq_connections.proofs.serving.serve_rounds.Goals as goal
+
+pub loop-round-init : goal.loop-round-init
+loop-round-init g c = record {
+  same_zone = refl;
+  same_default = refl;
+  kept = λ k. k;
+  sound = λ k s. s;
+  goes = λ k s old start. start;
+}
+
+pub loop-round-preserved : goal.loop-round-preserved
+loop-round-preserved g c =
+    let i = c.loop-round.invariant in
+    let e = c.in_ok-serve.ensures in record {
+      same_zone = e.same_zone ∙ i.same_zone;
+      same_default = e.same_default ∙ i.same_default;
+      kept = λ k. i.kept (e.kept k);
+      sound = λ k s. e.sound k (i.sound (e.kept k) s);
+      goes = λ k s old start.
+          let before = e.kept k in
+          let wire = g.N.Network.wire in
+          let accepted : Outside = record { book = g.L.Ledger.book c.loop-round.ledger; told = g.L.Ledger.told c.loop-round.ledger; wires = wire c.accept.new.network } in
+          let after : Outside = record { book = g.L.Ledger.book c.serve.new.ledger; told = g.L.Ledger.told c.serve.new.ledger; wires = wire c.serve.new.network } in
+          let now : Outside = record { book = after.book; told = after.told; wires = wire c.expire.new.network } in
+          let room = c.accept.new.self in
+          let served = c.serve.new.self in
+          let goes = rewired old accepted (wire c.wait.new.network) room.last (held room.opened) (held room.opened) None c.wait.ensures (λ n. refl) (c.accept.ensures.goes old accepted.book accepted.told (i.goes before s old start)) in
+          goes_last old now served.last c.expire.new.self.last (held c.expire.new.self.opened) None c.expire.ensures.last
+          (c.expire.ensures.goes old after.book after.told served.last None (goes_on old after served.last (held served.opened) faults.Store _ tt refl (e.goes k (i.sound before s) old goes)));
+    }
+
+-- no further connection is accepted
+pub returns-in_err-accept-clause-goes : goal.returns-in_err-accept-clause-goes
+returns-in_err-accept-clause-goes g c = λ k s old start.
+    let i = c.loop-round.invariant in
+    let wire = g.N.Network.wire in
+    let accepted : Outside = record { book = g.L.Ledger.book c.loop-round.ledger; told = g.L.Ledger.told c.loop-round.ledger; wires = wire c.accept.new.network } in
+    let room = c.accept.new.self in
+    let r = c.from_residual.result in
+    let p = err_from_is_err_and r c.from_residual.ensures.1 in
+    goes_so old accepted room.last (held room.opened) faults.Store r (not_store r p.0 _ p.1 p.2 c.in_err-accept.ensures.fault) (c.accept.ensures.goes old accepted.book accepted.told (i.goes k s old start))
+
+-- the system doesn't report connections
+pub returns-in-Err-clause-goes : goal.returns-in-Err-clause-goes
+returns-in-Err-clause-goes g c = λ k s old start.
+    let i = c.loop-round.invariant in
+    let wire = g.N.Network.wire in
+    let accepted : Outside = record { book = g.L.Ledger.book c.loop-round.ledger; told = g.L.Ledger.told c.loop-round.ledger; wires = wire c.accept.new.network } in
+    let waited : Outside = record { book = accepted.book; told = accepted.told; wires = wire c.wait.new.network } in
+    let room = c.accept.new.self in
+    let fault = c.no_wait.result in
+    goes_so old waited room.last (held room.opened) faults.Store (Err fault) (not_store (Err fault) fault fault refl refl c.no_wait.ensures)
+    (rewired old accepted waited.wires room.last (held room.opened) (held room.opened) None c.wait.ensures (λ n. refl) (c.accept.ensures.goes old accepted.book accepted.told (i.goes k s old start)))
+
+-- the store failed
+pub returns-in_err-serve-clause-goes : goal.returns-in_err-serve-clause-goes
+returns-in_err-serve-clause-goes g c = λ k s old start.
+    let i = c.loop-round.invariant in
+    let e = c.in_err-serve.ensures in
+    let before = e.kept k in
+    let wire = g.N.Network.wire in
+    let accepted : Outside = record { book = g.L.Ledger.book c.loop-round.ledger; told = g.L.Ledger.told c.loop-round.ledger; wires = wire c.accept.new.network } in
+    let after : Outside = record { book = g.L.Ledger.book c.serve.new.ledger; told = g.L.Ledger.told c.serve.new.ledger; wires = wire c.serve.new.network } in
+    let room = c.accept.new.self in
+    let goes = rewired old accepted (wire c.wait.new.network) room.last (held room.opened) (held room.opened) None c.wait.ensures (λ n. refl) (c.accept.ensures.goes old accepted.book accepted.told (i.goes before s old start)) in
+    let r = c.from_residual-in_err-serve.result in
+    let p = err_from_is_err_and r c.from_residual-in_err-serve.ensures.1 in
+    goes_as old after c.serve.new.self.last (held c.serve.new.self.opened) faults.Store _ r (sym (p.1 ∙ ap Err p.2)) (e.goes k (i.sound before s) old goes)
+
+-- all were accepted, and have ended
+pub returns-then-is_empty-clause-goes : goal.returns-then-is_empty-clause-goes
+returns-then-is_empty-clause-goes g c = λ k s old start.
+    let i = c.loop-round.invariant in
+    let wire = g.N.Network.wire in
+    let accepted : Outside = record { book = g.L.Ledger.book c.loop-round.ledger; told = g.L.Ledger.told c.loop-round.ledger; wires = wire c.accept.new.network } in
+    let room = c.accept.new.self in
+    goes_so old accepted room.last (held room.opened) faults.Store (Ok tt) (ok_not tt faults.Store) (c.accept.ensures.goes old accepted.book accepted.told (i.goes k s old start))
+
+pub returns-clause-goes : goal.returns-clause-goes
+returns-clause-goes g c = λ k s old start.
+    let i = c.loop-round.invariant in
+    let wire = g.N.Network.wire in
+    let now : Outside = record { book = g.L.Ledger.book c.loop-round.ledger; told = g.L.Ledger.told c.loop-round.ledger; wires = wire c.loop-round.network } in
+    goes_so old now c.loop-round.room.last (held c.loop-round.room.opened) faults.Store (Err faults.Accept) (not_store (Err faults.Accept) faults.Accept faults.Accept refl refl refl) (i.goes k s old start)

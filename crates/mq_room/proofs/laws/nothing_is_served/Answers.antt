@@ -1,7 +1,0 @@
-use Rattle.std.proofs.Common.{Ok}
-use Rattle.mq_room.specs.declared.fault.RoomFault.TheVariants as faults
-use Rattle.mq_room.proofs.Standing.{nothing_served, ok_not}
-use Rattle.mq_room.proofs.laws.nothing_is_served.Goals as goal
-
-pub returns : goal.returns
-returns c = λ o legal. nothing_served o faults.Store (Ok tt) c.a_life_is_served.ensures.begins (c.more_exchanges.ensures.none o.book legal) (ok_not tt faults.Store)
