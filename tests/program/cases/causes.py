@@ -135,7 +135,7 @@ def rows_of_no_ledger(world, checks):
         checks.equal("a row that spells nothing: the reply", server.ask(wire.reserve(2)), b"")
         log, text = apart("".join(f"{line}\n" for line in (server.status(), server.log_lines())[1]))
         checks.equal("a row that spells nothing: the end", (server.status(), text), (1, "mailquota: store failed\n"))
-        checks.equal("a row that spells nothing: the cause", log[-1:], [f"[ERROR mq_program::store] {path}: a row is none of a ledger's\n"])
+        checks.equal("a row that spells nothing: the cause", log[-1:], [f"[ERROR mq_program::store] {path}: rows are none of a ledger's\n"])
         checks.holds("a row that spells nothing: lines of the log", len(log) == 2 and "store failed" in log[0], "one of the connection and the cause", log)
 
 

@@ -3,6 +3,7 @@ import collections
 import contextlib
 import os
 import random
+import re
 import shutil
 import signal
 import sqlite3
@@ -120,10 +121,10 @@ def changed_bits_of_the_log(world, checks, frames):
     for _ in range(10):
         copy = with_changed_bit(world, path, "-wal", source.randrange(size), source.randrange(8))
         with Server(world, store=copy, default=DEFAULT, log="info") as server:
-            begun = [line for line in server.log_lines() if "answers" in line]
+            begun = [line for line in server.log_lines() if " answers=" in line]
             status = None if server.port else server.status()
         if status is None:
-            [kept] = [int(line.split(" answers")[0].rpartition(" ")[2]) for line in begun]
+            [kept] = [int(re.search(r" answers=(\d+) ", line)[1]) for line in begun]
             books = Books(0, DEFAULT)
             books.serve(b"".join(frames[:kept]))
             found.append(kept)

@@ -6,7 +6,7 @@ import time
 from cases.filters import LIMIT, PROCEED
 from cases.rules import CENTRAL_EUROPE
 from cases.zones import WORKED_DAYS
-from ends import SECONDS, Relay, Script, Server, fault, ledger_settings, toml, wait_until, without_log
+from ends import NO_NUMERIC_ADDRESS, NO_PORT, SECONDS, Relay, Script, Server, bad_address, fault, ledger_settings, toml, wait_until, without_log
 from smtpd import Smtpd, clock, result
 from wire import BAD, RETRY, frame, full, granted, identity, limit, number, reserve, retire, retired, settle, text
 
@@ -242,13 +242,14 @@ def bad_words(world, checks):
     """A bad host, login or address, in this order, before anything is sent; and texts that are no printed login."""
     bad = lambda name: (2, b"", f"mailquota: bad {name}\n")
     for name, more in [("stop", []), ("resume", ["--cap", "1"])]:
-        for server, host, login, wrong in [
-            ("nowhere", "a_b", "", "host"), ("127.0.0.1:1", "", "u", "host"), ("127.0.0.1:1", "a" * 65, "u", "host"),
-            ("nowhere", "a", "", "login"), ("127.0.0.1:1", "a", "u" * 256, "login"),
-            ("nowhere", "a", "u", "address"), ("localhost:7025", "a" * 64, "u" * 255, "address"), ("127.0.0.1", "a", "u", "address"),
+        for server, host, login, wanted in [
+            ("nowhere", "a_b", "", bad("host")), ("127.0.0.1:1", "", "u", bad("host")), ("127.0.0.1:1", "a" * 65, "u", bad("host")),
+            ("nowhere", "a", "", bad("login")), ("127.0.0.1:1", "a", "u" * 256, bad("login")),
+            ("nowhere", "a", "u", bad_address("nowhere", NO_PORT)), ("127.0.0.1", "a", "u", bad_address("127.0.0.1", NO_PORT)),
+            ("localhost:7025", "a" * 64, "u" * 255, bad_address("localhost:7025", NO_NUMERIC_ADDRESS)),
         ]:
             shown = f"{name} --server {server} --host ({len(host)} bytes) --login ({len(login)} bytes)"
-            checks.equal(shown, world.run(name, *words_of(server, login, 1, host=host), *more), bad(wrong))
+            checks.equal(shown, world.run(name, *words_of(server, login, 1, host=host), *more), wanted)
     texts = ["", "a b", "\\", "\\x", "\\x4", "\\x41", "\\x2f", "\\xC3", "\\xFF", "\\x5C", "\\xfg", "a\\", "\u00e9", "\\\\", "\\x00" * 256, "a" * 256]
     for given in texts:
         shown = given if len(given) < 20 else f"({len(given)} bytes)"
