@@ -110,11 +110,13 @@ def trees_of(processors):
 
 
 def copy_sources(names, tree):
-    """Copies what a build of these crates reads."""
-    for path in [f"{TOP}/crates.txt", f"{TOP}/HANDLES", *(it for name in names for it in files_of(name))]:
+    """Copies what a build of these crates reads, and of crates.txt their lines."""
+    for path in [f"{TOP}/HANDLES", *(it for name in names for it in files_of(name))]:
         to = f"{tree}/{os.path.relpath(path, TOP)}"
         os.makedirs(os.path.dirname(to), exist_ok=True)
         shutil.copy(path, to)
+    with open(f"{TOP}/crates.txt", encoding="utf-8") as lines, open(f"{tree}/crates.txt", "w", encoding="utf-8") as copy:
+        copy.writelines(it for it in lines if it.partition("#")[0].partition(":")[0].partition(" ")[0] in names)
 
 
 def failed(name, status):
@@ -163,7 +165,8 @@ class Build:
         """Proves one crate after the other in a tree, as long as there are any."""
         while name := self.next(tree):
             start, number = time.monotonic(), self.begun.index(name) + 1
-            print(f"{name}: begun, {number} of {len(self.below)}", flush=True)
+            with self.changed:
+                print(f"{name}: begun, {number} of {len(self.below)}", flush=True)
             status = self.prove(name, tree)
             with self.changed:
                 self.running.pop(name, None)

@@ -110,10 +110,11 @@ def installed(world, checks):
         checks.equal(f"make install PREFIX={prefix}: files that name another folder's programs", wrong, [])
 
 
-# a command rt that proves nothing, and notes when it begins and ends with a crate
+# a command rt that proves nothing, wants each crate of crates.txt to be there, and notes when it begins and ends with a crate
 RT = """#!/bin/sh
 if [ "$1" = version ]; then echo kit; exit; fi
 crate=${{PWD##*/}}
+for it in $(cut -d: -f1 ../../crates.txt); do [ -d ../$it/src ] || {{ echo "there is no $it"; exit 4; }}; done
 echo "begins $crate $1" >>{folder}/noted
 sleep 0.1
 [ "$crate" = "$(cat {folder}/fails)" ] && {{ echo "no proof of $crate"; exit 3; }}
