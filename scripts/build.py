@@ -229,6 +229,8 @@ def main(words):
     if words:
         print(__doc__, end="", file=sys.stderr)
         return 2
+    # (so that what runs is ended, and the copies go)
+    signal.signal(signal.SIGTERM, lambda number, _: sys.exit(128 + number))
     wanted = sum_of_all(below)
     if not is_built(wanted):
         if build(below):
