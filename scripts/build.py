@@ -183,7 +183,9 @@ class Build:
         with self.changed:
             self.has_failed = True
             for process in self.running.values():
-                os.killpg(process.pid, signal.SIGKILL)
+                # (one that has ended may still be listed, and its number may be another's)
+                if process.poll() is None:
+                    os.killpg(process.pid, signal.SIGKILL)
             self.changed.notify_all()
 
 
