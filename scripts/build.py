@@ -35,14 +35,16 @@ MEMORY = 4_000_000
 SHARED = (1.2, 1.57)
 
 
+def row_of(line):
+    """The crate that a line of crates.txt names, with its libraries; None where it names none."""
+    name, colon, libraries = line.partition("#")[0].partition(":")
+    return (name.split()[0], libraries.split()) if colon else None
+
+
 def crates():
     """The crates that the program stands on, each with those of ours below it."""
-    rows = {}
     with open(f"{TOP}/crates.txt", encoding="utf-8") as lines:
-        for line in lines:
-            name, colon, libraries = line.partition("#")[0].partition(":")
-            if colon:
-                rows[name.split()[0]] = libraries.split()
+        rows = dict(it for it in map(row_of, lines) if it)
     found, left = {}, [PROGRAM]
     while left:
         name = left.pop()
@@ -116,7 +118,7 @@ def copy_sources(names, tree):
         os.makedirs(os.path.dirname(to), exist_ok=True)
         shutil.copy(path, to)
     with open(f"{TOP}/crates.txt", encoding="utf-8") as lines, open(f"{tree}/crates.txt", "w", encoding="utf-8") as copy:
-        copy.writelines(it for it in lines if it.partition("#")[0].partition(":")[0].partition(" ")[0] in names)
+        copy.writelines(it for it in lines if (row := row_of(it)) and row[0] in names)
 
 
 def failed(name, status):
