@@ -11,14 +11,18 @@ use Rattle.sqlite.specs.Order.{Row, column}
 use Rattle.sqlite.specs.Term.{Term, eval, eval_all, holds}
 use Rattle.sqlite.specs.Command.TheVariants.{Select}
 use Rattle.sqlite.specs.Listing.{understood}
-use Rattle.sqlite.specs.State.{State, Shown, IsUnchanged, KeepsCommit, FailsToQuery, IsTooLate}
+use Rattle.sqlite.specs.declared.transaction.Transaction.{Transaction}
+use Rattle.sqlite.specs.Held.{state}
+use Rattle.sqlite.specs.State.{State, Shown, IsUnchanged, FailsToQuery, IsTooLate, HasCleanDisk, Survives}
 use Rattle.sqlite.proofs.Callers.{command_of}
 use Rattle.sqlite_sql.specs.Ops.{binary, is_true}
 use Rattle.sqlite_sql.specs.declared.ops.BinaryOp.TheVariants.{Compare}
 use Rattle.sqlite_resolve.specs.Terms.{conjuncts}
+use Rattle.sqlite_trees.specs.declared.store.Store.{Ghosts}
 use Rattle.sqlite_trees.proofs.ListLemmas.{map-map, filter-map}
 use Rattle.sqlite_value.specs.declared.keys.Collation.TheVariants.{Binary}
 use Rattle.mq_rows.specs.Tables.{Tables}
+use Rattle.mq_tables.specs.Inside.{LeavesCommit}
 use Rattle.mq_tables.specs.Places.{IsTableIn}
 use Rattle.mq_tables.specs.Records.{Holds}
 use Rattle.mq_tables.specs.Written.{chosen}
@@ -72,9 +76,15 @@ module _ (text : List ℕ) (shape : SelectShape) (it : IsSelect text shape) wher
   pub shown_same : (params : Row) (old new : State) (outcome : Result (Vec Row Global) Error) → IfOk outcome (λ rows. Shown text params old new rows.items) → OnOk outcome (IsUnchanged old new)
   shown_same params old new outcome = asked_same text params old new (bare text shape it old.now.schema) outcome
 
-  pub shown_keeps : (params : Row) (old new : State) (outcome : Result (Vec Row Global) Error) → IfOk outcome (λ rows. Shown text params old new rows.items)
-      → IfErr outcome (λ e. FailsToQuery text params old new e ⊎ IsTooLate text params old new e) → KeepsCommit old new
-  shown_keeps params old new outcome = asked_keeps text params old new (bare text shape it old.now.schema) outcome
+  pub shown_leaves : (params : Row) {S : Type 0} {store : Ghosts S} {old new : Transaction S} (outcome : Result (Vec Row Global) Error) → new.conn.ghost_name ≡ old.conn.ghost_name
+      → (HasCleanDisk (state store new.conn.now) → IfOk outcome (λ rows. Shown text params (state store old.conn.now) (state store new.conn.now) rows.items))
+      → (HasCleanDisk (state store new.conn.now) → IfErr outcome (λ e. FailsToQuery text params (state store old.conn.now) (state store new.conn.now) e ⊎ IsTooLate text params (state store old.conn.now) (state store new.conn.now) e))
+      → Survives (state store old.conn.now) (state store new.conn.now) (λ _. ⊥) → LeavesCommit store old new
+  shown_leaves params {S} {store} {old} {new} outcome same ok err survives = record {
+    same_reference = same;
+    kept = λ clean. asked_keeps text params (state store old.conn.now) (state store new.conn.now) (bare text shape it (state store old.conn.now).now.schema) outcome (ok clean) (err clean);
+    survives = survives;
+  }
 
 -- ---- all that pass, in any order, or the first of them
 

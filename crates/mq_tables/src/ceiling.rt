@@ -3,13 +3,14 @@
 ghost use Rattle.std.specs.List.Sorted.{IsPermutation};
 ghost use Rattle.std.specs.Prelude.{◌≡◌, map, filter, IsTrue, OnOk, IfOk};
 ghost use Rattle.sqlite.specs.Held.{state};
-ghost use Rattle.sqlite.specs.State.{HasCleanDisk, IsUnchanged, KeepsCommit, Survives};
+ghost use Rattle.sqlite.specs.State.{HasCleanDisk, IsUnchanged};
 ghost use Rattle.sqlite.specs.Values.{bound};
 ghost use Rattle.mq_rows.specs.declared.plan.Write.TheVariants.{Insert, Update};
 ghost use Rattle.mq_rows.specs.Found.{IsGoverning};
 ghost use Rattle.mq_rows.specs.Rows.{is_limit};
 ghost use Rattle.mq_rows.specs.Tables.{Tables};
 ghost use Rattle.mq_tables.specs.Governing.{limit_row, IsGoverningShown, IsFirstLimit};
+ghost use Rattle.mq_tables.specs.Inside.{LeavesCommit};
 ghost use Rattle.mq_tables.specs.Ledger.{HasLedger};
 ghost use Rattle.mq_tables.specs.Lent.{cap_params};
 ghost use Rattle.mq_tables.specs.Records.{limit_fields, IsOneOf};
@@ -44,15 +45,12 @@ fn cap_params(limit: &LimitRecord) -> [ValueRef<'_>; 3]
 fn insert_limit<S: Alter>(tx: &mut Transaction<'_, S>, limit: &LimitRecord) -> Result<usize, Error>
     requires inside { HasCleanDisk (state S.Store tx.old.conn.now)
         → IsTrue (state S.Store tx.old.conn.now).in_transaction }
-    ensures same_reference { tx.new.conn.ghost_name ≡ tx.old.conn.ghost_name }
     ensures inside { HasCleanDisk (state S.Store tx.new.conn.now)
         → OnOk result (IsTrue (state S.Store tx.new.conn.now).in_transaction) }
     ensures written { HasCleanDisk (state S.Store tx.new.conn.now)
         → OnOk result (WritesLimit (Insert limit.now)
         (state S.Store tx.old.conn.now) (state S.Store tx.new.conn.now)) }
-    ensures kept { HasCleanDisk (state S.Store tx.new.conn.now)
-        → KeepsCommit (state S.Store tx.old.conn.now) (state S.Store tx.new.conn.now) }
-    ensures survives { Survives (state S.Store tx.old.conn.now) (state S.Store tx.new.conn.now) (λ _. ⊥) }
+    ensures leaves { LeavesCommit S.Store tx.old tx.new }
 {
     tx.execute(
         "INSERT INTO ceiling (login, day, cap) VALUES (?1, ?2, ?3)",
@@ -63,15 +61,12 @@ fn insert_limit<S: Alter>(tx: &mut Transaction<'_, S>, limit: &LimitRecord) -> R
 fn update_limit<S: Alter>(tx: &mut Transaction<'_, S>, limit: &LimitRecord) -> Result<usize, Error>
     requires inside { HasCleanDisk (state S.Store tx.old.conn.now)
         → IsTrue (state S.Store tx.old.conn.now).in_transaction }
-    ensures same_reference { tx.new.conn.ghost_name ≡ tx.old.conn.ghost_name }
     ensures inside { HasCleanDisk (state S.Store tx.new.conn.now)
         → OnOk result (IsTrue (state S.Store tx.new.conn.now).in_transaction) }
     ensures written { HasCleanDisk (state S.Store tx.new.conn.now)
         → OnOk result (WritesLimit (Update limit.now)
         (state S.Store tx.old.conn.now) (state S.Store tx.new.conn.now)) }
-    ensures kept { HasCleanDisk (state S.Store tx.new.conn.now)
-        → KeepsCommit (state S.Store tx.old.conn.now) (state S.Store tx.new.conn.now) }
-    ensures survives { Survives (state S.Store tx.old.conn.now) (state S.Store tx.new.conn.now) (λ _. ⊥) }
+    ensures leaves { LeavesCommit S.Store tx.old tx.new }
 {
     tx.execute(
         "UPDATE ceiling SET cap = ?1 WHERE login = ?2 AND day = ?3",
@@ -86,14 +81,11 @@ pub fn write_limit<S: Alter>(
 ) -> Result<usize, Error>
     requires inside { HasCleanDisk (state S.Store tx.old.conn.now)
         → IsTrue (state S.Store tx.old.conn.now).in_transaction }
-    ensures same_reference { tx.new.conn.ghost_name ≡ tx.old.conn.ghost_name }
     ensures inside { HasCleanDisk (state S.Store tx.new.conn.now)
         → OnOk result (IsTrue (state S.Store tx.new.conn.now).in_transaction) }
     ensures written { HasCleanDisk (state S.Store tx.new.conn.now)
         → OnOk result (WritesLimit write.now (state S.Store tx.old.conn.now) (state S.Store tx.new.conn.now)) }
-    ensures kept { HasCleanDisk (state S.Store tx.new.conn.now)
-        → KeepsCommit (state S.Store tx.old.conn.now) (state S.Store tx.new.conn.now) }
-    ensures survives { Survives (state S.Store tx.old.conn.now) (state S.Store tx.new.conn.now) (λ _. ⊥) }
+    ensures leaves { LeavesCommit S.Store tx.old tx.new }
 {
     match write {
         Write::Keep => Ok(0),
@@ -107,15 +99,12 @@ fn limit_rows<S: Alter>(
     login: &Login,
     day: u32,
 ) -> Result<Vec<Row>, Error>
-    ensures same_reference { tx.new.conn.ghost_name ≡ tx.old.conn.ghost_name }
     ensures same { HasCleanDisk (state S.Store tx.new.conn.now)
         → OnOk result (IsUnchanged (state S.Store tx.old.conn.now) (state S.Store tx.new.conn.now)) }
     ensures found { HasCleanDisk (state S.Store tx.new.conn.now)
         → IfOk result (λ rows. (t : Tables) → HasLedger (state S.Store tx.old.conn.now).now t
         → IsPermutation (map limit_row (filter (is_limit login.now day) t.limits)) rows.items) }
-    ensures kept { HasCleanDisk (state S.Store tx.new.conn.now)
-        → KeepsCommit (state S.Store tx.old.conn.now) (state S.Store tx.new.conn.now) }
-    ensures survives { Survives (state S.Store tx.old.conn.now) (state S.Store tx.new.conn.now) (λ _. ⊥) }
+    ensures leaves { LeavesCommit S.Store tx.old tx.new }
 {
     tx.query_all(
         "SELECT day, cap FROM ceiling WHERE login = ?1 AND day = ?2",
@@ -128,15 +117,12 @@ fn latest_rows<S: Alter>(
     login: &Login,
     day: u32,
 ) -> Result<Vec<Row>, Error>
-    ensures same_reference { tx.new.conn.ghost_name ≡ tx.old.conn.ghost_name }
     ensures same { HasCleanDisk (state S.Store tx.new.conn.now)
         → OnOk result (IsUnchanged (state S.Store tx.old.conn.now) (state S.Store tx.new.conn.now)) }
     ensures found { HasCleanDisk (state S.Store tx.new.conn.now)
         → IfOk result (λ rows. (t : Tables) → HasLedger (state S.Store tx.old.conn.now).now t
         → IsGoverningShown login.now day t.limits rows.items) }
-    ensures kept { HasCleanDisk (state S.Store tx.new.conn.now)
-        → KeepsCommit (state S.Store tx.old.conn.now) (state S.Store tx.new.conn.now) }
-    ensures survives { Survives (state S.Store tx.old.conn.now) (state S.Store tx.new.conn.now) (λ _. ⊥) }
+    ensures leaves { LeavesCommit S.Store tx.old tx.new }
 {
     tx.query_all(
         "SELECT day, cap FROM ceiling WHERE login = ?1 AND day <= ?2 ORDER BY day DESC LIMIT 1",
@@ -164,15 +150,12 @@ pub fn find_limit<S: Alter>(
     login: &Login,
     day: u32,
 ) -> Result<Option<LimitRecord>, Error>
-    ensures same_reference { tx.new.conn.ghost_name ≡ tx.old.conn.ghost_name }
     ensures same { HasCleanDisk (state S.Store tx.new.conn.now)
         → OnOk result (IsUnchanged (state S.Store tx.old.conn.now) (state S.Store tx.new.conn.now)) }
     ensures found { HasCleanDisk (state S.Store tx.new.conn.now)
         → IfOk result (λ found. (t : Tables) → HasLedger (state S.Store tx.old.conn.now).now t
         → IsOneOf (is_limit login.now day) t.limits found) }
-    ensures kept { HasCleanDisk (state S.Store tx.new.conn.now)
-        → KeepsCommit (state S.Store tx.old.conn.now) (state S.Store tx.new.conn.now) }
-    ensures survives { Survives (state S.Store tx.old.conn.now) (state S.Store tx.new.conn.now) (λ _. ⊥) }
+    ensures leaves { LeavesCommit S.Store tx.old tx.new }
 {
     let rows = limit_rows(tx, login, day)?;
     first_limit(rows.as_slice(), login)
@@ -185,15 +168,12 @@ pub fn find_governing<S: Alter>(
     login: &Login,
     day: u32,
 ) -> Result<Option<LimitRecord>, Error>
-    ensures same_reference { tx.new.conn.ghost_name ≡ tx.old.conn.ghost_name }
     ensures same { HasCleanDisk (state S.Store tx.new.conn.now)
         → OnOk result (IsUnchanged (state S.Store tx.old.conn.now) (state S.Store tx.new.conn.now)) }
     ensures found { HasCleanDisk (state S.Store tx.new.conn.now)
         → IfOk result (λ found. (t : Tables) → HasLedger (state S.Store tx.old.conn.now).now t
         → IsGoverning login.now day t.limits found) }
-    ensures kept { HasCleanDisk (state S.Store tx.new.conn.now)
-        → KeepsCommit (state S.Store tx.old.conn.now) (state S.Store tx.new.conn.now) }
-    ensures survives { Survives (state S.Store tx.old.conn.now) (state S.Store tx.new.conn.now) (λ _. ⊥) }
+    ensures leaves { LeavesCommit S.Store tx.old tx.new }
 {
     let rows = latest_rows(tx, login, day)?;
     first_limit(rows.as_slice(), login)

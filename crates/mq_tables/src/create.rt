@@ -1,12 +1,12 @@
 //! The tables, made in one transaction over whatever the store holds already.
 
 ghost use Rattle.std.specs.Prelude.{◌≡◌, ◌⊎◌, false, IsTrue, OnOk, OnErr};
-ghost use Rattle.sqlite.specs.State.{HasCleanDisk, KeepsCommit, Survives};
+ghost use Rattle.sqlite.specs.State.{HasCleanDisk};
 ghost use Rattle.sqlite.specs.Held.{state};
 ghost use Rattle.sqlite.specs.Tree.{Trees};
 ghost use Rattle.sqlite.specs.Values.{bound};
 ghost use Rattle.mq_ledger.specs.Day.{rule_in};
-ghost use Rattle.mq_tables.specs.Inside.{Lasts};
+ghost use Rattle.mq_tables.specs.Inside.{Lasts, LeavesCommit};
 ghost use Rattle.mq_tables.specs.Settings.{rule_fields};
 ghost use Rattle.mq_tables.specs.Tables.{setting_table, answer_table, trans_table, usage_table, ceiling_table, rule_table};
 ghost use Rattle.mq_tables.specs.Tables.{retired_table};
@@ -21,12 +21,9 @@ use sqlite::{Alter, Connection, Error, Transaction};
 fn create_setting<S: Alter>(tx: &mut Transaction<'_, S>) -> Result<usize, Error>
     requires inside { HasCleanDisk (state S.Store tx.old.conn.now)
         → IsTrue (state S.Store tx.old.conn.now).in_transaction }
-    ensures same_reference { tx.new.conn.ghost_name ≡ tx.old.conn.ghost_name }
     ensures made { HasCleanDisk (state S.Store tx.new.conn.now)
         → OnOk result (Makes setting_table (state S.Store tx.old.conn.now) (state S.Store tx.new.conn.now)) }
-    ensures kept { HasCleanDisk (state S.Store tx.new.conn.now)
-        → KeepsCommit (state S.Store tx.old.conn.now) (state S.Store tx.new.conn.now) }
-    ensures survives { Survives (state S.Store tx.old.conn.now) (state S.Store tx.new.conn.now) (λ _. ⊥) }
+    ensures leaves { LeavesCommit S.Store tx.old tx.new }
 {
     tx.execute(
         "CREATE TABLE setting (id INTEGER PRIMARY KEY, version INTEGER NOT NULL, \
@@ -38,12 +35,9 @@ fn create_setting<S: Alter>(tx: &mut Transaction<'_, S>) -> Result<usize, Error>
 fn create_answer<S: Alter>(tx: &mut Transaction<'_, S>) -> Result<usize, Error>
     requires inside { HasCleanDisk (state S.Store tx.old.conn.now)
         → IsTrue (state S.Store tx.old.conn.now).in_transaction }
-    ensures same_reference { tx.new.conn.ghost_name ≡ tx.old.conn.ghost_name }
     ensures made { HasCleanDisk (state S.Store tx.new.conn.now)
         → OnOk result (Makes answer_table (state S.Store tx.old.conn.now) (state S.Store tx.new.conn.now)) }
-    ensures kept { HasCleanDisk (state S.Store tx.new.conn.now)
-        → KeepsCommit (state S.Store tx.old.conn.now) (state S.Store tx.new.conn.now) }
-    ensures survives { Survives (state S.Store tx.old.conn.now) (state S.Store tx.new.conn.now) (λ _. ⊥) }
+    ensures leaves { LeavesCommit S.Store tx.old tx.new }
 {
     tx.execute(
         "CREATE TABLE answer (n INTEGER PRIMARY KEY, host BLOB NOT NULL, run INTEGER NOT NULL, \
@@ -55,12 +49,9 @@ fn create_answer<S: Alter>(tx: &mut Transaction<'_, S>) -> Result<usize, Error>
 fn create_trans<S: Alter>(tx: &mut Transaction<'_, S>) -> Result<usize, Error>
     requires inside { HasCleanDisk (state S.Store tx.old.conn.now)
         → IsTrue (state S.Store tx.old.conn.now).in_transaction }
-    ensures same_reference { tx.new.conn.ghost_name ≡ tx.old.conn.ghost_name }
     ensures made { HasCleanDisk (state S.Store tx.new.conn.now)
         → OnOk result (Makes trans_table (state S.Store tx.old.conn.now) (state S.Store tx.new.conn.now)) }
-    ensures kept { HasCleanDisk (state S.Store tx.new.conn.now)
-        → KeepsCommit (state S.Store tx.old.conn.now) (state S.Store tx.new.conn.now) }
-    ensures survives { Survives (state S.Store tx.old.conn.now) (state S.Store tx.new.conn.now) (λ _. ⊥) }
+    ensures leaves { LeavesCommit S.Store tx.old tx.new }
 {
     tx.execute(
         "CREATE TABLE trans (host BLOB NOT NULL, run INTEGER NOT NULL, txn INTEGER NOT NULL, \
@@ -74,12 +65,9 @@ fn create_trans<S: Alter>(tx: &mut Transaction<'_, S>) -> Result<usize, Error>
 fn create_usage<S: Alter>(tx: &mut Transaction<'_, S>) -> Result<usize, Error>
     requires inside { HasCleanDisk (state S.Store tx.old.conn.now)
         → IsTrue (state S.Store tx.old.conn.now).in_transaction }
-    ensures same_reference { tx.new.conn.ghost_name ≡ tx.old.conn.ghost_name }
     ensures made { HasCleanDisk (state S.Store tx.new.conn.now)
         → OnOk result (Makes usage_table (state S.Store tx.old.conn.now) (state S.Store tx.new.conn.now)) }
-    ensures kept { HasCleanDisk (state S.Store tx.new.conn.now)
-        → KeepsCommit (state S.Store tx.old.conn.now) (state S.Store tx.new.conn.now) }
-    ensures survives { Survives (state S.Store tx.old.conn.now) (state S.Store tx.new.conn.now) (λ _. ⊥) }
+    ensures leaves { LeavesCommit S.Store tx.old tx.new }
 {
     tx.execute(
         "CREATE TABLE usage (login BLOB NOT NULL, day INTEGER NOT NULL, \
@@ -91,12 +79,9 @@ fn create_usage<S: Alter>(tx: &mut Transaction<'_, S>) -> Result<usize, Error>
 fn create_ceiling<S: Alter>(tx: &mut Transaction<'_, S>) -> Result<usize, Error>
     requires inside { HasCleanDisk (state S.Store tx.old.conn.now)
         → IsTrue (state S.Store tx.old.conn.now).in_transaction }
-    ensures same_reference { tx.new.conn.ghost_name ≡ tx.old.conn.ghost_name }
     ensures made { HasCleanDisk (state S.Store tx.new.conn.now)
         → OnOk result (Makes ceiling_table (state S.Store tx.old.conn.now) (state S.Store tx.new.conn.now)) }
-    ensures kept { HasCleanDisk (state S.Store tx.new.conn.now)
-        → KeepsCommit (state S.Store tx.old.conn.now) (state S.Store tx.new.conn.now) }
-    ensures survives { Survives (state S.Store tx.old.conn.now) (state S.Store tx.new.conn.now) (λ _. ⊥) }
+    ensures leaves { LeavesCommit S.Store tx.old tx.new }
 {
     tx.execute(
         "CREATE TABLE ceiling (login BLOB NOT NULL, day INTEGER NOT NULL, cap INTEGER NOT NULL, \
@@ -108,12 +93,9 @@ fn create_ceiling<S: Alter>(tx: &mut Transaction<'_, S>) -> Result<usize, Error>
 pub(crate) fn create_rule<S: Alter>(tx: &mut Transaction<'_, S>) -> Result<usize, Error>
     requires inside { HasCleanDisk (state S.Store tx.old.conn.now)
         → IsTrue (state S.Store tx.old.conn.now).in_transaction }
-    ensures same_reference { tx.new.conn.ghost_name ≡ tx.old.conn.ghost_name }
     ensures made { HasCleanDisk (state S.Store tx.new.conn.now)
         → OnOk result (Makes rule_table (state S.Store tx.old.conn.now) (state S.Store tx.new.conn.now)) }
-    ensures kept { HasCleanDisk (state S.Store tx.new.conn.now)
-        → KeepsCommit (state S.Store tx.old.conn.now) (state S.Store tx.new.conn.now) }
-    ensures survives { Survives (state S.Store tx.old.conn.now) (state S.Store tx.new.conn.now) (λ _. ⊥) }
+    ensures leaves { LeavesCommit S.Store tx.old tx.new }
 {
     tx.execute(
         "CREATE TABLE rule (id INTEGER PRIMARY KEY, bytes BLOB NOT NULL) STRICT",
@@ -124,14 +106,11 @@ pub(crate) fn create_rule<S: Alter>(tx: &mut Transaction<'_, S>) -> Result<usize
 pub(crate) fn create_retired<S: Alter>(tx: &mut Transaction<'_, S>) -> Result<usize, Error>
     requires inside { HasCleanDisk (state S.Store tx.old.conn.now)
         → IsTrue (state S.Store tx.old.conn.now).in_transaction }
-    ensures same_reference { tx.new.conn.ghost_name ≡ tx.old.conn.ghost_name }
     ensures open { HasCleanDisk (state S.Store tx.new.conn.now)
         → OnOk result (IsTrue (state S.Store tx.old.conn.now).is_open) }
     ensures made { HasCleanDisk (state S.Store tx.new.conn.now)
         → OnOk result (Makes retired_table (state S.Store tx.old.conn.now) (state S.Store tx.new.conn.now)) }
-    ensures kept { HasCleanDisk (state S.Store tx.new.conn.now)
-        → KeepsCommit (state S.Store tx.old.conn.now) (state S.Store tx.new.conn.now) }
-    ensures survives { Survives (state S.Store tx.old.conn.now) (state S.Store tx.new.conn.now) (λ _. ⊥) }
+    ensures leaves { LeavesCommit S.Store tx.old tx.new }
 {
     tx.execute(
         "CREATE TABLE retired (host BLOB PRIMARY KEY, run INTEGER NOT NULL) STRICT",
@@ -148,13 +127,10 @@ fn rule_params(rule: &[u8]) -> [ValueRef<'_>; 1]
 fn put_rule<S: Alter>(tx: &mut Transaction<'_, S>, rule: &[u8]) -> Result<usize, Error>
     requires inside { HasCleanDisk (state S.Store tx.old.conn.now)
         → IsTrue (state S.Store tx.old.conn.now).in_transaction }
-    ensures same_reference { tx.new.conn.ghost_name ≡ tx.old.conn.ghost_name }
     ensures put { HasCleanDisk (state S.Store tx.new.conn.now)
         → OnOk result (Puts rule_table (rule_fields rule.now) (state S.Store tx.old.conn.now)
         (state S.Store tx.new.conn.now)) }
-    ensures kept { HasCleanDisk (state S.Store tx.new.conn.now)
-        → KeepsCommit (state S.Store tx.old.conn.now) (state S.Store tx.new.conn.now) }
-    ensures survives { Survives (state S.Store tx.old.conn.now) (state S.Store tx.new.conn.now) (λ _. ⊥) }
+    ensures leaves { LeavesCommit S.Store tx.old tx.new }
 {
     tx.execute(
         "INSERT INTO rule (id, bytes) VALUES (1, ?1)",
@@ -169,13 +145,10 @@ fn put_any_rule<S: Alter>(
 ) -> Result<usize, Error>
     requires inside { HasCleanDisk (state S.Store tx.old.conn.now)
         → IsTrue (state S.Store tx.old.conn.now).in_transaction }
-    ensures same_reference { tx.new.conn.ghost_name ≡ tx.old.conn.ghost_name }
     ensures put { HasCleanDisk (state S.Store tx.new.conn.now)
         → OnOk result (PutsAny (rule_in made_with.now.zone) (state S.Store tx.old.conn.now)
         (state S.Store tx.new.conn.now)) }
-    ensures kept { HasCleanDisk (state S.Store tx.new.conn.now)
-        → KeepsCommit (state S.Store tx.old.conn.now) (state S.Store tx.new.conn.now) }
-    ensures survives { Survives (state S.Store tx.old.conn.now) (state S.Store tx.new.conn.now) (λ _. ⊥) }
+    ensures leaves { LeavesCommit S.Store tx.old tx.new }
 {
     match made_with.zone.rule() {
         Some(rule) => put_rule(tx, rule),
@@ -199,13 +172,10 @@ fn put_setting<S: Alter>(
 ) -> Result<usize, Error>
     requires inside { HasCleanDisk (state S.Store tx.old.conn.now)
         → IsTrue (state S.Store tx.old.conn.now).in_transaction }
-    ensures same_reference { tx.new.conn.ghost_name ≡ tx.old.conn.ghost_name }
     ensures put { HasCleanDisk (state S.Store tx.new.conn.now)
         → OnOk result (Puts setting_table (setting_row made_with.now) (state S.Store tx.old.conn.now)
         (state S.Store tx.new.conn.now)) }
-    ensures kept { HasCleanDisk (state S.Store tx.new.conn.now)
-        → KeepsCommit (state S.Store tx.old.conn.now) (state S.Store tx.new.conn.now) }
-    ensures survives { Survives (state S.Store tx.old.conn.now) (state S.Store tx.new.conn.now) (λ _. ⊥) }
+    ensures leaves { LeavesCommit S.Store tx.old tx.new }
 {
     tx.execute(
         "INSERT INTO setting (id, version, minutes, cap, arrivals) VALUES (1, ?1, ?2, ?3, 0)",
@@ -219,16 +189,13 @@ fn begin_setting<S: Alter>(
 ) -> Result<usize, Error>
     requires inside { HasCleanDisk (state S.Store tx.old.conn.now)
         → IsTrue (state S.Store tx.old.conn.now).in_transaction }
-    ensures same_reference { tx.new.conn.ghost_name ≡ tx.old.conn.ghost_name }
     ensures inside { HasCleanDisk (state S.Store tx.new.conn.now)
         → OnOk result (IsTrue (state S.Store tx.new.conn.now).in_transaction) }
     ensures started { HasCleanDisk (state S.Store tx.new.conn.now)
         → OnOk result (HasCounters (state S.Store tx.old.conn.now)
         → HasStarted setting_table (setting_row made_with.now) (state S.Store tx.old.conn.now)
         (state S.Store tx.new.conn.now)) }
-    ensures kept { HasCleanDisk (state S.Store tx.new.conn.now)
-        → KeepsCommit (state S.Store tx.old.conn.now) (state S.Store tx.new.conn.now) }
-    ensures survives { Survives (state S.Store tx.old.conn.now) (state S.Store tx.new.conn.now) (λ _. ⊥) }
+    ensures leaves { LeavesCommit S.Store tx.old tx.new }
 {
     create_setting(tx)?;
     put_setting(tx, made_with)
@@ -237,15 +204,12 @@ fn begin_setting<S: Alter>(
 fn create_four<S: Alter>(tx: &mut Transaction<'_, S>) -> Result<usize, Error>
     requires inside { HasCleanDisk (state S.Store tx.old.conn.now)
         → IsTrue (state S.Store tx.old.conn.now).in_transaction }
-    ensures same_reference { tx.new.conn.ghost_name ≡ tx.old.conn.ghost_name }
     ensures inside { HasCleanDisk (state S.Store tx.new.conn.now)
         → OnOk result (IsTrue (state S.Store tx.new.conn.now).in_transaction) }
     ensures added { HasCleanDisk (state S.Store tx.new.conn.now)
         → OnOk result (HasCounters (state S.Store tx.old.conn.now)
         → HasAdded four_tables (state S.Store tx.old.conn.now) (state S.Store tx.new.conn.now)) }
-    ensures kept { HasCleanDisk (state S.Store tx.new.conn.now)
-        → KeepsCommit (state S.Store tx.old.conn.now) (state S.Store tx.new.conn.now) }
-    ensures survives { Survives (state S.Store tx.old.conn.now) (state S.Store tx.new.conn.now) (λ _. ⊥) }
+    ensures leaves { LeavesCommit S.Store tx.old tx.new }
 {
     create_answer(tx)?;
     create_trans(tx)?;
@@ -257,15 +221,12 @@ fn create_four<S: Alter>(tx: &mut Transaction<'_, S>) -> Result<usize, Error>
 fn create_later<S: Alter>(tx: &mut Transaction<'_, S>) -> Result<usize, Error>
     requires inside { HasCleanDisk (state S.Store tx.old.conn.now)
         → IsTrue (state S.Store tx.old.conn.now).in_transaction }
-    ensures same_reference { tx.new.conn.ghost_name ≡ tx.old.conn.ghost_name }
     ensures inside { HasCleanDisk (state S.Store tx.new.conn.now)
         → OnOk result (IsTrue (state S.Store tx.new.conn.now).in_transaction) }
     ensures added { HasCleanDisk (state S.Store tx.new.conn.now)
         → OnOk result (HasCounters (state S.Store tx.old.conn.now)
         → HasAdded (later_tables false) (state S.Store tx.old.conn.now) (state S.Store tx.new.conn.now)) }
-    ensures kept { HasCleanDisk (state S.Store tx.new.conn.now)
-        → KeepsCommit (state S.Store tx.old.conn.now) (state S.Store tx.new.conn.now) }
-    ensures survives { Survives (state S.Store tx.old.conn.now) (state S.Store tx.new.conn.now) (λ _. ⊥) }
+    ensures leaves { LeavesCommit S.Store tx.old tx.new }
 {
     create_rule(tx)?;
     create_retired(tx)
@@ -274,15 +235,12 @@ fn create_later<S: Alter>(tx: &mut Transaction<'_, S>) -> Result<usize, Error>
 fn create_others<S: Alter>(tx: &mut Transaction<'_, S>) -> Result<usize, Error>
     requires inside { HasCleanDisk (state S.Store tx.old.conn.now)
         → IsTrue (state S.Store tx.old.conn.now).in_transaction }
-    ensures same_reference { tx.new.conn.ghost_name ≡ tx.old.conn.ghost_name }
     ensures inside { HasCleanDisk (state S.Store tx.new.conn.now)
         → OnOk result (IsTrue (state S.Store tx.new.conn.now).in_transaction) }
     ensures added { HasCleanDisk (state S.Store tx.new.conn.now)
         → OnOk result (HasCounters (state S.Store tx.old.conn.now)
         → HasAdded other_tables (state S.Store tx.old.conn.now) (state S.Store tx.new.conn.now)) }
-    ensures kept { HasCleanDisk (state S.Store tx.new.conn.now)
-        → KeepsCommit (state S.Store tx.old.conn.now) (state S.Store tx.new.conn.now) }
-    ensures survives { Survives (state S.Store tx.old.conn.now) (state S.Store tx.new.conn.now) (λ _. ⊥) }
+    ensures leaves { LeavesCommit S.Store tx.old tx.new }
 {
     create_four(tx)?;
     create_later(tx)
@@ -296,15 +254,12 @@ pub fn make_tables<S: Alter>(
 ) -> Result<usize, Error>
     requires inside { HasCleanDisk (state S.Store tx.old.conn.now)
         → IsTrue (state S.Store tx.old.conn.now).in_transaction }
-    ensures same_reference { tx.new.conn.ghost_name ≡ tx.old.conn.ghost_name }
     ensures inside { HasCleanDisk (state S.Store tx.new.conn.now)
         → OnOk result (IsTrue (state S.Store tx.new.conn.now).in_transaction) }
     ensures made { HasCleanDisk (state S.Store tx.new.conn.now)
         → OnOk result (IsMadeOver made_with.now (state S.Store tx.old.conn.now).now
         (state S.Store tx.new.conn.now).now) }
-    ensures kept { HasCleanDisk (state S.Store tx.new.conn.now)
-        → KeepsCommit (state S.Store tx.old.conn.now) (state S.Store tx.new.conn.now) }
-    ensures survives { Survives (state S.Store tx.old.conn.now) (state S.Store tx.new.conn.now) (λ _. ⊥) }
+    ensures leaves { LeavesCommit S.Store tx.old tx.new }
 {
     begin_setting(tx, made_with)?;
     create_others(tx)?;

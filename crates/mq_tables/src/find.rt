@@ -2,7 +2,7 @@
 
 ghost use Rattle.std.specs.Prelude.{◌≡◌, ◌<◌, ◌^◌, find, OnOk, IfOk, IsSome};
 ghost use Rattle.sqlite.specs.Held.{state};
-ghost use Rattle.sqlite.specs.State.{HasCleanDisk, IsUnchanged, KeepsCommit, Survives};
+ghost use Rattle.sqlite.specs.State.{HasCleanDisk, IsUnchanged};
 ghost use Rattle.mq_frame.specs.Range.{IsRequest};
 ghost use Rattle.mq_ledger.specs.Arrivals.{id_of};
 ghost use Rattle.mq_ledger.specs.Day.{day_of};
@@ -11,6 +11,7 @@ ghost use Rattle.mq_rows.specs.Rows.{is_host};
 ghost use Rattle.mq_rows.specs.Storable.{AreStorableIf, IsStorableFloor};
 ghost use Rattle.mq_rows.specs.Tables.{Tables};
 ghost use Rattle.mq_tables.specs.Finding.{AreKeyed, IsTransactionFound, IsReserveFound, IsLimitFound};
+ghost use Rattle.mq_tables.specs.Inside.{LeavesCommit};
 ghost use Rattle.mq_tables.specs.Ledger.{HasLedger, IsCurrent};
 
 use crate::ceiling::{find_governing, find_limit};
@@ -42,7 +43,6 @@ fn find_named<S: Alter>(
     day: u32,
 ) -> Result<Found, Error>
     requires { id.now.run < 2 ^ 63 }
-    ensures same_reference { tx.new.conn.ghost_name ≡ tx.old.conn.ghost_name }
     ensures same { HasCleanDisk (state S.Store tx.new.conn.now)
         → OnOk result (IsUnchanged (state S.Store tx.old.conn.now) (state S.Store tx.new.conn.now)) }
     ensures found { HasCleanDisk (state S.Store tx.new.conn.now)
@@ -50,9 +50,7 @@ fn find_named<S: Alter>(
         → IsTransactionFound id.now txn login.now day t found) }
     ensures storable { IfOk result (λ found. AreStorableIf found.transaction) }
     ensures storable_floor { IfOk result (λ found. IsStorableFloor found.floor) }
-    ensures kept { HasCleanDisk (state S.Store tx.new.conn.now)
-        → KeepsCommit (state S.Store tx.old.conn.now) (state S.Store tx.new.conn.now) }
-    ensures survives { Survives (state S.Store tx.old.conn.now) (state S.Store tx.new.conn.now) (λ _. ⊥) }
+    ensures leaves { LeavesCommit S.Store tx.old tx.new }
 {
     let transaction = find_transaction(tx, &id.host, id.run, txn)?;
     let usage = find_usage(tx, login, day)?;
@@ -75,7 +73,6 @@ fn find_for_reserve<S: Alter>(
     day: u32,
 ) -> Result<Found, Error>
     requires { id.now.run < 2 ^ 63 }
-    ensures same_reference { tx.new.conn.ghost_name ≡ tx.old.conn.ghost_name }
     ensures same { HasCleanDisk (state S.Store tx.new.conn.now)
         → OnOk result (IsUnchanged (state S.Store tx.old.conn.now) (state S.Store tx.new.conn.now)) }
     ensures found { HasCleanDisk (state S.Store tx.new.conn.now)
@@ -83,9 +80,7 @@ fn find_for_reserve<S: Alter>(
         → IsReserveFound id.now txn login.now day t found) }
     ensures storable { IfOk result (λ found. AreStorableIf found.transaction) }
     ensures storable_floor { IfOk result (λ found. IsStorableFloor found.floor) }
-    ensures kept { HasCleanDisk (state S.Store tx.new.conn.now)
-        → KeepsCommit (state S.Store tx.old.conn.now) (state S.Store tx.new.conn.now) }
-    ensures survives { Survives (state S.Store tx.old.conn.now) (state S.Store tx.new.conn.now) (λ _. ⊥) }
+    ensures leaves { LeavesCommit S.Store tx.old tx.new }
 {
     let found = find_named(tx, id, txn, login, day)?;
     let governing = find_governing(tx, login, day)?;
@@ -99,7 +94,6 @@ fn find_for_limit<S: Alter>(
     from_day: u32,
     cap: u32,
 ) -> Result<Found, Error>
-    ensures same_reference { tx.new.conn.ghost_name ≡ tx.old.conn.ghost_name }
     ensures same { HasCleanDisk (state S.Store tx.new.conn.now)
         → OnOk result (IsUnchanged (state S.Store tx.old.conn.now) (state S.Store tx.new.conn.now)) }
     ensures found { HasCleanDisk (state S.Store tx.new.conn.now)
@@ -107,9 +101,7 @@ fn find_for_limit<S: Alter>(
         → IsLimitFound login.now from_day cap t found) }
     ensures storable { IfOk result (λ found. AreStorableIf found.transaction) }
     ensures storable_floor { IfOk result (λ found. IsStorableFloor found.floor) }
-    ensures kept { HasCleanDisk (state S.Store tx.new.conn.now)
-        → KeepsCommit (state S.Store tx.old.conn.now) (state S.Store tx.new.conn.now) }
-    ensures survives { Survives (state S.Store tx.old.conn.now) (state S.Store tx.new.conn.now) (λ _. ⊥) }
+    ensures leaves { LeavesCommit S.Store tx.old tx.new }
 {
     let over = find_over(tx, login, from_day, cap)?;
     let limit = find_limit(tx, login, from_day)?;
@@ -125,7 +117,6 @@ fn find_for_limit<S: Alter>(
 
 /// The floor of a retire's host.
 fn find_for_retire<S: Alter>(tx: &mut Transaction<'_, S>, id: &Id) -> Result<Found, Error>
-    ensures same_reference { tx.new.conn.ghost_name ≡ tx.old.conn.ghost_name }
     ensures same { HasCleanDisk (state S.Store tx.new.conn.now)
         → OnOk result (IsUnchanged (state S.Store tx.old.conn.now) (state S.Store tx.new.conn.now)) }
     ensures found { HasCleanDisk (state S.Store tx.new.conn.now)
@@ -133,9 +124,7 @@ fn find_for_retire<S: Alter>(tx: &mut Transaction<'_, S>, id: &Id) -> Result<Fou
         → AreKeyed t → found.floor ≡ find (is_host id.now.host) t.retired) }
     ensures storable { IfOk result (λ found. AreStorableIf found.transaction) }
     ensures storable_floor { IfOk result (λ found. IsStorableFloor found.floor) }
-    ensures kept { HasCleanDisk (state S.Store tx.new.conn.now)
-        → KeepsCommit (state S.Store tx.old.conn.now) (state S.Store tx.new.conn.now) }
-    ensures survives { Survives (state S.Store tx.old.conn.now) (state S.Store tx.new.conn.now) (λ _. ⊥) }
+    ensures leaves { LeavesCommit S.Store tx.old tx.new }
 {
     let floor = find_floor(tx, &id.host)?;
     Ok(Found {
@@ -158,7 +147,6 @@ pub fn find<S: Alter>(
 ) -> Result<Found, Error>
     requires in_range { IsRequest request.now }
     requires numbered { IsSome (id_of request.now) }
-    ensures same_reference { tx.new.conn.ghost_name ≡ tx.old.conn.ghost_name }
     ensures same { HasCleanDisk (state S.Store tx.new.conn.now)
         → OnOk result (IsUnchanged (state S.Store tx.old.conn.now) (state S.Store tx.new.conn.now)) }
     ensures found { HasCleanDisk (state S.Store tx.new.conn.now)
@@ -166,9 +154,7 @@ pub fn find<S: Alter>(
         → AreKeyed t → IsFound (day_of zone) t request.now found) }
     ensures storable { IfOk result (λ found. AreStorableIf found.transaction) }
     ensures storable_floor { IfOk result (λ found. IsStorableFloor found.floor) }
-    ensures kept { HasCleanDisk (state S.Store tx.new.conn.now)
-        → KeepsCommit (state S.Store tx.old.conn.now) (state S.Store tx.new.conn.now) }
-    ensures survives { Survives (state S.Store tx.old.conn.now) (state S.Store tx.new.conn.now) (λ _. ⊥) }
+    ensures leaves { LeavesCommit S.Store tx.old tx.new }
 {
     match request {
         Request::Reserve {

@@ -3,7 +3,7 @@
 ghost use Rattle.std.specs.List.Sorted.{IsPermutation};
 ghost use Rattle.std.specs.Prelude.{◌≡◌, ◌<◌, ◌^◌, List, None, false, map, filter, IsTrue, OnOk, IfOk};
 ghost use Rattle.sqlite.specs.Held.{state};
-ghost use Rattle.sqlite.specs.State.{HasCleanDisk, IsUnchanged, KeepsCommit, Survives};
+ghost use Rattle.sqlite.specs.State.{HasCleanDisk, IsUnchanged};
 ghost use Rattle.sqlite.specs.Values.{bound};
 ghost use Rattle.mq_rows.specs.declared.plan.Write.TheVariants.{Insert, Update};
 ghost use Rattle.mq_rows.specs.Rows.{is_host};
@@ -11,6 +11,7 @@ ghost use Rattle.mq_rows.specs.Storable.{IsStorableFloor, IsStorableRun};
 ghost use Rattle.mq_rows.specs.Tables.{Tables};
 ghost use Rattle.mq_rows.specs.declared.record.RetiredRecord.{RetiredRecord as Floor};
 ghost use Rattle.mq_tables.specs.Floors.{is_floor, are_floors, AreFloorsOf};
+ghost use Rattle.mq_tables.specs.Inside.{LeavesCommit};
 ghost use Rattle.mq_tables.specs.Ledger.{HasFloors, HasLedger, IsCurrent};
 ghost use Rattle.mq_tables.specs.Lent.{host_params, floor_params, floor_row, IsFirstFloor};
 ghost use Rattle.mq_tables.specs.Records.{retired_fields, IsOneOf};
@@ -75,15 +76,12 @@ fn host_params(host: &Host) -> [ValueRef<'_>; 1]
 }
 
 fn floor_rows<S: Alter>(tx: &mut Transaction<'_, S>, host: &Host) -> Result<Vec<Row>, Error>
-    ensures same_reference { tx.new.conn.ghost_name ≡ tx.old.conn.ghost_name }
     ensures same { HasCleanDisk (state S.Store tx.new.conn.now)
         → OnOk result (IsUnchanged (state S.Store tx.old.conn.now) (state S.Store tx.new.conn.now)) }
     ensures found { HasCleanDisk (state S.Store tx.new.conn.now)
         → IfOk result (λ rows. (t : Tables) → HasLedger (state S.Store tx.old.conn.now).now t × IsCurrent t
         → IsPermutation (map floor_row (filter (is_host host.now) t.retired)) rows.items) }
-    ensures kept { HasCleanDisk (state S.Store tx.new.conn.now)
-        → KeepsCommit (state S.Store tx.old.conn.now) (state S.Store tx.new.conn.now) }
-    ensures survives { Survives (state S.Store tx.old.conn.now) (state S.Store tx.new.conn.now) (λ _. ⊥) }
+    ensures leaves { LeavesCommit S.Store tx.old tx.new }
 {
     tx.query_all(
         "SELECT run FROM retired WHERE host = ?1",
@@ -110,16 +108,13 @@ pub fn find_floor<S: Alter>(
     tx: &mut Transaction<'_, S>,
     host: &Host,
 ) -> Result<Option<RetiredRecord>, Error>
-    ensures same_reference { tx.new.conn.ghost_name ≡ tx.old.conn.ghost_name }
     ensures same { HasCleanDisk (state S.Store tx.new.conn.now)
         → OnOk result (IsUnchanged (state S.Store tx.old.conn.now) (state S.Store tx.new.conn.now)) }
     ensures found { HasCleanDisk (state S.Store tx.new.conn.now)
         → IfOk result (λ found. (t : Tables) → HasLedger (state S.Store tx.old.conn.now).now t × IsCurrent t
         → IsOneOf (is_host host.now) t.retired found) }
     ensures storable { IfOk result IsStorableFloor }
-    ensures kept { HasCleanDisk (state S.Store tx.new.conn.now)
-        → KeepsCommit (state S.Store tx.old.conn.now) (state S.Store tx.new.conn.now) }
-    ensures survives { Survives (state S.Store tx.old.conn.now) (state S.Store tx.new.conn.now) (λ _. ⊥) }
+    ensures leaves { LeavesCommit S.Store tx.old tx.new }
 {
     let rows = floor_rows(tx, host)?;
     first_floor(rows.as_slice(), host)
@@ -142,14 +137,11 @@ fn insert_floor<S: Alter>(
     requires in_range { floor.now.run < 2 ^ 63 }
     requires inside { HasCleanDisk (state S.Store tx.old.conn.now)
         → IsTrue (state S.Store tx.old.conn.now).in_transaction }
-    ensures same_reference { tx.new.conn.ghost_name ≡ tx.old.conn.ghost_name }
     ensures inside { HasCleanDisk (state S.Store tx.new.conn.now)
         → OnOk result (IsTrue (state S.Store tx.new.conn.now).in_transaction) }
     ensures written { HasCleanDisk (state S.Store tx.new.conn.now)
         → OnOk result (WritesFloor (Insert floor.now) (state S.Store tx.old.conn.now) (state S.Store tx.new.conn.now)) }
-    ensures kept { HasCleanDisk (state S.Store tx.new.conn.now)
-        → KeepsCommit (state S.Store tx.old.conn.now) (state S.Store tx.new.conn.now) }
-    ensures survives { Survives (state S.Store tx.old.conn.now) (state S.Store tx.new.conn.now) (λ _. ⊥) }
+    ensures leaves { LeavesCommit S.Store tx.old tx.new }
 {
     tx.execute(
         "INSERT INTO retired (host, run) VALUES (?1, ?2)",
@@ -174,14 +166,11 @@ fn update_floor<S: Alter>(
     requires in_range { floor.now.run < 2 ^ 63 }
     requires inside { HasCleanDisk (state S.Store tx.old.conn.now)
         → IsTrue (state S.Store tx.old.conn.now).in_transaction }
-    ensures same_reference { tx.new.conn.ghost_name ≡ tx.old.conn.ghost_name }
     ensures inside { HasCleanDisk (state S.Store tx.new.conn.now)
         → OnOk result (IsTrue (state S.Store tx.new.conn.now).in_transaction) }
     ensures written { HasCleanDisk (state S.Store tx.new.conn.now)
         → OnOk result (WritesFloor (Update floor.now) (state S.Store tx.old.conn.now) (state S.Store tx.new.conn.now)) }
-    ensures kept { HasCleanDisk (state S.Store tx.new.conn.now)
-        → KeepsCommit (state S.Store tx.old.conn.now) (state S.Store tx.new.conn.now) }
-    ensures survives { Survives (state S.Store tx.old.conn.now) (state S.Store tx.new.conn.now) (λ _. ⊥) }
+    ensures leaves { LeavesCommit S.Store tx.old tx.new }
 {
     tx.execute(
         "UPDATE retired SET run = ?1 WHERE host = ?2",
@@ -197,14 +186,11 @@ pub fn write_floor<S: Alter>(
     requires in_range { IsStorableRun write.now }
     requires inside { HasCleanDisk (state S.Store tx.old.conn.now)
         → IsTrue (state S.Store tx.old.conn.now).in_transaction }
-    ensures same_reference { tx.new.conn.ghost_name ≡ tx.old.conn.ghost_name }
     ensures inside { HasCleanDisk (state S.Store tx.new.conn.now)
         → OnOk result (IsTrue (state S.Store tx.new.conn.now).in_transaction) }
     ensures written { HasCleanDisk (state S.Store tx.new.conn.now)
         → OnOk result (WritesFloor write.now (state S.Store tx.old.conn.now) (state S.Store tx.new.conn.now)) }
-    ensures kept { HasCleanDisk (state S.Store tx.new.conn.now)
-        → KeepsCommit (state S.Store tx.old.conn.now) (state S.Store tx.new.conn.now) }
-    ensures survives { Survives (state S.Store tx.old.conn.now) (state S.Store tx.new.conn.now) (λ _. ⊥) }
+    ensures leaves { LeavesCommit S.Store tx.old tx.new }
 {
     match write {
         Write::Keep => Ok(0),

@@ -3,11 +3,12 @@
 ghost use Rattle.std.specs.List.Sorted.{IsPermutation};
 ghost use Rattle.std.specs.Prelude.{◌≡◌, ◌<◌, ◌^◌, map, filter, All, IsTrue, OnOk, IfOk};
 ghost use Rattle.sqlite.specs.Held.{state};
-ghost use Rattle.sqlite.specs.State.{HasCleanDisk, IsUnchanged, KeepsCommit, Survives};
+ghost use Rattle.sqlite.specs.State.{HasCleanDisk, IsUnchanged};
 ghost use Rattle.sqlite.specs.Values.{bound};
 ghost use Rattle.mq_rows.specs.Plan.{is_among, is_open_in};
 ghost use Rattle.mq_rows.specs.Storable.{IsStorable};
 ghost use Rattle.mq_rows.specs.Tables.{Tables};
+ghost use Rattle.mq_tables.specs.Inside.{LeavesCommit};
 ghost use Rattle.mq_tables.specs.Ledger.{HasLedger};
 ghost use Rattle.mq_tables.specs.Retiring.{open_params, open_row, open_columns, IsOpenRead, IsOpenOf};
 ghost use Rattle.mq_tables.specs.Retiring.{runs_params, place_row, clear_params, ClearsAt};
@@ -33,15 +34,12 @@ fn open_params(runs: &Runs) -> [ValueRef<'_>; 4]
 
 fn open_rows<S: Alter>(tx: &mut Transaction<'_, S>, runs: &Runs) -> Result<Vec<Row>, Error>
     requires in_range { (runs.now.from < 2 ^ 63) × (runs.now.to < 2 ^ 63) }
-    ensures same_reference { tx.new.conn.ghost_name ≡ tx.old.conn.ghost_name }
     ensures same { HasCleanDisk (state S.Store tx.new.conn.now)
         → OnOk result (IsUnchanged (state S.Store tx.old.conn.now) (state S.Store tx.new.conn.now)) }
     ensures found { HasCleanDisk (state S.Store tx.new.conn.now)
         → IfOk result (λ rows. (t : Tables) → HasLedger (state S.Store tx.old.conn.now).now t
         → IsPermutation (map open_row (filter (is_open_in runs.now) t.transactions)) rows.items) }
-    ensures kept { HasCleanDisk (state S.Store tx.new.conn.now)
-        → KeepsCommit (state S.Store tx.old.conn.now) (state S.Store tx.new.conn.now) }
-    ensures survives { Survives (state S.Store tx.old.conn.now) (state S.Store tx.new.conn.now) (λ _. ⊥) }
+    ensures leaves { LeavesCommit S.Store tx.old tx.new }
 {
     tx.query_all(
         "SELECT run, txn, login, moment, day, held, settled FROM trans \
@@ -89,16 +87,13 @@ pub fn find_open<S: Alter>(
     runs: &Runs,
 ) -> Result<Vec<TransactionRecord>, Error>
     requires in_range { (runs.now.from < 2 ^ 63) × (runs.now.to < 2 ^ 63) }
-    ensures same_reference { tx.new.conn.ghost_name ≡ tx.old.conn.ghost_name }
     ensures same { HasCleanDisk (state S.Store tx.new.conn.now)
         → OnOk result (IsUnchanged (state S.Store tx.old.conn.now) (state S.Store tx.new.conn.now)) }
     ensures found { HasCleanDisk (state S.Store tx.new.conn.now)
         → IfOk result (λ found. (t : Tables) → HasLedger (state S.Store tx.old.conn.now).now t
         → IsPermutation found.items (filter (is_open_in runs.now) t.transactions)) }
     ensures storable { IfOk result (λ found. All IsStorable found.items) }
-    ensures kept { HasCleanDisk (state S.Store tx.new.conn.now)
-        → KeepsCommit (state S.Store tx.old.conn.now) (state S.Store tx.new.conn.now) }
-    ensures survives { Survives (state S.Store tx.old.conn.now) (state S.Store tx.new.conn.now) (λ _. ⊥) }
+    ensures leaves { LeavesCommit S.Store tx.old tx.new }
 {
     let rows = open_rows(tx, runs)?;
     opens_in(alloc, rows.as_slice(), &runs.host)
@@ -118,15 +113,12 @@ fn runs_params(runs: &Runs) -> [ValueRef<'_>; 3]
 /// The places of the answers of these runs, in any order: one number a row.
 pub fn answer_places<S: Alter>(tx: &mut Transaction<'_, S>, runs: &Runs) -> Result<Vec<Row>, Error>
     requires in_range { (runs.now.from < 2 ^ 63) × (runs.now.to < 2 ^ 63) }
-    ensures same_reference { tx.new.conn.ghost_name ≡ tx.old.conn.ghost_name }
     ensures same { HasCleanDisk (state S.Store tx.new.conn.now)
         → OnOk result (IsUnchanged (state S.Store tx.old.conn.now) (state S.Store tx.new.conn.now)) }
     ensures found { HasCleanDisk (state S.Store tx.new.conn.now)
         → IfOk result (λ rows. (t : Tables) → HasLedger (state S.Store tx.old.conn.now).now t
         → IsPermutation (map place_row (filter (λ a. is_among runs.now a.id.host a.id.run) t.answers)) rows.items) }
-    ensures kept { HasCleanDisk (state S.Store tx.new.conn.now)
-        → KeepsCommit (state S.Store tx.old.conn.now) (state S.Store tx.new.conn.now) }
-    ensures survives { Survives (state S.Store tx.old.conn.now) (state S.Store tx.new.conn.now) (λ _. ⊥) }
+    ensures leaves { LeavesCommit S.Store tx.old tx.new }
 {
     tx.query_all(
         "SELECT n FROM answer WHERE host = ?1 AND run >= ?2 AND run <= ?3",
@@ -146,14 +138,11 @@ pub fn clear_reply<S: Alter>(tx: &mut Transaction<'_, S>, n: u64) -> Result<usiz
     requires in_range { n < 2 ^ 63 }
     requires inside { HasCleanDisk (state S.Store tx.old.conn.now)
         → IsTrue (state S.Store tx.old.conn.now).in_transaction }
-    ensures same_reference { tx.new.conn.ghost_name ≡ tx.old.conn.ghost_name }
     ensures inside { HasCleanDisk (state S.Store tx.new.conn.now)
         → OnOk result (IsTrue (state S.Store tx.new.conn.now).in_transaction) }
     ensures cleared { HasCleanDisk (state S.Store tx.new.conn.now)
         → OnOk result (ClearsAt n (state S.Store tx.old.conn.now) (state S.Store tx.new.conn.now)) }
-    ensures kept { HasCleanDisk (state S.Store tx.new.conn.now)
-        → KeepsCommit (state S.Store tx.old.conn.now) (state S.Store tx.new.conn.now) }
-    ensures survives { Survives (state S.Store tx.old.conn.now) (state S.Store tx.new.conn.now) (λ _. ⊥) }
+    ensures leaves { LeavesCommit S.Store tx.old tx.new }
 {
     tx.execute(
         "UPDATE answer SET reply = ?1 WHERE n = ?2",

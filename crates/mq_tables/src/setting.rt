@@ -3,11 +3,12 @@
 ghost use Rattle.std.specs.Prelude.{◌≡◌, ◌<◌, ◌^◌, pos, None, IsTrue, OnOk, IfOk, [], ◌∷◌, false};
 ghost use Rattle.sqlite.specs.Held.{state};
 ghost use Rattle.sqlite.specs.Order.{column};
-ghost use Rattle.sqlite.specs.State.{HasCleanDisk, IsUnchanged, KeepsCommit, Survives};
+ghost use Rattle.sqlite.specs.State.{HasCleanDisk, IsUnchanged};
 ghost use Rattle.sqlite.specs.Values.{bound};
 ghost use Rattle.sqlite.specs.declared.types.Value.TheVariants.{Int};
 ghost use Rattle.sqlite_value.specs.Value.{owned};
 ghost use Rattle.mq_rows.specs.Tables.{Tables};
+ghost use Rattle.mq_tables.specs.Inside.{LeavesCommit};
 ghost use Rattle.mq_tables.specs.Ledger.{HasLedger};
 ghost use Rattle.mq_tables.specs.Lent.{IsNaturalAt, IsFirstNatural};
 ghost use Rattle.mq_tables.specs.Reading.{IsRead, Spares};
@@ -102,15 +103,12 @@ pub fn natural_at(row: &Row, at: usize) -> Result<u64, Error>
 }
 
 fn arrivals_rows<S: Alter>(tx: &mut Transaction<'_, S>) -> Result<Vec<Row>, Error>
-    ensures same_reference { tx.new.conn.ghost_name ≡ tx.old.conn.ghost_name }
     ensures same { HasCleanDisk (state S.Store tx.new.conn.now)
         → OnOk result (IsUnchanged (state S.Store tx.old.conn.now) (state S.Store tx.new.conn.now)) }
     ensures found { HasCleanDisk (state S.Store tx.new.conn.now)
         → IfOk result (λ rows. (t : Tables) → HasLedger (state S.Store tx.old.conn.now).now t
         → rows.items ≡ (Int (pos t.setting.arrivals) ∷ []) ∷ []) }
-    ensures kept { HasCleanDisk (state S.Store tx.new.conn.now)
-        → KeepsCommit (state S.Store tx.old.conn.now) (state S.Store tx.new.conn.now) }
-    ensures survives { Survives (state S.Store tx.old.conn.now) (state S.Store tx.new.conn.now) (λ _. ⊥) }
+    ensures leaves { LeavesCommit S.Store tx.old tx.new }
 {
     tx.query_all("SELECT arrivals FROM setting WHERE id = 1", &[])
 }
@@ -129,16 +127,13 @@ fn first_natural(rows: &[Row]) -> Result<u64, Error>
 /// An error is the store's: `QueryReturnedNoRows` where the row is absent, `InvalidColumnType` where no
 /// whole number stands there, and `IntegralValueOutOfRange` where it is below 0.
 pub fn read_arrivals<S: Alter>(tx: &mut Transaction<'_, S>) -> Result<u64, Error>
-    ensures same_reference { tx.new.conn.ghost_name ≡ tx.old.conn.ghost_name }
     ensures same { HasCleanDisk (state S.Store tx.new.conn.now)
         → OnOk result (IsUnchanged (state S.Store tx.old.conn.now) (state S.Store tx.new.conn.now)) }
     ensures found { HasCleanDisk (state S.Store tx.new.conn.now)
         → IfOk result (λ arrivals. (t : Tables) → HasLedger (state S.Store tx.old.conn.now).now t
         → arrivals ≡ t.setting.arrivals) }
     ensures in_range { IfOk result (λ arrivals. arrivals < 2 ^ 63) }
-    ensures kept { HasCleanDisk (state S.Store tx.new.conn.now)
-        → KeepsCommit (state S.Store tx.old.conn.now) (state S.Store tx.new.conn.now) }
-    ensures survives { Survives (state S.Store tx.old.conn.now) (state S.Store tx.new.conn.now) (λ _. ⊥) }
+    ensures leaves { LeavesCommit S.Store tx.old tx.new }
 {
     let rows = arrivals_rows(tx)?;
     first_natural(rows.as_slice())
@@ -149,14 +144,11 @@ pub fn set_arrivals<S: Alter>(tx: &mut Transaction<'_, S>, arrivals: u64) -> Res
     requires in_range { arrivals < 2 ^ 63 }
     requires inside { HasCleanDisk (state S.Store tx.old.conn.now)
         → IsTrue (state S.Store tx.old.conn.now).in_transaction }
-    ensures same_reference { tx.new.conn.ghost_name ≡ tx.old.conn.ghost_name }
     ensures inside { HasCleanDisk (state S.Store tx.new.conn.now)
         → OnOk result (IsTrue (state S.Store tx.new.conn.now).in_transaction) }
     ensures counted { HasCleanDisk (state S.Store tx.new.conn.now)
         → OnOk result (CountsArrivals arrivals (state S.Store tx.old.conn.now) (state S.Store tx.new.conn.now)) }
-    ensures kept { HasCleanDisk (state S.Store tx.new.conn.now)
-        → KeepsCommit (state S.Store tx.old.conn.now) (state S.Store tx.new.conn.now) }
-    ensures survives { Survives (state S.Store tx.old.conn.now) (state S.Store tx.new.conn.now) (λ _. ⊥) }
+    ensures leaves { LeavesCommit S.Store tx.old tx.new }
 {
     tx.execute(
         "UPDATE setting SET arrivals = ?1 WHERE id = 1",

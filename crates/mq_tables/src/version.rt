@@ -1,11 +1,11 @@
 //! The tables of an older version become those of the current one.
 
 ghost use Rattle.std.specs.Prelude.{◌≡◌, ◌⊎◌, false, IsTrue, OnOk, OnErr};
-ghost use Rattle.sqlite.specs.State.{HasCleanDisk, KeepsCommit, Survives};
+ghost use Rattle.sqlite.specs.State.{HasCleanDisk};
 ghost use Rattle.sqlite.specs.Held.{state};
 ghost use Rattle.sqlite.specs.Tree.{Trees};
 ghost use Rattle.sqlite.specs.Values.{bound};
-ghost use Rattle.mq_tables.specs.Inside.{Lasts};
+ghost use Rattle.mq_tables.specs.Inside.{Lasts, LeavesCommit};
 ghost use Rattle.mq_tables.specs.Migrating.{version_params, AddsRule, SetsVersion, IsMigrated, AreMigrated};
 
 use crate::create::{create_retired, create_rule};
@@ -22,14 +22,11 @@ fn version_params() -> [ValueRef<'static>; 1]
 fn set_version<S: Alter>(tx: &mut Transaction<'_, S>) -> Result<usize, Error>
     requires inside { HasCleanDisk (state S.Store tx.old.conn.now)
         → IsTrue (state S.Store tx.old.conn.now).in_transaction }
-    ensures same_reference { tx.new.conn.ghost_name ≡ tx.old.conn.ghost_name }
     ensures inside { HasCleanDisk (state S.Store tx.new.conn.now)
         → OnOk result (IsTrue (state S.Store tx.new.conn.now).in_transaction) }
     ensures set { HasCleanDisk (state S.Store tx.new.conn.now)
         → OnOk result (SetsVersion (state S.Store tx.old.conn.now).now (state S.Store tx.new.conn.now).now) }
-    ensures kept { HasCleanDisk (state S.Store tx.new.conn.now)
-        → KeepsCommit (state S.Store tx.old.conn.now) (state S.Store tx.new.conn.now) }
-    ensures survives { Survives (state S.Store tx.old.conn.now) (state S.Store tx.new.conn.now) (λ _. ⊥) }
+    ensures leaves { LeavesCommit S.Store tx.old tx.new }
 {
     tx.execute(
         "UPDATE setting SET version = ?1 WHERE id = 1",
@@ -41,14 +38,11 @@ fn set_version<S: Alter>(tx: &mut Transaction<'_, S>) -> Result<usize, Error>
 fn add_rule<S: Alter>(tx: &mut Transaction<'_, S>, has_rule_table: bool) -> Result<usize, Error>
     requires inside { HasCleanDisk (state S.Store tx.old.conn.now)
         → IsTrue (state S.Store tx.old.conn.now).in_transaction }
-    ensures same_reference { tx.new.conn.ghost_name ≡ tx.old.conn.ghost_name }
     ensures inside { HasCleanDisk (state S.Store tx.new.conn.now)
         → OnOk result (IsTrue (state S.Store tx.new.conn.now).in_transaction) }
     ensures added { HasCleanDisk (state S.Store tx.new.conn.now)
         → OnOk result (AddsRule has_rule_table (state S.Store tx.old.conn.now) (state S.Store tx.new.conn.now)) }
-    ensures kept { HasCleanDisk (state S.Store tx.new.conn.now)
-        → KeepsCommit (state S.Store tx.old.conn.now) (state S.Store tx.new.conn.now) }
-    ensures survives { Survives (state S.Store tx.old.conn.now) (state S.Store tx.new.conn.now) (λ _. ⊥) }
+    ensures leaves { LeavesCommit S.Store tx.old tx.new }
 {
     if has_rule_table {
         Ok(0)
@@ -64,16 +58,13 @@ fn migrate_tables<S: Alter>(
 ) -> Result<usize, Error>
     requires inside { HasCleanDisk (state S.Store tx.old.conn.now)
         → IsTrue (state S.Store tx.old.conn.now).in_transaction }
-    ensures same_reference { tx.new.conn.ghost_name ≡ tx.old.conn.ghost_name }
     ensures inside { HasCleanDisk (state S.Store tx.new.conn.now)
         → OnOk result (IsTrue (state S.Store tx.new.conn.now).in_transaction) }
     ensures open { HasCleanDisk (state S.Store tx.new.conn.now)
         → OnOk result (IsTrue (state S.Store tx.old.conn.now).is_open) }
     ensures migrated { HasCleanDisk (state S.Store tx.new.conn.now)
         → OnOk result (IsMigrated has_rule_table (state S.Store tx.old.conn.now).now (state S.Store tx.new.conn.now).now) }
-    ensures kept { HasCleanDisk (state S.Store tx.new.conn.now)
-        → KeepsCommit (state S.Store tx.old.conn.now) (state S.Store tx.new.conn.now) }
-    ensures survives { Survives (state S.Store tx.old.conn.now) (state S.Store tx.new.conn.now) (λ _. ⊥) }
+    ensures leaves { LeavesCommit S.Store tx.old tx.new }
 {
     add_rule(tx, has_rule_table)?;
     create_retired(tx)?;

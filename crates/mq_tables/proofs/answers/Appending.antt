@@ -1,5 +1,5 @@
 -- The INSERT of an answer, over any schema that has the table at some place.
-use Rattle.std.proofs.Common.{append-nil, ◌≡◌, ℕ, ◌+◌, pos, List, [], ◌∷◌, ◌++◌, IsTrue, Ok, Err, Result, OnOk, codes, refl, ap, ◌∙◌}
+use Rattle.std.proofs.Common.{append-nil, ◌≡◌, ℕ, pos, List, [], ◌∷◌, ◌++◌, IsTrue, Ok, Err, Result, OnOk, codes, refl, ap, ◌∙◌}
 use Rattle.sqlite.specs.declared.error.Error.{Error}
 use Rattle.sqlite.specs.declared.types.Value.TheVariants.{Null}
 use Rattle.sqlite.specs.Tree.{put_row}

@@ -1,16 +1,15 @@
 use Rattle.sqlite.specs.Held.{state}
 use Rattle.mq_tables.proofs.answers.Entries.{entry_text, entry_shape, entry_select, key, found_all}
-use Rattle.mq_tables.proofs.Selected.{shown_same, shown_keeps}
+use Rattle.mq_tables.proofs.Selected.{shown_same, shown_leaves}
 use Rattle.mq_tables.proofs.entry.rows_at.Goals as goal
 
 pub returns-clause-same : goal.returns-clause-same
 returns-clause-same g c clean =
     shown_same entry_text entry_shape entry_select (key c.args.n) (state g.S.Store c.args.tx.now.conn.now) (state g.S.Store c.query_all.new.self.conn.now) c.query_all.result (rw c.place_params.ensures at (c.query_all.ensures.ok clean))
 
-pub returns-clause-kept : goal.returns-clause-kept
-returns-clause-kept g c clean =
-    shown_keeps entry_text entry_shape entry_select (key c.args.n) (state g.S.Store c.args.tx.now.conn.now) (state g.S.Store c.query_all.new.self.conn.now) c.query_all.result (rw c.place_params.ensures at (c.query_all.ensures.ok clean))
-    (rw c.place_params.ensures at (c.query_all.ensures.err clean))
+pub returns-clause-leaves : goal.returns-clause-leaves
+returns-clause-leaves g c =
+    shown_leaves entry_text entry_shape entry_select (key c.args.n) c.query_all.result c.query_all.ensures.same_reference (rw c.place_params.ensures at c.query_all.ensures.ok) (rw c.place_params.ensures at c.query_all.ensures.err) c.query_all.ensures.survives
 
 pub returns-clause-found : goal.returns-clause-found
 returns-clause-found g c clean =
