@@ -7,10 +7,11 @@
 
 ghost use Rattle.std.specs.Prelude.{◌≡◌, ◌<◌, ◌≤◌, ◌+◌, ◌^◌, List, [], take, IsTrue, IfOk, IfSome, OnOk};
 ghost use Rattle.sqlite.specs.Held.{state};
-ghost use Rattle.sqlite.specs.State.{HasCleanDisk, KeepsCommit, Survives};
+ghost use Rattle.sqlite.specs.State.{HasCleanDisk};
 ghost use Rattle.sqlite.specs.Steps.{over_memory};
 ghost use Rattle.mq_frame.specs.Range.{IsRequest};
 ghost use Rattle.mq_ledger.specs.declared.entry.Entry.{Entry as AnyEntry};
+ghost use Rattle.mq_tables.specs.Inside.{LeavesCommit};
 ghost use Rattle.mq_store.specs.Carrying.{Follows, RepliesAt, IsJudgedAt, IsNextOf, CarriesOne, CarriesFront, Carries};
 ghost use Rattle.mq_store.specs.Taking.{Stays, HasBook, book_of, Applies};
 
@@ -56,15 +57,12 @@ fn take_any<S: Alter>(
     requires in_range { IsRequest request.now }
     requires inside { HasCleanDisk (state S.Store tx.old.conn.now)
         → IsTrue (state S.Store tx.old.conn.now).in_transaction }
-    ensures same_reference { tx.new.conn.ghost_name ≡ tx.old.conn.ghost_name }
     ensures inside { HasCleanDisk (state S.Store tx.new.conn.now)
         → OnOk result (IsTrue (state S.Store tx.new.conn.now).in_transaction) }
     ensures taken { HasCleanDisk (state S.Store tx.new.conn.now)
         → IfOk result (λ a. Applies terms.now.zone terms.now.default request.now a
         (state S.Store tx.old.conn.now).now (state S.Store tx.new.conn.now).now) }
-    ensures kept { HasCleanDisk (state S.Store tx.new.conn.now)
-        → KeepsCommit (state S.Store tx.old.conn.now) (state S.Store tx.new.conn.now) }
-    ensures survives { Survives (state S.Store tx.old.conn.now) (state S.Store tx.new.conn.now) (λ _. ⊥) }
+    ensures leaves { LeavesCommit S.Store tx.old tx.new }
 {
     match take(alloc, tx, terms.zone, terms.default, request)? {
         Taken::Read(reply) => Ok(reply),
@@ -82,7 +80,6 @@ fn follow_one<S: Alter>(
 ) -> Result<(), Refused>
     requires place { place + 1 < 2 ^ 63 }
     requires inside { IsTrue (state over_memory scratch.old.conn.now).in_transaction }
-    ensures same_from { from.new.conn.ghost_name ≡ from.old.conn.ghost_name }
     ensures same_scratch { scratch.new.conn.ghost_name ≡ scratch.old.conn.ghost_name }
     ensures stays { HasCleanDisk (state S.Store from.new.conn.now)
         → OnOk result (Stays (state S.Store from.old.conn.now) (state S.Store from.new.conn.now)) }
@@ -90,9 +87,7 @@ fn follow_one<S: Alter>(
     ensures follows { HasCleanDisk (state S.Store from.new.conn.now)
         → OnOk result (Follows terms.now.zone terms.now.default place (place + 1) (state S.Store from.old.conn.now).now
         (state over_memory scratch.old.conn.now).now (state over_memory scratch.new.conn.now).now) }
-    ensures from_kept { HasCleanDisk (state S.Store from.new.conn.now)
-        → KeepsCommit (state S.Store from.old.conn.now) (state S.Store from.new.conn.now) }
-    ensures from_survives { Survives (state S.Store from.old.conn.now) (state S.Store from.new.conn.now) (λ _. ⊥) }
+    ensures from_leaves { LeavesCommit S.Store from.old from.new }
 {
     entries_are_followed();
     let answered = answered_at(alloc, from, place)?;
@@ -112,7 +107,6 @@ fn follow<S: Alter>(
     requires place { place < 2 ^ 63 }
     requires followed { followed ≤ place }
     requires inside { IsTrue (state over_memory scratch.old.conn.now).in_transaction }
-    ensures same_from { from.new.conn.ghost_name ≡ from.old.conn.ghost_name }
     ensures same_scratch { scratch.new.conn.ghost_name ≡ scratch.old.conn.ghost_name }
     ensures stays { HasCleanDisk (state S.Store from.new.conn.now)
         → OnOk result (Stays (state S.Store from.old.conn.now) (state S.Store from.new.conn.now)) }
@@ -120,9 +114,7 @@ fn follow<S: Alter>(
     ensures follows { HasCleanDisk (state S.Store from.new.conn.now)
         → OnOk result (Follows terms.now.zone terms.now.default followed place (state S.Store from.old.conn.now).now
         (state over_memory scratch.old.conn.now).now (state over_memory scratch.new.conn.now).now) }
-    ensures from_kept { HasCleanDisk (state S.Store from.new.conn.now)
-        → KeepsCommit (state S.Store from.old.conn.now) (state S.Store from.new.conn.now) }
-    ensures from_survives { Survives (state S.Store from.old.conn.now) (state S.Store from.new.conn.now) (λ _. ⊥) }
+    ensures from_leaves { LeavesCommit S.Store from.old from.new }
 {
     for next in followed..place {
         follow_one(alloc, from, scratch, terms, next)?;
@@ -145,7 +137,6 @@ fn reply_at<S: Alter>(
     requires followed { followed ≤ place }
     requires in_range { IsRequest request.now }
     requires inside { IsTrue (state over_memory scratch.old.conn.now).in_transaction }
-    ensures same_from { from.new.conn.ghost_name ≡ from.old.conn.ghost_name }
     ensures same_scratch { scratch.new.conn.ghost_name ≡ scratch.old.conn.ghost_name }
     ensures stays { HasCleanDisk (state S.Store from.new.conn.now)
         → OnOk result (Stays (state S.Store from.old.conn.now) (state S.Store from.new.conn.now)) }
@@ -154,9 +145,7 @@ fn reply_at<S: Alter>(
         → IfOk result (RepliesAt terms.now.zone terms.now.default followed place request.now
         (state S.Store from.old.conn.now).now
         (state over_memory scratch.old.conn.now).now (state over_memory scratch.new.conn.now).now) }
-    ensures from_kept { HasCleanDisk (state S.Store from.new.conn.now)
-        → KeepsCommit (state S.Store from.old.conn.now) (state S.Store from.new.conn.now) }
-    ensures from_survives { Survives (state S.Store from.old.conn.now) (state S.Store from.new.conn.now) (λ _. ⊥) }
+    ensures from_leaves { LeavesCommit S.Store from.old from.new }
 {
     entries_are_followed();
     follow(alloc, from, scratch, terms, followed, place)?;
@@ -179,7 +168,6 @@ fn judge<S: Alter>(
     requires followed { followed ≤ place }
     requires in_range { IsRequest answered.now.request }
     requires inside { IsTrue (state over_memory scratch.old.conn.now).in_transaction }
-    ensures same_from { from.new.conn.ghost_name ≡ from.old.conn.ghost_name }
     ensures same_scratch { scratch.new.conn.ghost_name ≡ scratch.old.conn.ghost_name }
     ensures stays { HasCleanDisk (state S.Store from.new.conn.now)
         → OnOk result (Stays (state S.Store from.old.conn.now) (state S.Store from.new.conn.now)) }
@@ -189,9 +177,7 @@ fn judge<S: Alter>(
         (state S.Store from.old.conn.now).now
         (state over_memory scratch.old.conn.now).now (state over_memory scratch.new.conn.now).now) }
     ensures followed { IfOk result (λ judged. judged.followed ≤ place + 1) }
-    ensures from_kept { HasCleanDisk (state S.Store from.new.conn.now)
-        → KeepsCommit (state S.Store from.old.conn.now) (state S.Store from.new.conn.now) }
-    ensures from_survives { Survives (state S.Store from.old.conn.now) (state S.Store from.new.conn.now) (λ _. ⊥) }
+    ensures from_leaves { LeavesCommit S.Store from.old from.new }
 {
     let told = stays(from, terms.zone, terms.day, answered)?;
     if let Some(is_staying) = told {
@@ -221,7 +207,6 @@ fn next_of<S: Alter>(
     requires place { place + 1 < 2 ^ 63 }
     requires followed { followed ≤ place }
     requires inside { IsTrue (state over_memory scratch.old.conn.now).in_transaction }
-    ensures same_from { from.new.conn.ghost_name ≡ from.old.conn.ghost_name }
     ensures same_scratch { scratch.new.conn.ghost_name ≡ scratch.old.conn.ghost_name }
     ensures stays { HasCleanDisk (state S.Store from.new.conn.now)
         → OnOk result (Stays (state S.Store from.old.conn.now) (state S.Store from.new.conn.now)) }
@@ -232,9 +217,7 @@ fn next_of<S: Alter>(
         (state over_memory scratch.old.conn.now).now (state over_memory scratch.new.conn.now).now) }
     ensures in_range { IfOk result (λ next. IfSome next.request IsRequest) }
     ensures followed { IfOk result (λ next. next.followed ≤ place + 1) }
-    ensures from_kept { HasCleanDisk (state S.Store from.new.conn.now)
-        → KeepsCommit (state S.Store from.old.conn.now) (state S.Store from.new.conn.now) }
-    ensures from_survives { Survives (state S.Store from.old.conn.now) (state S.Store from.new.conn.now) (λ _. ⊥) }
+    ensures from_leaves { LeavesCommit S.Store from.old from.new }
 {
     let answered = answered_at(alloc, from, place)?;
     let judged = judge(alloc, from, scratch, terms, followed, place, &answered)?;
@@ -267,8 +250,6 @@ fn carry_next<S: Alter, T: Alter>(
     requires inside { IsTrue (state over_memory scratch.old.conn.now).in_transaction }
     requires into_inside { HasCleanDisk (state T.Store into.old.conn.now)
         → IsTrue (state T.Store into.old.conn.now).in_transaction }
-    ensures same_into { into.new.conn.ghost_name ≡ into.old.conn.ghost_name }
-    ensures same_from { from.new.conn.ghost_name ≡ from.old.conn.ghost_name }
     ensures same_scratch { scratch.new.conn.ghost_name ≡ scratch.old.conn.ghost_name }
     ensures stays { HasCleanDisk (state S.Store from.new.conn.now)
         → OnOk result (Stays (state S.Store from.old.conn.now) (state S.Store from.new.conn.now)) }
@@ -284,12 +265,8 @@ fn carry_next<S: Alter, T: Alter>(
         → CarriesOne terms.now.zone terms.now.default terms.now.day place H
         (state T.Store into.old.conn.now).now (state T.Store into.new.conn.now).now
         × HasBook (book_of terms.now.zone terms.now.default (take more H)) (state over_memory scratch.new.conn.now).now) }
-    ensures from_kept { HasCleanDisk (state S.Store from.new.conn.now)
-        → KeepsCommit (state S.Store from.old.conn.now) (state S.Store from.new.conn.now) }
-    ensures from_survives { Survives (state S.Store from.old.conn.now) (state S.Store from.new.conn.now) (λ _. ⊥) }
-    ensures into_kept { HasCleanDisk (state T.Store into.new.conn.now)
-        → KeepsCommit (state T.Store into.old.conn.now) (state T.Store into.new.conn.now) }
-    ensures into_survives { Survives (state T.Store into.old.conn.now) (state T.Store into.new.conn.now) (λ _. ⊥) }
+    ensures from_leaves { LeavesCommit S.Store from.old from.new }
+    ensures into_leaves { LeavesCommit T.Store into.old into.new }
 {
     entries_are_carried();
     let next = next_of(alloc, from, scratch, terms, followed, place)?;
@@ -317,8 +294,6 @@ fn carry_front<S: Alter, T: Alter>(
     requires inside { IsTrue (state over_memory scratch.old.conn.now).in_transaction }
     requires into_inside { HasCleanDisk (state T.Store into.old.conn.now)
         → IsTrue (state T.Store into.old.conn.now).in_transaction }
-    ensures same_into { into.new.conn.ghost_name ≡ into.old.conn.ghost_name }
-    ensures same_from { from.new.conn.ghost_name ≡ from.old.conn.ghost_name }
     ensures same_scratch { scratch.new.conn.ghost_name ≡ scratch.old.conn.ghost_name }
     ensures stays { HasCleanDisk (state S.Store from.new.conn.now)
         → OnOk result (Stays (state S.Store from.old.conn.now) (state S.Store from.new.conn.now)) }
@@ -332,12 +307,8 @@ fn carry_front<S: Alter, T: Alter>(
         → HasBook (book_of terms.now.zone terms.now.default []) (state over_memory scratch.old.conn.now).now
         → CarriesFront terms.now.zone terms.now.default terms.now.day count H
         (state T.Store into.old.conn.now).now (state T.Store into.new.conn.now).now) }
-    ensures from_kept { HasCleanDisk (state S.Store from.new.conn.now)
-        → KeepsCommit (state S.Store from.old.conn.now) (state S.Store from.new.conn.now) }
-    ensures from_survives { Survives (state S.Store from.old.conn.now) (state S.Store from.new.conn.now) (λ _. ⊥) }
-    ensures into_kept { HasCleanDisk (state T.Store into.new.conn.now)
-        → KeepsCommit (state T.Store into.old.conn.now) (state T.Store into.new.conn.now) }
-    ensures into_survives { Survives (state T.Store into.old.conn.now) (state T.Store into.new.conn.now) (λ _. ⊥) }
+    ensures from_leaves { LeavesCommit S.Store from.old from.new }
+    ensures into_leaves { LeavesCommit T.Store into.old into.new }
 {
     let mut followed = 0;
     for place in 0..count {
@@ -358,8 +329,6 @@ pub(crate) fn carry_all<S: Alter, T: Alter>(
     requires inside { IsTrue (state over_memory scratch.old.conn.now).in_transaction }
     requires into_inside { HasCleanDisk (state T.Store into.old.conn.now)
         → IsTrue (state T.Store into.old.conn.now).in_transaction }
-    ensures same_into { into.new.conn.ghost_name ≡ into.old.conn.ghost_name }
-    ensures same_from { from.new.conn.ghost_name ≡ from.old.conn.ghost_name }
     ensures same_scratch { scratch.new.conn.ghost_name ≡ scratch.old.conn.ghost_name }
     ensures stays { HasCleanDisk (state S.Store from.new.conn.now)
         → OnOk result (Stays (state S.Store from.old.conn.now) (state S.Store from.new.conn.now)) }
@@ -371,12 +340,8 @@ pub(crate) fn carry_all<S: Alter, T: Alter>(
         → HasBook (book_of terms.now.zone terms.now.default []) (state over_memory scratch.old.conn.now).now
         → OnOk result (Carries terms.now.zone terms.now.default terms.now.day (state S.Store from.old.conn.now).now
         (state T.Store into.old.conn.now).now (state T.Store into.new.conn.now).now) }
-    ensures from_kept { HasCleanDisk (state S.Store from.new.conn.now)
-        → KeepsCommit (state S.Store from.old.conn.now) (state S.Store from.new.conn.now) }
-    ensures from_survives { Survives (state S.Store from.old.conn.now) (state S.Store from.new.conn.now) (λ _. ⊥) }
-    ensures into_kept { HasCleanDisk (state T.Store into.new.conn.now)
-        → KeepsCommit (state T.Store into.old.conn.now) (state T.Store into.new.conn.now) }
-    ensures into_survives { Survives (state T.Store into.old.conn.now) (state T.Store into.new.conn.now) (λ _. ⊥) }
+    ensures from_leaves { LeavesCommit S.Store from.old from.new }
+    ensures into_leaves { LeavesCommit T.Store into.old into.new }
 {
     let arrivals = read_arrivals(from)?;
     carry_front(alloc, from, into, scratch, terms, arrivals)

@@ -2,9 +2,10 @@
 
 ghost use Rattle.std.specs.Prelude.{◌≡◌, ◌⊎◌, false, IsTrue, OnOk, OnErr};
 ghost use Rattle.sqlite.specs.Held.{state};
-ghost use Rattle.sqlite.specs.State.{HasCleanDisk, KeepsCommit, Survives};
+ghost use Rattle.sqlite.specs.State.{HasCleanDisk};
 ghost use Rattle.sqlite.specs.Tree.{Trees};
 ghost use Rattle.mq_frame.specs.Range.{IsAmount};
+ghost use Rattle.mq_tables.specs.Inside.{LeavesCommit};
 ghost use Rattle.mq_store.specs.Carrying.{Carries};
 ghost use Rattle.mq_store.specs.Forgetting.{MakesBlank, Fills, AreFilled};
 ghost use Rattle.mq_store.specs.Soundness.{HasKept};
@@ -22,15 +23,12 @@ fn make<S: Alter>(tx: &mut Transaction<'_, S>, terms: &Terms) -> Result<usize, E
     requires in_range { IsAmount terms.now.default }
     requires inside { HasCleanDisk (state S.Store tx.old.conn.now)
         → IsTrue (state S.Store tx.old.conn.now).in_transaction }
-    ensures same_reference { tx.new.conn.ghost_name ≡ tx.old.conn.ghost_name }
     ensures inside { HasCleanDisk (state S.Store tx.new.conn.now)
         → OnOk result (IsTrue (state S.Store tx.new.conn.now).in_transaction) }
     ensures blank { HasCleanDisk (state S.Store tx.new.conn.now)
         → OnOk result (MakesBlank terms.now.zone terms.now.default (state S.Store tx.old.conn.now).now
         (state S.Store tx.new.conn.now).now) }
-    ensures kept { HasCleanDisk (state S.Store tx.new.conn.now)
-        → KeepsCommit (state S.Store tx.old.conn.now) (state S.Store tx.new.conn.now) }
-    ensures survives { Survives (state S.Store tx.old.conn.now) (state S.Store tx.new.conn.now) (λ _. ⊥) }
+    ensures leaves { LeavesCommit S.Store tx.old tx.new }
 {
     let made_with = new_setting(terms.zone, terms.default);
     make_tables(tx, &made_with)
@@ -46,8 +44,6 @@ fn carry_apart<S: Alter, T: Alter>(
     requires in_range { IsAmount terms.now.default }
     requires into_inside { HasCleanDisk (state T.Store into.old.conn.now)
         → IsTrue (state T.Store into.old.conn.now).in_transaction }
-    ensures same_from { from.new.conn.ghost_name ≡ from.old.conn.ghost_name }
-    ensures same_into { into.new.conn.ghost_name ≡ into.old.conn.ghost_name }
     ensures stays { HasCleanDisk (state S.Store from.new.conn.now)
         → OnOk result (Stays (state S.Store from.old.conn.now) (state S.Store from.new.conn.now)) }
     ensures into_inside { HasCleanDisk (state T.Store into.new.conn.now)
@@ -56,12 +52,8 @@ fn carry_apart<S: Alter, T: Alter>(
         → HasCleanDisk (state T.Store into.new.conn.now)
         → OnOk result (Carries terms.now.zone terms.now.default terms.now.day (state S.Store from.old.conn.now).now
         (state T.Store into.old.conn.now).now (state T.Store into.new.conn.now).now) }
-    ensures from_kept { HasCleanDisk (state S.Store from.new.conn.now)
-        → KeepsCommit (state S.Store from.old.conn.now) (state S.Store from.new.conn.now) }
-    ensures from_survives { Survives (state S.Store from.old.conn.now) (state S.Store from.new.conn.now) (λ _. ⊥) }
-    ensures into_kept { HasCleanDisk (state T.Store into.new.conn.now)
-        → KeepsCommit (state T.Store into.old.conn.now) (state T.Store into.new.conn.now) }
-    ensures into_survives { Survives (state T.Store into.old.conn.now) (state T.Store into.new.conn.now) (λ _. ⊥) }
+    ensures from_leaves { LeavesCommit S.Store from.old from.new }
+    ensures into_leaves { LeavesCommit T.Store into.old into.new }
 {
     let mut memory = Connection::open_in_memory(alloc)?;
     let _settled = memory.is_autocommit();
@@ -81,8 +73,6 @@ fn fill<S: Alter, T: Alter>(
     requires in_range { IsAmount terms.now.default }
     requires into_inside { HasCleanDisk (state T.Store into.old.conn.now)
         → IsTrue (state T.Store into.old.conn.now).in_transaction }
-    ensures same_from { from.new.conn.ghost_name ≡ from.old.conn.ghost_name }
-    ensures same_into { into.new.conn.ghost_name ≡ into.old.conn.ghost_name }
     ensures stays { HasCleanDisk (state S.Store from.new.conn.now)
         → OnOk result (Stays (state S.Store from.old.conn.now) (state S.Store from.new.conn.now)) }
     ensures into_inside { HasCleanDisk (state T.Store into.new.conn.now)
@@ -91,12 +81,8 @@ fn fill<S: Alter, T: Alter>(
         → HasCleanDisk (state T.Store into.new.conn.now)
         → OnOk result (Fills terms.now.zone terms.now.default terms.now.day (state S.Store from.old.conn.now).now
         (state T.Store into.old.conn.now).now (state T.Store into.new.conn.now).now) }
-    ensures from_kept { HasCleanDisk (state S.Store from.new.conn.now)
-        → KeepsCommit (state S.Store from.old.conn.now) (state S.Store from.new.conn.now) }
-    ensures from_survives { Survives (state S.Store from.old.conn.now) (state S.Store from.new.conn.now) (λ _. ⊥) }
-    ensures into_kept { HasCleanDisk (state T.Store into.new.conn.now)
-        → KeepsCommit (state T.Store into.old.conn.now) (state T.Store into.new.conn.now) }
-    ensures into_survives { Survives (state T.Store into.old.conn.now) (state T.Store into.new.conn.now) (λ _. ⊥) }
+    ensures from_leaves { LeavesCommit S.Store from.old from.new }
+    ensures into_leaves { LeavesCommit T.Store into.old into.new }
 {
     make(into, terms)?;
     carry_apart(alloc, from, into, terms)

@@ -1,10 +1,11 @@
 //! What is replied to a usage and to a list.
 
-ghost use Rattle.std.specs.Prelude.{◌≡◌, IfOk, IfErr, IfSome, OnOk};
+ghost use Rattle.std.specs.Prelude.{IfOk, IfErr, IfSome, OnOk};
 ghost use Rattle.sqlite.specs.Held.{state};
-ghost use Rattle.sqlite.specs.State.{HasCleanDisk, KeepsCommit, Survives};
+ghost use Rattle.sqlite.specs.State.{HasCleanDisk};
 ghost use Rattle.mq_frame.specs.declared.message.Request.{Request as AnyRequest};
 ghost use Rattle.mq_frame.specs.Range.{IsLogin, IsDay, IsReply, IsRow, IsPage};
+ghost use Rattle.mq_tables.specs.Inside.{LeavesCommit};
 ghost use Rattle.mq_store.specs.Causes.{StopsReading};
 ghost use Rattle.mq_store.specs.Taking.{Stays, IsReplied};
 ghost use Rattle.mq_store.specs.Paging.{IsNextRow, IsPageOf};
@@ -30,15 +31,12 @@ pub(crate) fn reply_to_usage<S: Alter>(
 ) -> Result<Reply, Refused>
     requires login { IsLogin login.now }
     requires day { IsDay day }
-    ensures same_reference { tx.new.conn.ghost_name ≡ tx.old.conn.ghost_name }
     ensures stays { HasCleanDisk (state S.Store tx.new.conn.now)
         → OnOk result (Stays (state S.Store tx.old.conn.now) (state S.Store tx.new.conn.now)) }
     ensures replied { HasCleanDisk (state S.Store tx.new.conn.now)
         → IfOk result (IsReplied default (AnyRequest.Usage login.now day) (state S.Store tx.old.conn.now).now) }
     ensures in_range { IfOk result IsReply }
-    ensures kept { HasCleanDisk (state S.Store tx.new.conn.now)
-        → KeepsCommit (state S.Store tx.old.conn.now) (state S.Store tx.new.conn.now) }
-    ensures survives { Survives (state S.Store tx.old.conn.now) (state S.Store tx.new.conn.now) (λ _. ⊥) }
+    ensures leaves { LeavesCommit S.Store tx.old tx.new }
     ensures cause { HasCleanDisk (state S.Store tx.new.conn.now)
         → IfErr result (StopsReading default (state S.Store tx.old.conn.now).now) }
 {
@@ -57,15 +55,12 @@ fn next_row<S: Alter>(
     day: u32,
     after: &Login,
 ) -> Result<Option<UsageRow>, Refused>
-    ensures same_reference { tx.new.conn.ghost_name ≡ tx.old.conn.ghost_name }
     ensures stays { HasCleanDisk (state S.Store tx.new.conn.now)
         → OnOk result (Stays (state S.Store tx.old.conn.now) (state S.Store tx.new.conn.now)) }
     ensures next { HasCleanDisk (state S.Store tx.new.conn.now)
         → IfOk result (IsNextRow default day after.now (state S.Store tx.old.conn.now).now) }
     ensures in_range { IfOk result (λ next. IfSome next IsRow) }
-    ensures kept { HasCleanDisk (state S.Store tx.new.conn.now)
-        → KeepsCommit (state S.Store tx.old.conn.now) (state S.Store tx.new.conn.now) }
-    ensures survives { Survives (state S.Store tx.old.conn.now) (state S.Store tx.new.conn.now) (λ _. ⊥) }
+    ensures leaves { LeavesCommit S.Store tx.old tx.new }
     ensures cause { HasCleanDisk (state S.Store tx.new.conn.now)
         → IfErr result (StopsReading default (state S.Store tx.old.conn.now).now) }
 {
@@ -88,15 +83,12 @@ fn page<S: Alter>(
     day: u32,
     after: &Login,
 ) -> Result<Vec<UsageRow>, Refused>
-    ensures same_reference { tx.new.conn.ghost_name ≡ tx.old.conn.ghost_name }
     ensures stays { HasCleanDisk (state S.Store tx.new.conn.now)
         → OnOk result (Stays (state S.Store tx.old.conn.now) (state S.Store tx.new.conn.now)) }
     ensures page { HasCleanDisk (state S.Store tx.new.conn.now)
         → IfOk result (λ rows. IsPageOf default day after.now (state S.Store tx.old.conn.now).now rows.items) }
     ensures in_range { IfOk result (λ rows. IsPage rows.items) }
-    ensures kept { HasCleanDisk (state S.Store tx.new.conn.now)
-        → KeepsCommit (state S.Store tx.old.conn.now) (state S.Store tx.new.conn.now) }
-    ensures survives { Survives (state S.Store tx.old.conn.now) (state S.Store tx.new.conn.now) (λ _. ⊥) }
+    ensures leaves { LeavesCommit S.Store tx.old tx.new }
     ensures cause { HasCleanDisk (state S.Store tx.new.conn.now)
         → IfErr result (StopsReading default (state S.Store tx.old.conn.now).now) }
 {
@@ -123,15 +115,12 @@ pub(crate) fn reply_to_list<S: Alter>(
     after: &Login,
 ) -> Result<Reply, Refused>
     requires { IsDay day }
-    ensures same_reference { tx.new.conn.ghost_name ≡ tx.old.conn.ghost_name }
     ensures stays { HasCleanDisk (state S.Store tx.new.conn.now)
         → OnOk result (Stays (state S.Store tx.old.conn.now) (state S.Store tx.new.conn.now)) }
     ensures replied { HasCleanDisk (state S.Store tx.new.conn.now)
         → IfOk result (IsReplied default (AnyRequest.List day after.now) (state S.Store tx.old.conn.now).now) }
     ensures in_range { IfOk result IsReply }
-    ensures kept { HasCleanDisk (state S.Store tx.new.conn.now)
-        → KeepsCommit (state S.Store tx.old.conn.now) (state S.Store tx.new.conn.now) }
-    ensures survives { Survives (state S.Store tx.old.conn.now) (state S.Store tx.new.conn.now) (λ _. ⊥) }
+    ensures leaves { LeavesCommit S.Store tx.old tx.new }
     ensures cause { HasCleanDisk (state S.Store tx.new.conn.now)
         → IfErr result (StopsReading default (state S.Store tx.old.conn.now).now) }
 {

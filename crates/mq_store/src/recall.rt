@@ -2,11 +2,12 @@
 
 ghost use Rattle.std.specs.Prelude.{◌≡◌, ◌<◌, ◌+◌, ◌^◌, ℕ, List, IfOk, OnOk};
 ghost use Rattle.sqlite.specs.Held.{state};
-ghost use Rattle.sqlite.specs.State.{HasCleanDisk, KeepsCommit, Survives};
+ghost use Rattle.sqlite.specs.State.{HasCleanDisk};
 ghost use Rattle.mq_frame.specs.Range.{IsRequest, IsId, IsMoment};
 ghost use Rattle.mq_frame.specs.Spelling.{SpellsRequest};
 ghost use Rattle.mq_ledger.specs.History.{transaction};
 ghost use Rattle.mq_forget.specs.Remembered.{is_set};
+ghost use Rattle.mq_tables.specs.Inside.{LeavesCommit};
 ghost use Rattle.mq_store.specs.Carrying.{Names, SpellsWhereKnown, IsAnsweredAt, TellsStaying};
 ghost use Rattle.mq_store.specs.Taking.{Stays};
 
@@ -66,15 +67,12 @@ pub(crate) fn answered_at<S: Alter>(
     place: u64,
 ) -> Result<Answered, Refused>
     requires { place + 1 < 2 ^ 63 }
-    ensures same_reference { tx.new.conn.ghost_name ≡ tx.old.conn.ghost_name }
     ensures stays { HasCleanDisk (state S.Store tx.new.conn.now)
         → OnOk result (Stays (state S.Store tx.old.conn.now) (state S.Store tx.new.conn.now)) }
     ensures read { HasCleanDisk (state S.Store tx.new.conn.now)
         → IfOk result (IsAnsweredAt place (state S.Store tx.old.conn.now).now) }
     ensures in_range { IfOk result (λ answered. IsRequest answered.request) }
-    ensures kept { HasCleanDisk (state S.Store tx.new.conn.now)
-        → KeepsCommit (state S.Store tx.old.conn.now) (state S.Store tx.new.conn.now) }
-    ensures survives { Survives (state S.Store tx.old.conn.now) (state S.Store tx.new.conn.now) (λ _. ⊥) }
+    ensures leaves { LeavesCommit S.Store tx.old tx.new }
 {
     answers_are_entries();
     let Some(bodies) = read_answer(tx, place + 1)? else {
@@ -96,14 +94,11 @@ fn day_named<S: Alter>(
 ) -> Result<u32, Refused>
     requires id { IsId id.now }
     requires moment { IsMoment moment }
-    ensures same_reference { tx.new.conn.ghost_name ≡ tx.old.conn.ghost_name }
     ensures stays { HasCleanDisk (state S.Store tx.new.conn.now)
         → OnOk result (Stays (state S.Store tx.old.conn.now) (state S.Store tx.new.conn.now)) }
     ensures named { HasCleanDisk (state S.Store tx.new.conn.now)
         → IfOk result (Names zone (transaction id.now txn) moment (state S.Store tx.old.conn.now).now) }
-    ensures kept { HasCleanDisk (state S.Store tx.new.conn.now)
-        → KeepsCommit (state S.Store tx.old.conn.now) (state S.Store tx.new.conn.now) }
-    ensures survives { Survives (state S.Store tx.old.conn.now) (state S.Store tx.new.conn.now) (λ _. ⊥) }
+    ensures leaves { LeavesCommit S.Store tx.old tx.new }
 {
     transactions_have_days();
     match find_transaction(tx, &id.host, id.run, txn)? {
@@ -131,14 +126,11 @@ pub(crate) fn stays<S: Alter>(
     answered: &Answered,
 ) -> Result<Option<bool>, Refused>
     requires { IsRequest answered.now.request }
-    ensures same_reference { tx.new.conn.ghost_name ≡ tx.old.conn.ghost_name }
     ensures stays { HasCleanDisk (state S.Store tx.new.conn.now)
         → OnOk result (Stays (state S.Store tx.old.conn.now) (state S.Store tx.new.conn.now)) }
     ensures told { HasCleanDisk (state S.Store tx.new.conn.now)
         → IfOk result (TellsStaying zone day answered.now (state S.Store tx.old.conn.now).now) }
-    ensures kept { HasCleanDisk (state S.Store tx.new.conn.now)
-        → KeepsCommit (state S.Store tx.old.conn.now) (state S.Store tx.new.conn.now) }
-    ensures survives { Survives (state S.Store tx.old.conn.now) (state S.Store tx.new.conn.now) (λ _. ⊥) }
+    ensures leaves { LeavesCommit S.Store tx.old tx.new }
 {
     let request = &answered.request;
     match request {

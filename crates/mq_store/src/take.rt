@@ -2,12 +2,13 @@
 
 ghost use Rattle.std.specs.Prelude.{◌≡◌, ℕ, List, Some, IsTrue, IfOk, IfErr, IfSome, OnOk};
 ghost use Rattle.sqlite.specs.Held.{state};
-ghost use Rattle.sqlite.specs.State.{HasCleanDisk, KeepsCommit, Survives};
+ghost use Rattle.sqlite.specs.State.{HasCleanDisk};
 ghost use Rattle.mq_frame.specs.Range.{IsRequest, IsReply};
 ghost use Rattle.mq_ledger.specs.declared.entry.Entry.{Entry as AnyEntry};
 ghost use Rattle.mq_ledger.specs.Arrivals.{id_of, is_below};
 ghost use Rattle.mq_ledger.specs.History.{requests};
 ghost use Rattle.mq_rows.specs.Storable.{IsStorablePlan};
+ghost use Rattle.mq_tables.specs.Inside.{LeavesCommit};
 ghost use Rattle.mq_store.specs.Causes.{StopsOver, StopsNew};
 ghost use Rattle.mq_store.specs.Taking.{HasBook, book_of, Stays, IsKnown, IsPlanned, AppliesNew, IsTaken, reply_in};
 
@@ -38,16 +39,13 @@ pub(crate) enum Taken {
 /// Whether the run of that number is below the floor of its host.
 #[tactic(auto, using(crate::proofs::Chain::calls))]
 fn is_retired<S: Alter>(tx: &mut Transaction<'_, S>, id: &Id) -> Result<bool, Error>
-    ensures same_reference { tx.new.conn.ghost_name ≡ tx.old.conn.ghost_name }
     ensures stays { HasCleanDisk (state S.Store tx.new.conn.now)
         → OnOk result (Stays (state S.Store tx.old.conn.now) (state S.Store tx.new.conn.now)) }
     ensures below { HasCleanDisk (state S.Store tx.new.conn.now)
         → IfOk result (λ retired. (zone : Zone) (default : ℕ) (H : List AnyEntry)
         → HasBook (book_of zone default H) (state S.Store tx.old.conn.now).now
         → retired ≡ is_below (requests H) id.now) }
-    ensures kept { HasCleanDisk (state S.Store tx.new.conn.now)
-        → KeepsCommit (state S.Store tx.old.conn.now) (state S.Store tx.new.conn.now) }
-    ensures survives { Survives (state S.Store tx.old.conn.now) (state S.Store tx.new.conn.now) (λ _. ⊥) }
+    ensures leaves { LeavesCommit S.Store tx.old tx.new }
 {
     floors_are_known();
     match find_floor(tx, &id.host)? {
@@ -67,7 +65,6 @@ fn known_reply<S: Alter>(
 ) -> Result<Option<Reply>, Refused>
     requires in_range { IsRequest request.now }
     requires number { id_of request.now ≡ Some id.now }
-    ensures same_reference { tx.new.conn.ghost_name ≡ tx.old.conn.ghost_name }
     ensures stays { HasCleanDisk (state S.Store tx.new.conn.now)
         → OnOk result (Stays (state S.Store tx.old.conn.now) (state S.Store tx.new.conn.now)) }
     ensures known { HasCleanDisk (state S.Store tx.new.conn.now)
@@ -75,9 +72,7 @@ fn known_reply<S: Alter>(
         → HasBook (book_of zone default H) (state S.Store tx.old.conn.now).now
         → IsKnown zone default H request.now id.now known) }
     ensures in_range { IfOk result (λ known. IfSome known IsReply) }
-    ensures kept { HasCleanDisk (state S.Store tx.new.conn.now)
-        → KeepsCommit (state S.Store tx.old.conn.now) (state S.Store tx.new.conn.now) }
-    ensures survives { Survives (state S.Store tx.old.conn.now) (state S.Store tx.new.conn.now) (λ _. ⊥) }
+    ensures leaves { LeavesCommit S.Store tx.old tx.new }
     ensures cause { HasCleanDisk (state S.Store tx.new.conn.now)
         → IfErr result (λ refused. (zone : Zone) (default : ℕ)
         → StopsOver zone default (state S.Store tx.old.conn.now).now refused) }
@@ -105,16 +100,13 @@ fn plan<S: Alter>(
 ) -> Result<Plan, Refused>
     requires in_range { IsRequest request.now }
     requires number { id_of request.now ≡ Some id.now }
-    ensures same_reference { tx.new.conn.ghost_name ≡ tx.old.conn.ghost_name }
     ensures stays { HasCleanDisk (state S.Store tx.new.conn.now)
         → OnOk result (Stays (state S.Store tx.old.conn.now) (state S.Store tx.new.conn.now)) }
     ensures planned { HasCleanDisk (state S.Store tx.new.conn.now)
         → IfOk result (IsPlanned zone default request.now id.now (state S.Store tx.old.conn.now).now) }
     ensures storable { IfOk result IsStorablePlan }
     ensures in_range { IfOk result (λ plan. IsReply plan.reply) }
-    ensures kept { HasCleanDisk (state S.Store tx.new.conn.now)
-        → KeepsCommit (state S.Store tx.old.conn.now) (state S.Store tx.new.conn.now) }
-    ensures survives { Survives (state S.Store tx.old.conn.now) (state S.Store tx.new.conn.now) (λ _. ⊥) }
+    ensures leaves { LeavesCommit S.Store tx.old tx.new }
     ensures cause { HasCleanDisk (state S.Store tx.new.conn.now)
         → IfErr result (StopsNew zone default id.now (state S.Store tx.old.conn.now).now) }
 {
@@ -138,16 +130,13 @@ fn take_new<S: Alter>(
     requires number { id_of request.now ≡ Some id.now }
     requires inside { HasCleanDisk (state S.Store tx.old.conn.now)
         → IsTrue (state S.Store tx.old.conn.now).in_transaction }
-    ensures same_reference { tx.new.conn.ghost_name ≡ tx.old.conn.ghost_name }
     ensures inside { HasCleanDisk (state S.Store tx.new.conn.now)
         → OnOk result (IsTrue (state S.Store tx.new.conn.now).in_transaction) }
     ensures applied { HasCleanDisk (state S.Store tx.new.conn.now)
         → IfOk result (λ a. AppliesNew zone default request.now id.now a
         (state S.Store tx.old.conn.now).now (state S.Store tx.new.conn.now).now) }
     ensures in_range { IfOk result IsReply }
-    ensures kept { HasCleanDisk (state S.Store tx.new.conn.now)
-        → KeepsCommit (state S.Store tx.old.conn.now) (state S.Store tx.new.conn.now) }
-    ensures survives { Survives (state S.Store tx.old.conn.now) (state S.Store tx.new.conn.now) (λ _. ⊥) }
+    ensures leaves { LeavesCommit S.Store tx.old tx.new }
     ensures cause { HasCleanDisk (state S.Store tx.new.conn.now)
         → IfErr result (StopsNew zone default id.now (state S.Store tx.old.conn.now).now) }
 {
@@ -171,16 +160,13 @@ fn take_numbered<S: Alter>(
     requires number { id_of request.now ≡ Some id.now }
     requires inside { HasCleanDisk (state S.Store tx.old.conn.now)
         → IsTrue (state S.Store tx.old.conn.now).in_transaction }
-    ensures same_reference { tx.new.conn.ghost_name ≡ tx.old.conn.ghost_name }
     ensures inside { HasCleanDisk (state S.Store tx.new.conn.now)
         → OnOk result (IsTrue (state S.Store tx.new.conn.now).in_transaction) }
     ensures taken { HasCleanDisk (state S.Store tx.new.conn.now)
         → IfOk result (IsTaken zone default request.now
         (state S.Store tx.old.conn.now).now (state S.Store tx.new.conn.now).now) }
     ensures in_range { IfOk result (λ taken. IsReply (reply_in taken)) }
-    ensures kept { HasCleanDisk (state S.Store tx.new.conn.now)
-        → KeepsCommit (state S.Store tx.old.conn.now) (state S.Store tx.new.conn.now) }
-    ensures survives { Survives (state S.Store tx.old.conn.now) (state S.Store tx.new.conn.now) (λ _. ⊥) }
+    ensures leaves { LeavesCommit S.Store tx.old tx.new }
     ensures cause { HasCleanDisk (state S.Store tx.new.conn.now)
         → IfErr result (StopsOver zone default (state S.Store tx.old.conn.now).now) }
 {
@@ -205,16 +191,13 @@ pub(crate) fn take<S: Alter>(
     requires in_range { IsRequest request.now }
     requires inside { HasCleanDisk (state S.Store tx.old.conn.now)
         → IsTrue (state S.Store tx.old.conn.now).in_transaction }
-    ensures same_reference { tx.new.conn.ghost_name ≡ tx.old.conn.ghost_name }
     ensures inside { HasCleanDisk (state S.Store tx.new.conn.now)
         → OnOk result (IsTrue (state S.Store tx.new.conn.now).in_transaction) }
     ensures taken { HasCleanDisk (state S.Store tx.new.conn.now)
         → IfOk result (IsTaken zone default request.now
         (state S.Store tx.old.conn.now).now (state S.Store tx.new.conn.now).now) }
     ensures in_range { IfOk result (λ taken. IsReply (reply_in taken)) }
-    ensures kept { HasCleanDisk (state S.Store tx.new.conn.now)
-        → KeepsCommit (state S.Store tx.old.conn.now) (state S.Store tx.new.conn.now) }
-    ensures survives { Survives (state S.Store tx.old.conn.now) (state S.Store tx.new.conn.now) (λ _. ⊥) }
+    ensures leaves { LeavesCommit S.Store tx.old tx.new }
     ensures cause { HasCleanDisk (state S.Store tx.new.conn.now)
         → IfErr result (StopsOver zone default (state S.Store tx.old.conn.now).now) }
 {

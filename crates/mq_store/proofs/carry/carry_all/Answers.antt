@@ -1,18 +1,18 @@
-use Rattle.std.proofs.Common.{◌≡◌, arith, sym, subst, ap, ◌∙◌, take, length}
+use Rattle.std.proofs.Common.{◌≡◌, sym, subst, ap, ◌∙◌, take, length}
 use Rattle.sqlite.specs.Held.{state}
 use Rattle.sqlite.specs.Effect.{Database}
-use Rattle.sqlite.specs.State.{HasCleanDisk}
 use Rattle.mq_rows.specs.declared.record.SettingRecord.{SettingRecord}
 use Rattle.mq_ledger.specs.Day.{day_of}
 use Rattle.mq_forget.specs.Remembered.{remembered}
 use Rattle.mq_store.specs.Taking.{HasBook, book_of}
 use Rattle.mq_store.proofs.Entering.{take_all}
 use Rattle.mq_store.proofs.Filling.{on_ok}
+use Rattle.mq_store.proofs.Chain.{was_clean}
 use Rattle.mq_store.proofs.carry.carry_all.Goals as goal
 
 pub returns-clause-carried : goal.returns-clause-carried
 returns-clause-carried g c clean clean_into scratch =
-    let mid : HasCleanDisk (state g.S.Store c.read_arrivals.new.tx.conn.now) = omega (arith, c.carry_front.ensures.from_survives.clean) in
+    let mid = was_clean c.carry_front.ensures.from_leaves clean in
     let same = c.in_ok-arrivals.ensures.same mid in
     let new : Database = (state g.T.Store c.carry_front.new.into.conn.now).now in
     on_ok c.carry_front.result _ _ (λ carries H has blank.

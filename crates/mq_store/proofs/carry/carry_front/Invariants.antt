@@ -1,9 +1,10 @@
 use Rattle.std.proofs.Common.{◌≡◌, ◌≤◌, List, [], take}
 use Rattle.std.specs.Prelude.{IsTrue}
 use Rattle.sqlite.specs.Held.{state}
-use Rattle.sqlite.specs.State.{HasCleanDisk, KeepsCommit, Survives}
+use Rattle.sqlite.specs.State.{HasCleanDisk}
 use Rattle.sqlite.specs.Steps.{over_memory}
 use Rattle.mq_ledger.specs.declared.entry.Entry.{Entry}
+use Rattle.mq_tables.specs.Inside.{LeavesCommit}
 use Rattle.mq_store.specs.Carrying.{CarriesFront}
 use Rattle.mq_store.specs.Taking.{Stays, HasBook, book_of}
 use Rattle.mq_store.proofs.carry.carry_front.Given as goal
@@ -17,14 +18,10 @@ invariant-loop-place g l =
     let before = state over_memory l.fn.scratch.conn.now in
     let after = state over_memory l.scratch.conn.now in
     record {
-      same_from : l.from.conn.ghost_name ≡ l.fn.from.conn.ghost_name;
-      same_into : l.into.conn.ghost_name ≡ l.fn.into.conn.ghost_name;
+      from_leaves : LeavesCommit g.S.Store l.fn.from l.from;
+      into_leaves : LeavesCommit g.T.Store l.fn.into l.into;
       same_scratch : l.scratch.conn.ghost_name ≡ l.fn.scratch.conn.ghost_name;
-      from_survives : Survives old now (λ _. ⊥);
-      into_survives : Survives old_into now_into (λ _. ⊥);
-      from_kept : HasCleanDisk now → KeepsCommit old now;
       stays : HasCleanDisk now → Stays old now;
-      into_kept : HasCleanDisk now_into → KeepsCommit old_into now_into;
       into_inside : HasCleanDisk now_into → IsTrue now_into.in_transaction;
       inside : IsTrue after.in_transaction;
       followed : l.followed ≤ l.place;

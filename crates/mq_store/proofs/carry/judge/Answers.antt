@@ -1,9 +1,8 @@
-use Rattle.std.proofs.Common.{◌∙◌, sym, subst, ap, arith, inl, inr}
-use Rattle.sqlite.specs.Held.{state}
-use Rattle.sqlite.specs.State.{HasCleanDisk}
+use Rattle.std.proofs.Common.{◌∙◌, sym, subst, ap, inl, inr}
 use Rattle.mq_forget.specs.Remembered.{is_set}
 use Rattle.mq_store.specs.Taking.{HasBook, book_of}
 use Rattle.mq_store.proofs.Entering.{option_cases}
+use Rattle.mq_store.proofs.Chain.{was_clean}
 use Rattle.mq_store.proofs.carry.judge.Goals as goal
 
 pub returns-in-Some-clause-judged : goal.returns-in-Some-clause-judged
@@ -15,7 +14,7 @@ pub returns-clause-judged : goal.returns-clause-judged
 returns-clause-judged g c clean = λ H has front reply known at.
     elim (option_cases c.in_ok-told.told) [
       | inr some ↦ absurd (c.in_default.not-Some some.0 some.1)
-      | inl none ↦ (let mid : HasCleanDisk (state g.S.Store c.stays.new.tx.conn.now) = omega (arith, c.reply_at.ensures.from_survives.clean) in
+      | inl none ↦ (let mid = was_clean c.reply_at.ensures.from_leaves clean in
           let told = rw none at (c.in_ok-told.ensures.told mid c.args.terms.now.default H has reply known) in
           let here = subst (HasBook (book_of c.args.terms.now.zone c.args.terms.now.default H)) (sym (c.in_ok-told.ensures.stays mid).now) has in
           let found = c.in_ok-reply.ensures.replies clean H here front reply at in

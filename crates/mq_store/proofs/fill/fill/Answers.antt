@@ -1,7 +1,6 @@
-use Rattle.std.proofs.Common.{arith}
 use Rattle.sqlite.specs.Held.{state}
-use Rattle.sqlite.specs.State.{HasCleanDisk}
 use Rattle.mq_store.proofs.Filling.{on_ok, fills_over}
+use Rattle.mq_store.proofs.Chain.{was_clean}
 use Rattle.mq_store.proofs.fill.fill.Goals as goal
 
 pub returns-clause-filled : goal.returns-clause-filled
@@ -10,6 +9,6 @@ returns-clause-filled g c clean clean_into =
     let old = state g.T.Store c.args.into.now.conn.now in
     let mid = state g.T.Store c.make.new.tx.conn.now in
     let new = state g.T.Store c.carry_apart.new.into.conn.now in
-    let sure : HasCleanDisk mid = omega (arith, c.carry_apart.ensures.into_survives.clean) in
+    let sure = was_clean c.carry_apart.ensures.into_leaves clean_into in
     on_ok c.carry_apart.result _ _ (fills_over c.args.terms.now.zone c.args.terms.now.default c.args.terms.now.day from.now old.now mid.now new.now (c.in_ok-make.ensures.blank sure))
     (c.carry_apart.ensures.carried clean clean_into)

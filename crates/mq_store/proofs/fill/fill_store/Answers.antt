@@ -13,7 +13,7 @@ returns-in_err-commit-clause-crash_err g c clean_from =
     let mid = state g.T.Store c.fill.new.into.conn.now in
     let same : c.commit.new.self.0 ≡ c.into-2-1.given.0 = search rules in
     let read : HasCleanDisk (state g.S.Store c.fill.new.from.conn.now) = search rules in
-    let before = survives_begin g.T.Store c.args.into.now mid (λ _. ⊥) (rw c.transaction-writing.ensures.begun at c.fill.ensures.into_survives) in
+    let before = survives_begin g.T.Store c.args.into.now mid (λ _. ⊥) (rw c.transaction-writing.ensures.begun at c.fill.ensures.into_leaves.survives) in
     let filled : HasCleanDisk mid → Fills c.args.terms.now.zone c.args.terms.now.default c.args.terms.now.day from.now old.now mid.now =
     rw (c.transaction-reading.ensures.begun, c.transaction-writing.ensures.begun) at (c.in_ok-fill.ensures.filled read) in
     rw (← same) (λ clean. on_err _ _ (leaves_filled c.args.terms.now.zone c.args.terms.now.default c.args.terms.now.day from.now old mid (state g.T.Store c.commit.new.self.0) filled before c.commit.ensures.survives clean))

@@ -1,30 +1,26 @@
-use Rattle.std.proofs.Common.{arith, ◌≡◌, ◌+◌, List, ◌∷◌, drop, subst, sym, ap, ◌∙◌}
+use Rattle.std.proofs.Common.{◌≡◌, ◌+◌, List, ◌∷◌, drop, subst, sym, ap, ◌∙◌}
 use Rattle.std.proofs.lemmas.List.{drop_more, drop_all}
 use Rattle.sqlite.specs.Held.{state}
 use Rattle.sqlite.specs.Order.{Row}
-use Rattle.sqlite.specs.State.{HasCleanDisk}
 use Rattle.mq_store.specs.GivingUp.{place_of}
-use Rattle.mq_store.proofs.Chain.{survives_both, keeps_both}
+use Rattle.mq_store.proofs.Chain.{leaves_both, was_clean}
 use Rattle.mq_store.proofs.Clearings.{IsToClear, one_cleared, all_at_places}
 use Rattle.mq_store.proofs.giving_up.clear_all.Goals as goal
 
 pub loop-place-preserved : goal.loop-place-preserved
 loop-place-preserved g c =
-    let s0 = state g.S.Store c.args.tx.now.conn.now in
     let s1 = state g.S.Store c.loop-place.tx.conn.now in
     let s2 = state g.S.Store c.clear_reply.new.tx.conn.now in
     let place = c.place-item.result in
     let rest = drop (c.loop-place.place-index + 1) c.args.places.now in (
-      c.clear_reply.ensures.same_reference ∙ c.loop-place.invariant.0,
-      survives_both s0 s1 s2 c.loop-place.invariant.1 c.clear_reply.ensures.survives,
+      leaves_both c.loop-place.invariant.0 c.clear_reply.ensures.leaves,
       λ clean.
-          let mid : HasCleanDisk s1 = omega (arith, clean, c.clear_reply.ensures.survives.clean) in
-          let before = c.loop-place.invariant.2 mid in (
-            keeps_both s0 s1 s2 c.clear_reply.ensures.survives (λ at. (c.loop-place.invariant.2 at).0) c.clear_reply.ensures.kept clean,
+          let mid = was_clean c.clear_reply.ensures.leaves clean in
+          let before = c.loop-place.invariant.1 mid in (
             c.in_ok-_count.ensures.inside clean,
             λ t l.
                 let here : drop c.loop-place.place-index c.args.places.now ≡ place ∷ rest = drop_more c.args.places.now c.loop-place.place-index place c.loop-place-test.true ∙ ap (λ (x : Row). x ∷ rest) (sym c.place-item.is) in
-                let left = subst (λ (xs : List Row). IsToClear t c.args.places.now xs s1.now) here (before.2 t l) in
+                let left = subst (λ (xs : List Row). IsToClear t c.args.places.now xs s1.now) here (before.1 t l) in
                 one_cleared t c.args.places.now rest place c.in_ok-n.n s1 s2 (ap place_of c.in_ok-n.ensures.0) left (c.in_ok-_count.ensures.cleared clean),
           ),
     )
@@ -33,4 +29,4 @@ pub returns-clause-cleared : goal.returns-clause-cleared
 returns-clause-cleared g c clean = λ t l.
     let now = state g.S.Store c.loop-place.tx.conn.now in
     let none = drop_all c.loop-place.place-index c.args.places.now c.loop-place-test.false in
-    all_at_places t c.args.places.now now.now (subst (λ (xs : List Row). IsToClear t c.args.places.now xs now.now) none ((c.loop-place.invariant.2 clean).2 t l))
+    all_at_places t c.args.places.now now.now (subst (λ (xs : List Row). IsToClear t c.args.places.now xs now.now) none ((c.loop-place.invariant.1 clean).1 t l))

@@ -1,8 +1,9 @@
-use Rattle.std.proofs.Common.{◌≡◌, drop}
+use Rattle.std.proofs.Common.{drop}
 use Rattle.std.specs.Prelude.{IsTrue}
 use Rattle.sqlite.specs.Held.{state}
-use Rattle.sqlite.specs.State.{HasCleanDisk, KeepsCommit, Survives}
+use Rattle.sqlite.specs.State.{HasCleanDisk}
 use Rattle.mq_rows.specs.Tables.{Tables}
+use Rattle.mq_tables.specs.Inside.{LeavesCommit}
 use Rattle.mq_tables.specs.Ledger.{HasLedger}
 use Rattle.mq_store.proofs.Clearings.{IsToClear}
 use Rattle.mq_store.proofs.giving_up.clear_all.Given as goal
@@ -12,7 +13,6 @@ abbrev pub invariant-loop-place : goal.invariant-loop-place
 invariant-loop-place g l =
     let old = state g.S.Store l.fn.tx.conn.now in
     let now = state g.S.Store l.tx.conn.now in
-    (l.tx.conn.ghost_name ≡ l.fn.tx.conn.ghost_name)
-    × Survives old now (λ _. ⊥)
-    × (HasCleanDisk now → KeepsCommit old now × IsTrue now.in_transaction
+    LeavesCommit g.S.Store l.fn.tx l.tx
+    × (HasCleanDisk now → IsTrue now.in_transaction
     × ((t : Tables) → HasLedger old.now t → IsToClear t l.places (drop l.place-index l.places) now.now))

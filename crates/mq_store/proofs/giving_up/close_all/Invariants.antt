@@ -1,11 +1,12 @@
-use Rattle.std.proofs.Common.{◌≡◌, drop}
+use Rattle.std.proofs.Common.{drop}
 use Rattle.std.specs.Prelude.{IsTrue}
 use Rattle.sqlite.specs.Held.{state}
-use Rattle.sqlite.specs.State.{HasCleanDisk, KeepsCommit, Survives}
+use Rattle.sqlite.specs.State.{HasCleanDisk}
 use Rattle.mq_ledger.specs.Legal.{Book}
 use Rattle.mq_rows.specs.declared.plan.Plan.{Plan}
 use Rattle.mq_rows.specs.Tables.{Tables}
 use Rattle.mq_rows.specs.Written.{MovesLead}
+use Rattle.mq_tables.specs.Inside.{LeavesCommit}
 use Rattle.mq_tables.specs.Ledger.{HasLedger}
 use Rattle.mq_rows.specs.Plan.{LeadsAll}
 use Rattle.mq_store.proofs.Closings.{IsLeft}
@@ -16,7 +17,6 @@ abbrev pub invariant-loop-was : goal.invariant-loop-was
 invariant-loop-was g l =
     let old = state g.S.Store l.fn.tx.conn.now in
     let now = state g.S.Store l.tx.conn.now in
-    (l.tx.conn.ghost_name ≡ l.fn.tx.conn.ghost_name)
-    × Survives old now (λ _. ⊥)
-    × (HasCleanDisk now → KeepsCommit old now × IsTrue now.in_transaction
+    LeavesCommit g.S.Store l.fn.tx l.tx
+    × (HasCleanDisk now → IsTrue now.in_transaction
     × ((t : Tables) → HasLedger old.now t → (b : Book) (p : Plan) → LeadsAll l.these t.transactions t.usage (MovesLead b p) → IsLeft t b p (drop l.was-index l.these) now.now))

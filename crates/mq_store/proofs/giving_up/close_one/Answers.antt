@@ -1,13 +1,13 @@
-use Rattle.std.proofs.Common.{arith, subst}
+use Rattle.std.proofs.Common.{subst}
 use Rattle.std.specs.Prelude.{OnOk}
 use Rattle.sqlite.specs.Held.{state}
-use Rattle.sqlite.specs.State.{HasCleanDisk}
 use Rattle.mq_rows.specs.declared.plan.Write.{Write}
 use Rattle.mq_rows.specs.declared.plan.Write.TheVariants.{Update}
 use Rattle.mq_rows.specs.declared.record.TransactionRecord.{TransactionRecord}
 use Rattle.mq_rows.specs.declared.record.UsageRecord.{UsageRecord}
 use Rattle.mq_tables.specs.Updates.{WritesTransaction, WritesUsage}
 use Rattle.mq_store.proofs.Closings.{closes_ok}
+use Rattle.mq_store.proofs.Chain.{was_clean}
 use Rattle.mq_store.proofs.giving_up.close_one.Goals as goal
 
 pub returns-clause-closed : goal.returns-clause-closed
@@ -16,8 +16,8 @@ returns-clause-closed g c clean =
     let s1 = state g.S.Store c.find_usage.new.tx.conn.now in
     let s2 = state g.S.Store c.write_transaction.new.tx.conn.now in
     let s3 = state g.S.Store c.write_usage.new.tx.conn.now in
-    let two : HasCleanDisk s2 = omega (arith, clean, c.write_usage.ensures.survives.clean) in
-    let one : HasCleanDisk s1 = omega (arith, two, c.write_transaction.ensures.survives.clean) in
+    let two = was_clean c.write_usage.ensures.leaves clean in
+    let one = was_clean c.write_transaction.ensures.leaves two in
     let same = c.in_ok-usage.ensures.same one in
     let moved = subst (λ (r : TransactionRecord). WritesTransaction (Update r) s1 s2) c.in_ok-abandoned.ensures (c.in_ok-write_transaction.ensures.written two) in
     let summed = subst (λ (w : Write UsageRecord). OnOk c.write_usage.result (WritesUsage w s2 s3)) c.in_ok-totals.ensures (c.write_usage.ensures.written clean) in

@@ -1,7 +1,6 @@
-use Rattle.std.proofs.Common.{arith}
 use Rattle.sqlite.specs.Held.{state}
-use Rattle.sqlite.specs.State.{HasCleanDisk}
 use Rattle.mq_store.proofs.Clearings.{gives_up_ok}
+use Rattle.mq_store.proofs.Chain.{was_clean}
 use Rattle.mq_store.proofs.giving_up.give_up_runs.Goals as goal
 
 pub returns-clause-given_up : goal.returns-clause-given_up
@@ -10,7 +9,7 @@ returns-clause-given_up g c clean =
     let s1 = state g.S.Store c.clear_runs.new.tx.conn.now in
     let s2 = state g.S.Store c.find_open.new.tx.conn.now in
     let s3 = state g.S.Store c.close_all.new.tx.conn.now in
-    let two : HasCleanDisk s2 = omega (arith, clean, c.close_all.ensures.survives.clean) in
-    let one : HasCleanDisk s1 = omega (arith, two, c.find_open.ensures.survives.clean) in
+    let two = was_clean c.close_all.ensures.leaves clean in
+    let one = was_clean c.find_open.ensures.leaves two in
     let same = c.in_ok-these.ensures.same two in
     gives_up_ok c.args.runs.now c.in_ok-these.these.items s0 s1 s2 s3 c.close_all.result (c.in_ok-clear_runs.ensures.cleared one) same.0.now_is (c.in_ok-these.ensures.found two) (rw c.as_slice.ensures.value at (c.close_all.ensures.closed clean))

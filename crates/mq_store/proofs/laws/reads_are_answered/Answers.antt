@@ -1,16 +1,12 @@
-use Rattle.std.proofs.Common.{◌≡◌, ℕ, ◌≤◌, List, [], ◌∷◌, ◌++◌, map, length, find, Bool, true, false, refl, sym, ap, subst, ◌∙◌, inl, inr, arith, length-append}
-use Rattle.std.specs.Prelude.{Contains, Option, Some, None, ◌&&◌, ◌==◌, ◌⊎◌}
+use Rattle.std.proofs.Common.{◌≡◌, ℕ, ◌≤◌, List, [], ◌∷◌, ◌++◌, map, length, find, Bool, true, refl, sym, ap, subst, ◌∙◌, inl, inr, arith, length-append}
+use Rattle.std.specs.Prelude.{Option, Some, None, ◌⊎◌}
 use Rattle.std.specs.List.{AllByRecursion}
 use Rattle.std.proofs.lemmas.List.{map-append}
-use Rattle.std.proofs.lemmas.List.Elements.{All-from_recursion}
-use Rattle.std.proofs.lemmas.Bool.Decides.{Decides-eqb}
-use Rattle.std.specs.Cmp.Lexicographic.{bytes_decides}
-use Rattle.mq_frame.specs.Same.{same_text}
 use Rattle.mq_frame.specs.declared.usage.UsageRow.{UsageRow}
 use Rattle.mq_ledger.specs.Day.{day_of}
-use Rattle.mq_ledger.specs.Page.{below, row}
+use Rattle.mq_ledger.specs.Page.{row}
 use Rattle.mq_rows.specs.declared.record.UsageRecord.{UsageRecord}
-use Rattle.mq_rows.specs.Listing.{IsNext, behind, is_above}
+use Rattle.mq_rows.specs.Listing.{IsNext, behind}
 use Rattle.mq_rows.specs.Rows.{is_usage}
 use Rattle.mq_tables.specs.Records.{IsOneOf}
 use Rattle.mq_store.proofs.InRange.{row_found}

@@ -1,14 +1,14 @@
-use Rattle.std.proofs.Common.{arith, true≢false, sym, subst, ◌∙◌}
+use Rattle.std.proofs.Common.{true≢false, sym, subst, ◌∙◌}
 use Rattle.sqlite.specs.Held.{state}
-use Rattle.sqlite.specs.State.{HasCleanDisk}
 use Rattle.mq_tables.specs.Ledger.{HasLedger}
 use Rattle.mq_store.specs.Causes.{StopsReading}
 use Rattle.mq_store.proofs.Causes.{of_rows, stops_by}
+use Rattle.mq_store.proofs.Chain.{was_clean}
 use Rattle.mq_store.proofs.listing.next_row.Goals as goal
 
 pub returns-clause-next : goal.returns-clause-next
 returns-clause-next g c clean = λ zone H b.
-    let mid : HasCleanDisk (state g.S.Store c.next_usage.new.tx.conn.now) = omega (arith, c.find_governing.ensures.survives.clean) in
+    let mid = was_clean c.find_governing.ensures.leaves clean in
     let same = c.in_ok-usage.ensures.same mid in
     let holds = subst (λ db. HasLedger db b.has.tables) (sym same.0.now_is) b.has.holds in
     let next = rw c.in-Some.is at (c.in_ok-usage.ensures.found mid b.has.tables b.has.holds) in (
@@ -21,7 +21,7 @@ returns-clause-next g c clean = λ zone H b.
 pub returns-in_err-page_row-clause-cause : goal.returns-in_err-page_row-clause-cause
 returns-in_err-page_row-clause-cause g c clean =
     stops_by c.in_err-page_row.field-0.0 c.from_residual-in_err-page_row.result (StopsReading c.args.default (state g.S.Store c.args.tx.now.conn.now).now) c.from_residual-in_err-page_row.ensures.1 (λ zone H b.
-    let mid : HasCleanDisk (state g.S.Store c.next_usage.new.tx.conn.now) = omega (arith, c.find_governing.ensures.survives.clean) in
+    let mid = was_clean c.find_governing.ensures.leaves clean in
     let same = c.in_ok-usage.ensures.same mid in
     let holds = subst (λ db. HasLedger db b.has.tables) (sym same.0.now_is) b.has.holds in
     let next = rw c.in-Some.is at (c.in_ok-usage.ensures.found mid b.has.tables b.has.holds) in

@@ -1,8 +1,9 @@
 use Rattle.std.proofs.Common.{◌≡◌, length}
 use Rattle.std.specs.Prelude.{All}
 use Rattle.sqlite.specs.Held.{state}
-use Rattle.sqlite.specs.State.{HasCleanDisk, KeepsCommit, Survives}
+use Rattle.sqlite.specs.State.{HasCleanDisk}
 use Rattle.mq_frame.specs.Range.{IsRow}
+use Rattle.mq_tables.specs.Inside.{LeavesCommit}
 use Rattle.mq_store.specs.Taking.{Stays}
 use Rattle.mq_store.specs.Paging.{IsBegunIn}
 use Rattle.mq_store.proofs.listing.page.Given as goal
@@ -11,8 +12,7 @@ abbrev pub invariant-loop : goal.invariant-loop
 invariant-loop g l =
     let old = state g.S.Store l.fn.tx.conn.now in
     let now = state g.S.Store l.tx.conn.now in
-    (l.tx.conn.ghost_name ≡ l.fn.tx.conn.ghost_name)
-    × Survives old now (λ _. ⊥)
-    × (HasCleanDisk now → KeepsCommit old now × Stays old now × IsBegunIn l.default l.day l.after old.now l.counter l.rows.items l.last)
+    LeavesCommit g.S.Store l.fn.tx l.tx
+    × (HasCleanDisk now → Stays old now × IsBegunIn l.default l.day l.after old.now l.counter l.rows.items l.last)
     × All IsRow l.rows.items
     × (length l.rows.items ≡ l.counter)

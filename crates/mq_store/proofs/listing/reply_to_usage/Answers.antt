@@ -1,15 +1,14 @@
-use Rattle.std.proofs.Common.{arith, true≢false, sym, subst, ◌∙◌}
+use Rattle.std.proofs.Common.{true≢false, sym, subst, ◌∙◌}
 use Rattle.sqlite.specs.Held.{state}
-use Rattle.sqlite.specs.State.{HasCleanDisk}
 use Rattle.mq_tables.specs.Ledger.{HasLedger}
 use Rattle.mq_store.specs.Causes.{StopsReading}
 use Rattle.mq_store.proofs.Causes.{of_rows, stops_by}
-use Rattle.mq_store.proofs.Chain.{survives_both, keeps_both}
+use Rattle.mq_store.proofs.Chain.{leaves_both, was_clean}
 use Rattle.mq_store.proofs.listing.reply_to_usage.Goals as goal
 
 pub returns-clause-replied : goal.returns-clause-replied
 returns-clause-replied g c clean = λ zone H b.
-    let mid : HasCleanDisk (state g.S.Store c.find_usage.new.tx.conn.now) = omega (arith, c.find_governing.ensures.survives.clean) in
+    let mid = was_clean c.find_governing.ensures.leaves clean in
     let same = c.in_ok-usage.ensures.same mid in
     let holds = subst (λ db. HasLedger db b.has.tables) (sym same.0.now_is) b.has.holds in
     c.in_ok-usage_reply.ensures.reply
@@ -19,27 +18,18 @@ returns-clause-replied g c clean = λ zone H b.
 pub returns-in_err-usage_reply-clause-cause : goal.returns-in_err-usage_reply-clause-cause
 returns-in_err-usage_reply-clause-cause g c clean =
     stops_by c.in_err-usage_reply.field-0.0 c.from_residual-in_err-usage_reply.result (StopsReading c.args.default (state g.S.Store c.args.tx.now.conn.now).now) c.from_residual-in_err-usage_reply.ensures.1 (λ zone H b.
-    let mid : HasCleanDisk (state g.S.Store c.find_usage.new.tx.conn.now) = omega (arith, c.find_governing.ensures.survives.clean) in
+    let mid = was_clean c.find_governing.ensures.leaves clean in
     let same = c.in_ok-usage.ensures.same mid in
     let holds = subst (λ db. HasLedger db b.has.tables) (sym same.0.now_is) b.has.holds in
     let fit = c.reads_are_in_range.ensures.usage zone c.args.default H _ b c.args.login.now c.args.day c.in_ok-usage.usage c.in_ok-governing.governing
     (c.in_ok-usage.ensures.found mid b.has.tables b.has.holds) (c.in_ok-governing.ensures.found clean b.has.tables holds) in
     of_rows H c.in_err-usage_reply.field-0.0 (λ store. true≢false (sym fit ∙ c.in_err-usage_reply.ensures.store store)))
 
-pub returns-in_err-governing-clause-survives : goal.returns-in_err-governing-clause-survives
-returns-in_err-governing-clause-survives g c = survives_both (state g.S.Store c.args.tx.now.conn.now) (state g.S.Store c.find_usage.new.tx.conn.now) (state g.S.Store c.find_governing.new.tx.conn.now) c.find_usage.ensures.survives c.find_governing.ensures.survives
+pub returns-in_err-governing-clause-leaves : goal.returns-in_err-governing-clause-leaves
+returns-in_err-governing-clause-leaves g c = leaves_both c.find_usage.ensures.leaves c.find_governing.ensures.leaves
 
-pub returns-in_err-governing-clause-kept : goal.returns-in_err-governing-clause-kept
-returns-in_err-governing-clause-kept g c = keeps_both (state g.S.Store c.args.tx.now.conn.now) (state g.S.Store c.find_usage.new.tx.conn.now) (state g.S.Store c.find_governing.new.tx.conn.now) c.find_governing.ensures.survives c.find_usage.ensures.kept c.find_governing.ensures.kept
+pub returns-in_err-usage_reply-clause-leaves : goal.returns-in_err-usage_reply-clause-leaves
+returns-in_err-usage_reply-clause-leaves g c = leaves_both c.find_usage.ensures.leaves c.find_governing.ensures.leaves
 
-pub returns-in_err-usage_reply-clause-survives : goal.returns-in_err-usage_reply-clause-survives
-returns-in_err-usage_reply-clause-survives g c = survives_both (state g.S.Store c.args.tx.now.conn.now) (state g.S.Store c.find_usage.new.tx.conn.now) (state g.S.Store c.find_governing.new.tx.conn.now) c.find_usage.ensures.survives c.find_governing.ensures.survives
-
-pub returns-in_err-usage_reply-clause-kept : goal.returns-in_err-usage_reply-clause-kept
-returns-in_err-usage_reply-clause-kept g c = keeps_both (state g.S.Store c.args.tx.now.conn.now) (state g.S.Store c.find_usage.new.tx.conn.now) (state g.S.Store c.find_governing.new.tx.conn.now) c.find_governing.ensures.survives c.find_usage.ensures.kept c.find_governing.ensures.kept
-
-pub returns-clause-survives : goal.returns-clause-survives
-returns-clause-survives g c = survives_both (state g.S.Store c.args.tx.now.conn.now) (state g.S.Store c.find_usage.new.tx.conn.now) (state g.S.Store c.find_governing.new.tx.conn.now) c.find_usage.ensures.survives c.find_governing.ensures.survives
-
-pub returns-clause-kept : goal.returns-clause-kept
-returns-clause-kept g c = keeps_both (state g.S.Store c.args.tx.now.conn.now) (state g.S.Store c.find_usage.new.tx.conn.now) (state g.S.Store c.find_governing.new.tx.conn.now) c.find_governing.ensures.survives c.find_usage.ensures.kept c.find_governing.ensures.kept
+pub returns-clause-leaves : goal.returns-clause-leaves
+returns-clause-leaves g c = leaves_both c.find_usage.ensures.leaves c.find_governing.ensures.leaves

@@ -1,18 +1,18 @@
-use Rattle.std.proofs.Common.{◌≡◌, ℕ, arith, rules, false, sym, subst, ◌∙◌}
+use Rattle.std.proofs.Common.{◌≡◌, ℕ, rules, false, sym, subst, ◌∙◌}
 use Rattle.sqlite.specs.Effect.{Database}
 use Rattle.sqlite.specs.Held.{state}
-use Rattle.sqlite.specs.State.{HasCleanDisk}
 use Rattle.mq_ledger.specs.declared.zone.Zone.{Zone}
 use Rattle.mq_ledger.specs.Arrivals.{is_below}
 use Rattle.mq_ledger.specs.History.{requests}
 use Rattle.mq_tables.specs.Ledger.{HasLedger}
 use Rattle.mq_store.specs.Causes.{StopsOver}
 use Rattle.mq_store.proofs.Causes.{of_rows, stops_by}
+use Rattle.mq_store.proofs.Chain.{was_clean}
 use Rattle.mq_store.proofs.take.known_reply.Goals as goal
 
 pub returns-in-None-clause-known : goal.returns-in-None-clause-known
 returns-in-None-clause-known g c clean = λ zone default H b.
-    let mid : HasCleanDisk (state g.S.Store c.is_retired.new.tx.conn.now) = omega (arith, c.find_answer.ensures.survives.clean) in
+    let mid = was_clean c.find_answer.ensures.leaves clean in
     let stays = c.in_ok-retired.ensures.stays mid in
     let unretired : c.in_ok-retired.retired ≡ false = search rules in
     let above : is_below (requests H) c.args.id.now ≡ false = sym (c.in_ok-retired.ensures.below mid zone default H b) ∙ unretired in
@@ -21,7 +21,7 @@ returns-in-None-clause-known g c clean = λ zone default H b.
 
 pub returns-in_ok-stored_reply-in-Some-clause-known : goal.returns-in_ok-stored_reply-in-Some-clause-known
 returns-in_ok-stored_reply-in-Some-clause-known g c clean = λ zone default H b.
-    let mid : HasCleanDisk (state g.S.Store c.is_retired.new.tx.conn.now) = omega (arith, c.find_answer.ensures.survives.clean) in
+    let mid = was_clean c.find_answer.ensures.leaves clean in
     let stays = c.in_ok-retired.ensures.stays mid in
     let unretired : c.in_ok-retired.retired ≡ false = search rules in
     let above : is_below (requests H) c.args.id.now ≡ false = sym (c.in_ok-retired.ensures.below mid zone default H b) ∙ unretired in
@@ -32,7 +32,7 @@ pub returns-in_err-stored_reply-in-Some-clause-cause : goal.returns-in_err-store
 returns-in_err-stored_reply-in-Some-clause-cause g c clean =
     stops_by c.in_err-stored_reply-in-Some.field-0.0 c.from_residual-in_err-stored_reply-in-Some.result (λ refused. (zone : Zone) (default : ℕ) → StopsOver zone default (state g.S.Store c.args.tx.now.conn.now).now refused)
     c.from_residual-in_err-stored_reply-in-Some.ensures.1 (λ zone default H b.
-    let mid : HasCleanDisk (state g.S.Store c.is_retired.new.tx.conn.now) = omega (arith, c.find_answer.ensures.survives.clean) in
+    let mid = was_clean c.find_answer.ensures.leaves clean in
     let stays = c.in_ok-retired.ensures.stays mid in
     let unretired : c.in_ok-retired.retired ≡ false = search rules in
     let above : is_below (requests H) c.args.id.now ≡ false = sym (c.in_ok-retired.ensures.below mid zone default H b) ∙ unretired in

@@ -1,44 +1,34 @@
-use Rattle.std.proofs.Common.{◌≡◌, ◌<◌, length, arith, true≢false, ap, sym, subst, ◌∙◌}
+use Rattle.std.proofs.Common.{◌≡◌, ◌<◌, length, true≢false, ap, sym, subst, ◌∙◌}
 use Rattle.sqlite.specs.Held.{state}
-use Rattle.sqlite.specs.State.{HasCleanDisk}
 use Rattle.mq_rows.specs.declared.record.SettingRecord.{SettingRecord}
 use Rattle.mq_tables.specs.Ledger.{HasLedger}
 use Rattle.mq_store.specs.Causes.{StopsNew}
 use Rattle.mq_store.proofs.Causes.{of_stored, stops_by}
-use Rattle.mq_store.proofs.Chain.{survives_both, keeps_both}
+use Rattle.mq_store.proofs.Chain.{leaves_both, was_clean}
 use Rattle.mq_store.proofs.take.plan.Goals as goal
 
 pub returns-clause-planned : goal.returns-clause-planned
 returns-clause-planned g c clean = λ H b none.
-    let mid : HasCleanDisk (state g.S.Store c.read_arrivals.new.tx.conn.now) = omega (arith, c.find.ensures.survives.clean) in
+    let mid = was_clean c.find.ensures.leaves clean in
     let same = c.in_ok-arrivals.ensures.same mid in
     let holds = subst (λ db. HasLedger db b.has.tables) (sym same.0.now_is) b.has.holds in
     let law = c.new_numbers_are_planned.ensures.planned c.args.zone c.args.default H c.args.request.now c.args.id.now b.has.tables c.in_ok-found.found b.legal b.has.rows c.requires.in_range c.requires.number none (λ keyed. c.in_ok-found.ensures.found clean b.has.tables (holds, b.has.current) keyed) in
     let counted = c.in_ok-arrivals.ensures.found mid b.has.tables b.has.holds in
     rw (c.in_ok-decide.ensures.plan, counted) law
 
-pub returns-in_err-found-clause-survives : goal.returns-in_err-found-clause-survives
-returns-in_err-found-clause-survives g c = survives_both (state g.S.Store c.args.tx.now.conn.now) (state g.S.Store c.read_arrivals.new.tx.conn.now) (state g.S.Store c.find.new.tx.conn.now) c.read_arrivals.ensures.survives c.find.ensures.survives
+pub returns-in_err-found-clause-leaves : goal.returns-in_err-found-clause-leaves
+returns-in_err-found-clause-leaves g c = leaves_both c.read_arrivals.ensures.leaves c.find.ensures.leaves
 
-pub returns-in_err-found-clause-kept : goal.returns-in_err-found-clause-kept
-returns-in_err-found-clause-kept g c = keeps_both (state g.S.Store c.args.tx.now.conn.now) (state g.S.Store c.read_arrivals.new.tx.conn.now) (state g.S.Store c.find.new.tx.conn.now) c.find.ensures.survives c.read_arrivals.ensures.kept c.find.ensures.kept
+pub returns-in_err-decide-clause-leaves : goal.returns-in_err-decide-clause-leaves
+returns-in_err-decide-clause-leaves g c = leaves_both c.read_arrivals.ensures.leaves c.find.ensures.leaves
 
-pub returns-in_err-decide-clause-survives : goal.returns-in_err-decide-clause-survives
-returns-in_err-decide-clause-survives g c = survives_both (state g.S.Store c.args.tx.now.conn.now) (state g.S.Store c.read_arrivals.new.tx.conn.now) (state g.S.Store c.find.new.tx.conn.now) c.read_arrivals.ensures.survives c.find.ensures.survives
-
-pub returns-in_err-decide-clause-kept : goal.returns-in_err-decide-clause-kept
-returns-in_err-decide-clause-kept g c = keeps_both (state g.S.Store c.args.tx.now.conn.now) (state g.S.Store c.read_arrivals.new.tx.conn.now) (state g.S.Store c.find.new.tx.conn.now) c.find.ensures.survives c.read_arrivals.ensures.kept c.find.ensures.kept
-
-pub returns-clause-survives : goal.returns-clause-survives
-returns-clause-survives g c = survives_both (state g.S.Store c.args.tx.now.conn.now) (state g.S.Store c.read_arrivals.new.tx.conn.now) (state g.S.Store c.find.new.tx.conn.now) c.read_arrivals.ensures.survives c.find.ensures.survives
-
-pub returns-clause-kept : goal.returns-clause-kept
-returns-clause-kept g c = keeps_both (state g.S.Store c.args.tx.now.conn.now) (state g.S.Store c.read_arrivals.new.tx.conn.now) (state g.S.Store c.find.new.tx.conn.now) c.find.ensures.survives c.read_arrivals.ensures.kept c.find.ensures.kept
+pub returns-clause-leaves : goal.returns-clause-leaves
+returns-clause-leaves g c = leaves_both c.read_arrivals.ensures.leaves c.find.ensures.leaves
 
 pub returns-in_err-decide-clause-cause : goal.returns-in_err-decide-clause-cause
 returns-in_err-decide-clause-cause g c clean =
     stops_by c.in_err-decide.field-0.0 c.from_residual-in_err-decide.result (StopsNew c.args.zone c.args.default c.args.id.now (state g.S.Store c.args.tx.now.conn.now).now) c.from_residual-in_err-decide.ensures.1 (λ H b new.
-    let mid : HasCleanDisk (state g.S.Store c.read_arrivals.new.tx.conn.now) = omega (arith, c.find.ensures.survives.clean) in
+    let mid = was_clean c.find.ensures.leaves clean in
     let same = c.in_ok-arrivals.ensures.same mid in
     let holds = subst (λ db. HasLedger db b.has.tables) (sym same.0.now_is) b.has.holds in
     let count : c.in_ok-arrivals.arrivals ≡ length H = c.in_ok-arrivals.ensures.found mid b.has.tables b.has.holds ∙ ap (λ (s : SettingRecord). s.arrivals) b.has.rows.setting.row in

@@ -1,10 +1,9 @@
-use Rattle.std.proofs.Common.{arith, sym, subst, ap, ◌∙◌}
+use Rattle.std.proofs.Common.{sym, subst, ap, ◌∙◌}
 use Rattle.std.specs.Prelude.{not}
-use Rattle.sqlite.specs.Held.{state}
-use Rattle.sqlite.specs.State.{HasCleanDisk}
 use Rattle.mq_ledger.specs.Answer.{known_by}
 use Rattle.mq_store.specs.Taking.{HasBook, book_of}
 use Rattle.mq_store.proofs.Firsts.{first_if_unknown}
+use Rattle.mq_store.proofs.Chain.{was_clean}
 use Rattle.mq_store.proofs.take.take_numbered.Goals as goal
 
 pub returns-in-Some-clause-taken : goal.returns-in-Some-clause-taken
@@ -22,7 +21,7 @@ returns-in-Some-clause-taken g c clean =
 
 pub returns-in_ok-new-in-None-clause-taken : goal.returns-in_ok-new-in-None-clause-taken
 returns-in_ok-new-in-None-clause-taken g c clean =
-    let mid : HasCleanDisk (state g.S.Store c.known_reply.new.tx.conn.now) = omega (arith, c.take_new.ensures.survives.clean) in
+    let mid = was_clean c.take_new.ensures.leaves clean in
     let stays = c.in_ok-known.ensures.stays mid in (
       (λ H b. let new = rw c.in-None.is at (c.in_ok-known.ensures.known mid c.args.zone c.args.default H b) in
           c.in_ok-new-in-None.ensures.applied clean H (subst (HasBook (book_of c.args.zone c.args.default H)) (sym stays.now) b) new),
