@@ -4,6 +4,7 @@ pub mod Day
 pub mod DaysCode
 pub mod History
 pub mod Kept
+pub mod Leaving
 pub mod Legal
 pub mod Limits
 pub mod Over

@@ -2,6 +2,7 @@
 ghost use Rattle.std.specs.Prelude.{◌≡◌, ◌⊎◌, ℕ, List, Err, IfOk, IfErr, IfSome, IsSome, MatchOption, MatchResult};
 ghost use Rattle.mq_frame.specs.Range.{IsRequest, IsReply};
 ghost use Rattle.mq_frame.specs.Spelling.{SpellsRequest};
+ghost use Rattle.mq_ledger.specs.Leaving.{LeavesLedger};
 ghost use Rattle.mq_server.specs.Steps.{AnswersBody};
 ghost use Rattle.mq_server.specs.Text.{NeedsMemory, SpellsNone, SpellsOne};
 
@@ -27,14 +28,10 @@ pub fn answer_body<L: Ledger>(
         (λ _. SpellsOne body.now) }
     // Memory is asked for only where the request holds bytes of its own.
     ensures full { result ≡ Err ServeFault.Memory → NeedsMemory body.now }
-    ensures same_zone { (L.book ledger.new).zone ≡ (L.book ledger.old).zone }
-    ensures same_default { (L.book ledger.new).default ≡ (L.book ledger.old).default }
-    ensures kept { L.has_kept ledger.new → L.has_kept ledger.old }
-    ensures no_store { L.has_store ledger.new → L.has_store ledger.old }
+    ensures leaves { LeavesLedger L.book L.has_kept L.is_sound L.has_store ledger.old ledger.new }
     ensures store { result ≡ Err ServeFault.Store → L.has_store ledger.old }
 
     // Of a sound one that has kept its premise.
-    ensures sound { L.has_kept ledger.new → L.is_sound ledger.old → L.is_sound ledger.new }
     ensures answers { L.has_kept ledger.new → L.is_sound ledger.old →
         AnswersBody (L.book ledger.old) (L.told ledger.old) body.now result
         (L.book ledger.new).history (L.told ledger.new) }
@@ -52,12 +49,8 @@ fn apply<L: Ledger>(request: &Request, ledger: &mut L) -> Result<Option<Reply>, 
     ensures some { IfOk result IsSome }
     ensures in_range { IfOk result (λ answer. IfSome answer IsReply) }
     ensures faults { IfErr result (λ fault. fault ≡ ServeFault.Store) }
-    ensures same_zone { (L.book ledger.new).zone ≡ (L.book ledger.old).zone }
-    ensures same_default { (L.book ledger.new).default ≡ (L.book ledger.old).default }
-    ensures kept { L.has_kept ledger.new → L.has_kept ledger.old }
-    ensures no_store { L.has_store ledger.new → L.has_store ledger.old }
+    ensures leaves { LeavesLedger L.book L.has_kept L.is_sound L.has_store ledger.old ledger.new }
     ensures store { result ≡ Err ServeFault.Store → L.has_store ledger.old }
-    ensures sound { L.has_kept ledger.new → L.is_sound ledger.old → L.is_sound ledger.new }
     ensures answers { L.has_kept ledger.new → L.is_sound ledger.old →
         (body : List ℕ) → SpellsRequest body request.now →
         AnswersBody (L.book ledger.old) (L.told ledger.old) body result

@@ -1,6 +1,7 @@
 //! A connection without its socket: bytes come in as they come, whole frames are answered, and the replies wait until
 //! they are taken.
 ghost use Rattle.std.specs.Prelude.{◌≡◌, ◌<◌, ◌≤◌, ◌+◌, length, take, drop, true, false, None, Some, Err, List, OnOk, OnErr, ℕ};
+ghost use Rattle.mq_ledger.specs.Leaving.{LeavesLedger};
 ghost use Rattle.mq_server.specs.Held.{fresh, received, with_closed, with_replies, with_room};
 ghost use Rattle.mq_server.specs.Life.{AreAnswered, Counts, Exchange, Life, Lives, MakesCalls, StandsNext, unborn, with_bytes, with_exchanges, with_taken};
 ghost use Rattle.mq_server.specs.State.{Goes, Steps};
@@ -134,14 +135,10 @@ impl Connection {
         ensures goes { self.old.end ≡ None → Goes self.old result self.new }
         ensures over { (r : _) → self.old.end ≡ Some r →
             (result ≡ Ended r) × (self.new ≡ self.old) × (ledger.new ≡ ledger.old) }
-        ensures same_zone { (L.book ledger.new).zone ≡ (L.book ledger.old).zone }
-        ensures same_default { (L.book ledger.new).default ≡ (L.book ledger.old).default }
-        ensures kept { L.has_kept ledger.new → L.has_kept ledger.old }
-        ensures no_store { L.has_store ledger.new → L.has_store ledger.old }
+        ensures leaves { LeavesLedger L.book L.has_kept L.is_sound L.has_store ledger.old ledger.new }
         ensures store { self.old.end ≡ None → result ≡ Ended (Err ServeFault.Store) → L.has_store ledger.old }
 
         // Of a sound one that has kept its premise.
-        ensures sound { L.has_kept ledger.new → L.is_sound ledger.old → L.is_sound ledger.new }
         ensures steps { L.has_kept ledger.new → L.is_sound ledger.old → self.old.end ≡ None →
             Steps (L.book ledger.old) (L.told ledger.old) self.old.is_closed self.old.rest self.old.replies result
             self.new.rest self.new.replies (L.book ledger.new).history (L.told ledger.new) }
@@ -187,14 +184,10 @@ impl Connection {
         ensures waits { result ≡ Progress.Waits →
             (self.new.end ≡ None) × (self.new.is_closed ≡ false) × IsPartial (next self.new.rest) }
         ensures closes_nothing { self.new.is_closed ≡ self.old.is_closed }
-        ensures same_zone { (L.book ledger.new).zone ≡ (L.book ledger.old).zone }
-        ensures same_default { (L.book ledger.new).default ≡ (L.book ledger.old).default }
-        ensures kept { L.has_kept ledger.new → L.has_kept ledger.old }
-        ensures no_store { L.has_store ledger.new → L.has_store ledger.old }
+        ensures leaves { LeavesLedger L.book L.has_kept L.is_sound L.has_store ledger.old ledger.new }
         ensures store { self.old.end ≡ None → result ≡ Ended (Err ServeFault.Store) → L.has_store ledger.old }
 
         // Of a sound one that has kept its premise. The request at which the store failed is the one that stands next.
-        ensures sound { L.has_kept ledger.new → L.is_sound ledger.old → L.is_sound ledger.new }
         ensures lives { L.has_kept ledger.new → L.is_sound ledger.old → (xs : List Exchange)
             × Counts result most (length xs)
             × (calls : MakesCalls self.old.end result (L.told ledger.old) (L.told ledger.new) xs)

@@ -3,6 +3,7 @@ ghost use Rattle.std.specs.Prelude.{◌≡◌, ◌≢◌, ◌⊎◌, [], ◌∷�
 ghost use Rattle.std.specs.Prelude.{IfErr};
 ghost use Rattle.std.specs.List.{AllZip};
 ghost use Rattle.mq_frame.specs.Flow.{IsFlushed};
+ghost use Rattle.mq_ledger.specs.Leaving.{LeavesLedger};
 ghost use Rattle.mq_ledger.specs.Told.{Tells};
 ghost use Rattle.mq_server.specs.declared.connections.ConnectionEnd.{ConnectionEnd as AnyConnectionEnd};
 ghost use Rattle.mq_server.specs.Connections.{wires, result_of, AreServed, AreStopped, calls_until, DevicesAgree};
@@ -71,14 +72,10 @@ pub fn serve_all<S: Source, W: Sink, L: Ledger>(
         AllZip (λ end output. end ≢ ConnectionEnd.Write → W.has_failed output ≡ false) ends.items outputs.new) }
     ensures flushed { All (λ output. IsFlushed (W.has_flushed output)) outputs.old → IfOk result (λ ends.
         AllZip (λ end output. end ≢ ConnectionEnd.Write → IsFlushed (W.has_flushed output)) ends.items outputs.new) }
-    ensures same_zone { (L.book ledger.new).zone ≡ (L.book ledger.old).zone }
-    ensures same_default { (L.book ledger.new).default ≡ (L.book ledger.old).default }
-    ensures kept { L.has_kept ledger.new → L.has_kept ledger.old }
-    ensures no_store { L.has_store ledger.new → L.has_store ledger.old }
+    ensures leaves { LeavesLedger L.book L.has_kept L.is_sound L.has_store ledger.old ledger.new }
     ensures cause { result ≡ Err ServeFault.Store → L.has_store ledger.old }
 
     // Of a sound one that has kept its premise.
-    ensures sound { L.has_kept ledger.new → L.is_sound ledger.old → L.is_sound ledger.new }
     ensures served { L.has_kept ledger.new → L.is_sound ledger.old → IfOk result (λ ends. (seen : List Delivery)
         × AreServed (L.book ledger.old) []
         (wires (map S.remaining inputs.old) (map W.contents outputs.old))

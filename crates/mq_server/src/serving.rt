@@ -1,5 +1,6 @@
 //! Serving one connection over a source and a sink.
 ghost use Rattle.std.specs.Prelude.{◌≡◌, ◌≢◌, true, false, List, Err};
+ghost use Rattle.mq_ledger.specs.Leaving.{LeavesLedger};
 ghost use Rattle.mq_ledger.specs.Told.{Tells};
 ghost use Rattle.mq_server.specs.Connection.{Serves, calls_of};
 ghost use Rattle.mq_server.specs.Delivery.{Delivery, history_after, answer_to};
@@ -39,14 +40,10 @@ pub fn serve<S: Source, W: Sink, L: Ledger>(
     // What was written is handed on at every end but a failed write, and so wherever a read fails.
     ensures flushed { IsFlushed (W.has_flushed output.old) →
         result ≢ Err ServeFault.Write → IsFlushed (W.has_flushed output.new) }
-    ensures same_zone { (L.book ledger.new).zone ≡ (L.book ledger.old).zone }
-    ensures same_default { (L.book ledger.new).default ≡ (L.book ledger.old).default }
-    ensures kept { L.has_kept ledger.new → L.has_kept ledger.old }
-    ensures no_store { L.has_store ledger.new → L.has_store ledger.old }
+    ensures leaves { LeavesLedger L.book L.has_kept L.is_sound L.has_store ledger.old ledger.new }
     ensures store { result ≡ Err ServeFault.Store → L.has_store ledger.old }
 
     // Of a sound one that has kept its premise.
-    ensures sound { L.has_kept ledger.new → L.is_sound ledger.old → L.is_sound ledger.new }
     ensures serves { L.has_kept ledger.new → L.is_sound ledger.old → (came : List Delivery)
         × (s : Serves (answer_to (L.book ledger.old)) came
         (record { remaining = S.remaining input.old; contents = W.contents output.old })

@@ -5,6 +5,7 @@ ghost use Rattle.mq_frame.specs.Range.{IsReply};
 ghost use Rattle.mq_frame.specs.Spelling.{frame, reply_body};
 ghost use Rattle.mq_frame.specs.declared.message.Reply.TheVariants.{Bad};
 ghost use Rattle.mq_frame.specs.declared.feed.TheConstants.{REQUEST_LIMIT as request_limit};
+ghost use Rattle.mq_ledger.specs.Leaving.{LeavesLedger};
 ghost use Rattle.mq_server.specs.declared.connection.Progress.TheVariants.{Ended};
 ghost use Rattle.mq_server.specs.State.{HasNoRoom, IsAdded, IsRefused, LacksMemory, Moves, Steps};
 ghost use Rattle.mq_server.specs.Steps.{end_at};
@@ -65,14 +66,10 @@ pub fn step<L: Ledger>(
     // What is no request ends it for memory only where Bad had no room.
     ensures full { result ≡ Ended (Err ServeFault.Memory) → IsBad (next feed.old.rest) →
         HasNoRoom (vec_capacity replies.old) replies.old.items Bad }
-    ensures same_zone { (L.book ledger.new).zone ≡ (L.book ledger.old).zone }
-    ensures same_default { (L.book ledger.new).default ≡ (L.book ledger.old).default }
-    ensures kept { L.has_kept ledger.new → L.has_kept ledger.old }
-    ensures no_store { L.has_store ledger.new → L.has_store ledger.old }
+    ensures leaves { LeavesLedger L.book L.has_kept L.is_sound L.has_store ledger.old ledger.new }
     ensures store { result ≡ Ended (Err ServeFault.Store) → L.has_store ledger.old }
 
     // Of a sound one that has kept its premise.
-    ensures sound { L.has_kept ledger.new → L.is_sound ledger.old → L.is_sound ledger.new }
     ensures steps { L.has_kept ledger.new → L.is_sound ledger.old →
         Steps (L.book ledger.old) (L.told ledger.old) is_closed feed.old.rest replies.old.items result
         feed.new.rest replies.new.items (L.book ledger.new).history (L.told ledger.new) }

@@ -8,6 +8,7 @@ use Rattle.mq_server.specs.declared.fault.ServeFault.{ServeFault}
 use Rattle.mq_server.specs.declared.fault.ServeFault.TheVariants.{Store}
 use Rattle.mq_server.specs.Connections.{result_of}
 use Rattle.mq_server.proofs.Deliveries.{Follows, history_more}
+use Rattle.mq_server.proofs.Leaving.{left_both}
 use Rattle.mq_server.proofs.Telling.{Tells-trans}
 use Rattle.mq_server.proofs.Turns.{turn, stopped, told_turn, zip_push, zip_results, store_read, store_write, still, still_next, read_end, write_end}
 use Rattle.mq_frame.specs.Flow.{IsFlushed}
@@ -46,10 +47,10 @@ returns-in_err-end-clause-store g c = λ _.
             (zip_results _ _ (λ e a p other. p (λ is. other (ap result_of is))) ends (take c.loop-i.i c.loop-i.outputs) (i.flushes handed)) (λ _. c.serve.ensures.flushed handed_on (store_write c.serve.result failed)));
       },
       λ kept sound.
-          let before = c.serve.ensures.kept kept in
+          let before = c.serve.ensures.leaves.kept kept in
           let (seen, told, stored, tells) = i.so_far before sound in
-          let f : Follows (g.L.Ledger.book c.args.ledger.now) (g.L.Ledger.book c.loop-i.ledger) seen = record { zone = i.same_zone; default = i.same_default; legal = g.met.L.Ledger.sound_is_legal c.loop-i.ledger (i.stays_sound before sound); history = stored } in
-          let (came, served, after, more) = c.serve.ensures.serves kept (i.stays_sound before sound) in
+          let f : Follows (g.L.Ledger.book c.args.ledger.now) (g.L.Ledger.book c.loop-i.ledger) seen = record { zone = i.leaves.same_zone; default = i.leaves.same_default; legal = g.met.L.Ledger.sound_is_legal c.loop-i.ledger (i.leaves.sound before sound); history = stored } in
+          let (came, served, after, more) = c.serve.ensures.serves kept (i.leaves.sound before sound) in
           let (stop, called) = stopped g.S.Source.remaining g.W.Sink.contents (g.L.Ledger.book c.args.ledger.now) (g.L.Ledger.book c.loop-i.ledger) _ c.loop-i.inputs c.loop-i.outputs c.loop-i.i (get_or c.loop-i.inputs c.loop-i.i c.index-inputs-i.result) c.serve.new.input (get_or c.loop-i.outputs c.loop-i.i c.index-outputs-i.result) c.serve.new.output ends seen i.pairs here counted (ap (get_or c.loop-i.inputs c.loop-i.i) c.index-inputs-i.is) (ap (get_or c.loop-i.outputs c.loop-i.i) c.index-outputs-i.is) told f came c.serve.result failed served in
           let P : List Told → Type 0 = λ q. Tells (g.L.Ledger.told c.args.ledger.now) (g.L.Ledger.told c.serve.new.ledger) q in (
             seen ++ came,
@@ -86,17 +87,13 @@ loop-i-preserved g c =
       flushes = λ all.
           let handed_on = still (λ output. IsFlushed (g.W.Sink.has_flushed output)) c.loop-i.outputs c.args.outputs.now c.loop-i.i c.index-outputs-i.result i.outputs_left there all in
           rw (grown, outputs) (zip_push _ c.loop-i.ends.items (take c.loop-i.i c.loop-i.outputs) end c.serve.new.output (i.flushes all) (λ other. c.serve.ensures.flushed handed_on (λ e. other (write_end end (ended ∙ e)))));
-      same_zone = c.serve.ensures.same_zone ∙ i.same_zone;
-      same_default = c.serve.ensures.same_default ∙ i.same_default;
-      no_store = λ has. i.no_store (c.serve.ensures.no_store has);
-      was_kept = λ k. i.was_kept (c.serve.ensures.kept k);
-      stays_sound = λ k s. c.serve.ensures.sound k (i.stays_sound (c.serve.ensures.kept k) s);
+      leaves = left_both i.leaves c.serve.ensures.leaves;
       so_far = λ kept sound.
-          let before = c.serve.ensures.kept kept in
+          let before = c.serve.ensures.leaves.kept kept in
           let (seen, told, stored, tells) = i.so_far before sound in
-          let f : Follows (g.L.Ledger.book c.args.ledger.now) (g.L.Ledger.book c.loop-i.ledger) seen = record { zone = i.same_zone; default = i.same_default; legal = g.met.L.Ledger.sound_is_legal c.loop-i.ledger (i.stays_sound before sound); history = stored } in
+          let f : Follows (g.L.Ledger.book c.args.ledger.now) (g.L.Ledger.book c.loop-i.ledger) seen = record { zone = i.leaves.same_zone; default = i.leaves.same_default; legal = g.met.L.Ledger.sound_is_legal c.loop-i.ledger (i.leaves.sound before sound); history = stored } in
           let counted : length (map result_of c.loop-i.ends.items) ≡ c.loop-i.i = length-map c.loop-i.ends.items result_of ∙ sym c.loop-i.ends.ok.0 ∙ i.counted in
-          let (came, served, after, more) = c.serve.ensures.serves kept (i.stays_sound before sound) in
+          let (came, served, after, more) = c.serve.ensures.serves kept (i.leaves.sound before sound) in
           let names : map result_of c.loop-i.ends.items ++ c.serve.result ∷ [] ≡ map result_of c.push.new.self.items =
           ap (λ (r : Result Served ServeFault). map result_of c.loop-i.ends.items ++ r ∷ []) (sym ended) ∙ sym (map-append result_of c.loop-i.ends.items (end ∷ [])) ∙ ap (map result_of) (sym grown) in
           let (told', stored') = turn g.S.Source.remaining g.W.Sink.contents (g.L.Ledger.book c.args.ledger.now) (g.L.Ledger.book c.loop-i.ledger) _ c.loop-i.inputs c.loop-i.outputs c.loop-i.i (get_or c.loop-i.inputs c.loop-i.i c.index-inputs-i.result) c.serve.new.input (get_or c.loop-i.outputs c.loop-i.i c.index-outputs-i.result) c.serve.new.output (map result_of c.loop-i.ends.items) _ c.serve.result seen _ i.pairs here counted (ap (get_or c.loop-i.inputs c.loop-i.i) c.index-inputs-i.is) (ap (get_or c.loop-i.outputs c.loop-i.i) c.index-outputs-i.is) told f came served after names in

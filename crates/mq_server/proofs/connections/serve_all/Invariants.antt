@@ -2,6 +2,7 @@ use Rattle.std.proofs.Common.{◌≡◌, ◌≤◌, true, false, List, [], lengt
 use Rattle.std.specs.Prelude.{◌≢◌, All}
 use Rattle.mq_frame.specs.Flow.{IsFlushed}
 use Rattle.std.specs.List.{AllZip}
+use Rattle.mq_ledger.specs.Leaving.{LeavesLedger}
 use Rattle.mq_ledger.specs.Told.{Tells}
 use Rattle.mq_server.specs.declared.connections.ConnectionEnd.TheVariants as ends
 use Rattle.mq_server.specs.Connections.{wires, result_of, AreServed}
@@ -26,11 +27,7 @@ invariant-loop-i g l =
       sources : All (λ input. g.S.Source.has_failed input ≡ false) l.fn.inputs → AllZip (λ end input. end ≢ ends.Read → g.S.Source.has_failed input ≡ false) l.ends.items (take l.i l.inputs);
       sinks : All (λ output. g.W.Sink.has_failed output ≡ false) l.fn.outputs → AllZip (λ end output. end ≢ ends.Write → g.W.Sink.has_failed output ≡ false) l.ends.items (take l.i l.outputs);
       flushes : All (λ output. IsFlushed (g.W.Sink.has_flushed output)) l.fn.outputs → AllZip (λ end output. end ≢ ends.Write → IsFlushed (g.W.Sink.has_flushed output)) l.ends.items (take l.i l.outputs);
-      same_zone : (book l.ledger).zone ≡ (book l.fn.ledger).zone;
-      same_default : (book l.ledger).default ≡ (book l.fn.ledger).default;
-      no_store : g.L.Ledger.has_store l.ledger → g.L.Ledger.has_store l.fn.ledger;
-      was_kept : kept l.ledger → kept l.fn.ledger;
-      stays_sound : kept l.ledger → sound l.fn.ledger → sound l.ledger;
+      leaves : LeavesLedger book kept sound g.L.Ledger.has_store l.fn.ledger l.ledger;
       so_far : kept l.ledger → sound l.fn.ledger → (seen : List Delivery)
           × AreServed (book l.fn.ledger) [] (wires (map left l.fn.inputs) (map held l.fn.outputs)) (wires (map left l.inputs) (map held l.outputs)) (map result_of l.ends.items) seen
           × ((book l.ledger).history ≡ history_after (book l.fn.ledger) seen)

@@ -1,4 +1,4 @@
-use Rattle.std.proofs.Common.{◌≡◌, ℕ, List, [], length, refl, sym, ap, subst, ◌∙◌, arith, Ok, Err, Option, true, false}
+use Rattle.std.proofs.Common.{◌≡◌, ℕ, List, [], length, sym, ap, subst, ◌∙◌, arith, Ok, Err, Option, true, false}
 use Rattle.std.proofs.lemmas.Result.{err_from_is_err_and}
 use Rattle.mq_ledger.specs.declared.entry.Entry.{Entry}
 use Rattle.mq_ledger.specs.declared.ledger.Told.{Told}
@@ -7,6 +7,7 @@ use Rattle.mq_server.specs.Connection.{Wire}
 use Rattle.mq_server.specs.Held.{State, with_replies}
 use Rattle.mq_server.specs.declared.fault.ServeFault.{ServeFault}
 use Rattle.mq_server.specs.Text.{IsPartial, next}
+use Rattle.mq_server.proofs.Leaving.{left_alone, left_both}
 use Rattle.mq_server.proofs.Running.{Finds, SoFar, start_empty}
 use Rattle.mq_server.proofs.Exits.{exits_as, unsent, answered_on, waits_on, refilled, refill_failed, ended, refilled_end, refilled_replies, refilled_answered, refilled_closed, refilled_ahead}
 use Rattle.mq_server.proofs.serving.serve.Goals as goal
@@ -40,11 +41,7 @@ frames-init g c =
       source_works = λ w. w;
       sink_works = λ w. w;
       flushed = λ f. f;
-      same_zone = refl;
-      same_default = refl;
-      no_store = λ has. has;
-      was_kept = λ k. k;
-      stays_sound = λ k s. s;
+      leaves = left_alone;
       so_far = λ k s. start_empty (g.L.Ledger.book c.args.ledger.now) _ _ c.new-connection.result.rest c.new-connection.result.answered rest count (g.met.L.Ledger.sound_is_legal c.args.ledger.now s);
     }
 
@@ -52,21 +49,21 @@ pub returns-in_err-hand_on-clause-serves : goal.returns-in_err-hand_on-clause-se
 returns-in_err-hand_on-clause-serves g c = λ kept sound.
     let i = c.frames.invariant in
     let e = c.answer_next-progress.ensures in
-    let before = e.kept kept in
+    let before = e.leaves.kept kept in
     let p = err_from_is_err_and c.from_residual.result c.from_residual.ensures.1 in
     let (is, some, sent) = c.in_err-hand_on.ensures.err in
-    let finds : Finds (g.L.Ledger.book c.args.ledger.now) (g.L.Ledger.book c.frames.ledger) = record { zone = i.same_zone; default = i.same_default; legal = g.met.L.Ledger.sound_is_legal c.frames.ledger (i.stays_sound before sound) } in
+    let finds : Finds (g.L.Ledger.book c.args.ledger.now) (g.L.Ledger.book c.frames.ledger) = record { zone = i.leaves.same_zone; default = i.leaves.same_default; legal = g.met.L.Ledger.sound_is_legal c.frames.ledger (i.leaves.sound before sound) } in
     exits_as (g.L.Ledger.book c.args.ledger.now) _ _ _ _ _ _ _ (p.1 ∙ ap Err (p.2 ∙ is))
-    (unsent (g.L.Ledger.book c.args.ledger.now) (g.L.Ledger.book c.frames.ledger) _ _ _ _ _ _ c.frames.connection c.answer_next-progress.new.self c.answer_next-progress.result _ i.under i.ahead i.none finds (i.so_far before sound) (e.goes i.going) (e.steps kept (i.stays_sound before sound) i.going) some sent)
+    (unsent (g.L.Ledger.book c.args.ledger.now) (g.L.Ledger.book c.frames.ledger) _ _ _ _ _ _ c.frames.connection c.answer_next-progress.new.self c.answer_next-progress.result _ i.under i.ahead i.none finds (i.so_far before sound) (e.goes i.going) (e.steps kept (i.leaves.sound before sound) i.going) some sent)
 
 pub returns-in-Ended-clause-serves : goal.returns-in-Ended-clause-serves
 returns-in-Ended-clause-serves g c = λ kept sound.
     let i = c.frames.invariant in
     let e = c.in-Ended.ensures in
-    let before = e.kept kept in
+    let before = e.leaves.kept kept in
     let (sent, is) = c.in_ok-hand_on.ensures.ok in
-    let finds : Finds (g.L.Ledger.book c.args.ledger.now) (g.L.Ledger.book c.frames.ledger) = record { zone = i.same_zone; default = i.same_default; legal = g.met.L.Ledger.sound_is_legal c.frames.ledger (i.stays_sound before sound) } in
-    ended (g.L.Ledger.book c.args.ledger.now) (g.L.Ledger.book c.frames.ledger) _ _ _ _ _ _ c.frames.connection c.answer_next-progress.new.self c.in-Ended.end _ i.under i.ahead i.none i.closed finds (i.so_far before sound) (e.goes i.going) (e.steps kept (i.stays_sound before sound) i.going) sent
+    let finds : Finds (g.L.Ledger.book c.args.ledger.now) (g.L.Ledger.book c.frames.ledger) = record { zone = i.leaves.same_zone; default = i.leaves.same_default; legal = g.met.L.Ledger.sound_is_legal c.frames.ledger (i.leaves.sound before sound) } in
+    ended (g.L.Ledger.book c.args.ledger.now) (g.L.Ledger.book c.frames.ledger) _ _ _ _ _ _ c.frames.connection c.answer_next-progress.new.self c.in-Ended.end _ i.under i.ahead i.none i.closed finds (i.so_far before sound) (e.goes i.going) (e.steps kept (i.leaves.sound before sound) i.going) sent
 
 pub frames-preserved-in-Answered : goal.frames-preserved-in-Answered
 frames-preserved-in-Answered g c =
@@ -83,16 +80,12 @@ frames-preserved-in-Answered g c =
       source_works = i.source_works;
       sink_works = λ w. c.in_ok-hand_on.ensures.works (i.sink_works w) (no_fault _ _);
       flushed = λ f. c.in_ok-hand_on.ensures.flushed (i.flushed f) (no_fault _ _);
-      same_zone = e.same_zone ∙ i.same_zone;
-      same_default = e.same_default ∙ i.same_default;
-      no_store = λ has. i.no_store (e.no_store has);
-      was_kept = λ k. i.was_kept (e.kept k);
-      stays_sound = λ k s. e.sound k (i.stays_sound (e.kept k) s);
+      leaves = left_both i.leaves e.leaves;
       so_far = λ k s.
-          let before = e.kept k in
-          let finds : Finds (g.L.Ledger.book c.args.ledger.now) (g.L.Ledger.book c.frames.ledger) = record { zone = i.same_zone; default = i.same_default; legal = g.met.L.Ledger.sound_is_legal c.frames.ledger (i.stays_sound before s) } in
+          let before = e.leaves.kept k in
+          let finds : Finds (g.L.Ledger.book c.args.ledger.now) (g.L.Ledger.book c.frames.ledger) = record { zone = i.leaves.same_zone; default = i.leaves.same_default; legal = g.met.L.Ledger.sound_is_legal c.frames.ledger (i.leaves.sound before s) } in
           taken (g.L.Ledger.book c.args.ledger.now) _ _ _ _ c.answer_next-progress.new.self c.hand_on.new.connection _ is
-          (answered_on (g.L.Ledger.book c.args.ledger.now) (g.L.Ledger.book c.frames.ledger) _ _ _ _ _ _ c.frames.connection c.answer_next-progress.new.self _ i.none finds (i.so_far before s) (omega (arith, count)) (e.steps k (i.stays_sound before s) i.going) sent);
+          (answered_on (g.L.Ledger.book c.args.ledger.now) (g.L.Ledger.book c.frames.ledger) _ _ _ _ _ _ c.frames.connection c.answer_next-progress.new.self _ i.none finds (i.so_far before s) (omega (arith, count)) (e.steps k (i.leaves.sound before s) i.going) sent);
     }
 
 -- while it waits, the connection is as it was, and what it said was handed on
@@ -115,16 +108,12 @@ frames-preserved g c =
       source_works = λ w. c.in_ok-refill-in-Waits.ensures.works (no_fault _ _);
       sink_works = λ w. c.in_ok-hand_on.ensures.works (i.sink_works w) (no_fault _ _);
       flushed = λ f. c.in_ok-hand_on.ensures.flushed (i.flushed f) (no_fault _ _);
-      same_zone = e.same_zone ∙ i.same_zone;
-      same_default = e.same_default ∙ i.same_default;
-      no_store = λ has. i.no_store (e.no_store has);
-      was_kept = λ k. i.was_kept (e.kept k);
-      stays_sound = λ k s. e.sound k (i.stays_sound (e.kept k) s);
+      leaves = left_both i.leaves e.leaves;
       so_far = λ k s.
-          let before = e.kept k in
+          let before = e.leaves.kept k in
           refilled (g.L.Ledger.book c.args.ledger.now) _ _ _ _ left c.hand_on.new.connection c.refill.new.connection piece _
           (same_as (g.L.Ledger.book c.args.ledger.now) _ _ _ _ c.frames.connection c.answer_next-progress.new.self c.hand_on.new.connection _ still is
-          (waits_on (g.L.Ledger.book c.args.ledger.now) (g.L.Ledger.book c.frames.ledger) _ _ _ _ _ _ c.frames.connection c.answer_next-progress.new.self _ i.none (i.so_far before s) still (e.steps k (i.stays_sound before s) i.going) sent)) consumed told;
+          (waits_on (g.L.Ledger.book c.args.ledger.now) (g.L.Ledger.book c.frames.ledger) _ _ _ _ _ _ c.frames.connection c.answer_next-progress.new.self _ i.none (i.so_far before s) still (e.steps k (i.leaves.sound before s) i.going) sent)) consumed told;
     }
 
 pub returns-in_err-refill-in-Waits-clause-serves : goal.returns-in_err-refill-in-Waits-clause-serves
@@ -133,7 +122,7 @@ returns-in_err-refill-in-Waits-clause-serves g c = λ kept sound.
     let e = c.in-Waits.ensures in
     let (still, open_, partial) = e.goes i.going in
     let (sent, is) = c.in_ok-hand_on.ensures.ok in
-    let before = e.kept kept in
+    let before = e.leaves.kept kept in
     let p = err_from_is_err_and c.from_residual-in_err-refill-in-Waits.result c.from_residual-in_err-refill-in-Waits.ensures.1 in
     let (piece, small, consumed, told) = c.in_err-refill-in-Waits.ensures.reads in
     let held : c.hand_on.new.connection ≡ with_replies c.frames.connection [] = is ∙ ap (λ (q : State). with_replies q []) still in
@@ -141,4 +130,4 @@ returns-in_err-refill-in-Waits-clause-serves g c = λ kept sound.
     exits_as (g.L.Ledger.book c.args.ledger.now) _ _ _ _ _ _ _ (p.1 ∙ ap Err p.2)
     (refill_failed (g.L.Ledger.book c.args.ledger.now) _ _ _ _ _ c.hand_on.new.connection c.refill.new.connection piece _ _ (omega (arith, i.under, ap (λ (q : State). q.answered) held)) (subst P (sym (ap (λ (q : State). q.rest) held)) partial) small
     (same_as (g.L.Ledger.book c.args.ledger.now) _ _ _ _ c.frames.connection c.answer_next-progress.new.self c.hand_on.new.connection _ still is
-    (waits_on (g.L.Ledger.book c.args.ledger.now) (g.L.Ledger.book c.frames.ledger) _ _ _ _ _ _ c.frames.connection c.answer_next-progress.new.self _ i.none (i.so_far before sound) still (e.steps kept (i.stays_sound before sound) i.going) sent)) consumed told)
+    (waits_on (g.L.Ledger.book c.args.ledger.now) (g.L.Ledger.book c.frames.ledger) _ _ _ _ _ _ c.frames.connection c.answer_next-progress.new.self _ i.none (i.so_far before sound) still (e.steps kept (i.leaves.sound before sound) i.going) sent)) consumed told)

@@ -2,6 +2,7 @@ use Rattle.std.proofs.Common.{◌≡◌, ◌+◌, ◌-◌, ◌*◌, ◌<◌, len
 use Rattle.std.specs.Prelude.{if◌then◌else◌}
 use Rattle.std.specs.Io.KnownBytes.{IsAtEnd}
 use Rattle.mq_frame.specs.Flow.{IsFlushed}
+use Rattle.mq_ledger.specs.Leaving.{LeavesLedger}
 use Rattle.mq_server.proofs.Running.{SoFar}
 use Rattle.mq_server.proofs.serving.serve.Given as goal
 
@@ -19,11 +20,7 @@ invariant-frames g l =
       source_works : g.S.Source.has_failed l.fn.input ≡ false → g.S.Source.has_failed l.input ≡ false;
       sink_works : g.W.Sink.has_failed l.fn.output ≡ false → g.W.Sink.has_failed l.output ≡ false;
       flushed : IsFlushed (g.W.Sink.has_flushed l.fn.output) → IsFlushed (g.W.Sink.has_flushed l.output);
-      same_zone : (book l.ledger).zone ≡ (book l.fn.ledger).zone;
-      same_default : (book l.ledger).default ≡ (book l.fn.ledger).default;
-      no_store : g.L.Ledger.has_store l.ledger → g.L.Ledger.has_store l.fn.ledger;
-      was_kept : kept l.ledger → kept l.fn.ledger;
-      stays_sound : kept l.ledger → sound l.fn.ledger → sound l.ledger;
+      leaves : LeavesLedger book kept sound g.L.Ledger.has_store l.fn.ledger l.ledger;
       so_far : kept l.ledger → sound l.fn.ledger → SoFar (book l.fn.ledger) (g.L.Ledger.told l.fn.ledger) (g.L.Ledger.told l.ledger)
           (record { remaining = g.S.Source.remaining l.fn.input; contents = g.W.Sink.contents l.fn.output })
           (record { remaining = g.S.Source.remaining l.input; contents = g.W.Sink.contents l.output })

@@ -2,6 +2,7 @@ use Rattle.std.proofs.Common.{◌∙◌, ◌+◌, ◌++◌, refl, sym, ap, None,
 use Rattle.mq_server.specs.declared.connection.Progress.TheVariants.{Answered}
 use Rattle.mq_server.specs.Held.{State}
 use Rattle.mq_server.proofs.Advance.{AllAnswered, Told_so, advance_both, advance_still, all_told, answered_goes, closed_by, each_said, ended_by, ended_calls, going_ended, last_told, none_answered, none_of, one_more, said_so, step_lives, told_as, waits_by}
+use Rattle.mq_server.proofs.Leaving.{left_alone, left_both}
 use Rattle.mq_server.proofs.connection.Connection.answer.Goals as goal
 
 pub returns-in-Some-clause-lives : goal.returns-in-Some-clause-lives
@@ -16,12 +17,8 @@ pub loop-frame-init : goal.loop-frame-init
 loop-frame-init g c = record {
   began = none_of c.args.self.now.end (λ r is. c.in_default.not-Some r (ap (λ (q : State). q.end) c.self.view_is ∙ is));
   going = none_of c.args.self.now.end (λ r is. c.in_default.not-Some r (ap (λ (q : State). q.end) c.self.view_is ∙ is));
-  same_zone = refl;
-  same_default = refl;
+  leaves = left_alone;
   closed = refl;
-  no_store = λ has. has;
-  was_kept = λ k. k;
-  stays_sound = λ k s. s;
   so_far = λ k s. advance_still (g.L.Ledger.book c.args.ledger.now) c.args.self.now c.args.self.now (AllAnswered (g.L.Ledger.told c.args.ledger.now) (g.L.Ledger.told c.args.ledger.now) 0) _ (none_answered (g.L.Ledger.told c.args.ledger.now)) (g.met.L.Ledger.sound_is_legal c.args.ledger.now s) refl refl;
 }
 
@@ -34,16 +31,12 @@ returns-in_default-answer_next g c =
       ended = λ r is. ended_by c.loop-frame.self c.answer_next.new.self c.loop-frame.ledger c.answer_next.new.ledger c.answer_next.result r _ refl e.goes e.over is;
       answered = λ is. absurd (c.in_default-answer_next.not-Answered is);
       waits = λ is. waits_by c.loop-frame.self c.answer_next.new.self c.loop-frame.ledger c.answer_next.new.ledger c.answer_next.result _ refl e.goes e.over is;
-      same_zone = e.same_zone ∙ i.same_zone;
-      same_default = e.same_default ∙ i.same_default;
+      leaves = left_both i.leaves e.leaves;
       closes_nothing = closed_by c.loop-frame.self c.answer_next.new.self c.loop-frame.ledger c.answer_next.new.ledger c.answer_next.result _ refl e.goes e.over ∙ i.closed;
-      no_store = λ has. i.no_store (e.no_store has);
-      store = λ none is. i.no_store (e.store i.going is);
-      kept = λ k. i.was_kept (e.kept k);
-      sound = λ k s. e.sound k (i.stays_sound (e.kept k) s);
+      store = λ none is. i.leaves.no_store (e.store i.going is);
       lives = λ k s.
-          let before = e.kept k in
-          let legal = g.met.L.Ledger.sound_is_legal c.loop-frame.ledger (i.stays_sound before s) in
+          let before = e.leaves.kept k in
+          let legal = g.met.L.Ledger.sound_is_legal c.loop-frame.ledger (i.leaves.sound before s) in
           let told = g.L.Ledger.told in
           let t = told c.args.ledger.now in
           let u = told c.loop-frame.ledger in
@@ -52,8 +45,8 @@ returns-in_default-answer_next g c =
           let progress = c.answer_next.result in
           each_said (g.L.Ledger.book c.args.ledger.now) c.args.self.now c.answer_next.new.self progress t v c.args.most c.args.self.now.end _
           (advance_both (g.L.Ledger.book c.args.ledger.now) (g.L.Ledger.book c.loop-frame.ledger) c.args.self.now c.loop-frame.self c.answer_next.new.self (AllAnswered t u n) (Told_so None u v progress 1) (Told_so c.args.self.now.end t v progress c.args.most) _
-          legal i.same_zone i.same_default (λ xs ys was failed a b. told_as t v progress c.args.most (xs ++ ys) failed _ i.began (last_told t u v progress n c.args.most xs ys was failed c.loop-frame-test.true c.in_default-answer_next.not-Answered a b)) (i.so_far before s)
-          (step_lives (g.L.Ledger.book c.loop-frame.ledger) u v c.loop-frame.self c.answer_next.new.self progress _ legal i.going (e.goes i.going) (e.steps k (i.stays_sound before s) i.going)));
+          legal i.leaves.same_zone i.leaves.same_default (λ xs ys was failed a b. told_as t v progress c.args.most (xs ++ ys) failed _ i.began (last_told t u v progress n c.args.most xs ys was failed c.loop-frame-test.true c.in_default-answer_next.not-Answered a b)) (i.so_far before s)
+          (step_lives (g.L.Ledger.book c.loop-frame.ledger) u v c.loop-frame.self c.answer_next.new.self progress _ legal i.going (e.goes i.going) (e.steps k (i.leaves.sound before s) i.going)));
     }
 
 pub loop-frame-preserved : goal.loop-frame-preserved
@@ -63,23 +56,19 @@ loop-frame-preserved g c =
     record {
       began = i.began;
       going = answered_goes c.loop-frame.self c.answer_next.new.self c.answer_next.result c.in-Answered.is (e.goes i.going);
-      same_zone = e.same_zone ∙ i.same_zone;
-      same_default = e.same_default ∙ i.same_default;
+      leaves = left_both i.leaves e.leaves;
       closed = closed_by c.loop-frame.self c.answer_next.new.self c.loop-frame.ledger c.answer_next.new.ledger c.answer_next.result _ refl e.goes e.over ∙ i.closed;
-      no_store = λ has. i.no_store (e.no_store has);
-      was_kept = λ k. i.was_kept (e.kept k);
-      stays_sound = λ k s. e.sound k (i.stays_sound (e.kept k) s);
       so_far = λ k s.
-          let before = e.kept k in
-          let legal = g.met.L.Ledger.sound_is_legal c.loop-frame.ledger (i.stays_sound before s) in
+          let before = e.leaves.kept k in
+          let legal = g.met.L.Ledger.sound_is_legal c.loop-frame.ledger (i.leaves.sound before s) in
           let told = g.L.Ledger.told in
           let t = told c.args.ledger.now in
           let u = told c.loop-frame.ledger in
           let v = told c.answer_next.new.ledger in
           let n = c.loop-frame._frame in
           advance_both (g.L.Ledger.book c.args.ledger.now) (g.L.Ledger.book c.loop-frame.ledger) c.args.self.now c.loop-frame.self c.answer_next.new.self (AllAnswered t u n) (Told_so None u v c.answer_next.result 1) (AllAnswered t v (n + 1)) _
-          legal i.same_zone i.same_default (λ xs ys was failed a b. one_more t u v n c.answer_next.result xs ys was failed c.in-Answered.is a b) (i.so_far before s)
-          (step_lives (g.L.Ledger.book c.loop-frame.ledger) u v c.loop-frame.self c.answer_next.new.self c.answer_next.result _ legal i.going (e.goes i.going) (e.steps k (i.stays_sound before s) i.going));
+          legal i.leaves.same_zone i.leaves.same_default (λ xs ys was failed a b. one_more t u v n c.answer_next.result xs ys was failed c.in-Answered.is a b) (i.so_far before s)
+          (step_lives (g.L.Ledger.book c.loop-frame.ledger) u v c.loop-frame.self c.answer_next.new.self c.answer_next.result _ legal i.going (e.goes i.going) (e.steps k (i.leaves.sound before s) i.going));
     }
 
 pub returns-clause-lives : goal.returns-clause-lives
