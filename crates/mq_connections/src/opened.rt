@@ -1,6 +1,7 @@
 //! A connection that is open, and its turns: none waits for the peer, so none holds back another connection.
 ghost use Rattle.std.specs.Prelude.{◌≡◌, ◌≢◌, ◌⊎◌, ◌<◌, ◌≤◌, ◌+◌, [], List, ℕ, ◌++◌, length, Err, None, Some, IfOk};
 ghost use Rattle.std.specs.Io.KnownBytes.{Appends, Consumes, Keeps};
+ghost use Rattle.mq_ledger.specs.Leaving.{LeavesLedger};
 ghost use Rattle.mq_server.specs.declared.connection.Progress.TheVariants.{Ended};
 ghost use Rattle.mq_server.specs.declared.input.TheConstants.{PIECE as piece_limit};
 ghost use Rattle.mq_server.specs.Held.{fresh};
@@ -88,12 +89,9 @@ impl OpenConnection {
         ensures store { result ≡ Ended (Err ServeFault.Store) → self.new.connection.end ≡ Some (Err ServeFault.Store) }
         ensures works { self.old.connection.end ≢ Some (Err ServeFault.Store) →
             result ≢ Ended (Err ServeFault.Store) → self.new.connection.end ≢ Some (Err ServeFault.Store) }
-        ensures same_zone { (L.book ledger.new).zone ≡ (L.book ledger.old).zone }
-        ensures same_default { (L.book ledger.new).default ≡ (L.book ledger.old).default }
-        ensures kept { L.has_kept ledger.new → L.has_kept ledger.old }
+        ensures leaves { LeavesLedger L.book L.has_kept L.is_sound L.has_store ledger.old ledger.new }
 
         // Of a sound one that has kept its premise.
-        ensures sound { L.has_kept ledger.new → L.is_sound ledger.old → L.is_sound ledger.new }
         ensures turns { L.has_kept ledger.new → L.is_sound ledger.old →
             Turns (L.book ledger.old) (L.book ledger.new).history (L.told ledger.old) (L.told ledger.new) result
             (N.wire network.old number) (N.wire network.new number) self.old.connection self.new.connection }
@@ -246,10 +244,7 @@ fn take_turns<N: Network, C: Clock, L: Ledger>(
     ensures store { result ≡ Ended (Err ServeFault.Store) → opened.new.connection.end ≡ Some (Err ServeFault.Store) }
     ensures works { opened.old.connection.end ≢ Some (Err ServeFault.Store) →
         result ≢ Ended (Err ServeFault.Store) → opened.new.connection.end ≢ Some (Err ServeFault.Store) }
-    ensures same_zone { (L.book ledger.new).zone ≡ (L.book ledger.old).zone }
-    ensures same_default { (L.book ledger.new).default ≡ (L.book ledger.old).default }
-    ensures kept { L.has_kept ledger.new → L.has_kept ledger.old }
-    ensures sound { L.has_kept ledger.new → L.is_sound ledger.old → L.is_sound ledger.new }
+    ensures leaves { LeavesLedger L.book L.has_kept L.is_sound L.has_store ledger.old ledger.new }
     ensures turns { L.has_kept ledger.new → L.is_sound ledger.old →
         Turns (L.book ledger.old) (L.book ledger.new).history (L.told ledger.old) (L.told ledger.new) result
         (N.wire network.old number) (N.wire network.new number) opened.old.connection opened.new.connection }
@@ -278,10 +273,7 @@ pub fn give_turns<N: Network, C: Clock, L: Ledger + Hear>(
     ensures store { result ≡ Ended (Err ServeFault.Store) → opened.new.connection.end ≡ Some (Err ServeFault.Store) }
     ensures works { opened.old.connection.end ≢ Some (Err ServeFault.Store) →
         result ≢ Ended (Err ServeFault.Store) → opened.new.connection.end ≢ Some (Err ServeFault.Store) }
-    ensures same_zone { (L.book ledger.new).zone ≡ (L.book ledger.old).zone }
-    ensures same_default { (L.book ledger.new).default ≡ (L.book ledger.old).default }
-    ensures kept { L.has_kept ledger.new → L.has_kept ledger.old }
-    ensures sound { L.has_kept ledger.new → L.is_sound ledger.old → L.is_sound ledger.new }
+    ensures leaves { LeavesLedger L.book L.has_kept L.is_sound L.has_store ledger.old ledger.new }
     ensures turns { L.has_kept ledger.new → L.is_sound ledger.old →
         Turns (L.book ledger.old) (L.book ledger.new).history (L.told ledger.old) (L.told ledger.new) result
         (N.wire network.old number) (N.wire network.new number) opened.old.connection opened.new.connection }

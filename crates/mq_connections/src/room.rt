@@ -1,5 +1,6 @@
 //! The connections that are open.
 ghost use Rattle.std.specs.Prelude.{◌≡◌, ◌≢◌, ◌+◌, ℕ, List, Option, None, Err, IfErr, OnOk};
+ghost use Rattle.mq_ledger.specs.Leaving.{LeavesLedger};
 ghost use Rattle.mq_ledger.specs.declared.ledger.Told.{Told};
 ghost use Rattle.mq_ledger.specs.Legal.{Book};
 ghost use Rattle.mq_connections.specs.Sessions.{GoesOn, GoesOnOrStops, KeepsGoing, Outside, held};
@@ -143,10 +144,7 @@ impl Room {
         timeout: Duration,
         ledger: &mut L,
     ) -> Result<(), RoomFault>
-        ensures same_zone { (L.book ledger.new).zone ≡ (L.book ledger.old).zone }
-        ensures same_default { (L.book ledger.new).default ≡ (L.book ledger.old).default }
-        ensures kept { L.has_kept ledger.new → L.has_kept ledger.old }
-        ensures sound { L.has_kept ledger.new → L.is_sound ledger.old → L.is_sound ledger.new }
+        ensures leaves { LeavesLedger L.book L.has_kept L.is_sound L.has_store ledger.old ledger.new }
         ensures fault { IfErr result (λ fault. fault ≡ RoomFault.Store) }
         ensures goes { L.has_kept ledger.new → L.is_sound ledger.old → (old : Outside) →
             (let before : Outside = record { book = L.book ledger.old; told = L.told ledger.old; wires = N.wire network.old } in
@@ -170,10 +168,7 @@ impl Room {
         timeout: Duration,
         ledger: &mut L,
     ) -> Result<(), RoomFault>
-        ensures same_zone { (L.book ledger.new).zone ≡ (L.book ledger.old).zone }
-        ensures same_default { (L.book ledger.new).default ≡ (L.book ledger.old).default }
-        ensures kept { L.has_kept ledger.new → L.has_kept ledger.old }
-        ensures sound { L.has_kept ledger.new → L.is_sound ledger.old → L.is_sound ledger.new }
+        ensures leaves { LeavesLedger L.book L.has_kept L.is_sound L.has_store ledger.old ledger.new }
         ensures fault { IfErr result (λ fault. fault ≡ RoomFault.Store) }
         ensures goes { L.has_kept ledger.new → L.is_sound ledger.old → (old : Outside) →
             (let before : Outside = record { book = L.book ledger.old; told = L.told ledger.old; wires = N.wire network.old } in

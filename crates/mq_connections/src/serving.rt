@@ -1,5 +1,6 @@
 //! Serving connections until so many were accepted, and have ended.
 ghost use Rattle.std.specs.Prelude.{◌≡◌, ℕ, None, Ok};
+ghost use Rattle.mq_ledger.specs.Leaving.{LeavesLedger};
 ghost use Rattle.mq_server.specs.Delivery.{HasGrown};
 ghost use Rattle.mq_connections.specs.Sessions.{EndsServing, GoesOn, GoesOnOrStops, Outside, held};
 ghost use Rattle.mq_connections.specs.Wires.{unknown};
@@ -33,12 +34,9 @@ pub fn serve_connections<R: Clock + Net, G: Log, L: Ledger + Hear>(
     connections: u32,
 ) -> Result<(), RoomFault>
     // Of any ledger, sound or not.
-    ensures same_zone { (L.book ledger.new).zone ≡ (L.book ledger.old).zone }
-    ensures same_default { (L.book ledger.new).default ≡ (L.book ledger.old).default }
-    ensures kept { L.has_kept ledger.new → L.has_kept ledger.old }
+    ensures leaves { LeavesLedger L.book L.has_kept L.is_sound L.has_store ledger.old ledger.new }
 
     // Of a sound one that has kept its premise.
-    ensures sound { L.has_kept ledger.new → L.is_sound ledger.old → L.is_sound ledger.new }
     ensures serves { L.has_kept ledger.new → L.is_sound ledger.old → EndsServing
         (record { book = L.book ledger.old; told = L.told ledger.old; wires = unknown })
         (record { book = L.book ledger.new; told = L.told ledger.new; wires = unknown }) RoomFault.Store result }
@@ -66,13 +64,10 @@ pub fn serve_network<N: Network, C: Clock, G: Log, L: Ledger + Hear>(
     ledger: &mut L,
 ) -> Result<(), RoomFault>
     // Of any ledger, sound or not.
-    ensures same_zone { (L.book ledger.new).zone ≡ (L.book ledger.old).zone }
-    ensures same_default { (L.book ledger.new).default ≡ (L.book ledger.old).default }
-    ensures kept { L.has_kept ledger.new → L.has_kept ledger.old }
+    ensures leaves { LeavesLedger L.book L.has_kept L.is_sound L.has_store ledger.old ledger.new }
     ensures over { result ≡ Ok tt → N.is_over network.new }
 
     // Of a sound one that has kept its premise.
-    ensures sound { L.has_kept ledger.new → L.is_sound ledger.old → L.is_sound ledger.new }
     ensures serves { L.has_kept ledger.new → L.is_sound ledger.old → EndsServing
         (record { book = L.book ledger.old; told = L.told ledger.old; wires = N.wire network.old })
         (record { book = L.book ledger.new; told = L.told ledger.new; wires = N.wire network.new }) RoomFault.Store result }
@@ -96,11 +91,8 @@ fn serve_rounds<N: Network, C: Clock, G: Log, L: Ledger + Hear>(
     timeout: Duration,
     ledger: &mut L,
 ) -> Result<(), RoomFault>
-    ensures same_zone { (L.book ledger.new).zone ≡ (L.book ledger.old).zone }
-    ensures same_default { (L.book ledger.new).default ≡ (L.book ledger.old).default }
-    ensures kept { L.has_kept ledger.new → L.has_kept ledger.old }
+    ensures leaves { LeavesLedger L.book L.has_kept L.is_sound L.has_store ledger.old ledger.new }
     ensures over { result ≡ Ok tt → N.is_over network.new }
-    ensures sound { L.has_kept ledger.new → L.is_sound ledger.old → L.is_sound ledger.new }
     ensures goes { L.has_kept ledger.new → L.is_sound ledger.old → (old : Outside) →
         (let before : Outside = record { book = L.book ledger.old; told = L.told ledger.old; wires = N.wire network.old } in
         let after : Outside = record { book = L.book ledger.new; told = L.told ledger.new; wires = N.wire network.new } in

@@ -1,5 +1,6 @@
 use Rattle.std.proofs.Common.{◌∙◌, refl, sym}
 use Rattle.mq_server.specs.declared.connection.Progress.TheVariants.{Answered}
+use Rattle.mq_server.proofs.Leaving.{left_alone, left_both}
 use Rattle.mq_connections.proofs.Turning.{answered_room, answered_works, both, nothing_done, turns_as}
 use Rattle.mq_connections.proofs.opened.take_turns.Goals as goal
 
@@ -7,10 +8,7 @@ pub loop-turn-init : goal.loop-turn-init
 loop-turn-init g c = record {
   others = λ n not. refl;
   works = λ not. not;
-  same_zone = refl;
-  same_default = refl;
-  kept = λ k. k;
-  sound = λ k s. s;
+  leaves = left_alone;
   turns = λ k s. nothing_done (g.L.Ledger.book c.args.ledger.now) (g.L.Ledger.told c.args.ledger.now) Answered _ c.args.opened.now.connection answered_works
       (c.more_exchanges.ensures.none (g.L.Ledger.book c.args.ledger.now) (g.met.L.Ledger.sound_is_legal c.args.ledger.now s));
 }
@@ -22,14 +20,11 @@ returns-in_default g c =
       others = λ n not. turn.others n not ∙ i.others n not;
       store = turn.store;
       works = λ was not. turn.works (i.works was) not;
-      same_zone = turn.same_zone ∙ i.same_zone;
-      same_default = turn.same_default ∙ i.same_default;
-      kept = λ kept. i.kept (turn.kept kept);
-      sound = λ kept sound. turn.sound kept (i.sound (turn.kept kept) sound);
+      leaves = left_both i.leaves turn.leaves;
       turns = λ kept sound.
-          let ok = i.sound (turn.kept kept) sound in
-          both c.more_exchanges.ensures.more (g.L.Ledger.book c.args.ledger.now) (g.L.Ledger.book c.loop-turn.ledger) _ _ _ _ Answered _ _ _ _ _ _ _ (g.met.L.Ledger.sound_is_legal c.loop-turn.ledger ok) i.same_zone i.same_default
-          answered_works answered_room i.works (i.turns (turn.kept kept) sound) (turn.turns kept ok);
+          let ok = i.leaves.sound (turn.leaves.kept kept) sound in
+          both c.more_exchanges.ensures.more (g.L.Ledger.book c.args.ledger.now) (g.L.Ledger.book c.loop-turn.ledger) _ _ _ _ Answered _ _ _ _ _ _ _ (g.met.L.Ledger.sound_is_legal c.loop-turn.ledger ok) i.leaves.same_zone i.leaves.same_default
+          answered_works answered_room i.works (i.turns (turn.leaves.kept kept) sound) (turn.turns kept ok);
     }
 
 pub loop-turn-preserved : goal.loop-turn-preserved
@@ -38,12 +33,9 @@ loop-turn-preserved g c =
     let turn = c.take_turn.ensures in record {
       others = λ n not. turn.others n not ∙ i.others n not;
       works = λ was. turn.works (i.works was) (λ is. answered_works (sym c.in-Answered.is ∙ is));
-      same_zone = turn.same_zone ∙ i.same_zone;
-      same_default = turn.same_default ∙ i.same_default;
-      kept = λ kept. i.kept (turn.kept kept);
-      sound = λ kept sound. turn.sound kept (i.sound (turn.kept kept) sound);
+      leaves = left_both i.leaves turn.leaves;
       turns = λ kept sound.
-          let ok = i.sound (turn.kept kept) sound in
-          both c.more_exchanges.ensures.more (g.L.Ledger.book c.args.ledger.now) (g.L.Ledger.book c.loop-turn.ledger) _ _ _ _ Answered _ _ _ _ _ _ _ (g.met.L.Ledger.sound_is_legal c.loop-turn.ledger ok) i.same_zone i.same_default
-          answered_works answered_room i.works (i.turns (turn.kept kept) sound) (turns_as _ _ _ _ _ Answered _ _ _ _ c.in-Answered.is (turn.turns kept ok));
+          let ok = i.leaves.sound (turn.leaves.kept kept) sound in
+          both c.more_exchanges.ensures.more (g.L.Ledger.book c.args.ledger.now) (g.L.Ledger.book c.loop-turn.ledger) _ _ _ _ Answered _ _ _ _ _ _ _ (g.met.L.Ledger.sound_is_legal c.loop-turn.ledger ok) i.leaves.same_zone i.leaves.same_default
+          answered_works answered_room i.works (i.turns (turn.leaves.kept kept) sound) (turns_as _ _ _ _ _ Answered _ _ _ _ c.in-Answered.is (turn.turns kept ok));
     }

@@ -1,5 +1,6 @@
 use Rattle.std.proofs.Common.{◌∙◌, None, Ok, Err, refl, sym, ap}
 use Rattle.std.proofs.lemmas.Result.{err_from_is_err_and}
+use Rattle.mq_server.proofs.Leaving.{left_alone, left_both}
 use Rattle.mq_connections.specs.declared.fault.RoomFault.TheVariants as faults
 use Rattle.mq_connections.specs.Sessions.{Outside, held}
 use Rattle.mq_connections.proofs.Standing.{goes_as, goes_last, goes_on, goes_so, not_store, ok_not, rewired}
@@ -7,10 +8,7 @@ use Rattle.mq_connections.proofs.serving.serve_rounds.Goals as goal
 
 pub loop-round-init : goal.loop-round-init
 loop-round-init g c = record {
-  same_zone = refl;
-  same_default = refl;
-  kept = λ k. k;
-  sound = λ k s. s;
+  leaves = left_alone;
   goes = λ k s old start. start;
 }
 
@@ -18,12 +16,9 @@ pub loop-round-preserved : goal.loop-round-preserved
 loop-round-preserved g c =
     let i = c.loop-round.invariant in
     let e = c.in_ok-serve.ensures in record {
-      same_zone = e.same_zone ∙ i.same_zone;
-      same_default = e.same_default ∙ i.same_default;
-      kept = λ k. i.kept (e.kept k);
-      sound = λ k s. e.sound k (i.sound (e.kept k) s);
+      leaves = left_both i.leaves e.leaves;
       goes = λ k s old start.
-          let before = e.kept k in
+          let before = e.leaves.kept k in
           let wire = g.N.Network.wire in
           let accepted : Outside = record { book = g.L.Ledger.book c.loop-round.ledger; told = g.L.Ledger.told c.loop-round.ledger; wires = wire c.accept.new.network } in
           let after : Outside = record { book = g.L.Ledger.book c.serve.new.ledger; told = g.L.Ledger.told c.serve.new.ledger; wires = wire c.serve.new.network } in
@@ -32,7 +27,7 @@ loop-round-preserved g c =
           let served = c.serve.new.self in
           let goes = rewired old accepted (wire c.wait.new.network) room.last (held room.opened) (held room.opened) None c.wait.ensures (λ n. refl) (c.accept.ensures.goes old accepted.book accepted.told (i.goes before s old start)) in
           goes_last old now served.last c.expire.new.self.last (held c.expire.new.self.opened) None c.expire.ensures.last
-          (c.expire.ensures.goes old after.book after.told served.last None (goes_on old after served.last (held served.opened) faults.Store _ tt refl (e.goes k (i.sound before s) old goes)));
+          (c.expire.ensures.goes old after.book after.told served.last None (goes_on old after served.last (held served.opened) faults.Store _ tt refl (e.goes k (i.leaves.sound before s) old goes)));
     }
 
 -- no further connection is accepted
@@ -63,7 +58,7 @@ pub returns-in_err-serve-clause-goes : goal.returns-in_err-serve-clause-goes
 returns-in_err-serve-clause-goes g c = λ k s old start.
     let i = c.loop-round.invariant in
     let e = c.in_err-serve.ensures in
-    let before = e.kept k in
+    let before = e.leaves.kept k in
     let wire = g.N.Network.wire in
     let accepted : Outside = record { book = g.L.Ledger.book c.loop-round.ledger; told = g.L.Ledger.told c.loop-round.ledger; wires = wire c.accept.new.network } in
     let after : Outside = record { book = g.L.Ledger.book c.serve.new.ledger; told = g.L.Ledger.told c.serve.new.ledger; wires = wire c.serve.new.network } in
@@ -71,7 +66,7 @@ returns-in_err-serve-clause-goes g c = λ k s old start.
     let goes = rewired old accepted (wire c.wait.new.network) room.last (held room.opened) (held room.opened) None c.wait.ensures (λ n. refl) (c.accept.ensures.goes old accepted.book accepted.told (i.goes before s old start)) in
     let r = c.from_residual-in_err-serve.result in
     let p = err_from_is_err_and r c.from_residual-in_err-serve.ensures.1 in
-    goes_as old after c.serve.new.self.last (held c.serve.new.self.opened) faults.Store _ r (sym (p.1 ∙ ap Err p.2)) (e.goes k (i.sound before s) old goes)
+    goes_as old after c.serve.new.self.last (held c.serve.new.self.opened) faults.Store _ r (sym (p.1 ∙ ap Err p.2)) (e.goes k (i.leaves.sound before s) old goes)
 
 -- all were accepted, and have ended
 pub returns-then-is_empty-clause-goes : goal.returns-then-is_empty-clause-goes

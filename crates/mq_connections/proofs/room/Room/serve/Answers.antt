@@ -1,5 +1,6 @@
 use Rattle.std.proofs.Common.{◌∙◌, Ok, Err, refl, sym, ap}
 use Rattle.std.proofs.lemmas.Result.{err_from_is_err_and}
+use Rattle.mq_server.proofs.Leaving.{left_alone, left_both}
 use Rattle.mq_connections.specs.declared.fault.RoomFault.TheVariants as faults
 use Rattle.mq_connections.specs.Sessions.{Outside, held}
 use Rattle.mq_connections.proofs.Standing.{goes_as, goes_on, goes_so, ok_not}
@@ -7,10 +8,7 @@ use Rattle.mq_connections.proofs.room.Room.serve.Goals as goal
 
 pub loop-number-init : goal.loop-number-init
 loop-number-init g c = record {
-  same_zone = refl;
-  same_default = refl;
-  kept = λ k. k;
-  sound = λ k s. s;
+  leaves = left_alone;
   goes = λ k s old start. start;
 }
 
@@ -18,13 +16,10 @@ pub loop-number-preserved : goal.loop-number-preserved
 loop-number-preserved g c =
     let i = c.loop-number.invariant in
     let e = c.in_ok-serve_one.ensures in record {
-      same_zone = e.same_zone ∙ i.same_zone;
-      same_default = e.same_default ∙ i.same_default;
-      kept = λ k. i.kept (e.kept k);
-      sound = λ k s. e.sound k (i.sound (e.kept k) s);
+      leaves = left_both i.leaves e.leaves;
       goes = λ k s old start.
           let after : Outside = record { book = g.L.Ledger.book c.serve_one.new.ledger; told = g.L.Ledger.told c.serve_one.new.ledger; wires = g.N.Network.wire c.serve_one.new.network } in
-          goes_on old after c.serve_one.new.self.last (held c.serve_one.new.self.opened) faults.Store _ tt refl (e.goes k (i.sound (e.kept k) s) old (i.goes (e.kept k) s old start));
+          goes_on old after c.serve_one.new.self.last (held c.serve_one.new.self.opened) faults.Store _ tt refl (e.goes k (i.leaves.sound (e.leaves.kept k) s) old (i.goes (e.leaves.kept k) s old start));
     }
 
 pub returns-in_err-serve_one-clause-goes : goal.returns-in_err-serve_one-clause-goes
@@ -34,7 +29,7 @@ returns-in_err-serve_one-clause-goes g c = λ k s old start.
     let after : Outside = record { book = g.L.Ledger.book c.serve_one.new.ledger; told = g.L.Ledger.told c.serve_one.new.ledger; wires = g.N.Network.wire c.serve_one.new.network } in
     let r = c.from_residual.result in
     let p = err_from_is_err_and r c.from_residual.ensures.1 in
-    goes_as old after c.serve_one.new.self.last (held c.serve_one.new.self.opened) faults.Store _ r (sym (p.1 ∙ ap Err p.2)) (e.goes k (i.sound (e.kept k) s) old (i.goes (e.kept k) s old start))
+    goes_as old after c.serve_one.new.self.last (held c.serve_one.new.self.opened) faults.Store _ r (sym (p.1 ∙ ap Err p.2)) (e.goes k (i.leaves.sound (e.leaves.kept k) s) old (i.goes (e.leaves.kept k) s old start))
 
 pub returns-clause-goes : goal.returns-clause-goes
 returns-clause-goes g c = λ k s old start.

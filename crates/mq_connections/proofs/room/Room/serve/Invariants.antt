@@ -1,14 +1,12 @@
-use Rattle.std.proofs.Common.{◌≡◌, None}
+use Rattle.std.proofs.Common.{None}
+use Rattle.mq_ledger.specs.Leaving.{LeavesLedger}
 use Rattle.mq_connections.specs.Sessions.{GoesOn, Outside, held}
 use Rattle.mq_connections.proofs.room.Room.serve.Given as goal
 
 -- what each connection leaves of the ledger's promises, and of the others'
 abbrev pub invariant-loop-number : goal.invariant-loop-number
 invariant-loop-number g l = record {
-  same_zone : (g.L.Ledger.book l.ledger).zone ≡ (g.L.Ledger.book l.fn.ledger).zone;
-  same_default : (g.L.Ledger.book l.ledger).default ≡ (g.L.Ledger.book l.fn.ledger).default;
-  kept : g.L.Ledger.has_kept l.ledger → g.L.Ledger.has_kept l.fn.ledger;
-  sound : g.L.Ledger.has_kept l.ledger → g.L.Ledger.is_sound l.fn.ledger → g.L.Ledger.is_sound l.ledger;
+  leaves : LeavesLedger g.L.Ledger.book g.L.Ledger.has_kept g.L.Ledger.is_sound g.L.Ledger.has_store l.fn.ledger l.ledger;
   goes : g.L.Ledger.has_kept l.ledger → g.L.Ledger.is_sound l.fn.ledger → (old : Outside) →
       GoesOn old (record { book = g.L.Ledger.book l.fn.ledger; told = g.L.Ledger.told l.fn.ledger; wires = g.N.Network.wire l.fn.network }) l.fn.self.last (held l.fn.self.opened) None →
       GoesOn old (record { book = g.L.Ledger.book l.ledger; told = g.L.Ledger.told l.ledger; wires = g.N.Network.wire l.network }) l.self.last (held l.self.opened) None;

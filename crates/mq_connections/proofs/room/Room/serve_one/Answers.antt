@@ -32,7 +32,7 @@ returns-in-Waits-clause-goes g c = λ k s old start.
     let mid : Outside = record { book = g.L.Ledger.book c.give_turns.new.ledger; told = g.L.Ledger.told c.give_turns.new.ledger; wires = g.N.Network.wire c.give_turns.new.network } in
     let found : Some c.in-Some.«open».now ≡ get nat_cmp was number = search rules in
     let turn : TurnOf o mid number c.give_turns.result c.in-Some.«open».now.connection turned.connection =
-    record { zone = e.same_zone; default = e.same_default; legal = g.met.L.Ledger.sound_is_legal c.args.ledger.now s; turn = e.turns k s; others_same = e.others } in
+    record { zone = e.leaves.same_zone; default = e.leaves.same_default; legal = g.met.L.Ledger.sound_is_legal c.args.ledger.now s; turn = e.turns k s; others_same = e.others } in
     let works = λ (is : c.give_turns.result ≡ Ended (Err ends.Store)). waits_works (sym c.in-Waits.is ∙ is) in
     let updates = (c.get_mut.follows.holds turned).3 (search rules) in
     goes_so old mid last (held now) faults.Store (Ok tt) (ok_not tt faults.Store)
@@ -53,7 +53,7 @@ returns-in-Answered-clause-goes g c = λ k s old start.
     let after : Outside = record { book = mid.book; told = mid.told; wires = g.N.Network.wire c.watch_again.new.network } in
     let found : Some c.in-Some.«open».now ≡ get nat_cmp was number = search rules in
     let turn : TurnOf o mid number c.give_turns.result c.in-Some.«open».now.connection turned.connection =
-    record { zone = e.same_zone; default = e.same_default; legal = g.met.L.Ledger.sound_is_legal c.args.ledger.now s; turn = e.turns k s; others_same = e.others } in
+    record { zone = e.leaves.same_zone; default = e.leaves.same_default; legal = g.met.L.Ledger.sound_is_legal c.args.ledger.now s; turn = e.turns k s; others_same = e.others } in
     let works = λ (is : c.give_turns.result ≡ Ended (Err ends.Store)). answered_works (sym c.in-Answered.is ∙ is) in
     let updates = (c.get_mut.follows.holds turned).3 (search rules) in
     let goes = goes_open old o mid number last c.give_turns.result c.in-Some.«open».now.connection turned.connection (held was) start (held_here was number c.in-Some.«open».now found) turn c.more_exchanges.ensures.more (held now)
@@ -79,7 +79,7 @@ returns-in-Ended-clause-goes g c = λ k s old start.
     let found : Some c.in-Some.«open».now ≡ get nat_cmp was number = search rules in
     let here = held_here was number c.in-Some.«open».now found in
     let turn : TurnOf o mid number p c.in-Some.«open».now.connection turned.connection =
-    record { zone = e.same_zone; default = e.same_default; legal = g.met.L.Ledger.sound_is_legal c.args.ledger.now s; turn = e.turns k s; others_same = e.others } in
+    record { zone = e.leaves.same_zone; default = e.leaves.same_default; legal = g.met.L.Ledger.sound_is_legal c.args.ledger.now s; turn = e.turns k s; others_same = e.others } in
     let still = held c.close.new.self.opened in
     let updates = (c.get_mut.follows.holds turned).3 (search rules) in
     let closes = c.close.ensures.closes in
