@@ -47,7 +47,8 @@ fn close_moments_have_near_days()
 pub fn far_days(zone: &Zone, moment: u64, now: u64) -> Option<(u32, u32)>
     requires moment { IsMoment moment }
     requires now { IsMoment now }
-    ensures some { IfSome result (λ days. (days ≡ (day_of zone.now moment, day_of zone.now now)) × AreFar days.0 days.1) }
+    ensures some { IfSome result (λ days. (days ≡ (day_of zone.now moment, day_of zone.now now)) × AreFar days.0 days.1
+        × (AreClose moment now → ⊥)) }
     ensures none { IsNone result →
         AreClose moment now ⊎ (AreFar (day_of zone.now moment) (day_of zone.now now) → ⊥) }
     ensures offset { (minutes : ℤ) → IsOffset minutes → zone.now ≡ ByOffset minutes → IsNone result →

@@ -2,7 +2,7 @@
 ghost use Rattle.std.specs.Prelude.{◌≡◌, ◌≢◌, ◌↔◌, ◌<◌, ◌≤◌, ◌⊎◌, ℕ, List, Some, None, IsTrue, false};
 ghost use Rattle.std.specs.BTreeMap.{btree_map_len};
 ghost use Rattle.mq_frame.specs.Range.{IsAmount};
-ghost use Rattle.mq_watch.specs.Nearing.{IsNear, IsOpen, standing};
+ghost use Rattle.mq_watch.specs.Nearing.{IsLeft, IsNear, IsOpen, four_fifths, standing};
 
 use mq_frame::Login;
 use std::alloc::Global;
@@ -44,7 +44,8 @@ impl Stand {
 /// The least that a login has to have used to near its limit: four fifths of it, or more.
 fn near_at(cap: u32) -> u32
     requires { IsAmount cap }
-    ensures { (used : ℕ) → result ≤ used ↔ IsNear used cap }
+    ensures value { result ≡ four_fifths cap }
+    ensures near { (used : ℕ) → result ≤ used ↔ IsNear used cap }
 {
     (4 * cap + 4) / 5
 }
@@ -86,8 +87,10 @@ impl Nearing {
         ensures due { IsTrue result → IsNear usage.used usage.cap
             × IsOpen (standing self.old.logins login.now) day usage.used
             × (standing self.new.logins login.now ≡ Some (record { day = day; near = None })) }
-        ensures others { (l : List ℕ) → l ≢ login.now → (standing self.new.logins l ≡ standing self.old.logins l)
-            ⊎ ((100000 ≤ btree_map_len self.old.logins) × (standing self.new.logins l ≡ None)) }
+        ensures kept { IsOpen (standing self.old.logins login.now) day usage.used → (IsNear usage.used usage.cap → ⊥) →
+            (result ≡ false) × (IsLeft self.old.logins self.new.logins login.now
+            ⊎ (standing self.new.logins login.now ≡ Some (record { day = day; near = Some (four_fifths usage.cap) }))) }
+        ensures others { (l : List ℕ) → l ≢ login.now → IsLeft self.old.logins self.new.logins l }
         ensures closed { (IsOpen (standing self.old.logins login.now) day usage.used → ⊥) →
             (result ≡ false) × (self.new ≡ self.old) }
     {
@@ -111,10 +114,8 @@ impl Nearing {
     /// Keeps how a login stands, where there is memory, and says whether there was.
     fn keep(&mut self, login: &Login, stand: Stand) -> bool
         ensures kept { IsTrue result → standing self.new.logins login.now ≡ Some stand }
-        ensures lost { result ≡ false → (standing self.new.logins login.now ≡ standing self.old.logins login.now)
-            ⊎ ((100000 ≤ btree_map_len self.old.logins) × (standing self.new.logins login.now ≡ None)) }
-        ensures others { (l : List ℕ) → l ≢ login.now → (standing self.new.logins l ≡ standing self.old.logins l)
-            ⊎ ((100000 ≤ btree_map_len self.old.logins) × (standing self.new.logins l ≡ None)) }
+        ensures lost { result ≡ false → IsLeft self.old.logins self.new.logins login.now }
+        ensures others { (l : List ℕ) → l ≢ login.now → IsLeft self.old.logins self.new.logins l }
         ensures few { btree_map_len self.new.logins ≤ 100000 }
     {
         self.make_room();
