@@ -1,5 +1,5 @@
 -- What is known of logins as their map changes, by the bytes of its keys.
-use Rattle.std.proofs.Common.{◌≡◌, ◌≢◌, ℕ, List, [], Bool, true, false, refl, sym, ap, ◌∙◌, Option, None, Some, inl, inr, ◌⊎◌, ◌<◌, ◌≤◌}
+use Rattle.std.proofs.Common.{◌≡◌, ◌≢◌, ℕ, List, [], Bool, true, false, refl, sym, ap, ◌∙◌, Option, None, inl, inr, ◌⊎◌, ◌<◌, ◌≤◌}
 use Rattle.std.specs.Prelude.{Result, Ok, Err, OnOk, OnErr}
 use Rattle.std.proofs.lemmas.Bool.{cases_lt}
 use Rattle.std.specs.declared.alloc.Global.{Global}

@@ -1,12 +1,67 @@
 -- What questions to a ledger leave of it.
-use Rattle.std.proofs.Common.{◌≡◌, ℕ, ◌+◌, List, refl, ◌∙◌, arith}
+use Rattle.std.proofs.Common.{◌≡◌, ℕ, ◌+◌, List, [], ◌∷◌, ◌++◌, append-nil, append_assoc, refl, sym, ap, subst, ◌∙◌, arith, Option, None, Some, Result, Ok, Err}
+use Rattle.std.specs.Prelude.{IfOk, IfSome}
+use Rattle.std.proofs.lemmas.List.Elements.{All-append, All-nil}
+use Rattle.mq_frame.specs.declared.message.Reply.{Reply}
 use Rattle.mq_frame.specs.declared.message.Reply.TheVariants.{Usage as UsageReply}
+use Rattle.mq_ledger.specs.declared.ledger.LedgerFault.{LedgerFault}
+use Rattle.mq_ledger.specs.declared.ledger.LedgerFault.TheVariants.{Memory, Store}
+use Rattle.mq_ledger.specs.declared.ledger.Told.{Told}
 use Rattle.mq_ledger.specs.Legal.{Book}
-use Rattle.mq_watch.specs.Asked.{IsAsked}
+use Rattle.mq_ledger.specs.Told.{Tells}
+use Rattle.mq_watch.specs.Asked.{AsksOnly, CallsOnce, IsAsked, IsQuestion, usage_in}
+
+Tells-none : (t : Option (List Told)) → Tells t t []
+Tells-none None = tt
+Tells-none (Some xs) = sym (append-nil xs)
+
+Tells-trans : (a b c : Option (List Told)) (xs ys : List Told) → Tells a b xs → Tells b c ys → Tells a c (xs ++ ys)
+Tells-trans a b None xs ys h i = tt
+Tells-trans None None (Some e) xs ys h i = absurd i
+Tells-trans None (Some d) (Some e) xs ys h i = absurd h
+Tells-trans (Some c) None (Some e) xs ys h i = absurd i
+Tells-trans (Some c) (Some d) (Some e) xs ys h i = i ∙ ap (λ l. l ++ ys) h ∙ append_assoc c xs ys
+
+-- no question was asked
+pub asks_nothing : (t : Option (List Told)) → AsksOnly t t
+asks_nothing t = record { questions = []; tells = Tells-none t; all = All-nil IsQuestion }
+
+-- questions were asked, and questions again
+pub asks_both : (a b c : Option (List Told)) → AsksOnly a b → AsksOnly b c → AsksOnly a c
+asks_both a b c h i = record {
+  questions = h.questions ++ i.questions;
+  tells = Tells-trans a b c h.questions i.questions h.tells i.tells;
+  all = All-append IsQuestion h.questions i.questions h.all i.all;
+}
+
+-- a call came
+pub calls_it : (a b : Option (List Told)) (call : Told) → Tells a b (call ∷ []) → CallsOnce call a b
+calls_it a b call told = record { before = []; after = []; tells = told; all_before = All-nil IsQuestion; all_after = All-nil IsQuestion }
+
+-- questions came before the call
+pub calls_after : (a b c : Option (List Told)) (call : Told) → AsksOnly a b → CallsOnce call b c → CallsOnce call a c
+calls_after a b c call h i = record {
+  before = h.questions ++ i.before;
+  after = i.after;
+  tells = let P : List Told → Type 0 = λ l. Tells a c l in subst P (sym (append_assoc h.questions i.before (call ∷ i.after))) (Tells-trans a b c h.questions (i.before ++ call ∷ i.after) h.tells i.tells);
+  all_before = All-append IsQuestion h.questions i.before h.all i.all_before;
+  all_after = i.all_after;
+}
+
+-- questions came after the call
+pub calls_before : (a b c : Option (List Told)) (call : Told) → CallsOnce call a b → AsksOnly b c → CallsOnce call a c
+calls_before a b c call h i = record {
+  before = h.before;
+  after = h.after ++ i.questions;
+  tells = let P : List Told → Type 0 = λ l. Tells a c l in subst P (append_assoc h.before (call ∷ h.after) i.questions) (Tells-trans a b c (h.before ++ call ∷ h.after) i.questions h.tells i.tells);
+  all_before = h.all_before;
+  all_after = All-append IsQuestion h.after i.questions h.all_after i.all;
+}
 
 -- nothing was asked
-pub asked_nothing : {S : Type 0} (book : S → Book) (has_kept is_sound has_store : S → Type 0) (s : S) → IsAsked book has_kept is_sound has_store s s
-asked_nothing book has_kept is_sound has_store s = record {
+pub asked_nothing : {S : Type 0} (told : S → Option (List Told)) (book : S → Book) (has_kept is_sound has_store : S → Type 0) (s : S) → IsAsked told book has_kept is_sound has_store s s
+asked_nothing told book has_kept is_sound has_store s = record {
+  asked = asks_nothing (told s);
   zone = refl;
   default = refl;
   kept = λ kept. kept;
@@ -16,9 +71,10 @@ asked_nothing book has_kept is_sound has_store s = record {
 }
 
 -- it was asked, and asked again
-pub asked_both : {S : Type 0} (book : S → Book) (has_kept is_sound has_store : S → Type 0) (old mid new : S)
-    → IsAsked book has_kept is_sound has_store old mid → IsAsked book has_kept is_sound has_store mid new → IsAsked book has_kept is_sound has_store old new
-asked_both book has_kept is_sound has_store old mid new a b = record {
+pub asked_both : {S : Type 0} (told : S → Option (List Told)) (book : S → Book) (has_kept is_sound has_store : S → Type 0) (old mid new : S)
+    → IsAsked told book has_kept is_sound has_store old mid → IsAsked told book has_kept is_sound has_store mid new → IsAsked told book has_kept is_sound has_store old new
+asked_both told book has_kept is_sound has_store old mid new a b = record {
+  asked = asks_both (told old) (told mid) (told new) a.asked b.asked;
   zone = b.zone ∙ a.zone;
   default = b.default ∙ a.default;
   kept = λ kept. a.kept (b.kept kept);
@@ -34,3 +90,11 @@ usage_is login l day d settled reserved cap settled' reserved' cap' said =
     let s : settled ≡ settled' = cc in
     let r : reserved ≡ reserved' = cc in
     (omega arith, cc)
+
+-- what an answer says is what the usage reply says
+pub usage_said : (answer : Result Reply LedgerFault) (login : List ℕ) (day settled reserved cap : ℕ) → IfOk answer (λ r. r ≡ UsageReply login day settled reserved cap)
+    → IfOk (usage_in answer) (λ found. IfSome found (λ usage. (usage.used ≡ reserved + settled) × (usage.cap ≡ cap)))
+usage_said (Ok (UsageReply l d s r c)) login day settled reserved cap said = usage_is login l day d s r c settled reserved cap said
+usage_said (Ok _) login day settled reserved cap said = tt
+usage_said (Err Memory) login day settled reserved cap said = tt
+usage_said (Err Store) login day settled reserved cap said = tt

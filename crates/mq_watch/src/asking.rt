@@ -1,39 +1,60 @@
 //! What a ledger is asked for the log.
-ghost use Rattle.std.specs.Prelude.{◌≡◌, IfOk, IfErr, IfSome};
-ghost use Rattle.mq_frame.specs.Range.{IsAmount, IsDay, IsLogin};
+ghost use Rattle.std.specs.Prelude.{◌≡◌, [], ◌∷◌, Err, IfOk, IfErr, IfNone, IfSome, OnErr};
+ghost use Rattle.mq_frame.specs.Range.{IsAmount, IsDay, IsLogin, IsReply};
 ghost use Rattle.mq_ledger.specs.Day.{day_of};
 ghost use Rattle.mq_ledger.specs.History.{used};
 ghost use Rattle.mq_ledger.specs.Limits.{cap};
-ghost use Rattle.mq_watch.specs.Asked.{IsAsked};
+ghost use Rattle.mq_ledger.specs.Told.{Tells};
+ghost use Rattle.mq_watch.specs.Asked.{IsAsked, LacksMemory, question, usage_in};
 
 use crate::nearing::Usage;
+use log::{Log, error};
 use mq_frame::{Login, Reply, Request};
 use mq_ledger::laws::one_more_arrival;
 use mq_ledger::{Ledger, LedgerFault};
+use std::net::SocketAddr;
 
 /// Asks a ledger what a login has used on a day, and its limit. There is no answer where memory runs out; the fault is that
-/// of a store that failed.
-pub fn ask_usage<L: Ledger>(
+/// of a store that failed, which is logged with the peer at whose request it was asked.
+pub fn ask_usage<L: Ledger, G: Log>(
     ledger: &mut L,
+    log: &G,
+    peer: SocketAddr,
     login: &Login,
     day: u32,
 ) -> Result<Option<Usage>, LedgerFault>
     requires login { IsLogin login.now }
     requires day { IsDay day }
-    ensures asked { IsAsked L.book L.has_kept L.is_sound L.has_store ledger.old ledger.new }
+    ensures asked { IsAsked L.told L.book L.has_kept L.is_sound L.has_store ledger.old ledger.new }
     ensures usage { L.has_kept ledger.new → L.is_sound ledger.old → (let b = L.book ledger.old in
         IfOk result (λ found. IfSome found (λ usage.
         (usage.used ≡ used (day_of b.zone) b.history login.now day)
         × (usage.cap ≡ cap b.default b.history login.now day)))) }
     ensures in_range { IfOk result (λ found. IfSome found (λ usage. IsAmount usage.cap)) }
     ensures fault { IfErr result (λ fault. fault ≡ LedgerFault.Store) }
-    ensures store { IfErr result (λ fault. L.has_store ledger.old) }
+    ensures store { OnErr result (L.has_store ledger.old) }
+    ensures failed { OnErr result
+        (Tells (L.told ledger.old) (L.told ledger.new) (question login.now day (Err LedgerFault.Store) ∷ [])) }
+    ensures none { L.has_kept ledger.new → L.is_sound ledger.old → IfOk result (λ found. IfNone found
+        (LacksMemory login.now day (L.told ledger.old) (L.told ledger.new))) }
 {
     one_more_arrival();
     let Ok(login) = login.clone() else {
         return Ok(None);
     };
-    match ledger.apply(&Request::Usage { login, day }) {
+    let usage = usage_in(ledger.apply(&Request::Usage { login, day }));
+    if usage.is_err() {
+        error!(log; "connection of {peer}: the ledger's store failed at a question of the log");
+    }
+    usage
+}
+
+/// What an answer to the question says: nothing where memory ran out.
+fn usage_in(answer: Result<Reply, LedgerFault>) -> Result<Option<Usage>, LedgerFault>
+    requires { IfOk answer IsReply }
+    ensures { result ≡ usage_in answer }
+{
+    match answer {
         Ok(
             Reply::Usage {
                 settled,

@@ -1,7 +1,11 @@
 //! A ledger that logs what comes to it.
-ghost use Rattle.std.specs.Prelude.{◌≡◌, ◌<◌, IfOk, IfErr, IfSome, Some};
-ghost use Rattle.mq_frame.specs.Range.{IsDay, IsLogin, IsMoment, IsRequest};
-ghost use Rattle.mq_watch.specs.Asked.{IsAsked};
+ghost use Rattle.std.specs.Prelude.{◌≡◌, ◌<◌, [], ◌∷◌, ◌++◌, IfOk, IfErr, IfNone, IfSome, OnErr, OnOk, Err, Some};
+ghost use Rattle.mq_frame.specs.Range.{IsDay, IsLogin, IsMoment, IsReply, IsRequest};
+ghost use Rattle.mq_ledger.specs.Answer.{build, reply};
+ghost use Rattle.mq_ledger.specs.Arrivals.{first};
+ghost use Rattle.mq_ledger.specs.Day.{day_of};
+ghost use Rattle.mq_ledger.specs.History.{requests};
+ghost use Rattle.mq_watch.specs.Asked.{FailsAtQuestion, IsAsked, IsCapBefore, IsPut, LacksCap};
 
 use crate::asking::ask_usage;
 use crate::clock::{moment_of, seconds_of};
@@ -70,32 +74,66 @@ impl<'a, L: Ledger, C: Clock, G: Log> Watched<'a, L, C, G> {
         ledger
     }
 
+    /// Puts a request to the ledger, and logs what is to be seen of it. Where a question before it finds a failed store, that
+    /// is the answer.
+    fn put(&mut self, request: &Request) -> Result<Reply, LedgerFault>
+        requires { IsRequest request.now }
+        ensures put { IsPut request.now result (L.told self.old) (L.told self.new) }
+
+        // As `Ledger` says of `apply`.
+        ensures in_range { IfOk result IsReply }
+        ensures same_zone { (L.book self.new).zone ≡ (L.book self.old).zone }
+        ensures same_default { (L.book self.new).default ≡ (L.book self.old).default }
+        ensures kept { L.has_kept self.new → L.has_kept self.old }
+        ensures no_store { L.has_store self.new → L.has_store self.old }
+        ensures store { result ≡ Err LedgerFault.Store → L.has_store self.old }
+        ensures reply { L.has_kept self.new → L.is_sound self.old → (let b = L.book self.old in
+            IfOk result (λ r. r ≡ reply (day_of b.zone) b.default b.history request.now)) }
+        ensures history { L.has_kept self.new → L.is_sound self.old → (let b = L.book self.old in
+            OnOk result ((L.book self.new).history
+            ≡ build (day_of b.zone) b.default (first (requests b.history ++ request.now ∷ [])))) }
+        ensures fault { L.has_kept self.new → L.is_sound self.old →
+            OnErr result ((L.book self.new).history ≡ (L.book self.old).history) }
+        ensures sound { L.has_kept self.new → L.is_sound self.old → L.is_sound self.new }
+    {
+        let before = self.cap_before(request);
+        let answer = match before {
+            Ok(_) => self.ledger.apply(request),
+            Err(fault) => Err(fault),
+        };
+        self.note(request, before.unwrap_or(None), &answer);
+        answer
+    }
+
     /// The cap of the login and day from which a limit is asked for, before that is set. Of other requests there is none.
     /// The fault is that of a store that failed.
     fn cap_before(&mut self, request: &Request) -> Result<Option<u32>, LedgerFault>
         requires { IsRequest request.now }
-        ensures asked { IsAsked L.book L.has_kept L.is_sound L.has_store self.old self.new }
+        ensures asked { IsAsked L.told L.book L.has_kept L.is_sound L.has_store self.old self.new }
+        ensures cap { L.has_kept self.new → L.is_sound self.old → (let b = L.book self.old in
+            IfOk result (λ before. IfSome before (λ n. IsCapBefore b.default b.history request.now n))) }
+        ensures none { L.has_kept self.new → L.is_sound self.old → IfOk result (λ before. IfNone before
+            (LacksCap request.now (L.told self.old) (L.told self.new))) }
         ensures fault { IfErr result (λ fault. fault ≡ LedgerFault.Store) }
-        ensures store { IfErr result (λ fault. L.has_store self.old) }
+        ensures store { OnErr result (L.has_store self.old) }
+        ensures failed { OnErr result (FailsAtQuestion (L.told self.old) (L.told self.new)) }
     {
-        match request {
-            Request::Limit {
-                login,
-                from_day,
-                ..
-            } => match ask_usage(&mut self.ledger, login, *from_day) {
-                Ok(Some(usage)) => Ok(Some(usage.cap)),
-                Ok(None) => Ok(None),
-                Err(fault) => Err(fault),
-            },
-            _ => Ok(None),
-        }
+        let Request::Limit {
+            login,
+            from_day,
+            ..
+        } = request
+        else {
+            return Ok(None);
+        };
+        let usage = ask_usage(&mut self.ledger, self.log, self.peer, login, *from_day)?;
+        Ok(usage.map(|usage| usage.cap))
     }
 
     /// Logs what a request is to be seen of. A limit came where there was the cap `before`, if that is known.
     fn note(&mut self, request: &Request, before: Option<u32>, answer: &Result<Reply, LedgerFault>)
         requires { IsRequest request.now }
-        ensures { IsAsked L.book L.has_kept L.is_sound L.has_store self.old self.new }
+        ensures { IsAsked L.told L.book L.has_kept L.is_sound L.has_store self.old self.new }
     {
         match request {
             Request::Limit {
@@ -130,7 +168,7 @@ impl<'a, L: Ledger, C: Clock, G: Log> Watched<'a, L, C, G> {
     )
         requires login { IsLogin login.now }
         requires day { IsDay from_day }
-        ensures { IsAsked L.book L.has_kept L.is_sound L.has_store self.old self.new }
+        ensures { IsAsked L.told L.book L.has_kept L.is_sound L.has_store self.old self.new }
     {
         let lowered_from = match answer {
             Ok(Reply::LimitSet { .. }) => self.note_set(login, from_day, cap, before),
@@ -157,7 +195,7 @@ impl<'a, L: Ledger, C: Clock, G: Log> Watched<'a, L, C, G> {
     ) -> Option<u32>
         requires login { IsLogin login.now }
         requires day { IsDay from_day }
-        ensures asked { IsAsked L.book L.has_kept L.is_sound L.has_store self.old self.new }
+        ensures asked { IsAsked L.told L.book L.has_kept L.is_sound L.has_store self.old self.new }
         ensures lowered { IfSome result (λ was. (before ≡ Some was) × (cap < was)) }
     {
         self.nearing.forget(login);
@@ -165,7 +203,7 @@ impl<'a, L: Ledger, C: Clock, G: Log> Watched<'a, L, C, G> {
         if was <= cap {
             return None;
         }
-        match ask_usage(&mut self.ledger, login, from_day) {
+        match ask_usage(&mut self.ledger, self.log, self.peer, login, from_day) {
             Ok(Some(usage)) if was <= usage.cap => None,
             _ => Some(was),
         }
@@ -194,14 +232,14 @@ impl<'a, L: Ledger, C: Clock, G: Log> Watched<'a, L, C, G> {
     fn check_limit(&mut self, login: &Login, moment: u64, used: u32)
         requires login { IsLogin login.now }
         requires moment { IsMoment moment }
-        ensures { IsAsked L.book L.has_kept L.is_sound L.has_store self.old self.new }
+        ensures { IsAsked L.told L.book L.has_kept L.is_sound L.has_store self.old self.new }
     {
         let day = self.ledger.zone().day_at(moment);
         if !self.nearing.is_open(login, day, used) {
             return;
         }
         // The recipients are granted, whatever comes of the question.
-        let Ok(Some(usage)) = ask_usage(&mut self.ledger, login, day) else {
+        let Ok(Some(usage)) = ask_usage(&mut self.ledger, self.log, self.peer, login, day) else {
             return;
         };
         if self.nearing.is_due(login, day, usage) {
@@ -242,17 +280,6 @@ impl<L: Ledger, C: Clock, G: Log> Ledger for Watched<'_, L, C, G> {
     }
 
     fn apply(&mut self, request: &Request) -> Result<Reply, LedgerFault> {
-        match self.cap_before(request) {
-            Ok(before) => {
-                let answer = self.ledger.apply(request);
-                self.note(request, before, &answer);
-                answer
-            }
-            Err(fault) => {
-                let answer = Err(fault);
-                self.note(request, None, &answer);
-                answer
-            }
-        }
+        self.put(request)
     }
 }

@@ -4,7 +4,7 @@ use crate::server_end::asserts::assert_that;
 use crate::server_end::fails_once::FailsOnce;
 use crate::server_end::fixtures::{id, login};
 use crate::server_end::serving::ledger;
-use crate::server_end::watching::{Row, Shown, check_lines};
+use crate::server_end::watching::{QUESTION_FAILED, Row, Shown, check_lines};
 use log::sink::Discard;
 use mq_frame::{Reply, Request, is_request};
 use mq_ledger::{Ledger, LedgerFault};
@@ -63,6 +63,12 @@ const NEAR: &[Row<'_>] = &[
         86_400,
         "0021 01 0162 0000000000000001 00000001 00000001 0000000000015180 010a 00000005",
         "[WARN  mq_watch::watched] connection of 192.0.2.7:40312: login \\x0a has used 5 of its limit of 5 on day 1",
+    ),
+    // On the day after the clock's.
+    (
+        86_400,
+        "0021 01 0162 0000000000000001 00000002 00000002 000000000002a300 0176 00000005",
+        "[WARN  mq_watch::watched] connection of 192.0.2.7:40312: login v has used 5 of its limit of 5 on day 2",
     ),
     // The day after, and the day before again.
     (
@@ -135,12 +141,26 @@ fn what_was_given_back_is_not_near(rt: HostRuntime) -> Result<(), Fail> {
     check_lines(&rt, alloc, ledger(&rt, alloc, 5), GIVEN_BACK)
 }
 
-/// The question after the first reserve finds no memory, or a store that fails: the next reserve is asked about.
+/// The question after the first reserve finds no memory: the next reserve is asked about.
 const AFTER_A_LOST_QUESTION: &[Row<'_>] = &[
     (
         86_400,
         "0021 01 0161 0000000000000001 00000001 00000001 0000000000015180 0175 00000004",
         "",
+    ),
+    (
+        86_400,
+        "0021 01 0161 0000000000000001 00000002 00000001 0000000000015180 0175 00000001",
+        "[WARN  mq_watch::watched] connection of 192.0.2.7:40312: login u has used 5 of its limit of 5 on day 1",
+    ),
+];
+
+/// It finds a store that fails.
+const AFTER_A_FAILED_QUESTION: &[Row<'_>] = &[
+    (
+        86_400,
+        "0021 01 0161 0000000000000001 00000001 00000001 0000000000015180 0175 00000004",
+        QUESTION_FAILED,
     ),
     (
         86_400,
@@ -173,13 +193,16 @@ fn answer_of(
 #[test]
 fn a_lost_question_leaves_the_reply(rt: HostRuntime) -> Result<(), Fail> {
     let alloc = rt.alloc();
-    for fault in [LedgerFault::Memory, LedgerFault::Store] {
+    for (fault, rows) in [
+        (LedgerFault::Memory, AFTER_A_LOST_QUESTION),
+        (LedgerFault::Store, AFTER_A_FAILED_QUESTION),
+    ] {
         let failing = FailsOnce {
             ledger: ledger(&rt, alloc, 5),
             calls_before: 1,
             fault,
         };
-        check_lines(&rt, alloc, failing, AFTER_A_LOST_QUESTION)?;
+        check_lines(&rt, alloc, failing, rows)?;
         let clock = Shown(Cell::new(86_400));
         let failing = FailsOnce {
             ledger: ledger(&rt, alloc, 5),

@@ -30,7 +30,7 @@ impl Clock for Shown {
     }
 }
 
-/// What the clock shows, the frame that comes, and the line that is logged, if any.
+/// What the clock shows, the frame that comes, if any, and the line that is logged, if any.
 pub type Row<'a> = (u64, &'a str, &'a str);
 
 /// Limits, each as it is answered.
@@ -66,6 +66,27 @@ const LIMITS: &[Row<'_>] = &[
         86_400,
         "001a 04 0161 0000000000000001 00000004 00000001 00000005 020a5c",
         "[INFO  mq_watch::watched] connection of 192.0.2.7:40312: limit 5 of login \\x0a\\x5c from day 1: set",
+    ),
+    // From a day that isn't the clock's.
+    (
+        86_400,
+        "0019 04 0162 0000000000000001 00000001 00000005 00000001 0176",
+        "[WARN  mq_watch::watched] connection of 192.0.2.7:40312: limit 1 of login v from day 5: set, lowered from 3",
+    ),
+    (
+        86_400,
+        "0019 04 0162 0000000000000001 00000002 00000005 00000002 0176",
+        "[INFO  mq_watch::watched] connection of 192.0.2.7:40312: limit 2 of login v from day 5: set",
+    ),
+    (
+        345_600,
+        "0021 01 0162 0000000000000001 00000003 00000001 0000000000069780 0176 00000001",
+        "",
+    ),
+    (
+        86_400,
+        "0019 04 0162 0000000000000001 00000004 00000005 00000000 0176",
+        "[INFO  mq_watch::watched] connection of 192.0.2.7:40312: limit 0 of login v from day 5: refused, 1 used on day 5",
     ),
     (86_400, "000f 07 0161 0000000000000002 00000001", ""),
     (
@@ -109,6 +130,29 @@ const AT_A_STORE_THAT_FAILS: &[Row<'_>] = &[(
     "0019 04 0161 0000000000000001 00000001 00000001 00000002 0175",
     "[INFO  mq_watch::watched] connection of 192.0.2.7:40312: limit 2 of login u from day 1: store failed",
 )];
+
+/// What is logged of a question at which the store fails.
+pub const QUESTION_FAILED: &str =
+    "[ERROR mq_watch::asking] connection of 192.0.2.7:40312: the ledger's store failed at a question of the log";
+
+/// The line of a question comes before that of its limit.
+const WHERE_THE_CAP_FAILS: &[Row<'_>] = &[
+    (86_400, "", QUESTION_FAILED),
+    (
+        86_400,
+        "0019 04 0161 0000000000000001 00000001 00000001 00000002 0175",
+        "[INFO  mq_watch::watched] connection of 192.0.2.7:40312: limit 2 of login u from day 1: store failed",
+    ),
+];
+
+const WHERE_THE_NEW_CAP_FAILS: &[Row<'_>] = &[
+    (86_400, "", QUESTION_FAILED),
+    (
+        86_400,
+        "0019 04 0161 0000000000000001 00000001 00000001 00000002 0175",
+        "[WARN  mq_watch::watched] connection of 192.0.2.7:40312: limit 2 of login u from day 1: set, lowered from 3",
+    ),
+];
 
 /// Recipients of day 1 and of later ones, by a clock that goes on and is put back.
 const DAYS: &[Row<'_>] = &[
@@ -222,9 +266,9 @@ fn limits_at_faults(rt: HostRuntime) -> Result<(), Fail> {
         (LedgerFault::Memory, 0, WITHOUT_A_CAP),
         (LedgerFault::Memory, 1, AFTER_A_FAULT),
         (LedgerFault::Memory, 2, WITHOUT_THE_NEW_CAP),
-        (LedgerFault::Store, 0, AT_A_STORE_THAT_FAILS),
+        (LedgerFault::Store, 0, WHERE_THE_CAP_FAILS),
         (LedgerFault::Store, 1, AT_A_STORE_THAT_FAILS),
-        (LedgerFault::Store, 2, WITHOUT_THE_NEW_CAP),
+        (LedgerFault::Store, 2, WHERE_THE_NEW_CAP_FAILS),
     ] {
         let failing = FailsOnce {
             ledger: ledger(&rt, alloc, 3),
