@@ -1,5 +1,5 @@
 -- What questions to a ledger leave of it.
-use Rattle.std.proofs.Common.{◌≡◌, ℕ, ◌+◌, List, [], ◌∷◌, ◌++◌, append-nil, append_assoc, refl, sym, ap, subst, ◌∙◌, arith, Option, None, Some, Result, Ok, Err}
+use Rattle.std.proofs.Common.{◌≡◌, ℕ, ◌+◌, List, [], ◌∷◌, ◌++◌, append_assoc, sym, ap, subst, ◌∙◌, arith, Option, None, Some, Result, Ok, Err}
 use Rattle.std.specs.Prelude.{IfOk, IfSome}
 use Rattle.std.proofs.lemmas.List.Elements.{All-append, All-nil}
 use Rattle.mq_frame.specs.declared.message.Reply.{Reply}
@@ -7,13 +7,8 @@ use Rattle.mq_frame.specs.declared.message.Reply.TheVariants.{Usage as UsageRepl
 use Rattle.mq_ledger.specs.declared.ledger.LedgerFault.{LedgerFault}
 use Rattle.mq_ledger.specs.declared.ledger.LedgerFault.TheVariants.{Memory, Store}
 use Rattle.mq_ledger.specs.declared.ledger.Told.{Told}
-use Rattle.mq_ledger.specs.Legal.{Book}
 use Rattle.mq_ledger.specs.Told.{Tells}
-use Rattle.mq_watch.specs.Asked.{AsksOnly, CallsOnce, IsAsked, IsQuestion, usage_in}
-
-Tells-none : (t : Option (List Told)) → Tells t t []
-Tells-none None = tt
-Tells-none (Some xs) = sym (append-nil xs)
+use Rattle.mq_watch.specs.Asked.{AsksOnly, CallsOnce, IsQuestion, usage_in}
 
 Tells-trans : (a b c : Option (List Told)) (xs ys : List Told) → Tells a b xs → Tells b c ys → Tells a c (xs ++ ys)
 Tells-trans a b None xs ys h i = tt
@@ -21,18 +16,6 @@ Tells-trans None None (Some e) xs ys h i = absurd i
 Tells-trans None (Some d) (Some e) xs ys h i = absurd h
 Tells-trans (Some c) None (Some e) xs ys h i = absurd i
 Tells-trans (Some c) (Some d) (Some e) xs ys h i = i ∙ ap (λ l. l ++ ys) h ∙ append_assoc c xs ys
-
--- no question was asked
-pub asks_nothing : (t : Option (List Told)) → AsksOnly t t
-asks_nothing t = record { questions = []; tells = Tells-none t; all = All-nil IsQuestion }
-
--- questions were asked, and questions again
-pub asks_both : (a b c : Option (List Told)) → AsksOnly a b → AsksOnly b c → AsksOnly a c
-asks_both a b c h i = record {
-  questions = h.questions ++ i.questions;
-  tells = Tells-trans a b c h.questions i.questions h.tells i.tells;
-  all = All-append IsQuestion h.questions i.questions h.all i.all;
-}
 
 -- a call came
 pub calls_it : (a b : Option (List Told)) (call : Told) → Tells a b (call ∷ []) → CallsOnce call a b
@@ -56,31 +39,6 @@ calls_before a b c call h i = record {
   tells = let P : List Told → Type 0 = λ l. Tells a c l in subst P (append_assoc h.before (call ∷ h.after) i.questions) (Tells-trans a b c (h.before ++ call ∷ h.after) i.questions h.tells i.tells);
   all_before = h.all_before;
   all_after = All-append IsQuestion h.after i.questions h.all_after i.all;
-}
-
--- nothing was asked
-pub asked_nothing : {S : Type 0} (told : S → Option (List Told)) (book : S → Book) (has_kept is_sound has_store : S → Type 0) (s : S) → IsAsked told book has_kept is_sound has_store s s
-asked_nothing told book has_kept is_sound has_store s = record {
-  asked = asks_nothing (told s);
-  zone = refl;
-  default = refl;
-  kept = λ kept. kept;
-  store = λ store. store;
-  sound = λ kept sound. sound;
-  history = λ kept sound. refl;
-}
-
--- it was asked, and asked again
-pub asked_both : {S : Type 0} (told : S → Option (List Told)) (book : S → Book) (has_kept is_sound has_store : S → Type 0) (old mid new : S)
-    → IsAsked told book has_kept is_sound has_store old mid → IsAsked told book has_kept is_sound has_store mid new → IsAsked told book has_kept is_sound has_store old new
-asked_both told book has_kept is_sound has_store old mid new a b = record {
-  asked = asks_both (told old) (told mid) (told new) a.asked b.asked;
-  zone = b.zone ∙ a.zone;
-  default = b.default ∙ a.default;
-  kept = λ kept. a.kept (b.kept kept);
-  store = λ store. a.store (b.store store);
-  sound = λ kept sound. b.sound kept (a.sound (b.kept kept) sound);
-  history = λ kept sound. b.history kept (a.sound (b.kept kept) sound) ∙ a.history (b.kept kept) sound;
 }
 
 -- what a usage reply says is used, and the cap
