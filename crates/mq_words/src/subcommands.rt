@@ -1,15 +1,66 @@
 //! The subcommands and their options.
 
+use mq_frame::format::{AMOUNT_LIMIT, FIRST_MOMENT, LAST_DAY, LAST_MOMENT, LAST_RUN};
+
 /// The version that `--version` prints.
 pub const VERSION: &str = "0.1.0";
+
+/// The numbers from the least to the most.
+#[derive(Clone, Copy)]
+pub struct Range<N> {
+    pub least: N,
+    pub most: N,
+}
+
+/// Day numbers, from 1970-01-01 on.
+pub const DAYS: Range<u32> = Range {
+    least: 0,
+    most: LAST_DAY,
+};
+
+/// Day numbers with a later one: `stop` and `resume` set the limit from the next day on too.
+pub const EARLIER_DAYS: Range<u32> = Range {
+    least: 0,
+    most: LAST_DAY - 1,
+};
+
+/// Recipients of a login and day.
+pub const AMOUNTS: Range<u32> = Range {
+    least: 0,
+    most: AMOUNT_LIMIT,
+};
+
+/// Connections of a server.
+pub const CROWDS: Range<u32> = Range {
+    least: 1,
+    most: 1_000_000,
+};
+
+/// Minutes between the begin of a day and UTC's.
+pub const MINUTES: Range<u32> = Range {
+    least: 0,
+    most: 1439,
+};
+
+/// Runs of a host's filter.
+pub const RUNS: Range<u64> = Range {
+    least: 1,
+    most: LAST_RUN,
+};
+
+/// Seconds since 1970-01-01 UTC.
+pub const MOMENTS: Range<u64> = Range {
+    least: FIRST_MOMENT,
+    most: LAST_MOMENT,
+};
 
 /// What an option takes.
 #[derive(Clone, Copy)]
 pub enum Takes {
     Nothing,
     Text,
-    /// A number from the first to the second.
-    Number(i64, i64),
+    Number(Range<u32>),
+    LongNumber(Range<u64>),
 }
 
 /// Whether an option has to be given.
@@ -99,7 +150,7 @@ const CONNECTIONS: CommandOption = CommandOption {
     name: "connections",
     value: "N",
     help: "Connections to serve",
-    takes: Takes::Number(1, 1_000_000),
+    takes: Takes::Number(CROWDS),
     need: Need::Optional,
     default: Some("1000000"),
 };
@@ -108,7 +159,7 @@ const RUN: CommandOption = CommandOption {
     name: "run",
     value: "N",
     help: "Number of the run; the clock's milliseconds where it isn't given",
-    takes: Takes::Number(1, 281_474_976_710_655),
+    takes: Takes::LongNumber(RUNS),
     need: Need::Optional,
     default: None,
 };
@@ -125,7 +176,7 @@ const SERVER: CommandOption = CommandOption {
 const HOST: CommandOption = CommandOption {
     name: "host",
     value: "HOST",
-    help: "Host that asks",
+    help: "Name under which this command asks, such as admin",
     takes: Takes::Text,
     need: Need::Required,
     default: None,
@@ -144,7 +195,7 @@ const RETIRED_RUN: CommandOption = CommandOption {
     name: "run",
     value: "N",
     help: "Run below which they are given up, no filter's own; the clock's milliseconds where it isn't given",
-    takes: Takes::Number(1, 281_474_976_710_655),
+    takes: Takes::LongNumber(RUNS),
     need: Need::Optional,
     default: None,
 };
@@ -171,7 +222,7 @@ const FROM: CommandOption = CommandOption {
     name: "from",
     value: "DAY",
     help: "Day number from which on the limit governs",
-    takes: Takes::Number(0, 376_200),
+    takes: Takes::Number(DAYS),
     need: Need::Required,
     default: None,
 };
@@ -180,7 +231,7 @@ const CAP: CommandOption = CommandOption {
     name: "cap",
     value: "N",
     help: "Recipients a day",
-    takes: Takes::Number(0, 1_000_000),
+    takes: Takes::Number(AMOUNTS),
     need: Need::Required,
     default: None,
 };
@@ -189,7 +240,7 @@ const DAY: CommandOption = CommandOption {
     name: "day",
     value: "DAY",
     help: "Day number, counted from 1970-01-01",
-    takes: Takes::Number(0, 376_200),
+    takes: Takes::Number(DAYS),
     need: Need::Required,
     default: None,
 };
@@ -198,7 +249,7 @@ const STOP_DAY: CommandOption = CommandOption {
     name: "day",
     value: "DAY",
     help: "Day number of today",
-    takes: Takes::Number(0, 376_199),
+    takes: Takes::Number(EARLIER_DAYS),
     need: Need::Required,
     default: None,
 };
@@ -207,7 +258,7 @@ const MORE: CommandOption = CommandOption {
     name: "cap",
     value: "N",
     help: "Recipients that it may have more today, and on each later day",
-    takes: Takes::Number(0, 1_000_000),
+    takes: Takes::Number(AMOUNTS),
     need: Need::Required,
     default: None,
 };
@@ -216,7 +267,7 @@ const AT: CommandOption = CommandOption {
     name: "at",
     value: "SECONDS",
     help: "Second since 1970-01-01 UTC; now where it isn't given",
-    takes: Takes::Number(86_400, 32_503_680_000),
+    takes: Takes::LongNumber(MOMENTS),
     need: Need::Optional,
     default: None,
 };
@@ -234,7 +285,7 @@ const DEFAULT: CommandOption = CommandOption {
     name: "default",
     value: "N",
     help: "Limit of a login that has none of its own",
-    takes: Takes::Number(0, 1_000_000),
+    takes: Takes::Number(AMOUNTS),
     need: Need::Optional,
     default: Some("100"),
 };
@@ -252,7 +303,7 @@ const EAST: CommandOption = CommandOption {
     name: "east",
     value: "M",
     help: "Minutes that a day begins before UTC's",
-    takes: Takes::Number(0, 1439),
+    takes: Takes::Number(MINUTES),
     need: Need::Optional,
     default: Some("0"),
 };
@@ -261,7 +312,7 @@ const WEST: CommandOption = CommandOption {
     name: "west",
     value: "M",
     help: "Minutes that a day begins after UTC's",
-    takes: Takes::Number(0, 1439),
+    takes: Takes::Number(MINUTES),
     need: Need::Optional,
     default: Some("0"),
 };
@@ -279,7 +330,7 @@ const BEFORE: CommandOption = CommandOption {
     name: "before",
     value: "DAY",
     help: "First day number that is kept; earlier days are forgotten",
-    takes: Takes::Number(0, 376_200),
+    takes: Takes::Number(DAYS),
     need: Need::Required,
     default: None,
 };

@@ -1,9 +1,12 @@
 //! The words of the command line.
 ghost use Rattle.std.specs.Prelude.{◌≡◌, ◌≤◌, IfOk, IfSome};
-ghost use Rattle.mq_frame.specs.Range.{IsMoment, IsRun, IsWithin};
+ghost use Rattle.mq_frame.specs.Range.{IsAmount, IsMoment, IsRun, IsWithin};
 ghost use Rattle.mq_arguments.specs.Arguments.{IsArguments, IsLimitArguments, IsReplayArguments, IsResumeArguments};
 
-use crate::subcommands::{CommandOption, Need, SUBCOMMANDS, Subcommand, Takes, VERSION};
+use crate::subcommands::{
+    AMOUNTS, CROWDS, CommandOption, DAYS, EARLIER_DAYS, MINUTES, MOMENTS, Need, RUNS, Range,
+    SUBCOMMANDS, Subcommand, Takes, VERSION,
+};
 use clap::error::ErrorKind;
 use clap::{Arg, ArgAction, ArgGroup, ArgMatches, Command, Error, value_parser};
 use mq_arguments::{
@@ -75,7 +78,7 @@ fn arguments_of<'a>(name: &str, found: &ArgMatches<'a>) -> Arguments<'a>
         "server" => Arguments::Server(ServerArguments {
             config: text_of(found, "config"),
             create: found.get_flag("create"),
-            connections: number_of(found, "connections", 1, 1_000_000),
+            connections: number_of(found, "connections", CROWDS),
         }),
         "limit" => Arguments::Limit(limit_of(found)),
         "stop" => Arguments::Stop(stop_of(found)),
@@ -91,7 +94,7 @@ fn arguments_of<'a>(name: &str, found: &ArgMatches<'a>) -> Arguments<'a>
         }),
         "report" => Arguments::Report(ReportArguments {
             server: text_of(found, "server"),
-            day: number_of(found, "day", 0, 376_200),
+            day: number_of(found, "day", DAYS),
             login: one_login_of(found),
         }),
         "limits" => Arguments::Limits(LimitsArguments {
@@ -102,7 +105,7 @@ fn arguments_of<'a>(name: &str, found: &ArgMatches<'a>) -> Arguments<'a>
         }),
         "forget" => Arguments::Forget(ForgetArguments {
             config: text_of(found, "config"),
-            before: number_of(found, "before", 0, 376_200),
+            before: number_of(found, "before", DAYS),
             into: text_of(found, "into"),
         }),
         _ => Arguments::Replay(replay_of(found)),
@@ -147,9 +150,12 @@ fn argument_of<'a>(alloc: Global, option: &CommandOption) -> Result<Arg<'a>, All
     let argument = match option.takes {
         Takes::Nothing => return Ok(argument.action(ArgAction::SetTrue)),
         Takes::Text => argument,
-        Takes::Number(least, most) => {
-            argument.value_parser(value_parser!(u64).range(least..=most))
-        }
+        Takes::Number(range) => argument.value_parser(
+            value_parser!(u64).range(i64::from(range.least)..=i64::from(range.most)),
+        ),
+        Takes::LongNumber(range) => argument.value_parser(
+            value_parser!(u64).range(bound_of(range.least)..=bound_of(range.most)),
+        ),
     };
     let argument = argument.value_name(option.value);
     match option.default {
@@ -158,40 +164,57 @@ fn argument_of<'a>(alloc: Global, option: &CommandOption) -> Result<Arg<'a>, All
     }
 }
 
+/// A bound as clap takes it, which is a number with a sign.
+fn bound_of(number: u64) -> i64 {
+    i64::try_from(number).unwrap_or(i64::MAX)
+}
+
 /// The text of an option that has to be given.
 fn text_of<'a>(found: &ArgMatches<'a>, name: &str) -> &'a str {
     found.get_str(name).unwrap_or("")
 }
 
-/// The number of an option that has to be given or has a default, from `least` to `most`.
-fn number_of(found: &ArgMatches<'_>, name: &str, least: u32, most: u32) -> u32
-    requires { least ≤ most }
-    ensures { IsWithin least most result }
+/// The number of an option that has to be given or has a default. clap refused one out of its range.
+fn number_of(found: &ArgMatches<'_>, name: &str, range: Range<u32>) -> u32
+    requires { range.least ≤ range.most }
+    ensures { IsWithin range.least range.most result }
 {
     found
         .get_one::<u32>(name)
-        .unwrap_or(least)
-        .clamp(least, most)
+        .unwrap_or(range.least)
+        .clamp(range.least, range.most)
+}
+
+/// The number of an option, if it is given. clap refused one out of its range.
+fn number_if_given(found: &ArgMatches<'_>, name: &str, range: Range<u64>) -> Option<u64>
+    requires { range.least ≤ range.most }
+    ensures { IfSome result (IsWithin range.least range.most) }
+{
+    match found.get_one::<u64>(name) {
+        Some(number) => Some(number.clamp(range.least, range.most)),
+        None => None,
+    }
 }
 
 /// The number of the run, if it is given.
 fn run_of(found: &ArgMatches<'_>) -> Option<u64>
     ensures { IfSome result IsRun }
 {
-    match found.get_one::<u64>("run") {
-        Some(run) => Some(run.clamp(1, 281_474_976_710_655)),
-        None => None,
-    }
+    number_if_given(found, "run", RUNS)
 }
 
 /// The second whose day is asked for, if it is given.
 fn moment_of(found: &ArgMatches<'_>) -> Option<u64>
     ensures { IfSome result IsMoment }
 {
-    match found.get_one::<u64>("at") {
-        Some(moment) => Some(moment.clamp(86_400, 32_503_680_000)),
-        None => None,
-    }
+    number_if_given(found, "at", MOMENTS)
+}
+
+/// The limit, in recipients a day.
+fn cap_of(found: &ArgMatches<'_>) -> u32
+    ensures { IsAmount result }
+{
+    number_of(found, "cap", AMOUNTS)
 }
 
 /// The login, if it is given.
@@ -223,8 +246,8 @@ fn limit_of<'a>(found: &ArgMatches<'a>) -> LimitArguments<'a>
         server: text_of(found, "server"),
         host: text_of(found, "host"),
         login: login_of(found),
-        from: number_of(found, "from", 0, 376_200),
-        cap: number_of(found, "cap", 0, 1_000_000),
+        from: number_of(found, "from", DAYS),
+        cap: cap_of(found),
         run: run_of(found),
     }
 }
@@ -236,7 +259,7 @@ fn stop_of<'a>(found: &ArgMatches<'a>) -> StopArguments<'a>
         server: text_of(found, "server"),
         host: text_of(found, "host"),
         login: login_of(found),
-        day: number_of(found, "day", 0, 376_199),
+        day: number_of(found, "day", EARLIER_DAYS),
     }
 }
 
@@ -247,24 +270,18 @@ fn resume_of<'a>(found: &ArgMatches<'a>) -> ResumeArguments<'a>
         server: text_of(found, "server"),
         host: text_of(found, "host"),
         login: login_of(found),
-        day: number_of(found, "day", 0, 376_199),
-        cap: number_of(found, "cap", 0, 1_000_000),
+        day: number_of(found, "day", EARLIER_DAYS),
+        cap: cap_of(found),
     }
 }
 
 fn replay_of<'a>(found: &ArgMatches<'a>) -> ReplayArguments<'a>
     ensures { IsReplayArguments result }
 {
-    let default = found
-        .get_one::<u32>("default")
-        .unwrap_or(100)
-        .min(1_000_000);
-    let east = found.get_one::<u32>("east").unwrap_or(0).min(1439);
-    let west = found.get_one::<u32>("west").unwrap_or(0).min(1439);
     ReplayArguments {
-        default,
-        east,
-        west,
+        default: number_of(found, "default", AMOUNTS),
+        east: number_of(found, "east", MINUTES),
+        west: number_of(found, "west", MINUTES),
         rule: found.get_str("rule"),
         sql: found.get_flag("sql"),
     }

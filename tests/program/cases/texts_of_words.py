@@ -99,7 +99,7 @@ Usage: mailquota limit [OPTIONS] --server <ADDRESS> --host <HOST> --from <DAY> -
 
 Options:
       --server <ADDRESS>   Numeric address and port of the quota server
-      --host <HOST>        Host that asks
+      --host <HOST>        Name under which this command asks, such as admin
       --login <LOGIN>      Login, as smtpd reports it
       --login-text <TEXT>  Login, as a report prints it
       --from <DAY>         Day number from which on the limit governs
@@ -113,7 +113,7 @@ Usage: mailquota stop --server <ADDRESS> --host <HOST> --day <DAY> <--login <LOG
 
 Options:
       --server <ADDRESS>   Numeric address and port of the quota server
-      --host <HOST>        Host that asks
+      --host <HOST>        Name under which this command asks, such as admin
       --login <LOGIN>      Login, as smtpd reports it
       --login-text <TEXT>  Login, as a report prints it
       --day <DAY>          Day number of today
@@ -125,7 +125,7 @@ Usage: mailquota resume --server <ADDRESS> --host <HOST> --day <DAY> --cap <N> <
 
 Options:
       --server <ADDRESS>   Numeric address and port of the quota server
-      --host <HOST>        Host that asks
+      --host <HOST>        Name under which this command asks, such as admin
       --login <LOGIN>      Login, as smtpd reports it
       --login-text <TEXT>  Login, as a report prints it
       --day <DAY>          Day number of today
