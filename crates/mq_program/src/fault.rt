@@ -171,6 +171,10 @@ pub fn logged_of<R: Eprint>(rt: &R, file: &str, fault: ProgramFault) -> ProgramF
         ProgramFault::Settings(SettingsFault::Address(key, flaw)) => {
             error!(logged; "{file}: setting {key}: {flaw}");
         }
+        ProgramFault::Settings(SettingsFault::Bad(key)) => {
+            let wanted = key.wanted();
+            error!(logged; "{file}: {fault}, it has to be {wanted}");
+        }
         _ => error!(logged; "{file}: {fault}"),
     }
     fault

@@ -28,6 +28,7 @@ def run(world, checks):
     a_ledger_that_is_there(world, checks)
     logs_of_nothing(world, checks)
     addresses_of_settings(world, checks)
+    values_of_settings(world, checks)
     rows_of_no_ledger(world, checks)
     forgets_no_such_rows(world, checks)
     memory(world, checks)
@@ -118,12 +119,32 @@ def addresses_of_settings(world, checks):
     for subcommand, key, others in [("filter", "server", filters), ("server", "listen", servers)]:
         for value, lacks in [
             ("nowhere", NO_PORT), ("", NO_PORT), ("127.0.0.1", NO_PORT), ("[::1]", NO_PORT), ("127.0.0.1:65536", PORT_TOO_LARGE),
-            ("localhost:7025", NO_NUMERIC_ADDRESS), ("::1", NO_NUMERIC_ADDRESS), ("*:7025", NO_NUMERIC_ADDRESS), (7025, "bad value"),
+            ("localhost:7025", NO_NUMERIC_ADDRESS), ("::1", NO_NUMERIC_ADDRESS), ("*:7025", NO_NUMERIC_ADDRESS),
+            (7025, "bad value, it has to be a numeric address with a port, in quotes"),
         ]:
             file = world.new_file(toml({**others, key: value}))
             log = f"[ERROR mq_program::fault] {file}: setting {key}: {lacks}\n"
             came = world.run(subcommand, "--config", file)
             checks.equal(f"{subcommand} with {key} = {value!r}", came, (1, b"", f"{log}mailquota: setting {key}: bad value\n"))
+
+
+def values_of_settings(world, checks):
+    """What each key's value has to be, where it isn't."""
+    filters, servers = {"host": "mx1", "server": "127.0.0.1:7025"}, {"listen": "127.0.0.1:7025", "store": "memory", "default": 3, "offset": 0}
+    for subcommand, others, key, value, wanted in [
+        ("filter", filters, "host", "a_b", "1 to 64 letters, digits, '.' and '-', in quotes"),
+        ("filter", filters, "tries", 11, "a whole number from 1 to 10"),
+        ("filter", filters, "timeout", 0, "a whole number of milliseconds from 1 to 60000"),
+        ("filter", filters, "log", "debug", "off, error, warn or info, in quotes"),
+        ("server", servers, "store", "", "'memory' or the path of a file, in quotes"),
+        ("server", servers, "default", 1_000_001, "a whole number from 0 to 1000000"),
+        ("server", servers, "offset", 1440, "a whole number of minutes from -1439 to 1439"),
+        ("server", servers, "rule", "UTC0", "a zone rule of at most 64 bytes, in quotes, in place of an offset"),
+    ]:
+        file = world.new_file(toml({**others, key: value}))
+        log = f"[ERROR mq_program::fault] {file}: setting {key}: bad value, it has to be {wanted}\n"
+        came = world.run(subcommand, "--config", file)
+        checks.equal(f"{subcommand} with {key} = {value!r}", came, (1, b"", f"{log}mailquota: setting {key}: bad value\n"))
 
 
 def rows_of_no_ledger(world, checks):

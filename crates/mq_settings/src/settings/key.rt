@@ -37,6 +37,21 @@ impl Key {
             Key::Log => "log",
         }
     }
+
+    /// What a value of this key has to be, as the log says it.
+    pub fn wanted(self) -> &'static str {
+        match self {
+            Key::Host => "1 to 64 letters, digits, '.' and '-', in quotes",
+            Key::Server | Key::Listen => "a numeric address with a port, in quotes",
+            Key::Tries => "a whole number from 1 to 10",
+            Key::Store => "'memory' or the path of a file, in quotes",
+            Key::Default => "a whole number from 0 to 1000000",
+            Key::Offset => "a whole number of minutes from -1439 to 1439",
+            Key::Rule => "a zone rule of at most 64 bytes, in quotes, in place of an offset",
+            Key::Timeout => "a whole number of milliseconds from 1 to 60000",
+            Key::Log => "off, error, warn or info, in quotes",
+        }
+    }
 }
 
 impl fmt::Display for Key {
