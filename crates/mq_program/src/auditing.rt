@@ -1,6 +1,6 @@
 //! `audit`: checks the books of the ledger in the server's file.
-ghost use Rattle.std.specs.Prelude.{◌≡◌, IfOk, IfErr, OnOk, string_bytes};
-ghost use Rattle.std.specs.Io.KnownBytes.{Appends};
+ghost use Rattle.std.specs.Prelude.{◌≡◌, ◌≢◌, IfOk, IfErr, OnOk, string_bytes};
+ghost use Rattle.std.specs.Io.KnownBytes.{Appends, Keeps};
 ghost use Rattle.sqlite.specs.Files.{file_state};
 ghost use Rattle.sqlite.specs.WalFiles.{image_at};
 ghost use Rattle.mq_command.specs.Output.{AppendsFront};
@@ -32,6 +32,8 @@ pub fn audit<W: Write, S: Start>(
 ) -> Result<u8, ProgramFault>
     ensures status { IfOk result (λ status. status ≡ 0) }
     ensures printed { IfOk result (λ _. PrintsSound (W.contents output.old) (W.contents output.new)) }
+    // Of books that are wrong, and of a ledger that can't be opened, nothing is printed.
+    ensures silent { IfErr result (λ fault. fault ≢ ProgramFault.Write → Keeps (W.contents output.old) (W.contents output.new)) }
 {
     let settings = server_settings(rt, given.config)?;
     let _ledger = audit_file(rt, &settings, start, output)?;
@@ -54,6 +56,7 @@ fn audit_file<W: Write, S: Start>(
     ensures audited { IfOk result (λ ledger. HasKept (file_state ledger.connection)
         → PrintsAudit settings.now.zone settings.now.default (image_at S.Start) (W.contents output.old)
         (W.contents output.new)) }
+    ensures silent { IfErr result (λ fault. fault ≢ ProgramFault.Write → Keeps (W.contents output.old) (W.contents output.new)) }
 {
     let logged = Logged::new(rt, settings.log, Console(rt));
     let ledger = ledger_of_settings(rt, &logged, settings, false, start)?;

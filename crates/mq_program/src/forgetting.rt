@@ -104,8 +104,10 @@ pub fn carry_over<S: Alter + Drop, T: Alter, P: Progress>(
     let all = old.count_answers()?;
     progress.begin(all);
     let mut new = SqlLedger::carry_over(alloc, old, into, day)?;
-    let kept = count_kept(&mut new, all)?;
-    Ok((new, kept))
+    match count_kept(&mut new, all) {
+        Ok(kept) => Ok((new, kept)),
+        Err(fault) => Err(with_cause(&new, fault)),
+    }
 }
 
 /// Refuses a day after the one that the clock shows.
@@ -239,10 +241,14 @@ fn forget_into<G: Log, T: Alter + Drop, W: Write>(
         (W.contents output.old) (W.contents output.new)) }
 {
     match fill_file(rt, log, old, name, day) {
-        Ok(Forgotten { old, kept }) => {
-            print_kept(log, name, rt.alloc(), kept, output)?;
-            Ok(old)
-        }
+        Ok(Forgotten { old, kept }) => match print_kept(rt.alloc(), kept, output) {
+            Ok(()) => Ok(old),
+            Err(fault) => {
+                // (nobody else knows of the new file)
+                log_left(log, name);
+                Err(fault)
+            }
+        },
         Err(fault) => {
             if let ProgramFault::Open(OpenFault::Store(cause)) = &fault {
                 error!(log; "{name}, made of {path}: {cause}");
@@ -259,30 +265,12 @@ fn log_left<G: Log>(log: &G, name: &str) {
 }
 
 /// Prints how many answers and limits are kept.
-fn write_kept<W: Write>(alloc: Global, kept: Kept, output: &mut W) -> Result<(), ProgramFault>
+fn print_kept<W: Write>(alloc: Global, kept: Kept, output: &mut W) -> Result<(), ProgramFault>
     ensures { OnOk result (Appends (W.contents output.old) (W.contents output.new)
         (kept_line kept.answers kept.all kept.limits)) }
 {
     let line = kept_line(alloc, kept.answers, kept.all, kept.limits)?;
     print(output, line.as_bytes())
-}
-
-/// Prints how many answers and limits are kept. Where that fails nobody knows of the new file, so the log names it.
-fn print_kept<G: Log, W: Write>(
-    log: &G,
-    name: &str,
-    alloc: Global,
-    kept: Kept,
-    output: &mut W,
-) -> Result<(), ProgramFault>
-    ensures { OnOk result (Appends (W.contents output.old) (W.contents output.new)
-        (kept_line kept.answers kept.all kept.limits)) }
-{
-    let printed = write_kept(alloc, kept, output);
-    if printed.is_err() {
-        log_left(log, name);
-    }
-    printed
 }
 
 /// Puts what the ledger of the settings remembers into the new file of the words, and prints how much that is. The ledger

@@ -5,15 +5,15 @@ use Rattle.mq_program.specs.Forgetting.{CountsLimits}
 use Rattle.mq_program.proofs.Forgot.{sound_by, remembered_at_end, counted_at_end}
 use Rattle.mq_program.proofs.forgetting.carry_over.Goals as goal
 
-pub returns-clause-remembered : goal.returns-clause-remembered
-returns-clause-remembered g c = λ kept kept_new sound free.
+pub returns-in-Ok-clause-remembered : goal.returns-in-Ok-clause-remembered
+returns-in-Ok-clause-remembered g c = λ kept kept_new sound free.
     let before = c.args.old.now in
     let mid = c.count_answers.new.self in
     let new = c.in_ok-new.new in
     let end = c.count_kept.new.new in
     let one = c.in_ok-all.ensures in
     let made = c.in_ok-new.ensures in
-    let last = c.in_ok-kept.ensures in
+    let last = c.in-Ok.ensures in
     let kept_mid = made.old_kept kept in
     let kept_made = last.kept kept_new in
     let rem = made.remembered kept.clean kept_made.clean (one.sound kept_mid sound) free in
@@ -22,23 +22,23 @@ returns-clause-remembered g c = λ kept kept_new sound free.
     (last.sound kept_new (sound_by before.zone mid.zone new.zone end.zone before.default mid.default new.default end.default (state g.T.Store before.connection).now (state g.T.Store mid.connection).now (state g.S.Store new.connection) (state g.S.Store end.connection)
     one.lent.0 one.lent.1 (one.same kept_mid) made.lent.0 made.lent.1 (last.same kept_new) rem.sound))
 
-pub returns-clause-counted : goal.returns-clause-counted
-returns-clause-counted g c = λ kept kept_new sound free.
+pub returns-in-Ok-clause-counted : goal.returns-in-Ok-clause-counted
+returns-in-Ok-clause-counted g c = λ kept kept_new sound free.
     let before = c.args.old.now in
     let mid = c.count_answers.new.self in
     let new = c.in_ok-new.new in
     let end = c.count_kept.new.new in
     let one = c.in_ok-all.ensures in
     let made = c.in_ok-new.ensures in
-    let last = c.in_ok-kept.ensures in
+    let last = c.in-Ok.ensures in
     let kept_mid = made.old_kept kept in
     let kept_made = last.kept kept_new in
     let rem = made.remembered kept.clean kept_made.clean (one.sound kept_mid sound) free in
     record {
       answers = counted_at_end before.zone mid.zone new.zone end.zone before.default mid.default new.default end.default (state g.T.Store before.connection).now (state g.T.Store mid.connection).now (state g.S.Store new.connection) (state g.S.Store end.connection)
-          one.lent.0 one.lent.1 (one.same kept_mid) made.lent.0 made.lent.1 (last.same kept_new) c.in_ok-kept.kept.answers
+          one.lent.0 one.lent.1 (one.same kept_mid) made.lent.0 made.lent.1 (last.same kept_new) c.in-Ok.kept.answers
           (last.answers kept_new (sound_by before.zone mid.zone new.zone end.zone before.default mid.default new.default end.default (state g.T.Store before.connection).now (state g.T.Store mid.connection).now (state g.S.Store new.connection) (state g.S.Store end.connection)
           one.lent.0 one.lent.1 (one.same kept_mid) made.lent.0 made.lent.1 (last.same kept_new) rem.sound));
       all = last.all ∙ one.counted kept_mid sound;
-      limits = subst (λ (db : Database). CountsLimits db c.in_ok-kept.kept.limits) (sym (last.same kept_new)) (last.limits kept_new);
+      limits = subst (λ (db : Database). CountsLimits db c.in-Ok.kept.limits) (sym (last.same kept_new)) (last.limits kept_new);
     }
