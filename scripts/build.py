@@ -9,7 +9,7 @@ Where nothing has changed since the last build, it does nothing. RT in the envir
 
 rt keeps the folders of a crate and of all crates below it to itself, so that two crates over one library can't be proved at once in one tree. So
 there are several trees: the repository, in which the longest chain of crates is proved, with all processors, and copies of its sources, in each of which
-another crate is proved at the same time, with one job and less priority. rt takes a library that was built from the same text in another tree of this
+another crate is proved at the same time, with one job, by what processors are left over. rt takes a library that was built from the same text in another tree of this
 machine. Where it can't keep what it built, as for a user who doesn't own the kit, there is one tree.
 """
 import hashlib
@@ -151,15 +151,16 @@ class Build:
 
     def prove(self, name, tree):
         """Proves and compiles a crate in a tree; gives the status."""
-        jobs, nice = (self.processors, []) if tree == TOP else (1, ["nice", "-n", "5"])
+        jobs, nice = (self.processors, []) if tree == TOP else (1, ["nice", "-n", "19"])
         words = ["run", "--jobs", str(jobs), "--", "--help"] if name == PROGRAM else ["lib", "--jobs", str(jobs)]
         os.makedirs(f"{TOP}/crates/{name}/out", exist_ok=True)
         with open(f"{TOP}/crates/{name}/out/build.log", "wb") as log:
             with self.changed:
                 if self.has_failed:
                     return 1
-                # (in a process group of its own, so that it can be ended with all that it started)
-                process = subprocess.Popen([*nice, RT, *words], cwd=f"{tree}/crates/{name}", stdin=subprocess.DEVNULL, stdout=log, stderr=log, start_new_session=True)
+                # (in a process group of its own, so that it can be ended with all that it started; in a session of its own Linux would give it as much as
+                # the chain of crates has, however nice it is)
+                process = subprocess.Popen([*nice, RT, *words], cwd=f"{tree}/crates/{name}", stdin=subprocess.DEVNULL, stdout=log, stderr=log, preexec_fn=os.setpgrp)
                 self.running[name] = process
             return process.wait()
 
