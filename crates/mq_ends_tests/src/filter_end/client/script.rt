@@ -1,25 +1,33 @@
-//! A link that ends each exchange as it was told to, and keeps the frames.
-ghost use Rattle.std.specs.Prelude.{◌≡◌, [], OnErr};
+//! A link that ends each exchange as it was told to, and reports its exchanges.
+ghost use Rattle.std.specs.Prelude.{◌≡◌, ◌∷◌, ◌++◌, [], true, false, OnErr};
+ghost use Rattle.mq_link.specs.Link.{outcome_of};
 
-use mq_link::{Bytes, Link, LinkFault, Outcome, Told};
+use mq_frame::Bytes;
+use mq_link::{Link, LinkFault, Outcome, Told};
 use std::alloc::Global;
 use std::collections::VecDeque;
 
-/// Ends each exchange by the next given outcome, is down after the last, and keeps the exchanges that memory is left for.
-/// A body that finds no memory ends its exchange by `Memory`.
+/// Ends each exchange by the next given outcome, and is down after the last. A body that finds no memory ends its exchange
+/// by `Memory`. It keeps the exchanges and reports them, as long as memory was left for each: so what contracts say
+/// of a link's exchanges is said of a link that there is.
 #[derive(Drop)]
 pub struct ScriptLink {
     alloc: Global,
     script: VecDeque<Outcome>,
     kept: Vec<Told>,
+    tells: bool,
 }
 
 impl ScriptLink {
-    pub fn new(alloc: Global, script: VecDeque<Outcome>) -> ScriptLink {
+    pub fn new(alloc: Global, script: VecDeque<Outcome>) -> ScriptLink
+        ensures kept { result.kept.items ≡ [] }
+        ensures tells { result.tells ≡ true }
+    {
         ScriptLink {
             alloc,
             script,
             kept: Vec::new(alloc),
+            tells: true,
         }
     }
 
@@ -27,18 +35,26 @@ impl ScriptLink {
     pub fn kept(&self) -> &[Told] {
         self.kept.as_slice()
     }
+}
 
-    /// Keeps an exchange, where memory is left for it.
-    fn keep(&mut self, frame: &[u8], outcome: Outcome) {
-        if let Ok(frame) = Bytes::from_slice(self.alloc, frame) {
-            let _ = self.kept.push(Told { frame, outcome });
-        }
-    }
+/// Keeps an exchange, and answers whether memory was left for it.
+fn keep(alloc: Global, kept: &mut Vec<Told>, frame: &[u8], outcome: Outcome) -> bool
+    ensures kept { result ≡ true → kept.new.items ≡ kept.old.items ++ record {
+      frame = frame.now;
+      outcome = outcome;
+    } ∷ [] }
+    ensures lost { result ≡ false → kept.new.items ≡ kept.old.items }
+{
+    let Ok(frame) = Bytes::from_slice(alloc, frame) else {
+        return false;
+    };
+    kept.push(Told { frame, outcome }).is_ok()
 }
 
 /// The next outcome, with its body in `reply`.
 fn play(script: &mut VecDeque<Outcome>, reply: &mut Vec<u8>) -> (Outcome, Result<(), LinkFault>)
-    ensures { OnErr result.1 (reply.new.items ≡ []) }
+    ensures outcome { result.0 ≡ outcome_of result.1 reply.new.items }
+    ensures empty { OnErr result.1 (reply.new.items ≡ []) }
 {
     reply.clear();
     match script.pop_front() {
@@ -52,9 +68,15 @@ fn play(script: &mut VecDeque<Outcome>, reply: &mut Vec<u8>) -> (Outcome, Result
 }
 
 impl Link for ScriptLink {
+    ghost use Rattle.std.specs.Prelude.{if◌then◌else◌, None, Some};
+
+    ghost told = { λ link. if link.tells then Some link.kept.items else None };
+
     fn exchange(&mut self, frame: &[u8], reply: &mut Vec<u8>) -> Result<(), LinkFault> {
         let (outcome, answer) = play(&mut self.script, reply);
-        self.keep(frame, outcome);
+        if !keep(self.alloc, &mut self.kept, frame, outcome) {
+            self.tells = false;
+        }
         answer
     }
 }
