@@ -15,7 +15,7 @@ ghost use Rattle.mq_client.specs.Run.{around};
 ghost use Rattle.mq_client.specs.Loop.{MakesOne, told_one, Does, Replies, IsCut};
 
 use crate::client::Client;
-use crate::fault::{FilterFault, Memory};
+use crate::fault::FilterFault;
 use crate::held::Asked;
 use crate::refusal::Cause;
 use log::Log;
@@ -23,7 +23,7 @@ use mq_frame::{Failed, Sink, is_login, is_moment, write_and_flush};
 use mq_line::{Decision, write_result};
 use mq_link::Link;
 use mq_track::{Standing, Tracker};
-use std::alloc::Global;
+use std::alloc::{AllocError, Global};
 
 /// A request of smtpd.
 #[derive(Clone, Copy)]
@@ -68,16 +68,15 @@ fn decision_of(answer: Asked) -> Decision
     }
 }
 
-/// Asks for a recipient of the transaction that is open in a session.
+/// Asks for a recipient of the transaction that is open in the client's session.
 fn ask<R: Log, K: Link>(
     rt: &R,
-    session: &[u8],
     login: &[u8],
     txn: u32,
     moment: u64,
     link: &mut K,
     client: &mut Client,
-) -> Result<Decision, Memory>
+) -> Result<Decision, AllocError>
     requires { 0 < txn }
     ensures ok { IfOk result (λ d. (step : Option Step) × Tells (K.told link.old) (K.told link.new) (told_one step)
         × MakesOne client.old client.new step × Answers (query_at (Sending login.now txn moment)) step d) }
@@ -85,11 +84,9 @@ fn ask<R: Log, K: Link>(
     ensures link { OnErr result (link.new ≡ link.old) }
 {
     if !may_ask(login, moment) {
-        client.warn_refused(rt, session, login, cause_of(login));
+        client.warn_refused(rt, login, cause_of(login));
         return Ok(Decision::RejectService);
     }
-    client.warn_before(rt, session, txn, moment, login);
-    client.set_session(session);
     match client.reserve(rt, link, txn, moment, login) {
         Ok(answer) => Ok(decision_of(answer)),
         Err(refused) => Err(refused),
@@ -103,7 +100,7 @@ fn decide<R: Log, K: Link>(
     inquiry: Inquiry<'_>,
     link: &mut K,
     client: &mut Client,
-) -> Result<Decision, Memory>
+) -> Result<Decision, AllocError>
     ensures ok { IfOk result (λ d. (step : Option Step) × Tells (K.told link.old) (K.told link.new) (told_one step)
         × MakesOne client.old client.new step
         × ((L : List Meaning) → TracksAt tracker.now L →
@@ -114,33 +111,26 @@ fn decide<R: Log, K: Link>(
     if !is_recipient(inquiry.subsystem, inquiry.phase) {
         return Ok(Decision::Proceed);
     }
+    client.set_session(inquiry.session);
     match tracker.standing(inquiry.session) {
         Standing::Anonymous => Ok(Decision::Proceed),
         Standing::Login { login, .. } => {
-            client.warn_refused(rt, inquiry.session, login, Cause::NoTransaction);
+            client.warn_refused(rt, login, Cause::NoTransaction);
             Ok(Decision::RejectService)
         }
-        Standing::Open { login, txn, moment } => ask(
-            rt,
-            inquiry.session,
-            login,
-            txn,
-            moment,
-            link,
-            client,
-        ),
+        Standing::Open { login, txn, moment } => ask(rt, login, txn, moment, link, client),
     }
 }
 
 /// The text of a result.
-fn text_of(alloc: Global, inquiry: Inquiry<'_>, decision: Decision) -> Result<Vec<u8>, Memory>
+fn text_of(alloc: Global, inquiry: Inquiry<'_>, decision: Decision) -> Result<Vec<u8>, AllocError>
     ensures { IfOk result (λ text. text.items
         ≡ result_text inquiry.entry.session.now inquiry.entry.token.now decision) }
 {
     let mut text = Vec::new(alloc);
     match write_result(inquiry.session, inquiry.token, decision, &mut text) {
         Ok(()) => Ok(text),
-        Err(_) => Err(Memory),
+        Err(_) => Err(AllocError),
     }
 }
 
@@ -173,7 +163,7 @@ pub fn answer<R: Log, W: Sink, K: Link>(
 {
     let decision = match decide(rt, tracker, inquiry, link, client) {
         Ok(decision) => decision,
-        Err(Memory) => return Err(FilterFault::Memory),
+        Err(AllocError) => return Err(FilterFault::Memory),
     };
     let Ok(text) = text_of(alloc, inquiry, decision) else {
         return Err(FilterFault::Memory);

@@ -10,7 +10,6 @@ ghost use Rattle.mq_client.specs.Held.{IsHeld};
 ghost use Rattle.mq_client.specs.Framed.{IsFramed};
 ghost use Rattle.mq_frame.specs.declared.message.Reply.{Reply};
 
-use crate::fault::Memory;
 use crate::held::{Asked, Held, answer_to, closing_request, reserve_request};
 use crate::reached::Reached;
 use crate::refusal::{Cause, RefusedRecipient, Warned};
@@ -21,7 +20,7 @@ use log::{Log, warn};
 use mq_frame::Host;
 use mq_link::Link;
 use mq_track::Closing;
-use std::alloc::Global;
+use std::alloc::{AllocError, Global};
 use std::collections::VecDeque;
 use std::marker::Model;
 
@@ -65,7 +64,7 @@ fn framed_reserve(
     txn: u32,
     moment: u64,
     login: &[u8],
-) -> Result<Framed, Memory>
+) -> Result<Framed, AllocError>
     requires host { IsHost host.now }
     requires run { IsRun run }
     requires number { 1 ≤ number }
@@ -88,7 +87,7 @@ fn framed_closing(
     number: u32,
     closing: Closing,
     known: &Held,
-) -> Result<Framed, Memory>
+) -> Result<Framed, AllocError>
     requires host { IsHost host.now }
     requires run { IsRun run }
     requires number { 1 ≤ number }
@@ -123,7 +122,7 @@ fn ask<R: Log, L: Link>(
 impl Client {
     /// A client of that host and run, with no transaction and no number used, that sends each
     /// request at most `tries` times.
-    pub fn new(alloc: Global, host: &Host, run: u64, tries: u32) -> Result<Client, Memory>
+    pub fn new(alloc: Global, host: &Host, run: u64, tries: u32) -> Result<Client, AllocError>
         requires host { IsHost host.now }
         requires run { IsRun run }
         requires tries { IsWithin 1 10 tries }
@@ -159,7 +158,7 @@ impl Client {
         self.outbox.len()
     }
 
-    /// The next requests are of this session, as the log names it.
+    /// The next requests are of this session, which the log names.
     pub fn set_session(&mut self, session: &[u8])
         ensures { self.new ≡ self.old }
     {
@@ -169,10 +168,10 @@ impl Client {
     /// Asks whether a recipient of a transaction may go through. `txn` is 1 to 4,294,967,295, `moment` is
     /// 86,400 to 32,503,680,000 and `login` has 1 to 255 bytes.
     ///
-    /// It is `Unavailable` with no exchange where the transaction is held with another login or
+    /// It is `Unavailable` with no exchange, and a warning of the cause, where the transaction is held with another login or
     /// moment, or has let 1,000 recipients through; where it isn't held and held transactions and
     /// waiting closings are 4,096; and where a number would be lacking for it or for a later closing.
-    /// On `Memory` nothing has changed and no exchange was made.
+    /// After an `Err` nothing has changed and no exchange was made.
     pub fn reserve<R: Log, L: Link>(
         &mut self,
         rt: &R,
@@ -180,7 +179,7 @@ impl Client {
         txn: u32,
         moment: u64,
         login: &[u8],
-    ) -> Result<Asked, Memory>
+    ) -> Result<Asked, AllocError>
         requires txn { IsOrdinal txn }
         requires moment { IsMoment moment }
         requires login { IsLogin login.now }
@@ -197,11 +196,8 @@ impl Client {
         ensures link { OnErr result (link.new ≡ link.old) }
     {
         let closings = self.outbox.len();
-        if self
-            .held
-            .refusal(self.numbers, closings, txn, moment, login)
-            .is_some()
-        {
+        if let Some(cause) = self.held.refusal(self.numbers, closings, txn, moment, login) {
+            self.warn_refused(rt, login, cause);
             return Ok(Asked::Unavailable);
         }
         let number = self.numbers + 1;
@@ -219,27 +215,11 @@ impl Client {
         Ok(answer)
     }
 
-    /// Warns where `reserve` would refuse a recipient with no exchange, once for each cause in a session.
-    pub fn warn_before<R: Log>(
-        &mut self,
-        rt: &R,
-        session: &[u8],
-        txn: u32,
-        moment: u64,
-        login: &[u8],
-    )
+    /// Warns that recipients of the session are refused without asking the server, once for each cause.
+    pub fn warn_refused<R: Log>(&mut self, rt: &R, login: &[u8], cause: Cause)
         ensures { self.new ≡ self.old }
     {
-        let waiting = self.outbox.len();
-        if let Some(cause) = self.held.refusal(self.numbers, waiting, txn, moment, login) {
-            self.warn_refused(rt, session, login, cause);
-        }
-    }
-
-    /// Warns that recipients of a session are refused, once for each cause.
-    pub fn warn_refused<R: Log>(&mut self, rt: &R, session: &[u8], login: &[u8], cause: Cause)
-        ensures { self.new ≡ self.old }
-    {
+        let session = self.session;
         if self.warned.is_first(session, cause) {
             let refused = RefusedRecipient {
                 session,
@@ -250,14 +230,14 @@ impl Client {
         }
     }
 
-    /// Closes a transaction and sends what waits; one that isn't held changes and sends nothing. On
-    /// `Memory` nothing has changed and no exchange was made.
+    /// Closes a transaction and sends what waits; one that isn't held changes and sends nothing. After an
+    /// `Err` nothing has changed and no exchange was made.
     pub fn close<R: Log, L: Link>(
         &mut self,
         rt: &R,
         link: &mut L,
         closing: Closing,
-    ) -> Result<(), Memory>
+    ) -> Result<(), AllocError>
         ensures ok { OnOk result ((group : List Exchange) × Tells (L.told link.old) (L.told link.new) (told_all group)
             × Makes self.old self.new (record { action = Close closing.txn closing.end; group = group })) }
         // Memory is asked for only where there is something to close.

@@ -1,31 +1,7 @@
 //! What can go wrong.
 use mq_line::LineFault;
 use mq_track::TrackFault;
-use std::alloc::{AllocError, AllocFailed};
 use thiserror::Error;
-
-/// Memory for a growth was refused.
-#[derive(Clone, Copy, Debug, PartialEq, Eq, Error)]
-#[error("out of memory")]
-pub struct Memory;
-
-impl From<AllocError> for Memory {
-    fn from(_refused: AllocError) -> Memory {
-        Memory
-    }
-}
-
-impl<T: Drop> From<AllocFailed<T>> for Memory {
-    fn from(_refused: AllocFailed<T>) -> Memory {
-        Memory
-    }
-}
-
-impl From<mq_frame::Memory> for Memory {
-    fn from(_refused: mq_frame::Memory) -> Memory {
-        Memory
-    }
-}
 
 /// Why the filter stopped.
 #[derive(Clone, Copy, Debug, PartialEq, Eq, Error)]

@@ -20,13 +20,13 @@ ghost use Rattle.mq_client.specs.Loop.{CarriesHeld, HaltsHeld, SinkWorks, SoFar}
 
 use crate::answer::{Inquiry, answer};
 use crate::client::Client;
-use crate::fault::{FilterFault, Memory};
+use crate::fault::FilterFault;
 use log::{Log, warn};
 use mq_frame::{Failed, Sink, Source, write_and_flush};
 use mq_line::{Line, LineFeed, read_line, write_registration};
 use mq_link::Link;
 use mq_track::{Closing, TrackFault, Tracker};
-use std::alloc::Global;
+use std::alloc::{AllocError, Global};
 
 /// The most bytes of one read.
 const PIECE: usize = 4096;
@@ -53,13 +53,13 @@ struct Filter {
 }
 
 /// The text of the registration.
-fn registration(alloc: Global) -> Result<Vec<u8>, Memory>
+fn registration(alloc: Global) -> Result<Vec<u8>, AllocError>
     ensures { IfOk result (λ text. text.items ≡ registration_lem) }
 {
     let mut text = Vec::new(alloc);
     match write_registration(&mut text) {
         Ok(()) => Ok(text),
-        Err(_) => Err(Memory),
+        Err(_) => Err(AllocError),
     }
 }
 

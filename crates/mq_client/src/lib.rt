@@ -28,7 +28,7 @@ mod verdict;
 mod warnings;
 
 pub use client::Client;
-pub use fault::{FilterFault, Memory};
+pub use fault::FilterFault;
 pub use filter::{Ended, run_filter};
 pub use held::{Asked, Held};
 pub use laws::{

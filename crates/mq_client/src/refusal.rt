@@ -7,6 +7,9 @@ use std::alloc::Global;
 use std::collections::VecDeque;
 use std::fmt;
 
+/// The most bytes of a login that a warning shows.
+const LONGEST: usize = 255;
+
 /// The most warnings that are remembered.
 const REMEMBERED: usize = 64;
 
@@ -46,15 +49,15 @@ impl fmt::Display for Cause {
 /// A recipient of a session that is refused.
 #[derive(Clone, Copy)]
 pub struct RefusedRecipient<'a> {
-    pub session: &'a [u8],
+    pub session: Session,
     pub login: &'a [u8],
     pub cause: Cause,
 }
 
 impl fmt::Display for RefusedRecipient<'_> {
     fn fmt<W: fmt::Write>(&self, f: &mut fmt::Formatter<W>) -> fmt::Result {
-        let session = Escaped(front(self.session, 64));
-        let login = Escaped(front(self.login, 255));
+        let session = Escaped(self.session.name());
+        let login = Escaped(shortened(self.login));
         let cause = self.cause;
         write!(
             f,
@@ -63,13 +66,9 @@ impl fmt::Display for RefusedRecipient<'_> {
     }
 }
 
-/// At most so many bytes of a text.
-fn front(text: &[u8], most: usize) -> &[u8] {
-    if text.len() <= most {
-        text
-    } else {
-        &text[..most]
-    }
+/// The bytes of a login, or the first 255 of a longer one.
+fn shortened(login: &[u8]) -> &[u8] {
+    login.get(..LONGEST).unwrap_or(login)
 }
 
 /// A warning that was given.
@@ -95,11 +94,8 @@ impl Warned {
     }
 
     /// Whether this is the first warning of the session for this cause; it is remembered, unless memory is wanted.
-    pub fn is_first(&mut self, session: &[u8], cause: Cause) -> bool {
-        let warning = Given {
-            session: Session::of(session),
-            cause,
-        };
+    pub fn is_first(&mut self, session: Session, cause: Cause) -> bool {
+        let warning = Given { session, cause };
         if self.given.contains(&warning) {
             return false;
         }

@@ -24,7 +24,7 @@ impl Session {
     }
 
     /// The bytes before the first 0.
-    fn name(&self) -> &[u8] {
+    pub fn name(&self) -> &[u8] {
         let name = self.0.as_slice();
         match name.iter().position(|byte| *byte == 0) {
             Some(end) => name.get(..end).unwrap_or(name),

@@ -9,14 +9,13 @@ ghost use Rattle.mq_frame.specs.declared.message.Reply.{Reply};
 ghost use Rattle.mq_client.specs.declared.tries.Framed.{Framed as AnyFramed};
 ghost use Rattle.mq_client.specs.Framed.{IsFramed, requests_of};
 
-use crate::fault::Memory;
 use crate::session::Session;
 use crate::verdict::{Verdict, is_other_reply, verdict_in};
 use crate::warnings::{Refused, Unanswered, is_refusal};
 use log::{Level, Log, log};
 use mq_frame::{Request, encode_request};
 use mq_link::Link;
-use std::alloc::Global;
+use std::alloc::{AllocError, Global};
 use std::collections::VecDeque;
 use std::fmt::Display;
 
@@ -29,17 +28,17 @@ pub struct Framed {
 }
 
 /// The frame of a request.
-fn frame_of(alloc: Global, request: &Request) -> Result<Vec<u8>, Memory>
+fn frame_of(alloc: Global, request: &Request) -> Result<Vec<u8>, AllocError>
     requires { IsRequest request.now }
     ensures { IfOk result (λ frame. frame.items ≡ request_frame request.now) }
 {
     let mut frame = Vec::new(alloc);
-    encode_request(alloc, request, &mut frame)?;
+    encode_request(request, &mut frame)?;
     Ok(frame)
 }
 
 impl Framed {
-    pub fn new(alloc: Global, request: Request) -> Result<Framed, Memory>
+    pub fn new(alloc: Global, request: Request) -> Result<Framed, AllocError>
         requires { IsRequest request }
         ensures request { IfOk result (λ framed. framed.request ≡ request) }
         ensures frame { IfOk result IsFramed }

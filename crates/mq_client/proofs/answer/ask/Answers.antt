@@ -6,6 +6,5 @@ use Rattle.mq_client.proofs.answer.ask.Goals as goal
 pub returns-in-Ok-clause-ok : goal.returns-in-Ok-clause-ok
 returns-in-Ok-clause-ok g c =
     let (group, told, answer, made) = c.in-Ok.ensures.ok in
-    let F : State → Type 0 = λ s. Makes s c.reserve.new.self (record { action = Ask c.args.txn c.args.moment c.args.login.now; group = group }) in
     let may : (is_login c.args.login.now && is_moment c.args.moment) ≡ true = search rules in
-    (Some (record { action = Ask c.args.txn c.args.moment c.args.login.now; group = group }), told, subst F (c.set_session.ensures ∙ c.warn_before.ensures) made, rw may (group, refl, c.decision_of.ensures ∙ ap decision_of answer))
+    (Some (record { action = Ask c.args.txn c.args.moment c.args.login.now; group = group }), told, made, rw may (group, refl, c.decision_of.ensures ∙ ap decision_of answer))

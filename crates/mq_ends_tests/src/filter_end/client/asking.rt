@@ -15,10 +15,10 @@ enum Step<'a> {
     /// Asks for a recipient of each transaction from 1 to this one, which is granted.
     Begin(u32),
     Close(u32, CloseEnd),
-    /// Asks for a warning where a recipient of the login u would be refused in a session.
-    Warn(&'a [u8], u32),
-    /// Does so in the session s, and asks for a recipient, which is granted: so often, of transaction 1.
-    WarnAndReserve(u32),
+    /// Asks in a session for a recipient of a transaction, which is refused.
+    Refused(&'a [u8], u32),
+    /// Asks so often in the session s for a recipient of transaction 1, which is granted.
+    Granted(u32),
     /// Drains, with so many closings left.
     Drain(usize),
     Held(usize),
@@ -34,8 +34,8 @@ fn take(rt: &impl Abort, rig: &mut Rig, step: Step<'_>) {
         ),
         Step::Begin(last) => begin(rt, rig, last),
         Step::Close(txn, end) => close(rt, rig, txn, end),
-        Step::Warn(session, txn) => warn(rig, session, txn),
-        Step::WarnAndReserve(count) => warn_and_reserve(rt, rig, count),
+        Step::Refused(session, txn) => assert_refused(rt, rig, session, txn),
+        Step::Granted(count) => assert_granted(rt, rig, count),
         Step::Drain(wanted) => assert_count(rt, drain(rig), wanted, "left"),
         Step::Held(wanted) => assert_count(rt, rig.client.held_count(), wanted, "held"),
         Step::Waiting(wanted) => assert_count(rt, rig.client.outbox_count(), wanted, "waiting"),
@@ -81,13 +81,14 @@ fn close(rt: &impl Abort, rig: &mut Rig, txn: u32, end: CloseEnd) {
         .expect(rt, MEMORY);
 }
 
-fn warn(rig: &mut Rig, session: &[u8], txn: u32) {
-    rig.client.warn_before(&rig.log, session, txn, 86_400, b"u");
+fn assert_refused(rt: &impl Abort, rig: &mut Rig, session: &[u8], txn: u32) {
+    rig.client.set_session(session);
+    assert_asked(rt, rig, txn, 86_400, b"u", Asked::Unavailable);
 }
 
-fn warn_and_reserve(rt: &impl Abort, rig: &mut Rig, count: u32) {
+fn assert_granted(rt: &impl Abort, rig: &mut Rig, count: u32) {
+    rig.client.set_session(b"s");
     for _ in 0..count {
-        warn(rig, b"s", 1);
         assert_asked(rt, rig, 1, 86_400, b"u", Asked::Granted);
     }
 }
@@ -339,17 +340,20 @@ const DECIDING: &[Case<'static>] = &[
 /// A full client is told once in a session.
 const FULL_IS_TOLD: Case<'static> = Case {
     tries: 1,
-    replies: &[Reply::Transactions(ROOM)],
+    replies: &[
+        Reply::Transactions(ROOM),
+        Reply::Body("81 036d7831 0000000000000001 00001001 00001001"),
+    ],
     steps: &[
         Step::Begin(ROOM),
         // a transaction that is held has its place
-        Step::Warn(b"s", 1),
-        Step::Warn(b"s", 4097),
-        Step::Warn(b"s", 4097),
-        Step::Warn(b"t", 4097),
-        Step::Warn(b"s", 4097),
+        Step::Granted(1),
+        Step::Refused(b"s", 4097),
+        Step::Refused(b"s", 4097),
+        Step::Refused(b"t", 4097),
+        Step::Refused(b"s", 4097),
     ],
-    sent: Sent::Count(4096),
+    sent: Sent::Count(4097),
     log: Some(&[
         "session s (login u): recipients are refused, 4,096 transactions are open or wait for the server",
         "session t (login u): recipients are refused, 4,096 transactions are open or wait for the server",
@@ -360,7 +364,7 @@ const FULL_IS_TOLD: Case<'static> = Case {
 const THOUSAND_ARE_TOLD: Case<'static> = Case {
     tries: 1,
     replies: &[Reply::Recipients(1000)],
-    steps: &[Step::WarnAndReserve(1000), Step::Warn(b"s", 1)],
+    steps: &[Step::Granted(1000), Step::Refused(b"s", 1)],
     sent: Sent::Count(1000),
     log: Some(&[
         "session s (login u): recipients are refused, the transaction has 1,000 recipients already",

@@ -10,12 +10,14 @@ use Rattle.mq_client.proofs.Making.{refused, asked, answer_of_tries, held_and_co
 use Rattle.mq_client.proofs.Keeping.{has_room, asked_in_range}
 use Rattle.mq_client.proofs.client.Client.reserve.Goals as goal
 
-pub returns-then-is_some-clause-ok : goal.returns-then-is_some-clause-ok
-returns-then-is_some-clause-ok g c =
-    let F : State → Type 0 = λ s. Makes s s (record { action = Ask c.args.txn c.args.moment c.args.login.now; group = [] }) in
+pub returns-in-Some-clause-ok : goal.returns-in-Some-clause-ok
+returns-in-Some-clause-ok g c =
+    let action = Ask c.args.txn c.args.moment c.args.login.now in
+    let F : State → Type 0 = λ s. Makes s s (record { action = action; group = [] }) in
     let i = c.self.inside in
     let h : refuses (find i.held c.args.txn) (length i.held) i.numbers (length i.outbox.items) c.args.moment c.args.login.now ≡ true = search rules in
-    ([], Tells-none _, refl, subst F c.self.view_is (refused (state_of i) c.args.txn c.args.moment c.args.login.now (rw (length-map i.outbox.items (λ (framed : Framed). framed.request)) h)))
+    let stays = subst F c.self.view_is (refused (state_of i) c.args.txn c.args.moment c.args.login.now (rw (length-map i.outbox.items (λ (framed : Framed). framed.request)) h)) in
+    ([], Tells-none _, refl, subst (λ (s : State). Makes c.args.self.now s (record { action = action; group = [] })) (sym c.warn_refused.ensures) stays)
 
 pub invariant_of-self : goal.invariant_of-self
 invariant_of-self g c =
