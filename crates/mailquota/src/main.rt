@@ -5,7 +5,8 @@
 //!
 //!     ExitCode::from(program::run(&rt, Unknown, &mut rt.stderr()))
 //!
-//! It stands on `mq_program` and `mq_words`, and knows nothing but the exit status. Begin with `program.rt`;
+//! It stands on `mq_program` and `mq_words`, and knows the exit status, how `clap`'s faults are printed and that nothing is
+//! known of a file. Begin with `program.rt`;
 //! docs/ARCHITECTURE.md shows how the data flows from there.
 #![tactic(auto)]
 

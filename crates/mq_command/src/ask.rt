@@ -9,9 +9,9 @@ ghost use Rattle.mq_command.specs.declared.ask.AskFault.TheVariants.{Memory as N
 ghost use Rattle.mq_link.specs.Link.{Tells};
 ghost use Rattle.mq_link.specs.declared.link.Told.{Told};
 
-use mq_frame::{DecodeFault, Memory, Reply, Request, decode_reply, encode_request};
+use mq_frame::{DecodeFault, Reply, Request, decode_reply, encode_request};
 use mq_link::Link;
-use std::alloc::Global;
+use std::alloc::{AllocError, Global};
 use thiserror::Error;
 
 /// How often a request is sent.
@@ -28,10 +28,10 @@ pub enum AskFault {
     Memory,
 }
 
-impl From<Memory> for AskFault {
+impl From<AllocError> for AskFault {
     ghost from_gives = { λ _ fault. fault ≡ NoMemory };
 
-    fn from(_error: Memory) -> AskFault {
+    fn from(_error: AllocError) -> AskFault {
         AskFault::Memory
     }
 }
@@ -69,7 +69,7 @@ pub(crate) fn try_once<L: Link>(
     request: &Request,
     frame: &[u8],
     body: &mut Vec<u8>,
-) -> Result<Option<Reply>, Memory>
+) -> Result<Option<Reply>, AllocError>
     requires { frame.now ≡ frame_of request.now }
     ensures { (one : Told) × Sends request.now one × Tells (L.told link.old) (L.told link.new) (one ∷ [])
         × MatchResult result (λ answer. MatchOption answer (IsMissed request.now one)
@@ -83,7 +83,7 @@ pub(crate) fn try_once<L: Link>(
 }
 
 /// The reply that a body spells, where it answers the request.
-fn answer_in(alloc: Global, request: &Request, body: &[u8]) -> Result<Option<Reply>, Memory>
+fn answer_in(alloc: Global, request: &Request, body: &[u8]) -> Result<Option<Reply>, AllocError>
     ensures { MatchResult result (λ answer. MatchOption answer
         ((reply : AnyReply) → SpellsReply body.now reply → fits request.now reply ≡ false)
         (λ reply. SpellsReply body.now reply × (fits request.now reply ≡ true)))
@@ -98,7 +98,7 @@ fn answer_in(alloc: Global, request: &Request, body: &[u8]) -> Result<Option<Rep
             }
         }
         Err(DecodeFault::Bad) => Ok(None),
-        Err(DecodeFault::Memory) => Err(Memory),
+        Err(DecodeFault::Memory) => Err(AllocError),
     }
 }
 
@@ -109,7 +109,7 @@ pub fn ask<L: Link>(alloc: Global, link: &mut L, request: &Request) -> Result<Re
     ensures in_range { IfOk result IsReply }
 {
     let mut frame = Vec::new(alloc);
-    encode_request(alloc, request, &mut frame)?;
+    encode_request(request, &mut frame)?;
     let mut body = Vec::new(alloc);
     for _attempt in 0..TRIES {
         if let Some(reply) = try_once(alloc, link, request, frame.as_slice(), &mut body)? {

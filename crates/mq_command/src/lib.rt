@@ -7,7 +7,7 @@
 //!
 //! It stands on `mq_frame`, `mq_ledger`, `mq_server` and `mq_link`: it knows requests, any link and any ledger, and
 //! neither sockets, files nor the words of a command line. Begin with `ask.rt`, one question, and `report.rt`; their
-//! definitions are `specs/Asking.antt` and `specs/Report.antt`.
+//! definitions are `specs/Asking.antt` and `specs/Report.antt`. `printed.rt` reads back a login that a report printed.
 #![tactic(auto)]
 
 mod allow;

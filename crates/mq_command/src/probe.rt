@@ -20,7 +20,7 @@ fn probe<L: Link>(alloc: Global, link: &mut L) -> Result<(), AskFault>
     };
     let request = Request::Usage { login, day: 0 };
     let mut frame = Vec::new(alloc);
-    encode_request(alloc, &request, &mut frame)?;
+    encode_request(&request, &mut frame)?;
     let mut body = Vec::new(alloc);
     match try_once(alloc, link, &request, frame.as_slice(), &mut body)? {
         Some(_reply) => Ok(()),

@@ -100,7 +100,7 @@ fn sent(
         Request::Retire { .. } => Ok(run_retire(alloc, link, &request, output, errors)),
         _ => {
             let mut frame = Vec::new(alloc);
-            encode_request(alloc, &request, &mut frame)?;
+            encode_request(&request, &mut frame)?;
             let mut reply = Vec::new(alloc);
             Ok(u8::from(link.exchange(frame.as_slice(), &mut reply).is_err()))
         }

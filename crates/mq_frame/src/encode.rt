@@ -7,7 +7,6 @@ ghost use Rattle.mq_frame.specs.Range.{IsId, IsOrdinal, IsMoment, IsLogin, IsAft
 ghost use Rattle.mq_frame.specs.Spelling.{in_2_bytes, in_4_bytes, in_8_bytes, with_length, id_bytes, transaction_bytes};
 ghost use Rattle.mq_frame.specs.Spelling.{row_bytes, page_bytes, request_body, reply_body, frame};
 
-use crate::error::Memory;
 use crate::format::{
     BAD, CLOSED, CONFLICT, FULL, GRANTED, HEAD_BYTES, LIMIT, LIMIT_SET, LIST, LIST_REPLY, MISMATCH,
     OLD, OVER, RELEASE, RELEASED, RESERVE, RETIRE, RETIRED, RETRY, SETTLE, SETTLED, TOO_MANY,
@@ -16,7 +15,7 @@ use crate::format::{
 use crate::message::{Id, Reply, Request};
 use crate::text::{Host, Login};
 use crate::usage::{UsageRow, UsageRows};
-use std::alloc::{AllocError, Global};
+use std::alloc::AllocError;
 
 fn put_text(out: &mut Vec<u8>, text: &[u8]) -> Result<(), AllocError>
     requires { length text.now ≤ 255 }
@@ -352,12 +351,12 @@ fn put_head(out: &mut Vec<u8>, length: usize) -> Result<(), AllocError>
 /// Appends the request's frame: the length of its body in two bytes, and its body.
 ///
 /// The format is in `docs/FRAMES.md`; `is_request` tests whether the request is in range. After an
-/// `Err` nothing was appended. `out` grows by itself: of `alloc` nothing is asked.
-pub fn encode_request(_alloc: Global, request: &Request, out: &mut Vec<u8>) -> Result<(), Memory>
+/// `Err` nothing was appended.
+pub fn encode_request(request: &Request, out: &mut Vec<u8>) -> Result<(), AllocError>
     requires { IsRequest request.now }
     ensures ok { OnOk result (out.new.items ≡ out.old.items ++ frame (request_body request.now)) }
     ensures err { OnErr result (out.new.items ≡ out.old.items) }
-    // Memory is answered only where the vector had to grow.
+    // Memory is wanted only where the vector had to grow.
     ensures full { OnErr result
         (vec_capacity out.old < vec_len out.old + length (frame (request_body request.now))) }
 {
@@ -372,12 +371,12 @@ pub fn encode_request(_alloc: Global, request: &Request, out: &mut Vec<u8>) -> R
 /// Appends the reply's frame: the length of its body in two bytes, and its body.
 ///
 /// The format is in `docs/FRAMES.md`; `is_reply` tests whether the reply is in range. After an
-/// `Err` nothing was appended. `out` grows by itself: of `alloc` nothing is asked.
-pub fn encode_reply(_alloc: Global, reply: &Reply, out: &mut Vec<u8>) -> Result<(), Memory>
+/// `Err` nothing was appended.
+pub fn encode_reply(reply: &Reply, out: &mut Vec<u8>) -> Result<(), AllocError>
     requires { IsReply reply.now }
     ensures ok { OnOk result (out.new.items ≡ out.old.items ++ frame (reply_body reply.now)) }
     ensures err { OnErr result (out.new.items ≡ out.old.items) }
-    // Memory is answered only where the vector had to grow.
+    // Memory is wanted only where the vector had to grow.
     ensures full { OnErr result
         (vec_capacity out.old < vec_len out.old + length (frame (reply_body reply.now))) }
 {

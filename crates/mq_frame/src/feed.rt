@@ -6,9 +6,8 @@ ghost use Rattle.std.specs.Io.BufRead.{Rests};
 ghost use Rattle.mq_frame.specs.Feed.{Takes, front, next_answer, finish_answer};
 ghost use Rattle.mq_frame.specs.contracts.feed.FrameFeed.{the_row};
 
-use crate::error::Memory;
 use crate::format::HEAD_BYTES;
-use std::alloc::Global;
+use std::alloc::{AllocError, Global};
 use std::marker::Model;
 use thiserror::Error;
 
@@ -82,7 +81,7 @@ impl FrameFeed {
 
     /// Adds a piece of the stream, and gives up the bytes that were taken. After an `Err` the
     /// bodies to come are as before.
-    pub fn feed(&mut self, piece: &[u8]) -> Result<(), Memory>
+    pub fn feed(&mut self, piece: &[u8]) -> Result<(), AllocError>
         ensures limit { self.new.limit ≡ self.old.limit }
         ensures ok { OnOk result (self.new.rest ≡ self.old.rest ++ piece.now) }
         ensures err { OnErr result (self.new.rest ≡ self.old.rest) }
@@ -91,7 +90,7 @@ impl FrameFeed {
         ensures held { OnOk result (self.new.held ≡ length self.new.rest) }
         ensures held_at_err { OnErr result (self.new.held ≤ self.old.held) }
 
-        // Memory is answered only where there is no room for the rest and the piece, and room never shrinks.
+        // Memory is wanted only where there is no room for the rest and the piece, and room never shrinks.
         ensures full { OnErr result (self.old.room < length self.old.rest + length piece.now) }
         ensures room { self.old.room ≤ self.new.room }
     {

@@ -11,7 +11,8 @@
 //!     }
 //!
 //! It stands on no crate of ours, and doesn't know what a request does. Begin with `specs/Spelling.antt`, the bytes of
-//! each kind, and `message.rt`; for streams with `specs/Feed.antt` and `feed.rt`. docs/FRAMES.md has the format.
+//! each kind, and `message.rt`; for streams with `specs/Feed.antt` and `feed.rt`. `escaped.rt` has how a login is printed.
+//! docs/FRAMES.md has the format.
 #![tactic(auto)]
 
 mod borrowed;
@@ -36,7 +37,7 @@ mod usage;
 pub use borrowed::read_reply;
 pub use decode::{DecodeFault, decode_reply, decode_request};
 pub use encode::{encode_reply, encode_request};
-pub use error::{Failed, Memory};
+pub use error::Failed;
 pub use escaped::Escaped;
 pub use feed::{FrameFault, FrameFeed, REPLY_LIMIT, REQUEST_LIMIT};
 pub use fields::IdParts;
@@ -45,5 +46,5 @@ pub use range::{is_host, is_login, is_moment, is_reply, is_request, is_run};
 pub use reply_parts::ReplyParts;
 pub use sink::{Sink, ToWrite, write_and_flush};
 pub use source::{FromRead, Source};
-pub use text::{Host, Login, Text};
+pub use text::{Bytes, Host, Login, Text};
 pub use usage::{UsageRow, UsageRows};

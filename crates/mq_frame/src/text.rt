@@ -21,6 +21,10 @@ pub struct OfHost;
 #[derive(Debug, Drop)]
 pub struct OfLogin;
 
+/// Marks bytes of no kind of their own.
+#[derive(Debug, Drop)]
+pub struct OfAny;
+
 /// The name of a mail host, as bytes.
 ///
 /// One of 1 to 64 bytes, each an ASCII letter, a digit, `.` or `-`, has a place in a frame;
@@ -31,6 +35,9 @@ pub type Host = Text<OfHost>;
 ///
 /// One of 1 to 255 bytes has a place in a frame; `is_login` tests that.
 pub type Login = Text<OfLogin>;
+
+/// Other bytes that are kept: of a frame, of its body, or of a zone's rule.
+pub type Bytes = Text<OfAny>;
 
 impl<K> Model for Text<K> {
     ghost Value = { List ℕ };

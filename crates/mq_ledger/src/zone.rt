@@ -10,7 +10,7 @@ ghost use Rattle.mq_ledger.specs.Rule.{ahead};
 use jiff::Timestamp;
 use jiff::civil::{Date, DateTime};
 use jiff::tz::{Offset, TimeZone};
-use mq_frame::Memory;
+use std::alloc::AllocError;
 use std::marker::Model;
 use std::str;
 
@@ -231,7 +231,7 @@ impl Zone {
     }
 
     /// The same. It never wants memory.
-    pub fn day(&self, moment: u64) -> Result<u32, Memory>
+    pub fn day(&self, moment: u64) -> Result<u32, AllocError>
         requires { IsMoment moment }
         ensures always { IsOk result }
         ensures value { IfOk result (λ day. day ≡ day_of self.now moment) }

@@ -1,5 +1,4 @@
 //! What can go wrong.
-use std::alloc::AllocError;
 use thiserror::Error;
 
 /// Why a line can't be read: the first of these that applies, in this order.
@@ -28,15 +27,4 @@ pub enum FeedFault {
     /// Bytes are left over at the end of the text.
     #[error("input ends inside a line")]
     CutLine,
-}
-
-/// A growth was refused: memory ran out.
-#[derive(Clone, Copy, Debug, PartialEq, Eq, Error)]
-#[error("out of memory")]
-pub struct Memory;
-
-impl From<AllocError> for Memory {
-    fn from(_refused: AllocError) -> Memory {
-        Memory
-    }
 }

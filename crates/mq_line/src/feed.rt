@@ -8,9 +8,9 @@ ghost use Rattle.mq_line.specs.Text.{IsLine, IsTooLong, Holds, Leaves, HasNoLine
 ghost use Rattle.mq_line.specs.Search.{IsSearched, IsFront};
 ghost use Rattle.mq_line.specs.contracts.feed.LineFeed.{the_row};
 
-use crate::fault::{FeedFault, Memory};
+use crate::fault::FeedFault;
 use bstr::ByteSlice;
-use std::alloc::Global;
+use std::alloc::{AllocError, Global};
 use std::marker::Model;
 
 /// The most bytes that a line has, its LF not counted.
@@ -90,8 +90,8 @@ impl LineFeed {
         }
     }
 
-    /// Adds the next piece of the text. With `Memory` the lines to come are as before.
-    pub fn feed(&mut self, piece: &[u8]) -> Result<(), Memory>
+    /// Adds the next piece of the text. After an `Err` the lines to come are as before.
+    pub fn feed(&mut self, piece: &[u8]) -> Result<(), AllocError>
         ensures ok { OnOk result (self.new.rest ≡ self.old.rest ++ piece.now) }
         ensures fed { OnOk result ((text : List ℕ) (taken : List (List ℕ)) →
             Holds text taken self.old.rest → Holds (text ++ piece.now) taken self.new.rest) }
@@ -101,7 +101,7 @@ impl LineFeed {
         ensures held { OnOk result (self.new.held ≡ length self.new.rest) }
         ensures held_at_err { OnErr result (self.new.held ≤ self.old.held) }
 
-        // Memory is answered only where there is no room for the rest and the piece, and room never shrinks.
+        // Memory is wanted only where there is no room for the rest and the piece, and room never shrinks.
         ensures full { OnErr result (self.old.room < length self.old.rest + length piece.now) }
         ensures room { self.old.room ≤ self.new.room }
     {

@@ -21,7 +21,7 @@ mod parameters;
 mod reading;
 mod results;
 
-pub use fault::{FeedFault, LineFault, Memory};
+pub use fault::{FeedFault, LineFault};
 pub use feed::{LineFeed, MAX_LINE};
 pub use laws::{any_cutting, one_meaning, one_splitting};
 pub use parameters::{AuthResult, auth_of, message_of};

@@ -2,7 +2,7 @@
 ghost use Rattle.std.specs.Prelude.{◌≡◌, ◌+◌, ◌<◌, ◌++◌, OnOk, OnErr, length, vec_capacity, vec_len, take};
 ghost use Rattle.mq_line.specs.Results.{registration, answer as answer_lem, in_a_row, result_text};
 
-use crate::fault::Memory;
+use std::alloc::AllocError;
 
 /// What smtpd is to do with a request of a filter line.
 #[derive(Clone, Copy, Debug, PartialEq, Eq)]
@@ -37,12 +37,12 @@ register|filter|smtp-in|rcpt-to
 register|ready
 ";
 
-/// Appends the registration, the first that a filter writes, after `config|ready`. With `Memory` nothing is
-/// appended.
-pub fn write_registration(out: &mut Vec<u8>) -> Result<(), Memory>
+/// Appends the registration, the first that a filter writes, after `config|ready`. After an `Err` nothing
+/// is appended.
+pub fn write_registration(out: &mut Vec<u8>) -> Result<(), AllocError>
     ensures ok { OnOk result (out.new.items ≡ out.old.items ++ registration) }
     ensures err { OnErr result (out.new.items ≡ out.old.items) }
-    // Memory is answered only where the vector had to grow.
+    // Memory is wanted only where the vector had to grow.
     ensures full { OnErr result (vec_capacity out.old < vec_len out.old + length registration) }
 {
     out.extend_from_slice(REGISTRATION)?;
@@ -50,7 +50,7 @@ pub fn write_registration(out: &mut Vec<u8>) -> Result<(), Memory>
 }
 
 /// Appends these parts in a row, or a prefix of them where memory runs out.
-fn push_parts(out: &mut Vec<u8>, parts: &[&[u8]]) -> Result<(), Memory>
+fn push_parts(out: &mut Vec<u8>, parts: &[&[u8]]) -> Result<(), AllocError>
     ensures ok { OnOk result (out.new.items ≡ out.old.items ++ in_a_row parts.now) }
     ensures front { take (vec_len out.old) out.new.items ≡ out.old.items }
     ensures full { OnErr result (vec_capacity out.old < vec_len out.old + length (in_a_row parts.now)) }
@@ -67,7 +67,7 @@ fn push_result<'a>(
     session: &'a [u8],
     token: &'a [u8],
     decision: Decision,
-) -> Result<(), Memory>
+) -> Result<(), AllocError>
     ensures ok { OnOk result (out.new.items ≡ out.old.items ++ result_text session.now token.now decision) }
     ensures front { take (vec_len out.old) out.new.items ≡ out.old.items }
     ensures full { OnErr result
@@ -81,16 +81,16 @@ fn push_result<'a>(
 }
 
 /// Appends the answer to the filter line with this session and this token, `filter-result` in protocol 0.7.
-/// With `Memory` nothing is appended.
+/// After an `Err` nothing is appended.
 pub fn write_result(
     session: &[u8],
     token: &[u8],
     decision: Decision,
     out: &mut Vec<u8>,
-) -> Result<(), Memory>
+) -> Result<(), AllocError>
     ensures ok { OnOk result (out.new.items ≡ out.old.items ++ result_text session.now token.now decision) }
     ensures err { OnErr result (out.new.items ≡ out.old.items) }
-    // Memory is answered only where the vector had to grow.
+    // Memory is wanted only where the vector had to grow.
     ensures full { OnErr result
         (vec_capacity out.old < vec_len out.old + length (result_text session.now token.now decision)) }
 {

@@ -16,4 +16,4 @@ mod body;
 mod link;
 
 pub use body::{BodyFault, read_body};
-pub use link::{Bytes, Link, LinkFault, Outcome, Told};
+pub use link::{Link, LinkFault, Outcome, Told};

@@ -1,50 +1,6 @@
 //! The link to the quota server, by the exchanges that were made over it.
-ghost use Rattle.std.specs.Prelude.{◌≡◌, ℕ, List, IfOk};
 
-use std::alloc::{AllocError, Global};
-use std::marker::Model;
-
-/// Bytes of a frame or a body, which contracts see as a list.
-#[derive(Debug, Drop)]
-pub struct Bytes {
-    bytes: Vec<u8>,
-}
-
-impl Model for Bytes {
-    ghost Value = { List ℕ };
-
-    ghost view = { λ b. b.bytes.items };
-}
-
-impl Bytes {
-    pub fn new(bytes: Vec<u8>) -> Bytes
-        ensures { result ≡ bytes.items }
-    {
-        Bytes { bytes }
-    }
-
-    /// A copy of these bytes.
-    pub fn from_slice(alloc: Global, bytes: &[u8]) -> Result<Bytes, AllocError>
-        ensures { IfOk result (λ copy. copy ≡ bytes.now) }
-    {
-        Ok(Bytes {
-            bytes: Vec::from_slice(alloc, bytes)?,
-        })
-    }
-
-    pub fn into_bytes(self) -> Vec<u8>
-        ensures { result.items ≡ self }
-    {
-        let Bytes { bytes } = self;
-        bytes
-    }
-
-    pub fn as_slice(&self) -> &[u8]
-        ensures { result.now ≡ self.now }
-    {
-        self.bytes.as_slice()
-    }
-}
+use mq_frame::Bytes;
 
 /// Why an exchange brought no reply.
 #[derive(Clone, Copy, Debug, PartialEq, Eq)]

@@ -8,14 +8,14 @@
 //!     let found = find(tx, zone, request)?;
 //!     Ok(decide(alloc, zone, default, arrivals, id, request, found)?)
 //!
-//! It stands on `mq_frame` and `mq_ledger`: it knows what a ledger means and how a body is spelled, and nothing of SQL.
+//! It stands on `mq_frame` and `mq_ledger`: it knows what a ledger means and how a body is spelled, and nothing of SQL; of
+//! `sqlite_trees` its proofs take lemmas of lists.
 //! Begin with `specs/Rows.antt`, the rows of a history, and `reply.rt`, where the limit is compared. docs/STORE.md has
 //! the tables.
 #![tactic(auto)]
 
 mod audited;
 mod auditing;
-mod body;
 mod books;
 pub mod laws;
 mod plan;
@@ -28,7 +28,6 @@ mod write;
 
 pub use audited::{Audit, LimitFigures, Pair, TransactionFigures, UsageFigures};
 pub use auditing::Books;
-pub use body::Body;
 pub use plan::{Found, Plan, Runs, Write};
 pub use record::{
     AnswerRecord, LimitRecord, RetiredRecord, SettingRecord, TransactionRecord, UsageRecord,

@@ -1,6 +1,5 @@
 //! The rows of the ledger's tables, a type for each table. Fields stand in the order of the columns.
-use crate::body::Body;
-use mq_frame::{Host, Id, Login};
+use mq_frame::{Bytes, Host, Id, Login};
 
 /// The one row of `setting`, and with it that of `rule`: what the ledger goes by, and how many
 /// requests it has answered.
@@ -15,7 +14,7 @@ pub struct SettingRecord {
     /// The numbered requests that were answered: the rows of `answer`.
     pub arrivals: u64,
     /// The text of the zone's rule, where there is one: the row of `rule`, a table of versions 2 and 3.
-    pub rule: Option<Body>,
+    pub rule: Option<Bytes>,
 }
 
 /// A row of `answer`: a numbered request and the reply that its number keeps.
@@ -25,9 +24,9 @@ pub struct AnswerRecord {
     pub n: u64,
     pub id: Id,
     /// The body that spells the request.
-    pub request: Body,
+    pub request: Bytes,
     /// The body that spells the reply; empty where the request's run is retired.
-    pub reply: Body,
+    pub reply: Bytes,
 }
 
 /// A row of `trans`: how a transaction stands.

@@ -12,12 +12,11 @@ ghost use Rattle.mq_rows.specs.Plan.{floor_by, given_up_by, raised_to, retired_w
 ghost use Rattle.mq_rows.specs.Plan.{held_by, reserved_by, used_by, fits, written, planned, may_be_found, abandoned_row};
 ghost use Rattle.mq_rows.specs.Storable.{AreStorableIf, IsStorableFloor, IsStorablePlan};
 
-use crate::body::Body;
 use crate::plan::{Found, Plan, Runs, Write};
 use crate::record::{AnswerRecord, LimitRecord, RetiredRecord, TransactionRecord, UsageRecord};
 use crate::reply::fitting;
 use mq_frame::format::HEAD_BYTES;
-use mq_frame::{Id, Login, Memory, Reply, Request, encode_reply, encode_request};
+use mq_frame::{Bytes, Id, Login, Reply, Request, encode_reply, encode_request};
 use mq_ledger::{LedgerFault, Zone};
 use std::alloc::{AllocError, Global};
 
@@ -266,23 +265,23 @@ fn retired_write(
 }
 
 /// The body of the request's frame.
-fn request_body(alloc: Global, request: &Request) -> Result<Body, Memory>
+fn request_body(alloc: Global, request: &Request) -> Result<Bytes, AllocError>
     requires { IsRequest request.now }
     ensures { IfOk result (λ body. body ≡ request_body request.now) }
 {
     let mut frame = Vec::new(alloc);
-    encode_request(alloc, request, &mut frame)?;
-    Ok(Body::from_slice(alloc, &frame[HEAD_BYTES..])?)
+    encode_request(request, &mut frame)?;
+    Bytes::from_slice(alloc, &frame[HEAD_BYTES..])
 }
 
 /// The body of the reply's frame.
-fn reply_body(alloc: Global, reply: &Reply) -> Result<Body, Memory>
+fn reply_body(alloc: Global, reply: &Reply) -> Result<Bytes, AllocError>
     requires { IsReply reply.now }
     ensures { IfOk result (λ body. body ≡ reply_body reply.now) }
 {
     let mut frame = Vec::new(alloc);
-    encode_reply(alloc, reply, &mut frame)?;
-    Ok(Body::from_slice(alloc, &frame[HEAD_BYTES..])?)
+    encode_reply(reply, &mut frame)?;
+    Bytes::from_slice(alloc, &frame[HEAD_BYTES..])
 }
 
 /// The row of the n-th answer.
@@ -292,7 +291,7 @@ fn answer_row(
     id: &Id,
     request: &Request,
     reply: &Reply,
-) -> Result<AnswerRecord, Memory>
+) -> Result<AnswerRecord, AllocError>
     requires request { IsRequest request.now }
     requires reply { IsReply reply.now }
     requires number { id_of request.now ≡ Some id.now }
@@ -354,7 +353,7 @@ fn changes(
             Write<LimitRecord>,
         ),
     ),
-    Memory,
+    AllocError,
 >
     requires in_range { IsRequest request.now }
     requires reply { IsReply reply.now }
@@ -382,7 +381,7 @@ fn plan(
     request: &Request,
     reply: Reply,
     found: &mut Found,
-) -> Result<Plan, Memory>
+) -> Result<Plan, AllocError>
     requires in_range { IsRequest request.now }
     requires reply { IsReply reply }
     requires number { id_of request.now ≡ Some id.now }
@@ -434,7 +433,7 @@ fn decide_by(
     let reply = found.reply(default, request)?;
     match plan(alloc, zone, arrivals, id, request, reply, found) {
         Ok(plan) => Ok(plan),
-        Err(Memory) => Err(LedgerFault::Memory),
+        Err(AllocError) => Err(LedgerFault::Memory),
     }
 }
 

@@ -10,9 +10,9 @@ ghost use Rattle.mq_server.specs.declared.connection.Progress.TheVariants.{Ended
 
 use crate::fault::ServeFault;
 use crate::step::step;
-use mq_frame::{FrameFeed, Memory, REQUEST_LIMIT};
+use mq_frame::{FrameFeed, REQUEST_LIMIT};
 use mq_ledger::Ledger;
-use std::alloc::Global;
+use std::alloc::{AllocError, Global};
 use std::marker::Model;
 
 /// How a connection ended.
@@ -91,7 +91,7 @@ impl Connection {
     }
 
     /// These bytes came. After an `Err` the connection is as before, but for its room.
-    pub fn receive(&mut self, piece: &[u8]) -> Result<(), Memory>
+    pub fn receive(&mut self, piece: &[u8]) -> Result<(), AllocError>
         ensures ok { OnOk result (self.new ≡ received self.old piece.now self.new.room) }
         ensures err { OnErr result (self.new ≡ with_room self.old self.new.room) }
         // Memory is answered only where there is no room for what wasn't answered yet and the piece, and room never

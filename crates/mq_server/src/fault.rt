@@ -1,7 +1,6 @@
 //! Why the serving of a connection breaks off.
 ghost use Rattle.std.specs.Prelude.{◌≡◌};
 
-use mq_frame::Memory;
 use std::alloc::AllocError;
 use thiserror::Error;
 
@@ -20,16 +19,6 @@ pub enum ServeFault {
     /// The ledger's store failed.
     #[error("store failed")]
     Store,
-}
-
-impl From<Memory> for ServeFault {
-    ghost use Rattle.mq_server.specs.declared.fault.ServeFault.TheVariants.{Memory as NoMemory};
-
-    ghost from_gives = { λ _ fault. fault ≡ NoMemory };
-
-    fn from(_refused: Memory) -> ServeFault {
-        ServeFault::Memory
-    }
 }
 
 impl From<AllocError> for ServeFault {

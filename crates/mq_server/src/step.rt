@@ -29,22 +29,22 @@ fn input_end(feed: &FrameFeed) -> Served
 }
 
 /// Answers what is no request, which ends the connection.
-fn refuse(alloc: Global, replies: &mut Vec<u8>) -> Result<Served, ServeFault>
+fn refuse(replies: &mut Vec<u8>) -> Result<Served, ServeFault>
     ensures refused { IsRefused replies.old.items result replies.new.items }
     ensures full { OnErr result (HasNoRoom (vec_capacity replies.old) replies.old.items Bad) }
 {
-    encode_reply(alloc, &Reply::Bad, replies)?;
+    encode_reply(&Reply::Bad, replies)?;
     Ok(Served::BadFrame)
 }
 
 /// Adds a reply to those that wait.
-fn add(alloc: Global, reply: &Reply, replies: &mut Vec<u8>) -> Progress
+fn add(reply: &Reply, replies: &mut Vec<u8>) -> Progress
     requires { IsReply reply.now }
     ensures added { IsAdded replies.old.items (frame (reply_body reply.now)) result replies.new.items }
     ensures full { (end : _) → result ≡ Ended end →
         HasNoRoom (vec_capacity replies.old) replies.old.items reply.now }
 {
-    match encode_reply(alloc, reply, replies) {
+    match encode_reply(reply, replies) {
         Ok(()) => Progress::Answered,
         Err(_) => Progress::Ended(Err(ServeFault::Memory)),
     }
@@ -78,12 +78,12 @@ pub fn step<L: Ledger>(
         feed.new.rest (L.book ledger.new).history (L.told ledger.new) }
 {
     match feed.next_body() {
-        Err(_) => Progress::Ended(refuse(alloc, replies)),
+        Err(_) => Progress::Ended(refuse(replies)),
         Ok(None) if is_closed => Progress::Ended(Ok(input_end(feed))),
         Ok(None) => Progress::Waits,
         Ok(Some(body)) => match answer_body(alloc, body, ledger) {
-            Ok(Some(reply)) => add(alloc, &reply, replies),
-            Ok(None) => Progress::Ended(refuse(alloc, replies)),
+            Ok(Some(reply)) => add(&reply, replies),
+            Ok(None) => Progress::Ended(refuse(replies)),
             Err(fault) => Progress::Ended(Err(fault)),
         },
     }

@@ -13,9 +13,8 @@ ghost use Rattle.mq_store.specs.Taking.{Stays};
 
 use crate::fault::{Refused, StoreCause};
 use crate::laws::{answers_are_entries, transactions_have_days};
-use mq_frame::{DecodeFault, Id, Reply, Request, decode_reply, decode_request};
+use mq_frame::{Bytes, DecodeFault, Id, Reply, Request, decode_reply, decode_request};
 use mq_ledger::Zone;
-use mq_rows::Body;
 use mq_tables::entry::read_answer;
 use mq_tables::transaction::find_transaction;
 use sqlite::{Alter, Transaction};
@@ -36,7 +35,7 @@ fn refused(fault: DecodeFault) -> Refused {
     }
 }
 
-fn request_in(alloc: Global, body: &Body) -> Result<Request, Refused>
+fn request_in(alloc: Global, body: &Bytes) -> Result<Request, Refused>
     ensures { IfOk result (λ request. SpellsRequest body.now request) }
 {
     match decode_request(alloc, body.as_slice()) {
@@ -46,7 +45,7 @@ fn request_in(alloc: Global, body: &Body) -> Result<Request, Refused>
 }
 
 /// The reply that the body spells, or none where it is empty.
-fn reply_in(alloc: Global, body: &Body) -> Result<Option<Reply>, Refused>
+fn reply_in(alloc: Global, body: &Bytes) -> Result<Option<Reply>, Refused>
     ensures { IfOk result (SpellsWhereKnown body.now) }
 {
     let bytes = body.as_slice();

@@ -54,14 +54,14 @@ pub fn ask<L: Ledger>(ledger: &mut L, request: &Request) -> Result<Reply, Ledger
 }
 
 /// Puts the frame of a reply in range after the bytes, if there is memory.
-fn put_frame(alloc: Global, reply: &Reply, bytes: &mut Vec<u8>) -> bool {
-    is_reply(reply) && encode_reply(alloc, reply, bytes).is_ok()
+fn put_frame(reply: &Reply, bytes: &mut Vec<u8>) -> bool {
+    is_reply(reply) && encode_reply(reply, bytes).is_ok()
 }
 
 /// The body of a reply.
 fn body_of(alloc: Global, reply: &Reply) -> Option<Vec<u8>> {
     let mut frame = Vec::new(alloc);
-    if put_frame(alloc, reply, &mut frame) {
+    if put_frame(reply, &mut frame) {
         Vec::from_slice(alloc, frame.get(2..).unwrap_or(&[])).ok()
     } else {
         None

@@ -13,8 +13,8 @@ ghost use Rattle.mq_tables.specs.Lent.{answer_params, bodies_row, id_key, IsFirs
 ghost use Rattle.mq_tables.specs.Records.{IsOneOf};
 ghost use Rattle.mq_tables.specs.Updates.{Appends};
 
-use mq_frame::Id;
-use mq_rows::{AnswerRecord, Body};
+use mq_frame::{Bytes, Id};
+use mq_rows::AnswerRecord;
 use sqlite::types::ValueRef;
 use sqlite::{Alter, Error, Row, Transaction};
 
@@ -88,8 +88,8 @@ fn first_answer(rows: &[Row], id: &Id) -> Result<Option<AnswerRecord>, Error>
     Ok(Some(AnswerRecord {
         n: row.get(0)?,
         id: id.clone()?,
-        request: Body::new(row.get(1)?),
-        reply: Body::new(row.get(2)?),
+        request: Bytes::new(row.get(1)?),
+        reply: Bytes::new(row.get(2)?),
     }))
 }
 

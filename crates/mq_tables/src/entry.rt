@@ -12,15 +12,15 @@ ghost use Rattle.mq_tables.specs.Ledger.{HasLedger};
 ghost use Rattle.mq_tables.specs.Lent.{bodies_row};
 ghost use Rattle.mq_tables.specs.Entries.{IsFirstBodies, IsAnswerAt};
 
-use mq_rows::Body;
+use mq_frame::Bytes;
 use sqlite::types::ValueRef;
 use sqlite::{Alter, Error, Row, Transaction};
 
 /// The bodies of a request and of its reply, which is empty where its run was given up.
 #[derive(Drop)]
 pub struct Bodies {
-    pub request: Body,
-    pub reply: Body,
+    pub request: Bytes,
+    pub reply: Bytes,
 }
 
 fn place_params(n: u64) -> [ValueRef<'static>; 1]
@@ -53,8 +53,8 @@ fn first_bodies(rows: &[Row]) -> Result<Option<Bodies>, Error>
         return Ok(None);
     };
     Ok(Some(Bodies {
-        request: Body::new(row.get(1)?),
-        reply: Body::new(row.get(2)?),
+        request: Bytes::new(row.get(1)?),
+        reply: Bytes::new(row.get(2)?),
     }))
 }
 

@@ -46,8 +46,6 @@ const RUNS: &[(FilterFault, &str)] = &[
 fn texts_of_faults(rt: HostRuntime) {
     assert_printed(&rt, rt.alloc(), LINES);
     assert_printed(&rt, rt.alloc(), FEEDS);
-    assert_printed(&rt, rt.alloc(), &[(mq_line::Memory, "out of memory")]);
     assert_printed(&rt, rt.alloc(), REPORTS);
     assert_printed(&rt, rt.alloc(), RUNS);
-    assert_printed(&rt, rt.alloc(), &[(mq_client::Memory, "out of memory")]);
 }

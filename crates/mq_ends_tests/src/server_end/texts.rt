@@ -1,14 +1,13 @@
 //! What is printed where a program ends by a fault.
 
 use crate::server_end::asserts::assert_shown;
-use mq_frame::{DecodeFault, Memory};
+use mq_frame::DecodeFault;
 use mq_ledger::LedgerFault;
 use mq_server::ServeFault;
 
 #[test]
 fn texts_of_faults(rt: HostRuntime) {
     let alloc = rt.alloc();
-    assert_shown(&rt, alloc, &Memory, "out of memory");
     assert_shown(&rt, alloc, &DecodeFault::Memory, "out of memory");
     assert_shown(&rt, alloc, &LedgerFault::Memory, "out of memory");
     assert_shown(&rt, alloc, &LedgerFault::Store, "store failed");

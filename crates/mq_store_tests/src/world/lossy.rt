@@ -145,7 +145,7 @@ impl<L: Ledger + Drop> Lossy<L> {
     /// Anyone else sends a request.
     pub fn send_request(&mut self, request: &Request) {
         let mut frame = Vec::new(self.alloc);
-        if put_request(self.alloc, request, &mut frame) {
+        if put_request(request, &mut frame) {
             self.send(frame.as_slice());
         } else {
             self.failed = true;
@@ -200,8 +200,8 @@ impl<L: Ledger + Drop> Lossy<L> {
 }
 
 /// Puts the frame of a request in range after the bytes, if there is memory.
-fn put_request(alloc: Global, request: &Request, bytes: &mut Vec<u8>) -> bool {
-    is_request(request) && encode_request(alloc, request, bytes).is_ok()
+fn put_request(request: &Request, bytes: &mut Vec<u8>) -> bool {
+    is_request(request) && encode_request(request, bytes).is_ok()
 }
 
 impl<L: Ledger + Drop> Link for Lossy<L> {

@@ -1,7 +1,7 @@
 //! Lines of a text, in pieces and cut off.
 
 use crate::filter_end::asserts::{MEMORY, assert_count, assert_that};
-use mq_line::{FeedFault, LineFeed, MAX_LINE, Memory};
+use mq_line::{FeedFault, LineFeed, MAX_LINE};
 use std::alloc::Global;
 use std::process::Abort;
 
@@ -58,7 +58,7 @@ fn give(rt: &impl Abort, feed: &mut LineFeed, piece: &[u8]) {
 /// Where an allocation fails, as `rt try --test --fail-alloc N` has it, the piece can be given again.
 fn give_again(rt: &impl Abort, feed: &mut LineFeed, piece: &[u8]) {
     let before = feed.held();
-    if feed.feed(piece) == Err(Memory) {
+    if feed.feed(piece).is_err() {
         assert_that(rt, feed.held() <= before, "no more is held");
         give(rt, feed, piece);
     }

@@ -15,7 +15,7 @@ fn decoded(alloc: Global, body: &[u8]) -> Result<Reply, DecodeFault> {
 fn frame_of(rt: &impl Abort, alloc: Global, reply: &Reply) -> Vec<u8> {
     assert!(rt; is_reply(reply));
     let mut out = Vec::new(alloc);
-    encode_reply(alloc, reply, &mut out).expect(rt, MEMORY);
+    encode_reply(reply, &mut out).expect(rt, MEMORY);
     out
 }
 

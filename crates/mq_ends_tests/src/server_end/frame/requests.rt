@@ -15,7 +15,7 @@ fn decoded(alloc: Global, body: &[u8]) -> Result<Request, DecodeFault> {
 fn frame_of(rt: &impl Abort, alloc: Global, request: &Request) -> Vec<u8> {
     assert!(rt; is_request(request));
     let mut out = Vec::new(alloc);
-    encode_request(alloc, request, &mut out).expect(rt, MEMORY);
+    encode_request(request, &mut out).expect(rt, MEMORY);
     out
 }
 
