@@ -1,3 +1,4 @@
+pub mod Leaving
 pub mod Maps
 pub mod Standing
 pub mod Turning

@@ -1,6 +1,6 @@
 use Rattle.std.proofs.Common.{◌∙◌, None, Ok, Err, refl, sym, ap}
 use Rattle.std.proofs.lemmas.Result.{err_from_is_err_and}
-use Rattle.mq_server.proofs.Leaving.{left_alone, left_both}
+use Rattle.mq_connections.proofs.Leaving.{left_alone, left_both}
 use Rattle.mq_connections.specs.declared.fault.RoomFault.TheVariants as faults
 use Rattle.mq_connections.specs.Sessions.{Outside, held}
 use Rattle.mq_connections.proofs.Standing.{goes_as, goes_last, goes_on, goes_so, not_store, ok_not, rewired}
