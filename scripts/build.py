@@ -1,8 +1,8 @@
 #!/usr/bin/env python3
 """Proves and compiles the crates that the program stands on.
 
-usage: build.py              builds the program
-       build.py --plan N     runs nothing: says what that costs N processors, by the minutes that docs/GATE.md has
+usage: build.py            builds the program
+       build.py --plan     runs nothing: says what that costs, by the minutes that docs/GATE.md has
 
 It says which crate of how many it begins and ends with, and how long that took; what rt says of a crate stands in crates/NAME/out/build.log.
 Where nothing has changed since the last build, it does nothing. RT in the environment is the command rt.
@@ -31,8 +31,6 @@ BINARY = f"{TOP}/crates/{PROGRAM}/out/{PROGRAM}"
 STAMP = f"{TOP}/crates/{PROGRAM}/out/build.sum"
 # the memory that a check is given, in kilobytes
 MEMORY = 4_000_000
-# how much more processor time a check takes over several jobs than over one: docs/GATE.md says from where to where that was measured
-SHARED = (1.2, 1.57)
 
 
 def row_of(line):
@@ -216,21 +214,20 @@ def build(below):
     return 0
 
 
-def plan(below, processors):
-    """What a build costs by the minutes of docs/GATE.md."""
+def plan(below):
+    """What a build costs by the minutes of docs/GATE.md, which are those of one job."""
     with open(f"{TOP}/docs/GATE.md", encoding="utf-8") as file:
-        rows = re.findall(r"^\| `(\w+)` \| ([0-9.]+) \|", file.read(), re.MULTILINE)
-    minutes = sum(float(cost) for name, cost in rows if name in below)
-    for more in SHARED:
-        print(f"{minutes * more / processors:.0f} minutes, if several jobs take {more:.2f} times the processor time of one")
-    print(f"{minutes:.0f} minutes of processor time with one job each")
+        minutes = {name: float(cost) for name, cost in re.findall(r"^\| `(\w+)` \| ([0-9.]+) \|", file.read(), re.MULTILINE)}
+    chain = chain_of(below, lengths_above(below))
+    print(f"{sum(map(minutes.get, chain)):.0f} minutes for the crates that wait for one another: {', '.join(chain)}")
+    print(f"{sum(map(minutes.get, below)):.0f} minutes of processor time for all {len(below)} crates")
     return 0
 
 
 def main(words):
     below = crates()
-    if words[:1] == ["--plan"] and len(words) == 2 and words[1].isdigit() and int(words[1]):
-        return plan(below, int(words[1]))
+    if words == ["--plan"]:
+        return plan(below)
     if words:
         print(__doc__, end="", file=sys.stderr)
         return 2
