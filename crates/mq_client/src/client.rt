@@ -196,7 +196,10 @@ impl Client {
         ensures link { OnErr result (link.new ≡ link.old) }
     {
         let closings = self.outbox.len();
-        if let Some(cause) = self.held.refusal(self.numbers, closings, txn, moment, login) {
+        if let Some(cause) = self
+            .held
+            .refusal(self.numbers, closings, txn, moment, login)
+        {
             self.warn_refused(rt, login, cause);
             return Ok(Asked::Unavailable);
         }

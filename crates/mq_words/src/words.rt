@@ -150,12 +150,12 @@ fn argument_of<'a>(alloc: Global, option: &CommandOption) -> Result<Arg<'a>, All
     let argument = match option.takes {
         Takes::Nothing => return Ok(argument.action(ArgAction::SetTrue)),
         Takes::Text => argument,
-        Takes::Number(range) => argument.value_parser(
-            value_parser!(u64).range(i64::from(range.least)..=i64::from(range.most)),
-        ),
-        Takes::LongNumber(range) => argument.value_parser(
-            value_parser!(u64).range(bound_of(range.least)..=bound_of(range.most)),
-        ),
+        Takes::Number(range) => argument.value_parser(value_parser!(u64).range(
+            i64::from(range.least)..=i64::from(range.most),
+        )),
+        Takes::LongNumber(range) => argument.value_parser(value_parser!(u64).range(
+            bound_of(range.least)..=bound_of(range.most),
+        )),
     };
     let argument = argument.value_name(option.value);
     match option.default {
