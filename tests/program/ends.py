@@ -45,6 +45,21 @@ def nobody_there():
         yield f"127.0.0.1:{held.getsockname()[1]}"
 
 
+@contextlib.contextmanager
+def crowded_port():
+    """An address whose queue is full, so that a connect waits for ever: nobody accepts, and Linux queues one more than it is told."""
+    with socket.socket() as listening, contextlib.ExitStack() as crowd:
+        listening.bind(("127.0.0.1", 0))
+        listening.listen(0)
+        for _ in range(4):
+            waiting = crowd.enter_context(socket.socket())
+            waiting.setblocking(False)
+            waiting.connect_ex(listening.getsockname())
+        # (they have to be there before anybody else is)
+        time.sleep(0.1)
+        yield f"127.0.0.1:{listening.getsockname()[1]}"
+
+
 def loopback_of_6():
     """The loopback of IPv6, or that of IPv4 where a machine has no other."""
     try:

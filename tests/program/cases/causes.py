@@ -122,10 +122,15 @@ def addresses_of_settings(world, checks):
             ("localhost:7025", NO_NUMERIC_ADDRESS), ("::1", NO_NUMERIC_ADDRESS), ("*:7025", NO_NUMERIC_ADDRESS),
             (7025, "bad value, it has to be a numeric address with a port, in quotes"),
         ]:
-            file = world.new_file(toml({**others, key: value}))
-            log = f"[ERROR mq_program::fault] {file}: setting {key}: {lacks}\n"
-            came = world.run(subcommand, "--config", file)
-            checks.equal(f"{subcommand} with {key} = {value!r}", came, (1, b"", f"{log}mailquota: setting {key}: bad value\n"))
+            refuses_setting(world, checks, subcommand, others, key, value, lacks)
+
+
+def refuses_setting(world, checks, subcommand, others, key, value, said):
+    """The value of a setting is bad, and the log says why."""
+    file = world.new_file(toml({**others, key: value}))
+    log = f"[ERROR mq_program::fault] {file}: setting {key}: {said}\n"
+    came = world.run(subcommand, "--config", file)
+    checks.equal(f"{subcommand} with {key} = {value!r}", came, (1, b"", f"{log}mailquota: setting {key}: bad value\n"))
 
 
 def values_of_settings(world, checks):
@@ -141,10 +146,7 @@ def values_of_settings(world, checks):
         ("server", servers, "offset", 1440, "a whole number of minutes from -1439 to 1439"),
         ("server", servers, "rule", "UTC0", "a zone rule of at most 64 bytes, in quotes, in place of an offset"),
     ]:
-        file = world.new_file(toml({**others, key: value}))
-        log = f"[ERROR mq_program::fault] {file}: setting {key}: bad value, it has to be {wanted}\n"
-        came = world.run(subcommand, "--config", file)
-        checks.equal(f"{subcommand} with {key} = {value!r}", came, (1, b"", f"{log}mailquota: setting {key}: bad value\n"))
+        refuses_setting(world, checks, subcommand, others, key, value, f"bad value, it has to be {wanted}")
 
 
 def rows_of_no_ledger(world, checks):

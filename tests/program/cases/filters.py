@@ -3,10 +3,8 @@ import re
 import select
 import socket
 import subprocess
-import time
-from contextlib import ExitStack
 
-from ends import DRIP, LONG, RESET, SECONDS, SILENCE, Script, apart, nobody_there, soon
+from ends import DRIP, LONG, RESET, SECONDS, SILENCE, Script, apart, crowded_port, nobody_there, soon
 from wire import BAD, RETRY, frame, granted, identity, number, reserve, settled
 
 REGISTRATION = b"".join(
@@ -235,16 +233,8 @@ def no_server(world, checks):
 
 def not_accepted(world):
     """The status and lines of a filter that asks a server which accepts nothing and has as many waiting as it lets wait."""
-    with socket.socket() as listener, ExitStack() as waiting:
-        listener.bind(("127.0.0.1", 0))
-        listener.listen(0)
-        for _ in range(3):
-            peer = waiting.enter_context(socket.socket())
-            peer.setblocking(False)
-            peer.connect_ex(listener.getsockname())
-        # (they have to be there before the filter is)
-        time.sleep(0.1)
-        return world.filter("{}:{}".format(*listener.getsockname()), INPUT, tries=2, timeout=300)[:2]
+    with crowded_port() as address:
+        return world.filter(address, INPUT, tries=2, timeout=300)[:2]
 
 
 def scripted_end(world, script, **settings):

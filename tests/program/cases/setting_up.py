@@ -1,12 +1,10 @@
 """`init`, `filter --check` and `status`: what an administrator asks before mail depends on it."""
-import contextlib
 import os
 import re
-import socket
 import stat
 import subprocess
 
-from ends import DRIP, IS_THERE, RESET, SILENCE, TOP, Script, Server, apart, fault, ledger_settings, nobody_there, refusal, soon, toml, without_log
+from ends import DRIP, IS_THERE, RESET, SILENCE, TOP, Script, Server, apart, crowded_port, fault, ledger_settings, nobody_there, refusal, soon, toml, without_log
 from rows import rows_in
 from wire import BAD, RETRY, frame, limit, number, page_reply, reserve, settle, text
 
@@ -201,19 +199,6 @@ def checked_filters(world, checks):
         came, took = soon(lambda: check(address, timeout=1000), 1.9)
     checks.equal("filter --check, a port that takes no connection", without_log(came), fault("quota service unavailable", SETTINGS_ARE_RIGHT))
     checks.holds("filter --check, a port that takes no connection: one timeout of the settings", 0.99 < took < 1.9, "1 s", f"{took:.1f} s")
-
-
-@contextlib.contextmanager
-def crowded_port():
-    """A port of loopback whose queue is full, so that a connect waits for ever: nobody accepts, and Linux queues one more than it is told."""
-    with socket.socket() as listening, contextlib.ExitStack() as crowd:
-        listening.bind(("127.0.0.1", 0))
-        listening.listen(0)
-        for _ in range(4):
-            waiting = crowd.enter_context(socket.socket())
-            waiting.setblocking(False)
-            waiting.connect_ex(listening.getsockname())
-        yield "127.0.0.1:%d" % listening.getsockname()[1]
 
 
 def timed_check(world):
