@@ -128,10 +128,8 @@ fn text_of(alloc: Global, inquiry: Inquiry<'_>, decision: Decision) -> Result<Ve
         ≡ result_text inquiry.entry.session.now inquiry.entry.token.now decision) }
 {
     let mut text = Vec::new(alloc);
-    match write_result(inquiry.session, inquiry.token, decision, &mut text) {
-        Ok(()) => Ok(text),
-        Err(_) => Err(AllocError),
-    }
+    write_result(inquiry.session, inquiry.token, decision, &mut text)?;
+    Ok(text)
 }
 
 /// Decides on a request of smtpd, and writes the result.

@@ -57,10 +57,8 @@ fn registration(alloc: Global) -> Result<Vec<u8>, AllocError>
     ensures { IfOk result (λ text. text.items ≡ registration_lem) }
 {
     let mut text = Vec::new(alloc);
-    match write_registration(&mut text) {
-        Ok(()) => Ok(text),
-        Err(_) => Err(AllocError),
-    }
+    write_registration(&mut text)?;
+    Ok(text)
 }
 
 /// Writes the registration.

@@ -2,7 +2,7 @@
 //! filter's loop, which asks before a recipient is let through.
 //!
 //! A [`Client`] is one run's: `reserve` asks for a recipient, `close` ends a transaction, `drain` sends what waits.
-//! [`run_filter`] reads smtpd's lines and answers them by it. From `mq_program/src/filter.rt`:
+//! [`run_filter`] reads smtpd's lines and answers them by it. From `mq_remote/src/subcommands/filter.rt`:
 //!
 //!     match run_filter(log, rt.alloc(), &mut input, &mut output, link, client) {
 //!         Ok(_) => Ok(0),

@@ -431,10 +431,7 @@ fn decide_by(
         return Err(LedgerFault::Store);
     }
     let reply = found.reply(default, request)?;
-    match plan(alloc, zone, arrivals, id, request, reply, found) {
-        Ok(plan) => Ok(plan),
-        Err(AllocError) => Err(LedgerFault::Memory),
-    }
+    Ok(plan(alloc, zone, arrivals, id, request, reply, found)?)
 }
 
 /// The reply to a numbered request, and what is written with it, where no row has its number.

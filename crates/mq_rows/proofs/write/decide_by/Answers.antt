@@ -76,10 +76,10 @@ run_has (Limit id from_day cap login) o h = tt
 run_has (Usage login d) o h = tt
 run_has (ListRequest d after) o h = tt
 
-pub returns-in-Ok-clause-storable : goal.returns-in-Ok-clause-storable
-returns-in-Ok-clause-storable c = λ has floor_has.
+pub returns-clause-storable : goal.returns-clause-storable
+returns-clause-storable c = λ has floor_has.
     let limit = (number_in_range c.args.request.now c.args.id.now c.requires.in_range c.requires.number).run.to in
-    rw c.in-Ok.ensures record {
+    rw c.in_ok-plan.ensures record {
       place = omega arith;
       run = rw c.requires.number (omega (arith, limit));
       arrivals = omega arith;
