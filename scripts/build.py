@@ -103,10 +103,10 @@ def keeps_libraries():
 
 
 def trees_of(processors):
-    """How many trees there are: one for every two processors beyond the first, as far as there is memory for a check in each."""
+    """How many trees there are: one for each processor, as far as there is memory for a check in each."""
     with open("/proc/meminfo", encoding="ascii") as lines:
         free = next(int(it.split()[1]) for it in lines if it.startswith("MemAvailable:"))
-    return max(1, min(1 + processors // 2, free // MEMORY)) if keeps_libraries() else 1
+    return max(1, min(processors, free // MEMORY)) if keeps_libraries() else 1
 
 
 def copy_sources(names, tree):
@@ -128,16 +128,17 @@ def failed(name, status):
 class Build:
     """The crates that are to be proved, and those that are."""
 
-    def __init__(self, below, processors):
-        self.below, self.processors, self.lengths = below, processors, lengths_above(below)
+    def __init__(self, below, processors, has_copies):
+        self.below, self.processors, self.has_copies, self.lengths = below, processors, has_copies, lengths_above(below)
         self.chain = chain_of(below, self.lengths)
         self.begun, self.done, self.running, self.has_failed = [], set(), {}, False
         self.changed = threading.Condition()
 
     def next(self, tree):
-        """The crate to begin with now in a tree, or None where all have begun or one has failed. Those of the chain are proved in the repository."""
+        """The crate to begin with now in a tree, or None where all have begun or one has failed. Where there are copies, the repository has the chain alone,
+        so that the next of the chain never waits for another crate there."""
         with self.changed:
-            left = [it for it in self.below if tree == TOP or it not in self.chain]
+            left = [it for it in self.below if not self.has_copies or (tree == TOP) == (it in self.chain)]
             while (left := [it for it in left if it not in self.begun]) and not self.has_failed:
                 ready = [it for it in left if self.done.issuperset(self.below[it])]
                 if ready:
@@ -193,9 +194,10 @@ class Build:
 def build(below):
     """Builds all; gives the status."""
     begun, processors = time.monotonic(), len(os.sched_getaffinity(0))
-    run = Build(below, processors)
+    count = trees_of(processors)
+    run = Build(below, processors, count > 1)
     with tempfile.TemporaryDirectory(prefix="mailquota-build-") as room:
-        trees = [TOP, *(f"{room}/{it}" for it in range(1, trees_of(processors)))]
+        trees = [TOP, *(f"{room}/{it}" for it in range(1, count))]
         for tree in trees[1:]:
             copy_sources(below, tree)
         workers = [threading.Thread(target=run.work, args=(it,)) for it in trees]
