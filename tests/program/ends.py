@@ -150,7 +150,7 @@ NO_NUMERIC_ADDRESS = "no numeric address before the port; an IPv6 address stands
 
 def bad_address(address, lacks):
     """What a command of the administrator ends with where it is given this address."""
-    return 2, b"", f"[ERROR mq_program::admin] address {address}: {lacks}\nmailquota: bad address\n"
+    return 2, b"", f"[ERROR mq_process::asking] address {address}: {lacks}\nmailquota: bad address\n"
 
 
 # Why no ledger is made in a file.
@@ -164,7 +164,7 @@ def refusal(path, cause):
 
 def begun(place, zone="offset 0", default=3, answers=0, days=0, limits=0):
     """The first line of a server, as `without_time` leaves it."""
-    return f"[INFO  mq_program::server] ledger {place}: version 3, default {default}, {zone}, answers={answers} days={days} limits={limits}"
+    return f"[INFO  mq_program::serving] ledger {place}: version 3, default {default}, {zone}, answers={answers} days={days} limits={limits}"
 
 
 def without_time(lines):

@@ -1,16 +1,17 @@
 //! The program: a sending-quota filter for smtpd, and the quota server that its hosts share.
 //!
-//! `main` hands the words of its process to `mq_words`, and what they ask for to `mq_program`. From
+//! `main` hands the words of its process to `mq_words`, and has `mq_remote` or `mq_program` do what they ask for. From
 //! `mailquota/src/main.rt`:
 //!
 //!     ExitCode::from(program::run(&rt, Unknown, &mut rt.stderr()))
 //!
-//! It stands on `mq_program` and `mq_words`, and knows the exit status, how `clap`'s faults are printed and that nothing is
-//! known of a file. Begin with `program.rt`;
+//! It stands on `mq_arguments`, `mq_process`, `mq_remote`, `mq_program` and `mq_words`, and knows which subcommand is whose, its
+//! exit status, and that nothing is known of a file. Begin with `program.rt`, then `subcommand.rt`;
 //! docs/ARCHITECTURE.md shows how the data flows from there.
 #![tactic(auto)]
 
 mod program;
+mod subcommand;
 
 use sqlite::Unknown;
 use std::process::ExitCode;

@@ -1,7 +1,8 @@
 //! The program by the words of its command line.
 
-use mq_program::{ProgramFault, or_memory, refuse, run_subcommand};
-use mq_words::{WordsFault, read_arguments};
+use crate::subcommand::{end_program, run_subcommand};
+use mq_program::{ProgramFault, or_memory};
+use mq_words::{Unprinted, print_fault, read_arguments};
 use sqlite::Start;
 use std::env;
 use std::io::Write;
@@ -14,7 +15,7 @@ use std::rt::Env;
 pub fn run<E: Write, S: Start>(rt: &HostRuntime, start: S, errors: &mut E) -> u8 {
     match words_of(rt) {
         Ok(words) => run_words(rt, words.as_slice(), start, errors),
-        Err(fault) => refuse(&fault, errors),
+        Err(fault) => end_program(Err(fault), errors),
     }
 }
 
@@ -36,11 +37,10 @@ fn run_words<E: Write, S: Start>(
 ) -> u8 {
     match read_arguments(rt.alloc(), words) {
         Ok(given) => run_subcommand(rt, given, start, errors),
-        Err(WordsFault::Memory) => refuse(&ProgramFault::Memory, errors),
-        Err(WordsFault::Words(error)) => match error.print(rt) {
-            Err(_) if !error.use_stderr() => refuse(&ProgramFault::Write, errors),
-            _ if error.use_stderr() => 2,
-            _ => 0,
+        Err(fault) => match print_fault(rt, fault) {
+            Ok(status) => status,
+            Err(Unprinted::Memory) => end_program(Err(ProgramFault::Memory), errors),
+            Err(Unprinted::Write) => end_program(Err(ProgramFault::Write), errors),
         },
     }
 }

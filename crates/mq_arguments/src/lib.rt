@@ -1,7 +1,7 @@
 //! What the words of a command line ask for, as types: what each subcommand is given.
 //!
-//! `mq_words` makes an [`Arguments`] of words, and `mq_program` does what it asks for, so that only the one pays for
-//! `clap` and only the other for sockets and files. From `mq_program/src/server.rt`:
+//! `mq_words` makes an [`Arguments`] of words, and `mailquota` has `mq_program` or `mq_remote` do what it asks for, so that only the one pays for
+//! `clap` and only the other for sockets and files. From `mq_program/src/serving.rt`:
 //!
 //!     let settings = server_settings(rt, given.config)?;
 //!     serve(rt, &settings, given.create, given.connections, start)

@@ -1,7 +1,7 @@
 //! What the subcommands of an administrator and `replay` do, over any link, ledger, text and output.
 //!
 //! [`run_limit`], [`run_retire`] and [`run_report`] ask the server and print what comes of it; the result is the exit
-//! status. [`replay_over`] answers the connections of a text over a ledger. From `mq_program/src/admin/report.rt`:
+//! status. [`replay_over`] answers the connections of a text over a ledger. From `mq_remote/src/subcommands/report.rt`:
 //!
 //!     Ok(run_report(rt.alloc(), &mut link, day, login, &mut output, errors))
 //!

@@ -3,7 +3,7 @@
 //!
 //! [`serve_connections`] accepts so many connections over sockets and serves each to its end: what came is held, whole
 //! frames are answered through a ledger, and the peer takes the replies as it can. [`serve_network`] does so over any
-//! [`Network`]. From `mq_program/src/server.rt`:
+//! [`Network`]. From `mq_program/src/serving.rt`:
 //!
 //!     let timeout = Duration::from_millis(u64::from(settings.timeout));
 //!     serve_connections(rt, log, alloc, &listener, timeout, ledger, connections)?;

@@ -7,15 +7,15 @@ ghost use Rattle.mq_command.specs.Output.{AppendsFront};
 ghost use Rattle.mq_store.specs.Soundness.{HasKept};
 ghost use Rattle.mq_program.specs.Auditing.{FailsAfter, PrintsAudit, PrintsSound, sound_line};
 ghost use Rattle.mq_program.specs.Opened.{MeansFile};
-ghost use Rattle.mq_program.specs.Refusals.{AreInRange};
+ghost use Rattle.mq_process.specs.Settings.{AreInRange};
 
 use crate::fault::ProgramFault;
-use crate::server::server_settings;
-use crate::store::ledger_of_settings;
+use crate::store::{ledger_of_settings, let_go};
 use log::Logged;
 use log::sink::Console;
 use mq_arguments::AuditArguments;
 use mq_command::write_whole;
+use mq_process::server_settings;
 use mq_settings::ServerSettings;
 use mq_store::SqlLedger;
 use sqlite::{Alter, FileFrom, FileStore, Start};
@@ -36,8 +36,7 @@ pub fn audit<W: Write, S: Start>(
     ensures silent { IfErr result (λ fault. fault ≢ ProgramFault.Write → Keeps (W.contents output.old) (W.contents output.new)) }
 {
     let settings = server_settings(rt, given.config)?;
-    let _ledger = audit_file(rt, &settings, start, output)?;
-    Ok(0)
+    let_go(audit_file(rt, &settings, start, output))
 }
 
 /// Audits the ledger in the file of these settings, which comes back.

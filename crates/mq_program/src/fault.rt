@@ -3,12 +3,9 @@ ghost use Rattle.std.specs.Prelude.{◌≡◌};
 ghost use Rattle.std.specs.IoError.{error_kind};
 ghost use Rattle.mq_program.specs.Faults.{or_memory_of};
 
-use log::sink::Console;
-use log::{LevelFilter, Logged, error};
-use mq_client::FilterFault;
 use mq_connections::RoomFault;
 use mq_ledger::LedgerFault;
-use mq_settings::{FileFault, SettingsFault};
+use mq_process::ProcessFault;
 use mq_store::{OpenFault, OpenRefused};
 use sqlite::Alter;
 use std::alloc::{AllocError, AllocFailed};
@@ -22,12 +19,6 @@ pub enum ProgramFault {
     /// A word of the command line is no UTF-8.
     #[error("arguments are not text")]
     Words,
-    #[error("bad host")]
-    Host,
-    #[error("bad login")]
-    Login,
-    #[error("bad address")]
-    Address,
     /// No zone rule of 1 to 64 bytes, or minutes east or west along with it.
     #[error("bad rule")]
     Rule,
@@ -37,18 +28,9 @@ pub enum ProgramFault {
     Write,
     #[error("out of memory")]
     Memory,
+    /// It isn't done before a ledger is opened.
     #[error("{0}")]
-    File(FileFault),
-    #[error("{0}")]
-    Settings(SettingsFault),
-    /// The clock can't be read, or its milliseconds can't be a run's number.
-    #[error("run number unavailable")]
-    NoRun,
-    /// The clock can't be read, or what it shows is before 1970-01-02 or after 2999.
-    #[error("day unavailable")]
-    NoMoment,
-    #[error("{0}")]
-    Filter(FilterFault),
+    Process(ProcessFault),
     /// The database file, for another cause than memory.
     #[error("store can't be opened")]
     Store,
@@ -80,11 +62,8 @@ impl ProgramFault {
         ensures { result ≡ fault_status self.now }
     {
         match self {
-            ProgramFault::Words
-            | ProgramFault::Host
-            | ProgramFault::Login
-            | ProgramFault::Address
-            | ProgramFault::Rule => 2,
+            ProgramFault::Words | ProgramFault::Rule => 2,
+            ProgramFault::Process(fault) => fault.status(),
             _ => 1,
         }
     }
@@ -107,6 +86,16 @@ impl<T: Drop> From<AllocFailed<T>> for ProgramFault {
 
     fn from(_error: AllocFailed<T>) -> ProgramFault {
         ProgramFault::Memory
+    }
+}
+
+impl From<ProcessFault> for ProgramFault {
+    ghost use Rattle.mq_program.specs.declared.fault.ProgramFault.TheVariants.{Process};
+
+    ghost from_gives = { λ cause fault. fault ≡ Process cause };
+
+    fn from(cause: ProcessFault) -> ProgramFault {
+        ProgramFault::Process(cause)
     }
 }
 
@@ -158,24 +147,4 @@ pub fn or_memory(error: &io::Error, fault: ProgramFault) -> ProgramFault
         ErrorKind::OutOfMemory => ProgramFault::Memory,
         _ => fault,
     }
-}
-
-/// Logs why a file of settings can't be used, and gives it back. No level is set before the file is read.
-pub fn logged_of<R: Eprint>(rt: &R, file: &str, fault: ProgramFault) -> ProgramFault
-    ensures { result ≡ fault }
-{
-    let logged = Logged::new(rt, LevelFilter::Error, Console(rt));
-    match &fault {
-        ProgramFault::File(FileFault::Unreadable(cause)) => error!(logged; "{file}: {cause}"),
-        ProgramFault::Settings(SettingsFault::Text(flaw)) => error!(logged; "{file}: {flaw}"),
-        ProgramFault::Settings(SettingsFault::Address(key, flaw)) => {
-            error!(logged; "{file}: setting {key}: {flaw}");
-        }
-        ProgramFault::Settings(SettingsFault::Bad(key)) => {
-            let wanted = key.wanted();
-            error!(logged; "{file}: {fault}, it has to be {wanted}");
-        }
-        _ => error!(logged; "{file}: {fault}"),
-    }
-    fault
 }

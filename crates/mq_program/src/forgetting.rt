@@ -6,20 +6,19 @@ ghost use Rattle.sqlite.specs.Held.{state};
 ghost use Rattle.sqlite.specs.WalFiles.{image_at};
 ghost use Rattle.mq_program.specs.Forgetting.{Counts, CountsLimits, PrintsKept, PrintsKeptOf, PrintsKeptOfFile, kept_line};
 ghost use Rattle.mq_program.specs.Opened.{MeansFile};
-ghost use Rattle.mq_program.specs.Refusals.{AreInRange};
+ghost use Rattle.mq_process.specs.Settings.{AreInRange};
 ghost use Rattle.mq_store.specs.Forgetting.{IsFree, IsRemembered};
 ghost use Rattle.mq_store.specs.Soundness.{HasKept, IsSound, book_in};
 
 use crate::auditing::print;
-use crate::day::moment_or_now;
 use crate::fault::ProgramFault;
 use crate::progress::{Progress, Terminal};
-use crate::server::server_settings;
-use crate::store::{connect_new, ledger_of_settings, make_new_file, path_of};
+use crate::store::{connect_new, ledger_of_settings, let_go, make_new_file, path_of};
 use log::sink::Console;
 use log::{Log, Logged, error, info};
 use mq_arguments::ForgetArguments;
 use mq_ledger::Zone;
+use mq_process::{moment_or_now, server_settings};
 use mq_settings::ServerSettings;
 use mq_store::{OpenFault, SqlLedger};
 use sqlite::{Alter, Connection, FileFrom, FileStore, Start};
@@ -317,6 +316,5 @@ pub fn forget<W: Write, S: Start>(
 {
     let settings = server_settings(rt, given.config)?;
     check_day(rt, &settings.zone, given.before)?;
-    let _old = forget_file(rt, &settings, given, start, output)?;
-    Ok(0)
+    let_go(forget_file(rt, &settings, given, start, output))
 }

@@ -1,44 +1,33 @@
-//! What the subcommands do with the files, the streams, the clock and the network of the process.
+//! The subcommands over a ledger: `server`, `init`, `status`, `limits`, `audit`, `forget` and `replay`.
 //!
-//! [`run_subcommand`] runs the one that the arguments ask for, prints why it isn't done, and gives the exit status.
-//! From `mailquota/src/program.rt`:
+//! Each opens the ledger that it needs, and gives the exit status, or a [`ProgramFault`]. From `mailquota/src/subcommand.rt`:
 //!
-//!     match read_arguments(rt.alloc(), words) {
-//!         Ok(given) => run_subcommand(rt, given, start, errors),
+//!     Arguments::Server(given) => end_program(server(rt, given, start), errors),
 //!
-//! It stands on all that a subcommand needs: `mq_arguments`, `mq_frame`, `mq_ledger`, `mq_forget`, `mq_rows`, `mq_tables`,
-//! `mq_server`, `mq_link`, `mq_client`, `mq_settings`, `mq_tcp`, `mq_connections`, `mq_watch`, `mq_command` and `mq_store`. It knows no
-//! words of the command line, and decides nothing by itself. Begin with `subcommand.rt`, then `filter.rt` and
-//! `server.rt`, where the program is put together.
+//! Those that need no ledger, the filter among them, are `mq_remote`'s. It stands on `mq_arguments`, `mq_frame`, `mq_ledger`,
+//! `mq_forget`, `mq_rows`, `mq_tables`, `mq_server`, `mq_settings`, `mq_connections`, `mq_watch`, `mq_command`, `mq_process` and
+//! `mq_store`. It knows no words of the command line, and decides nothing by itself. Begin with `serving.rt`, where the server is
+//! put together, then `store.rt`.
 #![tactic(auto)]
 
-mod admin;
 mod auditing;
-mod clock;
-mod day;
 mod describing;
 mod fault;
-mod filter;
 mod forgetting;
-mod init;
 mod listing;
+mod making;
+mod probing;
 mod progress;
 mod refusal;
-mod replay;
-mod server;
+mod replaying;
+mod serving;
 mod store;
-mod subcommand;
 
-pub use admin::limit::limit;
-pub use admin::report::report;
-pub use admin::retire::retire;
-pub use admin::status::status;
-pub use admin::stop::{resume, stop};
 pub use auditing::{audit, audit_ledger};
-pub use clock::run_number;
 pub use fault::{ProgramFault, or_memory};
 pub use forgetting::{carry_over, forget};
 pub use listing::{limits, list_limits};
-pub use replay::run_replay;
-pub use server::listen;
-pub use subcommand::{refuse, run_subcommand};
+pub use making::init;
+pub use probing::status;
+pub use replaying::{replay, run_replay};
+pub use serving::{listen, server};

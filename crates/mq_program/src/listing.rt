@@ -10,16 +10,16 @@ ghost use Rattle.mq_rows.specs.Pair.{pair_cmp};
 ghost use Rattle.mq_store.specs.Soundness.{HasKept, IsSound, book_in};
 ghost use Rattle.mq_program.specs.Listing.{PrintsFrontOfLimits, PrintsLimits, PrintsLimitsOf, PrintsSome, limit_line, limit_lines, limit_text};
 ghost use Rattle.mq_program.specs.Opened.{MeansFile};
-ghost use Rattle.mq_program.specs.Refusals.{AreInRange};
+ghost use Rattle.mq_process.specs.Settings.{AreInRange};
 
 use crate::auditing::print;
 use crate::fault::ProgramFault;
-use crate::server::server_settings;
-use crate::store::{ledger_of_settings, log_cause, path_of};
+use crate::store::{ledger_of_settings, let_go, log_cause, path_of};
 use log::sink::Console;
 use log::{Log, Logged};
 use mq_arguments::LimitsArguments;
 use mq_command::login_text;
+use mq_process::server_settings;
 use mq_rows::LimitFigures;
 use mq_settings::ServerSettings;
 use mq_store::SqlLedger;
@@ -41,8 +41,7 @@ pub fn limits<W: Write, S: Start>(
     ensures printed { IfOk result (λ _. PrintsSome (W.contents output.old) (W.contents output.new)) }
 {
     let settings = server_settings(rt, given.config)?;
-    let _ledger = limits_file(rt, &settings, start, output)?;
-    Ok(0)
+    let_go(limits_file(rt, &settings, start, output))
 }
 
 /// Prints the limits of the ledger in the file of these settings, which comes back.

@@ -1,6 +1,6 @@
 //! How far a long command is, for somebody who waits at a terminal.
 
-use crate::clock::elapsed;
+use mq_process::elapsed;
 use std::io::{IsTerminal, Write};
 use std::time::Instant;
 

@@ -1,9 +1,9 @@
 //! The settings files of the filter and the server: what their text means, and why one is refused.
 //!
 //! [`read_file`] gives the bytes of a file, at most 65,536, and [`read_filter_settings`] and [`read_server_settings`]
-//! what they mean, or the first refusal in key order. From `mq_program/src/filter.rt`:
+//! what they mean, or the first refusal in key order. From `mq_process/src/settings.rt`:
 //!
-//!     let text = read_file(rt, file).map_err(|fault| logged_of(rt, file, ProgramFault::File(fault)))?;
+//!     let text = read_file(rt, file).map_err(|fault| logged_of(rt, file, ProcessFault::File(fault)))?;
 //!     read_filter_settings(rt.alloc(), text.as_slice())
 //!
 //! It stands on `mq_frame` and `mq_ledger`, for a host's name and a zone. It knows nothing of what is done by the

@@ -1,7 +1,7 @@
 //! The link to the quota server over TCP, a new connection for each exchange, and a link that logs outages.
 //!
 //! [`TcpLink`] is a link over whatever makes its connections ([`Connect`]), the program's [`Connector`] over sockets.
-//! [`LoggedLink`] is any link with a log of its outages. From `mq_program/src/filter.rt`:
+//! [`LoggedLink`] is any link with a log of its outages. From `mq_remote/src/subcommands/filter.rt`:
 //!
 //!     let link = TcpLink::new(rt, settings.server, timeout);
 //!     let mut link = LoggedLink::new(link, &logged, settings.tries);

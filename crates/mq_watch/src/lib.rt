@@ -2,7 +2,7 @@
 //!
 //! A [`Watched`] ledger is another one that logs: each limit, with what it was answered, a mail host whose clock isn't
 //! today's, and a login that nears its limit. It answers as the other does, and contracts see that one. A server says by
-//! [`Hear`] whose requests come. From `mq_program/src/server.rt`:
+//! [`Hear`] whose requests come. From `mq_program/src/serving.rt`:
 //!
 //!     let mut watched = Watched::new(rt, log, rt.alloc(), ledger);
 //!     let outcome = listen(rt, log, rt.alloc(), settings, &mut watched, connections);

@@ -1,6 +1,6 @@
 //! The words of mailquota's command line: its subcommands with their options and help, and what given words ask for.
 //!
-//! [`read_arguments`] gives the arguments that the words ask for, or the help or usage fault to print. From
+//! [`read_arguments`] gives the arguments that the words ask for, or the help or usage fault that [`print_fault`] prints. From
 //! `mailquota/src/program.rt`:
 //!
 //!     match read_arguments(rt.alloc(), words) {
@@ -10,7 +10,9 @@
 //! subcommand does. Begin with `subcommands.rt`, the options as a table, and `words.rt`; `mailquota(8)` has them in words.
 #![tactic(auto)]
 
+mod printing;
 mod subcommands;
 mod words;
 
+pub use printing::{Unprinted, print_fault};
 pub use words::{WordsFault, read_arguments};

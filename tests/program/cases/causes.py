@@ -128,7 +128,7 @@ def addresses_of_settings(world, checks):
 def refuses_setting(world, checks, subcommand, others, key, value, said):
     """The value of a setting is bad, and the log says why."""
     file = world.new_file(toml({**others, key: value}))
-    log = f"[ERROR mq_program::fault] {file}: setting {key}: {said}\n"
+    log = f"[ERROR mq_process::settings] {file}: setting {key}: {said}\n"
     came = world.run(subcommand, "--config", file)
     checks.equal(f"{subcommand} with {key} = {value!r}", came, (1, b"", f"{log}mailquota: setting {key}: bad value\n"))
 

@@ -24,7 +24,7 @@ def files(world, checks):
     missing, folder = "No such file or directory (os error 2)", "Is a directory (os error 21)"
     for what, path, cause in [("no file", f"{world.folder}/none", missing), ("a folder", world.folder, folder), ("an empty path", "", missing)]:
         came = world.run("filter", "--config", path)
-        log = f"[ERROR mq_program::fault] {path}: {cause}\n"
+        log = f"[ERROR mq_process::settings] {path}: {cause}\n"
         checks.equal(f"filter settings, {what}", came, (1, b"", log + "mailquota: settings can't be read\n"))
     text = text_of()
     expect(world, checks, "65,536 bytes", text + "#" * (65_536 - len(text)), ACCEPTED)

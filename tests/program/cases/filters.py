@@ -288,7 +288,7 @@ def faults(world, checks):
     ]
     for what, text, written, error in cases:
         came = world.filter("127.0.0.1:1", text)
-        log = f"[ERROR mq_program::filter] the filter ends: {error}\n"
+        log = f"[ERROR mq_remote::subcommands::filter] the filter ends: {error}\n"
         checks.equal(f"{what}: status, lines, errors", came, (1, written, f"{log}mailquota: {error}\n"))
     quiet = world.filter("127.0.0.1:1", b"", log="off")
     checks.equal('an empty input with log = "off"', quiet, (1, b"", "mailquota: input ended before config ready\n"))

@@ -175,5 +175,5 @@ def a_port_in_use(world, checks):
         address = f"127.0.0.1:{taken.getsockname()[1]}"
         file = world.new_file(f'listen = "{address}"\nstore = "memory"\ndefault = 3\noffset = 0\ntimeout = 2000\nlog = "warn"\n')
         came = world.run("server", "--config", file, "--connections", "1")
-    log = f"[ERROR mq_program::server] listening on {address}: Address already in use (os error 98)\n"
+    log = f"[ERROR mq_program::serving] listening on {address}: Address already in use (os error 98)\n"
     checks.equal("a port in use", came, (1, b"", log + "mailquota: listen failed\n"))

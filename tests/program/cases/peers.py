@@ -298,11 +298,11 @@ def ends(world, checks):
         checks.equal('log = "off": status and log', (server.status(), server.log_lines()), (0, []))
     with Server(world) as one:
         two = world.run("server", "--config", world.new_file(f'listen = "{one.address}"\nstore = "memory"\ndefault = 3\noffset = 0\n'))
-        log = f"[ERROR mq_program::server] listening on {one.address}: Address already in use (os error 98)\n"
+        log = f"[ERROR mq_program::serving] listening on {one.address}: Address already in use (os error 98)\n"
         checks.equal("a port in use", two, (1, b"", log + "mailquota: listen failed\n"))
     with Server(world, connections=1, log="info") as server:
         server.ask(usage())
-        wanted = [begun("memory"), *(f"[INFO  mq_program::server] {line}" for line in (
+        wanted = [begun("memory"), *(f"[INFO  mq_program::serving] {line}" for line in (
             f"listening on {server.listen} for 1 connections", "ending after 1 connections"))]
         checks.equal('log = "info": status, start and end', (server.status(), without_time(server.log_lines())), (0, wanted))
     with Server(world, offset=60) as server:

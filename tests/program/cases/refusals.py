@@ -9,7 +9,7 @@ def run(world, checks):
             came = world.run(subcommand, "--config", path, *more)
             log = apart(came[2])[0]
             checks.equal(f"{subcommand} with settings at {path}", without_log(came), fault("settings can't be read"))
-            checks.equal(f"{subcommand} with settings at {path}: the log", log, [f"[ERROR mq_program::fault] {path}: {cause}\n"])
+            checks.equal(f"{subcommand} with settings at {path}: the log", log, [f"[ERROR mq_process::settings] {path}: {cause}\n"])
     no_file_to_wait_by(world, checks)
 
 

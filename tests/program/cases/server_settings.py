@@ -34,7 +34,7 @@ class Cases:
             ("a folder", self.world.folder, "Is a directory (os error 21)"),
         ]:
             came = self.world.run("server", "--config", path)
-            log = f"[ERROR mq_program::fault] {path}: {cause}\n"
+            log = f"[ERROR mq_process::settings] {path}: {cause}\n"
             self.checks.equal(f"server settings, {what}", came, (1, b"", log + "mailquota: settings can't be read\n"))
         text = self.text_of()
         self.expect("65,536 bytes", text + "#" * (65_536 - len(text)), ACCEPTED)

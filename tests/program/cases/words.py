@@ -66,7 +66,7 @@ def usage_faults(world, checks):
 
 def unreadable(name):
     """How a subcommand ends whose settings aren't there."""
-    return 1, b"", f"[ERROR mq_program::fault] {name}: {NO_FILE}\nmailquota: settings can't be read\n"
+    return 1, b"", f"[ERROR mq_process::settings] {name}: {NO_FILE}\nmailquota: settings can't be read\n"
 
 
 BAD_ADDRESS = bad_address("a", NO_PORT)
@@ -195,7 +195,7 @@ def words_of_a_server_and_an_audit(world, checks):
         os.rename(world.new_file(toml(settings)), f"{folder}/{name}")
     with Server.of_words(world, "--config=s", "--create", folder=folder) as server:
         wait_until(lambda: len(server.log_lines()) > 1)
-        lines = [begun(f"{folder}/made"), "[INFO  mq_program::server] listening on 127.0.0.1:0 for 1000000 connections"]
+        lines = [begun(f"{folder}/made"), "[INFO  mq_program::serving] listening on 127.0.0.1:0 for 1000000 connections"]
         came = without_time(server.log_lines()), server.ask(page())
         checks.equal("server --config=s --create: the log, and its ledger", came, (lines, page_reply([])))
     came = world.run("audit", "--config", "s.toml", folder=folder)

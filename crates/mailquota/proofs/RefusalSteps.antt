@@ -1,0 +1,55 @@
+-- The exit status of a report or a replay of which a word is at fault.
+use Rattle.std.proofs.Common.{◌≡◌, ℕ, List, Option, None, Some, Result, Ok, Err, sym, subst}
+use Rattle.std.specs.Prelude.{IfSome, MatchResult}
+use Rattle.std.specs.Borrow.{Bor}
+use Rattle.mq_arguments.specs.declared.LoginArgument.{LoginArgument}
+use Rattle.mq_arguments.specs.declared.ReportArguments.{ReportArguments}
+use Rattle.mq_arguments.specs.declared.ReplayArguments.{ReplayArguments}
+use Rattle.mq_arguments.specs.declared.Arguments.{Arguments}
+use Rattle.mq_arguments.specs.declared.Arguments.TheVariants.{Replay, Report}
+use Rattle.mq_process.specs.Faults.{process_status}
+use Rattle.mq_process.specs.Refusals.{NamesLogin, ReportRefuses}
+use Rattle.mq_process.specs.declared.fault.ProcessFault.{ProcessFault}
+use Rattle.mq_process.specs.declared.fault.ProcessFault.TheVariants.{Login, Address}
+use Rattle.mq_program.specs.Faults.{fault_status}
+use Rattle.mq_program.specs.Refusals.{IsRuleAlone, ReplayRefuses}
+use Rattle.mq_program.specs.declared.fault.ProgramFault.{ProgramFault}
+use Rattle.mq_program.specs.declared.fault.ProgramFault.TheVariants.{Rule}
+use Rattle.mailquota.specs.Refusals.{Refuses}
+
+-- what follows for a login that is no login
+for_login : (login : Option LoginArgument) (A B : Type 0) → (A → B) → IfSome login (λ l. ¬ NamesLogin l → A)
+    → IfSome login (λ l. ¬ NamesLogin l → B)
+for_login None A B step given = given
+for_login (Some text) A B step given = λ no. step (given no)
+
+-- another way to say how a report ends
+for_report : (given : ReportArguments) (A B : ProcessFault → Type 0) → ((fault : ProcessFault) → A fault → B fault) → ReportRefuses given A → ReportRefuses given B
+for_report given A B step refuses = record {
+  login = for_login given.login (A Login) (B Login) (step Login) refuses.login;
+  address = λ login no. step Address (refuses.address login no);
+}
+
+-- what follows for a rule that is at fault
+for_rule : (rule : Option (Bor (List ℕ))) (east west : ℕ) (A B : Type 0) → (A → B) → IfSome rule (λ text. ¬ IsRuleAlone east west text.now → A)
+    → IfSome rule (λ text. ¬ IsRuleAlone east west text.now → B)
+for_rule None east west A B step given = given
+for_rule (Some text) east west A B step given = λ no. step (given no)
+
+-- the status is that of the fault
+status_of : {F : Type 0} (status_by : F → ℕ) (asked : Result ℕ F) (status : ℕ) → MatchResult asked (λ s. status ≡ s) (λ f. status ≡ status_by f)
+    → (fault : F) → asked ≡ Err fault → status ≡ status_by fault
+status_of status_by (Ok s) status ends fault is = absurd (let e = is in cc)
+status_of status_by (Err other) status ends fault is = let e = is in cc
+
+pub report_ends : (all : Arguments) (given : ReportArguments) (asked : Result ℕ ProcessFault) (status : ℕ) → all ≡ Report given
+    → MatchResult asked (λ s. status ≡ s) (λ f. status ≡ process_status f) → ReportRefuses given (λ f. asked ≡ Err f) → Refuses all status
+report_ends all given asked status is ends refuses =
+    subst (λ words. Refuses words status) (sym is)
+    (for_report given (λ f. asked ≡ Err f) (λ f. status ≡ process_status f) (status_of process_status asked status ends) refuses)
+
+pub replay_ends : (all : Arguments) (given : ReplayArguments) (asked : Result ℕ ProgramFault) (status : ℕ) → all ≡ Replay given
+    → MatchResult asked (λ s. status ≡ s) (λ f. status ≡ fault_status f) → ReplayRefuses given (λ f. asked ≡ Err f) → Refuses all status
+replay_ends all given asked status is ends refuses =
+    subst (λ words. Refuses words status) (sym is)
+    (for_rule given.rule given.east given.west (asked ≡ Err Rule) (status ≡ fault_status Rule) (status_of fault_status asked status ends Rule) refuses)

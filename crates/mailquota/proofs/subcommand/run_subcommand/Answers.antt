@@ -1,0 +1,9 @@
+use Rattle.mailquota.proofs.RefusalSteps.{replay_ends, report_ends}
+use Rattle.mailquota.proofs.subcommand.run_subcommand.Goals as goal
+
+pub returns-in-Replay : goal.returns-in-Replay
+returns-in-Replay g c = replay_ends c.args.given c.in-Replay.given c.replay.result c.end_program.result c.in-Replay.is c.end_program.ensures c.replay.ensures
+
+pub returns-in-Report : goal.returns-in-Report
+returns-in-Report g c =
+    report_ends c.args.given c.in-Report.given c.report.result c.end_process-in-Report.result c.in-Report.is c.end_process-in-Report.ensures c.report.ensures

@@ -1,0 +1,11 @@
+-- The exit status of a subcommand that asks no server and opens no ledger.
+use Rattle.std.specs.Prelude.{ℕ}
+use Rattle.mq_process.specs.declared.fault.ProcessFault.{ProcessFault}
+use Rattle.mq_process.specs.declared.fault.ProcessFault.TheVariants.{Host, Login, Address}
+
+-- 2 where the words are at fault, else 1
+abbrev pub process_status : ProcessFault → ℕ
+process_status Host = 2
+process_status Login = 2
+process_status Address = 2
+process_status _ = 1

@@ -1,0 +1,55 @@
+-- How a subcommand that asks a server ends where a word of it is at fault.
+use Rattle.std.specs.Prelude.{◌≡◌, ℕ, List, Option, None, Some, IfSome, IsSomeAnd, ⊤}
+use Rattle.std.specs.Net.Grammar.{IsSocketText}
+use Rattle.std.specs.declared.net.SocketAddr.{SocketAddr}
+use Rattle.mq_frame.specs.Range.{IsHost, IsLogin}
+use Rattle.mq_arguments.specs.declared.LoginArgument.{LoginArgument}
+use Rattle.mq_arguments.specs.declared.LoginArgument.TheVariants.{Reported, Printed}
+use Rattle.mq_arguments.specs.declared.ServerArgument.{ServerArgument}
+use Rattle.mq_arguments.specs.declared.ServerArgument.TheVariants as server
+use Rattle.mq_arguments.specs.declared.RetireArguments.{RetireArguments}
+use Rattle.mq_arguments.specs.declared.ReportArguments.{ReportArguments}
+use Rattle.mq_command.specs.Printed.{IsLoginText, IsTextOf}
+use Rattle.mq_process.specs.declared.fault.ProcessFault.{ProcessFault}
+use Rattle.mq_process.specs.declared.fault.ProcessFault.TheVariants.{Host, Login, Address}
+
+-- the text spells no numeric address and port
+abbrev pub IsNoAddress : List ℕ → Type 0
+IsNoAddress text = (address : SocketAddr) → ¬ IsSocketText text address
+
+-- the words name this login
+abbrev pub Names : LoginArgument → List ℕ → Type 0
+Names (Reported text) login = login ≡ text.now
+Names (Printed text) login = IsTextOf text.now login
+
+-- the words name a login
+abbrev pub NamesLogin : LoginArgument → Type 0
+NamesLogin (Reported text) = IsLogin text.now
+NamesLogin (Printed text) = IsLoginText text.now
+
+-- the one login that the words name, or all where they name none
+abbrev pub NamesOneOrAll : Option LoginArgument → Option (List ℕ) → Type 0
+NamesOneOrAll None found = found ≡ None
+NamesOneOrAll (Some given) found = IsSomeAnd found (Names given)
+
+-- how an order about a login ends where a word of it is at fault: the host goes first, then the login, then the address
+pub record OrderRefuses (host : List ℕ) (login : LoginArgument) (server : List ℕ) (EndsBy : ProcessFault → Type 0)
+    : Type 0 where
+  pub bad_host : ¬ IsHost host → EndsBy Host
+  pub bad_login : IsHost host → ¬ NamesLogin login → EndsBy Login
+  pub bad_address : IsHost host → NamesLogin login → IsNoAddress server → EndsBy Address
+
+-- how `status` ends where a word of it is at fault
+abbrev pub StatusRefuses : ServerArgument → (ProcessFault → Type 0) → Type 0
+StatusRefuses (server.Address text) EndsBy = IsNoAddress text.now → EndsBy Address
+StatusRefuses (server.Config file) EndsBy = ⊤
+
+-- how `retire` ends where a word of it is at fault: the host goes before the address
+pub record RetireRefuses (given : RetireArguments) (EndsBy : ProcessFault → Type 0) : Type 0 where
+  pub host : ¬ IsHost given.host.now → EndsBy Host
+  pub address : IsHost given.host.now → IsNoAddress given.server.now → EndsBy Address
+
+-- how `report` ends where a word of it is at fault: the login goes before the address
+pub record ReportRefuses (given : ReportArguments) (EndsBy : ProcessFault → Type 0) : Type 0 where
+  pub login : IfSome given.login (λ login. ¬ NamesLogin login → EndsBy Login)
+  pub address : IfSome given.login NamesLogin → IsNoAddress given.server.now → EndsBy Address

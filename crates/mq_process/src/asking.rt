@@ -1,0 +1,110 @@
+//! What the subcommands that ask a server have in common: their words checked, the link, and the first number of a run.
+ghost use Rattle.std.specs.Prelude.{◌≡◌, Err, IfErr, IfOk, MatchBool, MatchResult};
+ghost use Rattle.std.specs.Net.Grammar.{IsSocketText};
+ghost use Rattle.mq_frame.specs.Range.{IsHost, IsLogin};
+ghost use Rattle.mq_process.specs.Refusals.{IsNoAddress, Names, NamesLogin, OrderRefuses};
+
+use crate::fault::ProcessFault;
+use log::sink::Console;
+use log::{LevelFilter, Log, Logged, error};
+use mq_arguments::LoginArgument;
+use mq_command::{TRIES, is_login_text, login_of_text};
+use mq_frame::{Escaped, Host, Id, Login, is_host, is_login};
+use mq_settings::address_flaw;
+use mq_tcp::{Connector, LoggedLink, TcpLink};
+use std::alloc::{AllocError, Global};
+use std::net::{Net, SocketAddr};
+use std::rt::Clock;
+use std::time::Duration;
+
+/// How long it may take to connect, to write a request and to read its reply, in milliseconds.
+pub const TIMEOUT: u64 = 2_000;
+
+/// Logs what a text lacks that is no numeric address with a port.
+fn refused_address<R: Eprint>(rt: &R, text: &str) -> ProcessFault
+    ensures { result ≡ ProcessFault.Address }
+{
+    let logged = Logged::new(rt, LevelFilter::Error, Console(rt));
+    let shown = Escaped(text.as_bytes());
+    let flaw = address_flaw(text);
+    error!(logged; "address {shown}: {flaw}");
+    ProcessFault::Address
+}
+
+/// The numeric address and port that a text spells. What another text lacks is logged.
+pub fn address_of<R: Eprint>(rt: &R, text: &str) -> Result<SocketAddr, ProcessFault>
+    ensures { MatchResult result (IsSocketText text.now) (λ fault. (fault ≡ ProcessFault.Address)
+        × IsNoAddress text.now) }
+{
+    match text.parse::<SocketAddr>() {
+        Ok(address) => Ok(address),
+        Err(_) => Err(refused_address(rt, text)),
+    }
+}
+
+/// Whether words name a login.
+pub fn names_login(given: LoginArgument<'_>) -> bool
+    ensures { MatchBool result (NamesLogin given.entry) (¬ NamesLogin given.entry) }
+{
+    match given {
+        LoginArgument::Reported(text) => is_login(text.as_bytes()),
+        LoginArgument::Printed(text) => is_login_text(text),
+    }
+}
+
+/// The login that words name.
+pub fn login_of(alloc: Global, given: LoginArgument<'_>) -> Result<Login, ProcessFault>
+    requires { NamesLogin given }
+    ensures named { IfOk result (Names given.entry) }
+    ensures in_range { IfOk result IsLogin }
+    ensures memory { IfErr result (λ fault. fault ≡ ProcessFault.Memory) }
+{
+    match given {
+        LoginArgument::Reported(text) => Ok(Login::from_slice(alloc, text.as_bytes())?),
+        LoginArgument::Printed(text) => match login_of_text(alloc, text)? {
+            Some(login) => Ok(login),
+            None => unreachable!(),
+        },
+    }
+}
+
+/// The address of the server, where host, login and address are what they should be.
+pub fn checked<R: Eprint>(
+    rt: &R,
+    host: &str,
+    login: LoginArgument<'_>,
+    server: &str,
+) -> Result<SocketAddr, ProcessFault>
+    ensures refuses { OrderRefuses host.now login.entry server.now (λ fault. result ≡ Err fault) }
+    ensures host { IfOk result (λ _. IsHost host.now) }
+    ensures login { IfOk result (λ _. NamesLogin login.entry) }
+{
+    if !is_host(host.as_bytes()) {
+        return Err(ProcessFault::Host);
+    }
+    if !names_login(login) {
+        return Err(ProcessFault::Login);
+    }
+    address_of(rt, server)
+}
+
+/// A link to the server at this address, with a log of its troubles.
+pub fn link_to<'a, R: Clock + Net, G: Log>(
+    rt: &'a R,
+    address: SocketAddr,
+    log: &'a G,
+) -> LoggedLink<'a, TcpLink<'a, R, Connector<'a, R>>, G> {
+    let link = TcpLink::new(rt, address, Duration::from_millis(TIMEOUT));
+    LoggedLink::new(link, log, TRIES)
+}
+
+/// The first number of a run.
+pub fn first_id(alloc: Global, host: &str, run: u64) -> Result<Id, AllocError>
+    ensures { IfOk result (λ id. id ≡ record { host = host.now; run = run; number = 1 }) }
+{
+    Ok(Id {
+        host: Host::from_slice(alloc, host.as_bytes())?,
+        run,
+        number: 1,
+    })
+}

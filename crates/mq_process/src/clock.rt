@@ -1,0 +1,61 @@
+//! The clock, and the number of a run.
+ghost use Rattle.std.specs.Prelude.{◌≡◌, ◌/◌, Ok, IfSome, IfOk, IfErr, IsSomeAnd};
+ghost use Rattle.std.specs.Option.{SomeIff};
+ghost use Rattle.std.specs.Duration.{as_nanos};
+ghost use Rattle.std.specs.Time.{system_time_nanos};
+ghost use Rattle.mq_frame.specs.Range.{IsRun};
+
+use crate::fault::ProcessFault;
+use mq_frame::is_run;
+use std::rt::Clock;
+use std::time::{Duration, Instant, SystemTime, UNIX_EPOCH};
+
+/// The whole milliseconds of a time, where they can be a run's number.
+fn run_of(time: Duration) -> Option<u64>
+    ensures { SomeIff result (IsRun (as_nanos time / 1_000_000)) (as_nanos time / 1_000_000) }
+{
+    match u64::try_from(time.as_millis()) {
+        Ok(millis) if is_run(millis) => Some(millis),
+        _ => None,
+    }
+}
+
+/// The time from 1970 to this moment.
+fn time_at(now: SystemTime) -> Option<Duration>
+    ensures { IsSomeAnd result (λ time. as_nanos time ≡ system_time_nanos now) }
+{
+    now.duration_since(UNIX_EPOCH).ok()
+}
+
+/// The time since 1970 by the clock, where it can be read.
+pub fn time_of_clock(rt: &impl Clock) -> Option<Duration> {
+    time_at(SystemTime::now(rt).ok()?)
+}
+
+/// The clock's milliseconds since 1970, where they can be a run's number.
+fn run_of_clock(rt: &impl Clock) -> Option<u64>
+    ensures { IfSome result IsRun }
+{
+    run_of(time_of_clock(rt)?)
+}
+
+/// How long it is since then, where the clock can be read.
+pub fn elapsed(rt: &impl Clock, since: Option<Instant>) -> Option<Duration> {
+    since?.elapsed(rt).ok()
+}
+
+/// The given number of a run, or the clock's.
+pub fn run_number(rt: &impl Clock, given: Option<u64>) -> Result<u64, ProcessFault>
+    requires { IfSome given IsRun }
+    ensures run { IfOk result IsRun }
+    ensures given { IfSome given (λ run. result ≡ Ok run) }
+    ensures unavailable { IfErr result (λ fault. fault ≡ ProcessFault.NoRun) }
+{
+    match given {
+        Some(run) => Ok(run),
+        None => match run_of_clock(rt) {
+            Some(run) => Ok(run),
+            None => Err(ProcessFault::NoRun),
+        },
+    }
+}

@@ -1,0 +1,63 @@
+//! Why a subcommand isn't done before it asks a server or opens a ledger.
+ghost use Rattle.std.specs.Prelude.{◌≡◌};
+
+use mq_settings::{FileFault, SettingsFault};
+use std::alloc::{AllocError, AllocFailed};
+use thiserror::Error;
+
+/// Why a subcommand isn't done before it asks a server or opens a ledger. Its text is printed after `mailquota: `.
+#[derive(Debug, Drop, Error)]
+pub enum ProcessFault {
+    #[error("bad host")]
+    Host,
+    #[error("bad login")]
+    Login,
+    #[error("bad address")]
+    Address,
+    #[error("out of memory")]
+    Memory,
+    #[error("{0}")]
+    File(FileFault),
+    #[error("{0}")]
+    Settings(SettingsFault),
+    /// The clock can't be read, or its milliseconds can't be a run's number.
+    #[error("run number unavailable")]
+    NoRun,
+    /// The clock can't be read, or what it shows is before 1970-01-02 or after 2999.
+    #[error("day unavailable")]
+    NoMoment,
+}
+
+impl ProcessFault {
+    ghost use Rattle.mq_process.specs.Faults.{process_status};
+
+    /// The exit status: 2 where the words are at fault, else 1.
+    pub fn status(&self) -> u8
+        ensures { result ≡ process_status self.now }
+    {
+        match self {
+            ProcessFault::Host | ProcessFault::Login | ProcessFault::Address => 2,
+            _ => 1,
+        }
+    }
+}
+
+impl From<AllocError> for ProcessFault {
+    ghost use Rattle.mq_process.specs.declared.fault.ProcessFault.TheVariants.{Memory};
+
+    ghost from_gives = { λ _ fault. fault ≡ Memory };
+
+    fn from(_error: AllocError) -> ProcessFault {
+        ProcessFault::Memory
+    }
+}
+
+impl<T: Drop> From<AllocFailed<T>> for ProcessFault {
+    ghost use Rattle.mq_process.specs.declared.fault.ProcessFault.TheVariants.{Memory};
+
+    ghost from_gives = { λ _ fault. fault ≡ Memory };
+
+    fn from(_error: AllocFailed<T>) -> ProcessFault {
+        ProcessFault::Memory
+    }
+}

@@ -1,0 +1,27 @@
+//! What the subcommands have in common before they ask a server or open a ledger: their settings, the clock, the words checked,
+//! the link, and whether a server answers.
+//!
+//! Each fault of these is a [`ProcessFault`], which has its exit status. From `mq_remote/src/subcommands/limit.rt`:
+//!
+//!     let address = checked(rt, given.host, given.login, given.server)?;
+//!     let run = run_number(rt, given.run)?;
+//!
+//! It stands on `mq_arguments`, `mq_frame`, `mq_settings`, `mq_tcp` and `mq_command`. Begin with `settings.rt` and `asking.rt`;
+//! `specs/Refusals.antt` says which words are refused, and in which order.
+#![tactic(auto)]
+
+mod asking;
+mod clock;
+mod fault;
+mod moment;
+mod probing;
+mod refusing;
+mod settings;
+
+pub use asking::{address_of, checked, first_id, link_to, login_of, names_login};
+pub use clock::{elapsed, run_number};
+pub use fault::ProcessFault;
+pub use moment::{day, moment_or_now};
+pub use probing::{Question, ask_once, probe, probe_text};
+pub use refusing::refuse;
+pub use settings::{filter_settings, server_settings};

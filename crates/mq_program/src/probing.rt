@@ -1,0 +1,123 @@
+//! `status`: whether the quota server answers, and what its ledger holds where it doesn't.
+ghost use Rattle.std.specs.Prelude.{◌≡◌, ℕ, Err, IfOk};
+ghost use Rattle.sqlite.specs.Files.{file_state};
+ghost use Rattle.sqlite.specs.Held.{state};
+ghost use Rattle.sqlite.specs.WalFiles.{image_at};
+ghost use Rattle.mq_store.specs.Soundness.{HasKept, IsSound};
+ghost use Rattle.mq_program.specs.Describing.{Describes, DescribesFile};
+ghost use Rattle.mq_program.specs.Opened.{MeansFile, path_in};
+ghost use Rattle.mq_process.specs.Refusals.{StatusRefuses};
+ghost use Rattle.mq_process.specs.Settings.{AreInRange};
+ghost use Rattle.mq_program.specs.declared.fault.ProgramFault.TheVariants.{Process};
+
+use crate::describing::describe_ledger;
+use crate::fault::{ProgramFault, or_memory};
+use crate::store::{ledger_of_settings, let_go, log_cause, path_of};
+use log::sink::Console;
+use log::{Log, Logged};
+use mq_arguments::{ServerArgument, StatusArguments};
+use mq_process::{probe, probe_text, server_settings};
+use mq_settings::ServerSettings;
+use mq_store::SqlLedger;
+use sqlite::{Alter, FileFrom, FileStore, Start};
+use std::io::Write;
+use std::{fs, io};
+
+/// The exit status where no server answers and none has the ledger's file open.
+const NOT_RUNNING: u8 = 3;
+
+/// `status`: asks the quota server once, and prints that it answers. Where the words name its settings and it doesn't, and
+/// no server has the file of its ledger open, prints what that holds; the status is 3 then.
+///
+/// `start` stands for what the file of the settings and its log hold before the call.
+pub fn status<E: Write, S: Start>(
+    rt: &HostRuntime,
+    given: StatusArguments<'_>,
+    start: S,
+    errors: &mut E,
+) -> Result<u8, ProgramFault>
+    ensures { StatusRefuses given.entry.server (λ fault. result ≡ Err (Process fault)) }
+{
+    match given.server {
+        ServerArgument::Address(text) => Ok(probe_text(rt, text, errors)?),
+        ServerArgument::Config(file) => status_of_settings(rt, file, start, errors),
+    }
+}
+
+/// Asks the server of the settings in a file once; where it doesn't answer, prints what the file of its ledger holds.
+fn status_of_settings<E: Write, S: Start>(
+    rt: &HostRuntime,
+    file: &str,
+    start: S,
+    errors: &mut E,
+) -> Result<u8, ProgramFault> {
+    let settings = server_settings(rt, file)?;
+    let status = probe(rt, settings.listen, errors)?;
+    if status == 0 {
+        return Ok(0);
+    }
+    let output = &mut io::writer(rt);
+    let_go(describe_file(rt, &settings, start, output))?;
+    Ok(NOT_RUNNING)
+}
+
+/// Prints what the ledger in the file of these settings holds, which it opens as a server does, and which comes back.
+fn describe_file<W: Write, S: Start>(
+    rt: &HostRuntime,
+    settings: &ServerSettings,
+    start: S,
+    output: &mut W,
+) -> Result<SqlLedger<FileStore<FileFrom<S>>>, ProgramFault>
+    requires { AreInRange settings.now }
+
+    // It is the ledger whose rows the files hold, and where these are the rows of a history, the lines are those of its
+    // ledger.
+    ensures rows { IfOk result (λ ledger. HasKept (file_state ledger.connection)
+        → MeansFile settings.now.zone settings.now.default (image_at S.Start) (file_state ledger.connection)) }
+    ensures described { IfOk result (λ ledger. HasKept (file_state ledger.connection)
+        → DescribesFile settings.now.zone settings.now.default (image_at S.Start) (path_in settings.now.store)
+        (file_state ledger.connection).now (W.contents output.old) (W.contents output.new)) }
+{
+    let path = path_of(settings)?;
+    let logged = Logged::new(rt, settings.log, Console(rt));
+    let ledger = ledger_of_settings(rt, &logged, settings, false, start)?;
+    let ledger = describe_whole(rt, &logged, ledger, path, output)?;
+    Ok(ledger)
+}
+
+/// Prints what a ledger holds that is in the file at a path, and comes back as it was. It goes over any store, since a
+/// proof over the file's own takes far longer.
+fn describe_whole<G: Log, S: Alter + Drop, W: Write>(
+    rt: &HostRuntime,
+    log: &G,
+    ledger: SqlLedger<S>,
+    path: &str,
+    output: &mut W,
+) -> Result<SqlLedger<S>, ProgramFault>
+    ensures described { IfOk result (λ back. HasKept (state S.Store back.connection)
+        → IsSound ledger.zone ledger.default (state S.Store ledger.connection)
+        → (bytes : ℕ) × Describes path.now bytes ledger.zone ledger.default (state S.Store ledger.connection).now
+        ledger.found (W.contents output.old) (W.contents output.new)) }
+    ensures same { IfOk result (λ back. HasKept (state S.Store back.connection)
+        → (state S.Store back.connection).now ≡ (state S.Store ledger.connection).now) }
+    ensures kept { IfOk result (λ back. HasKept (state S.Store back.connection)
+        → HasKept (state S.Store ledger.connection)) }
+{
+    let mut ledger = ledger;
+    let bytes = bytes_of(rt, path)?;
+    match describe_ledger(rt.alloc(), &mut ledger, path, bytes, output) {
+        Ok(()) => Ok(ledger),
+        Err(fault) => {
+            log_cause(log, path, &ledger);
+            Err(fault)
+        }
+    }
+}
+
+/// How many bytes the file at a path has.
+fn bytes_of(rt: &HostRuntime, path: &str) -> Result<u64, ProgramFault> {
+    match fs::metadata(rt, path) {
+        Ok(found) => Ok(found.len()),
+        Err(cause) => Err(or_memory(&cause, ProgramFault::Store)),
+    }
+}

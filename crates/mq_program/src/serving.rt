@@ -1,0 +1,267 @@
+//! `server`: serves a ledger to filters.
+ghost use Rattle.std.specs.Prelude.{◌≡◌, false, IfOk, IsTrue};
+ghost use Rattle.sqlite.specs.Files.{file_state};
+ghost use Rattle.sqlite.specs.Held.{state};
+ghost use Rattle.sqlite.specs.WalFiles.{image_at};
+ghost use Rattle.mq_server.specs.Delivery.{HasGrown};
+ghost use Rattle.mq_store.specs.Soundness.{book_in, HasKept, IsSound};
+ghost use Rattle.mq_program.specs.Opened.{GrowsFrom, GrowsFromNothing};
+ghost use Rattle.mq_connections.specs.declared.fault.RoomFault.TheVariants.{Store as store_failed};
+ghost use Rattle.mq_connections.specs.Sessions.{EndsServing};
+ghost use Rattle.mq_connections.specs.Wires.{unknown};
+ghost use Rattle.mq_program.specs.declared.fault.ProgramFault.TheVariants.{Serve};
+ghost use Rattle.mq_process.specs.Settings.{AreInRange};
+
+use crate::fault::ProgramFault;
+use crate::refusal::days_by;
+use crate::store::{ledger_of_settings, log_cause, memory_ledger};
+use log::sink::Console;
+use log::{Log, Logged, error, info};
+use mq_arguments::ServerArguments;
+use mq_connections::laws::nothing_is_served;
+use mq_connections::serve_connections;
+use mq_ledger::Ledger;
+use mq_process::{elapsed, server_settings};
+use mq_rows::VERSION;
+use mq_server::laws::more_deliveries;
+use mq_settings::{Place, ServerSettings};
+use mq_store::SqlLedger;
+use mq_watch::{Hear, Watched};
+use sqlite::{Alter, FileFrom, FileStore, Start};
+use std::alloc::Global;
+use std::fmt;
+use std::net::{Net, TcpListener, TcpStream};
+use std::rt::Clock;
+use std::time::{Duration, Instant};
+
+/// Serves so many connections: the settings first, then the ledger, then the port. `start` stands for what the ledger's file
+/// and its log hold before the call.
+pub fn server<S: Start>(
+    rt: &HostRuntime,
+    given: ServerArguments<'_>,
+    start: S,
+) -> Result<u8, ProgramFault> {
+    let settings = server_settings(rt, given.config)?;
+    serve(rt, &settings, given.create, given.connections, start)
+}
+
+/// Serves so many connections by these settings.
+fn serve<S: Start>(
+    rt: &HostRuntime,
+    settings: &ServerSettings,
+    create: bool,
+    connections: u32,
+    start: S,
+) -> Result<u8, ProgramFault>
+    requires { AreInRange settings.now }
+{
+    let logged = Logged::new(rt, settings.log, Console(rt));
+    match &settings.store {
+        Place::Memory => listen_in_memory(rt, &logged, settings, connections),
+        Place::File(_) => {
+            let Served { ledger: _, outcome } = listen_over_file(
+                rt,
+                &logged,
+                settings,
+                create,
+                connections,
+                start,
+            )?;
+            outcome
+        }
+    }
+}
+
+/// A server that has ended: its ledger, and how it ended.
+#[derive(Drop)]
+struct Served<S: Alter> {
+    ledger: SqlLedger<S>,
+    outcome: Result<u8, ProgramFault>,
+}
+
+/// Serves so many connections over a new ledger in memory.
+fn listen_in_memory<G: Log>(
+    rt: &HostRuntime,
+    log: &G,
+    settings: &ServerSettings,
+    connections: u32,
+) -> Result<u8, ProgramFault>
+    requires { AreInRange settings.now }
+{
+    let since = Instant::now(rt).ok();
+    let ledger = memory_ledger(rt.alloc(), settings.zone, settings.default)?;
+    let took = Took(elapsed(rt, since));
+    let Served { ledger: _, outcome } = listen_over(rt, log, settings, ledger, took, connections);
+    outcome
+}
+
+/// Serves so many connections over the ledger in the file of the settings; with `create` over a new one.
+fn listen_over_file<G: Log, S: Start>(
+    rt: &HostRuntime,
+    log: &G,
+    settings: &ServerSettings,
+    create: bool,
+    connections: u32,
+    start: S,
+) -> Result<Served<FileStore<FileFrom<S>>>, ProgramFault>
+    requires { AreInRange settings.now }
+
+    // A server begins with the history whose rows the files hold, and adds to it what it was sent; so does one that makes
+    // its ledger, with no history.
+    ensures begun { create ≡ false → IfOk result (λ served. HasKept (file_state served.ledger.connection)
+        → GrowsFrom settings.now.zone settings.now.default (image_at S.Start)
+        (file_state served.ledger.connection)) }
+    ensures made { IsTrue create → IfOk result (λ served. HasKept (file_state served.ledger.connection)
+        → GrowsFromNothing settings.now.zone settings.now.default (image_at S.Start)
+        (file_state served.ledger.connection)) }
+{
+    let since = Instant::now(rt).ok();
+    let ledger = ledger_of_settings(rt, log, settings, create, start)?;
+    let took = Took(elapsed(rt, since));
+    Ok(listen_over(rt, log, settings, ledger, took, connections))
+}
+
+/// Serves so many connections over a ledger. It goes over any store, since a proof over the file's own takes far longer.
+fn listen_over<G: Log, S: Alter + Drop>(
+    rt: &HostRuntime,
+    log: &G,
+    settings: &ServerSettings,
+    ledger: SqlLedger<S>,
+    took: Took,
+    connections: u32,
+) -> Served<S>
+    ensures same { (result.ledger.zone ≡ ledger.zone) × (result.ledger.default ≡ ledger.default) }
+    ensures kept { HasKept (state S.Store result.ledger.connection) → HasKept (state S.Store ledger.connection) }
+    ensures sound { HasKept (state S.Store result.ledger.connection)
+        → IsSound ledger.zone ledger.default (state S.Store ledger.connection)
+        → IsSound ledger.zone ledger.default (state S.Store result.ledger.connection) }
+    ensures grown { HasKept (state S.Store result.ledger.connection)
+        → IsSound ledger.zone ledger.default (state S.Store ledger.connection)
+        → HasGrown (book_in ledger.zone ledger.default (state S.Store ledger.connection).now)
+        (book_in ledger.zone ledger.default (state S.Store result.ledger.connection).now) }
+{
+    more_deliveries();
+    let mut ledger = ledger;
+    match log_ledger(log, settings, &mut ledger, took) {
+        Ok(()) => begin(rt, log, settings, ledger, connections),
+        Err(fault) => {
+            log_cause(log, place_name(&settings.store), &ledger);
+            Served {
+                ledger,
+                outcome: Err(fault),
+            }
+        }
+    }
+}
+
+/// Serves so many connections over a ledger, and logs what an administrator has to see of their requests.
+fn begin<G: Log, S: Alter + Drop>(
+    rt: &HostRuntime,
+    log: &G,
+    settings: &ServerSettings,
+    ledger: SqlLedger<S>,
+    connections: u32,
+) -> Served<S>
+    ensures same { (result.ledger.zone ≡ ledger.zone) × (result.ledger.default ≡ ledger.default) }
+    ensures kept { HasKept (state S.Store result.ledger.connection) → HasKept (state S.Store ledger.connection) }
+    ensures sound { HasKept (state S.Store result.ledger.connection)
+        → IsSound ledger.zone ledger.default (state S.Store ledger.connection)
+        → IsSound ledger.zone ledger.default (state S.Store result.ledger.connection) }
+    ensures grown { HasKept (state S.Store result.ledger.connection)
+        → IsSound ledger.zone ledger.default (state S.Store ledger.connection)
+        → HasGrown (book_in ledger.zone ledger.default (state S.Store ledger.connection).now)
+        (book_in ledger.zone ledger.default (state S.Store result.ledger.connection).now) }
+{
+    let mut watched = Watched::new(rt, log, rt.alloc(), ledger);
+    let outcome = listen(rt, log, rt.alloc(), settings, &mut watched, connections);
+    let ledger = watched.into_inner();
+    log_cause(log, place_name(&settings.store), &ledger);
+    Served { ledger, outcome }
+}
+
+/// How long something took, where the clock could be read.
+#[derive(Clone, Copy)]
+struct Took(Option<Duration>);
+
+impl fmt::Display for Took {
+    fn fmt<W: fmt::Write>(&self, f: &mut fmt::Formatter<W>) -> fmt::Result {
+        match self.0 {
+            Some(time) => write!(f, "{} ms", time.as_millis()),
+            None => f.write_str("an unknown time"),
+        }
+    }
+}
+
+/// Where a ledger is kept, as the settings name it.
+fn place_name(place: &Place) -> &str {
+    match place {
+        Place::Memory => "memory",
+        Place::File(path) => path.as_str(),
+    }
+}
+
+/// Logs what a ledger holds as a server begins with it, and how long it took to open it.
+fn log_ledger<G: Log, S: Alter>(
+    log: &G,
+    settings: &ServerSettings,
+    ledger: &mut SqlLedger<S>,
+    took: Took,
+) -> Result<(), ProgramFault>
+    ensures lent { (ledger.new.zone ≡ ledger.old.zone) × (ledger.new.default ≡ ledger.old.default) }
+    ensures kept { HasKept (state S.Store ledger.new.connection) → HasKept (state S.Store ledger.old.connection) }
+    ensures sound { HasKept (state S.Store ledger.new.connection)
+        → IsSound ledger.old.zone ledger.old.default (state S.Store ledger.old.connection)
+        → IsSound ledger.new.zone ledger.new.default (state S.Store ledger.new.connection) }
+    ensures same { HasKept (state S.Store ledger.new.connection)
+        → (state S.Store ledger.new.connection).now ≡ (state S.Store ledger.old.connection).now }
+{
+    let answers = ledger.count_answers()?;
+    let limits = ledger.limits()?.len();
+    let days = ledger.found().days;
+    let name = place_name(&settings.store);
+    let default = settings.default;
+    let terms = days_by(&settings.zone);
+    info!(
+        log;
+        "ledger {name}: version {VERSION}, default {default}, {terms}, answers={answers} days={days} limits={limits}, opened in {took}"
+    );
+    Ok(())
+}
+
+/// Listens at the address of the settings, and serves so many connections over the ledger. The start,
+/// the end and what prevents it are logged.
+pub fn listen<R, G: Log, L: Ledger + Hear>(
+    rt: &R,
+    log: &G,
+    alloc: Global,
+    settings: &ServerSettings,
+    ledger: &mut L,
+    connections: u32,
+) -> Result<u8, ProgramFault>
+where
+    R: Clock + Net<Listener = TcpListener, Stream = TcpStream>,
+    ensures same_zone { (L.book ledger.new).zone ≡ (L.book ledger.old).zone }
+    ensures same_default { (L.book ledger.new).default ≡ (L.book ledger.old).default }
+    ensures kept { L.has_kept ledger.new → L.has_kept ledger.old }
+    ensures sound { L.has_kept ledger.new → L.is_sound ledger.old → L.is_sound ledger.new }
+    ensures history { L.has_kept ledger.new → L.is_sound ledger.old →
+        HasGrown (L.book ledger.old) (L.book ledger.new) }
+    ensures serves { L.has_kept ledger.new → L.is_sound ledger.old → EndsServing
+        (record { book = L.book ledger.old; told = L.told ledger.old; wires = unknown })
+        (record { book = L.book ledger.new; told = L.told ledger.new; wires = unknown }) (Serve store_failed) result }
+{
+    nothing_is_served();
+    let address = settings.listen;
+    let listener = match TcpListener::bind(rt, address) {
+        Ok(listener) => listener,
+        Err(error) => {
+            error!(log; "listening on {address}: {error}");
+            return Err(ProgramFault::Listen);
+        }
+    };
+    info!(log; "listening on {address} for {connections} connections");
+    let timeout = Duration::from_millis(u64::from(settings.timeout));
+    serve_connections(rt, log, alloc, &listener, timeout, ledger, connections)?;
+    info!(log; "ending after {connections} connections");
+    Ok(0)
+}

@@ -1,0 +1,25 @@
+//! Why the filter ends.
+ghost use Rattle.std.specs.Prelude.{◌≡◌};
+
+use mq_client::FilterFault;
+use mq_process::ProcessFault;
+use thiserror::Error;
+
+/// Why the filter ends, or why it doesn't begin. Its text is printed after `mailquota: `, and the exit status is 1.
+#[derive(Debug, Drop, Error)]
+pub enum FilterEnd {
+    #[error("{0}")]
+    Process(ProcessFault),
+    #[error("{0}")]
+    Filter(FilterFault),
+}
+
+impl From<ProcessFault> for FilterEnd {
+    ghost use Rattle.mq_remote.specs.declared.fault.FilterEnd.TheVariants.{Process};
+
+    ghost from_gives = { λ cause fault. fault ≡ Process cause };
+
+    fn from(cause: ProcessFault) -> FilterEnd {
+        FilterEnd::Process(cause)
+    }
+}

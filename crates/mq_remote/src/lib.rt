@@ -1,0 +1,21 @@
+//! The subcommands that ask a quota server: the filter, and `limit`, `stop`, `resume`, `retire` and `report`.
+//!
+//! Each checks its words, makes the link to the server, and hands it with its streams to `mq_client` or `mq_command`, which
+//! decide. From `mailquota/src/subcommand.rt`:
+//!
+//!     Arguments::Limit(given) => end_process(limit(rt, given, errors), errors),
+//!
+//! It stands on `mq_arguments`, `mq_frame`, `mq_link`, `mq_client`, `mq_settings`, `mq_tcp`, `mq_command` and `mq_process`, and
+//! knows no store, so that it is proved while the tables of the ledger are. Begin with `subcommands/filter.rt`, where the
+//! filter is put together.
+#![tactic(auto)]
+
+mod fault;
+mod subcommands;
+
+pub use fault::FilterEnd;
+pub use subcommands::filter::filter;
+pub use subcommands::limit::limit;
+pub use subcommands::report::report;
+pub use subcommands::retire::retire;
+pub use subcommands::stop::{resume, stop};

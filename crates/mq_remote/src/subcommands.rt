@@ -1,0 +1,7 @@
+//! The subcommands: each checks its words, makes the link, and hands on its streams.
+
+pub mod filter;
+pub mod limit;
+pub mod report;
+pub mod retire;
+pub mod stop;

@@ -1,0 +1,76 @@
+//! `filter`: answers smtpd on standard input and output.
+ghost use Rattle.std.specs.Prelude.{IfSome};
+ghost use Rattle.mq_frame.specs.Range.{IsRun};
+ghost use Rattle.mq_process.specs.Settings.{CanAsk};
+
+use crate::fault::FilterEnd;
+use log::sink::Console;
+use log::{Log, Logged, error};
+use mq_arguments::FilterArguments;
+use mq_client::{Client, run_filter};
+use mq_frame::{FromRead, ToWrite};
+use mq_link::Link;
+use mq_process::{ProcessFault, Question, ask_once, filter_settings, run_number};
+use mq_settings::FilterSettings;
+use mq_tcp::{LoggedLink, TcpLink};
+use std::io;
+use std::io::Write;
+use std::net::Net;
+use std::rt::{Clock, Files};
+use std::time::Duration;
+
+/// Runs the filter until its input ends: the settings first, then the clock. With `check` it reads no input, and only asks
+/// whether the server of its settings answers.
+pub fn filter<R: Files + Clock + Net + Input + Print + Eprint + AllocGlobal, E: Write>(
+    rt: &R,
+    given: FilterArguments<'_>,
+    errors: &mut E,
+) -> Result<u8, FilterEnd>
+    requires { IfSome given.run IsRun }
+{
+    let settings = filter_settings(rt, given.config)?;
+    if given.check {
+        let timeout = u64::from(settings.timeout);
+        return Ok(ask_once(rt, settings.server, timeout, Question::Check, errors)?);
+    }
+    let run = run_number(rt, given.run)?;
+    run_client(rt, &settings, run)
+}
+
+/// Runs the filter under this run number, over a link to the server of the settings.
+fn run_client<R: Clock + Net + Input + Print + Eprint + AllocGlobal>(
+    rt: &R,
+    settings: &FilterSettings,
+    run: u64,
+) -> Result<u8, FilterEnd>
+    requires settings { CanAsk settings.now }
+    requires run { IsRun run }
+{
+    let mut client = match Client::new(rt.alloc(), &settings.host, run, settings.tries) {
+        Ok(client) => client,
+        Err(_) => return Err(FilterEnd::Process(ProcessFault::Memory)),
+    };
+    let logged = Logged::new(rt, settings.log, Console(rt));
+    let timeout = Duration::from_millis(u64::from(settings.timeout));
+    let link = TcpLink::new(rt, settings.server, timeout);
+    let mut link = LoggedLink::new(link, &logged, settings.tries);
+    answer_lines(rt, &logged, &mut link, &mut client)
+}
+
+/// Answers the lines on standard input. Why that ends before their end is logged.
+fn answer_lines<R: Input + Print + AllocGlobal, G: Log, K: Link>(
+    rt: &R,
+    log: &G,
+    link: &mut K,
+    client: &mut Client,
+) -> Result<u8, FilterEnd> {
+    let mut input = FromRead::new(rt.reader());
+    let mut output = ToWrite::new(io::writer(rt));
+    match run_filter(log, rt.alloc(), &mut input, &mut output, link, client) {
+        Ok(_) => Ok(0),
+        Err(fault) => {
+            error!(log; "the filter ends: {fault}");
+            Err(FilterEnd::Filter(fault))
+        }
+    }
+}

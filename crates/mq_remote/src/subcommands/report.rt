@@ -1,0 +1,65 @@
+//! `report`: prints what logins used on a day.
+ghost use Rattle.std.specs.Prelude.{◌≡◌, Err, IfOk, IfSome};
+ghost use Rattle.mq_frame.specs.Range.{IsDay, IsLogin};
+ghost use Rattle.mq_process.specs.Refusals.{NamesLogin, NamesOneOrAll, ReportRefuses};
+
+use log::sink::Console;
+use log::{LevelFilter, Logged};
+use mq_arguments::{LoginArgument, ReportArguments};
+use mq_command::run_report;
+use mq_frame::Login;
+use mq_process::{ProcessFault, address_of, link_to, login_of, names_login};
+use std::alloc::Global;
+use std::io;
+use std::io::{BufWriter, Write};
+use std::net::{Net, SocketAddr};
+use std::rt::Clock;
+
+/// The login that is reported alone, where one is given.
+fn one_login_of(
+    alloc: Global,
+    given: Option<LoginArgument<'_>>,
+) -> Result<Option<Login>, ProcessFault>
+    requires { IfSome given NamesLogin }
+    ensures named { IfOk result (NamesOneOrAll given.entry) }
+    ensures in_range { IfOk result (λ login. IfSome login IsLogin) }
+{
+    match given {
+        None => Ok(None),
+        Some(login) => Ok(Some(login_of(alloc, login)?)),
+    }
+}
+
+/// `report`: prints what one login, or all, used on a day.
+pub fn report<R: Clock + Net + Print + Eprint + AllocGlobal, E: Write>(
+    rt: &R,
+    given: ReportArguments<'_>,
+    errors: &mut E,
+) -> Result<u8, ProcessFault>
+    requires { IsDay given.day }
+    ensures { ReportRefuses given.entry (λ fault. result ≡ Err fault) }
+{
+    if !given.login.is_none_or(|login| names_login(login)) {
+        return Err(ProcessFault::Login);
+    }
+    let address = address_of(rt, given.server)?;
+    let login = one_login_of(rt.alloc(), given.login)?;
+    ask_report(rt, address, given.day, login.as_ref(), errors)
+}
+
+/// Asks the server at this address what one login, or all, used on a day, and prints it.
+fn ask_report<R: Clock + Net + Print + Eprint + AllocGlobal, E: Write>(
+    rt: &R,
+    address: SocketAddr,
+    day: u32,
+    login: Option<&Login>,
+    errors: &mut E,
+) -> Result<u8, ProcessFault>
+    requires day { IsDay day }
+    requires login { IfSome login (λ login. IsLogin login.now) }
+{
+    let mut output = BufWriter::new(rt.alloc(), io::writer(rt)).map_err(|_| ProcessFault::Memory)?;
+    let logged = Logged::new(rt, LevelFilter::Error, Console(rt));
+    let mut link = link_to(rt, address, &logged);
+    Ok(run_report(rt.alloc(), &mut link, day, login, &mut output, errors))
+}

@@ -1,0 +1,41 @@
+//! What is printed where the words ask for nothing that can be done.
+ghost use Rattle.std.specs.Prelude.{◌≡◌, ◌≢◌, ◌⊎◌, Ok, Err, MatchResult};
+ghost use Rattle.clap.specs.Values.{kind_of};
+ghost use Rattle.clap.specs.declared.error.kind.ErrorKind.TheVariants.{DisplayHelp, DisplayVersion};
+ghost use Rattle.mq_words.specs.Printing.{EndsPrinted};
+
+use crate::words::WordsFault;
+use clap::Error;
+
+/// Why nothing was printed of words that ask for nothing that can be done.
+#[derive(Clone, Copy)]
+pub enum Unprinted {
+    Memory,
+    Write,
+}
+
+/// Prints the help that the words ask for on standard output, or what is wrong with them on standard error, and gives the
+/// exit status: 0 for help that was printed, 2 for a mistake, printed or not.
+pub fn print_fault(rt: &HostRuntime, fault: WordsFault) -> Result<u8, Unprinted>
+    ensures { EndsPrinted fault result }
+{
+    match fault {
+        WordsFault::Memory => Err(Unprinted::Memory),
+        WordsFault::Words(error) => print_error(rt, &error),
+    }
+}
+
+fn print_error(rt: &HostRuntime, error: &Error) -> Result<u8, Unprinted>
+    ensures mistake { kind_of error.now ≢ DisplayHelp → kind_of error.now ≢ DisplayVersion → result ≡ Ok 2 }
+    ensures help { (kind_of error.now ≡ DisplayHelp) ⊎ (kind_of error.now ≡ DisplayVersion)
+        → MatchResult result (λ status. status ≡ 0) (λ why. why ≡ Unprinted.Write) }
+{
+    let printed = error.print(rt);
+    if error.use_stderr() {
+        return Ok(2);
+    }
+    match printed {
+        Ok(()) => Ok(0),
+        Err(_) => Err(Unprinted::Write),
+    }
+}
