@@ -128,17 +128,32 @@ def failed(name, status):
 class Build:
     """The crates that are to be proved, and those that are."""
 
-    def __init__(self, below, processors, has_copies):
-        self.below, self.processors, self.has_copies, self.lengths = below, processors, has_copies, lengths_above(below)
+    def __init__(self, below, trees, processors):
+        self.below, self.trees, self.processors, self.lengths = below, trees, processors, lengths_above(below)
         self.chain = chain_of(below, self.lengths)
+        self.awaited = self.below_all(self.chain[:-1]).difference(self.chain)
         self.begun, self.done, self.running, self.has_failed = [], set(), {}, False
         self.changed = threading.Condition()
 
+    def below_all(self, names):
+        """These crates, and all below them."""
+        return set(names).union(*(self.below_all(self.below[it]) for it in names))
+
+    def is_for(self, tree):
+        """Whether a crate is to be proved in this tree. With one tree each is. Else the repository has the chain, so that its next never waits for
+        another crate there. With more than one copy the last has what the chain doesn't wait for, so that it takes no place of the others."""
+        if len(self.trees) == 1:
+            return lambda name: True
+        if tree == TOP:
+            return lambda name: name in self.chain
+        if len(self.trees) == 2:
+            return lambda name: name not in self.chain
+        return lambda name: name not in self.chain and (name in self.awaited) == (tree != self.trees[-1])
+
     def next(self, tree):
-        """The crate to begin with now in a tree, or None where all have begun or one has failed. Where there are copies, the repository has the chain alone,
-        so that the next of the chain never waits for another crate there."""
+        """The crate to begin with now in a tree, or None where all that are for it have begun or one has failed."""
         with self.changed:
-            left = [it for it in self.below if not self.has_copies or (tree == TOP) == (it in self.chain)]
+            left = list(filter(self.is_for(tree), self.below))
             while (left := [it for it in left if it not in self.begun]) and not self.has_failed:
                 ready = [it for it in left if self.done.issuperset(self.below[it])]
                 if ready:
@@ -148,9 +163,13 @@ class Build:
                 self.changed.wait()
         return None
 
+    def nice(self, name):
+        """How a crate gives way to the others: those of the chain to none, those that it waits for to it, and the rest to both."""
+        return 0 if name in self.chain else 5 if name in self.awaited else 19
+
     def prove(self, name, tree):
         """Proves and compiles a crate in a tree; gives the status."""
-        jobs, nice = (self.processors, []) if tree == TOP else (1, ["nice", "-n", "19"])
+        jobs = self.processors if tree == TOP else 1
         words = ["run", "--jobs", str(jobs), "--", "--help"] if name == PROGRAM else ["lib", "--jobs", str(jobs)]
         os.makedirs(f"{TOP}/crates/{name}/out", exist_ok=True)
         with open(f"{TOP}/crates/{name}/out/build.log", "wb") as log:
@@ -159,7 +178,7 @@ class Build:
                     return 1
                 # (in a process group of its own, so that it can be ended with all that it started; in a session of its own Linux would give it as much as
                 # the chain of crates has, however nice it is)
-                process = subprocess.Popen([*nice, RT, *words], cwd=f"{tree}/crates/{name}", stdin=subprocess.DEVNULL, stdout=log, stderr=log, preexec_fn=os.setpgrp)
+                process = subprocess.Popen(["nice", "-n", str(self.nice(name)), RT, *words], cwd=f"{tree}/crates/{name}", stdin=subprocess.DEVNULL, stdout=log, stderr=log, preexec_fn=os.setpgrp)
                 self.running[name] = process
             return process.wait()
 
@@ -194,10 +213,9 @@ class Build:
 def build(below):
     """Builds all; gives the status."""
     begun, processors = time.monotonic(), len(os.sched_getaffinity(0))
-    count = trees_of(processors)
-    run = Build(below, processors, count > 1)
     with tempfile.TemporaryDirectory(prefix="mailquota-build-") as room:
-        trees = [TOP, *(f"{room}/{it}" for it in range(1, count))]
+        trees = [TOP, *(f"{room}/{it}" for it in range(1, trees_of(processors)))]
+        run = Build(below, trees, processors)
         for tree in trees[1:]:
             copy_sources(below, tree)
         workers = [threading.Thread(target=run.work, args=(it,)) for it in trees]
