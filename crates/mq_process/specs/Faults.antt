@@ -1,4 +1,4 @@
--- The exit status of a subcommand that asks no server and opens no ledger.
+-- The exit status of a subcommand that isn't done before it asks a server or opens a ledger.
 use Rattle.std.specs.Prelude.{ℕ}
 use Rattle.mq_process.specs.declared.fault.ProcessFault.{ProcessFault}
 use Rattle.mq_process.specs.declared.fault.ProcessFault.TheVariants.{Host, Login, Address}
