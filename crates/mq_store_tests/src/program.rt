@@ -4,8 +4,8 @@
 //! The helpers have no clauses, so that a test stays cheap to prove.
 
 use mq_ledger::{LedgerFault, Zone};
-use mq_program::{ProgramFault, audit_ledger};
 use mq_process::run_number;
+use mq_program::{ProgramFault, audit_ledger};
 use mq_store::SqlLedger;
 use std::alloc::{AllocError, Global};
 use std::io;
