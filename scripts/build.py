@@ -139,21 +139,23 @@ class Build:
         """These crates, and all below them."""
         return set(names).union(*(self.below_all(self.below[it]) for it in names))
 
-    def is_for(self, tree):
-        """Whether a crate is to be proved in this tree. With one tree each is. Else the repository has the chain, so that its next never waits for
+    def share_of(self, tree):
+        """The crates that are proved in this tree. With one tree those are all. Else the repository has the chain, so that its next never waits for
         another crate there. With more than one copy the last has what the chain doesn't wait for, so that it takes no place of the others."""
         if len(self.trees) == 1:
-            return lambda name: True
+            return set(self.below)
         if tree == TOP:
-            return lambda name: name in self.chain
+            return set(self.chain)
+        apart = set(self.below).difference(self.chain)
         if len(self.trees) == 2:
-            return lambda name: name not in self.chain
-        return lambda name: name not in self.chain and (name in self.awaited) == (tree != self.trees[-1])
+            return apart
+        return apart - self.awaited if tree == self.trees[-1] else self.awaited
 
     def next(self, tree):
         """The crate to begin with now in a tree, or None where all that are for it have begun or one has failed."""
         with self.changed:
-            left = list(filter(self.is_for(tree), self.below))
+            share = self.share_of(tree)
+            left = [it for it in self.below if it in share]
             while (left := [it for it in left if it not in self.begun]) and not self.has_failed:
                 ready = [it for it in left if self.done.issuperset(self.below[it])]
                 if ready:
