@@ -8,15 +8,17 @@ import re
 import shutil
 import signal
 import subprocess
+import sys
 import tempfile
 import threading
 from collections import namedtuple
 
 import source
 
-RT = os.environ.get("RT", "rt")
-KIT = os.path.dirname(os.path.dirname(os.path.realpath(shutil.which(RT) or f"/{RT}")))
-PARTS = ("src", "specs", "proofs")
+sys.path.insert(0, f"{os.path.dirname(os.path.dirname(os.path.realpath(__file__)))}/scripts")
+
+from kit import KIT, PARTS, RATTLE, RT, below, rows_of, words_of
+
 # A check takes a minute or two; one that takes so many seconds hangs.
 LONGEST = 45 * 60
 
@@ -88,26 +90,6 @@ def run(words, folder, longest, tell=None):
     return Ran(None if late.is_set() else started.returncode, "".join(said), usage.ru_utime + usage.ru_stime)
 
 
-def rows_of(root):
-    """Returns the crates of crates.txt, each with the libraries that its line names."""
-    rows = {}
-    with open(f"{root}/crates.txt", encoding="utf-8") as lines:
-        for line in lines:
-            name, _, uses = line.partition("#")[0].partition(":")
-            if name.split():
-                rows[name.split()[0]] = [it for it in re.split(r"[\s,]+", uses) if it]
-    return rows
-
-
-def below(name, rows):
-    """Returns the repository's libraries that the crate stands on, lowest first."""
-    found = []
-    for it in rows[name]:
-        if it in rows:
-            found += [more for more in (*below(it, rows), it) if more not in found]
-    return found
-
-
 def lines_in(folder, ending):
     files = [f"{at}/{it}" for part in PARTS for at, _, names in os.walk(f"{folder}/{part}") for it in names]
     return sum(open(it, "rb").read().count(b"\n") for it in files if it.endswith(ending))
@@ -125,16 +107,7 @@ class Crate:
         return f"{self.crates}/{name}/out/rlib/{name}.rlib"
 
     def words(self):
-        root = "main" if os.path.isfile(f"{self.folder}/src/main.rt") else "lib"
-        own = [it for it in self.rows[self.name] if it in self.rows]
-        words = ["--crate-name", self.name, f"src/{root}.rt", "-L", f"dependency={KIT}/rlibs"]
-        for it in ["std", *(it for it in self.rows[self.name] if it not in self.rows)]:
-            words += ["--extern", f"{it}={KIT}/rlibs/{it}.rlib"]
-        for it in own:
-            words += ["--extern", f"{it}={self.rlib(it)}"]
-        for it in self.below:
-            words += ["-L", f"dependency={os.path.dirname(self.rlib(it))}"]
-        return words + ["--antt-project", f"{KIT}/rattle/logic/antt-project.json", "--logic-built", f"{KIT}/logic_built"]
+        return words_of(self.name, self.rows, self.folder, self.rlib)
 
     def length_of(self, function):
         """Returns how many characters the text of a function has, or a very large number where it has none of its own, and for a
@@ -173,7 +146,7 @@ class Crate:
                 self.write(f"{room}/proofs/Lib.antt", "mod Second\n", "a")
             for it in stated:
                 self.leave_open(it, room)
-            words = [f"{KIT}/bin/rattle", "check", *self.words(), "--jobs", "1", "--allow-holes", "--short-goals"]
+            words = [RATTLE, "check", *self.words(), "--jobs", "1", "--allow-holes", "--short-goals"]
             return run(words + [word for it in only for word in ("--only", it)], room, LONGEST)
 
     def leave_open(self, function, room):

@@ -4,45 +4,48 @@
 usage: build.py            builds the program
        build.py --plan     runs nothing: says what that costs, by the minutes that docs/GATE.md has
 
-It says which crate of how many it begins and ends with, and how long that took; what rt says of a crate stands in crates/NAME/out/build.log.
-Where nothing has changed since the last build, it does nothing. RT in the environment is the command rt.
+It says which crate of how many it begins and ends with, and how long that took; what rattle says of a crate stands in crates/NAME/out/build.log.
+A crate is proved again where its files, those of a crate below it, or the kit have changed; where nothing has, it does nothing. RT in the environment
+is the command rt, whose kit proves.
 
-rt keeps the folders of a crate and of all crates below it to itself, so that two crates over one library can't be proved at once in one tree. So
-there are several trees: the repository, in which the longest chain of crates is proved, with all processors, and copies of its sources, in each of which
-another crate is proved at the same time, with one job, by what processors are left over. rt takes a library that was built from the same text in another tree of this
-machine. Where it can't keep what it built, as for a user who doesn't own the kit, there is one tree.
+A crate is proved over the statements of those below it, without their proofs, as rt ci has it: a check then loads a fraction of them, and any two crates
+can be proved at once. These libraries stand in crates/NAME/out/build, apart from what rt keeps there for checks of a single crate.
 """
 import hashlib
 import os
 import re
-import shutil
 import signal
 import subprocess
 import sys
-import tempfile
 import threading
 import time
 
+sys.dont_write_bytecode = True
+
+from kit import KIT, PARTS, RATTLE, RT, is_program, rows_of, words_of
+
 TOP = os.path.dirname(os.path.dirname(os.path.realpath(__file__)))
-RT = os.environ.get("RT", "rt")
 PROGRAM = "mailquota"
 BINARY = f"{TOP}/crates/{PROGRAM}/out/{PROGRAM}"
-# the sum of all that the last build read
-STAMP = f"{TOP}/crates/{PROGRAM}/out/build.sum"
 # the memory that a check is given, in kilobytes
 MEMORY = 4_000_000
 
 
-def row_of(line):
-    """The crate that a line of crates.txt names, with its libraries; None where it names none."""
-    name, colon, libraries = line.partition("#")[0].partition(":")
-    return (name.split()[0], libraries.split()) if colon else None
+def folder(name):
+    return f"{TOP}/crates/{name}"
 
 
-def crates():
-    """The crates that the program stands on, each with those of ours below it."""
-    with open(f"{TOP}/crates.txt", encoding="utf-8") as lines:
-        rows = dict(it for it in map(row_of, lines) if it)
+def rlib(name):
+    return f"{folder(name)}/out/build/{name}.rlib"
+
+
+def stamp(name):
+    """The file with the sum of all that the crate's last build read."""
+    return f"{folder(name)}/out/build/sum"
+
+
+def crates(rows):
+    """The crates that the program stands on, each with those of ours that its line names."""
     found, left = {}, [PROGRAM]
     while left:
         name = left.pop()
@@ -54,27 +57,53 @@ def crates():
 
 def files_of(crate):
     """What a build of a crate reads of it."""
-    for part in ("src", "specs", "proofs"):
-        for folder, folders, names in os.walk(f"{TOP}/crates/{crate}/{part}"):
+    for part in PARTS:
+        for at, folders, names in os.walk(f"{folder(crate)}/{part}"):
             folders.sort()
-            yield from (f"{folder}/{it}" for it in sorted(names))
+            yield from (f"{at}/{it}" for it in sorted(names))
 
 
-def sum_of_all(names):
-    """A sum of all files of these crates, of what they stand on, and of the kit."""
+def sums_of(rows, known):
+    """Of each crate a sum of all that its build reads: the kit, its line of crates.txt, its files, and the crates below it."""
     kit = subprocess.run([RT, "version"], stdin=subprocess.DEVNULL, capture_output=True, check=True).stdout
-    total = hashlib.sha256(kit)
-    for path in [f"{TOP}/crates.txt", f"{TOP}/HANDLES", *(it for name in sorted(names) for it in files_of(name))]:
-        with open(path, "rb") as file:
-            total.update(f"{os.path.relpath(path, TOP)}\n".encode() + hashlib.sha256(file.read()).digest())
-    return total.hexdigest()
+    sums = {}
+
+    def sum_of(name):
+        if name not in sums:
+            total = hashlib.sha256(kit + repr(rows[name]).encode())
+            for path in files_of(name):
+                with open(path, "rb") as file:
+                    total.update(f"{os.path.relpath(path, TOP)}\n".encode() + hashlib.sha256(file.read()).digest())
+            for it in known[name]:
+                total.update(sum_of(it).encode())
+            sums[name] = total.hexdigest()
+        return sums[name]
+
+    for it in known:
+        sum_of(it)
+    return sums
 
 
-def is_built(wanted):
-    if not os.path.isfile(BINARY) or not os.path.isfile(STAMP):
+def is_built(name, wanted):
+    """Whether the crate's last build read what has this sum."""
+    if not os.path.exists(BINARY if name == PROGRAM else rlib(name)) or not os.path.isfile(stamp(name)):
         return False
-    with open(STAMP, encoding="utf-8") as file:
+    with open(stamp(name), encoding="utf-8") as file:
         return file.read() == wanted
+
+
+def left_of(known, sums):
+    """The crates that aren't built from what is there now, or that stand on one that isn't: statements fit only the very libraries that they were
+    proved over."""
+    left = {}
+
+    def is_left(name):
+        if name not in left:
+            left[name] = any([is_left(it) for it in known[name]]) or not is_built(name, sums[name])
+        return left[name]
+
+    is_left(PROGRAM)
+    return {name: [it for it in below if left[it]] for name, below in known.items() if left[name]}
 
 
 def lengths_above(below):
@@ -95,43 +124,26 @@ def chain_of(below, lengths):
     return chain
 
 
-def keeps_libraries():
-    """Whether rt keeps where a library was built, so that another tree finds it."""
-    kit = os.path.dirname(os.path.dirname(os.path.realpath(shutil.which(RT) or f"/{RT}")))
-    kept = f"{os.path.dirname(kit)}/rattle-kept"
-    return os.stat(kept).st_uid == os.geteuid() if os.path.isdir(kept) else os.access(os.path.dirname(kit), os.W_OK)
-
-
-def trees_of(processors):
-    """How many trees there are: one for each processor, as far as there is memory for a check in each."""
+def at_once():
+    """How many crates are proved at once: one for each processor, as far as there is memory for a check of each."""
     with open("/proc/meminfo", encoding="ascii") as lines:
         free = next(int(it.split()[1]) for it in lines if it.startswith("MemAvailable:"))
-    return max(1, min(processors, free // MEMORY)) if keeps_libraries() else 1
-
-
-def copy_sources(names, tree):
-    """Copies what a build of these crates reads, and of crates.txt their lines."""
-    for path in [f"{TOP}/HANDLES", *(it for name in names for it in files_of(name))]:
-        to = f"{tree}/{os.path.relpath(path, TOP)}"
-        os.makedirs(os.path.dirname(to), exist_ok=True)
-        shutil.copy(path, to)
-    with open(f"{TOP}/crates.txt", encoding="utf-8") as lines, open(f"{tree}/crates.txt", "w", encoding="utf-8") as copy:
-        copy.writelines(it for it in lines if (row := row_of(it)) and row[0] in names)
+    return max(1, min(len(os.sched_getaffinity(0)), free // MEMORY))
 
 
 def failed(name, status):
-    with open(f"{TOP}/crates/{name}/out/build.log", encoding="utf-8", errors="replace") as log:
+    with open(f"{folder(name)}/out/build.log", encoding="utf-8", errors="replace") as log:
         said = log.read().splitlines()
-    print(f"{name}: rt ended with status {status}; the end of crates/{name}/out/build.log:", *said[-30:], sep="\n", file=sys.stderr)
+    print(f"{name}: the build ended with status {status}; the end of crates/{name}/out/build.log:", *said[-30:], sep="\n", file=sys.stderr)
 
 
 class Build:
     """The crates that are to be proved, and those that are."""
 
-    def __init__(self, below, trees, processors):
-        self.below, self.trees, self.processors, self.lengths = below, trees, processors, lengths_above(below)
+    def __init__(self, rows, below, sums, lanes):
+        self.rows, self.below, self.sums, self.lanes, self.lengths = rows, below, sums, lanes, lengths_above(below)
         self.chain = chain_of(below, self.lengths)
-        self.awaited = self.below_all(self.chain[:-1]).difference(self.chain)
+        self.awaited = self.below_all(self.chain[:-1])
         self.begun, self.done, self.running, self.has_failed = [], set(), {}, False
         self.changed = threading.Condition()
 
@@ -139,58 +151,83 @@ class Build:
         """These crates, and all below them."""
         return set(names).union(*(self.below_all(self.below[it]) for it in names))
 
-    def share_of(self, tree):
-        """The crates that are proved in this tree. With one tree those are all. Else the repository has the chain, so that its next never waits for
-        another crate there. With more than one copy the last has what the chain doesn't wait for, so that it takes no place of the others."""
-        if len(self.trees) == 1:
+    def share_of(self, lane):
+        """The crates that are proved in this lane: the first has the longest chain, so that its next never waits for another to end."""
+        if self.lanes == 1:
             return set(self.below)
-        if tree == TOP:
-            return set(self.chain)
-        apart = set(self.below).difference(self.chain)
-        if len(self.trees) == 2:
-            return apart
-        return apart - self.awaited if tree == self.trees[-1] else self.awaited
+        return set(self.chain) if lane == 0 else set(self.below).difference(self.chain)
 
-    def next(self, tree):
-        """The crate to begin with now in a tree, or None where all that are for it have begun or one has failed."""
+    def next(self, lane):
+        """The crate to begin with now in a lane, or None where all that are for it have begun or one has failed."""
         with self.changed:
-            share = self.share_of(tree)
+            share = self.share_of(lane)
             left = [it for it in self.below if it in share]
             while (left := [it for it in left if it not in self.begun]) and not self.has_failed:
                 ready = [it for it in left if self.done.issuperset(self.below[it])]
                 if ready:
-                    name = max(ready, key=self.lengths.get)
+                    name = max(ready, key=lambda it: (it in self.awaited, self.lengths[it]))
                     self.begun.append(name)
                     return name
                 self.changed.wait()
         return None
 
-    def nice(self, name):
-        """How a crate gives way to the others: those of the chain to none, those that it waits for to it, and the rest to both."""
-        return 0 if name in self.chain else 5 if name in self.awaited else 19
+    def jobs(self, name):
+        """How many functions of a crate are proved at once: several only along the chain, since each job loads the libraries once more. The first
+        of the chain takes as long with two as with four, and has others alongside."""
+        if name not in self.chain:
+            return 1
+        return max(1, self.lanes // 2) if name == self.chain[0] else self.lanes
 
-    def prove(self, name, tree):
-        """Proves and compiles a crate in a tree; gives the status."""
-        jobs = self.processors if tree == TOP else 1
-        words = ["run", "--jobs", str(jobs), "--", "--help"] if name == PROGRAM else ["lib", "--jobs", str(jobs)]
-        os.makedirs(f"{TOP}/crates/{name}/out", exist_ok=True)
-        with open(f"{TOP}/crates/{name}/out/build.log", "wb") as log:
-            with self.changed:
-                if self.has_failed:
-                    return 1
-                # (in a process group of its own, so that it can be ended with all that it started; in a session of its own Linux would give it as much as
-                # the chain of crates has, however nice it is)
-                process = subprocess.Popen(["nice", "-n", str(self.nice(name)), RT, *words], cwd=f"{tree}/crates/{name}", stdin=subprocess.DEVNULL, stdout=log, stderr=log, preexec_fn=os.setpgrp)
-                self.running[name] = process
-            return process.wait()
+    def words(self, name, jobs):
+        words = [RATTLE, "build", *words_of(name, self.rows, folder(name), rlib), "--links", f"{name}=", "--jobs", str(jobs)]
+        if is_program(folder(name)):
+            return [*words, "--toolchain", f"{KIT}/toolchain", "--backend", "llvm", "-o", f"{BINARY}.o"]
+        return [*words, "--statements", "-o", rlib(name)]
 
-    def work(self, tree):
-        """Proves one crate after the other in a tree, as long as there are any."""
-        while name := self.next(tree):
+    def run(self, name, words, log):
+        """Runs a command for a crate; gives the status."""
+        with self.changed:
+            if self.has_failed:
+                return 1
+            # (those that the chain doesn't wait for take less than their share; in a process group of its own, so that it can be ended with all that it started, and
+            # not in a session, to which Linux would give as much as to all others)
+            nice = ["nice", "-n", "0" if name in self.awaited or name == PROGRAM else "5"]
+            process = subprocess.Popen([*nice, *words], cwd=folder(name), stdin=subprocess.DEVNULL, stdout=log, stderr=log, preexec_fn=os.setpgrp)
+            self.running[name] = process
+        return process.wait()
+
+    def prove(self, name):
+        """Proves and compiles a crate; gives the status."""
+        os.makedirs(f"{folder(name)}/out/build", exist_ok=True)
+        with open(f"{folder(name)}/out/build.log", "wb") as log:
+            jobs = self.jobs(name)
+            status = self.run(name, self.words(name, jobs), log)
+            if status == -signal.SIGKILL and jobs > 1:
+                # (most likely for memory)
+                status = self.run(name, self.words(name, 1), log)
+            if not status and is_program(folder(name)):
+                libraries = [f"{KIT}/c/libos_c.a", f"{KIT}/c/liblibc_c.a"]
+                to = ["--target", "x86_64-unknown-linux-gnu", "--toolchain", f"{KIT}/toolchain", "-o", BINARY]
+                status = self.run(name, [f"{KIT}/bin/rattle-link", *to, f"{BINARY}.o", *libraries], log)
+        if not status:
+            self.stamp(name)
+        return status
+
+    def stamp(self, name):
+        """Keeps of what the crate is built. What stands on it is to be proved again, whatever ends this run."""
+        for it in self.below:
+            if name in self.below[it] and os.path.exists(stamp(it)):
+                os.remove(stamp(it))
+        with open(stamp(name), "w", encoding="utf-8") as file:
+            file.write(self.sums[name])
+
+    def work(self, lane):
+        """Proves one crate after the other in a lane, as long as there are any."""
+        while name := self.next(lane):
             start, number = time.monotonic(), self.begun.index(name) + 1
             with self.changed:
                 print(f"{name}: begun, {number} of {len(self.below)}", flush=True)
-            status = self.prove(name, tree)
+            status = self.prove(name)
             with self.changed:
                 self.running.pop(name, None)
                 if status and not self.has_failed:
@@ -212,24 +249,20 @@ class Build:
             self.changed.notify_all()
 
 
-def build(below):
-    """Builds all; gives the status."""
-    begun, processors = time.monotonic(), len(os.sched_getaffinity(0))
-    with tempfile.TemporaryDirectory(prefix="mailquota-build-") as room:
-        trees = [TOP, *(f"{room}/{it}" for it in range(1, trees_of(processors)))]
-        run = Build(below, trees, processors)
-        for tree in trees[1:]:
-            copy_sources(below, tree)
-        workers = [threading.Thread(target=run.work, args=(it,)) for it in trees]
-        try:
-            for it in workers:
-                it.start()
-            for it in workers:
-                it.join()
-        finally:
-            run.end()
-            for it in workers:
-                it.join()
+def build(rows, below, sums):
+    """Builds these crates; gives the status."""
+    begun, lanes = time.monotonic(), at_once()
+    run = Build(rows, below, sums, lanes)
+    workers = [threading.Thread(target=run.work, args=(it,)) for it in range(lanes)]
+    try:
+        for it in workers:
+            it.start()
+        for it in workers:
+            it.join()
+    finally:
+        run.end()
+        for it in workers:
+            it.join()
     if len(run.done) < len(below):
         return 1
     print(f"{len(below)} crates in {(time.monotonic() - begun) / 60:.1f} minutes")
@@ -247,20 +280,19 @@ def plan(below):
 
 
 def main(words):
-    below = crates()
+    rows = rows_of(TOP)
+    known = crates(rows)
     if words == ["--plan"]:
-        return plan(below)
+        return plan(known)
     if words:
         print(__doc__, end="", file=sys.stderr)
         return 2
-    # (so that what runs is ended, and the copies go)
+    # (so that what runs is ended)
     signal.signal(signal.SIGTERM, lambda number, _: sys.exit(128 + number))
-    wanted = sum_of_all(below)
-    if not is_built(wanted):
-        if build(below):
-            return 1
-        with open(STAMP, "w", encoding="utf-8") as file:
-            file.write(wanted)
+    sums = sums_of(rows, known)
+    left = left_of(known, sums)
+    if left and build(rows, left, sums):
+        return 1
     print(f"built {os.path.relpath(BINARY, TOP)}")
     return 0
 

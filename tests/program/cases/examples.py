@@ -110,19 +110,26 @@ def installed(world, checks):
         checks.equal(f"make install PREFIX={prefix}: files that name another folder's programs", wrong, [])
 
 
-# a command rt that proves nothing, wants each crate of crates.txt to be there, and notes when it begins and ends with a crate
-RT = """#!/bin/sh
-if [ "$1" = version ]; then echo kit; exit; fi
-crate=${{PWD##*/}}
-for it in $(cut -d: -f1 ../../crates.txt); do [ -d ../$it/src ] || {{ echo "there is no $it"; exit 4; }}; done
+# commands rt, rattle and rattle-link that prove and link nothing: rattle wants each library that it is given to be there, and notes when it begins and ends
+# with a crate
+RT = "#!/bin/sh\necho kit\n"
+RATTLE = """#!/bin/sh
+crate=$3
+for it; do case $it in *=*/out/build/*.rlib) [ -e "${{it#*=}}" ] || {{ echo "there is no ${{it#*=}}"; exit 4; }};; esac; done
 echo "begins $crate $1" >>{folder}/noted
 sleep 0.1
 [ "$crate" = "$(cat {folder}/fails)" ] && {{ echo "no proof of $crate"; exit 3; }}
-mkdir -p out
-touch out/$crate
+while [ "$1" != -o ]; do shift; done
+touch "$2"
 echo "ends $crate" >>{folder}/noted
 """
+LINK = """#!/bin/sh
+while [ "$1" != -o ]; do shift; done
+touch "$2"
+echo links >>{folder}/noted
+"""
 CRATES = {"low": [], "left": ["low"], "right": ["low"], "mailquota": ["left", "right"], "further": ["low"]}
+ALL_BUILT = ["begins left build", "begins low build", "begins mailquota build", "begins right build", "ends left", "ends low", "ends mailquota", "ends right", "links"]
 
 
 def write(path, text):
@@ -131,23 +138,25 @@ def write(path, text):
 
 
 def a_build(world, checks):
-    """Over crates of one line each, and a command that notes what it is asked for."""
+    """Over crates of one line each, and a kit that notes what it is asked for."""
     folder = f"{world.folder}/build"
     os.makedirs(f"{folder}/scripts")
-    shutil.copy(f"{TOP}/scripts/build.py", f"{folder}/scripts")
+    for it in ("build.py", "kit.py"):
+        shutil.copy(f"{TOP}/scripts/{it}", f"{folder}/scripts")
     for crate in CRATES:
         os.makedirs(f"{folder}/crates/{crate}/src")
-        write(f"{folder}/crates/{crate}/src/lib.rt", crate)
+        write(f"{folder}/crates/{crate}/src/{'main' if crate == 'mailquota' else 'lib'}.rt", crate)
     write(f"{folder}/crates.txt", "".join(f"{crate}: {' '.join([*below, 'thiserror'])}\n" for crate, below in CRATES.items()))
-    write(f"{folder}/HANDLES", "")
-    write(f"{folder}/rt", RT.format(folder=folder))
-    os.chmod(f"{folder}/rt", 0o755)
+    os.makedirs(f"{folder}/kit/bin")
+    for name, text in (("rt", RT), ("rattle", RATTLE), ("rattle-link", LINK)):
+        write(f"{folder}/kit/bin/{name}", text.format(folder=folder))
+        os.chmod(f"{folder}/kit/bin/{name}", 0o755)
 
     def build(fails="none"):
         """The status, what was printed, and what was begun and ended."""
         write(f"{folder}/fails", fails)
         write(f"{folder}/noted", "")
-        environment = {**os.environ, "RT": f"{folder}/rt"}
+        environment = {**os.environ, "RT": f"{folder}/kit/bin/rt"}
         came = subprocess.run([sys.executable, f"{folder}/scripts/build.py"], env=environment, capture_output=True, text=True)
         with open(f"{folder}/noted", encoding="ascii") as it:
             return came.returncode, came.stdout, came.stderr, it.read().splitlines()
@@ -156,14 +165,18 @@ def a_build(world, checks):
         return all(noted.index(f"ends {low}") < place for place, it in enumerate(noted) if it.startswith("begins ") for low in CRATES[it.split()[1]])
 
     status, output, _, noted = build()
-    checks.equal("make build: each crate of the program once", sorted(noted), ["begins left lib", "begins low lib", "begins mailquota run", "begins right lib", "ends left", "ends low", "ends mailquota", "ends right"])
+    checks.equal("make build: each crate of the program once, and the program linked last", (sorted(noted), noted[-1:]), (ALL_BUILT, ["links"]))
     checks.equal("make build: each after those below it", (status, in_order(noted)), (0, True))
     said = re.sub(r" in [0-9.]+ ", " in N ", output).splitlines()
     wanted = (["low: begun, 1 of 4", "low: done in N s, 1 of 4"], ["mailquota: begun, 4 of 4", "mailquota: done in N s, 4 of 4", "4 crates in N minutes", "built crates/mailquota/out/mailquota"])
     checks.equal("make build: what it says first and last", (said[:2], said[-4:]), wanted)
     checks.equal("make build again, with no change", build(), (0, "built crates/mailquota/out/mailquota\n", "", []))
     write(f"{folder}/crates/left/src/lib.rt", "more")
-    status, _, errors, noted = build(fails="right")
-    checks.equal("make build, where one isn't proved: status, and the program isn't begun", (status, "begins mailquota run" in noted, "no proof of right" in errors), (1, False, True))
+    status, _, errors, noted = build(fails="left")
+    checks.equal("make build, where one isn't proved: status, why, and the program isn't begun", (status, "no proof of left" in errors, noted), (1, True, ["begins left build"]))
     status, _, _, noted = build()
-    checks.equal("make build, once it is proved", (status, noted[-1:]), (0, ["ends mailquota"]))
+    above = ["begins left build", "ends left", "begins mailquota build", "ends mailquota", "links"]
+    checks.equal("make build, once it is proved: what changed, and what stands on it", (status, noted), (0, above))
+    os.remove(f"{folder}/crates/low/out/build/low.rlib")
+    status, _, _, noted = build()
+    checks.equal("make build, with a library gone: all that stands on it", (status, sorted(noted)), (0, ALL_BUILT))
