@@ -29,6 +29,9 @@ PROGRAM = "mailquota"
 BINARY = f"{TOP}/crates/{PROGRAM}/out/{PROGRAM}"
 # the memory that a check is given, in kilobytes
 MEMORY = 4_000_000
+# How many jobs prove a crate of the longest chain, where not one for each processor: each job does part of the work of the others again, and of these crates four
+# take as long as two, and half as much processor time again.
+JOBS = {"mq_frame": 2, "mq_tables": 2}
 
 
 def folder(name):
@@ -172,11 +175,8 @@ class Build:
         return None
 
     def jobs(self, name):
-        """How many functions of a crate are proved at once: several only along the chain, since each job loads the libraries once more. The first
-        of the chain takes as long with two as with four, and has others alongside."""
-        if name not in self.chain:
-            return 1
-        return max(1, self.lanes // 2) if name == self.chain[0] else self.lanes
+        """How many functions of a crate are proved at once: several only along the chain, since the jobs of one crate take more processor time than one job."""
+        return min(self.lanes, JOBS.get(name, self.lanes)) if name in self.chain else 1
 
     def words(self, name, jobs):
         words = [RATTLE, "build", *words_of(name, self.rows, folder(name), rlib), "--links", f"{name}=", "--jobs", str(jobs)]

@@ -1,7 +1,7 @@
 //! The program by the words of its command line.
 
-use crate::subcommand::{end_program, run_subcommand};
-use mq_program::{ProgramFault, or_memory};
+use crate::subcommand::run_subcommand;
+use mq_program::{ProgramFault, end_program, or_memory};
 use mq_words::{Unprinted, print_fault, read_arguments};
 use sqlite::Start;
 use std::env;

@@ -1,14 +1,11 @@
-//! Which subcommand is run, and what is printed where it isn't done.
-ghost use Rattle.std.specs.Prelude.{◌≡◌, MatchResult};
+//! Which subcommand is run.
 ghost use Rattle.mq_arguments.specs.Arguments.{IsArguments};
-ghost use Rattle.mq_process.specs.Faults.{process_status};
-ghost use Rattle.mq_program.specs.Faults.{fault_status};
 ghost use Rattle.mailquota.specs.Refusals.{Refuses};
 
 use mq_arguments::Arguments;
-use mq_process::{ProcessFault, day, refuse};
-use mq_program::{ProgramFault, audit, forget, init, limits, replay, server, status};
-use mq_remote::{FilterEnd, filter, limit, report, resume, retire, stop};
+use mq_process::{day, end_process};
+use mq_program::{audit, end_program, forget, init, limits, replay, server, status};
+use mq_remote::{end_filter, filter, limit, report, resume, retire, stop};
 use sqlite::Start;
 use std::io;
 use std::io::Write;
@@ -49,33 +46,5 @@ pub fn run_subcommand<E: Write, S: Start>(
         Arguments::Forget(given) => {
             end_program(forget(rt, given, start, &mut io::writer(rt)), errors)
         }
-    }
-}
-
-/// Prints why a subcommand without a ledger isn't done, and gives the exit status.
-fn end_process<E: Write>(outcome: Result<u8, ProcessFault>, errors: &mut E) -> u8
-    ensures { MatchResult outcome (λ status. result ≡ status) (λ fault. result ≡ process_status fault) }
-{
-    match outcome {
-        Ok(status) => status,
-        Err(fault) => refuse(&fault, fault.status(), errors),
-    }
-}
-
-/// Prints why the filter ends, and gives the exit status.
-fn end_filter<E: Write>(outcome: Result<u8, FilterEnd>, errors: &mut E) -> u8 {
-    match outcome {
-        Ok(status) => status,
-        Err(fault) => refuse(&fault, 1, errors),
-    }
-}
-
-/// Prints why a subcommand over a ledger isn't done, and gives the exit status.
-pub fn end_program<E: Write>(outcome: Result<u8, ProgramFault>, errors: &mut E) -> u8
-    ensures { MatchResult outcome (λ status. result ≡ status) (λ fault. result ≡ fault_status fault) }
-{
-    match outcome {
-        Ok(status) => status,
-        Err(cause) => refuse(&cause, cause.status(), errors),
     }
 }

@@ -1,10 +1,7 @@
 pub mod AllowSteps
 pub mod AnswerSteps
 pub mod AskSteps
-pub mod EndSteps
 pub mod Fronts
-pub mod LineSteps
 pub mod OrderSteps
 pub mod PageSteps
 pub mod PrintedSteps
-pub mod ReplaySteps

@@ -1,9 +1,7 @@
 pub mod Allowing
 pub mod Asking
-pub mod Connections
 pub mod Orders
 pub mod Output
 pub mod Printed
 pub mod Probing
-pub mod Replay
 pub mod Report

@@ -1,34 +1,30 @@
-//! What the subcommands of an administrator and `replay` do, over any link, ledger, text and output.
+//! What the subcommands of an administrator do, over any link and output.
 //!
 //! [`run_limit`], [`run_retire`] and [`run_report`] ask the server and print what comes of it; the result is the exit
-//! status. [`replay_over`] answers the connections of a text over a ledger. From `mq_remote/src/subcommands/report.rt`:
+//! status. From `mq_remote/src/subcommands/report.rt`:
 //!
 //!     Ok(run_report(rt.alloc(), &mut link, day, login, &mut output, errors))
 //!
-//! It stands on `mq_frame`, `mq_ledger`, `mq_server` and `mq_link`: it knows requests, any link and any ledger, and
-//! neither sockets, files nor the words of a command line. Begin with `ask.rt`, one question, and `report.rt`; their
+//! It stands on `mq_frame`, `mq_ledger` and `mq_link`: it knows requests, any link and the days of a zone, and neither
+//! sockets, files nor the words of a command line. Begin with `ask.rt`, one question, and `report.rt`; their
 //! definitions are `specs/Asking.antt` and `specs/Report.antt`. `printed.rt` reads back a login that a report printed.
 #![tactic(auto)]
 
 mod allow;
 mod ask;
-mod connections;
 mod day;
 mod order;
 mod output;
 mod printed;
 mod probe;
-mod replay;
 mod report;
 mod telling;
 
 pub use allow::{Setter, run_resume, run_stop};
 pub use ask::{AskFault, TRIES};
-pub use connections::{TEXT_LIMIT, TextFault, read_connections};
 pub use day::run_day;
 pub use order::{NUMBERS, OrderFault, run_fresh, run_limit, run_retire};
 pub use output::{OutputFault, write_whole};
 pub use printed::{is_login_text, login_of_text, login_text};
 pub use probe::{run_check, run_probe};
-pub use replay::{Ending, ReplayFault, replay_over};
 pub use report::{ReportFault, run_report};

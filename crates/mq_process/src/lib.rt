@@ -23,5 +23,5 @@ pub use clock::{elapsed, run_number};
 pub use fault::ProcessFault;
 pub use moment::{day, moment_or_now};
 pub use probing::{Question, ask_once, probe, probe_text};
-pub use refusing::refuse;
+pub use refusing::{end_process, refuse};
 pub use settings::{filter_settings, server_settings};

@@ -1,10 +1,10 @@
 -- What a replay over connections says of a text.
 use Rattle.std.proofs.Common.{◌≡◌, ℕ, List, Option, None, Result, Ok, Err}
 use Rattle.mq_ledger.specs.declared.zone.Zone.{Zone}
-use Rattle.mq_command.specs.Connections.{connections_of, first_not_hex}
-use Rattle.mq_command.specs.Replay.{Replays, ReplaysOver}
-use Rattle.mq_command.specs.declared.replay.ReplayFault.{ReplayFault}
-use Rattle.mq_command.specs.declared.replay.ReplayFault.TheVariants.{Text, Serve, Connection, Output}
+use Rattle.mq_replay.specs.Connections.{connections_of, first_not_hex}
+use Rattle.mq_replay.specs.Replay.{Replays, ReplaysOver}
+use Rattle.mq_replay.specs.declared.replay.ReplayFault.{ReplayFault}
+use Rattle.mq_replay.specs.declared.replay.ReplayFault.TheVariants.{Text, Serve, Connection, Output}
 
 -- the connections of a text were answered
 pub of_text : (zone : Zone) (default : ℕ) (text : List ℕ) (connections : List (List ℕ)) (old new : Option (List ℕ)) (ended : Result (Unit {0}) ReplayFault)

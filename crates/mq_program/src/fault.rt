@@ -1,16 +1,16 @@
 //! Why a subcommand isn't done.
-ghost use Rattle.std.specs.Prelude.{◌≡◌};
+ghost use Rattle.std.specs.Prelude.{◌≡◌, MatchResult};
 ghost use Rattle.std.specs.IoError.{error_kind};
-ghost use Rattle.mq_program.specs.Faults.{or_memory_of};
+ghost use Rattle.mq_program.specs.Faults.{fault_status, or_memory_of};
 
 use mq_connections::RoomFault;
 use mq_ledger::LedgerFault;
-use mq_process::ProcessFault;
+use mq_process::{ProcessFault, refuse};
 use mq_store::{OpenFault, OpenRefused};
 use sqlite::Alter;
 use std::alloc::{AllocError, AllocFailed};
 use std::io;
-use std::io::ErrorKind;
+use std::io::{ErrorKind, Write};
 use thiserror::Error;
 
 /// Why a subcommand isn't done. Its text is printed after `mailquota: `.
@@ -55,8 +55,6 @@ pub enum ProgramFault {
 }
 
 impl ProgramFault {
-    ghost use Rattle.mq_program.specs.Faults.{fault_status};
-
     /// The exit status: 2 where the words are at fault, else 1.
     pub fn status(&self) -> u8
         ensures { result ≡ fault_status self.now }
@@ -146,5 +144,15 @@ pub fn or_memory(error: &io::Error, fault: ProgramFault) -> ProgramFault
     match error.kind() {
         ErrorKind::OutOfMemory => ProgramFault::Memory,
         _ => fault,
+    }
+}
+
+/// Prints why a subcommand over a ledger isn't done, if it isn't, and gives the exit status.
+pub fn end_program<E: Write>(outcome: Result<u8, ProgramFault>, errors: &mut E) -> u8
+    ensures { MatchResult outcome (λ status. result ≡ status) (λ fault. result ≡ fault_status fault) }
+{
+    match outcome {
+        Ok(status) => status,
+        Err(fault) => refuse(&fault, fault.status(), errors),
     }
 }

@@ -2,14 +2,14 @@
 ghost use Rattle.std.specs.Prelude.{◌≡◌, ⊤, true, Err, Result as AnyResult, map};
 ghost use Rattle.mq_arguments.specs.Arguments.{IsReplayArguments};
 ghost use Rattle.mq_frame.specs.Range.{IsAmount};
-ghost use Rattle.mq_command.specs.Replay.{IsForCause, Replays, ReplaysOver, status_of};
-ghost use Rattle.mq_command.specs.declared.replay.ReplayFault.{ReplayFault as AnyReplayFault};
+ghost use Rattle.mq_replay.specs.Replay.{IsForCause, Replays, ReplaysOver, status_of};
+ghost use Rattle.mq_replay.specs.declared.replay.ReplayFault.{ReplayFault as AnyReplayFault};
 ghost use Rattle.mq_program.specs.Refusals.{IsZoneByRule, IsZoneOf, ReplayRefuses};
 
 use crate::fault::{ProgramFault, or_memory};
 use mq_arguments::ReplayArguments;
-use mq_command::{ReplayFault, TEXT_LIMIT, read_connections, replay_over};
 use mq_ledger::{PlainLedger, RuleFault, Zone};
+use mq_replay::{ReplayFault, TEXT_LIMIT, read_connections, replay_over};
 use mq_server::ServeFault;
 use mq_store::{OpenFault, SqlLedger};
 use std::alloc::Global;

@@ -13,7 +13,7 @@
 mod fault;
 mod subcommands;
 
-pub use fault::FilterEnd;
+pub use fault::{FilterEnd, end_filter};
 pub use subcommands::filter::filter;
 pub use subcommands::limit::limit;
 pub use subcommands::report::report;

@@ -3,7 +3,7 @@
 //!
 //! A [`Connection`] takes bytes as they come, answers the whole frames among them and holds the replies until they are
 //! taken. [`serve`] is a loop over it that reads and writes, [`serve_all`] goes through several. From
-//! `mq_command/src/replay.rt`:
+//! `mq_replay/src/replay.rt`:
 //!
 //!     let mut inputs = inputs_of(alloc, connections)?;
 //!     let mut written = outputs_for(alloc, connections)?;

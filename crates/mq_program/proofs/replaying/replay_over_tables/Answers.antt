@@ -8,7 +8,7 @@ use Rattle.mq_ledger.specs.Answer.{build}
 use Rattle.mq_ledger.specs.Day.{day_of}
 use Rattle.mq_ledger.specs.Legal.{Book}
 use Rattle.mq_store.specs.Soundness.{book_in, HasKept, IsSound}
-use Rattle.mq_command.specs.Replay.{empty_book}
+use Rattle.mq_replay.specs.Replay.{empty_book}
 use Rattle.mq_program.proofs.replaying.replay_over_tables.Goals as goal
 
 abbrev made_of : Zone → ℕ → List Request → Book

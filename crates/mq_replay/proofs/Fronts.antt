@@ -1,0 +1,42 @@
+-- What is written in several steps.
+use Rattle.std.proofs.Common.{◌≡◌, ◌<◌, ◌+◌, ℕ, List, [], ◌∷◌, ◌++◌, Option, map, length, take, drop, get_or, sym, ap, ◌∙◌, append_assoc, append-nil, take-append-drop}
+use Rattle.std.proofs.lemmas.List.{drop_more, map-append, map-id}
+use Rattle.std.specs.Io.KnownBytes.{Appends}
+use Rattle.std.proofs.KnownBytes.{Appends-trans}
+use Rattle.std.specs.List.{flat_map}
+use Rattle.std.proofs.lemmas.List.Concat.{flat_map-append}
+use Rattle.mq_command.specs.Output.{AppendsFront}
+use Rattle.mq_replay.specs.Lines.{hex_line, hex_lines}
+
+-- a prefix of what comes first
+pub front_first : (old new : Option (List ℕ)) (bytes more : List ℕ) → AppendsFront old new bytes → AppendsFront old new (bytes ++ more)
+front_first old new bytes more (front, rest, split, written) = (front, rest ++ more, ap (λ l. l ++ more) split ∙ append_assoc front rest more, written)
+
+-- all of what comes first, and a prefix of the rest
+pub front_later : (old mid new : Option (List ℕ)) (bytes more : List ℕ) → Appends old mid bytes → AppendsFront mid new more → AppendsFront old new (bytes ++ more)
+front_later old mid new bytes more before (front, rest, split, written) =
+    (bytes ++ front, rest, ap (λ l. bytes ++ l) split ∙ sym (append_assoc bytes front rest), Appends-trans old mid new bytes front before written)
+
+-- the lines of some connections, then one more, then the rest
+pub lines_around : (done : List (List ℕ)) (bytes : List ℕ) (rest : List (List ℕ)) → hex_lines (done ++ bytes ∷ rest) ≡ (hex_lines done ++ hex_line bytes) ++ hex_lines rest
+lines_around done bytes rest = flat_map-append hex_line done (bytes ∷ rest) ∙ sym (append_assoc (hex_lines done) (hex_line bytes) (hex_lines rest))
+
+-- a prefix of one more line
+pub front_of_line : (old mid new : Option (List ℕ)) (all done : List (List ℕ)) (bytes : List ℕ) (rest : List (List ℕ)) → all ≡ done ++ bytes ∷ rest
+    → Appends old mid (hex_lines done) → AppendsFront mid new (hex_line bytes) → AppendsFront old new (hex_lines all)
+front_of_line old mid new all done bytes rest e before now =
+    rw (e, lines_around done bytes rest) (front_first old new (hex_lines done ++ hex_line bytes) (hex_lines rest) (front_later old mid new (hex_lines done) (hex_line bytes) before now))
+
+-- one more whole line
+pub one_more_line : (old mid new : Option (List ℕ)) (done : List (List ℕ)) (bytes : List ℕ) → Appends old mid (hex_lines done) → Appends mid new (hex_line bytes) → Appends old new (hex_lines (done ++ bytes ∷ []))
+one_more_line old mid new done bytes before now =
+    rw (lines_around done bytes [], append-nil (hex_lines done ++ hex_line bytes)) (Appends-trans old mid new (hex_lines done) (hex_line bytes) before now)
+
+-- the list up to a place, what stands there, and the rest
+pub around_place : {X : Type 0} (inner : X → List ℕ) (all yielded : List X) (x : X) → map (λ y. y) yielded ≡ take (length yielded) all → length yielded < length all → x ≡ get_or all (length yielded) x
+    → map inner all ≡ map inner yielded ++ inner x ∷ map inner (drop (length yielded + 1) all)
+around_place inner all yielded x so_far below here =
+    let same : yielded ≡ take (length yielded) all = sym (map-id yielded) ∙ so_far in
+    let left : drop (length yielded) all ≡ x ∷ drop (length yielded + 1) all = drop_more all (length yielded) x below ∙ ap (λ y. y ∷ drop (length yielded + 1) all) (sym here) in
+    ap (map inner) (sym (take-append-drop (length yielded) all)) ∙ ap (λ t. map inner (t ++ drop (length yielded) all)) (sym same) ∙ map-append inner yielded (drop (length yielded) all)
+    ∙ ap (λ t. map inner yielded ++ map inner t) left

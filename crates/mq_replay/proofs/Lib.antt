@@ -1,0 +1,4 @@
+pub mod EndSteps
+pub mod Fronts
+pub mod LineSteps
+pub mod ReplaySteps
