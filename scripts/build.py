@@ -146,13 +146,8 @@ class Build:
     def __init__(self, rows, below, sums, lanes):
         self.rows, self.below, self.sums, self.lanes, self.lengths = rows, below, sums, lanes, lengths_above(below)
         self.chain = chain_of(below, self.lengths)
-        self.awaited = self.below_all(self.chain[:-1])
         self.begun, self.done, self.running, self.has_failed = [], set(), {}, False
         self.changed = threading.Condition()
-
-    def below_all(self, names):
-        """These crates, and all below them."""
-        return set(names).union(*(self.below_all(self.below[it]) for it in names))
 
     def share_of(self, lane):
         """The crates that are proved in this lane: the first has the longest chain, so that its next never waits for another to end."""
@@ -168,7 +163,7 @@ class Build:
             while (left := [it for it in left if it not in self.begun]) and not self.has_failed:
                 ready = [it for it in left if self.done.issuperset(self.below[it])]
                 if ready:
-                    name = max(ready, key=lambda it: (it in self.awaited, self.lengths[it]))
+                    name = max(ready, key=self.lengths.get)
                     self.begun.append(name)
                     return name
                 self.changed.wait()
@@ -189,10 +184,8 @@ class Build:
         with self.changed:
             if self.has_failed:
                 return 1
-            # (those that the chain doesn't wait for take less than their share; in a process group of its own, so that it can be ended with all that it started, and
-            # not in a session, to which Linux would give as much as to all others)
-            nice = ["nice", "-n", "0" if name in self.awaited or name == PROGRAM else "5"]
-            process = subprocess.Popen([*nice, *words], cwd=folder(name), stdin=subprocess.DEVNULL, stdout=log, stderr=log, preexec_fn=os.setpgrp)
+            # (in a process group of its own, so that it can be ended with all that it started, and not in a session, to which Linux gives as much as to all others)
+            process = subprocess.Popen(words, cwd=folder(name), stdin=subprocess.DEVNULL, stdout=log, stderr=log, preexec_fn=os.setpgrp)
             self.running[name] = process
         return process.wait()
 
