@@ -217,8 +217,8 @@ fn fill_file<G: Log, T: Alter + Drop>(
     Ok(Forgotten { old, kept })
 }
 
-/// Puts what a ledger remembers into a new file, and prints how much that is. The ledger comes back as it was. After a fault
-/// the new file is of no use, which is logged.
+/// Makes a new file, puts what a ledger remembers into it, and prints how much that is. The ledger comes back as it was. After
+/// a fault the new file is of no use, which is logged.
 fn forget_into<G: Log, T: Alter + Drop, W: Write>(
     rt: &HostRuntime,
     log: &G,
@@ -239,6 +239,8 @@ fn forget_into<G: Log, T: Alter + Drop, W: Write>(
         → PrintsKeptOf (length (book_in old.zone old.default (state T.Store old.connection).now).history)
         (W.contents output.old) (W.contents output.new)) }
 {
+    make_new_file(rt, log, name)?;
+    info!(log; "{name} takes over what {path} has from day {day} on");
     match fill_file(rt, log, old, name, day) {
         Ok(Forgotten { old, kept }) => match print_kept(rt.alloc(), kept, output) {
             Ok(()) => Ok(old),
@@ -293,11 +295,7 @@ fn forget_file<W: Write, S: Start>(
     let path = path_of(settings)?;
     let logged = Logged::new(rt, settings.log, Console(rt));
     let old = ledger_of_settings(rt, &logged, settings, false, start)?;
-    let name = given.into;
-    let day = given.before;
-    make_new_file(rt, &logged, name)?;
-    info!(logged; "{name} takes over what {path} has from day {day} on");
-    let old = forget_into(rt, &logged, path, old, name, day, output)?;
+    let old = forget_into(rt, &logged, path, old, given.into, given.before, output)?;
     Ok(old)
 }
 
