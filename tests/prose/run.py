@@ -45,7 +45,7 @@ GIVEN_UP = re.compile(r"\b(?:%s)\b" % "|".join(WORDS).replace(" ", r"\s+(?:(?://
 DOCUMENTS = ["*.md", "CHANGELOG", "docs/*.md", "bench/*.md", "man/*", "contrib/*", "examples/*"]
 SOURCES = ["crates/*/src/**/*.rt"]
 DEFINITIONS = ["crates/*/specs/**/*.antt", "crates/*/proofs/**/*.antt"]
-SCRIPTS = ["gate/*.py", "tests/**/*.py", "bench/**/*.py"]
+SCRIPTS = ["gate/*.py", "scripts/*.py", "tests/**/*.py", "bench/**/*.py"]
 
 # What is excepted: in which files which words, each with its reason.
 EXCEPTED = [
