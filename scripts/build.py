@@ -22,7 +22,7 @@ import time
 
 sys.dont_write_bytecode = True
 
-from kit import KIT, PARTS, RATTLE, RT, is_program, rows_of, words_of
+from kit import KIT, PARTS, RATTLE, RT, below as all_below, is_program, rows_of, words_of
 
 TOP = os.path.dirname(os.path.dirname(os.path.realpath(__file__)))
 PROGRAM = "mailquota"
@@ -48,14 +48,8 @@ def stamp(name):
 
 
 def crates(rows):
-    """The crates that the program stands on, each with those of ours that its line names."""
-    found, left = {}, [PROGRAM]
-    while left:
-        name = left.pop()
-        if name not in found:
-            found[name] = [it for it in rows[name] if it in rows]
-            left += found[name]
-    return found
+    """The program and the crates that it stands on, each with those of ours that its line names."""
+    return {name: [it for it in rows[name] if it in rows] for name in [*all_below(PROGRAM, rows), PROGRAM]}
 
 
 def files_of(crate):
