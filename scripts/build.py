@@ -22,7 +22,7 @@ import time
 
 sys.dont_write_bytecode = True
 
-from kit import KIT, PARTS, RATTLE, RT, below as all_below, is_program, rows_of, words_of
+from kit import KIT, PARTS, RATTLE, RT, below as all_below, rows_of, words_of
 
 TOP = os.path.dirname(os.path.dirname(os.path.realpath(__file__)))
 PROGRAM = "mailquota"
@@ -169,7 +169,7 @@ class Build:
 
     def words(self, name, jobs):
         words = [RATTLE, "build", *words_of(name, self.rows, folder(name), rlib), "--links", f"{name}=", "--jobs", str(jobs)]
-        if is_program(folder(name)):
+        if name == PROGRAM:
             return [*words, "--toolchain", f"{KIT}/toolchain", "--backend", "llvm", "-o", f"{BINARY}.o"]
         return [*words, "--statements", "-o", rlib(name)]
 
@@ -192,15 +192,15 @@ class Build:
             if status == -signal.SIGKILL and jobs > 1:
                 # (most likely for memory)
                 status = self.run(name, self.words(name, 1), log)
-            if not status and is_program(folder(name)):
+            if not status and name == PROGRAM:
                 libraries = [f"{KIT}/c/libos_c.a", f"{KIT}/c/liblibc_c.a"]
                 to = ["--target", "x86_64-unknown-linux-gnu", "--toolchain", f"{KIT}/toolchain", "-o", BINARY]
                 status = self.run(name, [f"{KIT}/bin/rattle-link", *to, f"{BINARY}.o", *libraries], log)
         if not status:
-            self.stamp(name)
+            self.keep(name)
         return status
 
-    def stamp(self, name):
+    def keep(self, name):
         """Keeps of what the crate is built. What stands on it is to be proved again, whatever ends this run."""
         for it in self.below:
             if name in self.below[it] and os.path.exists(stamp(it)):
