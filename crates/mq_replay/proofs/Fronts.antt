@@ -1,5 +1,5 @@
 -- What is written in several steps.
-use Rattle.std.proofs.Common.{◌≡◌, ◌<◌, ◌+◌, ℕ, List, [], ◌∷◌, ◌++◌, Option, map, length, take, drop, get_or, sym, ap, ◌∙◌, append_assoc, append-nil, take-append-drop}
+use Rattle.std.proofs.Common.{◌≡◌, ◌<◌, ◌+◌, ℕ, List, [], ◌∷◌, ◌++◌, Option, map, length, take, drop, get_or, sym, ap, ◌∙◌, append_assoc, take-append-drop}
 use Rattle.std.proofs.lemmas.List.{drop_more, map-append, map-id}
 use Rattle.std.specs.Io.KnownBytes.{Appends}
 use Rattle.std.proofs.KnownBytes.{Appends-trans}
@@ -26,11 +26,6 @@ pub front_of_line : (old mid new : Option (List ℕ)) (all done : List (List ℕ
     → Appends old mid (hex_lines done) → AppendsFront mid new (hex_line bytes) → AppendsFront old new (hex_lines all)
 front_of_line old mid new all done bytes rest e before now =
     rw (e, lines_around done bytes rest) (front_first old new (hex_lines done ++ hex_line bytes) (hex_lines rest) (front_later old mid new (hex_lines done) (hex_line bytes) before now))
-
--- one more whole line
-pub one_more_line : (old mid new : Option (List ℕ)) (done : List (List ℕ)) (bytes : List ℕ) → Appends old mid (hex_lines done) → Appends mid new (hex_line bytes) → Appends old new (hex_lines (done ++ bytes ∷ []))
-one_more_line old mid new done bytes before now =
-    rw (lines_around done bytes [], append-nil (hex_lines done ++ hex_line bytes)) (Appends-trans old mid new (hex_lines done) (hex_line bytes) before now)
 
 -- the list up to a place, what stands there, and the rest
 pub around_place : {X : Type 0} (inner : X → List ℕ) (all yielded : List X) (x : X) → map (λ y. y) yielded ≡ take (length yielded) all → length yielded < length all → x ≡ get_or all (length yielded) x
