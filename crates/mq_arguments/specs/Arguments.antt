@@ -1,6 +1,6 @@
 -- What the words of a command line may ask for.
 use Rattle.std.specs.Prelude.{◌≤◌, IfSome, ⊤}
-use Rattle.mq_frame.specs.Range.{IsRun, IsDay, IsAmount, IsMoment, IsWithin}
+use Rattle.mq_request.specs.Range.{IsRun, IsDay, IsAmount, IsMoment, IsWithin}
 use Rattle.mq_arguments.specs.declared.ReplayArguments.{ReplayArguments}
 use Rattle.mq_arguments.specs.declared.LimitArguments.{LimitArguments}
 use Rattle.mq_arguments.specs.declared.ResumeArguments.{ResumeArguments}

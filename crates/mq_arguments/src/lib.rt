@@ -6,7 +6,7 @@
 //!     let settings = server_settings(rt, given.config)?;
 //!     serve(rt, &settings, given.create, given.connections, start)
 //!
-//! It stands on `mq_frame`, for the ranges of a request's numbers, and knows nothing else. It is this one file;
+//! It stands on `mq_request`, for the ranges of a request's numbers, and knows nothing else. It is this one file;
 //! `specs/Arguments.antt` has the ranges that `mq_words` proves.
 #![tactic(auto)]
 

@@ -3,7 +3,7 @@
 use Rattle.std.proofs.Common.{◌≡◌, ℕ, zero, suc, ◌+◌, ◌*◌, ◌<◌, ◌≤◌, Bool, false, true, List, [], ◌∷◌, ◌++◌, length, refl, ap, subst, arith, length-append, length-drop, Option, None, Some, is_some, if◌then◌else◌}
 use Rattle.std.specs.Prelude.{slice_get}
 use Rattle.std.proofs.Math.Nat.{mul-le-mul_left}
-use Rattle.mq_frame.specs.declared.message.Request.{Request}
+use Rattle.mq_request.specs.declared.message.Request.{Request}
 use Rattle.mq_client.specs.Exchanges.{Exchange, decisions}
 use Rattle.mq_client.specs.Turns.{failures, queue_of, next_of, ComeInTurn, AreUnderway}
 use Rattle.mq_client.specs.Past.{Source, Action, Ask, Close, Drain, Step, View, view, after, after_close, held_by, held_for, with_asked, reserve_of, closing_of, refuses, IsBounded}

@@ -1,7 +1,7 @@
 -- What stays so of a client over its steps.
 use Rattle.std.proofs.Common.{◌≡◌, ℕ, ◌+◌, ◌-◌, ◌<◌, ◌≤◌, ◌==◌, ◌||◌, nat_le, Bool, false, true, List, refl, sym, ◌∙◌, subst, arith, Option, None, Some, is_some, if◌then◌else◌}
 use Rattle.std.proofs.lemmas.Bool.{eqb-true, leb-false, ltb-false}
-use Rattle.mq_frame.specs.Range.{IsOrdinal, IsMoment, IsLogin}
+use Rattle.mq_request.specs.Range.{IsOrdinal, IsMoment, IsLogin}
 use Rattle.mq_client.specs.Past.{find, opened, let_through, refuses, is_other}
 use Rattle.mq_client.specs.Held.{IsHeld, AllHeld}
 use Rattle.mq_client.specs.declared.held.Asked.{Asked}

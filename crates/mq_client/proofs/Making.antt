@@ -2,8 +2,8 @@
 use Rattle.std.proofs.Common.{◌≡◌, ℕ, ◌+◌, ◌≤◌, ◌==◌, Bool, false, true, List, [], ◌∷◌, ◌++◌, length, drop, refl, sym, ap, ◌∙◌, subst, arith, Option, None, Some, is_some, if◌then◌else◌, MatchBool}
 use Rattle.std.proofs.lemmas.Bool.{eq-eqb}
 use Rattle.std.proofs.lemmas.List.{drop-drop}
-use Rattle.mq_frame.specs.declared.message.Request.{Request}
-use Rattle.mq_frame.specs.declared.message.Reply.{Reply}
+use Rattle.mq_request.specs.declared.message.Request.{Request}
+use Rattle.mq_request.specs.declared.message.Reply.{Reply}
 use Rattle.mq_client.specs.Exchanges.{Exchange, AreFailed, AreTries, IsUndecided, SendsSome, NoneYet, OneMore, Sends, SendsAll, SendsUpTo, decisions}
 use Rattle.mq_client.specs.Past.{Source, Action, Ask, Close, Drain, Standing, Live, Closed, View, view, held_by, opened, let_through, answer_of, answer_by, reserve_of, closing_of, with_asked, refuses, PlaysFrom, State, find, Makes}
 use Rattle.mq_track.specs.declared.closing.CloseEnd.{CloseEnd}

@@ -8,7 +8,7 @@ use Rattle.mq_line.specs.Results.{result_text}
 use Rattle.mq_line.specs.declared.results.Decision.{Decision}
 use Rattle.mq_track.specs.Sessions.{closing}
 use Rattle.mq_track.specs.declared.closing.Closing.{Closing}
-use Rattle.mq_frame.specs.declared.message.Request.{Request}
+use Rattle.mq_request.specs.declared.message.Request.{Request}
 use Rattle.mq_client.specs.Exchanges.{Exchange}
 use Rattle.mq_client.specs.Past.{Source, Action, Ask, Step, answer_of, view, held_for, ArePlayed}
 use Rattle.mq_client.specs.Turns.{outcomes, all_outcomes, queue_of, next_of, ComeInTurn}

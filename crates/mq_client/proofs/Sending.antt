@@ -1,7 +1,7 @@
 -- A queue that is sent from its front.
 use Rattle.std.proofs.Common.{◌≡◌, ℕ, ◌<◌, true, false, List, [], ◌∷◌, ◌++◌, length, refl, sym, ap, ◌∙◌, subst, arith}
 use Rattle.std.specs.Prelude.{slice_index_or}
-use Rattle.mq_frame.specs.declared.message.Request.{Request}
+use Rattle.mq_request.specs.declared.message.Request.{Request}
 use Rattle.mq_client.specs.declared.tries.Framed.{Framed}
 use Rattle.mq_client.specs.Exchanges.{Exchange, IsSent, SendsSome, OneMore, Sends, SendsAll, SendsUpTo}
 

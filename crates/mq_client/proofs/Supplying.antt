@@ -3,7 +3,7 @@ use Rattle.std.proofs.Common.{◌≡◌, ◌<◌, ◌≤◌, ℕ, List, [], ◌�
 use Rattle.std.specs.List.{concat}
 use Rattle.std.specs.Io.KnownBytes.{Consumes, Keeps}
 use Rattle.std.proofs.KnownBytes.{Consumes-trans}
-use Rattle.mq_frame.specs.Flow.{TellsReads}
+use Rattle.mq_stream.specs.Flow.{TellsReads}
 use Rattle.mq_client.specs.Run.{Supply, IsPiece, Supplies}
 use Rattle.mq_client.proofs.Basics.{all_push}
 

@@ -1,13 +1,13 @@
 -- The exchanges of one request: what each brought, and which reply decides.
 use Rattle.std.specs.Prelude.{◌≡◌, ℕ, ◌<◌, List, [], ◌∷◌, ◌++◌, length, Bool, true, false, Option, None, Some, is_some}
 use Rattle.std.specs.Prelude.{if◌then◌else◌, ◌+◌}
-use Rattle.mq_frame.specs.Same.{same_id}
-use Rattle.mq_frame.specs.declared.message.Id.{Id}
-use Rattle.mq_frame.specs.declared.message.Request.{Request}
-use Rattle.mq_frame.specs.declared.message.Request.TheVariants.{Reserve, Settle, Release}
-use Rattle.mq_frame.specs.declared.message.Reply.{Reply}
-use Rattle.mq_frame.specs.declared.message.Reply.TheVariants.{Granted, Full, Settled, Released, Closed, Mismatch}
-use Rattle.mq_frame.specs.declared.message.Reply.TheVariants.{TooMany, Conflict, Old}
+use Rattle.mq_request.specs.Same.{same_id}
+use Rattle.mq_request.specs.declared.message.Id.{Id}
+use Rattle.mq_request.specs.declared.message.Request.{Request}
+use Rattle.mq_request.specs.declared.message.Request.TheVariants.{Reserve, Settle, Release}
+use Rattle.mq_request.specs.declared.message.Reply.{Reply}
+use Rattle.mq_request.specs.declared.message.Reply.TheVariants.{Granted, Full, Settled, Released, Closed, Mismatch}
+use Rattle.mq_request.specs.declared.message.Reply.TheVariants.{TooMany, Conflict, Old}
 use Rattle.mq_frame.specs.Spelling.{SpellsReply, request_body, frame}
 use Rattle.mq_link.specs.declared.link.Outcome.{Outcome}
 use Rattle.mq_link.specs.declared.link.Outcome.TheVariants.{Answered, Faulted}

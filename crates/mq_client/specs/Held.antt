@@ -1,6 +1,6 @@
 -- The ranges of what a client holds.
 use Rattle.std.specs.Prelude.{◌≡◌, ℕ, List, ◌≤◌, Some}
-use Rattle.mq_frame.specs.Range.{IsOrdinal, IsMoment, IsLogin}
+use Rattle.mq_request.specs.Range.{IsOrdinal, IsMoment, IsLogin}
 use Rattle.mq_client.specs.Past.{find}
 use Rattle.mq_client.specs.declared.held.Held.{Held}
 

@@ -1,7 +1,7 @@
 -- What is so of every client, and what its callers see.
 use Rattle.std.specs.Prelude.{◌+◌, ◌≤◌, length}
 use Rattle.std.specs.List.{AllByRecursion}
-use Rattle.mq_frame.specs.Range.{IsWithin, IsHost, IsRun}
+use Rattle.mq_request.specs.Range.{IsWithin, IsHost, IsRun}
 use Rattle.mq_client.specs.Past.{State}
 use Rattle.mq_client.specs.Held.{AllHeld}
 use Rattle.mq_client.specs.Framed.{IsFramed, requests_of}

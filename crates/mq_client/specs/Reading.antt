@@ -2,8 +2,8 @@
 use Rattle.std.specs.Prelude.{ℕ, ◌+◌, List, [], ◌∷◌, ◌++◌, Bool, true, false, ◌==◌, ◌&&◌, not, if◌then◌else◌, Option}
 use Rattle.std.specs.Prelude.{None, Some, is_some, filter, count_by}
 use Rattle.std.specs.List.{filter_map, list_any}
-use Rattle.mq_frame.specs.Same.{same_request}
-use Rattle.mq_frame.specs.declared.message.Request.{Request}
+use Rattle.mq_request.specs.Same.{same_request}
+use Rattle.mq_request.specs.declared.message.Request.{Request}
 use Rattle.mq_client.specs.Exchanges.{Exchange}
 use Rattle.mq_client.specs.Past.{Source, Action, Ask, Close, Drain, Step, Standing, Never, Live, Closed, answer_of}
 use Rattle.mq_client.specs.Past.{closing_of}

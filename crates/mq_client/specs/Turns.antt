@@ -1,7 +1,7 @@
 -- The next exchange of a step, and how exchanges ended.
 use Rattle.std.specs.Prelude.{◌≡◌, ℕ, ◌+◌, List, [], ◌∷◌, ◌++◌, length, nat_le, if◌then◌else◌, Option, None, Some}
 use Rattle.std.specs.Prelude.{is_some, slice_get}
-use Rattle.mq_frame.specs.declared.message.Request.{Request}
+use Rattle.mq_request.specs.declared.message.Request.{Request}
 use Rattle.mq_client.specs.Exchanges.{Exchange, decisions, IsDecision}
 use Rattle.mq_client.specs.Past.{Source, Action, Ask, Close, Drain, Step, View, view, reserve_of, closing_of, refuses}
 use Rattle.mq_client.specs.Past.{held_for}

@@ -1,8 +1,8 @@
 -- What a client keeps of a reply that decides a request.
 use Rattle.std.specs.Prelude.{◌≡◌, Bool, true, false, Option, Some, None, if◌then◌else◌}
-use Rattle.mq_frame.specs.declared.message.Request.{Request}
-use Rattle.mq_frame.specs.declared.message.Reply.{Reply}
-use Rattle.mq_frame.specs.declared.message.Reply.TheVariants as reply
+use Rattle.mq_request.specs.declared.message.Request.{Request}
+use Rattle.mq_request.specs.declared.message.Reply.{Reply}
+use Rattle.mq_request.specs.declared.message.Reply.TheVariants as reply
 use Rattle.mq_client.specs.Exchanges.{decides}
 use Rattle.mq_client.specs.declared.verdict.Verdict.{Verdict}
 use Rattle.mq_client.specs.declared.verdict.Verdict.TheVariants as verdict

@@ -2,7 +2,7 @@
 ghost use Rattle.std.specs.Prelude.{◌≡◌, ◌≢◌, ◌<◌, ◌++◌, ◌&&◌, ◌⊎◌, [], ℕ, List, Option, None, Err, false, codes, IfOk};
 ghost use Rattle.std.specs.Prelude.{OnOk, OnErr, IfErr};
 ghost use Rattle.std.specs.Str.{bytes_eq};
-ghost use Rattle.mq_frame.specs.Flow.{IsFlushed};
+ghost use Rattle.mq_stream.specs.Flow.{IsFlushed};
 ghost use Rattle.mq_track.specs.Sessions.{Sending};
 ghost use Rattle.mq_track.specs.State.{TracksAt};
 ghost use Rattle.mq_line.specs.Grammar.{Meaning};
@@ -19,7 +19,8 @@ use crate::fault::FilterFault;
 use crate::held::Asked;
 use crate::refusal::Cause;
 use log::Log;
-use mq_frame::{Failed, Sink, is_login, is_moment, write_and_flush};
+use mq_request::{is_login, is_moment};
+use mq_stream::{Failed, Sink, write_and_flush};
 use mq_line::{Decision, write_result};
 use mq_link::Link;
 use mq_track::{Standing, Tracker};

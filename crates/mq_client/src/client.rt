@@ -1,6 +1,6 @@
 //! Numbered requests, each sent again under its number until a reply decides it.
 ghost use Rattle.std.specs.Prelude.{◌≡◌, ◌≤◌, ◌<◌, ◌+◌, ◌^◌, ℕ, List, Option, [], length, None, true, IfOk, IsOk, OnOk, OnErr};
-ghost use Rattle.mq_frame.specs.Range.{IsHost, IsRun, IsWithin, IsOrdinal, IsMoment, IsLogin};
+ghost use Rattle.mq_request.specs.Range.{IsHost, IsRun, IsWithin, IsOrdinal, IsMoment, IsLogin};
 ghost use Rattle.mq_link.specs.Link.{Tells};
 ghost use Rattle.mq_client.specs.Exchanges.{Exchange, told_all};
 ghost use Rattle.mq_client.specs.Past.{Step, Ask, Close, Drain, StandsAt, Makes, view, answer_of, find};
@@ -8,7 +8,7 @@ ghost use Rattle.mq_client.specs.Past.{refuses as refuses_lem, reserve_of, closi
 ghost use Rattle.mq_client.specs.Exchanges.{AreTries};
 ghost use Rattle.mq_client.specs.Held.{IsHeld};
 ghost use Rattle.mq_client.specs.Framed.{IsFramed};
-ghost use Rattle.mq_frame.specs.declared.message.Reply.{Reply};
+ghost use Rattle.mq_request.specs.declared.message.Reply.{Reply};
 
 use crate::held::{Asked, Held, answer_to, closing_request, reserve_request};
 use crate::reached::Reached;
@@ -17,7 +17,7 @@ use crate::session::Session;
 use crate::transactions::Transactions;
 use crate::tries::{Framed, send_all, try_all};
 use log::{Log, warn};
-use mq_frame::Host;
+use mq_request::Host;
 use mq_link::Link;
 use mq_track::Closing;
 use std::alloc::{AllocError, Global};

@@ -4,7 +4,7 @@ ghost use Rattle.std.specs.Prelude.{Some, true, false, length, is_some, IfOk, On
 ghost use Rattle.std.specs.Prelude.{MatchResult};
 ghost use Rattle.std.specs.List.{concat};
 ghost use Rattle.std.specs.Io.KnownBytes.{Appends, IsAtEnd};
-ghost use Rattle.mq_frame.specs.Flow.{IsFlushed};
+ghost use Rattle.mq_stream.specs.Flow.{IsFlushed};
 ghost use Rattle.mq_line.specs.Grammar.{Meaning, ReadyLine, meaning};
 ghost use Rattle.mq_line.specs.Results.{registration as registration_lem};
 ghost use Rattle.mq_line.specs.Text.{IsLine};
@@ -22,7 +22,7 @@ use crate::answer::{Inquiry, answer};
 use crate::client::Client;
 use crate::fault::FilterFault;
 use log::{Log, warn};
-use mq_frame::{Failed, Sink, Source, write_and_flush};
+use mq_stream::{Failed, Sink, Source, write_and_flush};
 use mq_line::{Line, LineFeed, read_line, write_registration};
 use mq_link::Link;
 use mq_track::{Closing, TrackFault, Tracker};

@@ -1,14 +1,14 @@
 //! What is known of a held transaction, and the requests about it.
 ghost use Rattle.std.specs.Prelude.{◌≡◌, ◌≤◌, ◌&&◌, nat_le, if◌then◌else◌, Option, IfOk};
-ghost use Rattle.mq_frame.specs.declared.message.Request.TheVariants.{Settle, Release};
-ghost use Rattle.mq_frame.specs.Range.{IsHost, IsRun, IsOrdinal, IsMoment, IsLogin, IsRequest};
+ghost use Rattle.mq_request.specs.declared.message.Request.TheVariants.{Settle, Release};
+ghost use Rattle.mq_request.specs.Range.{IsHost, IsRun, IsOrdinal, IsMoment, IsLogin, IsRequest};
 ghost use Rattle.mq_client.specs.Past.{answer_by, reserve_of, closing_of, is_commit};
 ghost use Rattle.mq_client.specs.Held.{IsHeld};
 ghost use Rattle.mq_client.specs.Verdict.{IsVerdict};
-ghost use Rattle.mq_frame.specs.declared.message.Reply.{Reply};
+ghost use Rattle.mq_request.specs.declared.message.Reply.{Reply};
 
 use crate::verdict::Verdict;
-use mq_frame::{Host, Id, Login, Request};
+use mq_request::{Host, Id, Login, Request};
 use mq_track::CloseEnd;
 use std::alloc::{AllocError, Global};
 

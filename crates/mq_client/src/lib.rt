@@ -7,9 +7,10 @@
 //!     match run_filter(log, rt.alloc(), &mut input, &mut output, link, client) {
 //!         Ok(_) => Ok(0),
 //!
-//! It stands on `mq_line`, `mq_track`, `mq_frame` and `mq_link`: it knows lines, sessions, requests and any link, and
-//! nothing of a ledger or of TCP. Begin with `specs/Past.antt`, what a client did and what stands after it, then
-//! `client.rt`, `tries.rt`, where a request is sent again, and `filter.rt`. docs/CLIENT.md has the rules.
+//! It stands on `mq_line`, `mq_track`, `mq_request`, `mq_stream`, `mq_frame` and `mq_link`: it knows lines, sessions,
+//! requests and any link, and nothing of a ledger or of TCP. Begin with `specs/Past.antt`, what a client did and what
+//! stands after it, then `client.rt`, `tries.rt`, where a request is sent again, and `filter.rt`. docs/CLIENT.md has
+//! the rules.
 #![tactic(auto)]
 
 mod answer;

@@ -1,7 +1,7 @@
 //! How a warning names a request.
 use crate::session::Session;
 use crate::tries::Framed;
-use mq_frame::{Escaped, Id, Login, Request};
+use mq_request::{Escaped, Id, Login, Request};
 use std::fmt;
 
 fn write_name<W: fmt::Write>(

@@ -6,7 +6,7 @@ use crate::tries::{Framed, report};
 use crate::verdict::Verdict;
 use crate::warnings::LimitReached;
 use log::{Level, Log};
-use mq_frame::{Login, Request};
+use mq_request::{Login, Request};
 use std::alloc::{AllocError, Global};
 use std::marker::Model;
 

@@ -2,7 +2,7 @@
 ghost use Rattle.std.specs.Prelude.{◌≡◌, ◌≤◌, length};
 
 use crate::session::Session;
-use mq_frame::Escaped;
+use mq_request::Escaped;
 use std::alloc::Global;
 use std::collections::VecDeque;
 use std::fmt;

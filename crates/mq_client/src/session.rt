@@ -1,6 +1,6 @@
 //! The session that a line of the log names.
 
-use mq_frame::Escaped;
+use mq_request::Escaped;
 use std::fmt;
 
 /// How many bytes of a session's name are kept. smtpd gives each a name of 16.

@@ -9,7 +9,7 @@ ghost use Rattle.mq_client.specs.declared.held.Held.{Held as AnyHeld};
 
 use crate::held::{Asked, Held};
 use crate::refusal::Cause;
-use mq_frame::Login;
+use mq_request::Login;
 use std::alloc::{AllocError, Global};
 use std::collections::BTreeMap;
 use std::marker::Model;

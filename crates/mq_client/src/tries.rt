@@ -1,11 +1,11 @@
 //! One request, sent up to so many times, and a queue of requests, sent from its front.
 ghost use Rattle.std.specs.Prelude.{◌≡◌, ◌<◌, ◌≤◌, ◌∷◌, [], List, Option, length, IfOk};
-ghost use Rattle.mq_frame.specs.Range.{IsRequest};
+ghost use Rattle.mq_request.specs.Range.{IsRequest};
 ghost use Rattle.std.specs.List.{AllByRecursion};
 ghost use Rattle.mq_link.specs.Link.{Tells};
 ghost use Rattle.mq_client.specs.Exchanges.{Exchange, IsTry, AreTries, IsSent, Sends, request_frame, told_of, told_all};
 ghost use Rattle.mq_client.specs.Verdict.{IsVerdict};
-ghost use Rattle.mq_frame.specs.declared.message.Reply.{Reply};
+ghost use Rattle.mq_request.specs.declared.message.Reply.{Reply};
 ghost use Rattle.mq_client.specs.declared.tries.Framed.{Framed as AnyFramed};
 ghost use Rattle.mq_client.specs.Framed.{IsFramed, requests_of};
 
@@ -13,7 +13,8 @@ use crate::session::Session;
 use crate::verdict::{Verdict, is_other_reply, verdict_in};
 use crate::warnings::{Refused, Unanswered, is_refusal};
 use log::{Level, Log, log};
-use mq_frame::{Request, encode_request};
+use mq_frame::encode_request;
+use mq_request::Request;
 use mq_link::Link;
 use std::alloc::{AllocError, Global};
 use std::collections::VecDeque;

@@ -1,15 +1,16 @@
 //! What a reply decides.
 ghost use Rattle.std.specs.Prelude.{◌≡◌, Option, Some, None, false, if◌then◌else◌};
-ghost use Rattle.mq_frame.specs.declared.message.Reply.{Reply};
+ghost use Rattle.mq_request.specs.declared.message.Reply.{Reply};
 ghost use Rattle.mq_frame.specs.Parts.{shown_reply};
 ghost use Rattle.mq_frame.specs.Shown.{shown_id};
-ghost use Rattle.mq_frame.specs.Same.{same_id};
+ghost use Rattle.mq_request.specs.Same.{same_id};
 ghost use Rattle.mq_client.specs.Exchanges.{answers_reserve, answers_closing, IsDecision};
 ghost use Rattle.mq_client.specs.Verdict.{IsVerdict, deciding, is_answer as is_answer_lem};
 ghost use Rattle.mq_frame.specs.Spelling.{SpellsReply};
 ghost use Rattle.mq_link.specs.declared.link.Outcome.TheVariants.{Answered};
 
-use mq_frame::{Id, IdParts, ReplyParts, Request, read_reply};
+use mq_frame::{IdParts, ReplyParts, read_reply};
+use mq_request::{Id, Request};
 
 /// How a reply decides a request. No memory is asked for, so that a reply that came is never lost.
 #[derive(Clone, Copy, Debug, PartialEq, Eq)]

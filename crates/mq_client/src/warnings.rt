@@ -5,7 +5,7 @@ ghost use Rattle.mq_client.specs.Verdict.{is_refusal as is_refusal_lem};
 use crate::named::Named;
 use crate::tries::Framed;
 use crate::verdict::Verdict;
-use mq_frame::Request;
+use mq_request::Request;
 use std::fmt;
 
 /// A request that no reply decided in so many tries. A closing then waits.

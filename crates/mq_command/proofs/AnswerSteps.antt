@@ -1,11 +1,11 @@
 -- Which replies answer which questions, and what they say.
 use Rattle.std.proofs.Common.{◌≡◌, ℕ, List, true, Option, Result, Ok, Err, subst₂, inr}
-use Rattle.mq_frame.specs.declared.message.Request.{Request}
-use Rattle.mq_frame.specs.declared.message.Request.TheVariants as asks
-use Rattle.mq_frame.specs.declared.message.Reply.{Reply}
-use Rattle.mq_frame.specs.declared.message.Reply.TheVariants as says
-use Rattle.mq_frame.specs.declared.message.Id.{Id}
-use Rattle.mq_frame.specs.declared.usage.UsageRow.{UsageRow}
+use Rattle.mq_request.specs.declared.message.Request.{Request}
+use Rattle.mq_request.specs.declared.message.Request.TheVariants as asks
+use Rattle.mq_request.specs.declared.message.Reply.{Reply}
+use Rattle.mq_request.specs.declared.message.Reply.TheVariants as says
+use Rattle.mq_request.specs.declared.message.Id.{Id}
+use Rattle.mq_request.specs.declared.usage.UsageRow.{UsageRow}
 use Rattle.mq_link.specs.declared.link.Told.{Told}
 use Rattle.mq_command.specs.Asking.{fits, IsAnswered}
 use Rattle.mq_command.specs.Orders.{IsOrder, AnswersOrder, Says, Orders}

@@ -1,10 +1,10 @@
 -- The numbers that a limit is sent under.
 use Rattle.std.proofs.Common.{◌≡◌, ◌≤◌, ◌+◌, ◌*◌, ℕ, suc, List, Option, Err, ap, refl, inl, ◌∙◌, arith}
 use Rattle.std.proofs.lemmas.Bool.{false≢true}
-use Rattle.mq_frame.specs.declared.format.TheConstants.{LAST_RUN}
-use Rattle.mq_frame.specs.declared.message.Id.{Id}
-use Rattle.mq_frame.specs.declared.message.Request.{Request}
-use Rattle.mq_frame.specs.declared.message.Request.TheVariants as asks
+use Rattle.mq_request.specs.declared.bounds.TheConstants.{LAST_RUN}
+use Rattle.mq_request.specs.declared.message.Id.{Id}
+use Rattle.mq_request.specs.declared.message.Request.{Request}
+use Rattle.mq_request.specs.declared.message.Request.TheVariants as asks
 use Rattle.mq_command.specs.Orders.{IsLimit, OrdersFresh, ahead, later, later_id, no_number}
 use Rattle.mq_command.specs.declared.ask.AskFault.TheVariants.{Memory}
 use Rattle.mq_command.specs.declared.order.OrderFault.TheVariants.{Unanswered}

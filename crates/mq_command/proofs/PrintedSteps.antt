@@ -6,7 +6,7 @@ use Rattle.std.proofs.lemmas.Bool.Decides.{nat_tests}
 use Rattle.std.proofs.lemmas.List.Elements.{All-head, All-nil, All-push, All-tail}
 use Rattle.std.proofs.lemmas.List.{length_push}
 use Rattle.std.proofs.lemmas.List.Concat.{flat_map-append}
-use Rattle.mq_frame.specs.Escaped.{byte_text, digit_text, escaped, is_plain}
+use Rattle.mq_request.specs.Escaped.{byte_text, digit_text, escaped, is_plain}
 use Rattle.mq_command.specs.Printed.{ArePrinted, IsNoText, IsTextOf}
 
 -- the text of a byte that is printed as it is, and of another

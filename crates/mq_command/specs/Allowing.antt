@@ -2,12 +2,12 @@
 use Rattle.std.specs.Prelude.{◌≡◌, ◌⊎◌, ◌<◌, ◌+◌, ◌*◌, ◌++◌, ℕ, zero, suc, List, [], ◌∷◌, Option}
 use Rattle.std.specs.Prelude.{Result, Ok, Err, min, codes}
 use Rattle.std.specs.Fmt.{decimal}
-use Rattle.mq_frame.specs.Escaped.{escaped}
-use Rattle.mq_frame.specs.Range.{IsHost, IsRun, IsLogin}
-use Rattle.mq_frame.specs.declared.message.Request.{Request}
-use Rattle.mq_frame.specs.declared.message.Request.TheVariants as asks
-use Rattle.mq_frame.specs.declared.message.Reply.{Reply}
-use Rattle.mq_frame.specs.declared.message.Reply.TheVariants as says
+use Rattle.mq_request.specs.Escaped.{escaped}
+use Rattle.mq_request.specs.Range.{IsHost, IsRun, IsLogin}
+use Rattle.mq_request.specs.declared.message.Request.{Request}
+use Rattle.mq_request.specs.declared.message.Request.TheVariants as asks
+use Rattle.mq_request.specs.declared.message.Reply.{Reply}
+use Rattle.mq_request.specs.declared.message.Reply.TheVariants as says
 use Rattle.mq_command.specs.Asking.{Asks, IsAnswered}
 use Rattle.mq_command.specs.Orders.{OrdersFresh}
 use Rattle.mq_command.specs.declared.allow.DayUsage.{DayUsage}

@@ -1,8 +1,8 @@
 -- Which texts are printed logins.
 use Rattle.std.specs.Prelude.{◌≡◌, ◌<◌, ℕ, List}
 use Rattle.std.specs.List.{All}
-use Rattle.mq_frame.specs.Escaped.{escaped}
-use Rattle.mq_frame.specs.Range.{IsLogin}
+use Rattle.mq_request.specs.Escaped.{escaped}
+use Rattle.mq_request.specs.Range.{IsLogin}
 
 -- these are bytes, and printed so
 pub record ArePrinted (bytes text : List ℕ) : Type 0 where

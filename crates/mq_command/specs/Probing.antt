@@ -1,9 +1,9 @@
 -- What asking once whether the quota server answers leads to.
 use Rattle.std.specs.Prelude.{◌≡◌, ◌⊎◌, ◌++◌, ◌∷◌, [], ℕ, List, true, Option, Result, Ok, Err, codes}
 use Rattle.std.specs.Io.KnownBytes.{Appends, Keeps}
-use Rattle.mq_frame.specs.declared.message.Request.{Request}
-use Rattle.mq_frame.specs.declared.message.Request.TheVariants as asks
-use Rattle.mq_frame.specs.declared.message.Reply.{Reply}
+use Rattle.mq_request.specs.declared.message.Request.{Request}
+use Rattle.mq_request.specs.declared.message.Request.TheVariants as asks
+use Rattle.mq_request.specs.declared.message.Reply.{Reply}
 use Rattle.mq_command.specs.Asking.{Brought, IsMissed, Sends, fits}
 use Rattle.mq_command.specs.Orders.{PrintsLine}
 use Rattle.mq_command.specs.Output.{AppendsFront}

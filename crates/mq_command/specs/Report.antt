@@ -7,11 +7,11 @@ use Rattle.std.specs.Cmp.Lexicographic.{slice_cmp}
 use Rattle.std.specs.Fmt.{decimal}
 use Rattle.std.specs.Io.KnownBytes.{Appends, Keeps}
 use Rattle.std.specs.List.{flat_map}
-use Rattle.mq_frame.specs.Escaped.{escaped}
-use Rattle.mq_frame.specs.declared.message.Request.TheVariants as asks
-use Rattle.mq_frame.specs.declared.message.Reply.{Reply}
-use Rattle.mq_frame.specs.declared.message.Reply.TheVariants as says
-use Rattle.mq_frame.specs.declared.usage.UsageRow.{UsageRow}
+use Rattle.mq_request.specs.Escaped.{escaped}
+use Rattle.mq_request.specs.declared.message.Request.TheVariants as asks
+use Rattle.mq_request.specs.declared.message.Reply.{Reply}
+use Rattle.mq_request.specs.declared.message.Reply.TheVariants as says
+use Rattle.mq_request.specs.declared.usage.UsageRow.{UsageRow}
 use Rattle.mq_link.specs.declared.link.Told.{Told}
 use Rattle.mq_command.specs.Asking.{Asks, IsAnswered}
 use Rattle.mq_command.specs.Output.{AppendsFront}

@@ -1,6 +1,6 @@
 //! `stop` and `resume`: how many recipients more a login may have, today and on each later day.
 ghost use Rattle.std.specs.Prelude.{◌≡◌, ◌+◌, ℕ, IfOk, string_bytes, Result as AnyResult};
-ghost use Rattle.mq_frame.specs.Range.{IsAmount, IsDay, IsLogin, IsReply, IsWithin};
+ghost use Rattle.mq_request.specs.Range.{IsAmount, IsDay, IsLogin, IsReply, IsWithin};
 ghost use Rattle.mq_command.specs.Allowing.{AsksUsed, IsSetter, IsUsed, Resumes, SetsAbove, SetsBoth, Stops, allowed};
 ghost use Rattle.mq_command.specs.Allowing.{day_line, limit_of, resumed_line, stopped_line};
 ghost use Rattle.mq_command.specs.Orders.{OrdersFresh, Prints};
@@ -11,8 +11,8 @@ use crate::ask::{AskFault, ask};
 use crate::order::{OrderFault, order_fresh};
 use crate::printed::login_text;
 use crate::telling::{say, tell_line};
-use mq_frame::format::AMOUNT_LIMIT;
-use mq_frame::{Host, Id, Login, Reply, Request};
+use mq_request::bounds::AMOUNT_LIMIT;
+use mq_request::{Host, Id, Login, Reply, Request};
 use mq_link::Link;
 use std::alloc::{AllocError, Global};
 use std::io::Write;

@@ -1,15 +1,16 @@
 //! A question of an administrator to the quota server.
 ghost use Rattle.std.specs.Prelude.{◌≡◌, ◌∷◌, [], true, false, IfOk, MatchResult};
 ghost use Rattle.std.specs.Option.{MatchOption};
-ghost use Rattle.mq_frame.specs.Range.{IsReply, IsRequest};
+ghost use Rattle.mq_request.specs.Range.{IsReply, IsRequest};
 ghost use Rattle.mq_frame.specs.Spelling.{SpellsReply};
-ghost use Rattle.mq_frame.specs.declared.message.Reply.{Reply as AnyReply};
+ghost use Rattle.mq_request.specs.declared.message.Reply.{Reply as AnyReply};
 ghost use Rattle.mq_command.specs.Asking.{fits, frame_of, Asks, Brought, IsMissed, Sends};
 ghost use Rattle.mq_command.specs.declared.ask.AskFault.TheVariants.{Memory as NoMemory};
 ghost use Rattle.mq_link.specs.Link.{Tells};
 ghost use Rattle.mq_link.specs.declared.link.Told.{Told};
 
-use mq_frame::{DecodeFault, Reply, Request, decode_reply, encode_request};
+use mq_frame::{DecodeFault, decode_reply, encode_request};
+use mq_request::{Reply, Request};
 use mq_link::Link;
 use std::alloc::{AllocError, Global};
 use thiserror::Error;

@@ -1,7 +1,7 @@
 //! `day`: prints the day number of a moment.
 ghost use Rattle.std.specs.Prelude.{◌≡◌, ◌++◌, ◌∷◌, [], IfOk, string_bytes};
 ghost use Rattle.std.specs.Fmt.{decimal};
-ghost use Rattle.mq_frame.specs.Range.{IsMoment};
+ghost use Rattle.mq_request.specs.Range.{IsMoment};
 ghost use Rattle.mq_ledger.specs.Day.{day_of};
 ghost use Rattle.mq_command.specs.Orders.{PrintsLine};
 

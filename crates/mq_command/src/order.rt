@@ -1,14 +1,14 @@
 //! `limit` and `retire`: what an administrator orders, a limit of a login or that a host's runs are given up.
 ghost use Rattle.std.specs.Prelude.{◌≡◌, ◌<◌, ◌+◌, true, false, Result as AnyResult};
-ghost use Rattle.mq_frame.specs.declared.format.TheConstants.{LAST_RUN};
+ghost use Rattle.mq_request.specs.declared.bounds.TheConstants.{LAST_RUN};
 ghost use Rattle.mq_command.specs.Orders.{AnswersOrder, IsLimit, IsOrder, IsRetire, Orders, OrdersFresh, Prints, Says, conflict};
 ghost use Rattle.mq_command.specs.Orders.{is_taken, later, run_of, word};
 ghost use Rattle.mq_command.specs.declared.order.OrderFault.{OrderFault as AnyOrderFault};
 
 use crate::ask::{AskFault, ask};
 use crate::telling::tell;
-use mq_frame::format::LAST_RUN;
-use mq_frame::{Reply, Request};
+use mq_request::bounds::LAST_RUN;
+use mq_request::{Reply, Request};
 use mq_link::Link;
 use std::alloc::Global;
 use std::io::Write;

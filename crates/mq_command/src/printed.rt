@@ -1,11 +1,11 @@
 //! How the program prints a login, and reads one that it printed.
 ghost use Rattle.std.specs.Prelude.{◌≡◌, ◌<◌, ◌++◌, ◌/◌, ◌%◌, ℕ, List, false, IfOk, MatchBool, MatchOption, length, string_bytes};
 ghost use Rattle.std.specs.List.{All};
-ghost use Rattle.mq_frame.specs.Escaped.{byte_text, digit_text, escaped, is_plain};
+ghost use Rattle.mq_request.specs.Escaped.{byte_text, digit_text, escaped, is_plain};
 ghost use Rattle.mq_command.specs.Printed.{IsLoginText, IsNoText, IsTextOf};
 
-use mq_frame::format::LOGIN_LIMIT;
-use mq_frame::{Escaped, Login};
+use mq_request::bounds::LOGIN_LIMIT;
+use mq_request::{Escaped, Login};
 use std::alloc::{AllocError, Global};
 
 /// A login as it is printed: visible ASCII but `\` as it is, any other byte as `\x` and two

@@ -1,6 +1,6 @@
 //! `report`: prints what logins used on a day.
 ghost use Rattle.std.specs.Prelude.{◌≡◌, IfOk, IfSome, option_map, Ok, Err, Result as AnyResult};
-ghost use Rattle.mq_frame.specs.Range.{IsDay, IsAfter, IsLogin, IsPage as IsPageInRange, IsReply};
+ghost use Rattle.mq_request.specs.Range.{IsDay, IsAfter, IsLogin, IsPage as IsPageInRange, IsReply};
 ghost use Rattle.mq_command.specs.Asking.{status_of};
 ghost use Rattle.mq_command.specs.Report.{AnswersList, AnswersUsage, AsksPage, AsksUsage, HasRow, output_fault};
 ghost use Rattle.mq_command.specs.Report.{PrintsRow, Reports, ReportsAll, ReportsOne, TakesPage};
@@ -14,8 +14,8 @@ use crate::ask::{AskFault, ask};
 use crate::output::OutputFault;
 use crate::report::page::is_ascending;
 use crate::report::row::{write_row, write_rows};
-use mq_frame::format::ROW_LIMIT;
-use mq_frame::{Login, Reply, Request, UsageRow, UsageRows};
+use mq_request::bounds::ROW_LIMIT;
+use mq_request::{Login, Reply, Request, UsageRow, UsageRows};
 use mq_link::Link;
 use std::alloc::{AllocError, Global};
 use std::io::Write;

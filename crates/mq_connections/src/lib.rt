@@ -8,10 +8,10 @@
 //!     let timeout = Duration::from_millis(u64::from(settings.timeout));
 //!     serve_connections(rt, log, alloc, &listener, timeout, ledger, connections)?;
 //!
-//! It stands on `mq_frame`, `mq_ledger`, `mq_server`, `mq_deadline` and `mq_watch`: it knows how a connection is answered
-//! and when it is late, over any ledger that takes the address of each peer, and nothing of tables. Begin with
-//! `serving.rt`, the rounds over all that is open, and `specs/Sessions.antt`, what came on each connection and what it was
-//! answered.
+//! It stands on `mq_request`, `mq_ledger`, `mq_server`, `mq_deadline` and `mq_watch`: it knows how a connection is
+//! answered and when it is late, over any ledger that takes the address of each peer, and nothing of tables. Begin with
+//! `serving.rt`, the rounds over all that is open, and `specs/Sessions.antt`, what came on each connection and what it
+//! was answered.
 #![tactic(auto)]
 
 mod accept;

@@ -9,10 +9,9 @@ use mq_command::{
     Setter, is_login_text, login_of_text, login_text, run_day, run_fresh, run_limit, run_resume,
     run_retire, run_stop,
 };
-use mq_frame::{
-    FromRead, Host, Login, Request, ToWrite, decode_request, encode_request, is_host, is_login,
-    is_moment, is_request,
-};
+use mq_frame::{decode_request, encode_request};
+use mq_request::{Host, Login, Request, is_host, is_login, is_moment, is_request};
+use mq_stream::{FromRead, ToWrite};
 use mq_ledger::{PlainLedger, Zone};
 use mq_link::{Link, LinkFault};
 use mq_server::serve;

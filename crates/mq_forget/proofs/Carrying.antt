@@ -2,9 +2,9 @@
 use Rattle.std.proofs.Common.{◌≡◌, ℕ, suc, ◌+◌, ◌<◌, List, [], ◌∷◌, ◌++◌, length, take, drop, get_or, true, false, refl, ◌∙◌, ap, sym, subst, inl, inr, arith, add-one, drop-cons}
 use Rattle.std.specs.Prelude.{All, Some, Result, Ok, Err, OnErr}
 use Rattle.std.proofs.lemmas.List.{take-append-drop, take_more}
-use Rattle.mq_frame.specs.declared.message.Request.{Request}
-use Rattle.mq_frame.specs.declared.message.Request.TheVariants.{Reserve, Settle, Release, Limit, Usage, List as ListRequest, Retire}
-use Rattle.mq_frame.specs.Range.{IsRequest, IsMoment}
+use Rattle.mq_request.specs.declared.message.Request.{Request}
+use Rattle.mq_request.specs.declared.message.Request.TheVariants.{Reserve, Settle, Release, Limit, Usage, List as ListRequest, Retire}
+use Rattle.mq_request.specs.Range.{IsRequest, IsMoment}
 use Rattle.mq_ledger.specs.declared.entry.Entry.{Entry}
 use Rattle.mq_ledger.specs.History.{Transaction, requests, is_of, named}
 use Rattle.mq_forget.specs.Remembered.{moment_of, stays, remembered}

@@ -3,13 +3,13 @@
 -- `day` gives the day of a moment. Limits that were set stay, and retires, and each entry that is about D or a later
 -- day: a limit by the day from which it is to hold, all else by the day of its transaction.
 use Rattle.std.specs.Prelude.{◌≡◌, ◌⊎◌, ℕ, List, [], ◌∷◌, filter, Bool, true, false, not, ◌&&◌, ◌||◌, nat_le, Option, Some, None}
-use Rattle.mq_frame.specs.Same.{same_request}
-use Rattle.mq_frame.specs.declared.message.Id.{Id}
-use Rattle.mq_frame.specs.declared.message.Request.{Request}
-use Rattle.mq_frame.specs.declared.message.Request.TheVariants.{Reserve, Settle, Release, Limit, Usage}
-use Rattle.mq_frame.specs.declared.message.Request.TheVariants.{List as ListRequest, Retire}
-use Rattle.mq_frame.specs.declared.message.Reply.{Reply}
-use Rattle.mq_frame.specs.declared.message.Reply.TheVariants.{LimitSet}
+use Rattle.mq_request.specs.Same.{same_request}
+use Rattle.mq_request.specs.declared.message.Id.{Id}
+use Rattle.mq_request.specs.declared.message.Request.{Request}
+use Rattle.mq_request.specs.declared.message.Request.TheVariants.{Reserve, Settle, Release, Limit, Usage}
+use Rattle.mq_request.specs.declared.message.Request.TheVariants.{List as ListRequest, Retire}
+use Rattle.mq_request.specs.declared.message.Reply.{Reply}
+use Rattle.mq_request.specs.declared.message.Reply.TheVariants.{LimitSet}
 use Rattle.mq_ledger.specs.declared.entry.Entry.{Entry}
 use Rattle.mq_ledger.specs.Answer.{stored, reply, with_arrival}
 use Rattle.mq_ledger.specs.Arrivals.{id_of, is_below}

@@ -1,7 +1,7 @@
 //! What is remembered of a history, put into a new ledger.
 ghost use Rattle.std.specs.Prelude.{◌≡◌, ◌∷◌, ◌++◌, ℕ, List, [], All, OnOk, OnErr};
 ghost use Rattle.std.specs.Option.{option_copied};
-ghost use Rattle.mq_frame.specs.Range.{IsRequest, IsMoment};
+ghost use Rattle.mq_request.specs.Range.{IsRequest, IsMoment};
 ghost use Rattle.mq_ledger.specs.declared.entry.Entry.{Entry as AnyEntry};
 ghost use Rattle.mq_ledger.specs.Answer.{history_of};
 ghost use Rattle.mq_ledger.specs.Day.{day_of};
@@ -11,7 +11,7 @@ ghost use Rattle.mq_forget.specs.Remembered.{moment_of, day_named, is_about, is_
 ghost use Rattle.mq_forget.specs.Carried.{IsFront};
 
 use crate::laws::next_place_is_carried_over;
-use mq_frame::{Id, Reply, Request};
+use mq_request::{Id, Reply, Request};
 use mq_ledger::{Entry, Ledger, LedgerFault, Zone};
 
 /// Whether the request is of the transaction.

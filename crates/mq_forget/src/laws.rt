@@ -1,11 +1,11 @@
 //! Laws of what is remembered. Each function does nothing: its contract is the law.
 ghost use Rattle.std.specs.Prelude.{◌≡◌, ◌≤◌, ◌<◌, ℕ, List, [], ◌∷◌, ◌++◌, Some, None, All, true, false, map, filter, take, ◌+◌};
 ghost use Rattle.std.specs.Prelude.{if◌then◌else◌};
-ghost use Rattle.mq_frame.specs.declared.message.Id.{Id};
-ghost use Rattle.mq_frame.specs.declared.message.Request.{Request as AnyRequest};
-ghost use Rattle.mq_frame.specs.declared.message.Request.TheVariants.{Limit};
-ghost use Rattle.mq_frame.specs.declared.message.Reply.TheVariants.{Old};
-ghost use Rattle.mq_frame.specs.Range.{IsRequest};
+ghost use Rattle.mq_request.specs.declared.message.Id.{Id};
+ghost use Rattle.mq_request.specs.declared.message.Request.{Request as AnyRequest};
+ghost use Rattle.mq_request.specs.declared.message.Request.TheVariants.{Limit};
+ghost use Rattle.mq_request.specs.declared.message.Reply.TheVariants.{Old};
+ghost use Rattle.mq_request.specs.Range.{IsRequest};
 ghost use Rattle.mq_ledger.specs.declared.entry.Entry.{Entry as AnyEntry};
 ghost use Rattle.mq_ledger.specs.Answer.{answer, known_by, reply, with_arrival, history_of, replies_after, replies};
 ghost use Rattle.mq_ledger.specs.Arrivals.{id_of, floor, is_below, greater};
@@ -18,7 +18,7 @@ ghost use Rattle.mq_forget.specs.Remembered.{AreLaterOrLate};
 ghost use Rattle.mq_forget.specs.Carried.{IsAt};
 ghost use Rattle.mq_forget.specs.Kept.{AreAlike, Keeps};
 
-use mq_frame::laws::same_is_equal;
+use mq_request::laws::same_is_equal;
 use mq_ledger::laws::{built_is_legal, one_more_arrival, over_is_least, page_is_first};
 
 /// Whether an entry stays is known from the entries up to it: each prefix of a history is remembered as

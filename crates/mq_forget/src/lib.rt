@@ -9,7 +9,7 @@
 //!         }
 //!     }
 //!
-//! It stands on `mq_frame` and `mq_ledger`, and is proved over any ledger; it knows no rows and no store. Begin with
+//! It stands on `mq_request` and `mq_ledger`, and is proved over any ledger; it knows no rows and no store. Begin with
 //! `specs/Remembered.antt`, what is remembered, and `laws.rt`, what that keeps. docs/LEDGER.md has both in words.
 #![tactic(auto)]
 

@@ -6,19 +6,20 @@ use Rattle.std.specs.Int.{w32, w64}
 use Rattle.std.proofs.lemmas.Bool.Decides.{Decides-eqb}
 use Rattle.std.proofs.lemmas.List.Sums.{AllPass-from_list_all, list_all-from_AllPass}
 use Rattle.std.proofs.lemmas.List.Elements.{All-weaker}
-use Rattle.mq_frame.specs.declared.message.Id.{Id}
-use Rattle.mq_frame.specs.declared.message.Request.{Request}
-use Rattle.mq_frame.specs.declared.message.Request.TheVariants.{Reserve, Settle, Release, Limit, Usage, List as ListRequest, Retire}
-use Rattle.mq_frame.specs.declared.message.Reply.{Reply}
-use Rattle.mq_frame.specs.declared.message.Reply.TheVariants.{Granted, Full, Settled, Released, LimitSet, Over, Closed, Mismatch, TooMany, Conflict, Usage as UsageReply, List as ListReply, Retry, Bad, Retired, Old}
+use Rattle.mq_request.specs.declared.message.Id.{Id}
+use Rattle.mq_request.specs.declared.message.Request.{Request}
+use Rattle.mq_request.specs.declared.message.Request.TheVariants.{Reserve, Settle, Release, Limit, Usage, List as ListRequest, Retire}
+use Rattle.mq_request.specs.declared.message.Reply.{Reply}
+use Rattle.mq_request.specs.declared.message.Reply.TheVariants.{Granted, Full, Settled, Released, LimitSet, Over, Closed, Mismatch, TooMany, Conflict, Usage as UsageReply, List as ListReply, Retry, Bad, Retired, Old}
 use Rattle.mq_frame.specs.declared.format.TheConstants.{RESERVE, SETTLE, RELEASE, LIMIT, USAGE, LIST, RETIRE}
 use Rattle.mq_frame.specs.declared.format.TheConstants.{GRANTED, FULL, SETTLED, RELEASED, LIMIT_SET, OVER, CLOSED, MISMATCH, TOO_MANY, CONFLICT}
 use Rattle.mq_frame.specs.declared.format.TheConstants.{USAGE_REPLY, LIST_REPLY, RETRY, BAD, RETIRED, OLD}
-use Rattle.mq_frame.specs.declared.format.TheConstants.{HOST_LIMIT, LOGIN_LIMIT, LAST_RUN, LAST_ORDINAL, FIRST_MOMENT, LAST_MOMENT}
-use Rattle.mq_frame.specs.declared.format.TheConstants.{LAST_DAY, COUNT_LIMIT, AMOUNT_LIMIT, ROW_LIMIT}
-use Rattle.mq_frame.specs.Range.{IsWithin, IsHostByte, IsHost, IsLogin, IsAfter, IsRun, IsOrdinal, IsMoment, IsDay, IsCount, IsAmount, IsId, IsRow, IsPage}
+use Rattle.mq_request.specs.declared.bounds.TheConstants.{HOST_LIMIT, LOGIN_LIMIT, LAST_RUN, LAST_ORDINAL, FIRST_MOMENT, LAST_MOMENT}
+use Rattle.mq_request.specs.declared.bounds.TheConstants.{LAST_DAY, COUNT_LIMIT, AMOUNT_LIMIT, ROW_LIMIT}
+use Rattle.mq_request.specs.Range.{IsWithin, IsHostByte, IsHost, IsLogin, IsAfter, IsRun, IsOrdinal, IsMoment, IsDay, IsCount, IsAmount, IsId, IsRow, IsPage}
 use Rattle.mq_frame.specs.Spelling.{SpellsRequest, SpellsReply}
-use Rattle.mq_frame.specs.Reading.{Field, between, text, pair, whole, is_host_byte, host, login, after, run, ordinal, moment, count, amount, day, id, row, page, Transaction, transaction_of, transaction, reserve_of, settle_of, release_of, limit_of, usage_of, list_of, granted_of, full_of, settled_of, released_of, over_of, too_many_of, usage_reply_of, list_reply_of, made_of, if_none_left, request_of_kind, request_at, numbered_reply, reply_of_kind, reply_at}
+use Rattle.mq_frame.specs.Reading.{Field, text, pair, whole, host, login, after, run, ordinal, moment, count, amount, day, id, row, page, Transaction, transaction_of, transaction, reserve_of, settle_of, release_of, limit_of, usage_of, list_of, granted_of, full_of, settled_of, released_of, over_of, too_many_of, usage_reply_of, list_reply_of, made_of, if_none_left, request_of_kind, request_at, numbered_reply, reply_of_kind, reply_at}
+use Rattle.mq_request.specs.Range.{between, is_host_byte}
 use Rattle.mq_frame.proofs.FieldLaws.{IsField, IsBytes, IsBytes-tail, within, tested, bind_some, kept_some, number_field, text_field, where_field, as_field, pair_field, made_field, counted_field, wide32, wide64, whole_takes, whole_again}
 
 -- ---- the fields

@@ -6,7 +6,7 @@ use Rattle.std.proofs.lemmas.Bool.{cases_lt, ltb-true, le-ltb, lt-ltb}
 use Rattle.std.proofs.lemmas.Bool.Decides.{nat_tests, Decides-eqb}
 use Rattle.std.proofs.lemmas.List.{take_at, drop_at, take-append-le, drop-append-le, take-append-drop, length-append, length-take, get_or_past}
 use Rattle.std.proofs.lemmas.List.Elements.{All-nil, All-cons, All-head, All-tail}
-use Rattle.mq_frame.specs.Range.{IsWithin}
+use Rattle.mq_request.specs.Range.{IsWithin}
 use Rattle.mq_frame.specs.Spelling.{in_2_bytes, frame}
 use Rattle.mq_frame.specs.Feed.{Front, Nothing, Cut, EmptyHead, LongHead, Whole, front, front_behind, next_answer, left_by_next, BeginsWith, HasNoFrame, Frames, Move, Fed, Gave, Moves, fed, given}
 use Rattle.mq_frame.proofs.FieldLaws.{IsBytes, IsBytes-drop}

@@ -1,10 +1,10 @@
 -- What the laws of the link's format join.
 use Rattle.std.proofs.Common.{◌≡◌, ℕ, List, ◌++◌, length, drop, Some, refl, sym, ap, ◌∙◌, arith}
-use Rattle.mq_frame.specs.Range.{IsWithin, IsRequest, IsReply}
+use Rattle.mq_request.specs.Range.{IsWithin, IsRequest, IsReply}
 use Rattle.mq_frame.specs.Spelling.{SpellsRequest, SpellsReply, request_body, reply_body, frame}
 use Rattle.mq_frame.specs.Feed.{Whole, front}
-use Rattle.mq_frame.specs.declared.message.Request.{Request}
-use Rattle.mq_frame.specs.declared.message.Reply.{Reply}
+use Rattle.mq_request.specs.declared.message.Request.{Request}
+use Rattle.mq_request.specs.declared.message.Reply.{Reply}
 use Rattle.mq_frame.proofs.Bodies.{request_at_read, reply_at_read}
 use Rattle.mq_frame.proofs.Lengths.{longest_request, some_request, longest_reply, some_reply}
 use Rattle.mq_frame.proofs.Cuts.{frame_front}

@@ -3,14 +3,14 @@ use Rattle.std.proofs.Common.{ℕ, ◌+◌, ◌*◌, ◌≤◌, List, [], ◌∷
 use Rattle.std.specs.List.{All, flat_map}
 use Rattle.std.proofs.lemmas.List.{length-append}
 use Rattle.std.proofs.lemmas.List.Elements.{All-head, All-tail}
-use Rattle.mq_frame.specs.Range.{IsWithin, IsId, IsLogin, IsRow, IsPage, IsRequest, IsReply}
+use Rattle.mq_request.specs.Range.{IsWithin, IsId, IsLogin, IsRow, IsPage, IsRequest, IsReply}
 use Rattle.mq_frame.specs.Spelling.{with_length, in_4_bytes, in_8_bytes, id_bytes, transaction_bytes, row_bytes, page_bytes, request_body, reply_body}
-use Rattle.mq_frame.specs.declared.message.Id.{Id}
-use Rattle.mq_frame.specs.declared.message.Request.{Request}
-use Rattle.mq_frame.specs.declared.message.Request.TheVariants.{Reserve, Settle, Release, Limit, Usage, List as ListRequest, Retire}
-use Rattle.mq_frame.specs.declared.message.Reply.{Reply}
-use Rattle.mq_frame.specs.declared.message.Reply.TheVariants.{Granted, Full, Settled, Released, LimitSet, Over, Closed, Mismatch, TooMany, Conflict, Usage as UsageReply, List as ListReply, Retry, Bad, Retired, Old}
-use Rattle.mq_frame.specs.declared.usage.UsageRow.{UsageRow}
+use Rattle.mq_request.specs.declared.message.Id.{Id}
+use Rattle.mq_request.specs.declared.message.Request.{Request}
+use Rattle.mq_request.specs.declared.message.Request.TheVariants.{Reserve, Settle, Release, Limit, Usage, List as ListRequest, Retire}
+use Rattle.mq_request.specs.declared.message.Reply.{Reply}
+use Rattle.mq_request.specs.declared.message.Reply.TheVariants.{Granted, Full, Settled, Released, LimitSet, Over, Closed, Mismatch, TooMany, Conflict, Usage as UsageReply, List as ListReply, Retry, Bad, Retired, Old}
+use Rattle.mq_request.specs.declared.usage.UsageRow.{UsageRow}
 
 length_then : (a b : List ℕ) (n m k : ℕ) → length a ≤ n → length b ≤ m → n + m ≤ k → length (a ++ b) ≤ k
 length_then a b n m k h i j = omega (arith, h, i, j, length-append a b)

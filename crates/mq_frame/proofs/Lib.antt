@@ -1,4 +1,3 @@
-pub mod Alike
 pub mod Appends
 pub mod Bodies
 pub mod Cuts

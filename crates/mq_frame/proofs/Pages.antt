@@ -3,7 +3,7 @@ use Rattle.std.proofs.Common.{◌≡◌, ℕ, suc, ◌-◌, ◌+◌, ◌<◌, Li
 use Rattle.std.specs.Prelude.{true, false, nat_le, if◌then◌else◌}
 use Rattle.mq_frame.specs.Reading.{row, times_at, counted_at, ◌>>=◌}
 use Rattle.mq_frame.specs.Parts.{rows_in}
-use Rattle.mq_frame.specs.declared.usage.UsageRow.{UsageRow}
+use Rattle.mq_request.specs.declared.usage.UsageRow.{UsageRow}
 
 -- rows that were taken, and then those that are read
 abbrev pub behind : List UsageRow → Option (List UsageRow × List ℕ) → Option (List UsageRow × List ℕ)

@@ -1,11 +1,6 @@
-pub mod Escaped
 pub mod Feed
-pub mod Flow
 pub mod Owned
 pub mod Parts
-pub mod Range
 pub mod Reading
-pub mod Row
-pub mod Same
 pub mod Shown
 pub mod Spelling

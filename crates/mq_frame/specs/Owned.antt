@@ -1,12 +1,12 @@
 -- Which requests and replies hold bytes of their own, so that memory is needed for them.
 use Rattle.std.specs.Prelude.{length, ◌<◌, ⊤}
-use Rattle.mq_frame.specs.declared.message.Request.{Request}
-use Rattle.mq_frame.specs.declared.message.Request.TheVariants.{Reserve, Settle, Release}
-use Rattle.mq_frame.specs.declared.message.Request.TheVariants.{Limit, Usage, List as ListRequest, Retire}
-use Rattle.mq_frame.specs.declared.message.Reply.{Reply}
-use Rattle.mq_frame.specs.declared.message.Reply.TheVariants.{Granted, Full, Settled, Released, LimitSet, Over, Closed}
-use Rattle.mq_frame.specs.declared.message.Reply.TheVariants.{Mismatch, TooMany, Conflict, Usage as UsageReply}
-use Rattle.mq_frame.specs.declared.message.Reply.TheVariants.{List as ListReply, Retry, Bad, Retired, Old}
+use Rattle.mq_request.specs.declared.message.Request.{Request}
+use Rattle.mq_request.specs.declared.message.Request.TheVariants.{Reserve, Settle, Release}
+use Rattle.mq_request.specs.declared.message.Request.TheVariants.{Limit, Usage, List as ListRequest, Retire}
+use Rattle.mq_request.specs.declared.message.Reply.{Reply}
+use Rattle.mq_request.specs.declared.message.Reply.TheVariants.{Granted, Full, Settled, Released, LimitSet, Over, Closed}
+use Rattle.mq_request.specs.declared.message.Reply.TheVariants.{Mismatch, TooMany, Conflict, Usage as UsageReply}
+use Rattle.mq_request.specs.declared.message.Reply.TheVariants.{List as ListReply, Retry, Bad, Retired, Old}
 
 -- a host or a login, which are never empty, or the login after which a list begins, where that isn't
 abbrev pub RequestHoldsBytes : Request → Type 0

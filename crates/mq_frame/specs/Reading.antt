@@ -7,19 +7,20 @@ use Rattle.mq_frame.specs.declared.format.TheConstants.{RESERVE, SETTLE, RELEASE
 use Rattle.mq_frame.specs.declared.format.TheConstants.{GRANTED, FULL, SETTLED, RELEASED, LIMIT_SET, OVER, CLOSED}
 use Rattle.mq_frame.specs.declared.format.TheConstants.{MISMATCH, TOO_MANY, CONFLICT}
 use Rattle.mq_frame.specs.declared.format.TheConstants.{USAGE_REPLY, LIST_REPLY, RETRY, BAD, RETIRED, OLD}
-use Rattle.mq_frame.specs.declared.format.TheConstants.{HOST_LIMIT, LOGIN_LIMIT, LAST_RUN, LAST_ORDINAL, FIRST_MOMENT}
-use Rattle.mq_frame.specs.declared.format.TheConstants.{LAST_MOMENT}
-use Rattle.mq_frame.specs.declared.format.TheConstants.{LAST_DAY, COUNT_LIMIT, AMOUNT_LIMIT, ROW_LIMIT}
+use Rattle.mq_request.specs.declared.bounds.TheConstants.{HOST_LIMIT, LOGIN_LIMIT, LAST_RUN, LAST_ORDINAL, FIRST_MOMENT}
+use Rattle.mq_request.specs.declared.bounds.TheConstants.{LAST_MOMENT}
+use Rattle.mq_request.specs.declared.bounds.TheConstants.{LAST_DAY, COUNT_LIMIT, AMOUNT_LIMIT, ROW_LIMIT}
+use Rattle.mq_request.specs.Range.{between, is_host_byte}
 use Rattle.mq_frame.specs.Spelling.{with_length}
-use Rattle.mq_frame.specs.declared.message.Id.{Id}
-use Rattle.mq_frame.specs.declared.message.Request.{Request}
-use Rattle.mq_frame.specs.declared.message.Request.TheVariants.{Reserve, Settle, Release}
-use Rattle.mq_frame.specs.declared.message.Request.TheVariants.{Limit, Usage, List as ListRequest, Retire}
-use Rattle.mq_frame.specs.declared.message.Reply.{Reply}
-use Rattle.mq_frame.specs.declared.message.Reply.TheVariants.{Granted, Full, Settled, Released, LimitSet, Over, Closed}
-use Rattle.mq_frame.specs.declared.message.Reply.TheVariants.{Mismatch, TooMany, Conflict, Usage as UsageReply}
-use Rattle.mq_frame.specs.declared.message.Reply.TheVariants.{List as ListReply, Retry, Bad, Retired, Old}
-use Rattle.mq_frame.specs.declared.usage.UsageRow.{UsageRow}
+use Rattle.mq_request.specs.declared.message.Id.{Id}
+use Rattle.mq_request.specs.declared.message.Request.{Request}
+use Rattle.mq_request.specs.declared.message.Request.TheVariants.{Reserve, Settle, Release}
+use Rattle.mq_request.specs.declared.message.Request.TheVariants.{Limit, Usage, List as ListRequest, Retire}
+use Rattle.mq_request.specs.declared.message.Reply.{Reply}
+use Rattle.mq_request.specs.declared.message.Reply.TheVariants.{Granted, Full, Settled, Released, LimitSet, Over, Closed}
+use Rattle.mq_request.specs.declared.message.Reply.TheVariants.{Mismatch, TooMany, Conflict, Usage as UsageReply}
+use Rattle.mq_request.specs.declared.message.Reply.TheVariants.{List as ListReply, Retry, Bad, Retired, Old}
+use Rattle.mq_request.specs.declared.usage.UsageRow.{UsageRow}
 
 infixl 10 ◌>>=◌
 abbrev pub ◌>>=◌ : {A B : Type 0} → Option A → (A → Option B) → Option B
@@ -35,9 +36,6 @@ Reads view (Some x) read = read ≡ Some (view x)
 pub record Field (X : Type 0) : Type 0 where
   pub spell : X → List ℕ
   pub read : List ℕ → Option (X × List ℕ)
-
-abbrev pub between : ℕ → ℕ → ℕ → Bool
-between low high n = nat_le low n && nat_le n high
 
 abbrev pub if_passes : {X : Type 0} → (X → Bool) → X × List ℕ → Option (X × List ℕ)
 if_passes p x = if p x.0 then Some x else None
@@ -94,9 +92,6 @@ counted high f = record { spell = λ xs. length xs ∷ flat_map f.spell xs; read
 -- the field is all of the bytes
 abbrev pub whole : {X : Type 0} → Field X → List ℕ → Option X
 whole f bytes = f.read bytes >>= λ x. (if length x.1 == 0 then Some x.0 else None)
-
-abbrev pub is_host_byte : ℕ → Bool
-is_host_byte b = between 48 57 b || (between 65 90 b || (between 97 122 b || between 45 46 b))
 
 abbrev pub host : Field (List ℕ)
 host = where_so (list_all is_host_byte) (text 1 HOST_LIMIT)

@@ -1,8 +1,8 @@
 -- What an id and a row in a body stand for.
 use Rattle.mq_frame.specs.declared.fields.IdParts.{IdParts}
 use Rattle.mq_frame.specs.declared.page.RowParts.{RowParts}
-use Rattle.mq_frame.specs.declared.message.Id.{Id}
-use Rattle.mq_frame.specs.declared.usage.UsageRow.{UsageRow}
+use Rattle.mq_request.specs.declared.message.Id.{Id}
+use Rattle.mq_request.specs.declared.usage.UsageRow.{UsageRow}
 
 abbrev pub shown_id : IdParts → Id
 shown_id x = record { host = x.host.now; run = x.run; number = x.number }

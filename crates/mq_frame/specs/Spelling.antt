@@ -6,16 +6,16 @@ use Rattle.mq_frame.specs.declared.format.TheConstants.{RESERVE, SETTLE, RELEASE
 use Rattle.mq_frame.specs.declared.format.TheConstants.{GRANTED, FULL, SETTLED, RELEASED, LIMIT_SET, OVER, CLOSED}
 use Rattle.mq_frame.specs.declared.format.TheConstants.{MISMATCH, TOO_MANY, CONFLICT}
 use Rattle.mq_frame.specs.declared.format.TheConstants.{USAGE_REPLY, LIST_REPLY, RETRY, BAD, RETIRED, OLD}
-use Rattle.mq_frame.specs.Range.{IsRequest, IsReply}
-use Rattle.mq_frame.specs.declared.message.Id.{Id}
-use Rattle.mq_frame.specs.declared.message.Request.{Request}
-use Rattle.mq_frame.specs.declared.message.Request.TheVariants.{Reserve, Settle, Release}
-use Rattle.mq_frame.specs.declared.message.Request.TheVariants.{Limit, Usage, List as ListRequest, Retire}
-use Rattle.mq_frame.specs.declared.message.Reply.{Reply}
-use Rattle.mq_frame.specs.declared.message.Reply.TheVariants.{Granted, Full, Settled, Released, LimitSet, Over, Closed}
-use Rattle.mq_frame.specs.declared.message.Reply.TheVariants.{Mismatch, TooMany, Conflict, Usage as UsageReply}
-use Rattle.mq_frame.specs.declared.message.Reply.TheVariants.{List as ListReply, Retry, Bad, Retired, Old}
-use Rattle.mq_frame.specs.declared.usage.UsageRow.{UsageRow}
+use Rattle.mq_request.specs.Range.{IsRequest, IsReply}
+use Rattle.mq_request.specs.declared.message.Id.{Id}
+use Rattle.mq_request.specs.declared.message.Request.{Request}
+use Rattle.mq_request.specs.declared.message.Request.TheVariants.{Reserve, Settle, Release}
+use Rattle.mq_request.specs.declared.message.Request.TheVariants.{Limit, Usage, List as ListRequest, Retire}
+use Rattle.mq_request.specs.declared.message.Reply.{Reply}
+use Rattle.mq_request.specs.declared.message.Reply.TheVariants.{Granted, Full, Settled, Released, LimitSet, Over, Closed}
+use Rattle.mq_request.specs.declared.message.Reply.TheVariants.{Mismatch, TooMany, Conflict, Usage as UsageReply}
+use Rattle.mq_request.specs.declared.message.Reply.TheVariants.{List as ListReply, Retry, Bad, Retired, Old}
+use Rattle.mq_request.specs.declared.usage.UsageRow.{UsageRow}
 
 -- a number in 2, 4 or 8 bytes, the highest first
 abbrev pub in_2_bytes : ℕ → List ℕ

@@ -2,7 +2,7 @@
 ghost use Rattle.std.specs.Prelude.{◌≡◌, None, IfSome};
 ghost use Rattle.mq_frame.specs.Parts.{shown_reply};
 ghost use Rattle.mq_frame.specs.Spelling.{SpellsReply};
-ghost use Rattle.mq_frame.specs.declared.message.Reply.{Reply};
+ghost use Rattle.mq_request.specs.declared.message.Reply.{Reply};
 
 use crate::reply_parts::{ReplyParts, reply_parts};
 

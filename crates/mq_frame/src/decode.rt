@@ -5,17 +5,15 @@ ghost use Rattle.mq_frame.specs.Shown.{shown_id, shown_row};
 ghost use Rattle.mq_frame.specs.Owned.{RequestHoldsBytes, ReplyHoldsBytes};
 ghost use Rattle.mq_frame.specs.Parts.{shown_page, shown_request, shown_reply};
 ghost use Rattle.mq_frame.specs.Spelling.{SpellsRequest, SpellsReply};
-ghost use Rattle.mq_frame.specs.declared.message.Request.{Request};
-ghost use Rattle.mq_frame.specs.declared.message.Reply.{Reply};
+ghost use Rattle.mq_request.specs.declared.message.Request.{Request};
+ghost use Rattle.mq_request.specs.declared.message.Reply.{Reply};
 ghost use Rattle.mq_frame.specs.declared.decode.DecodeFault.TheVariants.{Memory};
 
 use crate::fields::IdParts;
-use crate::message::{Id, Reply, Request};
 use crate::page::{PageParts, RowParts, row_at};
 use crate::reply_parts::{ReplyParts, reply_parts};
 use crate::request_parts::{RequestParts, TransactionParts, request_parts};
-use crate::text::{Host, Login};
-use crate::usage::{UsageRow, UsageRows};
+use mq_request::{Host, Id, Login, Reply, Request, UsageRow, UsageRows};
 use std::alloc::{AllocError, Global};
 use thiserror::Error;
 

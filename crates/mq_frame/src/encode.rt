@@ -3,7 +3,7 @@
 
 ghost use Rattle.std.specs.Prelude.{◌≡◌, ◌≤◌, ◌<◌, ◌+◌, [], ◌∷◌, ◌++◌, length, vec_capacity, vec_len, OnOk, OnErr};
 ghost use Rattle.std.specs.List.{flat_map};
-ghost use Rattle.mq_frame.specs.Range.{IsId, IsOrdinal, IsMoment, IsLogin, IsAfter, IsRow, IsPage, IsRequest, IsReply};
+ghost use Rattle.mq_request.specs.Range.{IsId, IsOrdinal, IsMoment, IsLogin, IsAfter, IsRow, IsPage, IsRequest, IsReply};
 ghost use Rattle.mq_frame.specs.Spelling.{in_2_bytes, in_4_bytes, in_8_bytes, with_length, id_bytes, transaction_bytes};
 ghost use Rattle.mq_frame.specs.Spelling.{row_bytes, page_bytes, request_body, reply_body, frame};
 
@@ -12,9 +12,7 @@ use crate::format::{
     OLD, OVER, RELEASE, RELEASED, RESERVE, RETIRE, RETIRED, RETRY, SETTLE, SETTLED, TOO_MANY,
     USAGE, USAGE_REPLY,
 };
-use crate::message::{Id, Reply, Request};
-use crate::text::{Host, Login};
-use crate::usage::{UsageRow, UsageRows};
+use mq_request::{Host, Id, Login, Reply, Request, UsageRow, UsageRows};
 use std::alloc::AllocError;
 
 fn put_text(out: &mut Vec<u8>, text: &[u8]) -> Result<(), AllocError>

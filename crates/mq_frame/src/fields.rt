@@ -1,13 +1,12 @@
 //! The fields of a body, each read from the front.
-ghost use Rattle.std.specs.Prelude.{◌≡◌, ◌↔◌, IsTrue, All, length, ◌==◌, if◌then◌else◌};
-ghost use Rattle.std.specs.List.{list_all};
+ghost use Rattle.std.specs.Prelude.{length, ◌==◌, if◌then◌else◌};
 ghost use Rattle.std.specs.Int.{w32, w64};
-ghost use Rattle.mq_frame.specs.Range.{IsHostByte};
 ghost use Rattle.mq_frame.specs.Shown.{shown_id};
-ghost use Rattle.mq_frame.specs.Reading.{Reads, number_at, text_at, is_host_byte, whole};
+ghost use Rattle.mq_frame.specs.Reading.{Reads, number_at, text_at, whole};
 ghost use Rattle.mq_frame.specs.Reading.{host, login, after, run, ordinal, moment, day, count, amount, id};
 
-use crate::format::{
+use mq_request::are_host_bytes;
+use mq_request::bounds::{
     AMOUNT_LIMIT, COUNT_LIMIT, FIRST_MOMENT, HOST_LIMIT, LAST_DAY, LAST_MOMENT, LAST_ORDINAL,
     LAST_RUN, LOGIN_LIMIT,
 };
@@ -68,14 +67,6 @@ fn text_at(bytes: &[u8], low: u8, high: u8) -> Option<(&[u8], &[u8])>
             }
         }
     }
-}
-
-/// Whether each byte may stand in a host's name.
-pub fn are_host_bytes(bytes: &[u8]) -> bool
-    ensures read { result ≡ list_all is_host_byte bytes.now }
-    ensures range { IsTrue result ↔ All IsHostByte bytes.now }
-{
-    bytes.iter().all(|b| matches!(*b, b'0'..=b'9' | b'A'..=b'Z' | b'a'..=b'z' | b'-'..=b'.'))
 }
 
 pub fn host_at(bytes: &[u8]) -> Option<(&[u8], &[u8])>

@@ -1,24 +1,19 @@
 //! Laws of the link's format. Each is the contract of a function that does nothing.
-ghost use Rattle.std.specs.Prelude.{◌≡◌, ◌↔◌, ℕ, ◌+◌, ◌<◌, ◌≤◌, List, [], ◌∷◌, ◌++◌, length, drop, true, Some, None};
+ghost use Rattle.std.specs.Prelude.{◌≡◌, ◌↔◌, ℕ, ◌+◌, ◌<◌, ◌≤◌, List, [], ◌∷◌, ◌++◌, length, drop, Some, None};
 ghost use Rattle.std.specs.Prelude.{Ok, All, ◌⊎◌};
 ghost use Rattle.std.specs.List.{flat_map};
 ghost use Rattle.mq_frame.specs.declared.feed.TheConstants.{REQUEST_LIMIT, REPLY_LIMIT};
 ghost use Rattle.mq_frame.specs.declared.format.TheConstants.{RESERVE, SETTLE, RELEASE, LIMIT, USAGE, LIST, RETIRE};
 ghost use Rattle.mq_frame.specs.declared.format.TheConstants.{GRANTED, FULL, SETTLED, RELEASED, LIMIT_SET, OVER};
 ghost use Rattle.mq_frame.specs.declared.format.TheConstants.{CLOSED, MISMATCH, TOO_MANY, CONFLICT, RETRY, BAD, RETIRED, OLD};
-ghost use Rattle.mq_frame.specs.declared.format.TheConstants.{USAGE_REPLY, LIST_REPLY, HEAD_BYTES, HOST_LIMIT};
-ghost use Rattle.mq_frame.specs.declared.format.TheConstants.{LOGIN_LIMIT, LAST_RUN, LAST_ORDINAL, FIRST_MOMENT};
-ghost use Rattle.mq_frame.specs.declared.format.TheConstants.{LAST_MOMENT, LAST_DAY, COUNT_LIMIT, AMOUNT_LIMIT};
-ghost use Rattle.mq_frame.specs.declared.format.TheConstants.{ROW_LIMIT};
-ghost use Rattle.mq_frame.specs.Range.{IsWithin, IsRequest, IsReply};
-ghost use Rattle.mq_frame.specs.Same.{same_id, same_request};
+ghost use Rattle.mq_frame.specs.declared.format.TheConstants.{USAGE_REPLY, LIST_REPLY, HEAD_BYTES};
+ghost use Rattle.mq_request.specs.Range.{IsWithin, IsRequest, IsReply};
 ghost use Rattle.mq_frame.specs.Spelling.{in_2_bytes, request_body, reply_body, SpellsRequest, SpellsReply, frame};
 ghost use Rattle.mq_frame.specs.Reading.{request_at, reply_at};
 ghost use Rattle.mq_frame.specs.Feed.{Front, Nothing, Cut, EmptyHead, LongHead, Whole, front, next_answer};
 ghost use Rattle.mq_frame.specs.Feed.{left_by_next, BeginsWith, HasNoFrame, Frames, Move, Moves, fed, given};
-ghost use Rattle.mq_frame.specs.declared.message.Id.{Id};
-ghost use Rattle.mq_frame.specs.declared.message.Request.{Request};
-ghost use Rattle.mq_frame.specs.declared.message.Reply.{Reply};
+ghost use Rattle.mq_request.specs.declared.message.Request.{Request};
+ghost use Rattle.mq_request.specs.declared.message.Reply.{Reply};
 
 /// The kinds of bodies, and how long bodies are, as numbers: the definitions have their names alone.
 pub fn numbers_of_bodies()
@@ -31,16 +26,6 @@ pub fn numbers_of_bodies()
     ensures retiring { RETIRE ∷ RETIRED ∷ OLD ∷ [] ≡ 7 ∷ 143 ∷ 144 ∷ [] }
     ensures head { HEAD_BYTES ≡ 2 }
     ensures longest { (REQUEST_LIMIT ≡ 512) × (REPLY_LIMIT ≡ 65535) }
-{}
-
-/// The ranges of the fields of bodies, as numbers.
-pub fn numbers_of_fields()
-    ensures names { (HOST_LIMIT ≡ 64) × (LOGIN_LIMIT ≡ 255) }
-    ensures places { (LAST_RUN ≡ 281474976710655) × (LAST_ORDINAL ≡ 4294967295) }
-    ensures moments { (FIRST_MOMENT ≡ 86400) × (LAST_MOMENT ≡ 32503680000) }
-    ensures days { LAST_DAY ≡ 376200 }
-    ensures recipients { (COUNT_LIMIT ≡ 1000) × (AMOUNT_LIMIT ≡ 1000000) }
-    ensures rows { ROW_LIMIT ≡ 100 }
 {}
 
 /// Each request and reply in range has one body, and no body spells two of them.
@@ -97,13 +82,6 @@ pub fn bodies_are_read_back()
         → request_at body ≡ Some request }
     ensures spelled_reply { (body : List ℕ) (reply : Reply) → SpellsReply body reply
         → reply_at body ≡ Some reply }
-{}
-
-/// The tests that two ids or two requests are the same are true exactly of equal ones.
-pub fn same_is_equal()
-    ensures id { (id other : Id) → (same_id id other ≡ true) ↔ (id ≡ other) }
-    ensures request { (request other : Request)
-        → (same_request request other ≡ true) ↔ (request ≡ other) }
 {}
 
 /// A body of 1 to `limit` bytes is read back from its frame, and what is read was a frame.

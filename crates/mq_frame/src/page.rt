@@ -4,7 +4,7 @@ ghost use Rattle.mq_frame.specs.Shown.{shown_row};
 ghost use Rattle.mq_frame.specs.Parts.{shown_page};
 
 use crate::fields::{amount_at, login_at};
-use crate::format::ROW_LIMIT;
+use mq_request::bounds::ROW_LIMIT;
 
 /// A row of a page in a body.
 #[derive(Clone, Copy)]

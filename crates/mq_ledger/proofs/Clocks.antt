@@ -11,7 +11,7 @@ use Rattle.jiff_tz.specs.declared.timezone.TimeZone.{TimeZone}
 use Rattle.jiff.specs.Placed.{IsPosixZone}
 use Rattle.jiff.proofs.SpanFacts.{signed_arith}
 use Rattle.mq_ledger.specs.Day.{Days, IsOffset, IsZone, IsDayRule, ByOffset, ByRule, natural, clock, rule_clock, limited, day_of}
-use Rattle.mq_frame.specs.Range.{IsMoment}
+use Rattle.mq_request.specs.Range.{IsMoment}
 use Rattle.mq_ledger.specs.Rule.{ahead}
 use Rattle.mq_ledger.proofs.Rules.{ahead_posix}
 

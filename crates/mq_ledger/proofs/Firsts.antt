@@ -5,9 +5,9 @@ use Rattle.std.specs.List.{list_any}
 use Rattle.std.specs.Option.{option_or}
 use Rattle.std.proofs.Math.Bool.{or-false}
 use Rattle.std.proofs.lemmas.List.Folds.{list_any-append, find-append}
-use Rattle.mq_frame.specs.declared.message.Id.{Id}
-use Rattle.mq_frame.specs.declared.message.Request.{Request}
-use Rattle.mq_frame.specs.Same.{same_id}
+use Rattle.mq_request.specs.declared.message.Id.{Id}
+use Rattle.mq_request.specs.declared.message.Request.{Request}
+use Rattle.mq_request.specs.Same.{same_id}
 use Rattle.mq_ledger.specs.Arrivals.{id_of, is_id, has_id, is_below, kept_with, first, is_first, is_first_by}
 use Rattle.mq_ledger.proofs.Basics.{either, by_pushes}
 use Rattle.mq_ledger.proofs.Numbers.{first_push, not_below_before}

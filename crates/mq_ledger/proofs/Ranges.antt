@@ -5,13 +5,13 @@ use Rattle.std.specs.List.{AllByRecursion}
 use Rattle.std.proofs.lemmas.Bool.Decides.{nat_tests}
 use Rattle.std.proofs.lemmas.List.Elements.{recursion_from_All, All-from_recursion, All-map}
 use Rattle.std.proofs.lemmas.List.{length-map}
-use Rattle.mq_frame.specs.declared.message.Id.{Id}
-use Rattle.mq_frame.specs.declared.message.Request.{Request}
-use Rattle.mq_frame.specs.declared.message.Request.TheVariants.{Reserve, Settle, Release, Limit, Usage, List as ListRequest, Retire}
-use Rattle.mq_frame.specs.declared.message.Reply.{Reply}
-use Rattle.mq_frame.specs.declared.message.Reply.TheVariants.{Granted, Full, Settled, Released, Closed, Mismatch, TooMany}
-use Rattle.mq_frame.specs.Range.{IsRequest, IsReply, IsId, IsAmount, IsCount, IsDay, IsMoment, IsLogin, IsRow, IsPage as IsRows}
-use Rattle.mq_frame.specs.Same.{same_text, same_request}
+use Rattle.mq_request.specs.declared.message.Id.{Id}
+use Rattle.mq_request.specs.declared.message.Request.{Request}
+use Rattle.mq_request.specs.declared.message.Request.TheVariants.{Reserve, Settle, Release, Limit, Usage, List as ListRequest, Retire}
+use Rattle.mq_request.specs.declared.message.Reply.{Reply}
+use Rattle.mq_request.specs.declared.message.Reply.TheVariants.{Granted, Full, Settled, Released, Closed, Mismatch, TooMany}
+use Rattle.mq_request.specs.Range.{IsRequest, IsReply, IsId, IsAmount, IsCount, IsDay, IsMoment, IsLogin, IsRow, IsPage as IsRows}
+use Rattle.mq_request.specs.Same.{same_text, same_request}
 use Rattle.mq_ledger.specs.declared.entry.Entry.{Entry}
 use Rattle.mq_ledger.specs.Answer.{answer, appended, stored, reply, reply_to, reply_by, set_or_over}
 use Rattle.mq_ledger.specs.Arrivals.{id_of, has_id, is_below}

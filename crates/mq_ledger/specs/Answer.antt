@@ -3,15 +3,15 @@
 -- `day` gives the day of a moment, and `default` the limit of a login that has none.
 use Rattle.std.specs.Prelude.{ℕ, ◌+◌, List, [], ◌∷◌, ◌++◌, map, find, fold, Bool, false, not, ◌||◌, nat_lt, if◌then◌else◌}
 use Rattle.std.specs.Prelude.{Option, Some, None, is_some}
-use Rattle.mq_frame.specs.declared.message.Id.{Id}
-use Rattle.mq_frame.specs.declared.message.Request.{Request}
-use Rattle.mq_frame.specs.declared.message.Request.TheVariants.{Reserve, Settle, Release, Limit, Usage}
-use Rattle.mq_frame.specs.declared.message.Request.TheVariants.{List as ListRequest, Retire}
-use Rattle.mq_frame.specs.declared.message.Reply.{Reply}
-use Rattle.mq_frame.specs.declared.message.Reply.TheVariants.{Granted, Full, Settled, Released, LimitSet, Over, Closed}
-use Rattle.mq_frame.specs.declared.message.Reply.TheVariants.{Mismatch, TooMany, Conflict, Usage as UsageReply}
-use Rattle.mq_frame.specs.declared.message.Reply.TheVariants.{List as ListReply, Retired, Old}
-use Rattle.mq_frame.specs.Same.{same_request}
+use Rattle.mq_request.specs.declared.message.Id.{Id}
+use Rattle.mq_request.specs.declared.message.Request.{Request}
+use Rattle.mq_request.specs.declared.message.Request.TheVariants.{Reserve, Settle, Release, Limit, Usage}
+use Rattle.mq_request.specs.declared.message.Request.TheVariants.{List as ListRequest, Retire}
+use Rattle.mq_request.specs.declared.message.Reply.{Reply}
+use Rattle.mq_request.specs.declared.message.Reply.TheVariants.{Granted, Full, Settled, Released, LimitSet, Over, Closed}
+use Rattle.mq_request.specs.declared.message.Reply.TheVariants.{Mismatch, TooMany, Conflict, Usage as UsageReply}
+use Rattle.mq_request.specs.declared.message.Reply.TheVariants.{List as ListReply, Retired, Old}
+use Rattle.mq_request.specs.Same.{same_request}
 use Rattle.mq_ledger.specs.declared.entry.Entry.{Entry}
 use Rattle.mq_ledger.specs.Arrivals.{id_of, has_id, is_below, first}
 use Rattle.mq_ledger.specs.History.{requests, transaction, named, agrees, closed, held, settled, reserved, used}

@@ -4,7 +4,7 @@ use Rattle.std.specs.Prelude.{IsSome, codes}
 use Rattle.std.specs.Int.{int_div_euclid}
 use Rattle.jiff_core.specs.Timestamp.{nanos_of_seconds}
 use Rattle.jiff_tz.specs.PosixReader.{read_whole}
-use Rattle.mq_frame.specs.Range.{IsMoment, IsDay}
+use Rattle.mq_request.specs.Range.{IsMoment, IsDay}
 use Rattle.mq_ledger.specs.Rule.{ahead}
 
 -- what the days of a ledger go by: minutes east of Greenwich, or the text of a zone rule

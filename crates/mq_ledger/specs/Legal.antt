@@ -1,6 +1,6 @@
 -- Which histories are legal, and what a ledger means.
 use Rattle.std.specs.Prelude.{◌≡◌, ℕ, List, All}
-use Rattle.mq_frame.specs.Range.{IsRequest, IsAmount}
+use Rattle.mq_request.specs.Range.{IsRequest, IsAmount}
 use Rattle.mq_ledger.specs.declared.entry.Entry.{Entry}
 use Rattle.mq_ledger.specs.declared.zone.Zone.{Zone}
 use Rattle.mq_ledger.specs.Answer.{build}

@@ -1,5 +1,5 @@
 //! An entry of the history.
-use mq_frame::{Reply, Request};
+use mq_request::{Reply, Request};
 
 /// A numbered request and its reply.
 #[derive(Debug, Drop)]

@@ -7,10 +7,10 @@ ghost use Rattle.jiff_tz.specs.declared.timezone.TimeZone.{TimeZone as AnyTimeZo
 ghost use Rattle.std.specs.Prelude.{◌≡◌, ◌≤◌, ◌<◌, ◌+◌, ◌*◌, ◌≤ℤ◌, ◌<ℤ◌, ◌+ℤ◌, ℕ, ℤ, pos, List, [], ◌∷◌, ◌++◌, Option, Some, None, All, true};
 ghost use Rattle.std.specs.Prelude.{false, ◌&&◌, ◌||◌, find, nat_le, if◌then◌else◌, sum_by};
 ghost use Rattle.std.specs.Option.{option_or};
-ghost use Rattle.mq_frame.specs.declared.message.Id.{Id};
-ghost use Rattle.mq_frame.specs.declared.message.Request.{Request as AnyRequest};
-ghost use Rattle.mq_frame.specs.declared.message.Reply.TheVariants.{Old, Retired};
-ghost use Rattle.mq_frame.specs.Range.{IsRequest, IsReply, IsAmount, IsMoment};
+ghost use Rattle.mq_request.specs.declared.message.Id.{Id};
+ghost use Rattle.mq_request.specs.declared.message.Request.{Request as AnyRequest};
+ghost use Rattle.mq_request.specs.declared.message.Reply.TheVariants.{Old, Retired};
+ghost use Rattle.mq_request.specs.Range.{IsRequest, IsReply, IsAmount, IsMoment};
 ghost use Rattle.mq_ledger.specs.declared.entry.Entry.{Entry as AnyEntry};
 ghost use Rattle.mq_ledger.specs.Answer.{answer, stored, reply, with_arrival, history_of};
 ghost use Rattle.mq_ledger.specs.Arrivals.{id_of, has_id, raised, greater, floor, IsFloor, is_below, first, is_first};
@@ -27,7 +27,7 @@ ghost use Rattle.mq_ledger.specs.Page.{page, IsLoginPage, is_login, login_on, ha
 ghost use Rattle.mq_ledger.specs.Suits.{Suits};
 ghost use Rattle.mq_ledger.specs.Sums.{held_on, settled_on, AreDistinct, HasAllNamed};
 
-use mq_frame::laws::same_is_equal;
+use mq_request::laws::same_is_equal;
 
 /// In every legal history no login has used more on a day than its limit.
 pub fn within_limits()

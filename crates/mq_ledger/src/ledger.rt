@@ -1,6 +1,6 @@
 //! What every ledger keeps to.
 ghost use Rattle.std.specs.Prelude.{◌≡◌, [], ◌∷◌, ◌++◌, Err, ⊤, IfOk, OnOk, OnErr};
-ghost use Rattle.mq_frame.specs.Range.{IsRequest, IsReply};
+ghost use Rattle.mq_request.specs.Range.{IsRequest, IsReply};
 ghost use Rattle.mq_ledger.specs.Answer.{build, reply};
 ghost use Rattle.mq_ledger.specs.Arrivals.{first};
 ghost use Rattle.mq_ledger.specs.Day.{day_of};
@@ -8,7 +8,7 @@ ghost use Rattle.mq_ledger.specs.History.{requests};
 ghost use Rattle.mq_ledger.specs.Legal.{Book, IsLegalBook};
 
 use crate::zone::Zone;
-use mq_frame::{Reply, Request};
+use mq_request::{Reply, Request};
 use std::alloc::AllocError;
 use thiserror::Error;
 

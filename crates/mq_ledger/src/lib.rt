@@ -10,8 +10,9 @@
 //!         Err(LedgerFault::Store) => Err(ServeFault::Store),
 //!     }
 //!
-//! It stands on `mq_frame`, and knows requests, replies and their ranges, but no bytes. Begin with `specs/History.antt`
-//! and `specs/Answer.antt`, then `ledger.rt`; `laws.rt` has what follows. docs/LEDGER.md has it in words.
+//! It stands on `mq_request`, and knows requests, replies and their ranges, but no bytes. Begin with
+//! `specs/History.antt` and `specs/Answer.antt`, then `ledger.rt`; `laws.rt` has what follows. docs/LEDGER.md has it in
+//! words.
 #![tactic(auto)]
 
 mod entry;

@@ -1,7 +1,7 @@
 //! A ledger that keeps the list of its entries.
 ghost use Rattle.std.specs.Prelude.{◌≡◌, ℕ, [], ◌∷◌, ◌++◌, true, false, IfOk, OnOk, OnErr, IfErr};
 ghost use Rattle.std.specs.Option.{MatchOption};
-ghost use Rattle.mq_frame.specs.Range.{IsRequest, IsReply, IsAmount};
+ghost use Rattle.mq_request.specs.Range.{IsRequest, IsReply, IsAmount};
 ghost use Rattle.mq_ledger.specs.Answer.{build, known_by, reply};
 ghost use Rattle.mq_ledger.specs.Arrivals.{id_of, first};
 ghost use Rattle.mq_ledger.specs.Day.{day_of};
@@ -20,7 +20,7 @@ use crate::entry::Entry;
 use crate::ledger::{Ledger, LedgerFault};
 use crate::plain::entries::{id_of, is_below, stored};
 use crate::zone::Zone;
-use mq_frame::{Reply, Request};
+use mq_request::{Reply, Request};
 use std::alloc::{AllocError, Global};
 use std::marker::Model;
 

@@ -2,7 +2,7 @@
 ghost use Rattle.std.specs.Prelude.{◌≡◌, ◌↔◌, ◌≤◌, ◌-◌, ◌++◌, ◌+ℤ◌, length, replicate, IsOk, IfOk, IfErr, IsUtf8};
 ghost use Rattle.std.specs.Prelude.{option_map};
 ghost use Rattle.jiff.specs.Words.{civil_nanos, epoch_day, nanos_of_seconds};
-ghost use Rattle.mq_frame.specs.Range.{IsMoment, IsDay};
+ghost use Rattle.mq_request.specs.Range.{IsMoment, IsDay};
 ghost use Rattle.mq_ledger.specs.Day.{IsOffset, IsRule, IsZone, ByOffset, ByRule, minutes_in, rule_in};
 ghost use Rattle.mq_ledger.specs.Day.{limited, day_of};
 ghost use Rattle.mq_ledger.specs.Rule.{ahead};

@@ -1,6 +1,6 @@
 //! The link to the quota server, by the exchanges that were made over it.
 
-use mq_frame::Bytes;
+use mq_request::Bytes;
 
 /// Why an exchange brought no reply.
 #[derive(Clone, Copy, Debug, PartialEq, Eq)]

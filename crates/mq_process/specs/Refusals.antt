@@ -2,7 +2,7 @@
 use Rattle.std.specs.Prelude.{◌≡◌, ℕ, List, Option, None, Some, IfSome, IsSomeAnd, ⊤}
 use Rattle.std.specs.Net.Grammar.{IsSocketText}
 use Rattle.std.specs.declared.net.SocketAddr.{SocketAddr}
-use Rattle.mq_frame.specs.Range.{IsHost, IsLogin}
+use Rattle.mq_request.specs.Range.{IsHost, IsLogin}
 use Rattle.mq_arguments.specs.declared.LoginArgument.{LoginArgument}
 use Rattle.mq_arguments.specs.declared.LoginArgument.TheVariants.{Reported, Printed}
 use Rattle.mq_arguments.specs.declared.ServerArgument.{ServerArgument}

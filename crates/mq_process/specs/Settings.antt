@@ -1,5 +1,5 @@
 -- What the settings of a server and of a filter are where a file of them is taken.
-use Rattle.mq_frame.specs.Range.{IsHost, IsAmount, IsWithin}
+use Rattle.mq_request.specs.Range.{IsHost, IsAmount, IsWithin}
 use Rattle.mq_settings.specs.declared.settings.FilterSettings.{FilterSettings}
 use Rattle.mq_settings.specs.declared.settings.ServerSettings.{ServerSettings}
 

@@ -1,7 +1,7 @@
 //! What the subcommands that ask a server have in common: their words checked, the link, and the first number of a run.
 ghost use Rattle.std.specs.Prelude.{◌≡◌, Err, IfErr, IfOk, MatchBool, MatchResult};
 ghost use Rattle.std.specs.Net.Grammar.{IsSocketText};
-ghost use Rattle.mq_frame.specs.Range.{IsHost, IsLogin};
+ghost use Rattle.mq_request.specs.Range.{IsHost, IsLogin};
 ghost use Rattle.mq_process.specs.Refusals.{IsNoAddress, Names, NamesLogin, OrderRefuses};
 
 use crate::fault::ProcessFault;
@@ -9,7 +9,7 @@ use log::sink::Console;
 use log::{LevelFilter, Log, Logged, error};
 use mq_arguments::LoginArgument;
 use mq_command::{TRIES, is_login_text, login_of_text};
-use mq_frame::{Escaped, Host, Id, Login, is_host, is_login};
+use mq_request::{Escaped, Host, Id, Login, is_host, is_login};
 use mq_settings::address_flaw;
 use mq_tcp::{Connector, LoggedLink, TcpLink};
 use std::alloc::{AllocError, Global};

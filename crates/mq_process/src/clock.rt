@@ -3,10 +3,10 @@ ghost use Rattle.std.specs.Prelude.{◌≡◌, ◌/◌, Ok, IfSome, IfOk, IfErr,
 ghost use Rattle.std.specs.Option.{SomeIff};
 ghost use Rattle.std.specs.Duration.{as_nanos};
 ghost use Rattle.std.specs.Time.{system_time_nanos};
-ghost use Rattle.mq_frame.specs.Range.{IsRun};
+ghost use Rattle.mq_request.specs.Range.{IsRun};
 
 use crate::fault::ProcessFault;
-use mq_frame::is_run;
+use mq_request::is_run;
 use std::rt::Clock;
 use std::time::{Duration, Instant, SystemTime, UNIX_EPOCH};
 

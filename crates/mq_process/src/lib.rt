@@ -6,8 +6,8 @@
 //!     let address = checked(rt, given.host, given.login, given.server)?;
 //!     let run = run_number(rt, given.run)?;
 //!
-//! It stands on `mq_arguments`, `mq_frame`, `mq_settings`, `mq_tcp` and `mq_command`. Begin with `settings.rt` and `asking.rt`;
-//! `specs/Refusals.antt` says which words are refused, and in which order.
+//! It stands on `mq_arguments`, `mq_request`, `mq_settings`, `mq_tcp` and `mq_command`. Begin with `settings.rt` and
+//! `asking.rt`; `specs/Refusals.antt` says which words are refused, and in which order.
 #![tactic(auto)]
 
 mod asking;

@@ -2,14 +2,14 @@
 ghost use Rattle.std.specs.Prelude.{◌≡◌, ◌/◌, Ok, IfSome, IfOk, IfErr};
 ghost use Rattle.std.specs.Option.{SomeIff};
 ghost use Rattle.std.specs.Duration.{as_nanos};
-ghost use Rattle.mq_frame.specs.Range.{IsMoment};
+ghost use Rattle.mq_request.specs.Range.{IsMoment};
 
 use crate::clock::time_of_clock;
 use crate::fault::ProcessFault;
 use crate::settings::server_settings;
 use mq_arguments::DayArguments;
 use mq_command::run_day;
-use mq_frame::is_moment;
+use mq_request::is_moment;
 use std::io;
 use std::io::Write;
 use std::rt::Clock;

@@ -6,7 +6,7 @@ use Rattle.std.specs.Io.KnownBytes.{Appends}
 use Rattle.sqlite.specs.Effect.{Database}
 use Rattle.sqlite.specs.Recovery.{Image}
 use Rattle.sqlite.specs.State.{State}
-use Rattle.mq_frame.specs.Escaped.{escaped}
+use Rattle.mq_request.specs.Escaped.{escaped}
 use Rattle.mq_ledger.specs.declared.zone.Zone.{Zone}
 use Rattle.mq_ledger.specs.Day.{ByOffset, ByRule, minutes_in, rule_in}
 use Rattle.mq_command.specs.Output.{AppendsFront}

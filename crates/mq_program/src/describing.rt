@@ -8,7 +8,7 @@ ghost use Rattle.mq_program.specs.Describing.{offset_line, start_line, start_meg
 
 use crate::auditing::print;
 use crate::fault::ProgramFault;
-use mq_frame::Escaped;
+use mq_request::Escaped;
 use mq_ledger::{Ledger, Zone};
 use mq_rows::VERSION;
 use mq_store::SqlLedger;

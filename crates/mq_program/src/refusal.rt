@@ -3,7 +3,7 @@ ghost use Rattle.std.specs.Prelude.{◌≡◌, false};
 
 use crate::fault::ProgramFault;
 use log::{Log, error};
-use mq_frame::Escaped;
+use mq_request::Escaped;
 use mq_ledger::Zone;
 use mq_rows::VERSION;
 use mq_settings::ServerSettings;

@@ -1,7 +1,7 @@
 //! `replay`: answers frames from standard input over a new ledger.
 ghost use Rattle.std.specs.Prelude.{◌≡◌, ⊤, true, Err, Result as AnyResult, map};
 ghost use Rattle.mq_arguments.specs.Arguments.{IsReplayArguments};
-ghost use Rattle.mq_frame.specs.Range.{IsAmount};
+ghost use Rattle.mq_request.specs.Range.{IsAmount};
 ghost use Rattle.mq_replay.specs.Replay.{IsForCause, Replays, ReplaysOver, status_of};
 ghost use Rattle.mq_replay.specs.declared.replay.ReplayFault.{ReplayFault as AnyReplayFault};
 ghost use Rattle.mq_program.specs.Refusals.{IsZoneByRule, IsZoneOf, ReplayRefuses};

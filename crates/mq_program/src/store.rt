@@ -7,7 +7,7 @@ ghost use Rattle.sqlite.specs.Start.{FindsIn};
 ghost use Rattle.sqlite.specs.State.{HasCleanDisk};
 ghost use Rattle.sqlite.specs.Steps.{over_memory};
 ghost use Rattle.sqlite.specs.WalFiles.{image_at};
-ghost use Rattle.mq_frame.specs.Range.{IsAmount};
+ghost use Rattle.mq_request.specs.Range.{IsAmount};
 ghost use Rattle.mq_tables.specs.Making.{AreUnnamed, HasCounters, IsMadeOver};
 ghost use Rattle.mq_rows.specs.declared.audited.Audit.TheVariants.{Sound};
 ghost use Rattle.mq_store.specs.Auditing.{IsAuditIn};

@@ -5,7 +5,7 @@ ghost use Rattle.mq_command.specs.Output.{AppendsFront};
 ghost use Rattle.mq_replay.specs.Lines.{hex_line, hex_lines};
 
 use mq_command::{OutputFault, write_whole};
-use mq_frame::ToWrite;
+use mq_stream::ToWrite;
 use std::alloc::Global;
 use std::io::Write;
 

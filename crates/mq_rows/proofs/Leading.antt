@@ -5,7 +5,7 @@ use Rattle.std.specs.List.{AllByRecursion}
 use Rattle.std.specs.List.Sorted.{IsPermutation}
 use Rattle.std.proofs.lemmas.List.Sorted.{IsPermutation-trans, IsPermutation-sym}
 use Rattle.sqlite_trees.proofs.ListLemmas.{IsPermutation-filter, filter_all, all-permutation, all_weaker}
-use Rattle.mq_frame.specs.declared.message.Id.{Id}
+use Rattle.mq_request.specs.declared.message.Id.{Id}
 use Rattle.mq_ledger.specs.declared.entry.Entry.{Entry}
 use Rattle.mq_ledger.specs.History.{used}
 use Rattle.mq_rows.specs.declared.record.TransactionRecord.{TransactionRecord}

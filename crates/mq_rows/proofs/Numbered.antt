@@ -2,12 +2,12 @@
 use Rattle.std.proofs.Common.{◌≡◌, ℕ, suc, ◌+◌, ◌≤◌, List, [], ◌∷◌, Bool, true, false, refl, ◌∙◌, ap, sym, inl, inr, arith}
 use Rattle.std.specs.Prelude.{find, map, All, ◌&&◌, ◌==◌, Some, None}
 use Rattle.std.specs.List.{enumerate_from, filter_map}
-use Rattle.mq_frame.specs.declared.message.Id.{Id}
-use Rattle.mq_frame.specs.declared.message.Request.{Request}
-use Rattle.mq_frame.specs.declared.message.Request.TheVariants.{Reserve, Settle, Release, Limit, Usage, List as ListRequest, Retire}
-use Rattle.mq_frame.specs.Range.{IsId, IsRequest}
+use Rattle.mq_request.specs.declared.message.Id.{Id}
+use Rattle.mq_request.specs.declared.message.Request.{Request}
+use Rattle.mq_request.specs.declared.message.Request.TheVariants.{Reserve, Settle, Release, Limit, Usage, List as ListRequest, Retire}
+use Rattle.mq_request.specs.Range.{IsId, IsRequest}
 use Rattle.mq_frame.specs.Reading.{request_at}
-use Rattle.mq_frame.specs.Same.{same_text, same_id}
+use Rattle.mq_request.specs.Same.{same_text, same_id}
 use Rattle.mq_frame.specs.Spelling.{request_body}
 use Rattle.mq_ledger.specs.declared.entry.Entry.{Entry}
 use Rattle.mq_ledger.specs.Arrivals.{id_of, has_id}

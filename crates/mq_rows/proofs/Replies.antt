@@ -2,12 +2,12 @@
 use Rattle.std.proofs.Common.{◌≡◌, ℕ, zero, suc, ◌+◌, ◌<◌, ◌≤◌, List, [], ◌∷◌, Bool, true, false, refl, ◌∙◌, ap, sym, inl, inr, arith, length}
 use Rattle.std.specs.Prelude.{find, filter, not, ◌&&◌, ◌==◌, ◌⊎◌, nat_lt, nat_le, if◌then◌else◌, Option, Some, None, option_map, is_some, slice_index_or}
 use Rattle.std.specs.List.{AllByRecursion}
-use Rattle.mq_frame.specs.declared.message.Id.{Id}
-use Rattle.mq_frame.specs.declared.message.Request.{Request}
-use Rattle.mq_frame.specs.declared.message.Request.TheVariants.{Reserve, Settle, Release, Limit, Usage, List as ListRequest, Retire}
-use Rattle.mq_frame.specs.declared.message.Reply.TheVariants.{Released, Over, Closed, Mismatch}
-use Rattle.mq_frame.specs.Same.{same_text}
-use Rattle.mq_frame.specs.Range.{IsReply}
+use Rattle.mq_request.specs.declared.message.Id.{Id}
+use Rattle.mq_request.specs.declared.message.Request.{Request}
+use Rattle.mq_request.specs.declared.message.Request.TheVariants.{Reserve, Settle, Release, Limit, Usage, List as ListRequest, Retire}
+use Rattle.mq_request.specs.declared.message.Reply.TheVariants.{Released, Over, Closed, Mismatch}
+use Rattle.mq_request.specs.Same.{same_text}
+use Rattle.mq_request.specs.Range.{IsReply}
 use Rattle.mq_ledger.specs.declared.entry.Entry.{Entry}
 use Rattle.mq_ledger.specs.Arrivals.{id_of}
 use Rattle.mq_ledger.specs.Answer.{answer, granted_or_full, settled_or_too_many, set_or_over}

@@ -13,10 +13,10 @@ use Rattle.std.proofs.Math.ListN.{set}
 use Rattle.std.proofs.lemmas.List.{map-set, get_or-map, length-map}
 use Rattle.std.proofs.lemmas.List.Sorted.{IsPermutation-refl, IsPermutation-trans, IsPermutation-swap, IsPermutation-keeps}
 use Rattle.std.proofs.lemmas.List.Elements.{All-head}
-use Rattle.mq_frame.specs.declared.message.Request.{Request}
-use Rattle.mq_frame.specs.declared.message.Request.TheVariants.{Reserve, Settle, Release, Limit, Usage, List as ListRequest, Retire}
-use Rattle.mq_frame.specs.Range.{IsRequest, IsMoment}
-use Rattle.mq_frame.specs.Same.{same_text}
+use Rattle.mq_request.specs.declared.message.Request.{Request}
+use Rattle.mq_request.specs.declared.message.Request.TheVariants.{Reserve, Settle, Release, Limit, Usage, List as ListRequest, Retire}
+use Rattle.mq_request.specs.Range.{IsRequest, IsMoment}
+use Rattle.mq_request.specs.Same.{same_text}
 use Rattle.mq_ledger.specs.declared.entry.Entry.{Entry}
 use Rattle.mq_ledger.specs.History.{Transaction, same_transaction, is_of, named, held, settled_in, reserved, settled, used}
 use Rattle.mq_ledger.specs.Limits.{cap}

@@ -4,8 +4,8 @@ use Rattle.std.specs.Prelude.{Bool, true, false, ◌&&◌, if◌then◌else◌, 
 use Rattle.std.specs.Prelude.{int_le, int_lt, Option, Some, None, Contains}
 use Rattle.std.specs.List.{AllByRecursion, list_all}
 use Rattle.std.specs.Ordering.{int_eq}
-use Rattle.mq_frame.specs.declared.format.TheConstants.{FIRST_MOMENT, LAST_MOMENT}
-use Rattle.mq_frame.specs.Same.{same_text}
+use Rattle.mq_request.specs.declared.bounds.TheConstants.{FIRST_MOMENT, LAST_MOMENT}
+use Rattle.mq_request.specs.Same.{same_text}
 use Rattle.mq_rows.specs.declared.audited.Audit.{Audit}
 use Rattle.mq_rows.specs.declared.audited.Audit.TheVariants.{Sound, Wrong}
 use Rattle.mq_rows.specs.declared.audited.LimitFigures.{LimitFigures}

@@ -2,9 +2,9 @@
 use Rattle.std.specs.Prelude.{◌≡◌, ℕ, List, [], ◌∷◌, Bool, true, false, ◌==◌, ◌&&◌, nat_le, Option, Some, None}
 use Rattle.std.specs.Prelude.{Contains, map}
 use Rattle.std.specs.List.{AllByRecursion}
-use Rattle.mq_frame.specs.declared.message.Reply.{Reply}
-use Rattle.mq_frame.specs.declared.message.Reply.TheVariants.{Usage as UsageReply}
-use Rattle.mq_frame.specs.declared.usage.UsageRow.{UsageRow}
+use Rattle.mq_request.specs.declared.message.Reply.{Reply}
+use Rattle.mq_request.specs.declared.message.Reply.TheVariants.{Usage as UsageReply}
+use Rattle.mq_request.specs.declared.usage.UsageRow.{UsageRow}
 use Rattle.mq_ledger.specs.Page.{below}
 use Rattle.mq_rows.specs.declared.record.UsageRecord.{UsageRecord}
 use Rattle.mq_rows.specs.declared.record.LimitRecord.{LimitRecord}

@@ -4,7 +4,7 @@ use Rattle.std.specs.Cmp.{IsTotalOrder, then_total, on_total, int_cmp_total}
 use Rattle.std.specs.Cmp.Lexicographic.{slice_cmp, nat_list_cmp_total}
 use Rattle.std.specs.declared.cmp.Ordering.{Ordering}
 use Rattle.std.specs.Ordering.{nat_cmp, int_cmp, int_eq, is_lt, on, then_cmp}
-use Rattle.mq_frame.specs.Same.{same_text}
+use Rattle.mq_request.specs.Same.{same_text}
 use Rattle.mq_rows.specs.declared.audited.Pair.{Pair}
 
 -- by the bytes of the logins, then by the days

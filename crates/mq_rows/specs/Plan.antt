@@ -4,14 +4,14 @@ use Rattle.std.specs.Prelude.{◌≡◌, ℕ, ◌+◌, ◌-◌, List, [], ◌∷
 use Rattle.std.specs.Prelude.{Option, Some, None}
 use Rattle.std.specs.List.{AllByRecursion}
 use Rattle.std.specs.List.Sorted.{IsPermutation}
-use Rattle.mq_frame.specs.declared.message.Id.{Id}
-use Rattle.mq_frame.specs.declared.message.Request.{Request}
-use Rattle.mq_frame.specs.declared.message.Request.TheVariants.{Reserve, Settle, Release, Limit, Usage}
-use Rattle.mq_frame.specs.declared.message.Request.TheVariants.{List as ListRequest, Retire}
-use Rattle.mq_frame.specs.declared.message.Reply.{Reply}
-use Rattle.mq_frame.specs.declared.message.Reply.TheVariants.{Granted, Settled, Released, LimitSet, Over, Closed}
-use Rattle.mq_frame.specs.declared.message.Reply.TheVariants.{Mismatch, Bad, Retired}
-use Rattle.mq_frame.specs.Same.{same_text}
+use Rattle.mq_request.specs.declared.message.Id.{Id}
+use Rattle.mq_request.specs.declared.message.Request.{Request}
+use Rattle.mq_request.specs.declared.message.Request.TheVariants.{Reserve, Settle, Release, Limit, Usage}
+use Rattle.mq_request.specs.declared.message.Request.TheVariants.{List as ListRequest, Retire}
+use Rattle.mq_request.specs.declared.message.Reply.{Reply}
+use Rattle.mq_request.specs.declared.message.Reply.TheVariants.{Granted, Settled, Released, LimitSet, Over, Closed}
+use Rattle.mq_request.specs.declared.message.Reply.TheVariants.{Mismatch, Bad, Retired}
+use Rattle.mq_request.specs.Same.{same_text}
 use Rattle.mq_ledger.specs.Answer.{granted_or_full, settled_or_too_many}
 use Rattle.mq_rows.specs.declared.record.TransactionRecord.{TransactionRecord}
 use Rattle.mq_rows.specs.declared.record.UsageRecord.{UsageRecord}

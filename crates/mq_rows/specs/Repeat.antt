@@ -1,10 +1,10 @@
 -- The reply to a request whose number has a row.
 use Rattle.std.specs.Prelude.{◌≡◌, ℕ, List, Bool, true, false}
-use Rattle.mq_frame.specs.declared.message.Id.{Id}
-use Rattle.mq_frame.specs.declared.message.Request.{Request}
-use Rattle.mq_frame.specs.declared.message.Reply.{Reply}
-use Rattle.mq_frame.specs.declared.message.Reply.TheVariants.{Conflict}
-use Rattle.mq_frame.specs.Same.{same_request}
+use Rattle.mq_request.specs.declared.message.Id.{Id}
+use Rattle.mq_request.specs.declared.message.Request.{Request}
+use Rattle.mq_request.specs.declared.message.Reply.{Reply}
+use Rattle.mq_request.specs.declared.message.Reply.TheVariants.{Conflict}
+use Rattle.mq_request.specs.Same.{same_request}
 use Rattle.mq_frame.specs.Spelling.{SpellsRequest, SpellsReply}
 use Rattle.mq_rows.specs.declared.record.AnswerRecord.{AnswerRecord}
 

@@ -1,9 +1,9 @@
 -- What a retire does: the runs that it retires, and the rows that it leads to.
 use Rattle.std.specs.Prelude.{◌≡◌, ℕ, ◌-◌, List, Bool, true, false, Option, Some}
-use Rattle.mq_frame.specs.declared.message.Id.{Id}
-use Rattle.mq_frame.specs.declared.message.Request.{Request}
-use Rattle.mq_frame.specs.declared.message.Request.TheVariants.{Retire}
-use Rattle.mq_frame.specs.declared.message.Reply.TheVariants.{Retired}
+use Rattle.mq_request.specs.declared.message.Id.{Id}
+use Rattle.mq_request.specs.declared.message.Request.{Request}
+use Rattle.mq_request.specs.declared.message.Request.TheVariants.{Retire}
+use Rattle.mq_request.specs.declared.message.Reply.TheVariants.{Retired}
 use Rattle.mq_ledger.specs.declared.entry.Entry.{Entry}
 use Rattle.mq_ledger.specs.Arrivals.{id_of, floor, is_below}
 use Rattle.mq_ledger.specs.History.{requests}

@@ -4,7 +4,7 @@ ghost use Rattle.std.specs.Cmp.{eq_by_cmp_equiv, partial_equiv_from_equiv, parti
 ghost use Rattle.std.specs.Ordering.{as_partial_cmp, eq_by_cmp};
 ghost use Rattle.mq_rows.specs.Pair.{pair_cmp, pair_cmp_total};
 
-use mq_frame::Login;
+use mq_request::Login;
 use std::alloc::AllocError;
 use std::cmp::Ordering;
 

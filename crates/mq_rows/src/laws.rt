@@ -4,12 +4,12 @@ ghost use Rattle.std.specs.Prelude.{◌≡◌, ◌≤◌, ◌⊎◌, ℕ, ◌+�
 ghost use Rattle.std.specs.Prelude.{false, Some, None, is_some, Contains};
 ghost use Rattle.std.specs.List.{AllByRecursion};
 ghost use Rattle.std.specs.List.Sorted.{IsPermutation};
-ghost use Rattle.mq_frame.specs.declared.message.Id.{Id};
-ghost use Rattle.mq_frame.specs.declared.message.Request.{Request as AnyRequest};
-ghost use Rattle.mq_frame.specs.declared.message.Reply.{Reply as AnyReply};
-ghost use Rattle.mq_frame.specs.declared.message.Reply.TheVariants.{Old};
-ghost use Rattle.mq_frame.specs.Range.{IsRequest, IsAmount};
-ghost use Rattle.mq_frame.specs.Same.{same_id};
+ghost use Rattle.mq_request.specs.declared.message.Id.{Id};
+ghost use Rattle.mq_request.specs.declared.message.Request.{Request as AnyRequest};
+ghost use Rattle.mq_request.specs.declared.message.Reply.{Reply as AnyReply};
+ghost use Rattle.mq_request.specs.declared.message.Reply.TheVariants.{Old};
+ghost use Rattle.mq_request.specs.Range.{IsRequest, IsAmount};
+ghost use Rattle.mq_request.specs.Same.{same_id};
 ghost use Rattle.mq_frame.specs.Spelling.{SpellsRequest, SpellsReply};
 ghost use Rattle.mq_ledger.specs.declared.entry.Entry.{Entry as AnyEntry};
 ghost use Rattle.mq_ledger.specs.Answer.{answer, appended, build, known_by, reply, stored};

@@ -8,10 +8,9 @@
 //!     let found = find(tx, zone, request)?;
 //!     Ok(decide(alloc, zone, default, arrivals, id, request, found)?)
 //!
-//! It stands on `mq_frame` and `mq_ledger`: it knows what a ledger means and how a body is spelled, and nothing of SQL; of
-//! `sqlite_trees` its proofs take lemmas of lists.
-//! Begin with `specs/Rows.antt`, the rows of a history, and `reply.rt`, where the limit is compared. docs/STORE.md has
-//! the tables.
+//! It stands on `mq_request`, `mq_frame` and `mq_ledger`: it knows what a ledger means and how a body is spelled, and
+//! nothing of SQL; of `sqlite_trees` its proofs take lemmas of lists. Begin with `specs/Rows.antt`, the rows of a
+//! history, and `reply.rt`, where the limit is compared. docs/STORE.md has the tables.
 #![tactic(auto)]
 
 mod audited;

@@ -1,6 +1,6 @@
 //! What is read of the tables for a request, and what the request then writes.
 use crate::record::{AnswerRecord, LimitRecord, RetiredRecord, TransactionRecord, UsageRecord};
-use mq_frame::{Host, Reply};
+use mq_request::{Host, Reply};
 
 /// What becomes of the rows of a table. At most one row changes.
 #[derive(Debug, Drop)]

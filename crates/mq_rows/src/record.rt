@@ -1,5 +1,5 @@
 //! The rows of the ledger's tables, a type for each table. Fields stand in the order of the columns.
-use mq_frame::{Bytes, Host, Id, Login};
+use mq_request::{Bytes, Host, Id, Login};
 
 /// The one row of `setting`, and with it that of `rule`: what the ledger goes by, and how many
 /// requests it has answered.

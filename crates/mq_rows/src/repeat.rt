@@ -1,15 +1,16 @@
 //! The reply to a request whose number has a row.
 ghost use Rattle.std.specs.Prelude.{◌≡◌, Some, IfOk, IfErr};
-ghost use Rattle.mq_frame.specs.declared.message.Request.{Request as AnyRequest};
-ghost use Rattle.mq_frame.specs.declared.message.Reply.{Reply as AnyReply};
-ghost use Rattle.mq_frame.specs.Range.{IsRequest, IsReply};
-ghost use Rattle.mq_frame.specs.Same.{same_request};
+ghost use Rattle.mq_request.specs.declared.message.Request.{Request as AnyRequest};
+ghost use Rattle.mq_request.specs.declared.message.Reply.{Reply as AnyReply};
+ghost use Rattle.mq_request.specs.Range.{IsRequest, IsReply};
+ghost use Rattle.mq_request.specs.Same.{same_request};
 ghost use Rattle.mq_frame.specs.Spelling.{SpellsRequest, SpellsReply};
 ghost use Rattle.mq_ledger.specs.Arrivals.{id_of};
 ghost use Rattle.mq_rows.specs.Repeat.{IsRepeatOf};
 
 use crate::record::AnswerRecord;
-use mq_frame::{DecodeFault, Id, Reply, Request, decode_reply, decode_request};
+use mq_frame::{DecodeFault, decode_reply, decode_request};
+use mq_request::{Id, Reply, Request};
 use mq_ledger::LedgerFault;
 use std::alloc::Global;
 

@@ -1,12 +1,12 @@
 //! What is replied of what logins have used.
 ghost use Rattle.std.specs.Prelude.{◌≡◌, false, IfOk, IfErr};
-ghost use Rattle.mq_frame.specs.Range.{IsLogin, IsDay, IsReply, IsRow};
+ghost use Rattle.mq_request.specs.Range.{IsLogin, IsDay, IsReply, IsRow};
 ghost use Rattle.mq_rows.specs.Plan.{reserved_by, cap_by};
 ghost use Rattle.mq_rows.specs.Listing.{settled_by, usage_reply_by, page_row_by, are_amounts};
 
 use crate::record::{LimitRecord, UsageRecord};
-use mq_frame::format::AMOUNT_LIMIT;
-use mq_frame::{Login, Reply, UsageRow, is_login};
+use mq_request::bounds::AMOUNT_LIMIT;
+use mq_request::{Login, Reply, UsageRow, is_login};
 use mq_ledger::LedgerFault;
 
 fn are_amounts(settled: u32, reserved: u32, cap: u32) -> bool

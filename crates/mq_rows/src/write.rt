@@ -1,7 +1,7 @@
 //! What a numbered request whose number is new comes to: its reply, and what is written with it.
 ghost use Rattle.std.specs.Prelude.{◌≡◌, ◌+◌, ◌<◌, ◌≤◌, ◌^◌, true, false, Some, IfOk, IfErr};
 ghost use Rattle.mq_rows.specs.declared.plan.Found.{Found as AnyFound};
-ghost use Rattle.mq_frame.specs.Range.{IsRequest, IsReply, IsCount};
+ghost use Rattle.mq_request.specs.Range.{IsRequest, IsReply, IsCount};
 ghost use Rattle.mq_frame.specs.Spelling.{request_body, reply_body};
 ghost use Rattle.mq_ledger.specs.Arrivals.{id_of};
 ghost use Rattle.mq_ledger.specs.Day.{day_of};
@@ -16,7 +16,8 @@ use crate::plan::{Found, Plan, Runs, Write};
 use crate::record::{AnswerRecord, LimitRecord, RetiredRecord, TransactionRecord, UsageRecord};
 use crate::reply::fitting;
 use mq_frame::format::HEAD_BYTES;
-use mq_frame::{Bytes, Id, Login, Reply, Request, encode_reply, encode_request};
+use mq_frame::{encode_reply, encode_request};
+use mq_request::{Bytes, Id, Login, Reply, Request};
 use mq_ledger::{LedgerFault, Zone};
 use std::alloc::{AllocError, Global};
 

@@ -5,8 +5,8 @@ use Rattle.std.specs.Io.KnownBytes.{Appends, Consumes}
 use Rattle.std.proofs.KnownBytes.{Appends-trans, Appends-nil, Consumes-trans, Consumes-nil}
 use Rattle.std.proofs.lemmas.List.{map-append}
 use Rattle.std.proofs.lemmas.Grind.{flat_map-append}
-use Rattle.mq_frame.specs.declared.message.Request.{Request}
-use Rattle.mq_frame.specs.declared.message.Reply.{Reply}
+use Rattle.mq_request.specs.declared.message.Request.{Request}
+use Rattle.mq_request.specs.declared.message.Reply.{Reply}
 use Rattle.mq_frame.specs.Spelling.{SpellsRequest, frame, reply_body}
 use Rattle.mq_frame.specs.Feed.{Whole}
 use Rattle.mq_ledger.specs.declared.entry.Entry.{Entry}

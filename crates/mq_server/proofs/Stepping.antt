@@ -1,6 +1,6 @@
 -- What one step of a connection comes to.
 use Rattle.std.proofs.Common.{◌≡◌, ℕ, List, sym, subst, inl, inr, Option, Some, Result, Ok, Err, Bool, refl}
-use Rattle.mq_frame.specs.declared.message.Reply.{Reply}
+use Rattle.mq_request.specs.declared.message.Reply.{Reply}
 use Rattle.mq_frame.specs.Feed.{Front, Nothing, Whole}
 use Rattle.mq_frame.specs.Spelling.{frame, reply_body}
 use Rattle.mq_ledger.specs.declared.entry.Entry.{Entry}

@@ -4,7 +4,7 @@ use Rattle.std.specs.List.{AllZip}
 use Rattle.std.specs.Prelude.{All}
 use Rattle.std.proofs.lemmas.List.{map-set, get_or-map, get_or-drop, drop-drop, drop-set-lt, length-map}
 use Rattle.std.proofs.lemmas.List.Elements.{All-get_or}
-use Rattle.mq_frame.specs.declared.message.Reply.{Reply}
+use Rattle.mq_request.specs.declared.message.Reply.{Reply}
 use Rattle.mq_ledger.specs.declared.entry.Entry.{Entry}
 use Rattle.mq_ledger.specs.declared.ledger.Told.{Told}
 use Rattle.mq_ledger.specs.Legal.{Book}

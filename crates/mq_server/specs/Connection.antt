@@ -2,7 +2,7 @@
 use Rattle.std.specs.Prelude.{◌≡◌, ℕ, ◌+◌, ◌<◌, List, [], ◌∷◌, ◌++◌, length, Option, Result, Ok, Err}
 use Rattle.std.specs.Io.KnownBytes.{Appends, Consumes}
 use Rattle.mq_frame.specs.declared.feed.TheConstants.{REQUEST_LIMIT}
-use Rattle.mq_frame.specs.declared.message.Reply.{Reply}
+use Rattle.mq_request.specs.declared.message.Reply.{Reply}
 use Rattle.mq_frame.specs.Feed.{Front}
 use Rattle.mq_ledger.specs.declared.ledger.Told.{Told}
 use Rattle.mq_server.specs.declared.connection.Served.{Served}

@@ -3,7 +3,7 @@ use Rattle.std.specs.Prelude.{◌≡◌, ◌≢◌, ℕ, List, [], ◌∷◌, �
 use Rattle.std.specs.Prelude.{Option, Result, Ok, Err}
 use Rattle.std.specs.List.{AllZip}
 use Rattle.std.specs.Io.KnownBytes.{Appends}
-use Rattle.mq_frame.specs.Flow.{IsFlushed}
+use Rattle.mq_stream.specs.Flow.{IsFlushed}
 use Rattle.mq_ledger.specs.declared.ledger.Told.{Told}
 use Rattle.mq_ledger.specs.Legal.{Book}
 use Rattle.mq_server.specs.declared.connection.Served.{Served}

@@ -1,9 +1,9 @@
 -- What is written on a connection that a fault ends.
 use Rattle.std.specs.Prelude.{◌≡◌, ◌≢◌, ℕ, ◌<◌, List, ◌++◌, length, Option, Some, None, IfNone}
 use Rattle.std.specs.Option.{option_to_list}
-use Rattle.mq_frame.specs.declared.message.Request.{Request}
-use Rattle.mq_frame.specs.declared.message.Reply.{Reply}
-use Rattle.mq_frame.specs.declared.message.Reply.TheVariants.{Bad}
+use Rattle.mq_request.specs.declared.message.Request.{Request}
+use Rattle.mq_request.specs.declared.message.Reply.{Reply}
+use Rattle.mq_request.specs.declared.message.Reply.TheVariants.{Bad}
 use Rattle.mq_frame.specs.Feed.{Front, Nothing, Whole}
 use Rattle.mq_frame.specs.Spelling.{SpellsRequest, frame, reply_body}
 use Rattle.mq_server.specs.declared.connection.TheConstants.{ENOUGH}

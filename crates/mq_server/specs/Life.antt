@@ -1,8 +1,8 @@
 -- The whole life of a connection: all bytes that came, all requests with their answers, and all bytes of replies.
 use Rattle.std.specs.Prelude.{◌≡◌, ◌≢◌, ℕ, ◌<◌, ◌≤◌, List, [], ◌++◌, length, map, Bool, true, Option, None, Some, IfNone, IsSome, Result, Ok, Err}
 use Rattle.std.specs.Option.{option_to_list}
-use Rattle.mq_frame.specs.declared.message.Request.{Request}
-use Rattle.mq_frame.specs.declared.message.Reply.{Reply}
+use Rattle.mq_request.specs.declared.message.Request.{Request}
+use Rattle.mq_request.specs.declared.message.Reply.{Reply}
 use Rattle.mq_frame.specs.Feed.{Whole}
 use Rattle.mq_frame.specs.Spelling.{SpellsRequest}
 use Rattle.mq_ledger.specs.declared.entry.Entry.{Entry}

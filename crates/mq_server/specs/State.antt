@@ -1,7 +1,7 @@
 -- What a connection holds between two calls, and what an attempt to answer does to it.
 use Rattle.std.specs.Prelude.{◌≡◌, ◌⊎◌, ℕ, suc, ◌+◌, ◌<◌, ◌≤◌, List, [], ◌++◌, length, Bool, true, false, Option, None, Some, Result, Ok, Err}
-use Rattle.mq_frame.specs.declared.message.Reply.{Reply}
-use Rattle.mq_frame.specs.declared.message.Reply.TheVariants.{Bad}
+use Rattle.mq_request.specs.declared.message.Reply.{Reply}
+use Rattle.mq_request.specs.declared.message.Reply.TheVariants.{Bad}
 use Rattle.mq_frame.specs.Feed.{Nothing, Cut, Whole}
 use Rattle.mq_frame.specs.Spelling.{frame, reply_body}
 use Rattle.mq_ledger.specs.declared.entry.Entry.{Entry}

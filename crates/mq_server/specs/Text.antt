@@ -3,9 +3,9 @@ use Rattle.std.specs.Prelude.{◌≡◌, ℕ, ◌<◌, List, [], ◌∷◌, ◌+
 use Rattle.std.specs.List.{flat_map, AllZip}
 use Rattle.std.specs.Io.KnownBytes.{IsAtEnd}
 use Rattle.mq_frame.specs.declared.feed.TheConstants.{REQUEST_LIMIT}
-use Rattle.mq_frame.specs.declared.message.Request.{Request}
-use Rattle.mq_frame.specs.declared.message.Reply.{Reply}
-use Rattle.mq_frame.specs.declared.message.Reply.TheVariants.{Bad}
+use Rattle.mq_request.specs.declared.message.Request.{Request}
+use Rattle.mq_request.specs.declared.message.Reply.{Reply}
+use Rattle.mq_request.specs.declared.message.Reply.TheVariants.{Bad}
 use Rattle.mq_frame.specs.Feed.{Front, Nothing, Cut, EmptyHead, LongHead, Whole, front, BeginsWith}
 use Rattle.mq_frame.specs.Owned.{RequestHoldsBytes}
 use Rattle.mq_frame.specs.Spelling.{SpellsRequest, frame, reply_body}

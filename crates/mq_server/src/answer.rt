@@ -1,13 +1,14 @@
 //! Putting a request to a ledger.
 ghost use Rattle.std.specs.Prelude.{◌≡◌, ◌⊎◌, ℕ, List, Err, IfOk, IfErr, IfSome, IsSome, MatchOption, MatchResult};
-ghost use Rattle.mq_frame.specs.Range.{IsRequest, IsReply};
+ghost use Rattle.mq_request.specs.Range.{IsRequest, IsReply};
 ghost use Rattle.mq_frame.specs.Spelling.{SpellsRequest};
 ghost use Rattle.mq_ledger.specs.Leaving.{LeavesLedger};
 ghost use Rattle.mq_server.specs.Steps.{AnswersBody};
 ghost use Rattle.mq_server.specs.Text.{NeedsMemory, SpellsNone, SpellsOne};
 
 use crate::fault::ServeFault;
-use mq_frame::{DecodeFault, Reply, Request, decode_request};
+use mq_frame::{DecodeFault, decode_request};
+use mq_request::{Reply, Request};
 use mq_ledger::{Ledger, LedgerFault};
 use std::alloc::Global;
 

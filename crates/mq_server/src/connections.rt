@@ -2,7 +2,7 @@
 ghost use Rattle.std.specs.Prelude.{◌≡◌, ◌≢◌, ◌⊎◌, [], ◌∷◌, ◌++◌, true, false, length, map, List, All, Err, IfOk};
 ghost use Rattle.std.specs.Prelude.{IfErr};
 ghost use Rattle.std.specs.List.{AllZip};
-ghost use Rattle.mq_frame.specs.Flow.{IsFlushed};
+ghost use Rattle.mq_stream.specs.Flow.{IsFlushed};
 ghost use Rattle.mq_ledger.specs.Leaving.{LeavesLedger};
 ghost use Rattle.mq_ledger.specs.Told.{Tells};
 ghost use Rattle.mq_server.specs.declared.connections.ConnectionEnd.{ConnectionEnd as AnyConnectionEnd};
@@ -12,7 +12,7 @@ ghost use Rattle.mq_server.specs.Delivery.{Delivery, answer_to, history_after, c
 use crate::connection::Served;
 use crate::fault::ServeFault;
 use crate::serving::serve;
-use mq_frame::{Sink, Source};
+use mq_stream::{Sink, Source};
 use mq_ledger::Ledger;
 use std::alloc::Global;
 

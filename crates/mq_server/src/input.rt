@@ -1,12 +1,12 @@
 //! Reading from a source.
 ghost use Rattle.std.specs.Prelude.{◌≡◌, ◌≢◌, ◌≤◌, ◌∷◌, [], true, false, ℕ, List, length, Err};
 ghost use Rattle.std.specs.Io.KnownBytes.{Consumes};
-ghost use Rattle.mq_frame.specs.Flow.{TellsReads};
+ghost use Rattle.mq_stream.specs.Flow.{TellsReads};
 ghost use Rattle.mq_server.specs.Steps.{Refills};
 
 use crate::connection::Connection;
 use crate::fault::ServeFault;
-use mq_frame::{Failed, Source};
+use mq_stream::{Failed, Source};
 
 /// The most bytes that one read takes.
 pub const PIECE: usize = 4_096;

@@ -1,7 +1,7 @@
 //! Laws of what is served. Each is the contract of a function that does nothing.
 ghost use Rattle.std.specs.Prelude.{◌≡◌, ◌⊎◌, ℕ, List, [], ◌++◌, length, map, Option, None, Some, Ok};
 ghost use Rattle.std.specs.Io.KnownBytes.{Appends};
-ghost use Rattle.mq_frame.specs.declared.message.Reply.{Reply};
+ghost use Rattle.mq_request.specs.declared.message.Reply.{Reply};
 ghost use Rattle.mq_ledger.specs.Answer.{replies_after};
 ghost use Rattle.mq_ledger.specs.declared.entry.Entry.{Entry};
 ghost use Rattle.mq_ledger.specs.Day.{day_of};

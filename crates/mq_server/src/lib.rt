@@ -9,9 +9,10 @@
 //!     let mut written = outputs_for(alloc, connections)?;
 //!     let ends = serve_all(alloc, inputs.as_mut_slice(), written.as_mut_slice(), ledger)?;
 //!
-//! It stands on `mq_frame` and `mq_ledger`: it knows frames and any ledger through its trait, and neither sockets nor
-//! time. Begin with `specs/Text.antt`, the bytes that a connection carries, and `connection.rt`; `laws.rt` says that
-//! how the bytes are cut changes nothing. docs/FRAMES.md has the format of requests and replies.
+//! It stands on `mq_request`, `mq_stream`, `mq_frame` and `mq_ledger`: it knows frames and any ledger through its
+//! trait, and neither sockets nor time. Begin with `specs/Text.antt`, the bytes that a connection carries, and
+//! `connection.rt`; `laws.rt` says that how the bytes are cut changes nothing. docs/FRAMES.md has the format of
+//! requests and replies.
 #![tactic(auto)]
 
 mod answer;

@@ -1,12 +1,12 @@
 //! Writing to a sink.
 ghost use Rattle.std.specs.Prelude.{◌≡◌, ◌≢◌, ◌<◌, [], length, true, false, OnOk, IfErr, Err};
 ghost use Rattle.std.specs.Io.KnownBytes.{Appends};
-ghost use Rattle.mq_frame.specs.Flow.{AppendsFront, IsFlushed};
+ghost use Rattle.mq_stream.specs.Flow.{AppendsFront, IsFlushed};
 ghost use Rattle.mq_server.specs.Held.{with_replies};
 
 use crate::connection::Connection;
 use crate::fault::ServeFault;
-use mq_frame::{Failed, Sink, write_and_flush};
+use mq_stream::{Failed, Sink, write_and_flush};
 
 /// Writes and flushes the replies that wait, where there are any.
 ///

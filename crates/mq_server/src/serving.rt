@@ -4,13 +4,13 @@ ghost use Rattle.mq_ledger.specs.Leaving.{LeavesLedger};
 ghost use Rattle.mq_ledger.specs.Told.{Tells};
 ghost use Rattle.mq_server.specs.Connection.{Serves, calls_of};
 ghost use Rattle.mq_server.specs.Delivery.{Delivery, history_after, answer_to};
-ghost use Rattle.mq_frame.specs.Flow.{IsFlushed};
+ghost use Rattle.mq_stream.specs.Flow.{IsFlushed};
 
 use crate::connection::{Connection, Progress, Served};
 use crate::fault::ServeFault;
 use crate::input::refill;
 use crate::output::hand_on;
-use mq_frame::{Sink, Source};
+use mq_stream::{Sink, Source};
 use mq_ledger::Ledger;
 use std::alloc::Global;
 

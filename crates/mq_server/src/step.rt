@@ -1,9 +1,9 @@
 //! One step of a connection: what stands at the front of what came is answered.
 ghost use Rattle.std.specs.Prelude.{◌≡◌, ◌<◌, ◌+◌, ◌++◌, ℕ, List, OnOk, OnErr, Ok, Err, length, vec_capacity, vec_len};
 ghost use Rattle.mq_frame.specs.Feed.{front};
-ghost use Rattle.mq_frame.specs.Range.{IsReply};
+ghost use Rattle.mq_request.specs.Range.{IsReply};
 ghost use Rattle.mq_frame.specs.Spelling.{frame, reply_body};
-ghost use Rattle.mq_frame.specs.declared.message.Reply.TheVariants.{Bad};
+ghost use Rattle.mq_request.specs.declared.message.Reply.TheVariants.{Bad};
 ghost use Rattle.mq_frame.specs.declared.feed.TheConstants.{REQUEST_LIMIT as request_limit};
 ghost use Rattle.mq_ledger.specs.Leaving.{LeavesLedger};
 ghost use Rattle.mq_server.specs.declared.connection.Progress.TheVariants.{Ended};
@@ -14,7 +14,8 @@ ghost use Rattle.mq_server.specs.Text.{IsBad, next};
 use crate::answer::answer_body;
 use crate::connection::{Progress, Served};
 use crate::fault::ServeFault;
-use mq_frame::{FrameFeed, Reply, encode_reply};
+use mq_frame::{FrameFeed, encode_reply};
+use mq_request::Reply;
 use mq_ledger::Ledger;
 use std::alloc::Global;
 

@@ -11,7 +11,7 @@ use Rattle.toml.specs.Data.{Data, Members, get_member, as_integer, as_str}
 use Rattle.toml.specs.Parse.{parse_document}
 use Rattle.log.specs.declared.level.LevelFilter.{LevelFilter}
 use Rattle.log.specs.declared.level.LevelFilter.TheVariants as level
-use Rattle.mq_frame.specs.Range.{IsHost}
+use Rattle.mq_request.specs.Range.{IsHost}
 use Rattle.mq_ledger.specs.declared.zone.Zone.{Zone}
 use Rattle.mq_ledger.specs.Day.{ByOffset, ByRule, IsRule}
 use Rattle.mq_settings.specs.Keys.{key_name, filter_keys, server_keys, IsLeastUnknown, HasOnly}

@@ -6,7 +6,7 @@
 //!     let text = read_file(rt, file).map_err(|fault| logged_of(rt, file, ProcessFault::File(fault)))?;
 //!     read_filter_settings(rt.alloc(), text.as_slice())
 //!
-//! It stands on `mq_frame` and `mq_ledger`, for a host's name and a zone. It knows nothing of what is done by the
+//! It stands on `mq_request` and `mq_ledger`, for a host's name and a zone. It knows nothing of what is done by the
 //! settings. Begin with `specs/Settings.antt` and `settings.rt`; `mailquota.toml(5)` has every key.
 #![tactic(auto)]
 

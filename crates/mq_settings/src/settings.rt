@@ -16,7 +16,7 @@ pub use fault::SettingsFault;
 pub use flaw::Flaw;
 pub use key::Key;
 use log::LevelFilter;
-use mq_frame::Host;
+use mq_request::Host;
 use mq_ledger::Zone;
 use std::alloc::Global;
 use std::net::SocketAddr;

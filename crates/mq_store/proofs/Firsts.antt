@@ -3,8 +3,8 @@ use Rattle.std.proofs.Common.{◌≡◌, List, [], ◌∷◌, refl, ap, ap₂, �
 use Rattle.std.specs.Prelude.{Bool, Option, Some, None, is_some, not, true, false, ◌||◌}
 use Rattle.std.specs.List.{list_any}
 use Rattle.std.proofs.lemmas.Bool.{cases_Bool}
-use Rattle.mq_frame.specs.declared.message.Id.{Id}
-use Rattle.mq_frame.specs.declared.message.Request.{Request}
+use Rattle.mq_request.specs.declared.message.Id.{Id}
+use Rattle.mq_request.specs.declared.message.Request.{Request}
 use Rattle.mq_ledger.specs.declared.entry.Entry.{Entry}
 use Rattle.mq_ledger.specs.Answer.{known_by, stored}
 use Rattle.mq_ledger.specs.Arrivals.{id_of, has_id, is_below, first, is_first, is_first_by}

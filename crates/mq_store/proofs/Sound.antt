@@ -7,7 +7,7 @@ use Rattle.sqlite.specs.Does.{lacks_sequence}
 use Rattle.sqlite.specs.Order.{column}
 use Rattle.sqlite.specs.Effect.{Database}
 use Rattle.sqlite.specs.State.{State}
-use Rattle.mq_frame.specs.Range.{IsAmount}
+use Rattle.mq_request.specs.Range.{IsAmount}
 use Rattle.mq_frame.specs.Reading.{request_at}
 use Rattle.mq_ledger.specs.declared.zone.Zone.{Zone}
 use Rattle.mq_ledger.specs.Answer.{build}

@@ -1,6 +1,6 @@
 -- A page that is gone through from login to login.
 use Rattle.std.specs.Prelude.{◌≡◌, ℕ, List, map, length, Option, Some, None}
-use Rattle.mq_frame.specs.declared.usage.UsageRow.{UsageRow}
+use Rattle.mq_request.specs.declared.usage.UsageRow.{UsageRow}
 use Rattle.mq_ledger.specs.declared.entry.Entry.{Entry}
 use Rattle.mq_ledger.specs.declared.zone.Zone.{Zone}
 use Rattle.mq_ledger.specs.Day.{day_of}

@@ -5,7 +5,7 @@ use Rattle.mq_ledger.specs.DaysCode.{days_code}
 use Rattle.sqlite.specs.Held.{Held, held_code}
 use Rattle.sqlite.specs.declared.error.Error.{Error}
 use Rattle.sqlite.specs.contracts.error.Error as error
-use Rattle.mq_frame.specs.Range.{IsAmount}
+use Rattle.mq_request.specs.Range.{IsAmount}
 use Rattle.mq_ledger.specs.declared.zone.Zone.{Zone}
 use Rattle.mq_store.specs.declared.auditing.RowCounts.{RowCounts}
 use Rattle.mq_store.specs.declared.fault.StoreCause.{StoreCause}

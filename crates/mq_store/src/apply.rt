@@ -4,7 +4,7 @@ ghost use Rattle.std.specs.Prelude.{◌≡◌, ◌⊎◌, false, IfOk, IfErr, On
 ghost use Rattle.sqlite.specs.Held.{state};
 ghost use Rattle.sqlite.specs.State.{HasCleanDisk};
 ghost use Rattle.sqlite.specs.Tree.{Trees};
-ghost use Rattle.mq_frame.specs.Range.{IsRequest, IsReply};
+ghost use Rattle.mq_request.specs.Range.{IsRequest, IsReply};
 ghost use Rattle.mq_store.specs.Causes.{StopsOver};
 ghost use Rattle.mq_store.specs.Crash.{LeavesNew, LeavesOld, AreApplied};
 ghost use Rattle.mq_store.specs.Soundness.{HasKept};
@@ -12,7 +12,7 @@ ghost use Rattle.mq_store.specs.Taking.{Applies};
 
 use crate::fault::Refused;
 use crate::take::{Taken, take};
-use mq_frame::{Reply, Request};
+use mq_request::{Reply, Request};
 use mq_ledger::Zone;
 use mq_tables::laws::trees_have_one_schema;
 use sqlite::{Alter, Connection};

@@ -9,7 +9,7 @@ ghost use Rattle.std.specs.Prelude.{◌≡◌, ◌<◌, ◌≤◌, ◌+◌, ◌^
 ghost use Rattle.sqlite.specs.Held.{state};
 ghost use Rattle.sqlite.specs.State.{HasCleanDisk};
 ghost use Rattle.sqlite.specs.Steps.{over_memory};
-ghost use Rattle.mq_frame.specs.Range.{IsRequest};
+ghost use Rattle.mq_request.specs.Range.{IsRequest};
 ghost use Rattle.mq_ledger.specs.declared.entry.Entry.{Entry as AnyEntry};
 ghost use Rattle.mq_tables.specs.Inside.{LeavesCommit};
 ghost use Rattle.mq_store.specs.Carrying.{Follows, RepliesAt, IsJudgedAt, IsNextOf, CarriesOne, CarriesFront, Carries};
@@ -19,7 +19,7 @@ use crate::fault::Refused;
 use crate::laws::{entries_are_carried, entries_are_followed};
 use crate::recall::{Answered, answered_at, is_set, stays};
 use crate::take::{Taken, take};
-use mq_frame::{Reply, Request};
+use mq_request::{Reply, Request};
 use mq_ledger::Zone;
 use mq_tables::setting::read_arrivals;
 use sqlite::{Alter, MemStore, Transaction};

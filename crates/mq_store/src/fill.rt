@@ -4,7 +4,7 @@ ghost use Rattle.std.specs.Prelude.{◌≡◌, ◌⊎◌, false, IsTrue, OnOk, O
 ghost use Rattle.sqlite.specs.Held.{state};
 ghost use Rattle.sqlite.specs.State.{HasCleanDisk};
 ghost use Rattle.sqlite.specs.Tree.{Trees};
-ghost use Rattle.mq_frame.specs.Range.{IsAmount};
+ghost use Rattle.mq_request.specs.Range.{IsAmount};
 ghost use Rattle.mq_tables.specs.Inside.{LeavesCommit};
 ghost use Rattle.mq_store.specs.Carrying.{Carries};
 ghost use Rattle.mq_store.specs.Forgetting.{MakesBlank, Fills, AreFilled};

@@ -2,15 +2,15 @@
 //! nothing: its contract is the law.
 ghost use Rattle.std.specs.Prelude.{◌≡◌, ◌≤◌, ◌⊎◌, ◌+◌, ℕ, List, [], ◌∷◌, ◌++◌, true, false, Option, Some, None, take};
 ghost use Rattle.sqlite.specs.Effect.{Database};
-ghost use Rattle.mq_frame.specs.declared.message.Id.{Id};
-ghost use Rattle.mq_frame.specs.declared.message.Request.{Request as AnyRequest};
-ghost use Rattle.mq_frame.specs.declared.message.Reply.{Reply as AnyReply};
-ghost use Rattle.mq_frame.specs.declared.message.Reply.TheVariants.{Old};
-ghost use Rattle.mq_frame.specs.declared.usage.UsageRow.{UsageRow as AnyUsageRow};
+ghost use Rattle.mq_request.specs.declared.message.Id.{Id};
+ghost use Rattle.mq_request.specs.declared.message.Request.{Request as AnyRequest};
+ghost use Rattle.mq_request.specs.declared.message.Reply.{Reply as AnyReply};
+ghost use Rattle.mq_request.specs.declared.message.Reply.TheVariants.{Old};
+ghost use Rattle.mq_request.specs.declared.usage.UsageRow.{UsageRow as AnyUsageRow};
 ghost use Rattle.mq_forget.specs.Carried.{IsAt};
 ghost use Rattle.mq_forget.specs.Remembered.{day_named, stays, remembered};
-ghost use Rattle.mq_frame.specs.Range.{IsLogin, IsRequest};
-ghost use Rattle.mq_frame.specs.Same.{same_id};
+ghost use Rattle.mq_request.specs.Range.{IsLogin, IsRequest};
+ghost use Rattle.mq_request.specs.Same.{same_id};
 ghost use Rattle.mq_frame.specs.Spelling.{SpellsRequest, SpellsReply};
 ghost use Rattle.mq_ledger.specs.declared.entry.Entry.{Entry as AnyEntry};
 ghost use Rattle.mq_ledger.specs.declared.zone.Zone.{Zone as AnyZone};

@@ -4,7 +4,7 @@ ghost use Rattle.std.specs.Prelude.{◌≡◌, ◌⊎◌, ◌↔◌, ℕ, Option
 ghost use Rattle.sqlite.specs.Held.{state};
 ghost use Rattle.sqlite.specs.State.{HasCleanDisk};
 ghost use Rattle.sqlite.specs.Tree.{Trees};
-ghost use Rattle.mq_frame.specs.Range.{IsAmount, IsRequest, IsReply};
+ghost use Rattle.mq_request.specs.Range.{IsAmount, IsRequest, IsReply};
 ghost use Rattle.mq_ledger.specs.Answer.{build, reply};
 ghost use Rattle.mq_ledger.specs.Arrivals.{first};
 ghost use Rattle.mq_ledger.specs.Day.{IsZone, day_of};
@@ -28,7 +28,7 @@ use crate::counting::count_store;
 use crate::fault::{OpenFault, OpenRefused, StoreCause, create_fault, noted, within};
 use crate::laws::{books_are_right, later_arrivals_add_nothing, tables_mean_their_book};
 use crate::opening::open_store;
-use mq_frame::{Reply, Request};
+use mq_request::{Reply, Request};
 use mq_ledger::{Ledger, LedgerFault, Zone};
 use mq_rows::Audit;
 use mq_tables::create::make_ledger;

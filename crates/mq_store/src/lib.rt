@@ -10,9 +10,10 @@
 //!         Err(refused) => Err(refused_by(log, path, false, settings, refused)),
 //!     }
 //!
-//! It stands on `mq_frame`, `mq_ledger`, `mq_forget`, `mq_rows` and `mq_tables`: it knows what a ledger means, its rows
-//! and its statements, and nothing of connections or files. Begin with `specs/Soundness.antt`, when a store is a sound
-//! ledger, and `take.rt`, one request; `write.rt` is where the reply is stored. docs/STORE.md says it in words.
+//! It stands on `mq_request`, `mq_frame`, `mq_ledger`, `mq_forget`, `mq_rows` and `mq_tables`: it knows what a ledger
+//! means, its rows and its statements, and nothing of connections or files. Begin with `specs/Soundness.antt`, when a
+//! store is a sound ledger, and `take.rt`, one request; `write.rt` is where the reply is stored. docs/STORE.md says it
+//! in words.
 #![tactic(auto)]
 
 mod apply;

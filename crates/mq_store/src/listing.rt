@@ -3,8 +3,8 @@
 ghost use Rattle.std.specs.Prelude.{IfOk, IfErr, IfSome, OnOk};
 ghost use Rattle.sqlite.specs.Held.{state};
 ghost use Rattle.sqlite.specs.State.{HasCleanDisk};
-ghost use Rattle.mq_frame.specs.declared.message.Request.{Request as AnyRequest};
-ghost use Rattle.mq_frame.specs.Range.{IsLogin, IsDay, IsReply, IsRow, IsPage};
+ghost use Rattle.mq_request.specs.declared.message.Request.{Request as AnyRequest};
+ghost use Rattle.mq_request.specs.Range.{IsLogin, IsDay, IsReply, IsRow, IsPage};
 ghost use Rattle.mq_tables.specs.Inside.{LeavesCommit};
 ghost use Rattle.mq_store.specs.Causes.{StopsReading};
 ghost use Rattle.mq_store.specs.Taking.{Stays, IsReplied};
@@ -12,8 +12,8 @@ ghost use Rattle.mq_store.specs.Paging.{IsNextRow, IsPageOf};
 
 use crate::fault::Refused;
 use crate::laws::{reads_are_answered, reads_are_in_range};
-use mq_frame::format::ROW_LIMIT;
-use mq_frame::{Login, Reply, UsageRow, UsageRows};
+use mq_request::bounds::ROW_LIMIT;
+use mq_request::{Login, Reply, UsageRow, UsageRows};
 use mq_rows::{page_row, usage_reply};
 use mq_tables::ceiling::find_governing;
 use mq_tables::page::next_usage;

@@ -3,7 +3,7 @@
 ghost use Rattle.std.specs.Prelude.{◌≡◌, false, None, IfOk, IfErr};
 ghost use Rattle.sqlite.specs.Held.{state};
 ghost use Rattle.sqlite.specs.Steps.{over_memory};
-ghost use Rattle.mq_frame.specs.Range.{IsAmount};
+ghost use Rattle.mq_request.specs.Range.{IsAmount};
 ghost use Rattle.mq_store.specs.Opening.{IsStop};
 ghost use Rattle.mq_store.specs.Soundness.{IsNew};
 

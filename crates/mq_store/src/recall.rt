@@ -3,7 +3,7 @@
 ghost use Rattle.std.specs.Prelude.{◌≡◌, ◌<◌, ◌+◌, ◌^◌, ℕ, List, IfOk, OnOk};
 ghost use Rattle.sqlite.specs.Held.{state};
 ghost use Rattle.sqlite.specs.State.{HasCleanDisk};
-ghost use Rattle.mq_frame.specs.Range.{IsRequest, IsId, IsMoment};
+ghost use Rattle.mq_request.specs.Range.{IsRequest, IsId, IsMoment};
 ghost use Rattle.mq_frame.specs.Spelling.{SpellsRequest};
 ghost use Rattle.mq_ledger.specs.History.{transaction};
 ghost use Rattle.mq_forget.specs.Remembered.{is_set};
@@ -13,7 +13,8 @@ ghost use Rattle.mq_store.specs.Taking.{Stays};
 
 use crate::fault::{Refused, StoreCause};
 use crate::laws::{answers_are_entries, transactions_have_days};
-use mq_frame::{Bytes, DecodeFault, Id, Reply, Request, decode_reply, decode_request};
+use mq_frame::{DecodeFault, decode_reply, decode_request};
+use mq_request::{Bytes, Id, Reply, Request};
 use mq_ledger::Zone;
 use mq_tables::entry::read_answer;
 use mq_tables::transaction::find_transaction;

@@ -3,7 +3,7 @@
 ghost use Rattle.std.specs.Prelude.{◌≡◌, ℕ, List, Some, IsTrue, IfOk, IfErr, IfSome, OnOk};
 ghost use Rattle.sqlite.specs.Held.{state};
 ghost use Rattle.sqlite.specs.State.{HasCleanDisk};
-ghost use Rattle.mq_frame.specs.Range.{IsRequest, IsReply};
+ghost use Rattle.mq_request.specs.Range.{IsRequest, IsReply};
 ghost use Rattle.mq_ledger.specs.declared.entry.Entry.{Entry as AnyEntry};
 ghost use Rattle.mq_ledger.specs.Arrivals.{id_of, is_below};
 ghost use Rattle.mq_ledger.specs.History.{requests};
@@ -18,7 +18,7 @@ use crate::laws::{
 };
 use crate::listing::{reply_to_list, reply_to_usage};
 use crate::write::write_plan;
-use mq_frame::{Id, Reply, Request};
+use mq_request::{Id, Reply, Request};
 use mq_ledger::Zone;
 use mq_rows::{Plan, decide, stored_reply};
 use mq_tables::answer::find_answer;

@@ -1,7 +1,8 @@
 //! Requests and replies by the hexadecimal digits of their bodies, new ledgers, ledgers that are asked, and
 //! what is told of what they answer.
 
-use mq_frame::{Reply, Request, decode_request, encode_reply, is_reply, is_request};
+use mq_frame::{decode_request, encode_reply};
+use mq_request::{Reply, Request, is_reply, is_request};
 use mq_ledger::{Ledger, LedgerFault, PlainLedger, Zone};
 use mq_store::SqlLedger;
 use sqlite::MemStore;

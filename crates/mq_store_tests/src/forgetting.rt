@@ -2,7 +2,7 @@
 //! tables, from fixed seeds. What stays is told by a list of what was asked.
 
 use crate::asks::{Verdict, ask, tables, told, wanted};
-use mq_frame::{Host, Id, Login, Reply, Request};
+use mq_request::{Host, Id, Login, Reply, Request};
 use mq_store::{Audit, SqlLedger};
 use rand_core::utils::NextWord;
 use rand_pcg::Pcg32;

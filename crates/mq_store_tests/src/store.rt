@@ -8,7 +8,7 @@ mod stops;
 mod worked;
 
 use crate::asks::{Verdict, told, wanted};
-use mq_frame::Login;
+use mq_request::Login;
 use mq_store::{OpenFault, StoreCause};
 use std::alloc::Global;
 use std::test::*;

@@ -4,7 +4,7 @@ use Rattle.std.specs.Prelude.{if◌then◌else◌}
 use Rattle.std.specs.List.{AllByRecursion}
 use Rattle.sqlite_rules.specs.Lists.{Has}
 use Rattle.sqlite.specs.State.{State, IsUnchanged}
-use Rattle.mq_frame.specs.declared.message.Id.{Id}
+use Rattle.mq_request.specs.declared.message.Id.{Id}
 use Rattle.mq_ledger.specs.History.{transaction}
 use Rattle.mq_rows.specs.declared.record.TransactionRecord.{TransactionRecord}
 use Rattle.mq_rows.specs.declared.record.UsageRecord.{UsageRecord}

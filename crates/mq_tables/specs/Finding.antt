@@ -1,6 +1,6 @@
 -- What is read of the tables for a request, where each key is there once.
 use Rattle.std.specs.Prelude.{◌≡◌, ◌≤◌, ℕ, List, filter, length, find}
-use Rattle.mq_frame.specs.declared.message.Id.{Id}
+use Rattle.mq_request.specs.declared.message.Id.{Id}
 use Rattle.mq_ledger.specs.History.{Transaction, transaction}
 use Rattle.mq_rows.specs.declared.plan.Found.{Found}
 use Rattle.mq_rows.specs.Found.{IsGoverning, IsFirstOver}

@@ -5,7 +5,7 @@ ghost use Rattle.std.specs.Prelude.{◌≡◌, ◌<◌, ◌^◌, List, map, filt
 ghost use Rattle.sqlite.specs.Held.{state};
 ghost use Rattle.sqlite.specs.State.{HasCleanDisk, IsUnchanged};
 ghost use Rattle.sqlite.specs.Values.{bound};
-ghost use Rattle.mq_frame.specs.Same.{same_id};
+ghost use Rattle.mq_request.specs.Same.{same_id};
 ghost use Rattle.mq_rows.specs.Tables.{Tables};
 ghost use Rattle.mq_tables.specs.Inside.{LeavesCommit};
 ghost use Rattle.mq_tables.specs.Ledger.{HasLedger};
@@ -13,7 +13,7 @@ ghost use Rattle.mq_tables.specs.Lent.{answer_params, bodies_row, id_key, IsFirs
 ghost use Rattle.mq_tables.specs.Records.{IsOneOf};
 ghost use Rattle.mq_tables.specs.Updates.{Appends};
 
-use mq_frame::{Bytes, Id};
+use mq_request::{Bytes, Id};
 use mq_rows::AnswerRecord;
 use sqlite::types::ValueRef;
 use sqlite::{Alter, Error, Row, Transaction};

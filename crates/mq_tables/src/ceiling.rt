@@ -17,7 +17,7 @@ ghost use Rattle.mq_tables.specs.Records.{limit_fields, IsOneOf};
 ghost use Rattle.mq_tables.specs.Updates.{WritesLimit};
 
 use crate::usage::key_params;
-use mq_frame::Login;
+use mq_request::Login;
 use mq_rows::{LimitRecord, Write};
 use sqlite::types::ValueRef;
 use sqlite::{Alter, Error, Row, Transaction};

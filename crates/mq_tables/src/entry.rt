@@ -12,7 +12,7 @@ ghost use Rattle.mq_tables.specs.Ledger.{HasLedger};
 ghost use Rattle.mq_tables.specs.Lent.{bodies_row};
 ghost use Rattle.mq_tables.specs.Entries.{IsFirstBodies, IsAnswerAt};
 
-use mq_frame::Bytes;
+use mq_request::Bytes;
 use sqlite::types::ValueRef;
 use sqlite::{Alter, Error, Row, Transaction};
 

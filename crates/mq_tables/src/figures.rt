@@ -11,7 +11,7 @@ ghost use Rattle.mq_tables.specs.Figures.{HasAuditTables, HasFigures, AreGiven};
 ghost use Rattle.mq_tables.specs.Figures.{IsUsageRead, IsTransactionRead, IsLimitRead, Took, text_of};
 ghost use Rattle.mq_tables.specs.Reading.{Spares};
 
-use mq_frame::Login;
+use mq_request::Login;
 use mq_rows::{Books, LimitFigures, Pair, TransactionFigures, UsageFigures};
 use sqlite::{Alter, Connection, Error, ErrorCode, Row};
 

@@ -3,7 +3,7 @@
 ghost use Rattle.std.specs.Prelude.{◌≡◌, ◌<◌, ◌^◌, find, OnOk, IfOk, IsSome};
 ghost use Rattle.sqlite.specs.Held.{state};
 ghost use Rattle.sqlite.specs.State.{HasCleanDisk, IsUnchanged};
-ghost use Rattle.mq_frame.specs.Range.{IsRequest};
+ghost use Rattle.mq_request.specs.Range.{IsRequest};
 ghost use Rattle.mq_ledger.specs.Arrivals.{id_of};
 ghost use Rattle.mq_ledger.specs.Day.{day_of};
 ghost use Rattle.mq_rows.specs.Found.{IsFound};
@@ -19,7 +19,7 @@ use crate::floor::find_floor;
 use crate::over::find_over;
 use crate::transaction::find_transaction;
 use crate::usage::find_usage;
-use mq_frame::{Id, Login, Request};
+use mq_request::{Id, Login, Request};
 use mq_ledger::Zone;
 use mq_rows::Found;
 use sqlite::{Alter, Error, Transaction};

@@ -19,7 +19,7 @@ ghost use Rattle.mq_tables.specs.Reading.{AreFloorsRead, Spares};
 ghost use Rattle.mq_tables.specs.Updates.{WritesFloor};
 
 use crate::setting::{natural_at, value_at};
-use mq_frame::Host;
+use mq_request::Host;
 use mq_rows::{RetiredRecord, Write};
 use sqlite::types::ValueRef;
 use sqlite::{Alter, Connection, Error, Row, Transaction};

@@ -9,7 +9,7 @@
 //!     write_limit(tx, &plan.limit)?;
 //!     write_floor(tx, &plan.retired)
 //!
-//! It stands on `mq_frame`, `mq_ledger` and `mq_rows`, and knows typed rows; it doesn't know what a request is
+//! It stands on `mq_request`, `mq_ledger` and `mq_rows`, and knows typed rows; it doesn't know what a request is
 //! answered. Begin with `specs/Tables.antt`, the tables as the schema has them, and `usage.rt`, the shortest
 //! statements; docs/ARCHITECTURE.md says how a text of SQL is proved, and docs/STORE.md has the tables.
 #![tactic(auto)]

@@ -11,7 +11,7 @@ ghost use Rattle.mq_tables.specs.Ledger.{HasLedger};
 ghost use Rattle.mq_tables.specs.Over.{day_row, is_from, is_past, earlier, IsTotalsShown, IsEarliest, IsFirstShown};
 
 use crate::usage::key_params;
-use mq_frame::Login;
+use mq_request::Login;
 use mq_rows::UsageRecord;
 use sqlite::{Alter, Error, Row, Transaction};
 

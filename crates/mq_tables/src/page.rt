@@ -12,7 +12,7 @@ ghost use Rattle.mq_tables.specs.Ledger.{HasLedger};
 ghost use Rattle.mq_tables.specs.Paging.{just_above, IsLoginShown, IsFirstLogin};
 
 use crate::usage::find_usage;
-use mq_frame::Login;
+use mq_request::Login;
 use mq_rows::UsageRecord;
 use mq_rows::laws::logins_are_passed;
 use sqlite::types::ValueRef;

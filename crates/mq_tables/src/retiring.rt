@@ -14,7 +14,7 @@ ghost use Rattle.mq_tables.specs.Retiring.{open_params, open_row, open_columns, 
 ghost use Rattle.mq_tables.specs.Retiring.{runs_params, place_row, clear_params, ClearsAt};
 
 use crate::setting::natural_at;
-use mq_frame::{Host, Login};
+use mq_request::{Host, Login};
 use mq_rows::{Runs, TransactionRecord};
 use sqlite::types::ValueRef;
 use sqlite::{Alter, Error, Row, Transaction};

@@ -16,7 +16,7 @@ ghost use Rattle.mq_tables.specs.Records.{IsOneOf, transaction_fields};
 ghost use Rattle.mq_tables.specs.Updates.{WritesTransaction};
 
 use crate::setting::natural_at;
-use mq_frame::{Host, Login};
+use mq_request::{Host, Login};
 use mq_rows::{TransactionRecord, Write};
 use sqlite::types::ValueRef;
 use sqlite::{Alter, Error, Row, Transaction};

@@ -14,7 +14,7 @@ ghost use Rattle.mq_tables.specs.Lent.{key_params, totals_params, totals_row, Is
 ghost use Rattle.mq_tables.specs.Records.{IsOneOf, usage_fields};
 ghost use Rattle.mq_tables.specs.Updates.{WritesUsage};
 
-use mq_frame::Login;
+use mq_request::Login;
 use mq_rows::{UsageRecord, Write};
 use sqlite::types::ValueRef;
 use sqlite::{Alter, Error, Row, Transaction};

@@ -1,9 +1,9 @@
 -- What a ledger is asked for the log, and what that leaves of it.
 use Rattle.std.specs.Prelude.{◌≡◌, ◌⊎◌, ⊤, ℕ, ◌+◌, List, [], ◌∷◌, ◌++◌, All, Option, None, Some, Result, Ok, Err}
-use Rattle.mq_frame.specs.declared.message.Reply.{Reply}
-use Rattle.mq_frame.specs.declared.message.Reply.TheVariants.{Usage as UsageReply}
-use Rattle.mq_frame.specs.declared.message.Request.{Request}
-use Rattle.mq_frame.specs.declared.message.Request.TheVariants.{Limit, Usage}
+use Rattle.mq_request.specs.declared.message.Reply.{Reply}
+use Rattle.mq_request.specs.declared.message.Reply.TheVariants.{Usage as UsageReply}
+use Rattle.mq_request.specs.declared.message.Request.{Request}
+use Rattle.mq_request.specs.declared.message.Request.TheVariants.{Limit, Usage}
 use Rattle.mq_ledger.specs.declared.entry.Entry.{Entry}
 use Rattle.mq_ledger.specs.declared.ledger.LedgerFault.{LedgerFault}
 use Rattle.mq_ledger.specs.declared.ledger.LedgerFault.TheVariants.{Memory, Store}

@@ -1,6 +1,6 @@
 //! What a ledger is asked for the log.
 ghost use Rattle.std.specs.Prelude.{◌≡◌, [], ◌∷◌, Err, IfOk, IfErr, IfNone, IfSome, OnErr};
-ghost use Rattle.mq_frame.specs.Range.{IsAmount, IsDay, IsLogin, IsReply};
+ghost use Rattle.mq_request.specs.Range.{IsAmount, IsDay, IsLogin, IsReply};
 ghost use Rattle.mq_ledger.specs.Day.{day_of};
 ghost use Rattle.mq_ledger.specs.History.{used};
 ghost use Rattle.mq_ledger.specs.Limits.{cap};
@@ -9,7 +9,7 @@ ghost use Rattle.mq_watch.specs.Asked.{IsAsked, LacksMemory, question, usage_in}
 
 use crate::nearing::Usage;
 use log::{Log, error};
-use mq_frame::{Login, Reply, Request};
+use mq_request::{Login, Reply, Request};
 use mq_ledger::laws::one_more_arrival;
 use mq_ledger::{Ledger, LedgerFault};
 use std::net::SocketAddr;

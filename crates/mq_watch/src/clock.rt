@@ -1,9 +1,9 @@
 //! The server's clock.
 ghost use Rattle.std.specs.Prelude.{◌≡◌, ◌<◌};
-ghost use Rattle.mq_frame.specs.Range.{IsMoment};
-ghost use Rattle.mq_frame.specs.declared.format.TheConstants.{FIRST_MOMENT, LAST_MOMENT};
+ghost use Rattle.mq_request.specs.Range.{IsMoment};
+ghost use Rattle.mq_request.specs.declared.bounds.TheConstants.{FIRST_MOMENT, LAST_MOMENT};
 
-use mq_frame::format::{FIRST_MOMENT, LAST_MOMENT};
+use mq_request::bounds::{FIRST_MOMENT, LAST_MOMENT};
 use std::rt::Clock;
 use std::time::{SystemTime, UNIX_EPOCH};
 

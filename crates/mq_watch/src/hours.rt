@@ -1,10 +1,10 @@
 //! Of which hosts a line was logged within an hour.
 ghost use Rattle.std.specs.Prelude.{◌≡◌, ◌≢◌, ◌↔◌, ◌<◌, ◌⊎◌, ℕ, ℤ, [], ◌∷◌, ◌++◌, length, All, IfSome, IsNone, IsTrue, false};
-ghost use Rattle.mq_frame.specs.Range.{IsMoment};
+ghost use Rattle.mq_request.specs.Range.{IsMoment};
 ghost use Rattle.mq_ledger.specs.Day.{ByOffset, IsOffset, day_of};
 ghost use Rattle.mq_watch.specs.Hours.{AreClose, AreFar, IsOver};
 
-use mq_frame::Host;
+use mq_request::Host;
 use mq_ledger::Zone;
 use mq_ledger::laws::day_is_the_floor;
 use std::alloc::Global;

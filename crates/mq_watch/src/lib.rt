@@ -7,8 +7,8 @@
 //!     let mut watched = Watched::new(rt, log, rt.alloc(), ledger);
 //!     let outcome = listen(rt, log, rt.alloc(), settings, &mut watched, connections);
 //!
-//! It stands on `mq_frame` and `mq_ledger`: it knows requests, replies and days, and of a connection its peer's address
-//! alone. Begin with `watched.rt`.
+//! It stands on `mq_request` and `mq_ledger`: it knows requests, replies and days, and of a connection its peer's
+//! address alone. Begin with `watched.rt`.
 #![tactic(auto)]
 
 mod asking;

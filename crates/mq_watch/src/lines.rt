@@ -2,7 +2,7 @@
 
 use crate::nearing::Usage;
 use log::Level;
-use mq_frame::{Escaped, Host, Login, Reply};
+use mq_request::{Escaped, Host, Login, Reply};
 use mq_ledger::LedgerFault;
 use std::fmt;
 

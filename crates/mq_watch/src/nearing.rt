@@ -1,10 +1,10 @@
 //! Which logins near their limits.
 ghost use Rattle.std.specs.Prelude.{◌≡◌, ◌≢◌, ◌↔◌, ◌<◌, ◌≤◌, ◌⊎◌, ℕ, List, Some, None, IsTrue, false};
 ghost use Rattle.std.specs.BTreeMap.{btree_map_len};
-ghost use Rattle.mq_frame.specs.Range.{IsAmount};
+ghost use Rattle.mq_request.specs.Range.{IsAmount};
 ghost use Rattle.mq_watch.specs.Nearing.{IsLeft, IsNear, IsOpen, four_fifths, standing};
 
-use mq_frame::Login;
+use mq_request::Login;
 use std::alloc::Global;
 use std::collections::BTreeMap;
 

@@ -1,6 +1,6 @@
 //! A ledger that logs what comes to it.
 ghost use Rattle.std.specs.Prelude.{◌≡◌, ◌<◌, [], ◌∷◌, ◌++◌, IfOk, IfErr, IfNone, IfSome, OnErr, OnOk, Err, Some};
-ghost use Rattle.mq_frame.specs.Range.{IsDay, IsLogin, IsMoment, IsReply, IsRequest};
+ghost use Rattle.mq_request.specs.Range.{IsDay, IsLogin, IsMoment, IsReply, IsRequest};
 ghost use Rattle.mq_ledger.specs.Answer.{build, reply};
 ghost use Rattle.mq_ledger.specs.Arrivals.{first};
 ghost use Rattle.mq_ledger.specs.Day.{day_of};
@@ -14,7 +14,7 @@ use crate::hours::{NamedHosts, far_days};
 use crate::lines::{DayLine, LimitLine, NearLine};
 use crate::nearing::Nearing;
 use log::{Log, log, warn};
-use mq_frame::{Host, Login, Reply, Request};
+use mq_request::{Host, Login, Reply, Request};
 use mq_ledger::{Ledger, LedgerFault, Zone};
 use std::alloc::Global;
 use std::marker::Model;

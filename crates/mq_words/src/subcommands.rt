@@ -1,6 +1,6 @@
 //! The subcommands and their options.
 
-use mq_frame::format::{AMOUNT_LIMIT, FIRST_MOMENT, LAST_DAY, LAST_MOMENT, LAST_RUN};
+use mq_request::bounds::{AMOUNT_LIMIT, FIRST_MOMENT, LAST_DAY, LAST_MOMENT, LAST_RUN};
 
 /// The version that `--version` prints.
 pub const VERSION: &str = "0.1.0";

@@ -1,6 +1,6 @@
 //! The words of the command line.
 ghost use Rattle.std.specs.Prelude.{◌≡◌, ◌≤◌, IfOk, IfSome};
-ghost use Rattle.mq_frame.specs.Range.{IsAmount, IsMoment, IsRun, IsWithin};
+ghost use Rattle.mq_request.specs.Range.{IsAmount, IsMoment, IsRun, IsWithin};
 ghost use Rattle.mq_arguments.specs.Arguments.{IsArguments, IsLimitArguments, IsReplayArguments, IsResumeArguments};
 
 use crate::subcommands::{

@@ -4,12 +4,12 @@ use Rattle.std.specs.Prelude.{◌↔◌, All, sum_by}
 use Rattle.std.specs.List.{AllByRecursion}
 use Rattle.mq_line.specs.Grammar.{Meaning}
 use Rattle.mq_track.specs.Laws.{AreNumbered}
-use Rattle.mq_frame.specs.Range.{IsRequest, IsReply, IsAmount}
-use Rattle.mq_frame.specs.Same.{same_id, same_request}
+use Rattle.mq_request.specs.Range.{IsRequest, IsReply, IsAmount}
+use Rattle.mq_request.specs.Same.{same_id, same_request}
 use Rattle.mq_frame.specs.Spelling.{request_body, reply_body, SpellsReply, frame}
-use Rattle.mq_frame.specs.declared.message.Id.{Id}
-use Rattle.mq_frame.specs.declared.message.Request.{Request}
-use Rattle.mq_frame.specs.declared.message.Reply.{Reply}
+use Rattle.mq_request.specs.declared.message.Id.{Id}
+use Rattle.mq_request.specs.declared.message.Request.{Request}
+use Rattle.mq_request.specs.declared.message.Reply.{Reply}
 use Rattle.mq_ledger.specs.declared.entry.Entry.{Entry}
 use Rattle.mq_ledger.specs.Answer.{reply, with_arrival, history_of}
 use Rattle.mq_ledger.specs.declared.zone.Zone.{Zone}

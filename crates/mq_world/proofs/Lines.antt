@@ -8,7 +8,7 @@ use Rattle.mq_track.specs.Sessions.{Transaction, login, open_transaction, begin_
 use Rattle.mq_track.specs.Laws.{AreNumbered}
 use Rattle.mq_track.specs.declared.closing.Closing.{Closing}
 use Rattle.mq_track.specs.declared.fault.TrackFault.TheVariants.{Exhausted}
-use Rattle.mq_frame.specs.Range.{IsOrdinal, IsMoment, IsLogin}
+use Rattle.mq_request.specs.Range.{IsOrdinal, IsMoment, IsLogin}
 use Rattle.mq_client.specs.Past.{Action, Ask, Step}
 use Rattle.mq_client.specs.Filter.{Passes, Refuses, Asks, is_login, is_moment, query_at, asking_of, close_of, action_of, actions, push}
 use Rattle.std.specs.Prelude.{length}

@@ -3,9 +3,9 @@ use Rattle.std.proofs.Common.{◌≡◌, ℕ, ◌+◌, ◌≤◌, ◌<◌, ◌==
 use Rattle.std.specs.Prelude.{length, drop, slice_get, zero, suc}
 use Rattle.std.specs.List.{AllByRecursion}
 use Rattle.std.proofs.lemmas.Bool.Decides.{nat_tests}
-use Rattle.mq_frame.specs.Range.{IsHost, IsRun, IsOrdinal, IsMoment, IsLogin, IsId, IsRequest}
-use Rattle.mq_frame.specs.declared.message.Request.{Request}
-use Rattle.mq_frame.specs.declared.message.Request.TheVariants.{Settle, Release}
+use Rattle.mq_request.specs.Range.{IsHost, IsRun, IsOrdinal, IsMoment, IsLogin, IsId, IsRequest}
+use Rattle.mq_request.specs.declared.message.Request.{Request}
+use Rattle.mq_request.specs.declared.message.Request.TheVariants.{Settle, Release}
 use Rattle.mq_client.specs.Exchanges.{Exchange, decisions}
 use Rattle.mq_client.specs.Past.{Source, Action, Ask, Close, Drain, Step, Standing, Never, Live, Closed, View, view, after, after_ask, after_close, held_by, held_for, opened, let_through, answer_of, id_of, reserve_of, closing_of, is_commit, is_other, lacks_numbers, refuses, IsBounded}
 use Rattle.mq_client.specs.Held.{IsHeld}

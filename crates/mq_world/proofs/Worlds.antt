@@ -4,13 +4,13 @@ use Rattle.std.specs.Prelude.{◌==◌, ◌||◌, is_some}
 use Rattle.std.specs.List.{AllByRecursion}
 use Rattle.std.proofs.lemmas.List.Elements.{recursion_from_All, All-from_recursion}
 use Rattle.mq_track.specs.Sessions.{begin_count}
-use Rattle.mq_frame.specs.Range.{IsRequest, IsReply}
-use Rattle.mq_frame.specs.Same.{same_text, same_request}
+use Rattle.mq_request.specs.Range.{IsRequest, IsReply}
+use Rattle.mq_request.specs.Same.{same_text, same_request}
 use Rattle.mq_frame.specs.Spelling.{request_body, reply_body, frame}
-use Rattle.mq_frame.specs.declared.message.Id.{Id}
-use Rattle.mq_frame.specs.declared.message.Request.{Request}
-use Rattle.mq_frame.specs.declared.message.Reply.{Reply}
-use Rattle.mq_frame.specs.declared.message.Reply.TheVariants as reply
+use Rattle.mq_request.specs.declared.message.Id.{Id}
+use Rattle.mq_request.specs.declared.message.Request.{Request}
+use Rattle.mq_request.specs.declared.message.Reply.{Reply}
+use Rattle.mq_request.specs.declared.message.Reply.TheVariants as reply
 use Rattle.mq_ledger.specs.declared.entry.Entry.{Entry}
 use Rattle.mq_ledger.specs.Answer.{answer, appended, stored, reply_to, reply_by, with_arrival_by}
 use Rattle.mq_ledger.specs.Arrivals.{has_id, is_below, id_of as ledger_id}

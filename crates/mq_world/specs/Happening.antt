@@ -1,13 +1,13 @@
 -- What has happened on the way from a start to a world, and that worlds are reached in which it has.
 use Rattle.std.specs.Prelude.{◌≡◌, ◌<◌, ℕ, List, [], ◌∷◌, ◌++◌, count_by, is_some, slice_get, true, false, Option, None, Some}
 use Rattle.std.specs.List.{list_any}
-use Rattle.mq_frame.specs.Same.{same_text, same_request}
+use Rattle.mq_request.specs.Same.{same_text, same_request}
 use Rattle.mq_frame.specs.Spelling.{reply_body, frame}
-use Rattle.mq_frame.specs.declared.message.Id.{Id}
-use Rattle.mq_frame.specs.declared.message.Request.{Request}
-use Rattle.mq_frame.specs.declared.message.Request.TheVariants.{Retire}
-use Rattle.mq_frame.specs.declared.message.Reply.{Reply}
-use Rattle.mq_frame.specs.declared.message.Reply.TheVariants.{Old}
+use Rattle.mq_request.specs.declared.message.Id.{Id}
+use Rattle.mq_request.specs.declared.message.Request.{Request}
+use Rattle.mq_request.specs.declared.message.Request.TheVariants.{Retire}
+use Rattle.mq_request.specs.declared.message.Reply.{Reply}
+use Rattle.mq_request.specs.declared.message.Reply.TheVariants.{Old}
 use Rattle.mq_ledger.specs.Day.{day_of}
 use Rattle.mq_ledger.specs.History.{Transaction, requests, held, settled_in}
 use Rattle.mq_ledger.specs.Legal.{Book}

@@ -1,6 +1,6 @@
 -- What was let through, over all hosts and runs.
 use Rattle.std.specs.Prelude.{◌≡◌, ℕ, List, [], ◌∷◌, Bool, false, ◌==◌, ◌&&◌, if◌then◌else◌, Option, None, Some, sum_by}
-use Rattle.mq_frame.specs.Same.{same_text}
+use Rattle.mq_request.specs.Same.{same_text}
 use Rattle.mq_ledger.specs.Day.{day_of}
 use Rattle.mq_ledger.specs.History.{Transaction}
 use Rattle.mq_client.specs.Past.{Source, Action, Drain, Step, Standing, Never, Live, Closed, is_commit, IsPlayed}

@@ -5,13 +5,13 @@ use Rattle.std.specs.List.{AllByRecursion}
 use Rattle.std.specs.Option.{option_map}
 use Rattle.mq_line.specs.Grammar.{Meaning}
 use Rattle.mq_track.specs.Sessions.{fault}
-use Rattle.mq_frame.specs.Range.{IsHost, IsRun}
-use Rattle.mq_frame.specs.Same.{same_text}
+use Rattle.mq_request.specs.Range.{IsHost, IsRun}
+use Rattle.mq_request.specs.Same.{same_text}
 use Rattle.mq_frame.specs.Spelling.{reply_body, SpellsRequest, SpellsReply, frame}
-use Rattle.mq_frame.specs.declared.message.Id.{Id}
-use Rattle.mq_frame.specs.declared.message.Request.{Request}
-use Rattle.mq_frame.specs.declared.message.Reply.{Reply}
-use Rattle.mq_frame.specs.declared.message.Reply.TheVariants.{Retry, Bad}
+use Rattle.mq_request.specs.declared.message.Id.{Id}
+use Rattle.mq_request.specs.declared.message.Request.{Request}
+use Rattle.mq_request.specs.declared.message.Reply.{Reply}
+use Rattle.mq_request.specs.declared.message.Reply.TheVariants.{Retry, Bad}
 use Rattle.mq_ledger.specs.Answer.{history_of, reply}
 use Rattle.mq_ledger.specs.Day.{day_of}
 use Rattle.mq_ledger.specs.History.{requests}

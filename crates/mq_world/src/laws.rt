@@ -2,7 +2,7 @@
 ghost use Rattle.std.specs.Prelude.{◌≡◌, ◌≤◌, ◌+◌, ◌++◌, ◌∷◌, ℕ, List, Bool, Option, sum_by, true, false, Some};
 ghost use Rattle.std.specs.Prelude.{slice_get, ℤ};
 ghost use Rattle.mq_frame.specs.Spelling.{reply_body, frame};
-ghost use Rattle.mq_frame.specs.declared.message.Reply.TheVariants.{Retry, Bad};
+ghost use Rattle.mq_request.specs.declared.message.Reply.TheVariants.{Retry, Bad};
 ghost use Rattle.mq_link.specs.declared.link.LinkFault.{LinkFault};
 ghost use Rattle.mq_link.specs.declared.link.Outcome.TheVariants.{Answered, Faulted};
 ghost use Rattle.std.specs.Option.{option_map};
@@ -34,7 +34,8 @@ use mq_client::{
     settles_are_of_what_was_let,
 };
 use mq_forget::laws::remembered_is_legal;
-use mq_frame::laws::{one_spelling, same_is_equal};
+use mq_frame::laws::one_spelling;
+use mq_request::laws::same_is_equal;
 use mq_ledger::laws::{
     built_is_legal, day_is_the_floor, one_more_arrival, open_transactions, replies_in_range,
     replies_suit, sums_over_transactions, within_limits,

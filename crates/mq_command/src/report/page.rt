@@ -2,7 +2,7 @@
 ghost use Rattle.std.specs.Prelude.{◌↔◌, IsTrue};
 ghost use Rattle.mq_command.specs.Report.{IsAscendingAbove};
 
-use mq_frame::UsageRow;
+use mq_request::UsageRow;
 use std::cmp::Ordering;
 
 /// Whether the logins of a page ascend, byte for byte, and are all above `after`.

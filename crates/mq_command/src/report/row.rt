@@ -6,7 +6,7 @@ ghost use Rattle.mq_command.specs.Report.{column, row_line, report_lines};
 
 use crate::output::{OutputFault, write_whole};
 use crate::printed::login_text;
-use mq_frame::UsageRow;
+use mq_request::UsageRow;
 use std::alloc::{AllocError, Global};
 use std::io::Write;
 

@@ -1,6 +1,6 @@
 //! A ledger that fails where a test wants it.
 
-use mq_frame::{Reply, Request};
+use mq_request::{Reply, Request};
 use mq_ledger::{Ledger, LedgerFault, Zone};
 
 /// A ledger that answers a fault at one call, `calls_before` calls after the start.

@@ -1,7 +1,8 @@
 //! What the tests are made of. None of it has a clause, so that a long test stays cheap to prove.
 
 use crate::server_end::asserts::MEMORY;
-use mq_frame::{Host, Id, Login, Request, UsageRow, UsageRows, decode_request};
+use mq_frame::decode_request;
+use mq_request::{Host, Id, Login, Request, UsageRow, UsageRows};
 use std::alloc::Global;
 use std::process::Abort;
 

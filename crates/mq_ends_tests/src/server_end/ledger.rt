@@ -1,5 +1,5 @@
 //! Ledgers: worked examples, and what no contract says.
-ghost use Rattle.mq_frame.specs.Range.{IsMoment};
+ghost use Rattle.mq_request.specs.Range.{IsMoment};
 
 mod callers;
 mod worked;

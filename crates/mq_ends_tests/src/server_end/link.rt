@@ -6,7 +6,7 @@ use crate::server_end::asserts::assert_text;
 use crate::server_end::fixtures::bytes_of;
 use crate::server_end::server::RESERVE;
 use crate::server_end::serving::{ledger, run};
-use mq_frame::{FromRead, ToWrite};
+use mq_stream::{FromRead, ToWrite};
 use mq_link::{Link, LinkFault};
 use mq_server::Served;
 use mq_tcp::{Connector, TcpLink};

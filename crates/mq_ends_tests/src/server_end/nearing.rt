@@ -6,7 +6,7 @@ use crate::server_end::fixtures::{id, login};
 use crate::server_end::serving::ledger;
 use crate::server_end::watching::{QUESTION_FAILED, Row, Shown, check_lines};
 use log::sink::Discard;
-use mq_frame::{Reply, Request, is_request};
+use mq_request::{Reply, Request, is_request};
 use mq_ledger::{Ledger, LedgerFault};
 use mq_watch::Watched;
 use std::alloc::Global;

@@ -6,7 +6,7 @@ use crate::server_end::fails_once::FailsOnce;
 use crate::server_end::fixtures::{bytes_of, split};
 use crate::server_end::serving::{check_served, ledger, run};
 use devices::{Flushing, Pieces, Room, Telling, Watching};
-use mq_frame::{Sink, Source};
+use mq_stream::{Sink, Source};
 use mq_ledger::{Ledger, LedgerFault};
 use mq_server::{ConnectionEnd, ServeFault, Served, serve_all};
 use std::alloc::Global;

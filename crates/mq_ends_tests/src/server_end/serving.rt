@@ -2,7 +2,7 @@
 
 use crate::server_end::asserts::{assert_bytes, assert_that};
 use crate::server_end::fixtures::bytes_of;
-use mq_frame::{FromRead, Sink, Source, ToWrite};
+use mq_stream::{FromRead, Sink, Source, ToWrite};
 use mq_ledger::{Ledger, PlainLedger, Zone};
 use mq_server::{ServeFault, Served, serve};
 use std::alloc::Global;

@@ -1,6 +1,6 @@
 //! The answers of a plain ledger to requests whose number it doesn't have.
 ghost use Rattle.std.specs.Prelude.{◌≡◌, ◌+◌, ◌<◌, ◌^◌, IfOk};
-ghost use Rattle.mq_frame.specs.Range.{IsRequest};
+ghost use Rattle.mq_request.specs.Range.{IsRequest};
 ghost use Rattle.mq_ledger.specs.Answer.{answer, granted_or_full};
 ghost use Rattle.mq_ledger.specs.Day.{day_of};
 
@@ -10,7 +10,7 @@ use crate::plain::first_over::over;
 use crate::plain::listing::{page, row};
 use crate::plain::standing::{granted_in, refusal};
 use crate::plain::totals::used;
-use mq_frame::{Id, Login, Reply, Request, UsageRow, UsageRows};
+use mq_request::{Id, Login, Reply, Request, UsageRow, UsageRows};
 use std::alloc::AllocError;
 
 /// The reply to a reserve where that much is used and may be used.

@@ -3,7 +3,7 @@ ghost use Rattle.std.specs.Prelude.{◌≡◌};
 ghost use Rattle.mq_ledger.specs.Limits.{governs, from_of, cap_of, cap};
 
 use crate::entry::Entry;
-use mq_frame::{Login, Reply, Request};
+use mq_request::{Login, Reply, Request};
 
 /// Whether a limit was set for the login from that day or an earlier one on.
 fn governs(entry: &Entry, login: &Login, day: u32) -> bool

@@ -6,7 +6,7 @@ ghost use Rattle.mq_ledger.specs.Answer.{stored};
 ghost use Rattle.mq_ledger.specs.History.{requests, closes, granted, counted};
 
 use crate::entry::Entry;
-use mq_frame::{Host, Id, Reply, Request};
+use mq_request::{Host, Id, Reply, Request};
 
 /// The number of a request: usage and list have none.
 pub fn id_of(request: &Request) -> Option<&Id>

@@ -1,6 +1,6 @@
 //! The first day on which a login has used more than a limit would allow.
 ghost use Rattle.std.specs.Prelude.{◌≡◌, ◌<◌, ◌^◌, ℕ, All, IfSome};
-ghost use Rattle.mq_frame.specs.Range.{IsRequest, IsDay};
+ghost use Rattle.mq_request.specs.Range.{IsRequest, IsDay};
 ghost use Rattle.mq_ledger.specs.Day.{day_of};
 ghost use Rattle.mq_ledger.specs.History.{used};
 ghost use Rattle.mq_ledger.specs.Over.{day_from, days_from, lesser, least, over};
@@ -8,7 +8,7 @@ ghost use Rattle.mq_ledger.specs.Over.{day_from, days_from, lesser, least, over}
 use crate::entry::Entry;
 use crate::plain::totals::used;
 use crate::zone::Zone;
-use mq_frame::{Login, Reply, Request};
+use mq_request::{Login, Reply, Request};
 
 /// The day of the login's granted reserve or settled settle, where it is that day or a later one.
 fn day_from(entry: &Entry, zone: Zone, login: &Login, from: u32) -> Option<u32>

@@ -1,7 +1,7 @@
 //! The logins of a day, page by page.
 ghost use Rattle.std.specs.Prelude.{◌≡◌, ◌<◌, ◌^◌, ℕ, List, All, IfOk, map, slice_get};
 ghost use Rattle.std.specs.Option.{option_copied};
-ghost use Rattle.mq_frame.specs.Range.{IsRequest};
+ghost use Rattle.mq_request.specs.Range.{IsRequest};
 ghost use Rattle.mq_ledger.specs.Day.{day_of};
 ghost use Rattle.mq_ledger.specs.History.{used};
 ghost use Rattle.mq_ledger.specs.Page.{below, login_on, nearer, logins_above, page, row};
@@ -10,8 +10,8 @@ use crate::entry::Entry;
 use crate::plain::cap::cap;
 use crate::plain::totals::{reserved, settled};
 use crate::zone::Zone;
-use mq_frame::format::ROW_LIMIT;
-use mq_frame::{Login, Reply, Request, UsageRow};
+use mq_request::bounds::ROW_LIMIT;
+use mq_request::{Login, Reply, Request, UsageRow};
 use std::alloc::{AllocError, Global};
 use std::cmp::Ordering;
 

@@ -1,13 +1,13 @@
 //! How a transaction stands: who it belongs to, whether it is closed, and what it was granted.
 ghost use Rattle.std.specs.Prelude.{◌≡◌, ◌<◌, ◌^◌, ◌&&◌, IfOk};
 ghost use Rattle.std.specs.Option.{option_copied, MatchOption};
-ghost use Rattle.mq_frame.specs.declared.message.Reply.{Reply as AnyReply};
+ghost use Rattle.mq_request.specs.declared.message.Reply.{Reply as AnyReply};
 ghost use Rattle.mq_ledger.specs.Answer.{if_open};
 ghost use Rattle.mq_ledger.specs.History.{transaction, is_of, is_at, named, agrees, closes, ended, closed, abandoned, granted_in, IsOpenTo};
 
 use crate::entry::Entry;
 use crate::plain::entries::{closes, granted, is_below};
-use mq_frame::{Id, Login, Reply, Request};
+use mq_request::{Id, Login, Reply, Request};
 use std::alloc::AllocError;
 
 /// Whether the request is of the transaction.

@@ -1,6 +1,6 @@
 //! What a login has reserved, settled and used on a day.
 ghost use Rattle.std.specs.Prelude.{◌≡◌, ◌<◌, ◌^◌, ◌+◌, if◌then◌else◌, All};
-ghost use Rattle.mq_frame.specs.Range.{IsRequest};
+ghost use Rattle.mq_request.specs.Range.{IsRequest};
 ghost use Rattle.mq_ledger.specs.Day.{day_of};
 ghost use Rattle.mq_ledger.specs.History.{concerns, is_open, is_abandoned, granted, counted, reserved_of, settled_of, reserved, settled, used};
 
@@ -8,7 +8,7 @@ use crate::entry::Entry;
 use crate::plain::entries::{counted, granted};
 use crate::plain::standing::{self, is_closed};
 use crate::zone::Zone;
-use mq_frame::{Login, Request};
+use mq_request::{Login, Request};
 
 /// Whether the request is a reserve or settle of that login and day.
 fn concerns(request: &Request, zone: Zone, login: &Login, day: u32) -> bool

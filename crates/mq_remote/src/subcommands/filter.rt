@@ -1,6 +1,6 @@
 //! `filter`: answers smtpd on standard input and output.
 ghost use Rattle.std.specs.Prelude.{IfSome};
-ghost use Rattle.mq_frame.specs.Range.{IsRun};
+ghost use Rattle.mq_request.specs.Range.{IsRun};
 ghost use Rattle.mq_process.specs.Settings.{CanAsk};
 
 use crate::fault::FilterEnd;
@@ -8,7 +8,7 @@ use log::sink::Console;
 use log::{Log, Logged, error};
 use mq_arguments::FilterArguments;
 use mq_client::{Client, run_filter};
-use mq_frame::{FromRead, ToWrite};
+use mq_stream::{FromRead, ToWrite};
 use mq_link::Link;
 use mq_process::{ProcessFault, Question, ask_once, filter_settings, run_number};
 use mq_settings::FilterSettings;

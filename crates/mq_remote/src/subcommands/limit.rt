@@ -1,7 +1,7 @@
 //! `limit`: sets the limit of a login.
 ghost use Rattle.std.specs.Prelude.{◌≡◌, ℕ, List, Err, IfOk};
-ghost use Rattle.mq_frame.specs.Range.{IsHost, IsRun};
-ghost use Rattle.mq_frame.specs.declared.message.Request.TheVariants.{Limit};
+ghost use Rattle.mq_request.specs.Range.{IsHost, IsRun};
+ghost use Rattle.mq_request.specs.declared.message.Request.TheVariants.{Limit};
 ghost use Rattle.mq_command.specs.Orders.{IsLimit};
 ghost use Rattle.mq_arguments.specs.Arguments.{IsLimitArguments};
 ghost use Rattle.mq_process.specs.Refusals.{Names, NamesLogin, OrderRefuses};
@@ -10,7 +10,7 @@ use log::sink::Console;
 use log::{LevelFilter, Logged};
 use mq_arguments::LimitArguments;
 use mq_command::{run_fresh, run_limit};
-use mq_frame::Request;
+use mq_request::Request;
 use mq_process::{ProcessFault, checked, first_id, link_to, login_of, run_number};
 use std::alloc::Global;
 use std::io;

@@ -1,13 +1,13 @@
 //! `report`: prints what logins used on a day.
 ghost use Rattle.std.specs.Prelude.{◌≡◌, Err, IfOk, IfSome};
-ghost use Rattle.mq_frame.specs.Range.{IsDay, IsLogin};
+ghost use Rattle.mq_request.specs.Range.{IsDay, IsLogin};
 ghost use Rattle.mq_process.specs.Refusals.{NamesLogin, NamesOneOrAll, ReportRefuses};
 
 use log::sink::Console;
 use log::{LevelFilter, Logged};
 use mq_arguments::{LoginArgument, ReportArguments};
 use mq_command::run_report;
-use mq_frame::Login;
+use mq_request::Login;
 use mq_process::{ProcessFault, address_of, link_to, login_of, names_login};
 use std::alloc::Global;
 use std::io;

@@ -1,7 +1,7 @@
 //! `retire`: gives up the earlier runs of a host.
 ghost use Rattle.std.specs.Prelude.{◌≡◌, Err, IfOk, IfSome};
-ghost use Rattle.mq_frame.specs.Range.{IsRun};
-ghost use Rattle.mq_frame.specs.declared.message.Request.TheVariants.{Retire};
+ghost use Rattle.mq_request.specs.Range.{IsRun};
+ghost use Rattle.mq_request.specs.declared.message.Request.TheVariants.{Retire};
 ghost use Rattle.mq_command.specs.Orders.{IsRetire};
 ghost use Rattle.mq_process.specs.Refusals.{RetireRefuses};
 
@@ -9,7 +9,7 @@ use log::sink::Console;
 use log::{LevelFilter, Logged};
 use mq_arguments::RetireArguments;
 use mq_command::run_retire;
-use mq_frame::{Request, is_host};
+use mq_request::{Request, is_host};
 use mq_process::{ProcessFault, address_of, first_id, link_to, run_number};
 use std::alloc::{AllocError, Global};
 use std::io;

@@ -1,6 +1,6 @@
 //! `stop` and `resume`: how many recipients more a login may have.
 ghost use Rattle.std.specs.Prelude.{◌≡◌, Err, IfOk};
-ghost use Rattle.mq_frame.specs.Range.{IsAmount, IsHost, IsRun, IsWithin};
+ghost use Rattle.mq_request.specs.Range.{IsAmount, IsHost, IsRun, IsWithin};
 ghost use Rattle.mq_command.specs.Allowing.{IsSetter};
 ghost use Rattle.mq_arguments.specs.Arguments.{IsResumeArguments};
 ghost use Rattle.mq_process.specs.Refusals.{NamesLogin, OrderRefuses};
@@ -9,7 +9,7 @@ use log::sink::Console;
 use log::{LevelFilter, Logged};
 use mq_arguments::{LoginArgument, ResumeArguments, StopArguments};
 use mq_command::{Setter, run_resume, run_stop};
-use mq_frame::Host;
+use mq_request::Host;
 use mq_process::{ProcessFault, checked, link_to, login_of, run_number};
 use std::alloc::Global;
 use std::io;

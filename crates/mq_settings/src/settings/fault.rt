@@ -3,7 +3,7 @@
 use crate::settings::address::AddressFlaw;
 use crate::settings::flaw::Flaw;
 use crate::settings::key::Key;
-use mq_frame::Escaped;
+use mq_request::Escaped;
 use std::alloc::AllocError;
 use thiserror::Error;
 

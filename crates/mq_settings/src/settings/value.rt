@@ -11,7 +11,7 @@ use crate::settings::fault::SettingsFault;
 use crate::settings::key::Key;
 use crate::settings::table::value_at;
 use log::LevelFilter;
-use mq_frame::{Host, is_host};
+use mq_request::{Host, is_host};
 use mq_ledger::{RuleFault, Zone};
 use std::alloc::Global;
 use std::net::SocketAddr;

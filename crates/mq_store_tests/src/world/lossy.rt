@@ -2,7 +2,8 @@
 
 use super::scripted::{answer, copied, keep};
 use super::usage::{deliver_frame, is_covered};
-use mq_frame::{Request, encode_request, is_request};
+use mq_frame::encode_request;
+use mq_request::{Request, is_request};
 use mq_ledger::Ledger;
 use mq_link::{Link, LinkFault};
 use rand_core::utils::NextWord;

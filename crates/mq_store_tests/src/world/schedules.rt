@@ -5,7 +5,7 @@ use super::scripted::client_of;
 use crate::asks::{Verdict, plain, tables, told, wanted};
 use log::sink::Discard;
 use mq_client::{Asked, Client};
-use mq_frame::{Host, Id, Login, Request, is_login, is_moment};
+use mq_request::{Host, Id, Login, Request, is_login, is_moment};
 use mq_ledger::Ledger;
 use mq_track::{CloseEnd, Closing};
 use std::alloc::Global;

@@ -1,7 +1,7 @@
 //! Frames that come to a ledger, and what it says that a login has used.
 
 use crate::asks::{ask, deliver};
-use mq_frame::{Login, Reply, Request};
+use mq_request::{Login, Reply, Request};
 use mq_ledger::Ledger;
 use std::alloc::Global;
 

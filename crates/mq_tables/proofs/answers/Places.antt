@@ -10,7 +10,7 @@ use Rattle.sqlite_schema.specs.Names.{same_name}
 use Rattle.sqlite_tied.specs.Compute.{everything}
 use Rattle.std.specs.List.Sorted.{IsPermutation}
 use Rattle.std.proofs.Math.Bool.{and-true}
-use Rattle.mq_frame.specs.Same.{same_text}
+use Rattle.mq_request.specs.Same.{same_text}
 use Rattle.mq_rows.specs.declared.record.AnswerRecord.{AnswerRecord}
 use Rattle.mq_rows.specs.Tables.{Tables}
 use Rattle.mq_tables.specs.Ledger.{HasLedger}

@@ -15,7 +15,7 @@ use Rattle.std.proofs.Math.Bool.{and-true}
 use Rattle.mq_tables.proofs.Changes.{is_since}
 use Rattle.mq_tables.proofs.Finds.{int_same}
 use Rattle.std.proofs.lemmas.Slice.Eq.{slice_eq-Decides}
-use Rattle.mq_frame.specs.Same.{same_text}
+use Rattle.mq_request.specs.Same.{same_text}
 use Rattle.mq_rows.specs.declared.record.RetiredRecord.{RetiredRecord}
 use Rattle.mq_rows.specs.Rows.{is_host}
 use Rattle.mq_rows.specs.Tables.{Tables}

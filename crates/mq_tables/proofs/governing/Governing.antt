@@ -16,7 +16,7 @@ use Rattle.std.proofs.lemmas.Slice.Eq.{slice_eq-Decides}
 use Rattle.sqlite_trees.proofs.ListLemmas.{all_weaker}
 use Rattle.sqlite_value.proofs.OrderLemmas.{value_cmp-Int}
 use Rattle.sqlite_rules.specs.Lists.{Has}
-use Rattle.mq_frame.specs.Same.{same_text}
+use Rattle.mq_request.specs.Same.{same_text}
 use Rattle.mq_rows.specs.declared.record.LimitRecord.{LimitRecord}
 use Rattle.mq_rows.specs.Found.{is_due, IsGoverning}
 use Rattle.mq_rows.specs.Tables.{Tables}

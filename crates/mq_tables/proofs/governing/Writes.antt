@@ -21,7 +21,7 @@ use Rattle.sqlite.specs.Rowids.TheVariants.{Given}
 use Rattle.sqlite.specs.Tree.{Trees}
 use Rattle.sqlite_rules.specs.Calls.{ids_of}
 use Rattle.sqlite_schema.specs.Names.{same_name}
-use Rattle.mq_frame.specs.Same.{same_text}
+use Rattle.mq_request.specs.Same.{same_text}
 use Rattle.mq_rows.specs.Plan.{same_from, set_limit}
 use Rattle.mq_tables.specs.Lent.{cap_params}
 use Rattle.mq_tables.proofs.RowFacts.{held_so}

@@ -16,7 +16,7 @@ use Rattle.std.proofs.Math.Bool.{and-true}
 use Rattle.std.proofs.lemmas.Bool.{and_parts}
 use Rattle.std.proofs.lemmas.Slice.Eq.{slice_eq-Decides}
 use Rattle.sqlite.specs.declared.types.Value.TheVariants.{Int}
-use Rattle.mq_frame.specs.Same.{same_text}
+use Rattle.mq_request.specs.Same.{same_text}
 use Rattle.mq_rows.specs.declared.record.TransactionRecord.{TransactionRecord}
 use Rattle.mq_rows.specs.Rows.{is_transaction}
 use Rattle.mq_rows.specs.Tables.{Tables}

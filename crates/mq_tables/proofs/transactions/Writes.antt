@@ -21,7 +21,7 @@ use Rattle.sqlite.specs.Rowids.TheVariants.{Given}
 use Rattle.sqlite.specs.Tree.{Trees}
 use Rattle.sqlite_rules.specs.Calls.{ids_of}
 use Rattle.sqlite_schema.specs.Names.{same_name}
-use Rattle.mq_frame.specs.Same.{same_text}
+use Rattle.mq_request.specs.Same.{same_text}
 use Rattle.mq_rows.specs.Plan.{same_key, set_transaction}
 use Rattle.mq_tables.specs.Lent.{standing_params}
 use Rattle.mq_tables.proofs.RowFacts.{held_so}

@@ -18,7 +18,7 @@ use Rattle.std.proofs.lemmas.Slice.Eq.{slice_eq-Decides}
 use Rattle.sqlite_rules.specs.Lists.{Has}
 use Rattle.sqlite_rules.proofs.ListLemmas.{all_has}
 use Rattle.sqlite_trees.proofs.ListLemmas.{all-permutation, all_weaker}
-use Rattle.mq_frame.specs.Same.{same_text}
+use Rattle.mq_request.specs.Same.{same_text}
 use Rattle.mq_rows.specs.declared.record.UsageRecord.{UsageRecord}
 use Rattle.mq_rows.specs.Found.{is_over, IsFirstOver}
 use Rattle.mq_rows.specs.Tables.{Tables}

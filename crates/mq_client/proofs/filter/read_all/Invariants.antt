@@ -1,6 +1,6 @@
 use Rattle.std.proofs.Common.{◌≡◌, ◌+◌, ◌*◌, ◌≤◌, ℕ, List, length, false}
 use Rattle.std.specs.List.{concat}
-use Rattle.mq_frame.specs.Flow.{IsFlushed}
+use Rattle.mq_stream.specs.Flow.{IsFlushed}
 use Rattle.mq_line.specs.Text.{IsLine}
 use Rattle.mq_client.specs.Run.{around, supply, Supplies}
 use Rattle.mq_client.specs.Loop.{SinkWorks, SoFar}

@@ -1,5 +1,5 @@
 use Rattle.std.proofs.Common.{◌≡◌, ◌≤◌}
-use Rattle.mq_frame.specs.declared.format.TheConstants.{LAST_RUN}
+use Rattle.mq_request.specs.declared.bounds.TheConstants.{LAST_RUN}
 use Rattle.mq_command.specs.Orders.{IsLimit, AreTaken, ahead, later}
 use Rattle.mq_command.proofs.order.order_fresh.Given as goal
 

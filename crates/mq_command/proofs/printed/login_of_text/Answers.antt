@@ -1,6 +1,6 @@
 use Rattle.std.proofs.Common.{rules, ◌≡◌, ◌<◌, ◌++◌, length, arith}
 use Rattle.std.proofs.lemmas.Bool.Decides.{nat_tests}
-use Rattle.mq_frame.specs.Escaped.{byte_text}
+use Rattle.mq_request.specs.Escaped.{byte_text}
 use Rattle.mq_command.proofs.PrintedSteps.{all_text, continues, continues_none, no_text, so_far_more}
 use Rattle.mq_command.proofs.printed.login_of_text.Goals as goal
 

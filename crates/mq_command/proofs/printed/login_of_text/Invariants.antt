@@ -1,5 +1,5 @@
 use Rattle.std.proofs.Common.{◌≡◌, ◌++◌, length}
-use Rattle.mq_frame.specs.Escaped.{escaped}
+use Rattle.mq_request.specs.Escaped.{escaped}
 use Rattle.mq_command.proofs.PrintedSteps.{Continues}
 use Rattle.mq_command.proofs.printed.login_of_text.Given as goal
 

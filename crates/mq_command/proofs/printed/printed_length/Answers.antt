@@ -1,6 +1,6 @@
 use Rattle.std.proofs.Common.{rules, ◌≡◌, ◌<◌, ◌++◌, length, arith}
 use Rattle.std.proofs.lemmas.Bool.Decides.{nat_tests}
-use Rattle.mq_frame.specs.Escaped.{byte_text}
+use Rattle.mq_request.specs.Escaped.{byte_text}
 use Rattle.mq_command.proofs.PrintedSteps.{counted_all, counted_more, counted_none, no_text, shorter}
 use Rattle.mq_command.proofs.printed.printed_length.Goals as goal
 

@@ -1,5 +1,5 @@
 use Rattle.std.proofs.Common.{◌≡◌, ◌≤◌, ◌-◌, length, get_or, sym, ap, subst, ◌∙◌, arith, rules}
-use Rattle.mq_frame.specs.Range.{IsLogin}
+use Rattle.mq_request.specs.Range.{IsLogin}
 use Rattle.mq_command.specs.declared.output.OutputFault.TheVariants as outputs
 use Rattle.mq_command.proofs.Fronts.{front_whole, appends_kept}
 use Rattle.mq_command.proofs.PageSteps.{stopped, stopped_by, done, printed_none, printed_more, last_of}

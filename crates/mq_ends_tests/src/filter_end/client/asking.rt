@@ -1,7 +1,7 @@
 //! The calls of a client.
 use super::*;
 use mq_client::Asked;
-use mq_frame::{is_login, is_moment};
+use mq_request::{is_login, is_moment};
 use mq_track::{CloseEnd, Closing};
 
 /// How many transactions a client holds.

@@ -1,5 +1,5 @@
 //! Devices of a run that fail in its middle, or that know what comes.
-use mq_frame::{Failed, Sink, Source};
+use mq_stream::{Failed, Sink, Source};
 use std::cell::Cell;
 
 /// A source that gives a byte at a time and fails at its so many-th read.

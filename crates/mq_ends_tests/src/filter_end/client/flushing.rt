@@ -3,7 +3,7 @@ ghost use Rattle.std.specs.Prelude.{◌≡◌, ◌∷◌, ◌++◌, [], true, fa
 
 use super::devices::Taker;
 use super::*;
-use mq_frame::Failed;
+use mq_stream::Failed;
 use std::cell::Cell;
 
 /// Gives its bytes in pieces, reports what each read gave, and notes whether what those before ask for was

@@ -1,7 +1,7 @@
 //! Sources and sinks over readers and writers that fail in mid-stream.
 
 use crate::server_end::asserts::assert_that;
-use mq_frame::{Failed, FromRead, Sink, Source, ToWrite, write_and_flush};
+use mq_stream::{Failed, FromRead, Sink, Source, ToWrite, write_and_flush};
 use std::io;
 use std::io::{ErrorKind, Read, Write};
 use std::process::Abort;

@@ -2,7 +2,8 @@
 
 use crate::server_end::asserts::{MEMORY, assert_bytes, assert_printed};
 use crate::server_end::fixtures::{bytes_of, split};
-use mq_frame::{DecodeFault, Reply, decode_reply, encode_reply, is_reply};
+use mq_frame::{DecodeFault, decode_reply, encode_reply};
+use mq_request::{Reply, is_reply};
 use std::alloc::Global;
 use std::process::Abort;
 

@@ -2,7 +2,8 @@
 
 use crate::server_end::asserts::{MEMORY, assert_bytes, assert_printed, assert_that};
 use crate::server_end::fixtures::{bytes_of, split};
-use mq_frame::{DecodeFault, Request, decode_request, encode_request, is_request};
+use mq_frame::{DecodeFault, decode_request, encode_request};
+use mq_request::{Request, is_request};
 use std::alloc::Global;
 use std::process::Abort;
 

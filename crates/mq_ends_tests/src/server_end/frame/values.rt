@@ -2,7 +2,7 @@
 
 use crate::server_end::asserts::{MEMORY, assert_shown};
 use crate::server_end::fixtures::{id, login, page, request_of};
-use mq_frame::{Escaped, Host, Login, Reply, Request, Text, is_reply, is_request};
+use mq_request::{Escaped, Host, Login, Reply, Request, Text, is_reply, is_request};
 use std::alloc::Global;
 use std::process::Abort;
 

@@ -1,6 +1,6 @@
 //! A caller and a ledger that know nothing but the trait.
 ghost use Rattle.std.specs.Prelude.{◌≡◌, ◌++◌, All, IfOk, OnOk};
-ghost use Rattle.mq_frame.specs.Range.{IsRequest};
+ghost use Rattle.mq_request.specs.Range.{IsRequest};
 ghost use Rattle.mq_ledger.specs.Answer.{history_of, replies_after};
 ghost use Rattle.mq_ledger.specs.Day.{day_of};
 ghost use Rattle.mq_ledger.specs.History.{requests as requests_of};
@@ -9,7 +9,7 @@ use crate::server_end::asserts::{MEMORY, assert_printed};
 use crate::server_end::fails_once::FailsOnce;
 use crate::server_end::fixtures::request_of;
 use crate::server_end::serving::ledger;
-use mq_frame::{Reply, Request, is_request};
+use mq_request::{Reply, Request, is_request};
 use mq_ledger::laws::one_more_arrival;
 use mq_ledger::{Ledger, LedgerFault};
 use std::alloc::Global;

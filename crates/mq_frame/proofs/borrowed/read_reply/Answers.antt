@@ -3,7 +3,7 @@ use Rattle.std.specs.Prelude.{IfSome}
 use Rattle.mq_frame.specs.Reading.{Reads, reply_at}
 use Rattle.mq_frame.specs.Parts.{shown_reply}
 use Rattle.mq_frame.specs.Spelling.{SpellsReply}
-use Rattle.mq_frame.specs.declared.message.Reply.{Reply}
+use Rattle.mq_request.specs.declared.message.Reply.{Reply}
 use Rattle.mq_frame.specs.declared.reply_parts.ReplyParts.{ReplyParts}
 use Rattle.mq_frame.proofs.Bodies.{reply_at_spelled, reply_at_read}
 use Rattle.mq_frame.proofs.borrowed.read_reply.Goals as goal

@@ -1,7 +1,7 @@
 use Rattle.std.proofs.Common.{◌≡◌, ◌-◌, ◌++◌, List}
 use Rattle.mq_frame.specs.Reading.{row, times_at}
 use Rattle.mq_frame.specs.Parts.{rows_in}
-use Rattle.mq_frame.specs.declared.usage.UsageRow.{UsageRow}
+use Rattle.mq_request.specs.declared.usage.UsageRow.{UsageRow}
 use Rattle.mq_frame.proofs.Pages.{behind}
 use Rattle.mq_frame.proofs.page.page_at.Given as goal
 

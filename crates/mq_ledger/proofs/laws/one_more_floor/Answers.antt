@@ -1,6 +1,6 @@
 use Rattle.std.proofs.Common.{◌≡◌, ℕ, List, [], ◌∷◌, refl, ◌∙◌, ap}
 use Rattle.std.proofs.lemmas.List.{map-append}
-use Rattle.mq_frame.specs.declared.message.Request.{Request}
+use Rattle.mq_request.specs.declared.message.Request.{Request}
 use Rattle.mq_ledger.specs.declared.entry.Entry.{Entry}
 use Rattle.mq_ledger.specs.Arrivals.{floor}
 use Rattle.mq_ledger.specs.History.{requests, transaction}

@@ -2,7 +2,7 @@ use Rattle.std.proofs.Common.{◌≡◌, ◌∙◌, ℤ, [], ◌∷◌, ◌++◌
 use Rattle.std.proofs.lemmas.Int.{ints}
 use Rattle.std.specs.Prelude.{IfOk, codes}
 use Rattle.std.specs.Fmt.{decimal}
-use Rattle.mq_frame.specs.Escaped.{escaped}
+use Rattle.mq_request.specs.Escaped.{escaped}
 use Rattle.mq_ledger.specs.Day.{minutes_in}
 use Rattle.mq_program.specs.Describing.{offset_line}
 use Rattle.mq_program.proofs.DescribingSteps.{by_offset, by_rule}

@@ -1,7 +1,7 @@
 use Rattle.std.proofs.Common.{◌≡◌, ◌∙◌, string_bytes, to_z, of_z, w64, FitsSigned, ap, arith, rules}
 use Rattle.std.proofs.lemmas.Int.{ints}
 use Rattle.std.specs.Fmt.{signed_decimal}
-use Rattle.mq_frame.specs.Escaped.{escaped}
+use Rattle.mq_request.specs.Escaped.{escaped}
 use Rattle.mq_program.proofs.ListingSteps.{line_of}
 use Rattle.mq_program.proofs.listing.limit_line.Goals as goal
 

@@ -1,7 +1,7 @@
 use Rattle.std.proofs.Common.{ℕ, List, refl, arith}
-use Rattle.mq_frame.specs.declared.message.Request.{Request}
-use Rattle.mq_frame.specs.declared.message.Request.TheVariants.{Reserve, Settle, Release, Limit, Usage, List as ListRequest, Retire}
-use Rattle.mq_frame.specs.Range.{IsRequest}
+use Rattle.mq_request.specs.declared.message.Request.{Request}
+use Rattle.mq_request.specs.declared.message.Request.TheVariants.{Reserve, Settle, Release, Limit, Usage, List as ListRequest, Retire}
+use Rattle.mq_request.specs.Range.{IsRequest}
 use Rattle.mq_ledger.specs.declared.entry.Entry.{Entry}
 use Rattle.mq_ledger.specs.Answer.{answer}
 use Rattle.mq_rows.specs.declared.plan.Found.{Found}

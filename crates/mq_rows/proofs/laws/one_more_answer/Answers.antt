@@ -3,11 +3,11 @@ use Rattle.std.specs.Prelude.{true, false, ◌⊎◌, filter, Option, Some, None
 use Rattle.std.specs.List.Sorted.{IsPermutation}
 use Rattle.std.specs.List.{AllByRecursion}
 use Rattle.std.proofs.lemmas.List.Elements.{recursion_from_All, All-from_recursion}
-use Rattle.mq_frame.specs.declared.message.Id.{Id}
-use Rattle.mq_frame.specs.declared.message.Request.{Request}
-use Rattle.mq_frame.specs.declared.message.Request.TheVariants.{Reserve, Settle, Release, Limit, Usage, List as ListRequest, Retire}
-use Rattle.mq_frame.specs.declared.message.Reply.{Reply}
-use Rattle.mq_frame.specs.Range.{IsRequest, IsReply}
+use Rattle.mq_request.specs.declared.message.Id.{Id}
+use Rattle.mq_request.specs.declared.message.Request.{Request}
+use Rattle.mq_request.specs.declared.message.Request.TheVariants.{Reserve, Settle, Release, Limit, Usage, List as ListRequest, Retire}
+use Rattle.mq_request.specs.declared.message.Reply.{Reply}
+use Rattle.mq_request.specs.Range.{IsRequest, IsReply}
 use Rattle.mq_ledger.specs.declared.entry.Entry.{Entry}
 use Rattle.mq_ledger.specs.Answer.{answer, appended, reply, stored, with_arrival}
 use Rattle.mq_ledger.specs.Arrivals.{id_of, is_below, floor as floor_of}

@@ -1,10 +1,10 @@
 use Rattle.std.proofs.Common.{◌≡◌, List, [], Bool, true, false, refl, ◌∙◌, subst}
 use Rattle.std.specs.Prelude.{if◌then◌else◌}
-use Rattle.mq_frame.specs.declared.message.Id.{Id}
-use Rattle.mq_frame.specs.declared.message.Reply.{Reply}
-use Rattle.mq_frame.specs.declared.message.Reply.TheVariants.{Conflict}
-use Rattle.mq_frame.specs.Range.{IsId, IsRequest, IsReply}
-use Rattle.mq_frame.specs.Same.{same_request}
+use Rattle.mq_request.specs.declared.message.Id.{Id}
+use Rattle.mq_request.specs.declared.message.Reply.{Reply}
+use Rattle.mq_request.specs.declared.message.Reply.TheVariants.{Conflict}
+use Rattle.mq_request.specs.Range.{IsId, IsRequest, IsReply}
+use Rattle.mq_request.specs.Same.{same_request}
 use Rattle.mq_frame.specs.Spelling.{request_body, reply_body, SpellsReply}
 use Rattle.mq_ledger.specs.declared.entry.Entry.{Entry}
 use Rattle.mq_ledger.specs.Arrivals.{has_id, is_below}

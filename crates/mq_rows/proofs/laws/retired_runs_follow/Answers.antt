@@ -3,8 +3,8 @@ use Rattle.std.specs.Prelude.{filter, find, not, ◌&&◌, ◌||◌, nat_lt, nat
 use Rattle.std.specs.List.Sorted.{IsPermutation}
 use Rattle.std.proofs.lemmas.Bool.Decides.{nat_tests}
 use Rattle.sqlite_trees.proofs.ListLemmas.{filter_same}
-use Rattle.mq_frame.specs.declared.message.Id.{Id}
-use Rattle.mq_frame.specs.Same.{same_text}
+use Rattle.mq_request.specs.declared.message.Id.{Id}
+use Rattle.mq_request.specs.Same.{same_text}
 use Rattle.mq_ledger.specs.declared.entry.Entry.{Entry}
 use Rattle.mq_ledger.specs.Arrivals.{floor}
 use Rattle.mq_ledger.specs.History.{Transaction, requests, same_transaction, ended, closed}

@@ -1,7 +1,7 @@
 use Rattle.std.proofs.Common.{◌≡◌, ℕ, List, [], refl, ◌∙◌, ap, sym, subst, arith}
 use Rattle.std.specs.Prelude.{None, Some}
-use Rattle.mq_frame.specs.declared.message.Request.{Request}
-use Rattle.mq_frame.specs.Range.{IsRequest}
+use Rattle.mq_request.specs.declared.message.Request.{Request}
+use Rattle.mq_request.specs.Range.{IsRequest}
 use Rattle.mq_frame.specs.Reading.{request_at}
 use Rattle.mq_frame.specs.Spelling.{request_body}
 use Rattle.mq_ledger.specs.Answer.{build}

@@ -4,7 +4,7 @@ use Rattle.mq_rows.specs.Rows.{is_usage, usage_row}
 use Rattle.mq_rows.proofs.Lists.{find_of_those}
 use Rattle.mq_rows.proofs.Days.{Uses, numbers, settles_by}
 use Rattle.mq_rows.proofs.Replies.{Governs, Tells, tells, governs}
-use Rattle.mq_frame.specs.declared.message.Reply.TheVariants.{Usage as UsageReply}
+use Rattle.mq_request.specs.declared.message.Reply.TheVariants.{Usage as UsageReply}
 use Rattle.mq_rows.specs.Plan.{cap_by}
 use Rattle.mq_ledger.specs.Limits.{cap}
 use Rattle.mq_rows.proofs.laws.usage_is_answered.Goals as goal

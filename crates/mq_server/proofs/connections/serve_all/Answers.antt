@@ -11,7 +11,7 @@ use Rattle.mq_server.proofs.Deliveries.{Follows, history_more}
 use Rattle.mq_server.proofs.Leaving.{left_both}
 use Rattle.mq_server.proofs.Telling.{Tells-trans}
 use Rattle.mq_server.proofs.Turns.{turn, stopped, told_turn, zip_push, zip_results, store_read, store_write, still, still_next, read_end, write_end}
-use Rattle.mq_frame.specs.Flow.{IsFlushed}
+use Rattle.mq_stream.specs.Flow.{IsFlushed}
 use Rattle.mq_server.proofs.connections.serve_all.Goals as goal
 
 pub returns-in_err-end-clause-store : goal.returns-in_err-end-clause-store

@@ -1,6 +1,6 @@
 use Rattle.std.proofs.Common.{◌≡◌, ◌≤◌, true, false, List, [], length, map, take, drop, vec_len, vec_capacity}
 use Rattle.std.specs.Prelude.{◌≢◌, All}
-use Rattle.mq_frame.specs.Flow.{IsFlushed}
+use Rattle.mq_stream.specs.Flow.{IsFlushed}
 use Rattle.std.specs.List.{AllZip}
 use Rattle.mq_ledger.specs.Leaving.{LeavesLedger}
 use Rattle.mq_ledger.specs.Told.{Tells}

@@ -1,7 +1,7 @@
 use Rattle.std.proofs.Common.{◌≡◌, ◌+◌, ◌-◌, ◌*◌, ◌<◌, length, [], true, false, None}
 use Rattle.std.specs.Prelude.{if◌then◌else◌}
 use Rattle.std.specs.Io.KnownBytes.{IsAtEnd}
-use Rattle.mq_frame.specs.Flow.{IsFlushed}
+use Rattle.mq_stream.specs.Flow.{IsFlushed}
 use Rattle.mq_ledger.specs.Leaving.{LeavesLedger}
 use Rattle.mq_server.proofs.Running.{SoFar}
 use Rattle.mq_server.proofs.serving.serve.Given as goal

@@ -1,6 +1,6 @@
 use Rattle.std.proofs.Common.{◌≡◌, refl, sym, ap, ◌∙◌, inl, inr}
 use Rattle.std.specs.Prelude.{◌⊎◌, Bool, true, false, not, Option, Some, None}
-use Rattle.mq_frame.specs.declared.message.Id.{Id}
+use Rattle.mq_request.specs.declared.message.Id.{Id}
 use Rattle.mq_ledger.specs.Answer.{known_by}
 use Rattle.mq_ledger.specs.Arrivals.{id_of}
 use Rattle.mq_store.proofs.Firsts.{first_if_unknown}

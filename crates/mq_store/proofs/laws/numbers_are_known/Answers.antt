@@ -1,7 +1,7 @@
 use Rattle.std.proofs.Common.{◌≡◌, List, true, false, find, Some, subst, sym, ap}
 use Rattle.std.specs.Prelude.{is_some, None}
 use Rattle.std.specs.List.{AllByRecursion}
-use Rattle.mq_frame.specs.Same.{same_id}
+use Rattle.mq_request.specs.Same.{same_id}
 use Rattle.mq_ledger.specs.Answer.{stored}
 use Rattle.mq_ledger.specs.Day.{day_of}
 use Rattle.mq_rows.specs.declared.record.AnswerRecord.{AnswerRecord}

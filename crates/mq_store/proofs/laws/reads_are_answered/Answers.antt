@@ -2,7 +2,7 @@ use Rattle.std.proofs.Common.{◌≡◌, ℕ, ◌≤◌, List, [], ◌∷◌, �
 use Rattle.std.specs.Prelude.{Option, Some, None, ◌⊎◌}
 use Rattle.std.specs.List.{AllByRecursion}
 use Rattle.std.proofs.lemmas.List.{map-append}
-use Rattle.mq_frame.specs.declared.usage.UsageRow.{UsageRow}
+use Rattle.mq_request.specs.declared.usage.UsageRow.{UsageRow}
 use Rattle.mq_ledger.specs.Day.{day_of}
 use Rattle.mq_ledger.specs.Page.{row}
 use Rattle.mq_rows.specs.declared.record.UsageRecord.{UsageRecord}

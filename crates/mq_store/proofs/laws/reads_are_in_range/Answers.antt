@@ -1,7 +1,7 @@
 use Rattle.std.proofs.Common.{◌≡◌, Some, sym, ap, subst, ◌∙◌}
 use Rattle.std.proofs.lemmas.List.Elements.{recursion_from_All}
-use Rattle.mq_frame.specs.declared.usage.UsageRow.{UsageRow}
-use Rattle.mq_frame.specs.Range.{IsRequest, IsAmount}
+use Rattle.mq_request.specs.declared.usage.UsageRow.{UsageRow}
+use Rattle.mq_request.specs.Range.{IsRequest, IsAmount}
 use Rattle.mq_ledger.specs.Day.{day_of}
 use Rattle.mq_ledger.specs.History.{settled, reserved}
 use Rattle.mq_ledger.specs.Limits.{cap}

@@ -1,7 +1,7 @@
 use Rattle.std.proofs.Common.{◌≡◌, List, map, ap, ◌∙◌}
 use Rattle.std.specs.List.{filter_map}
 use Rattle.mq_frame.specs.Reading.{request_at}
-use Rattle.mq_frame.specs.declared.message.Request.{Request}
+use Rattle.mq_request.specs.declared.message.Request.{Request}
 use Rattle.mq_ledger.specs.Answer.{build}
 use Rattle.mq_ledger.specs.Day.{day_of}
 use Rattle.mq_rows.specs.declared.record.AnswerRecord.{AnswerRecord}

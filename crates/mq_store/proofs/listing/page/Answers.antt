@@ -2,7 +2,7 @@ use Rattle.std.proofs.Common.{◌≡◌, [], ◌∷◌, arith, subst, inl, inr, 
 use Rattle.std.specs.Prelude.{Option, Some, None, ◌⊎◌}
 use Rattle.std.proofs.lemmas.List.Elements.{All-push}
 use Rattle.sqlite.specs.Held.{state}
-use Rattle.mq_frame.specs.Range.{IsRow}
+use Rattle.mq_request.specs.Range.{IsRow}
 use Rattle.mq_store.specs.Paging.{IsNextRow}
 use Rattle.mq_store.proofs.Chain.{leaves_both, was_clean, stays_both}
 use Rattle.mq_store.proofs.listing.page.Goals as goal

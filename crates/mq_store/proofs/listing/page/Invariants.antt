@@ -2,7 +2,7 @@ use Rattle.std.proofs.Common.{◌≡◌, length}
 use Rattle.std.specs.Prelude.{All}
 use Rattle.sqlite.specs.Held.{state}
 use Rattle.sqlite.specs.State.{HasCleanDisk}
-use Rattle.mq_frame.specs.Range.{IsRow}
+use Rattle.mq_request.specs.Range.{IsRow}
 use Rattle.mq_tables.specs.Inside.{LeavesCommit}
 use Rattle.mq_store.specs.Taking.{Stays}
 use Rattle.mq_store.specs.Paging.{IsBegunIn}

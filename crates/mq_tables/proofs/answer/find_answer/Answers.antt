@@ -1,5 +1,5 @@
 use Rattle.sqlite.specs.Held.{state}
-use Rattle.mq_frame.specs.Same.{same_id}
+use Rattle.mq_request.specs.Same.{same_id}
 use Rattle.mq_tables.specs.Ledger.{HasLedger}
 use Rattle.mq_tables.specs.Lent.{bodies_row, IsAnswerShown}
 use Rattle.mq_tables.proofs.Finds.{found_after}

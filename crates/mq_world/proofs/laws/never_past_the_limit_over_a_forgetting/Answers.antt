@@ -4,10 +4,10 @@ use Rattle.std.specs.Prelude.{slice_get}
 use Rattle.std.specs.Option.{option_map}
 use Rattle.mq_line.specs.Grammar.{Meaning}
 use Rattle.mq_track.specs.Sessions.{fault, begin_count}
-use Rattle.mq_frame.specs.Range.{IsRequest, IsReply}
+use Rattle.mq_request.specs.Range.{IsRequest, IsReply}
 use Rattle.mq_frame.specs.Spelling.{request_body, reply_body, SpellsRequest, frame}
-use Rattle.mq_frame.specs.declared.message.Request.{Request}
-use Rattle.mq_frame.specs.declared.message.Reply.{Reply}
+use Rattle.mq_request.specs.declared.message.Request.{Request}
+use Rattle.mq_request.specs.declared.message.Reply.{Reply}
 use Rattle.mq_ledger.specs.declared.entry.Entry.{Entry}
 use Rattle.mq_ledger.specs.Answer.{reply, with_arrival, history_of}
 use Rattle.mq_ledger.specs.Arrivals.{id_of as ledger_id}
@@ -25,7 +25,7 @@ use Rattle.mq_world.proofs.Numbers.{IsOwn, same_own}
 use Rattle.mq_world.proofs.Lines.{counted, line_asks, push_actions}
 use Rattle.mq_world.proofs.Runs.{Holds, AllSuit, failing, so_far, begins, sends_on, sends_own, ends_on, others_send, Comes}
 use Rattle.mq_world.proofs.Takes.{entry_suits}
-use Rattle.mq_frame.specs.declared.message.Request.TheVariants.{Settle, Release}
+use Rattle.mq_request.specs.declared.message.Request.TheVariants.{Settle, Release}
 use Rattle.mq_ledger.specs.Limits.{cap}
 use Rattle.mq_ledger.specs.Sums.{held_on, settled_on, AreDistinct}
 use Rattle.mq_client.specs.Reading.{standing_in}
@@ -37,8 +37,8 @@ use Rattle.mq_world.proofs.Grounds.{at_of, was_granted}
 use Rattle.mq_world.proofs.Forgetting.{OfForgetting, forgets_on, all_filter}
 use Rattle.mq_world.proofs.Worlds.{IsRead, IsSound, all_suit, same_itself, put_sound, takes_any, legal_after}
 use Rattle.mq_world.proofs.Within.{standing_each, on_each, let_if, let_from, on_at, counts_at, counts_so_far}
-use Rattle.mq_frame.specs.declared.message.Reply.TheVariants as reply
-use Rattle.mq_frame.specs.declared.message.Request.TheVariants.{Reserve, Settle, Release}
+use Rattle.mq_request.specs.declared.message.Reply.TheVariants as reply
+use Rattle.mq_request.specs.declared.message.Request.TheVariants.{Reserve, Settle, Release}
 use Rattle.mq_link.specs.declared.link.Outcome.{Outcome}
 use Rattle.mq_link.specs.declared.link.Outcome.TheVariants.{Answered, Faulted}
 use Rattle.mq_world.proofs.laws.never_past_the_limit_over_a_forgetting.Goals as goal

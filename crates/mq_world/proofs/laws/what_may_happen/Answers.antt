@@ -2,17 +2,17 @@
 use Rattle.std.proofs.Common.{◌≡◌, ℕ, ◌≤◌, List, [], ◌∷◌, ◌++◌, Bool, true, false, refl, ap, sym, subst, inl, inr, arith, None, Some, if◌then◌else◌}
 use Rattle.std.specs.Prelude.{codes, nat_lt, nat_le, ◌||◌, ◌⊎◌, count_by, ◌<◌, ◌+◌, ◌*◌, ◌==◌, ℤ, pos, ◌≤ℤ◌, ◌<ℤ◌}
 use Rattle.std.proofs.lemmas.Int.{ints}
-use Rattle.mq_frame.specs.Same.{same_text}
+use Rattle.mq_request.specs.Same.{same_text}
 use Rattle.std.proofs.lemmas.Bool.Decides.{nat_tests}
 use Rattle.std.proofs.lemmas.List.Elements.{All-from_recursion}
 use Rattle.mq_line.specs.Grammar.{Meaning, ReportLine, FilterLine}
-use Rattle.mq_frame.specs.Range.{IsHost, IsHostByte, IsRun, IsId, IsMoment, IsRequest, IsReply}
+use Rattle.mq_request.specs.Range.{IsHost, IsHostByte, IsRun, IsId, IsMoment, IsRequest, IsReply}
 use Rattle.mq_frame.specs.Spelling.{request_body, reply_body, SpellsReply, frame}
-use Rattle.mq_frame.specs.declared.message.Id.{Id}
-use Rattle.mq_frame.specs.declared.message.Request.{Request}
-use Rattle.mq_frame.specs.declared.message.Request.TheVariants.{Settle, Retire}
-use Rattle.mq_frame.specs.declared.message.Reply.{Reply}
-use Rattle.mq_frame.specs.declared.message.Reply.TheVariants.{Granted, Full, Old, Retired}
+use Rattle.mq_request.specs.declared.message.Id.{Id}
+use Rattle.mq_request.specs.declared.message.Request.{Request}
+use Rattle.mq_request.specs.declared.message.Request.TheVariants.{Settle, Retire}
+use Rattle.mq_request.specs.declared.message.Reply.{Reply}
+use Rattle.mq_request.specs.declared.message.Reply.TheVariants.{Granted, Full, Old, Retired}
 use Rattle.mq_ledger.specs.Arrivals.{floor}
 use Rattle.mq_ledger.specs.declared.entry.Entry.{Entry}
 use Rattle.mq_ledger.specs.Day.{IsZone, IsOffset, ByOffset, clock, day_of}

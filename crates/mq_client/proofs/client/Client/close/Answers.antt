@@ -1,7 +1,7 @@
 use Rattle.std.proofs.Common.{◌≡◌, ◌+◌, List, [], ◌∷◌, ◌++◌, refl, sym, ap, ◌∙◌, subst, rules, arith, None, Some}
 use Rattle.std.specs.List.{AllByRecursion}
 use Rattle.mq_client.specs.Framed.{IsFramed, requests_of}
-use Rattle.mq_frame.specs.declared.message.Request.{Request}
+use Rattle.mq_request.specs.declared.message.Request.{Request}
 use Rattle.mq_client.specs.Past.{State, Close, Makes, find}
 use Rattle.mq_client.specs.Exchanges.{Sends}
 use Rattle.mq_client.specs.Inside.{state_of}

@@ -1,6 +1,6 @@
 use Rattle.std.proofs.Common.{◌≡◌, ◌∙◌, ℕ, List, ap, sym, arith, inl, inr}
 use Rattle.std.proofs.lemmas.Result.{IfOk-weaker}
-use Rattle.mq_frame.specs.declared.message.Id.{Id}
+use Rattle.mq_request.specs.declared.message.Id.{Id}
 use Rattle.mq_ledger.specs.declared.entry.Entry.{Entry}
 use Rattle.mq_ledger.specs.Answer.{if_open, granted_or_full}
 use Rattle.mq_ledger.specs.History.{transaction, IsOpenTo}

@@ -1,6 +1,6 @@
 use Rattle.std.proofs.Common.{◌∙◌, ap, sym, List, ◌∷◌, [], take}
 use Rattle.std.proofs.lemmas.List.{map-append, take_more, take_all}
-use Rattle.mq_frame.specs.declared.message.Request.{Request}
+use Rattle.mq_request.specs.declared.message.Request.{Request}
 use Rattle.mq_ledger.specs.declared.entry.Entry.{Entry}
 use Rattle.mq_ledger.specs.Arrivals.{raised, greater, floor}
 use Rattle.mq_ledger.specs.History.{requests}

@@ -1,7 +1,7 @@
 use Rattle.std.proofs.Common.{◌∙◌, ℕ, Option, take, ap, sym, Some, None, IfSome, inl, inr}
 use Rattle.std.specs.Prelude.{nat_lt}
 use Rattle.std.proofs.lemmas.List.{take_more}
-use Rattle.mq_frame.specs.Range.{IsDay}
+use Rattle.mq_request.specs.Range.{IsDay}
 use Rattle.mq_ledger.specs.Day.{day_of}
 use Rattle.mq_ledger.specs.Over.{lesser}
 use Rattle.mq_ledger.proofs.Basics.{either, option_cases}

@@ -1,5 +1,5 @@
 use Rattle.std.proofs.Common.{◌≡◌, take, IfSome}
-use Rattle.mq_frame.specs.Range.{IsDay}
+use Rattle.mq_request.specs.Range.{IsDay}
 use Rattle.mq_ledger.specs.Day.{day_of}
 use Rattle.mq_ledger.specs.Over.{days_from, least}
 use Rattle.mq_ledger.proofs.plain.first_over.next_day.Given as goal

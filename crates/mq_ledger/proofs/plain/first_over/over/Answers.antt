@@ -1,5 +1,5 @@
 use Rattle.std.proofs.Common.{◌≡◌, ◌∙◌, ◌<◌, ◌≤◌, sym, Some, None, arith, inl, inr}
-use Rattle.mq_frame.specs.Range.{IsDay}
+use Rattle.mq_request.specs.Range.{IsDay}
 use Rattle.mq_ledger.specs.Day.{day_of}
 use Rattle.mq_ledger.specs.History.{used}
 use Rattle.mq_ledger.specs.Over.{days_from, least}

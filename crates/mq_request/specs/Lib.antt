@@ -1,0 +1,4 @@
+pub mod Escaped
+pub mod Range
+pub mod Row
+pub mod Same
