@@ -3,7 +3,7 @@
 //! `main` hands the words of its process to `mq_words`, and has `mq_remote` or `mq_program` do what they ask for. From
 //! `mailquota/src/main.rt`:
 //!
-//!     ExitCode::from(program::run(&rt, Unknown, &mut rt.stderr()))
+//!     ExitCode::from(program::run(&rt, Unknown, Unknown, &mut rt.stderr()))
 //!
 //! It stands on `mq_arguments`, `mq_process`, `mq_remote`, `mq_program` and `mq_words`, and knows which subcommand is whose, its
 //! exit status, and that nothing is known of a file. Begin with `program.rt`, then `subcommand.rt`;
@@ -16,8 +16,9 @@ mod subcommand;
 use sqlite::Unknown;
 use std::process::ExitCode;
 
-/// `Unknown` is what a database file and its log hold: all that is proved of a server is proved whatever that is, and this is
-/// the one place that names it. A write that the disk tears leaves each byte old or new.
+/// `Unknown` is what a database file and its log hold, one that a server left or one that is just made: all that is proved of a
+/// server is proved whatever that is, and this is the one place that names it. A write that the disk tears leaves each byte old
+/// or new.
 fn main(rt: HostRuntime) -> ExitCode {
-    ExitCode::from(program::run(&rt, Unknown, &mut rt.stderr()))
+    ExitCode::from(program::run(&rt, Unknown, Unknown, &mut rt.stderr()))
 }

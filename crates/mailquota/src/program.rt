@@ -11,10 +11,11 @@ use std::rt::Env;
 /// Runs the program by the words of the process and gives its exit status: 0 done, 1 fault,
 /// 2 usage.
 ///
-/// `start` stands for what the file of a server's ledger and its log hold before the call.
-pub fn run<E: Write, S: Start>(rt: &HostRuntime, start: S, errors: &mut E) -> u8 {
+/// `start` stands for what the file of a server's ledger and its log hold before the call, and `new` for what a file that is
+/// just made and its log hold.
+pub fn run<E: Write, S: Start, N: Start>(rt: &HostRuntime, start: S, new: N, errors: &mut E) -> u8 {
     match words_of(rt) {
-        Ok(words) => run_words(rt, words.as_slice(), start, errors),
+        Ok(words) => run_words(rt, words.as_slice(), start, new, errors),
         Err(fault) => end_program(Err(fault), errors),
     }
 }
@@ -29,14 +30,15 @@ fn words_of<R: Env + AllocGlobal>(rt: &R) -> Result<Vec<String>, ProgramFault> {
 }
 
 /// Runs the program by these words, the program's name first, and gives its exit status.
-fn run_words<E: Write, S: Start>(
+fn run_words<E: Write, S: Start, N: Start>(
     rt: &HostRuntime,
     words: &[String],
     start: S,
+    new: N,
     errors: &mut E,
 ) -> u8 {
     match read_arguments(rt.alloc(), words) {
-        Ok(given) => run_subcommand(rt, given, start, errors),
+        Ok(given) => run_subcommand(rt, given, start, new, errors),
         Err(fault) => match print_fault(rt, fault) {
             Ok(status) => status,
             Err(Unprinted::Memory) => end_program(Err(ProgramFault::Memory), errors),

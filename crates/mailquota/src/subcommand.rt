@@ -13,11 +13,13 @@ use std::io::Write;
 /// Runs a subcommand, prints on `errors` why it isn't done, and gives the exit status: 0 done,
 /// 1 fault, 2 usage.
 ///
-/// `start` stands for what the file of a server's ledger and its log hold before the call.
-pub fn run_subcommand<E: Write, S: Start>(
+/// `start` stands for what the file of a server's ledger and its log hold before the call, and `new` for what a file that is
+/// just made and its log hold.
+pub fn run_subcommand<E: Write, S: Start, N: Start>(
     rt: &HostRuntime,
     given: Arguments<'_>,
     start: S,
+    new: N,
     errors: &mut E,
 ) -> u8
     requires { IsArguments given }
@@ -44,7 +46,7 @@ pub fn run_subcommand<E: Write, S: Start>(
             end_program(audit(rt, given, start, &mut io::writer(rt)), errors)
         }
         Arguments::Forget(given) => {
-            end_program(forget(rt, given, start, &mut io::writer(rt)), errors)
+            end_program(forget(rt, given, start, new, &mut io::writer(rt)), errors)
         }
     }
 }

@@ -8,8 +8,8 @@ ghost use Rattle.mq_program.specs.Describing.{offset_line, start_line, start_meg
 
 use crate::auditing::print;
 use crate::fault::ProgramFault;
-use mq_request::Escaped;
 use mq_ledger::{Ledger, Zone};
+use mq_request::Escaped;
 use mq_rows::VERSION;
 use mq_store::SqlLedger;
 use sqlite::Alter;

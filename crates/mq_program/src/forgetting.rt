@@ -193,11 +193,14 @@ struct Forgotten<T: Alter> {
 }
 
 /// Puts what a ledger remembers into an empty file, which is then closed. The ledger comes back as it was.
-fn fill_file<G: Log, T: Alter + Drop>(
+///
+/// `start` stands for what the empty file and its log hold.
+fn fill_file<G: Log, T: Alter + Drop, S: Start>(
     rt: &HostRuntime,
     log: &G,
     old: SqlLedger<T>,
     name: &str,
+    start: S,
     day: u32,
 ) -> Result<Forgotten<T>, ProgramFault>
     ensures lent { IfOk result (λ f. (f.old.zone ≡ old.zone) × (f.old.default ≡ old.default)) }
@@ -209,7 +212,7 @@ fn fill_file<G: Log, T: Alter + Drop>(
         → IsSound old.zone old.default (state T.Store old.connection)
         → f.kept.all ≡ length (book_in old.zone old.default (state T.Store old.connection).now).history) }
 {
-    let into = connect_new(rt, log, name)?;
+    let into = connect_new(rt, log, name, start)?;
     let progress = Terminal::new(rt);
     let Filled { old, into, kept } = fill(rt.alloc(), old, into, day, &progress)?;
     close_file(log, name, into)?;
@@ -218,13 +221,14 @@ fn fill_file<G: Log, T: Alter + Drop>(
 }
 
 /// Makes a new file, puts what a ledger remembers into it, and prints how much that is. The ledger comes back as it was. After
-/// a fault the new file is of no use, which is logged.
-fn forget_into<G: Log, T: Alter + Drop, W: Write>(
+/// a fault the new file is of no use, which is logged. `start` stands for what a file that is just made and its log hold.
+fn forget_into<G: Log, T: Alter + Drop, S: Start, W: Write>(
     rt: &HostRuntime,
     log: &G,
     path: &str,
     old: SqlLedger<T>,
     name: &str,
+    start: S,
     day: u32,
     output: &mut W,
 ) -> Result<SqlLedger<T>, ProgramFault>
@@ -241,7 +245,7 @@ fn forget_into<G: Log, T: Alter + Drop, W: Write>(
 {
     make_new_file(rt, log, name)?;
     info!(log; "{name} takes over what {path} has from day {day} on");
-    match fill_file(rt, log, old, name, day) {
+    match fill_file(rt, log, old, name, start, day) {
         Ok(Forgotten { old, kept }) => match print_kept(rt.alloc(), kept, output) {
             Ok(()) => Ok(old),
             Err(fault) => {
@@ -276,11 +280,12 @@ fn print_kept<W: Write>(alloc: Global, kept: Kept, output: &mut W) -> Result<(),
 
 /// Puts what the ledger of the settings remembers into the new file of the words, and prints how much that is. The ledger
 /// comes back as it was.
-fn forget_file<W: Write, S: Start>(
+fn forget_file<W: Write, S: Start, N: Start>(
     rt: &HostRuntime,
     settings: &ServerSettings,
     given: ForgetArguments<'_>,
     start: S,
+    new: N,
     output: &mut W,
 ) -> Result<SqlLedger<FileStore<FileFrom<S>>>, ProgramFault>
     requires { AreInRange settings.now }
@@ -295,18 +300,29 @@ fn forget_file<W: Write, S: Start>(
     let path = path_of(settings)?;
     let logged = Logged::new(rt, settings.log, Console(rt));
     let old = ledger_of_settings(rt, &logged, settings, false, start)?;
-    let old = forget_into(rt, &logged, path, old, given.into, given.before, output)?;
+    let old = forget_into(
+        rt,
+        &logged,
+        path,
+        old,
+        given.into,
+        new,
+        given.before,
+        output,
+    )?;
     Ok(old)
 }
 
 /// Makes a new ledger file that has what the ledger of the settings remembers from a day on, and prints how many
 /// answers that is. The ledger of the settings stays as it is. A day after today is refused, and a file that is there.
 ///
-/// `start` stands for what the file of the settings and its log hold before the call.
-pub fn forget<W: Write, S: Start>(
+/// `start` stands for what the file of the settings and its log hold before the call, and `new` for what a file that is
+/// just made and its log hold.
+pub fn forget<W: Write, S: Start, N: Start>(
     rt: &HostRuntime,
     given: ForgetArguments<'_>,
     start: S,
+    new: N,
     output: &mut W,
 ) -> Result<u8, ProgramFault>
     ensures status { IfOk result (λ status. status ≡ 0) }
@@ -314,5 +330,5 @@ pub fn forget<W: Write, S: Start>(
 {
     let settings = server_settings(rt, given.config)?;
     check_day(rt, &settings.zone, given.before)?;
-    let_go(forget_file(rt, &settings, given, start, output))
+    let_go(forget_file(rt, &settings, given, start, new, output))
 }

@@ -3,8 +3,8 @@ ghost use Rattle.std.specs.Prelude.{◌≡◌, false};
 
 use crate::fault::ProgramFault;
 use log::{Log, error};
-use mq_request::Escaped;
 use mq_ledger::Zone;
+use mq_request::Escaped;
 use mq_rows::VERSION;
 use mq_settings::ServerSettings;
 use mq_store::{OpenFault, OpenRefused};

@@ -23,7 +23,7 @@ use mq_ledger::Zone;
 use mq_settings::{Place, ServerSettings};
 use mq_store::SqlLedger;
 use mq_tables::laws::{empty_databases_have_no_table, trees_have_one_schema};
-use sqlite::{Alter, Connection, Error, ErrorCode, FileFrom, FileStore, MemStore, Start, Unknown};
+use sqlite::{Alter, Connection, Error, ErrorCode, FileFrom, FileStore, MemStore, Start};
 use std::alloc::Global;
 use std::fs::OpenOptions;
 use std::io::ErrorKind;
@@ -136,13 +136,14 @@ pub fn make_new_file<G: Log>(rt: &HostRuntime, log: &G, path: &str) -> Result<()
 
 /// A connection to the empty file that was made at a path. The cause of `ProgramFault::Store` is logged.
 ///
-/// `Unknown` holds nothing, like a file that was just made.
-pub fn connect_new<G: Log>(
+/// `start` stands for what the file and its log hold.
+pub fn connect_new<G: Log, S: Start>(
     rt: &HostRuntime,
     log: &G,
     path: &str,
-) -> Result<Connection<FileStore<FileFrom<Unknown>>>, ProgramFault> {
-    connect(rt, log, path, false, Unknown)
+    start: S,
+) -> Result<Connection<FileStore<FileFrom<S>>>, ProgramFault> {
+    connect(rt, log, path, false, start)
 }
 
 /// The path of the file in which settings keep the ledger.
