@@ -19,10 +19,10 @@ use crate::fault::FilterFault;
 use crate::held::Asked;
 use crate::refusal::Cause;
 use log::Log;
-use mq_request::{is_login, is_moment};
-use mq_stream::{Failed, Sink, write_and_flush};
 use mq_line::{Decision, write_result};
 use mq_link::Link;
+use mq_request::{is_login, is_moment};
+use mq_stream::{Failed, Sink, write_and_flush};
 use mq_track::{Standing, Tracker};
 use std::alloc::{AllocError, Global};
 

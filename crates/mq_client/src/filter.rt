@@ -22,9 +22,9 @@ use crate::answer::{Inquiry, answer};
 use crate::client::Client;
 use crate::fault::FilterFault;
 use log::{Log, warn};
-use mq_stream::{Failed, Sink, Source, write_and_flush};
 use mq_line::{Line, LineFeed, read_line, write_registration};
 use mq_link::Link;
+use mq_stream::{Failed, Sink, Source, write_and_flush};
 use mq_track::{Closing, TrackFault, Tracker};
 use std::alloc::{AllocError, Global};
 

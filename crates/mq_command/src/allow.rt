@@ -11,9 +11,9 @@ use crate::ask::{AskFault, ask};
 use crate::order::{OrderFault, order_fresh};
 use crate::printed::login_text;
 use crate::telling::{say, tell_line};
+use mq_link::Link;
 use mq_request::bounds::AMOUNT_LIMIT;
 use mq_request::{Host, Id, Login, Reply, Request};
-use mq_link::Link;
 use std::alloc::{AllocError, Global};
 use std::io::Write;
 

@@ -10,8 +10,8 @@ ghost use Rattle.mq_link.specs.Link.{Tells};
 ghost use Rattle.mq_link.specs.declared.link.Told.{Told};
 
 use mq_frame::{DecodeFault, decode_reply, encode_request};
-use mq_request::{Reply, Request};
 use mq_link::Link;
+use mq_request::{Reply, Request};
 use std::alloc::{AllocError, Global};
 use thiserror::Error;
 

@@ -7,9 +7,9 @@ ghost use Rattle.mq_command.specs.declared.order.OrderFault.{OrderFault as AnyOr
 
 use crate::ask::{AskFault, ask};
 use crate::telling::tell;
+use mq_link::Link;
 use mq_request::bounds::LAST_RUN;
 use mq_request::{Reply, Request};
-use mq_link::Link;
 use std::alloc::Global;
 use std::io::Write;
 use thiserror::Error;

@@ -6,8 +6,8 @@ ghost use Rattle.mq_command.specs.declared.ask.AskFault.{AskFault as AnyAskFault
 use crate::ask::{AskFault, try_once};
 use crate::telling::{say, tell, tell_line};
 use mq_frame::encode_request;
-use mq_request::{Login, Request};
 use mq_link::Link;
+use mq_request::{Login, Request};
 use std::alloc::{AllocError, Global};
 use std::io::Write;
 

@@ -10,11 +10,11 @@ use mq_command::{
     run_retire, run_stop,
 };
 use mq_frame::{decode_request, encode_request};
-use mq_request::{Host, Login, Request, is_host, is_login, is_moment, is_request};
-use mq_stream::{FromRead, ToWrite};
 use mq_ledger::{PlainLedger, Zone};
 use mq_link::{Link, LinkFault};
+use mq_request::{Host, Login, Request, is_host, is_login, is_moment, is_request};
 use mq_server::serve;
+use mq_stream::{FromRead, ToWrite};
 use std::alloc::Global;
 use std::process::Abort;
 use std::str;

@@ -4,8 +4,8 @@
 //! The helpers have no clauses, so that a test stays cheap to prove.
 
 use mq_command::{ReportFault, run_limit, run_report};
-use mq_request::{Host, Id, Login, Request, is_request};
 use mq_link::{Link, LinkFault};
+use mq_request::{Host, Id, Login, Request, is_request};
 use std::alloc::Global;
 use std::io::{ErrorKind, Write};
 use std::process::Abort;

@@ -11,8 +11,8 @@ ghost use Rattle.mq_forget.specs.Remembered.{moment_of, day_named, is_about, is_
 ghost use Rattle.mq_forget.specs.Carried.{IsFront};
 
 use crate::laws::next_place_is_carried_over;
-use mq_request::{Id, Reply, Request};
 use mq_ledger::{Entry, Ledger, LedgerFault, Zone};
+use mq_request::{Id, Reply, Request};
 
 /// Whether the request is of the transaction.
 fn is_of(request: &Request, id: &Id, txn: u32) -> bool

@@ -18,8 +18,8 @@ ghost use Rattle.mq_forget.specs.Remembered.{AreLaterOrLate};
 ghost use Rattle.mq_forget.specs.Carried.{IsAt};
 ghost use Rattle.mq_forget.specs.Kept.{AreAlike, Keeps};
 
-use mq_request::laws::same_is_equal;
 use mq_ledger::laws::{built_is_legal, one_more_arrival, over_is_least, page_is_first};
+use mq_request::laws::same_is_equal;
 
 /// Whether an entry stays is known from the entries up to it: each prefix of a history is remembered as
 /// it is in the whole, and one more entry is added or isn't.

@@ -7,9 +7,9 @@ ghost use Rattle.mq_replay.specs.Replay.{empty_book, ending_of, faults_of, IsFor
 use crate::connections::TextFault;
 use crate::lines::write_hex_lines;
 use mq_command::OutputFault;
-use mq_stream::{FromRead, ToWrite};
 use mq_ledger::Ledger;
 use mq_server::{ConnectionEnd, ServeFault, Served, serve_all};
+use mq_stream::{FromRead, ToWrite};
 use std::alloc::{AllocError, Global};
 use std::io::Write;
 use thiserror::Error;

@@ -6,8 +6,8 @@ ghost use Rattle.mq_rows.specs.declared.audited.LimitFigures.{LimitFigures as An
 ghost use Rattle.mq_rows.specs.Books.{with_row, HasCaps};
 
 use crate::audited::{Pair, TransactionFigures};
-use mq_request::is_moment;
 use mq_ledger::Zone;
+use mq_request::is_moment;
 use std::collections::BTreeMap;
 
 /// What transactions have together.

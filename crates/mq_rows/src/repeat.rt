@@ -10,8 +10,8 @@ ghost use Rattle.mq_rows.specs.Repeat.{IsRepeatOf};
 
 use crate::record::AnswerRecord;
 use mq_frame::{DecodeFault, decode_reply, decode_request};
-use mq_request::{Id, Reply, Request};
 use mq_ledger::LedgerFault;
+use mq_request::{Id, Reply, Request};
 use std::alloc::Global;
 
 /// A body that spells nothing is no ledger's.

@@ -9,9 +9,9 @@ ghost use Rattle.mq_rows.specs.Plan.{set_or_over_by, decided, moves, fits_held, 
 
 use crate::plan::Found;
 use crate::record::UsageRecord;
+use mq_ledger::LedgerFault;
 use mq_request::bounds::{AMOUNT_LIMIT, LAST_DAY};
 use mq_request::{Id, Login, Reply, Request};
-use mq_ledger::LedgerFault;
 use std::alloc::AllocError;
 
 /// What is reserved and settled together, where that is in range.

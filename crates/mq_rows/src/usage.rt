@@ -5,9 +5,9 @@ ghost use Rattle.mq_rows.specs.Plan.{reserved_by, cap_by};
 ghost use Rattle.mq_rows.specs.Listing.{settled_by, usage_reply_by, page_row_by, are_amounts};
 
 use crate::record::{LimitRecord, UsageRecord};
+use mq_ledger::LedgerFault;
 use mq_request::bounds::AMOUNT_LIMIT;
 use mq_request::{Login, Reply, UsageRow, is_login};
-use mq_ledger::LedgerFault;
 
 fn are_amounts(settled: u32, reserved: u32, cap: u32) -> bool
     ensures { result ≡ are_amounts settled reserved cap }

@@ -17,8 +17,8 @@ use crate::record::{AnswerRecord, LimitRecord, RetiredRecord, TransactionRecord,
 use crate::reply::fitting;
 use mq_frame::format::HEAD_BYTES;
 use mq_frame::{encode_reply, encode_request};
-use mq_request::{Bytes, Id, Login, Reply, Request};
 use mq_ledger::{LedgerFault, Zone};
+use mq_request::{Bytes, Id, Login, Reply, Request};
 use std::alloc::{AllocError, Global};
 
 /// So many answers are stored at most.

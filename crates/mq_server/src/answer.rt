@@ -8,8 +8,8 @@ ghost use Rattle.mq_server.specs.Text.{NeedsMemory, SpellsNone, SpellsOne};
 
 use crate::fault::ServeFault;
 use mq_frame::{DecodeFault, decode_request};
-use mq_request::{Reply, Request};
 use mq_ledger::{Ledger, LedgerFault};
+use mq_request::{Reply, Request};
 use std::alloc::Global;
 
 /// The answer to a frame's body: the ledger's reply to the request that it spells, `Retry` where

@@ -12,8 +12,8 @@ ghost use Rattle.mq_server.specs.Delivery.{Delivery, answer_to, history_after, c
 use crate::connection::Served;
 use crate::fault::ServeFault;
 use crate::serving::serve;
-use mq_stream::{Sink, Source};
 use mq_ledger::Ledger;
+use mq_stream::{Sink, Source};
 use std::alloc::Global;
 
 /// How one of several connections ended.

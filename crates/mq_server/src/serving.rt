@@ -10,8 +10,8 @@ use crate::connection::{Connection, Progress, Served};
 use crate::fault::ServeFault;
 use crate::input::refill;
 use crate::output::hand_on;
-use mq_stream::{Sink, Source};
 use mq_ledger::Ledger;
+use mq_stream::{Sink, Source};
 use std::alloc::Global;
 
 /// Serves one connection to its end.

@@ -15,8 +15,8 @@ use crate::answer::answer_body;
 use crate::connection::{Progress, Served};
 use crate::fault::ServeFault;
 use mq_frame::{FrameFeed, encode_reply};
-use mq_request::Reply;
 use mq_ledger::Ledger;
+use mq_request::Reply;
 use std::alloc::Global;
 
 /// How a connection ends whose input ended.

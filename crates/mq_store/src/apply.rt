@@ -12,8 +12,8 @@ ghost use Rattle.mq_store.specs.Taking.{Applies};
 
 use crate::fault::Refused;
 use crate::take::{Taken, take};
-use mq_request::{Reply, Request};
 use mq_ledger::Zone;
+use mq_request::{Reply, Request};
 use mq_tables::laws::trees_have_one_schema;
 use sqlite::{Alter, Connection};
 use std::alloc::Global;

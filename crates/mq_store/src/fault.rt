@@ -8,8 +8,8 @@ ghost use Rattle.mq_store.specs.Opening.{fault_of, fault_of_code, fault_in, faul
 ghost use Rattle.mq_store.specs.Opening.{fault_by_any_rule, fault_by_floors, known_version, same_rule, create_fault};
 ghost use Rattle.mq_store.specs.Opening.{open_fault, within};
 
-use mq_request::{Escaped, Login};
 use mq_ledger::{LedgerFault, Zone};
+use mq_request::{Escaped, Login};
 use mq_tables::floor::are_floors;
 use mq_tables::rule::rule_of;
 use mq_tables::setting::Setting;

@@ -18,8 +18,8 @@ use crate::laws::{
 };
 use crate::listing::{reply_to_list, reply_to_usage};
 use crate::write::write_plan;
-use mq_request::{Id, Reply, Request};
 use mq_ledger::Zone;
+use mq_request::{Id, Reply, Request};
 use mq_rows::{Plan, decide, stored_reply};
 use mq_tables::answer::find_answer;
 use mq_tables::find::find;

@@ -2,8 +2,8 @@
 //! what is told of what they answer.
 
 use mq_frame::{decode_request, encode_reply};
-use mq_request::{Reply, Request, is_reply, is_request};
 use mq_ledger::{Ledger, LedgerFault, PlainLedger, Zone};
+use mq_request::{Reply, Request, is_reply, is_request};
 use mq_store::SqlLedger;
 use sqlite::MemStore;
 use std::alloc::Global;

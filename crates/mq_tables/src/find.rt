@@ -19,8 +19,8 @@ use crate::floor::find_floor;
 use crate::over::find_over;
 use crate::transaction::find_transaction;
 use crate::usage::find_usage;
-use mq_request::{Id, Login, Request};
 use mq_ledger::Zone;
+use mq_request::{Id, Login, Request};
 use mq_rows::Found;
 use sqlite::{Alter, Error, Transaction};
 

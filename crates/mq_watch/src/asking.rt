@@ -9,9 +9,9 @@ ghost use Rattle.mq_watch.specs.Asked.{IsAsked, LacksMemory, question, usage_in}
 
 use crate::nearing::Usage;
 use log::{Log, error};
-use mq_request::{Login, Reply, Request};
 use mq_ledger::laws::one_more_arrival;
 use mq_ledger::{Ledger, LedgerFault};
+use mq_request::{Login, Reply, Request};
 use std::net::SocketAddr;
 
 /// Asks a ledger what a login has used on a day, and its limit. There is no answer where memory runs out; the fault is that

@@ -4,9 +4,9 @@ ghost use Rattle.mq_request.specs.Range.{IsMoment};
 ghost use Rattle.mq_ledger.specs.Day.{ByOffset, IsOffset, day_of};
 ghost use Rattle.mq_watch.specs.Hours.{AreClose, AreFar, IsOver};
 
-use mq_request::Host;
 use mq_ledger::Zone;
 use mq_ledger::laws::day_is_the_floor;
+use mq_request::Host;
 use std::alloc::Global;
 
 /// The seconds of half a day.

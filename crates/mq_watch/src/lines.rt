@@ -2,8 +2,8 @@
 
 use crate::nearing::Usage;
 use log::Level;
-use mq_request::{Escaped, Host, Login, Reply};
 use mq_ledger::LedgerFault;
+use mq_request::{Escaped, Host, Login, Reply};
 use std::fmt;
 
 /// A limit that came, and what it was answered. One that comes again is answered as it was the first time.

@@ -35,11 +35,11 @@ use mq_client::{
 };
 use mq_forget::laws::remembered_is_legal;
 use mq_frame::laws::one_spelling;
-use mq_request::laws::same_is_equal;
 use mq_ledger::laws::{
     built_is_legal, day_is_the_floor, one_more_arrival, open_transactions, replies_in_range,
     replies_suit, sums_over_transactions, within_limits,
 };
+use mq_request::laws::same_is_equal;
 use mq_track::laws::open_numbers_differ;
 
 /// Whatever is lost, repeated, delayed or retired, over all hosts and runs: what was let through in live

@@ -16,9 +16,9 @@ use crate::filter_end::asserts::{MEMORY, assert_bytes, assert_count, assert_that
 use crate::filter_end::client::script::ScriptLink;
 use log::sink::Memory as Kept;
 use mq_client::{Client, Ended, FilterFault, run_filter};
+use mq_link::{LinkFault, Outcome, Told};
 use mq_request::{Bytes, Host, is_host};
 use mq_stream::{FromRead, Sink, Source, ToWrite};
-use mq_link::{LinkFault, Outcome, Told};
 use std::alloc::Global;
 use std::collections::VecDeque;
 use std::process::Abort;

@@ -3,8 +3,8 @@
 mod files;
 
 use crate::filter_end::asserts::{MEMORY, assert_text, printed};
-use mq_request::Escaped;
 use mq_ledger::Zone;
+use mq_request::Escaped;
 use mq_settings::{FilterSettings, ServerSettings, read_filter_settings, read_server_settings};
 use std::alloc::Global;
 use std::process::Abort;

@@ -1,7 +1,7 @@
 //! A ledger that fails where a test wants it.
 
-use mq_request::{Reply, Request};
 use mq_ledger::{Ledger, LedgerFault, Zone};
+use mq_request::{Reply, Request};
 
 /// A ledger that answers a fault at one call, `calls_before` calls after the start.
 #[derive(Drop)]

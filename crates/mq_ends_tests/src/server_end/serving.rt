@@ -2,9 +2,9 @@
 
 use crate::server_end::asserts::{assert_bytes, assert_that};
 use crate::server_end::fixtures::bytes_of;
-use mq_stream::{FromRead, Sink, Source, ToWrite};
 use mq_ledger::{Ledger, PlainLedger, Zone};
 use mq_server::{ServeFault, Served, serve};
+use mq_stream::{FromRead, Sink, Source, ToWrite};
 use std::alloc::Global;
 use std::process::Abort;
 

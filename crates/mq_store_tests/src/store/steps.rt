@@ -1,8 +1,8 @@
 //! What is done to a ledger and to its store, as lists of steps.
 
 use crate::asks::{Asked, Verdict, ask, replies, request_of, tables, told, wanted, zone, zone_by};
-use mq_request::Reply;
 use mq_ledger::{Ledger, LedgerFault, Zone};
+use mq_request::Reply;
 use mq_store::{Audit, OpenFault, OpenRefused, SqlLedger};
 use sqlite::{Alter, Connection};
 use std::alloc::Global;

@@ -3,9 +3,9 @@
 use super::scripted::{answer, copied, keep};
 use super::usage::{deliver_frame, is_covered};
 use mq_frame::encode_request;
-use mq_request::{Request, is_request};
 use mq_ledger::Ledger;
 use mq_link::{Link, LinkFault};
+use mq_request::{Request, is_request};
 use rand_core::utils::NextWord;
 use rand_pcg::Pcg32;
 use std::alloc::Global;

@@ -5,10 +5,10 @@ ghost use Rattle.std.specs.Prelude.{◌≡◌, [], OnErr};
 use super::usage::deliver_frame;
 use log::sink::Discard;
 use mq_client::{Client, Ended, FilterFault, run_filter};
-use mq_request::{Host, is_host, is_run};
-use mq_stream::{FromRead, Sink, Source, ToWrite};
 use mq_ledger::Ledger;
 use mq_link::{Link, LinkFault};
+use mq_request::{Host, is_host, is_run};
+use mq_stream::{FromRead, Sink, Source, ToWrite};
 use std::alloc::Global;
 
 /// The letters of five exchanges: with `L` the frame is lost, with `B` it is delivered and the reply is

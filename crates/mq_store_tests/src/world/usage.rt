@@ -1,8 +1,8 @@
 //! Frames that come to a ledger, and what it says that a login has used.
 
 use crate::asks::{ask, deliver};
-use mq_request::{Login, Reply, Request};
 use mq_ledger::Ledger;
+use mq_request::{Login, Reply, Request};
 use std::alloc::Global;
 
 /// Hands a frame to a ledger. The body of its reply; none where there is a fault.

@@ -2,8 +2,8 @@
 ghost use Rattle.std.specs.Prelude.{◌≡◌, ◌∷◌, ◌++◌, [], true, false, OnErr};
 ghost use Rattle.mq_link.specs.Link.{outcome_of};
 
-use mq_request::Bytes;
 use mq_link::{Link, LinkFault, Outcome, Told};
+use mq_request::Bytes;
 use std::alloc::Global;
 use std::collections::VecDeque;
 

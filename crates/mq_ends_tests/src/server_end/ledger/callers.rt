@@ -9,9 +9,9 @@ use crate::server_end::asserts::{MEMORY, assert_printed};
 use crate::server_end::fails_once::FailsOnce;
 use crate::server_end::fixtures::request_of;
 use crate::server_end::serving::ledger;
-use mq_request::{Reply, Request, is_request};
 use mq_ledger::laws::one_more_arrival;
 use mq_ledger::{Ledger, LedgerFault};
+use mq_request::{Reply, Request, is_request};
 use std::alloc::Global;
 use std::process::Abort;
 

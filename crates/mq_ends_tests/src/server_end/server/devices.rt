@@ -1,9 +1,9 @@
 //! Sources and sinks that fail where a test wants it, and a ledger that reports its calls.
 ghost use Rattle.std.specs.Prelude.{◌≡◌, ◌∷◌, ◌++◌, [], IfOk, OnOk, OnErr};
 
+use mq_ledger::{Ledger, LedgerFault, Told, Zone};
 use mq_request::{Reply, Request};
 use mq_stream::{Failed, Sink, Source};
-use mq_ledger::{Ledger, LedgerFault, Told, Zone};
 use std::alloc::AllocError;
 use std::cell::Cell;
 
