@@ -14,11 +14,13 @@ pub record IsReplayArguments (given : ReplayArguments) : Type 0 where
   pub east : given.east ≤ 1439
   pub west : given.west ≤ 1439
 
+-- a day of 0 to 376,200, a limit of 0 to 1,000,000, and a run in range where one is given
 pub record IsLimitArguments (given : LimitArguments) : Type 0 where
   pub from : IsDay given.from
   pub cap : IsAmount given.cap
   pub run : IfSome given.run IsRun
 
+-- a day that another one follows in range, and 0 to 1,000,000 recipients more
 pub record IsResumeArguments (given : ResumeArguments) : Type 0 where
   pub day : IsWithin 0 376199 given.day
   pub cap : IsAmount given.cap

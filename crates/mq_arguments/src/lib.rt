@@ -37,7 +37,7 @@ pub struct InitArguments<'a> {
 pub struct FilterArguments<'a> {
     /// The file of settings.
     pub config: &'a str,
-    /// The number of the run, or the clock's.
+    /// The number of the run, 1 to 281,474,976,710,655, or the clock's.
     pub run: Option<u64>,
     /// Whether it only looks at the settings and asks whether the server answers.
     pub check: bool,
@@ -66,6 +66,7 @@ pub enum ServerArgument<'a> {
 /// What `status` is given.
 #[derive(Clone, Copy, Debug, PartialEq)]
 pub struct StatusArguments<'a> {
+    /// The server that is asked.
     pub server: ServerArgument<'a>,
 }
 
@@ -106,22 +107,28 @@ pub enum LoginArgument<'a> {
 /// What `limit` is given.
 #[derive(Clone, Copy, Debug, PartialEq)]
 pub struct LimitArguments<'a> {
+    /// The server's numeric address and port.
     pub server: &'a str,
+    /// The name under which the limit is asked for, as a host.
     pub host: &'a str,
+    /// The login whose limit is set.
     pub login: LoginArgument<'a>,
     /// The day number from which on the limit governs, 0 to 376,200.
     pub from: u32,
     /// Recipients a day, 0 to 1,000,000.
     pub cap: u32,
-    /// The number of the run, or the clock's.
+    /// The number of the run, 1 to 281,474,976,710,655, or the clock's.
     pub run: Option<u64>,
 }
 
 /// What `stop` is given.
 #[derive(Clone, Copy, Debug, PartialEq)]
 pub struct StopArguments<'a> {
+    /// The server's numeric address and port.
     pub server: &'a str,
+    /// The name under which the limits are asked for, as a host.
     pub host: &'a str,
+    /// The login that is stopped.
     pub login: LoginArgument<'a>,
     /// The day number from which on the login has nothing more, 0 to 376,199.
     pub day: u32,
@@ -130,8 +137,11 @@ pub struct StopArguments<'a> {
 /// What `resume` is given.
 #[derive(Clone, Copy, Debug, PartialEq)]
 pub struct ResumeArguments<'a> {
+    /// The server's numeric address and port.
     pub server: &'a str,
+    /// The name under which the limits are asked for, as a host.
     pub host: &'a str,
+    /// The login that has more again.
     pub login: LoginArgument<'a>,
     /// The day number from which on the login has more again, 0 to 376,199.
     pub day: u32,
@@ -151,16 +161,18 @@ pub struct DayArguments<'a> {
 /// What `retire` is given.
 #[derive(Clone, Copy, Debug, PartialEq)]
 pub struct RetireArguments<'a> {
+    /// The server's numeric address and port.
     pub server: &'a str,
     /// The host whose runs are given up.
     pub host: &'a str,
-    /// The number of the run below which they are given up, or the clock's.
+    /// The number of the run below which they are given up, 1 to 281,474,976,710,655, or the clock's.
     pub run: Option<u64>,
 }
 
 /// What `report` is given.
 #[derive(Clone, Copy, Debug, PartialEq)]
 pub struct ReportArguments<'a> {
+    /// The server's numeric address and port.
     pub server: &'a str,
     /// The day number that is reported, 0 to 376,200.
     pub day: u32,

@@ -65,6 +65,7 @@ pub record IsTry (request : Request) (x : Exchange) (decided : Option Reply) : T
 
 -- In a group of exchanges the newest comes first.
 
+-- each exchange of the group is one of the request that fails
 abbrev pub AreFailed : Request → List Exchange → Type 0
 AreFailed request [] = Unit {0}
 AreFailed request (x ∷ group) = IsTry request x None × AreFailed request group

@@ -15,15 +15,17 @@ use Rattle.mq_client.specs.Past.{Action, Ask, Close, Step, answer_of}
 use Rattle.mq_client.specs.declared.held.Asked.{Asked}
 use Rattle.mq_client.specs.declared.held.Asked.TheVariants as asked
 
--- what becomes of a filter line: it passes, it is refused for want of an answer, or a recipient is asked for
+-- what becomes of a filter line: it passes, it is refused with no question, or a recipient is asked for
 pub data Query : Type 0 where
   Passes : Query
   Refuses : Query
   Asks : (txn moment : ℕ) (login : List ℕ) → Query
 
+-- a login of 1 to 255 bytes, as a request can carry it
 abbrev pub is_login : List ℕ → Bool
 is_login login = nat_le 1 (length login) && nat_le (length login) 255
 
+-- a second from 1970-01-02T00:00:00Z to 3000-01-01T00:00:00Z, as a request can carry it
 abbrev pub is_moment : ℕ → Bool
 is_moment moment = nat_le 86400 moment && nat_le moment 32503680000
 
@@ -38,6 +40,7 @@ abbrev pub query : List Meaning → (subsystem phase session : List ℕ) → Que
 query L subsystem phase session = if bytes_eq subsystem (codes "smtp-in") && bytes_eq phase (codes "rcpt-to")
     then query_at (position L session) else Passes
 
+-- what smtpd is answered for an ask: proceed where it was granted, 550 by the limit, 451 otherwise
 abbrev pub decision_of : Asked → Decision
 decision_of asked.Granted = Proceed
 decision_of asked.Full = RejectLimit
@@ -62,6 +65,7 @@ Takes L (FilterLine seconds subsystem phase session token rest) step text = (d :
     × Answers (query L subsystem phase session) step d × (text ≡ result_text session token d)
 Takes L line step text = (fault L line ≡ None) × Closes (closing L line) step × (text ≡ [])
 
+-- with one more at the front, where there is one
 abbrev pub push : {A : Type 0} → Option A → List A → List A
 push None xs = xs
 push (Some x) xs = x ∷ xs
@@ -72,6 +76,7 @@ Filters [] steps text = (steps ≡ []) × (text ≡ [])
 Filters (line ∷ L) steps text = (step : Option Step) × (before : List Step) × (written next : List ℕ)
     × Filters L before written × Takes L line step next × (steps ≡ push step before) × (text ≡ written ++ next)
 
+-- a request of smtpd, which gets one result
 abbrev pub is_filter : Meaning → Bool
 is_filter (FilterLine seconds subsystem phase session token rest) = true
 is_filter _ = false
@@ -90,6 +95,7 @@ abbrev pub asking_of : Query → Option Action
 asking_of (Asks txn moment login) = Some (Ask txn moment login)
 asking_of _ = None
 
+-- what the end of a transaction has the client do
 abbrev pub close_of : Closing → Action
 close_of c = Close c.txn c.end
 

@@ -7,6 +7,7 @@ use Rattle.mq_client.specs.Held.{AllHeld}
 use Rattle.mq_client.specs.Framed.{IsFramed, requests_of}
 use Rattle.mq_client.specs.declared.client.Client.TheInside.{Inside}
 
+-- a client as its callers see it: of what waits the requests, without their frames
 abbrev pub state_of : Inside → State
 state_of c = record {
   source = record { host = c.host; run = c.run };
@@ -16,6 +17,7 @@ state_of c = record {
   waiting = requests_of c.outbox.items;
 }
 
+-- the fields are in range, each closing has a place and a number left, and what waits has its own frames
 pub record IsInside (c : Inside) : Type 0 where
   pub host : IsHost c.host
   pub run : IsRun c.run

@@ -33,6 +33,7 @@ abbrev pub MakesOne : State → State → Option Step → Type 0
 MakesOne old new None = new ≡ old
 MakesOne old new (Some x) = Makes old new x
 
+-- the exchanges of that step as the link reports them, the oldest first
 abbrev pub told_one : Option Step → List Told
 told_one None = []
 told_one (Some x) = told_all x.group

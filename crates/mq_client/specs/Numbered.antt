@@ -73,6 +73,7 @@ abbrev pub SettlesWhatWasLet : List Step → Request → Type 0
 SettlesWhatWasLet P (Settle id txn moment login count) = WasCommitted P txn moment login count
 SettlesWhatWasLet P _ = Unit {0}
 
+-- a transaction that was closed, by whichever end
 abbrev pub is_closed : Standing → Bool
 is_closed Never = false
 is_closed (Live h) = false

@@ -81,6 +81,7 @@ abbrev pub opened : ℕ → List ℕ → Option Held → Held
 opened moment login None = record { login = login; moment = moment; granted = 0 }
 opened moment login (Some h) = h
 
+-- the id of a run's request under a number
 abbrev pub id_of : Source → ℕ → Id
 id_of s number = record { host = s.host; run = s.run; number = number }
 
@@ -88,6 +89,7 @@ id_of s number = record { host = s.host; run = s.run; number = number }
 abbrev pub reserve_of : Source → ℕ → ℕ → ℕ → List ℕ → Request
 reserve_of s number txn moment login = Reserve (id_of s number) txn moment login 1
 
+-- smtpd took the message
 abbrev pub is_commit : CloseEnd → Bool
 is_commit ending.Commit = true
 is_commit ending.Rollback = false
@@ -98,14 +100,16 @@ abbrev pub closing_of : Source → ℕ → ℕ → CloseEnd → Held → Request
 closing_of s number txn end h = if is_commit end && nat_le 1 h.granted then Settle (id_of s number) txn h.moment h.login h.granted
     else Release (id_of s number) txn h.moment h.login
 
+-- each transaction as it stood, but this one as it stands now
 abbrev pub set : ℕ → Standing → (ℕ → Standing) → ℕ → Standing
 set txn now standing t = if txn == t then now else standing t
 
--- the live transactions with one that is asked for, and without one
+-- the live transactions with one that is asked for
 abbrev pub with_asked : ℕ → Option Held → List ℕ → List ℕ
 with_asked txn None live = txn ∷ live
 with_asked txn (Some h) live = live
 
+-- the live transactions without one that is closed
 abbrev pub without : ℕ → List ℕ → List ℕ
 without txn [] = []
 without txn (t ∷ live) = if t == txn then without txn live else t ∷ without txn live
@@ -132,6 +136,7 @@ after_close s txn end group v (Some h) = record {
   live = without txn v.live;
 }
 
+-- what stands after an action with these exchanges
 abbrev pub after : Source → View → Action → List Exchange → View
 after s v (Ask txn moment login) group = after_ask txn moment login group v
 after s v (Close txn end) group = after_close s txn end group v (held_by (v.standing txn))
@@ -142,6 +147,7 @@ after s v Drain group = record {
   live = v.live;
 }
 
+-- what a run's past leaves; before its first step nothing is live, used or waits
 abbrev pub view : Source → List Step → View
 view s [] = record { standing = λ t. Never; numbers = 0; waiting = []; live = [] }
 view s (x ∷ P) = after s (view s P) x.action x.group
@@ -176,6 +182,7 @@ PlaysFrom s tries (Some h) live numbers waiting (Close txn end) group =
     (left : List Request) × Sends tries (waiting ++ closing_of s (numbers + 1) txn end h ∷ []) group left
 PlaysFrom s tries held live numbers waiting Drain group = (left : List Request) × Sends tries waiting group left
 
+-- what is known of the transaction that an action names, while it is live
 abbrev pub held_for : View → Action → Option Held
 held_for v (Ask txn moment login) = held_by (v.standing txn)
 held_for v (Close txn end) = held_by (v.standing txn)

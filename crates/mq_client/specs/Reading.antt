@@ -18,6 +18,7 @@ pub record Asking : Type 0 where
   pub moment : ℕ
   pub answer : Asked
 
+-- the action closes the transaction
 abbrev pub closes : ℕ → Action → Bool
 closes t (Ask txn moment login) = false
 closes t (Close txn end) = txn == t
@@ -45,6 +46,7 @@ abbrev pub first_of : Asking → List Asking → Asking
 first_of a [] = a
 first_of a (b ∷ more) = first_of b more
 
+-- the answer lets a recipient through
 abbrev pub is_granted : Asked → Bool
 is_granted asked.Granted = true
 is_granted asked.Full = false
@@ -60,9 +62,11 @@ live_by (a ∷ more) = Some (record {
   granted = count_by (λ b. is_granted b.answer) (a ∷ more);
 })
 
+-- what the past says of a transaction that is live after it
 abbrev pub live_in : List Step → ℕ → Option Held
 live_in P t = live_by (asks_of t P)
 
+-- the server was asked
 abbrev pub has_exchange : List Exchange → Bool
 has_exchange [] = false
 has_exchange (x ∷ group) = true
@@ -85,6 +89,7 @@ closed_by t number (Close txn end) None = None
 closed_by t number (Close txn end) (Some h) = if txn == t then Some (Closed end number h) else None
 closed_by t number Drain held = None
 
+-- how a transaction stands after a step: as its close left it, or as before where the step closed none
 abbrev pub standing_or : Option Standing → Standing → Standing
 standing_or None before = before
 standing_or (Some now) before = now
@@ -94,10 +99,12 @@ abbrev pub closed_in : List Step → ℕ → Standing
 closed_in [] t = Never
 closed_in (x ∷ P) t = standing_or (closed_by t (numbers_in P + 1) x.action (live_in P t)) (closed_in P t)
 
+-- how a transaction stands: live, or as its last close left it
 abbrev pub live_or : Option Held → Standing → Standing
 live_or None before = before
 live_or (Some h) before = Live h
 
+-- how a transaction stands after the past
 abbrev pub standing_in : List Step → ℕ → Standing
 standing_in P t = live_or (live_in P t) (closed_in P t)
 
@@ -106,6 +113,7 @@ abbrev pub closing_under : Source → (number txn : ℕ) → CloseEnd → Option
 closing_under s number txn end None = []
 closing_under s number txn end (Some h) = closing_of s number txn end h ∷ []
 
+-- the request of an action after the past, where it closes a live transaction
 abbrev pub closing_by : Source → List Step → Action → List Request
 closing_by s P (Ask txn moment login) = []
 closing_by s P (Close txn end) = closing_under s (numbers_in P + 1) txn end (live_in P txn)
@@ -120,6 +128,7 @@ closings_in s (x ∷ P) = closings_in s P ++ closing_by s P x.action
 abbrev pub is_decided_by : List Exchange → Request → Bool
 is_decided_by group request = list_any (λ x. same_request x.request request && is_some (x.decided)) group
 
+-- an exchange of the past decided the request
 abbrev pub is_decided_in : List Step → Request → Bool
 is_decided_in P request = list_any (λ x. is_decided_by x.group request) P
 

@@ -26,6 +26,7 @@ pub record Supply : Type 0 where
   pub remaining : Option (List ℕ)
   pub reads : Option (List (List ℕ))
 
+-- the source that reports this
 abbrev pub supply : Option (List ℕ) → Option (List (List ℕ)) → Supply
 supply remaining reads = record { remaining = remaining; reads = reads }
 
@@ -52,6 +53,7 @@ is_early (ConfigLine key value) = true
 is_early OtherLine = true
 is_early _ = false
 
+-- a line that is passed over before `config|ready`
 abbrev pub IsEarly : List ℕ → Type 0
 IsEarly line = (m : Meaning) × Reads line m × (is_early m ≡ true)
 
@@ -76,6 +78,7 @@ pub data Stage : Type 0 where
   BeforeReady : Stage
   AfterReady : List Meaning → Stage
 
+-- the lines have come so far: all of them are early, or `config|ready` is among them
 abbrev pub Reaches : List (List ℕ) → Stage → Type 0
 Reaches lines BeforeReady = AllByRecursion IsEarly lines
 Reaches lines (AfterReady L) = IsReady lines L
@@ -93,6 +96,7 @@ pub record Outside : Type 0 where
   pub told : Option (List Told)
   pub client : State
 
+-- what stands outside, put together
 abbrev pub around : Option (List ℕ) → Option (List Told) → State → Outside
 around sink told client = record { sink = sink; told = told; client = client }
 
@@ -169,6 +173,7 @@ abbrev pub MayGo : Stage → (left : List ℕ) → Option Step → List ℕ → 
 MayGo stage left step next = ((step ≡ None) × (next ≡ []))
     ⊎ ((line : List ℕ) × StandsFirst line left × Goes stage line step next)
 
+-- the step and the text of the line in hand: at a fault other than these two it has made none
 abbrev pub IsInHand : FilterFault → Stage → (left : List ℕ) → Option Step → List ℕ → Type 0
 IsInHand faults.Write stage left step next = MayGo stage left step next
 IsInHand faults.Memory stage left step next = MayGo stage left step next

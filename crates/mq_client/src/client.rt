@@ -121,7 +121,8 @@ fn ask<R: Log, L: Link>(
 
 impl Client {
     /// A client of that host and run, with no transaction and no number used, that sends each
-    /// request at most `tries` times.
+    /// request at most `tries` times. `run` is 1 to 281,474,976,710,655, and `tries` 1 to 10. An `Err` says that
+    /// there was no memory for the host's name.
     pub fn new(alloc: Global, host: &Host, run: u64, tries: u32) -> Result<Client, AllocError>
         requires host { IsHost host.now }
         requires run { IsRun run }

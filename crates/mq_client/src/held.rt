@@ -19,7 +19,7 @@ pub struct Held {
     pub login: Login,
     /// The moment of its beginning: seconds since 1970-01-01T00:00:00Z.
     pub moment: u64,
-    /// How many recipients were let through.
+    /// How many recipients were let through, 0 to 1,000.
     pub granted: u32,
 }
 

@@ -18,6 +18,7 @@ const SECONDS_OF_A_DAY: u64 = 86_400;
 /// A login with a day on which its limit was reached.
 #[derive(Drop)]
 pub struct Noted {
+    /// The UTC day, counted from 1970-01-01.
     pub day: u64,
     pub login: Login,
 }

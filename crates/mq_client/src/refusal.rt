@@ -20,7 +20,7 @@ pub enum Cause {
     NoTransaction,
     /// The login is empty or longer than 255 bytes.
     Login,
-    /// The transaction began before 1970-01-02 or after the year 2999.
+    /// The transaction began before 1970-01-02 or after 3000-01-01T00:00:00Z.
     Moment,
     /// The transaction is held with another login or moment.
     Changed,
@@ -87,13 +87,14 @@ pub struct Warned {
 }
 
 impl Warned {
+    /// None was given so far.
     pub fn new(alloc: Global) -> Warned {
         Warned {
             given: VecDeque::new(alloc),
         }
     }
 
-    /// Whether this is the first warning of the session for this cause; it is remembered, unless memory is wanted.
+    /// Whether this is the first warning of the session for this cause; it is remembered, unless memory runs out.
     pub fn is_first(&mut self, session: Session, cause: Cause) -> bool {
         let warning = Given { session, cause };
         if self.given.contains(&warning) {

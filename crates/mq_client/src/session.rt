@@ -11,10 +11,12 @@ const NAME: usize = 16;
 pub struct Session([u8; NAME]);
 
 impl Session {
+    /// No session.
     pub fn none() -> Session {
         Session([0; NAME])
     }
 
+    /// The session with this name, of which the first 16 bytes are kept.
     pub fn of(name: &[u8]) -> Session {
         let mut kept = [0; NAME];
         for (place, byte) in kept.iter_mut().zip(name) {

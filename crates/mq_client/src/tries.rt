@@ -39,6 +39,7 @@ fn frame_of(alloc: Global, request: &Request) -> Result<Vec<u8>, AllocError>
 }
 
 impl Framed {
+    /// The request with its frame, of no session yet. An `Err` says that there was no memory for the frame.
     pub fn new(alloc: Global, request: Request) -> Result<Framed, AllocError>
         requires { IsRequest request }
         ensures request { IfOk result (λ framed. framed.request ≡ request) }

@@ -12,6 +12,7 @@ use std::fmt;
 #[derive(Clone, Copy)]
 pub struct Unanswered<'a> {
     pub framed: &'a Framed,
+    /// How many times the request was sent, 1 to 10.
     pub tries: u32,
     /// A reply came that answers another request.
     pub is_answered: bool,
@@ -38,8 +39,9 @@ impl fmt::Display for Unanswered<'_> {
 #[derive(Clone, Copy)]
 pub struct LimitReached<'a> {
     pub reserve: &'a Framed,
-    /// Recipients of the login on that day.
+    /// Recipients of the login on that day, 0 to 1,000,000.
     pub used: u32,
+    /// The login's limit on that day, 0 to 1,000,000.
     pub cap: u32,
 }
 

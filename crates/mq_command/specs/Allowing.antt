@@ -17,6 +17,7 @@ use Rattle.mq_command.specs.declared.order.OrderFault.{OrderFault}
 use Rattle.mq_command.specs.declared.order.OrderFault.TheVariants.{Over, Unanswered}
 use Rattle.mq_link.specs.declared.link.Told.{Told}
 
+-- host, run and login are in range, so that a limit can carry them
 pub record IsSetter (setter : Setter) : Type 0 where
   pub host : IsHost setter.host
   pub run : IsRun setter.run

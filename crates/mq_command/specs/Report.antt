@@ -28,6 +28,7 @@ column n = replicate (7 - length (decimal n)) 32 ++ decimal n ++ 32 ∷ []
 abbrev pub row_line : UsageRow → List ℕ
 row_line row = column row.settled ++ column row.reserved ++ column row.cap ++ escaped row.login ++ 10 ∷ []
 
+-- the lines of a page, a login each
 abbrev pub report_lines : List UsageRow → List ℕ
 report_lines rows = flat_map row_line rows
 

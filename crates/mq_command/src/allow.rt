@@ -24,8 +24,11 @@ const LIMITS: u32 = 18;
 /// A login whose limits are set, and the run of the host that sets them.
 #[derive(Debug, Drop, PartialEq)]
 pub struct Setter {
+    /// 1 to 64 bytes.
     pub host: Host,
+    /// 1 to 281,474,976,710,655.
     pub run: u64,
+    /// 1 to 255 bytes.
     pub login: Login,
 }
 
@@ -254,7 +257,7 @@ fn line_of(
 /// `errors` why not both limits are set. The result is the exit status, 0 or 1.
 ///
 /// No limit that it sets is above the one that the login had on that day. A limit that was set from a day after the next
-/// stays in force, and governs from that day on.
+/// stays in force, and governs from that day on. `day` is a day number, 0 to 376,199.
 pub fn run_stop<L: Link, W: Write, E: Write>(
     alloc: Global,
     link: &mut L,
@@ -282,6 +285,8 @@ pub fn run_stop<L: Link, W: Write, E: Write>(
 
 /// Lets a login have so many recipients more on a day, and so many on each later day, and prints on `output` how many it
 /// may have on that day, or says on `errors` why not both limits are set. The result is the exit status, 0 or 1.
+///
+/// `day` is a day number, 0 to 376,199, and `more` is 0 to 1,000,000.
 pub fn run_resume<L: Link, W: Write, E: Write>(
     alloc: Global,
     link: &mut L,

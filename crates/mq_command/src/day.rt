@@ -20,7 +20,7 @@ fn day_text(alloc: Global, day: u32) -> Result<String, AllocError>
 }
 
 /// Prints the ledger day of a moment on `output`, or says on `errors` why it can't. The result is the exit status,
-/// 0 or 1.
+/// 0 or 1. `moment` is 86,400 to 32,503,680,000 seconds since 1970-01-01T00:00:00Z.
 pub fn run_day<W: Write, E: Write>(
     alloc: Global,
     zone: &Zone,

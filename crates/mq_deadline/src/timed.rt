@@ -48,7 +48,8 @@ fn moment_after(now: Instant, time: Duration) -> io::Result<Instant>
     }
 }
 
-/// The moment that is so long from now.
+/// The moment that is so long from now. It fails as a bad input where no clock shows that moment, and with the clock's
+/// error where the clock can't be read.
 pub fn deadline_after(clock: &impl Clock, time: Duration) -> io::Result<Instant>
     ensures { IfOk result (λ deadline. (now : Instant) × (instant_nanos deadline ≡ instant_nanos now + as_nanos time)) }
 {

@@ -100,6 +100,7 @@ abbrev pub is_itself : Request → Option Entry → Bool
 is_itself r None = true
 is_itself r (Some e) = same_request r e.request
 
+-- so it is under the number of the request; one without a number is always itself
 abbrev pub is_itself_by : List Entry → Request → Option Id → Bool
 is_itself_by H r None = true
 is_itself_by H r (Some id) = is_itself r (stored H id)

@@ -141,7 +141,7 @@ fn ask<L: Ledger>(ledger: &mut L, request: &Request) -> Result<(), LedgerFault>
 }
 
 /// Has a new ledger apply what is remembered of a legal history from that day on, oldest first. The
-/// history is one of the ledger's zone and default.
+/// history is one of the ledger's zone and default, and `day` a day number since 1970-01-01.
 ///
 /// After a fault the ledger has what is remembered of a prefix of it.
 ///

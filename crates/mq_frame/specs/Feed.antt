@@ -28,6 +28,7 @@ front_behind limit n bytes =
     else (if nat_lt limit n then LongHead
     else (if nat_lt (length bytes) n then Cut else Whole (take n bytes) (drop n bytes)))
 
+-- what stands at the front, by the length that the first two bytes say
 abbrev pub front : ℕ → List ℕ → Front
 front limit [] = Nothing
 front limit (a ∷ []) = Cut

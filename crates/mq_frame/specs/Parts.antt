@@ -17,6 +17,7 @@ use Rattle.mq_request.specs.declared.message.Reply.TheVariants.{Mismatch, TooMan
 use Rattle.mq_request.specs.declared.message.Reply.TheVariants.{List as ListReply, Retry, Bad, Retired, Old}
 use Rattle.mq_request.specs.declared.usage.UsageRow.{UsageRow}
 
+-- the row that was read, where there is one, and the others after it
 abbrev pub row_then : (List ℕ → List UsageRow) → Option (UsageRow × List ℕ) → List UsageRow
 row_then others None = []
 row_then others (Some x) = x.0 ∷ others x.1
@@ -26,12 +27,15 @@ abbrev pub rows_in : ℕ → List ℕ → List UsageRow
 rows_in zero bytes = []
 rows_in (suc n) bytes = row_then (rows_in n) (row.read bytes)
 
+-- the rows of a page, at most as many as its byte of count says
 abbrev pub shown_page : PageParts → List UsageRow
 shown_page x = rows_in x.count x.bytes.now
 
+-- id, txn, moment and login, as the bytes of a request say them
 abbrev pub shown_transaction : TransactionParts → Transaction
 shown_transaction x = record { id = shown_id x.id; txn = x.txn; moment = x.moment; login = x.login.now }
 
+-- the request that a body stands for
 abbrev pub shown_request : RequestParts → Request
 shown_request (request_parts.Reserve t count) = Reserve (shown_id t.id) t.txn t.moment t.login.now count
 shown_request (request_parts.Settle t count) = Settle (shown_id t.id) t.txn t.moment t.login.now count
@@ -41,6 +45,7 @@ shown_request (request_parts.Usage login day) = Usage login.now day
 shown_request (request_parts.List day after) = ListRequest day after.now
 shown_request (request_parts.Retire id) = Retire (shown_id id)
 
+-- the reply that a body stands for
 abbrev pub shown_reply : ReplyParts → Reply
 shown_reply (reply_parts.Granted id used) = Granted (shown_id id) used
 shown_reply (reply_parts.Full id used cap) = Full (shown_id id) used cap

@@ -22,6 +22,7 @@ use Rattle.mq_request.specs.declared.message.Reply.TheVariants.{Mismatch, TooMan
 use Rattle.mq_request.specs.declared.message.Reply.TheVariants.{List as ListReply, Retry, Bad, Retired, Old}
 use Rattle.mq_request.specs.declared.usage.UsageRow.{UsageRow}
 
+-- one reading and then the next, by what the first gave; nothing where the first gave nothing
 infixl 10 ◌>>=◌
 abbrev pub ◌>>=◌ : {A B : Type 0} → Option A → (A → Option B) → Option B
 (Some x) >>= f = f x
@@ -37,6 +38,7 @@ pub record Field (X : Type 0) : Type 0 where
   pub spell : X → List ℕ
   pub read : List ℕ → Option (X × List ℕ)
 
+-- what was read, where its value passes a test
 abbrev pub if_passes : {X : Type 0} → (X → Bool) → X × List ℕ → Option (X × List ℕ)
 if_passes p x = if p x.0 then Some x else None
 
@@ -46,6 +48,7 @@ number_at w low high bytes =
     if nat_lt (length bytes) (byte_len w) then None
     else if_passes (between low high) (from_be_bytes w (take (byte_len w) bytes), drop (byte_len w) bytes)
 
+-- a number from low to high, in as many bytes as the width has
 abbrev pub number : Width → ℕ → ℕ → Field ℕ
 number w low high = record { spell = to_be_bytes w; read = number_at w low high }
 
@@ -55,6 +58,7 @@ text_at low high [] = None
 text_at low high (n ∷ bytes) =
     if between low high n && nat_le n (length bytes) then Some (take n bytes, drop n bytes) else None
 
+-- a text of low to high bytes
 abbrev pub text : ℕ → ℕ → Field (List ℕ)
 text low high = record { spell = with_length; read = text_at low high }
 
@@ -86,6 +90,7 @@ abbrev pub counted_at : {X : Type 0} → ℕ → Field X → List ℕ → Option
 counted_at high f [] = None
 counted_at high f (n ∷ bytes) = if nat_le n high then times_at f n bytes else None
 
+-- at most high of the field, after a byte of their count
 abbrev pub counted : {X : Type 0} → ℕ → Field X → Field (List X)
 counted high f = record { spell = λ xs. length xs ∷ flat_map f.spell xs; read = counted_at high f }
 
@@ -93,9 +98,11 @@ counted high f = record { spell = λ xs. length xs ∷ flat_map f.spell xs; read
 abbrev pub whole : {X : Type 0} → Field X → List ℕ → Option X
 whole f bytes = f.read bytes >>= λ x. (if length x.1 == 0 then Some x.0 else None)
 
+-- a host: 1 to 64 bytes, each an ASCII letter, a digit, `.` or `-`
 abbrev pub host : Field (List ℕ)
 host = where_so (list_all is_host_byte) (text 1 HOST_LIMIT)
 
+-- a login: 1 to 255 bytes of any value
 abbrev pub login : Field (List ℕ)
 login = text 1 LOGIN_LIMIT
 
@@ -103,21 +110,27 @@ login = text 1 LOGIN_LIMIT
 abbrev pub after : Field (List ℕ)
 after = text 0 LOGIN_LIMIT
 
+-- the run of a host's filter, in 8 bytes
 abbrev pub run : Field ℕ
 run = number w64 1 LAST_RUN
 
+-- the number of a request or of a transaction in its run, in 4 bytes
 abbrev pub ordinal : Field ℕ
 ordinal = number w32 1 LAST_ORDINAL
 
+-- when a transaction began, a second in 8 bytes
 abbrev pub moment : Field ℕ
 moment = number w64 FIRST_MOMENT LAST_MOMENT
 
+-- the recipients of one request, in 4 bytes
 abbrev pub count : Field ℕ
 count = number w32 1 COUNT_LIMIT
 
+-- recipients of a login and day or of a transaction, or a limit, in 4 bytes
 abbrev pub amount : Field ℕ
 amount = number w32 0 AMOUNT_LIMIT
 
+-- a number of days from 1970-01-01 on, in 4 bytes
 abbrev pub day : Field ℕ
 day = number w32 0 LAST_DAY
 
@@ -128,6 +141,7 @@ id_of (name, (of_run, place)) = record { host = name; run = of_run; number = pla
 abbrev pub parts_of_id : Id → List ℕ × (ℕ × ℕ)
 parts_of_id i = (i.host, (i.run, i.number))
 
+-- host, run and number
 abbrev pub id : Field Id
 id = made id_of parts_of_id (pair host (pair run ordinal))
 
@@ -138,6 +152,7 @@ row_of (name, (settled, (reserved, cap))) = record { login = name; settled = set
 abbrev pub parts_of_row : UsageRow → List ℕ × (ℕ × (ℕ × ℕ))
 parts_of_row r = (r.login, (r.settled, (r.reserved, r.cap)))
 
+-- login, settled, reserved and cap
 abbrev pub row : Field UsageRow
 row = made row_of parts_of_row (pair login (pair amount (pair amount amount)))
 
@@ -159,6 +174,7 @@ transaction_of (i, (place, (begun, name))) = record { id = i; txn = place; momen
 abbrev pub parts_of_transaction : Transaction → Id × (ℕ × (ℕ × List ℕ))
 parts_of_transaction t = (t.id, (t.txn, (t.moment, t.login)))
 
+-- id, txn, moment and login
 abbrev pub transaction : Field Transaction
 transaction = made transaction_of parts_of_transaction (pair id (pair ordinal (pair moment login)))
 
@@ -226,6 +242,7 @@ request_of_kind kind bytes =
     else (if kind == RETIRE then made_of Retire id bytes
     else None))))))
 
+-- the request that a body spells: its first byte is the kind
 abbrev pub request_at : List ℕ → Option Request
 request_at [] = None
 request_at (kind ∷ bytes) = request_of_kind kind bytes
@@ -256,6 +273,7 @@ reply_of_kind kind bytes =
     else (if kind == BAD then if_none_left Bad bytes
     else numbered_reply kind bytes)))
 
+-- the reply that a body spells: its first byte is the kind
 abbrev pub reply_at : List ℕ → Option Reply
 reply_at [] = None
 reply_at (kind ∷ bytes) = reply_of_kind kind bytes

@@ -31,13 +31,15 @@ in_8_bytes n = to_be_bytes w64 n
 abbrev pub with_length : List ℕ → List ℕ
 with_length text = length text ∷ text
 
+-- host, run and number, which name a request
 abbrev pub id_bytes : Id → List ℕ
 id_bytes id = with_length id.host ++ (in_8_bytes id.run ++ in_4_bytes id.number)
 
--- id, txn, at and login, which three kinds of requests begin with
+-- id, txn, moment and login, which three kinds of requests begin with
 abbrev pub transaction_bytes : Id → ℕ → ℕ → List ℕ → List ℕ
 transaction_bytes id txn moment login = id_bytes id ++ (in_4_bytes txn ++ (in_8_bytes moment ++ with_length login))
 
+-- login, settled, reserved and cap of one row of a page
 abbrev pub row_bytes : UsageRow → List ℕ
 row_bytes row = with_length row.login ++ (in_4_bytes row.settled ++ (in_4_bytes row.reserved ++ in_4_bytes row.cap))
 

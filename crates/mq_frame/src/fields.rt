@@ -14,8 +14,11 @@ use mq_request::bounds::{
 /// An id in a body.
 #[derive(Clone, Copy)]
 pub struct IdParts<'a> {
+    /// The host that sent the request, 1 to 64 bytes.
     pub host: &'a [u8],
+    /// The run of its filter, 1 to 281,474,976,710,655.
     pub run: u64,
+    /// The number of the request in the run, 1 to 4,294,967,295.
     pub number: u32,
 }
 
@@ -69,6 +72,7 @@ fn text_at(bytes: &[u8], low: u8, high: u8) -> Option<(&[u8], &[u8])>
     }
 }
 
+/// A host of 1 to 64 bytes, each an ASCII letter, a digit, `.` or `-`.
 pub fn host_at(bytes: &[u8]) -> Option<(&[u8], &[u8])>
     ensures { Reads (λ x. (x.0.now, x.1.now)) result (host.read bytes.now) }
 {
@@ -80,6 +84,7 @@ pub fn host_at(bytes: &[u8]) -> Option<(&[u8], &[u8])>
     }
 }
 
+/// A login of 1 to 255 bytes of any value.
 pub fn login_at(bytes: &[u8]) -> Option<(&[u8], &[u8])>
     ensures { Reads (λ x. (x.0.now, x.1.now)) result (login.read bytes.now) }
 {
@@ -99,36 +104,42 @@ fn run_at(bytes: &[u8]) -> Option<(u64, &[u8])>
     u64_at(bytes, 1, LAST_RUN)
 }
 
+/// The number of a request or of a transaction, 1 to 4,294,967,295.
 pub fn ordinal_at(bytes: &[u8]) -> Option<(u32, &[u8])>
     ensures { Reads (λ x. (x.0, x.1.now)) result (ordinal.read bytes.now) }
 {
     u32_at(bytes, 1, LAST_ORDINAL)
 }
 
+/// A moment, 86,400 to 32,503,680,000 seconds since 1970-01-01T00:00:00Z.
 pub fn moment_at(bytes: &[u8]) -> Option<(u64, &[u8])>
     ensures { Reads (λ x. (x.0, x.1.now)) result (moment.read bytes.now) }
 {
     u64_at(bytes, FIRST_MOMENT, LAST_MOMENT)
 }
 
+/// A day number since 1970-01-01, 0 to 376,200.
 pub fn day_at(bytes: &[u8]) -> Option<(u32, &[u8])>
     ensures { Reads (λ x. (x.0, x.1.now)) result (day.read bytes.now) }
 {
     u32_at(bytes, 0, LAST_DAY)
 }
 
+/// The recipients of one request, 1 to 1,000.
 pub fn count_at(bytes: &[u8]) -> Option<(u32, &[u8])>
     ensures { Reads (λ x. (x.0, x.1.now)) result (count.read bytes.now) }
 {
     u32_at(bytes, 1, COUNT_LIMIT)
 }
 
+/// Recipients that are used, held, settled or reserved, or a limit: 0 to 1,000,000.
 pub fn amount_at(bytes: &[u8]) -> Option<(u32, &[u8])>
     ensures { Reads (λ x. (x.0, x.1.now)) result (amount.read bytes.now) }
 {
     u32_at(bytes, 0, AMOUNT_LIMIT)
 }
 
+/// Host, run and number of a request.
 pub fn id_at(bytes: &[u8]) -> Option<(IdParts<'_>, &[u8])>
     ensures { Reads (λ x. (shown_id x.0, x.1.now)) result (id.read bytes.now) }
 {

@@ -9,19 +9,26 @@ use mq_request::bounds::ROW_LIMIT;
 /// A row of a page in a body.
 #[derive(Clone, Copy)]
 pub struct RowParts<'a> {
+    /// 1 to 255 bytes.
     pub login: &'a [u8],
+    /// Recipients of closed transactions, 0 to 1,000,000.
     pub settled: u32,
+    /// Recipients of open transactions, 0 to 1,000,000.
     pub reserved: u32,
+    /// The login's limit on that day, 0 to 1,000,000.
     pub cap: u32,
 }
 
 /// The rows of a page in a body, read once and found whole.
 #[derive(Clone, Copy)]
 pub struct PageParts<'a> {
+    /// How many rows there are, 0 to 100.
     pub count: u8,
+    /// The rows, one after another, and what follows them.
     pub bytes: &'a [u8],
 }
 
+/// Login, settled, reserved and cap of a row.
 pub fn row_at(bytes: &[u8]) -> Option<(RowParts<'_>, &[u8])>
     ensures { Reads (λ x. (shown_row x.0, x.1.now)) result (row.read bytes.now) }
 {

@@ -11,9 +11,13 @@ use crate::format::{LIMIT, LIST, RELEASE, RESERVE, RETIRE, SETTLE, USAGE};
 /// What names a transaction, and its login and moment.
 #[derive(Clone, Copy)]
 pub struct TransactionParts<'a> {
+    /// The id of the request, whose host and run are the transaction's.
     pub id: IdParts<'a>,
+    /// The transaction's number in the run, 1 to 4,294,967,295.
     pub txn: u32,
+    /// When it began, 86,400 to 32,503,680,000 seconds since 1970-01-01T00:00:00Z.
     pub moment: u64,
+    /// 1 to 255 bytes.
     pub login: &'a [u8],
 }
 

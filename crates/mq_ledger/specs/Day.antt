@@ -23,6 +23,7 @@ pub record IsRule (text : List ℕ) : Type 0 where
   pub to : length text ≤ 64
   pub reads : IsSome (read_whole text)
 
+-- a zone that a ledger can go by
 abbrev pub IsZone : Days → Type 0
 IsZone (ByOffset minutes) = IsOffset minutes
 IsZone (ByRule text) = IsRule text

@@ -218,7 +218,8 @@ impl Zone {
     }
 
     /// The ledger day of a moment: the day number since 1970-01-01 of the date that a clock in the
-    /// zone shows, from 0 to 376,200. `moment` is seconds since 1970-01-01T00:00:00Z.
+    /// zone shows, from 0 to 376,200. `moment` is 86,400 to 32,503,680,000 seconds since
+    /// 1970-01-01T00:00:00Z.
     pub fn day_at(&self, moment: u64) -> u32
         requires { IsMoment moment }
         ensures value { result ≡ day_of self.now moment }
@@ -230,7 +231,7 @@ impl Zone {
         }
     }
 
-    /// The same. It never wants memory.
+    /// The same. It never runs out of memory.
     pub fn day(&self, moment: u64) -> Result<u32, AllocError>
         requires { IsMoment moment }
         ensures always { IsOk result }

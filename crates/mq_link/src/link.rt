@@ -24,6 +24,7 @@ pub enum Outcome {
 /// One exchange, as a link reports it: the frame that was sent, and how it ended.
 #[derive(Debug, Drop)]
 pub struct Told {
+    /// With the length of its body.
     pub frame: Bytes,
     pub outcome: Outcome,
 }

@@ -23,7 +23,7 @@ pub enum ProcessFault {
     /// The clock can't be read, or its milliseconds can't be a run's number.
     #[error("run number unavailable")]
     NoRun,
-    /// The clock can't be read, or what it shows is before 1970-01-02 or after 2999.
+    /// The clock can't be read, or what it shows is before 1970-01-02 or after 3000-01-01T00:00:00Z.
     #[error("day unavailable")]
     NoMoment,
 }

@@ -34,7 +34,8 @@ fn moment_of_clock(rt: &impl Clock) -> Option<u64>
     moment_of(time_of_clock(rt)?)
 }
 
-/// The given moment, or the clock's.
+/// The given moment, 86,400 to 32,503,680,000 seconds since 1970-01-01T00:00:00Z, or the clock's. It fails with
+/// `NoMoment` where the clock can't be read, or what it shows is out of this range.
 pub fn moment_or_now(rt: &impl Clock, given: Option<u64>) -> Result<u64, ProcessFault>
     requires { IfSome given IsMoment }
     ensures moment { IfOk result IsMoment }

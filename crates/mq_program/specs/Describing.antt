@@ -45,11 +45,13 @@ abbrev pub terms_line : Zone → ℕ → List ℕ
 terms_line (ByOffset minutes) default = offset_line default minutes
 terms_line (ByRule text) default = codes "default " ++ decimal default ++ codes ", rule " ++ escaped text ++ 10 ∷ []
 
+-- the ledger's answers, its days of a login, its transactions and its limits
 abbrev pub counts_line : ℕ → ℕ → ℕ → ℕ → List ℕ
 counts_line answers days transactions limits =
     codes "answers=" ++ decimal answers ++ codes " days=" ++ decimal days ++ codes " transactions="
     ++ decimal transactions ++ codes " limits=" ++ decimal limits ++ 10 ∷ []
 
+-- how long a start may take, and how much memory
 abbrev pub start_line : ℕ → ℕ → List ℕ
 start_line seconds megabytes =
     codes "a start takes up to about " ++ decimal seconds ++ codes " s and " ++ decimal megabytes ++ codes " MB\n"

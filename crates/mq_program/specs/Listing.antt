@@ -20,6 +20,7 @@ limit_text day cap login = day ++ 32 ∷ cap ++ 32 ∷ login ++ 10 ∷ []
 abbrev pub limit_line : LimitFigures → List ℕ
 limit_line limit = limit_text (signed_decimal limit.pair.day) (signed_decimal limit.cap) (escaped limit.pair.login)
 
+-- the lines of some limits, in their order
 abbrev pub limit_lines : List LimitFigures → List ℕ
 limit_lines limits = flat_map limit_line limits
 

@@ -23,6 +23,7 @@ pub struct LedgerCounts {
     pub answers: u64,
     /// One for each login and day on which it used something.
     pub days: u64,
+    /// One for each transaction that a request named.
     pub transactions: u64,
     /// One for each login and day from which a limit was set.
     pub limits: u64,

@@ -29,7 +29,9 @@ use std::rt::Clock;
 /// How many answers a new ledger has, of all that the old one has, and how many limits.
 #[derive(Clone, Copy)]
 pub struct Kept {
+    /// The answers of the new ledger.
     pub answers: u64,
+    /// The answers of the old one.
     pub all: u64,
     /// One for each login and day from which a limit was set.
     pub limits: u64,

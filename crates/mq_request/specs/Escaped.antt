@@ -14,5 +14,6 @@ is_plain byte = nat_le 0x21 byte && nat_le byte 0x7e && not (byte == 92)
 abbrev pub byte_text : ℕ → List ℕ
 byte_text byte = if is_plain byte then byte ∷ [] else 92 ∷ 120 ∷ digit_text (byte / 16) ∷ digit_text (byte % 16) ∷ []
 
+-- a text with each of its bytes printed so
 abbrev pub escaped : List ℕ → List ℕ
 escaped bytes = flat_map byte_text bytes

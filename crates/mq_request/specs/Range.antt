@@ -67,11 +67,13 @@ IsCount count = IsWithin 1 COUNT_LIMIT count
 abbrev pub IsAmount : ℕ → Type 0
 IsAmount n = IsWithin 0 AMOUNT_LIMIT n
 
+-- host, run and number of a request are in range
 pub record IsId (id : Id) : Type 0 where
   pub host : IsHost id.host
   pub run : IsRun id.run
   pub number : IsOrdinal id.number
 
+-- login, settled, reserved and cap of a row are in range
 pub record IsRow (row : UsageRow) : Type 0 where
   pub login : IsLogin row.login
   pub settled : IsAmount row.settled

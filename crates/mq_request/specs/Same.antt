@@ -10,6 +10,7 @@ use Rattle.mq_request.specs.declared.message.Request.TheVariants.{Limit, Usage, 
 abbrev pub same_text : List ℕ → List ℕ → Bool
 same_text a b = pointwise nat_eq a b
 
+-- the same host, run and number
 abbrev pub same_id : Id → Id → Bool
 same_id a b = same_text a.host b.host && ((a.run == b.run) && (a.number == b.number))
 

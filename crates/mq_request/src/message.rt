@@ -10,6 +10,7 @@ use std::alloc::AllocError;
 /// that run. A frame that is sent again carries the same id.
 #[derive(Clone, Debug, Drop, PartialEq)]
 pub struct Id {
+    /// The host that sent it, 1 to 64 bytes.
     pub host: Host,
     /// The run of the host's filter, 1 to 281,474,976,710,655.
     pub run: u64,
@@ -151,7 +152,7 @@ pub enum Reply {
 }
 
 impl Id {
-    /// Whether host, run and place are the same.
+    /// Whether host, run and number are the same.
     pub fn is_same(&self, other: &Id) -> bool
         ensures { result ≡ same_id self.now other.now }
     {

@@ -67,6 +67,7 @@ impl<K> Text<K> {
         Ok(Text::new(copy))
     }
 
+    /// The bytes, out of the text.
     pub fn into_bytes(self) -> Vec<u8>
         ensures { result.items ≡ self }
     {
@@ -74,6 +75,7 @@ impl<K> Text<K> {
         bytes
     }
 
+    /// The bytes.
     pub fn as_slice(&self) -> &[u8]
         ensures { result.now ≡ self.now }
     {

@@ -8,6 +8,7 @@ use std::marker::Model;
 /// What a login has used on a day, and its limit.
 #[derive(Clone, Debug, Drop)]
 pub struct UsageRow {
+    /// 1 to 255 bytes.
     pub login: Login,
     /// Recipients of committed transactions, 0 to 1,000,000.
     pub settled: u32,
@@ -48,12 +49,14 @@ impl Model for UsageRows {
 }
 
 impl UsageRows {
+    /// A page of these rows. One of at most 100 has a place in a frame.
     pub fn new(rows: Vec<UsageRow>) -> UsageRows
         ensures { result ≡ rows.items }
     {
         UsageRows { rows }
     }
 
+    /// The rows, out of the page.
     pub fn into_rows(self) -> Vec<UsageRow>
         ensures { result.items ≡ self }
     {
@@ -61,6 +64,7 @@ impl UsageRows {
         rows
     }
 
+    /// The rows, in their order.
     pub fn as_slice(&self) -> &[UsageRow]
         ensures { result.now ≡ self.now }
     {

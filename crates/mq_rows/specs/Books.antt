@@ -18,6 +18,7 @@ use Rattle.mq_rows.specs.declared.auditing.Books.{Books}
 
 -- Rows that are given one by one.
 
+-- figures before any row is given
 abbrev pub no_rows : Figures
 no_rows = record { usage = []; transactions = []; limits = [] }
 
@@ -33,6 +34,7 @@ with_limit f c = record f { limits = f.limits ++ c ∷ [] }
 
 -- What is kept of them.
 
+-- the sums of a pair without transactions
 abbrev pub no_sums : Sums
 no_sums = record { settled = pos 0; held = pos 0; are_dated = true }
 
@@ -57,6 +59,7 @@ abbrev pub day_or : Option Day → Day
 day_or None = record { usage = None; sums = no_sums }
 day_or (Some d) = d
 
+-- what is kept of a row of usage
 abbrev pub amounts_of : UsageFigures → Amounts
 amounts_of u = record { settled = u.settled; reserved = u.reserved }
 

@@ -9,6 +9,7 @@ use Rattle.mq_rows.specs.declared.record.UsageRecord.{UsageRecord}
 use Rattle.mq_rows.specs.Audit.{Figures}
 use Rattle.mq_rows.specs.Tables.{Tables}
 
+-- those of a row of `usage`
 abbrev pub usage_figures : UsageRecord → UsageFigures
 usage_figures u = record {
   pair = record { login = u.login; day = pos u.day };
@@ -16,6 +17,7 @@ usage_figures u = record {
   reserved = pos u.reserved;
 }
 
+-- those of a row of `trans`
 abbrev pub transaction_figures : TransactionRecord → TransactionFigures
 transaction_figures t = record {
   pair = record { login = t.login; day = pos t.day };
@@ -24,6 +26,7 @@ transaction_figures t = record {
   settled = pos t.settled;
 }
 
+-- those of a row of `ceiling`
 abbrev pub limit_figures : LimitRecord → LimitFigures
 limit_figures c = record { pair = record { login = c.login; day = pos c.day }; cap = pos c.cap }
 

@@ -4,6 +4,7 @@ use Rattle.std.specs.Ordering.{int_eq}
 use Rattle.mq_rows.specs.declared.books.Amounts.{Amounts}
 use Rattle.mq_rows.specs.declared.books.Sums.{Sums}
 
+-- the row has what its transactions come to, within the cap, and each of those has a moment of its day
 abbrev pub are_right : Amounts → Sums → ℤ → Bool
 are_right u s cap =
     int_eq u.settled s.settled

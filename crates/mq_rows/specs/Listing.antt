@@ -10,6 +10,7 @@ use Rattle.mq_rows.specs.declared.record.UsageRecord.{UsageRecord}
 use Rattle.mq_rows.specs.declared.record.LimitRecord.{LimitRecord}
 use Rattle.mq_rows.specs.Plan.{reserved_by, cap_by}
 
+-- what the row has settled, and 0 where there is no row
 abbrev pub settled_by : Option UsageRecord → ℕ
 settled_by None = 0
 settled_by (Some u) = u.settled

@@ -11,6 +11,7 @@ use Rattle.mq_rows.specs.declared.audited.Pair.{Pair}
 abbrev pub pair_cmp : Pair → Pair → Ordering
 pair_cmp = then_cmp (on (λ p. p.login) (slice_cmp nat_cmp)) (on (λ p. p.day) int_cmp)
 
+-- it is a total order
 pub pair_cmp_total : IsTotalOrder pair_cmp
 pair_cmp_total = then_total (on_total (λ p. p.login) nat_list_cmp_total) (on_total (λ p. p.day) int_cmp_total)
 

@@ -33,18 +33,22 @@ abbrev pub agrees_with : ℕ → List ℕ → Option TransactionRecord → Bool
 agrees_with moment login None = true
 agrees_with moment login (Some t) = (moment == t.moment) && same_text login t.login
 
+-- a transaction that has a row and is closed
 abbrev pub is_closed : Option TransactionRecord → Bool
 is_closed None = false
 is_closed (Some t) = t.closed
 
+-- what the transaction holds
 abbrev pub held_by : Option TransactionRecord → ℕ
 held_by None = 0
 held_by (Some t) = t.held
 
+-- what the login has reserved on the day
 abbrev pub reserved_by : Option UsageRecord → ℕ
 reserved_by None = 0
 reserved_by (Some u) = u.reserved
 
+-- what it has used: reserved and settled together
 abbrev pub used_by : Option UsageRecord → ℕ
 used_by None = 0
 used_by (Some u) = u.reserved + u.settled
@@ -241,30 +245,39 @@ Leads same set (Update new) rows P = Updates same set new rows P
 
 -- Keys, and what an update of a row sets.
 
+-- the transaction that a row is of
 abbrev pub key_of : TransactionRecord → Transaction
 key_of r = record { host = r.host; run = r.run; txn = r.txn }
 
+-- two rows of one transaction
 abbrev pub same_key : TransactionRecord → TransactionRecord → Bool
 same_key new other = is_transaction (key_of new) other
 
+-- a transaction's row with what it holds and settled now, and whether it is closed
 abbrev pub set_transaction : TransactionRecord → TransactionRecord → TransactionRecord
 set_transaction new was = record was { held = new.held; settled = new.settled; closed = new.closed }
 
+-- two rows of one login and day
 abbrev pub same_day : UsageRecord → UsageRecord → Bool
 same_day new other = is_usage new.login new.day other
 
+-- the row of a login and day with what is settled and reserved now
 abbrev pub set_usage : UsageRecord → UsageRecord → UsageRecord
 set_usage new was = record was { settled = new.settled; reserved = new.reserved }
 
+-- two limits of one login from one day on
 abbrev pub same_from : LimitRecord → LimitRecord → Bool
 same_from new other = is_limit new.login new.day other
 
+-- a limit with the cap that it has now
 abbrev pub set_limit : LimitRecord → LimitRecord → LimitRecord
 set_limit new was = record was { cap = new.cap }
 
+-- two floors of one host
 abbrev pub same_host : RetiredRecord → RetiredRecord → Bool
 same_host new other = is_host new.host other
 
+-- a host's floor at the run where it is now
 abbrev pub set_run : RetiredRecord → RetiredRecord → RetiredRecord
 set_run new was = record was { run = new.run }
 

@@ -14,10 +14,12 @@ use Rattle.mq_rows.specs.Plan.{IsOneIn, fits}
 use Rattle.mq_rows.specs.Rows.{is_usage}
 use Rattle.mq_rows.specs.Tables.{AreTransactions, AreUsage}
 
+-- a request that retires runs
 abbrev pub is_retire : Request → Bool
 is_retire (Retire id) = true
 is_retire _ = false
 
+-- a retire as it enters the history: one whose own run is retired never does
 abbrev pub retire_entry : Id → Entry
 retire_entry id = record { request = Retire id; reply = Retired id }
 

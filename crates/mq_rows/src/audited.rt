@@ -12,6 +12,7 @@ use std::cmp::Ordering;
 #[derive(Debug, Drop)]
 pub struct Pair {
     pub login: Login,
+    /// The day number since 1970-01-01, or whatever other number the row has.
     pub day: i64,
 }
 

@@ -40,7 +40,7 @@ pub struct TransactionRecord {
     pub login: Login,
     /// When it began: seconds since 1970-01-01T00:00:00Z.
     pub moment: u64,
-    /// The ledger day of that moment.
+    /// The ledger day of that moment, 0 to 376,200.
     pub day: u32,
     /// The recipients that it holds, 0 once it is closed.
     pub held: u32,
@@ -54,7 +54,7 @@ pub struct TransactionRecord {
 #[derive(Debug, Drop)]
 pub struct UsageRecord {
     pub login: Login,
-    /// The ledger day.
+    /// The ledger day, 0 to 376,200.
     pub day: u32,
     /// Recipients of settled transactions, and those that transactions held which a retire closed.
     pub settled: u32,
@@ -66,7 +66,7 @@ pub struct UsageRecord {
 #[derive(Debug, Drop)]
 pub struct LimitRecord {
     pub login: Login,
-    /// The ledger day from which it holds.
+    /// The ledger day from which it holds, 0 to 376,200.
     pub day: u32,
     /// Recipients a day, 0 to 1,000,000.
     pub cap: u32,

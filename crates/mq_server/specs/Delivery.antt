@@ -42,6 +42,7 @@ abbrev pub answers_after : (List Delivery → Delivery → Reply) → List Deliv
 answers_after answer earlier [] = []
 answers_after answer earlier (d ∷ ds) = answer earlier d ∷ answers_after answer (earlier ++ d ∷ []) ds
 
+-- the same where none came earlier
 abbrev pub answers : (List Delivery → Delivery → Reply) → List Delivery → List Reply
 answers answer ds = answers_after answer [] ds
 
@@ -52,6 +53,7 @@ taken_answers_after answer earlier (d ∷ ds) =
     if d.taken then answer earlier d ∷ taken_answers_after answer (earlier ++ d ∷ []) ds
     else taken_answers_after answer (earlier ++ d ∷ []) ds
 
+-- the same where none came earlier
 abbrev pub taken_answers : (List Delivery → Delivery → Reply) → List Delivery → List Reply
 taken_answers answer ds = taken_answers_after answer [] ds
 
@@ -68,5 +70,6 @@ abbrev pub calls_after : (List Delivery → Delivery → Reply) → List Deliver
 calls_after answer earlier [] = []
 calls_after answer earlier (d ∷ ds) = call d (answer earlier d) ∷ calls_after answer (earlier ++ d ∷ []) ds
 
+-- the same where none came earlier
 abbrev pub calls : (List Delivery → Delivery → Reply) → List Delivery → List Told
 calls answer ds = calls_after answer [] ds

@@ -47,6 +47,7 @@ IsText key None r = r ≡ Err (Missing key)
 IsText key (Some entry) r =
     MatchOption (as_str entry) (r ≡ Err (Bad key)) (λ text. IsOkAnd r (λ found. found.now ≡ text))
 
+-- the text of a key in the table
 abbrev pub IsTextAt : Key → Members → Result (Bor (List ℕ)) SettingsFault → Type 0
 IsTextAt key table r = IsText key (get_member (key_name key) table) r
 
@@ -58,6 +59,7 @@ TextOr {V} IsFault key Means (Some entry) r =
     MatchOption (as_str entry) (r ≡ Err (Bad key)) (λ text. MatchResult r (Means text)
     (λ e. IsFault e × ((v : V) → ¬ Means text v)))
 
+-- the same with one fault: the key is bad
 abbrev pub TextAs : {V : Type 0} → Key → (List ℕ → V → Type 0) → Option Data → Result V SettingsFault → Type 0
 TextAs key Means entry r = TextOr (λ e. e ≡ Bad key) key Means entry r
 
@@ -69,6 +71,7 @@ IsHostAt table r = TextAs Host (λ text host. (host ≡ text) × IsHost text) (g
 abbrev pub IsAddressFault : Key → SettingsFault → Type 0
 IsAddressFault key e = (flaw : AddressFlaw) × (e ≡ Address key flaw)
 
+-- the address and port of a key in the table
 abbrev pub IsAddressAt : Key → Members → Result SocketAddr SettingsFault → Type 0
 IsAddressAt key table r = TextOr (IsAddressFault key) key IsSocketText (get_member (key_name key) table) r
 
@@ -82,6 +85,7 @@ abbrev pub count_of : Key → ℕ → ℕ → Result ℕ SettingsFault → Optio
 count_of key least most absent None = absent
 count_of key least most absent (Some entry) = count_in key least most (as_integer entry)
 
+-- the number of a key in the table, or what stands for none
 abbrev pub count_at : Key → ℕ → ℕ → Result ℕ SettingsFault → Members → Result ℕ SettingsFault
 count_at key least most absent table = count_of key least most absent (get_member (key_name key) table)
 
@@ -107,6 +111,7 @@ IsZoneOf (Some offset) None r = r ≡ zone_by_offset (as_integer offset)
 IsZoneOf (Some offset) (Some rule) r = r ≡ beside_a_rule (zone_by_offset (as_integer offset))
 IsZoneOf None (Some rule) r = IsZoneByRule (Some rule) r
 
+-- the zone of the table's offset or rule
 abbrev pub IsZoneAt : Members → Result Zone SettingsFault → Type 0
 IsZoneAt table r = IsZoneOf (get_member (key_name Offset) table) (get_member (key_name Rule) table) r
 
@@ -119,10 +124,12 @@ level_named name =
     else if bytes_eq name (codes "info") then Some level.Info
     else None
 
+-- the level, or that the key is bad where no level has the name
 abbrev pub level_or_bad : Option LevelFilter → Result LevelFilter SettingsFault
 level_or_bad None = Err (Bad Log)
 level_or_bad (Some found) = Ok found
 
+-- the level that an entry names, which has to be a text
 abbrev pub level_in : Option (List ℕ) → Result LevelFilter SettingsFault
 level_in None = Err (Bad Log)
 level_in (Some name) = level_or_bad (level_named name)
@@ -132,6 +139,7 @@ abbrev pub level_of : Option Data → Result LevelFilter SettingsFault
 level_of None = Ok level.Warn
 level_of (Some entry) = level_in (as_str entry)
 
+-- the level of the table
 abbrev pub level_at : Members → Result LevelFilter SettingsFault
 level_at table = level_of (get_member (key_name Log) table)
 
@@ -152,6 +160,7 @@ abbrev pub NamesPlace : List ℕ → Place → Type 0
 NamesPlace text place.Memory = text ≡ codes "memory"
 NamesPlace text (place.File path) = (string_bytes path ≡ text) × (text ≢ codes "memory") × (text ≢ [])
 
+-- where the ledger of the table is kept
 abbrev pub IsPlaceAt : Members → Result Place SettingsFault → Type 0
 IsPlaceAt table r = TextAs Store NamesPlace (get_member (key_name Store) table) r
 

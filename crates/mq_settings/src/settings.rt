@@ -27,25 +27,31 @@ pub use value::Place;
 pub struct FilterSettings {
     /// The name under which this host asks, 1 to 64 bytes.
     pub host: Host,
+    /// The quota server's address and port.
     pub server: SocketAddr,
     /// How often a request is sent, 1 to 10.
     pub tries: u32,
     /// Milliseconds of each connect, read and write, 1 to 60,000.
     pub timeout: u32,
+    /// Which lines are logged: those of this level and the levels before it.
     pub log: LevelFilter,
 }
 
 /// What the server runs by.
 #[derive(Debug, Drop)]
 pub struct ServerSettings {
+    /// The address and port at which it listens.
     pub listen: SocketAddr,
+    /// Where the ledger is kept.
     pub store: Place,
     /// The limit of a login that has none of its own, 0 to 1,000,000 recipients a day.
     pub default: u32,
     /// What the ledger's days go by.
     pub zone: Zone,
-    /// Milliseconds of each read and write, 1 to 60,000.
+    /// For how many milliseconds a peer may neither send nor take anything, 1 to 60,000. A whole connection has twice
+    /// as long.
     pub timeout: u32,
+    /// Which lines are logged: those of this level and the levels before it.
     pub log: LevelFilter,
 }
 

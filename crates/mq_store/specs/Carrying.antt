@@ -44,6 +44,7 @@ pub record IsAnswered (H : List Entry) (place : ℕ) (a : Answered) : Type 0 whe
   pub at : IsAt H place (record { request = a.request; reply = reply })
   pub is : IsWhereKnown a.reply reply
 
+-- so it is of each history of which the tables are the rows
 abbrev pub IsAnsweredAt : ℕ → Database → Answered → Type 0
 IsAnsweredAt place db a =
     (zone : Zone) (default : ℕ) (H : List Entry) → HasBook (book_of zone default H) db → IsAnswered H place a

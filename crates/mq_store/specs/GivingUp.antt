@@ -51,6 +51,7 @@ abbrev pub place_of : Value → ℕ
 place_of (Int (pos n)) = n
 place_of _ = 0
 
+-- the place of an answer that a row shows first
 abbrev pub place_in : Row → ℕ
 place_in row = place_of (column row 0)
 

@@ -150,6 +150,7 @@ IsJudgedRuled g zone default s old new fault =
 abbrev pub IsJudgedPlain : {S : Type 0} → Zone → ℕ → Setting → Held S → Held S → Option OpenFault → Type 0
 IsJudgedPlain zone default s old new fault = (new ≡ old) × (fault ≡ fault_in zone default s None)
 
+-- so it is by the version of the tables
 abbrev pub IsJudgedBy : {S : Type 0} (g : Ghosts S) → ℕ → Zone → ℕ → Setting → Held S → Held S → Option OpenFault
     → Type 0
 IsJudgedBy g version zone default s old new fault =
@@ -201,6 +202,7 @@ abbrev pub HoldsVersion : ℕ → Database → Option (List ℕ) → Type 0
 HoldsVersion version db rule =
     Since (nat_le 3 version) (HasCurrent db rule) (Since (nat_le 2 version) (IsRuled db rule) (rule ≡ None))
 
+-- the same where the version is known; where it isn't there is no rule
 abbrev pub HoldsKnown : Option ℕ → Database → Option (List ℕ) → Type 0
 HoldsKnown None db rule = rule ≡ None
 HoldsKnown (Some version) db rule = HoldsVersion version db rule

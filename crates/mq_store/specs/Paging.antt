@@ -37,6 +37,7 @@ pub record IsBegun (day : ℕ → ℕ) (default : ℕ) (H : List Entry) (d : ℕ
   pub are : shown ≡ map (row day default H d) (map (λ u. u.login) us)
   pub ends : last ≡ behind after us
 
+-- so it is, whatever the zone and the history are of which the tables are the rows
 abbrev pub IsBegunIn : ℕ → ℕ → List ℕ → Database → ℕ → List UsageRow → List ℕ → Type 0
 IsBegunIn default d after db n shown last =
     (zone : Zone) (H : List Entry) (b : HasBook (book_of zone default H) db)

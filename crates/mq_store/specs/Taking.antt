@@ -33,6 +33,7 @@ pub record HasBook (b : Book) (db : Database) : Type 0 where
   pub legal : IsLegalBook b
   pub has : HasRows b db
 
+-- the book of a zone, a default limit and a history
 abbrev pub book_of : Zone → ℕ → List Entry → Book
 book_of zone default H = record { zone = zone; default = default; history = H }
 
@@ -117,6 +118,7 @@ abbrev pub IsReplied : ℕ → Request → Database → Reply → Type 0
 IsReplied default r db a =
     (zone : Zone) (H : List Entry) → HasBook (book_of zone default H) db → a ≡ reply (day_of zone) default H r
 
+-- the reply, whether anything was written or not
 abbrev pub reply_in : Taken → Reply
 reply_in (Read a) = a
 reply_in (Written a) = a

@@ -11,6 +11,7 @@ use Rattle.mq_store.specs.declared.auditing.RowCounts.{RowCounts}
 use Rattle.mq_store.specs.declared.fault.StoreCause.{StoreCause}
 use Rattle.mq_store.specs.declared.fault.StoreCause.TheVariants.{Refused, Content}
 
+-- a ledger as its callers see it: its store, its terms, what its opening counted, and why its last call failed
 pub record LedgerView (S : Type 0) : Type 0 where
   pub connection : Held S
   pub zone : Zone
@@ -25,22 +26,27 @@ abbrev pub split : StoreCause → Option Error
 split (Refused e) = Some e
 split Content = None
 
+-- the cause that is stored so
 abbrev pub join : Option Error → StoreCause
 join (Some e) = Refused e
 join None = Content
 
+-- nothing of a cause is lost on the way
 pub joined : (c : StoreCause) → join (split c) ≡ c
 joined (Refused e) = refl
 joined Content = refl
 
+-- so causes are told apart
 abbrev pub cause_code : Coded StoreCause
 cause_code = code_by (Option Error) (coded_option error.the_row.coded) split join joined
 
+-- so are counts of rows
 abbrev pub counts_code : Coded RowCounts
 counts_code =
     code_by (ℕ × ℕ) (coded× coded_ℕ coded_ℕ) (λ c. (c.days, c.transactions))
     (λ p. record { days = p.0; transactions = p.1 }) (λ _. refl)
 
+-- so are ledgers, where their stores can be
 abbrev pub view_code : {S : Type 0} → Coded S → Coded (LedgerView S)
 view_code {S} store =
     code_by (Held S × (Zone × (ℕ × (RowCounts × Option StoreCause))))

@@ -29,7 +29,9 @@ use std::alloc::Global;
 #[derive(Drop)]
 pub(crate) struct Terms {
     pub zone: Zone,
+    /// The limit of a login that has none for a day: recipients, 0 to 1,000,000.
     pub default: u32,
+    /// A day number since 1970-01-01.
     pub day: u32,
 }
 

@@ -25,7 +25,7 @@ impl<S: Alter> SqlLedger<S> {
     /// Makes a new ledger that has what an old one remembers from a day on: the limits that were set, the
     /// retires, and each answer about that day or a later one, in their order and with their replies. It has
     /// the zone and the default of the old one. Tables and answers are written in one transaction, over
-    /// whatever the new store holds.
+    /// whatever the new store holds. `day` is a day number since 1970-01-01.
     ///
     /// The old ledger is read only. It isn't asked anything else meanwhile, and each answer costs a few
     /// statements; a retire that cleared the reply of a limit from an earlier day makes the first such limit

@@ -2,6 +2,7 @@
 use Rattle.std.specs.Prelude.{◌≡◌, ℕ, List, [], ◌++◌, take, Bool, true, ⊤, Option, None, Some, Result, Ok, Err}
 use Rattle.std.specs.Io.KnownBytes.{Appends}
 
+-- a reader or writer, and whether a call of it has failed
 pub record Device (D : Type 0) : Type 0 where
   pub inner : D
   pub has_failed : Bool

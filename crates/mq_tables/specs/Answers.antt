@@ -16,6 +16,7 @@ tree_named s name = option_map (λ t. t.tree) (option_and_then (slice_get s.tabl
 abbrev pub rows_named : Database → List ℕ → List Row
 rows_named db name = unwrap_or (option_map db.trees (tree_named db.schema name)) []
 
+-- the bytes of a value, where it is bytes
 abbrev pub blob_in : Value → Option (List ℕ)
 blob_in (Blob bytes) = Some bytes
 blob_in _ = None

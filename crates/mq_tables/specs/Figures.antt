@@ -16,9 +16,11 @@ use Rattle.mq_tables.specs.declared.figures.Table.{Table}
 use Rattle.mq_tables.specs.declared.figures.Table.TheVariants.{Usage, Transactions, Limits}
 use Rattle.mq_tables.specs.Places.{IsTransIn, IsUsageIn, IsCeilingIn}
 
+-- a row of `usage`, all of which its query shows
 abbrev pub usage_cells : UsageFigures → Row
 usage_cells u = Blob u.pair.login ∷ Int u.pair.day ∷ Int u.settled ∷ Int u.reserved ∷ []
 
+-- a row of `ceiling`, all of which its query shows
 abbrev pub limit_cells : LimitFigures → Row
 limit_cells c = Blob c.pair.login ∷ Int c.pair.day ∷ Int c.cap ∷ []
 
@@ -35,6 +37,7 @@ pub record WholeTransaction : Type 0 where
   pub figures : TransactionFigures
   pub closed : ℤ
 
+-- its cells, as the table has them
 abbrev pub whole_cells : WholeTransaction → Row
 whole_cells w =
     Blob w.host ∷ Int w.run ∷ Int w.txn ∷ Blob w.figures.pair.login ∷ Int w.figures.moment ∷

@@ -13,6 +13,7 @@ abbrev pub are_host_and_run : Value → Value → Bool
 are_host_and_run (Blob host) (Int run) = true
 are_host_and_run _ _ = false
 
+-- a host and a run stand first in the row
 abbrev pub is_floor : Row → Bool
 is_floor row = are_host_and_run (column row 0) (column row 1)
 

@@ -36,6 +36,7 @@ pub record IsLedgerIn (schema : Schema) (at : Places) : Type 0 where
   pub usage_alone : IsUnreferred schema at.usage
   pub ceiling_alone : IsUnreferred schema at.ceiling
 
+-- the row of settings that a record stands for, without the rule
 abbrev pub setting_in : SettingRecord → SettingRow
 setting_in s = record { version = pos s.version; minutes = s.minutes; cap = pos s.cap; arrivals = pos s.arrivals }
 

@@ -16,6 +16,7 @@ abbrev pub answer_params : AnswerRecord → Row
 answer_params a =
     Int (pos a.n) ∷ Blob a.id.host ∷ Int (pos a.id.run) ∷ Int (pos a.id.number) ∷ Blob a.request ∷ Blob a.reply ∷ []
 
+-- the parameters of a query by a login and a day
 abbrev pub key_params : List ℕ → ℕ → Row
 key_params login day = Blob login ∷ Int (pos day) ∷ []
 
@@ -44,6 +45,7 @@ standing_params t =
     Int (pos t.held) ∷ Int (pos t.settled) ∷ Int (pos (bit t.closed)) ∷
     Blob t.host ∷ Int (pos t.run) ∷ Int (pos t.txn) ∷ []
 
+-- the parameters of the query for a transaction
 abbrev pub transaction_key : List ℕ → ℕ → ℕ → Row
 transaction_key host run txn = Blob host ∷ Int (pos run) ∷ Int (pos txn) ∷ []
 
@@ -95,6 +97,7 @@ pub record IsFloorShown (h : List ℕ) (row : Row) (r : RetiredRecord) : Type 0 
 abbrev pub IsFirstFloor : List ℕ → List Row → Option RetiredRecord → Type 0
 IsFirstFloor h = IsFirstBy (IsFloorShown h)
 
+-- the parameters of the query for an answer
 abbrev pub id_key : Id → Row
 id_key id = Blob id.host ∷ Int (pos id.run) ∷ Int (pos id.number) ∷ []
 

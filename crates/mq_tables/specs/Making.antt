@@ -73,10 +73,12 @@ new_rows made_with = record {
   retired = [];
 }
 
+-- the parameters of the INSERT of the settings: version, offset and default limit
 abbrev pub setting_params : NewSetting → Row
 setting_params made_with =
     Int (pos VERSION) ∷ Int (minutes_in made_with.zone) ∷ Int (pos made_with.cap) ∷ []
 
+-- the parameter of the INSERT of the rule
 abbrev pub rule_params : List ℕ → Row
 rule_params text = Blob text ∷ []
 
@@ -134,6 +136,7 @@ PutsAny (Some text) old new = Puts rule_table (rule_fields text) old new
 abbrev pub ledger_over : Schema → Schema
 ledger_over s = chain s (setting_table ∷ other_tables)
 
+-- the name is that of one of the seven
 abbrev pub is_ours : List ℕ → Bool
 is_ours name =
     same_name setting_table.name name || (same_name answer_table.name name
@@ -164,12 +167,15 @@ abbrev pub is_owner : List ℕ → Option (List ℕ) → Bool
 is_owner name None = false
 is_owner name (Some owner) = same_name owner name
 
+-- what SQL here doesn't understand has this name, and is a table
 abbrev pub is_aside : List ℕ → Stored → Bool
 is_aside name view = same_name view.name name && is_owner name view.foreign
 
+-- a table of this name is there, one that SQL here understands or another
 abbrev pub has_table : Schema → List ℕ → Bool
 has_table s name = list_any (λ t. same_name t.name name) s.tables || list_any (is_aside name) s.views
 
+-- a table with one of the seven names is there
 abbrev pub has_ledger_table : Schema → Bool
 has_ledger_table s =
     has_table s setting_table.name || (has_table s answer_table.name

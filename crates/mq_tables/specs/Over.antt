@@ -40,6 +40,7 @@ IsEarliest cap rows (Some d) =
     ((row : Row) × Has rows row × IsTotalsShown row d) × (is_past cap d ≡ true)
     × AllByRecursion (λ row. (e : DayTotals) × IsTotalsShown row e × (is_past cap e ≡ true → d.day ≤ e.day)) rows
 
+-- what the query for a login's days shows of one
 abbrev pub totals_of : UsageRecord → DayTotals
 totals_of u = record { day = u.day; settled = u.settled; reserved = u.reserved }
 

@@ -16,6 +16,7 @@ pub record IsTableIn (schema : Schema) (made : Table) (tree : ℕ) : Type 0 wher
   pub stored : nat_le (2 ^ 31) tree ≡ false
   pub found : find (λ (t : Table). t.tree == tree) schema.tables ≡ Some (record made { tree = tree })
 
+-- so it is of each of the ledger's seven tables
 abbrev pub IsSettingIn : Schema → ℕ → Type 0
 IsSettingIn schema tree = IsTableIn schema setting_table tree
 
@@ -37,6 +38,7 @@ IsRuleIn schema tree = IsTableIn schema rule_table tree
 abbrev pub IsRetiredIn : Schema → ℕ → Type 0
 IsRetiredIn schema tree = IsTableIn schema retired_table tree
 
+-- there is a table, and its rows are in this tree
 abbrev pub is_tree : ℕ → Option Table → Bool
 is_tree tree None = false
 is_tree tree (Some t) = t.tree == tree

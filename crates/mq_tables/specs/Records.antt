@@ -18,10 +18,12 @@ abbrev pub answer_fields : AnswerRecord → Row
 answer_fields a =
     Int (pos a.n) ∷ Null ∷ Blob a.id.host ∷ Int (pos a.id.run) ∷ Int (pos a.id.number) ∷ Blob a.request ∷ Blob a.reply ∷ []
 
+-- whether a transaction is closed, as its column has it
 abbrev pub bit : Bool → ℕ
 bit false = 0
 bit true = 1
 
+-- the other rows, as their tables have them after the rowid
 abbrev pub transaction_fields : TransactionRecord → Row
 transaction_fields t =
     Blob t.host ∷ Int (pos t.run) ∷ Int (pos t.txn) ∷ Blob t.login ∷ Int (pos t.moment) ∷ Int (pos t.day) ∷
@@ -51,6 +53,7 @@ pub record Holds {R : Type 0} (from : ℕ) (fields : R → Row) (rows : List Row
   pub numbered : IsShaped Table rows
   pub same : IsPermutation (map (drop from) rows) (map fields records)
 
+-- so it is of `trans`, `usage`, `ceiling` and `retired`
 abbrev pub HoldsTransactions : List Row → List TransactionRecord → Type 0
 HoldsTransactions rows all = Holds 1 transaction_fields rows all
 

@@ -48,6 +48,7 @@ runs_params runs = Blob runs.host ∷ Int (pos runs.from) ∷ Int (pos runs.to) 
 abbrev pub place_row : AnswerRecord → Row
 place_row a = Int (pos a.n) ∷ []
 
+-- the answer once its run is retired
 abbrev pub without_reply : AnswerRecord → AnswerRecord
 without_reply a = record a { reply = [] }
 
@@ -55,6 +56,7 @@ without_reply a = record a { reply = [] }
 abbrev pub cleared_where : (AnswerRecord → Bool) → List AnswerRecord → List AnswerRecord
 cleared_where passes = map (λ a. if passes a then without_reply a else a)
 
+-- the parameters of the UPDATE that clears a reply: no bytes, and the answer's place
 abbrev pub clear_params : ℕ → Row
 clear_params n = Blob [] ∷ Int (pos n) ∷ []
 

@@ -14,6 +14,7 @@ use Rattle.mq_ledger.specs.Day.{minutes_in}
 use Rattle.mq_rows.specs.declared.setting.TheConstants.{VERSION}
 use Rattle.mq_tables.specs.Places.{IsSettingIn}
 
+-- the row of settings, whatever whole numbers it holds
 pub record SettingRow : Type 0 where
   pub version : ℤ
   pub minutes : ℤ
@@ -41,6 +42,7 @@ setting_of_values (Int version) (Int minutes) (Int cap) =
     Some (record { version = version; minutes = minutes; cap = cap })
 setting_of_values _ _ _ = None
 
+-- what is read of a row, where its first three columns are whole numbers
 abbrev pub setting_of : Row → Option Setting
 setting_of row = setting_of_values (column row 0) (column row 1) (column row 2)
 
@@ -49,6 +51,7 @@ abbrev pub reading : Result Row Error → Result (Option Setting) Error
 reading (Ok row) = Ok (setting_of row)
 reading (Err e) = Err e
 
+-- what is read of the row of settings: all but the count of answers
 abbrev pub shown_of : SettingRow → Setting
 shown_of s = record { version = s.version; minutes = s.minutes; cap = s.cap }
 

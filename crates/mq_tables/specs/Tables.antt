@@ -8,14 +8,17 @@ use Rattle.sqlite.specs.Kind.TheVariants.{Integer, Blob}
 use Rattle.sqlite_schema.specs.declared.schema.Column.{Column}
 use Rattle.sqlite_value.specs.Keys.{plain}
 
+-- a column that always has a value of its kind
 abbrev pub required : List ℕ → Kind → Column
 required name kind =
     record { name = name; kind = kind; is_strict = true; not_null = true; default = Null; collation = Binary }
 
+-- the column of a whole number that is the row's key
 abbrev pub keyed : List ℕ → Column
 keyed name =
     record { name = name; kind = Integer; is_strict = true; not_null = false; default = Null; collation = Binary }
 
+-- one row: what the ledger was made with, and how many answers it has
 abbrev pub setting_table : Table
 setting_table = record {
   name = codes "setting";
@@ -34,6 +37,7 @@ setting_table = record {
   is_counted = false;
 }
 
+-- a row for each entry of the history, by its place, and by the number of its request
 abbrev pub answer_table : Table
 answer_table = record {
   name = codes "answer";
@@ -53,6 +57,7 @@ answer_table = record {
   is_counted = false;
 }
 
+-- a row for each transaction, by host, run and number
 abbrev pub trans_table : Table
 trans_table = record {
   name = codes "trans";
@@ -73,6 +78,7 @@ trans_table = record {
   is_counted = false;
 }
 
+-- a row for each login and day with a granted reserve
 abbrev pub usage_table : Table
 usage_table = record {
   name = codes "usage";
@@ -91,6 +97,7 @@ usage_table = record {
   is_counted = false;
 }
 
+-- a row for each login and from-day of a limit that was set
 abbrev pub ceiling_table : Table
 ceiling_table = record {
   name = codes "ceiling";
@@ -107,6 +114,7 @@ ceiling_table = record {
   is_counted = false;
 }
 
+-- one row with the zone rule, or none with an offset
 abbrev pub rule_table : Table
 rule_table = record {
   name = codes "rule";
@@ -123,6 +131,7 @@ rule_table = record {
   is_counted = false;
 }
 
+-- a row for the floor of each host that has one
 abbrev pub retired_table : Table
 retired_table = record {
   name = codes "retired";

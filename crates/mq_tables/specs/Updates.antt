@@ -50,6 +50,7 @@ Leaves {R} same set (Update new) rows P =
 
 -- What functions on a table leave in the five: where they held some rows, they hold these.
 
+-- the settings count so many answers
 abbrev pub CountsArrivals : ℕ → State → State → Type 0
 CountsArrivals arrivals old new =
     (t : Tables) → HasLedger old.now t
@@ -61,22 +62,26 @@ Appends a old new =
     (t : Tables) → HasLedger old.now t → a.n ≡ 1 + length t.answers
     → HasLedger new.now (record t { answers = t.answers ++ a ∷ [] })
 
+-- the row of a login and day is as planned
 abbrev pub WritesUsage : Write UsageRecord → State → State → Type 0
 WritesUsage write old new =
     (t : Tables) → HasLedger old.now t
     → Leaves same_day set_usage write t.usage (λ after. HasLedger new.now (record t { usage = after }))
 
+-- the row of a transaction is as planned
 abbrev pub WritesTransaction : Write TransactionRecord → State → State → Type 0
 WritesTransaction write old new =
     (t : Tables) → HasLedger old.now t
     → Leaves same_key set_transaction write t.transactions
     (λ after. HasLedger new.now (record t { transactions = after }))
 
+-- the row of a limit is as planned
 abbrev pub WritesLimit : Write LimitRecord → State → State → Type 0
 WritesLimit write old new =
     (t : Tables) → HasLedger old.now t
     → Leaves same_from set_limit write t.limits (λ after. HasLedger new.now (record t { limits = after }))
 
+-- the row of a floor is as planned, where the tables have floors
 abbrev pub WritesFloor : Write RetiredRecord → State → State → Type 0
 WritesFloor write old new =
     (t : Tables) → HasLedger old.now t → IsCurrent t

@@ -141,6 +141,7 @@ pub data Position : Type 0 where
   LoggedIn : (login : List ℕ) → Position
   Sending : (login : List ℕ) (txn moment : ℕ) → Position
 
+-- by a login and an open transaction; without a login the transaction counts for nothing
 abbrev pub position_of : Option (List ℕ) → Option Transaction → Position
 position_of None o = Unknown
 position_of (Some login) None = LoggedIn login

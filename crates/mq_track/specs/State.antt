@@ -13,6 +13,7 @@ pub record Known : Type 0 where
   pub login : Option (List ℕ)
   pub transaction : Option Transaction
 
+-- what is known of each session, and how many transactions began
 pub record State : Type 0 where
   pub sessions : List (List ℕ × Known)
   pub begins : ℕ

@@ -14,5 +14,6 @@ pub enum CloseEnd {
 pub struct Closing {
     /// The transaction's number, from 1 on.
     pub txn: u32,
+    /// Whether smtpd took its message.
     pub end: CloseEnd,
 }

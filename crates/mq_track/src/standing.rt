@@ -10,7 +10,7 @@ pub enum Standing<'a> {
         login: &'a [u8],
     },
     /// It has both. `txn` counts the transactions of all sessions, and `moment` is the moment
-    /// at which this one began, in whole seconds.
+    /// at which this one began, in whole seconds since 1970-01-01T00:00:00Z.
     Open {
         login: &'a [u8],
         txn: u32,

@@ -15,7 +15,8 @@ use mq_request::{Login, Reply, Request};
 use std::net::SocketAddr;
 
 /// Asks a ledger what a login has used on a day, and its limit. There is no answer where memory runs out; the fault is that
-/// of a store that failed, which is logged with the peer at whose request it was asked.
+/// of a store that failed, which is logged with the peer at whose request it was asked. The login has 1 to 255 bytes,
+/// and `day` is a day number, 0 to 376,200.
 pub fn ask_usage<L: Ledger, G: Log>(
     ledger: &mut L,
     log: &G,

@@ -44,6 +44,8 @@ fn close_moments_have_near_days()
 ///
 /// By an offset no day lies between those of moments that are closer; by a rule one does only where its summer time is
 /// half a day or more ahead of its winter time. So mostly no day has to be worked out.
+///
+/// Both moments are 86,400 to 32,503,680,000 seconds since 1970-01-01T00:00:00Z.
 pub fn far_days(zone: &Zone, moment: u64, now: u64) -> Option<(u32, u32)>
     requires moment { IsMoment moment }
     requires now { IsMoment now }

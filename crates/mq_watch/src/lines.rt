@@ -10,7 +10,9 @@ use std::fmt;
 #[derive(Clone, Copy)]
 pub struct LimitLine<'a> {
     pub login: &'a Login,
+    /// The day number from which on it holds, 0 to 376,200.
     pub from_day: u32,
+    /// Recipients a day, 0 to 1,000,000.
     pub cap: u32,
     /// The cap that the login had on that day before, where it is lower now.
     pub lowered_from: Option<u32>,
@@ -60,7 +62,9 @@ fn write_answer<W: fmt::Write>(
 #[derive(Clone, Copy)]
 pub struct DayLine<'a> {
     pub host: &'a Host,
+    /// The day number of its transaction, 0 to 376,200.
     pub day: u32,
+    /// The day number by the server's clock.
     pub today: u32,
 }
 
@@ -80,6 +84,7 @@ impl fmt::Display for DayLine<'_> {
 #[derive(Clone, Copy)]
 pub struct NearLine<'a> {
     pub login: &'a Login,
+    /// The day number, 0 to 376,200.
     pub day: u32,
     pub usage: Usage,
 }

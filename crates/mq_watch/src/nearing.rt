@@ -14,7 +14,9 @@ const LOGINS: usize = 100_000;
 /// What a login has used on a day and its limit, 0 to 1,000,000 recipients.
 #[derive(Clone, Copy)]
 pub struct Usage {
+    /// Settled and reserved together.
     pub used: u32,
+    /// The limit of that day.
     pub cap: u32,
 }
 

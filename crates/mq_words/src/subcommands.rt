@@ -8,7 +8,9 @@ pub const VERSION: &str = "0.1.0";
 /// The numbers from the least to the most.
 #[derive(Clone, Copy)]
 pub struct Range<N> {
+    /// The first number of the range.
     pub least: N,
+    /// The last number of the range.
     pub most: N,
 }
 

@@ -46,6 +46,7 @@ abbrev pub newest : List Step → Option Exchange
 newest [] = None
 newest (x ∷ P) = slice_get x.group 0
 
+-- an exchange that the link failed, so that nothing decided its request
 abbrev pub failed : Request → LinkFault → Exchange
 failed q fault = record { request = q; outcome = Faulted fault; decided = None }
 
@@ -53,9 +54,11 @@ failed q fault = record { request = q; outcome = Faulted fault; decided = None }
 abbrev pub brought : Request → Reply → Option Reply → Exchange
 brought q a decided = record { request = q; outcome = Answered (reply_body a); decided = decided }
 
+-- how many times the frame of the request was sent
 abbrev pub times_sent : Request → World → ℕ
 times_sent q w = count_by (same_text (request_frame q)) w.sent
 
+-- how many times the frame of the reply was written
 abbrev pub times_written : Reply → World → ℕ
 times_written a w = count_by (same_text (frame (reply_body a))) w.written
 

@@ -14,6 +14,7 @@ use Rattle.mq_world.specs.World.{Run, World}
 abbrev pub run_of : Transaction → Source
 run_of t = record { host = t.host; run = t.run }
 
+-- how a transaction stands by the steps that its run began
 abbrev pub standing_of : World → Transaction → Standing
 standing_of w t = standing_in (w.runs (run_of t)).past t.txn
 
@@ -23,6 +24,7 @@ counting Never = None
 counting (Live h) = Some h
 counting (Closed end number h) = if is_commit end then Some h else None
 
+-- recipients that were let through, and 0 where none count
 abbrev pub granted_of : Option Held → ℕ
 granted_of None = 0
 granted_of (Some h) = h.granted
@@ -31,6 +33,7 @@ granted_of (Some h) = h.granted
 abbrev pub let_by : Standing → ℕ
 let_by st = granted_of (counting st)
 
+-- it is known to be of that login and to have begun on that day
 abbrev pub is_on : (ℕ → ℕ) → List ℕ → ℕ → Option Held → Bool
 is_on day l d None = false
 is_on day l d (Some h) = same_text l h.login && (day h.moment == d)

@@ -51,6 +51,7 @@ pub record World : Type 0 where
 abbrev pub fresh : Run
 fresh = record { lines = []; past = []; on_way = None; is_at_end = false; is_stopped = false }
 
+-- the run that a request is of, by its id
 abbrev pub source_of : Id → Source
 source_of id = record { host = id.host; run = id.run }
 
@@ -91,6 +92,7 @@ pub record ReadsOn (site : Site) (w : World) (s : Source) : Type 0 where
   pub none_on_way : (w.runs s).on_way ≡ None
   pub played : IsPlayed s (site.tries s) (w.runs s).past
 
+-- a step that has no exchange yet
 abbrev pub begun : Action → Step
 begun action = record { action = action; group = [] }
 
@@ -119,6 +121,7 @@ abbrev pub next_request : Source → (tries : ℕ) → List Step → Option Requ
 next_request s tries [] = None
 next_request s tries (x ∷ P) = next s tries (view s P) x.action x.group
 
+-- with the exchange of this request on its way, or with none
 abbrev pub with_on_way : Option Request → Run → Run
 with_on_way o r = record {
   lines = r.lines;
@@ -143,6 +146,7 @@ after_exchange x r = record {
   is_stopped = r.is_stopped;
 }
 
+-- after it stopped, wherever it stood
 abbrev pub after_stop : Run → Run
 after_stop r = record {
   lines = r.lines;
@@ -160,15 +164,19 @@ MayCome written (Answered body) = (body ≡ reply_body Retry) ⊎ ((body ≡ rep
 
 -- ---- steps
 
+-- the same host and the same run
 abbrev pub same_source : Source → Source → Bool
 same_source a b = same_text a.host b.host && (a.run == b.run)
 
+-- each run as it was, but this one so
 abbrev pub put : Source → Run → (Source → Run) → Source → Run
 put s r runs u = if same_source s u then r else runs u
 
+-- with one run as it is now
 abbrev pub with_run : World → Source → Run → World
 with_run w s r = record { runs = put s r w.runs; ledger = w.ledger; sent = w.sent; written = w.written }
 
+-- with one more frame that was sent
 abbrev pub with_sent : World → List ℕ → World
 with_sent w bytes = record { runs = w.runs; ledger = w.ledger; sent = bytes ∷ w.sent; written = w.written }
 

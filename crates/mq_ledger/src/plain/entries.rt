@@ -22,6 +22,7 @@ pub fn id_of(request: &Request) -> Option<&Id>
     }
 }
 
+/// Whether the request has that number.
 pub fn has_id(request: &Request, id: &Id) -> bool
     ensures { result ≡ has_id id.now request.now }
 {
