@@ -4,7 +4,7 @@
 //! `mailquota/src/program.rt`:
 //!
 //!     match read_arguments(rt.alloc(), words) {
-//!         Ok(given) => run_subcommand(rt, given, start, errors),
+//!         Ok(given) => run_subcommand(rt, given, start, new, errors),
 //!
 //! It stands on `mq_arguments` and `mq_request`, and is the one crate that gives options to `clap`; it doesn't know
 //! what a subcommand does. Begin with `subcommands.rt`, the options as a table, and `words.rt`; `mailquota(8)` has them
