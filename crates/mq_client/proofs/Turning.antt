@@ -5,7 +5,8 @@ use Rattle.std.proofs.lemmas.Bool.{lt-leb, le-leb, leb-false}
 use Rattle.mq_request.specs.declared.message.Request.{Request}
 use Rattle.mq_request.specs.declared.message.Reply.{Reply}
 use Rattle.mq_frame.specs.Spelling.{SpellsReply}
-use Rattle.mq_client.specs.Exchanges.{Exchange, Brings, IsTry, IsDecision, AreFailed, AreTries, SendsSome, NoneYet, OneMore, Sends, SendsAll, SendsUpTo, decisions}
+use Rattle.mq_client.specs.Exchanges.{Exchange, IsTry, IsDecision, AreFailed, AreTries, SendsSome, NoneYet, OneMore, Sends, SendsAll, SendsUpTo, decisions}
+use Rattle.mq_link.specs.Link.{Brings}
 use Rattle.mq_client.specs.Past.{Source, Action, Ask, Close, Drain, Step, View, view, held_for, reserve_of, refuses, PlaysFrom, Plays, IsPlayed}
 use Rattle.mq_client.specs.Turns.{failures, queue_of, next_of, next, ComeInTurn, IsUnderway, AreUnderway, outcomes}
 use Rattle.mq_client.specs.declared.held.Held.{Held}

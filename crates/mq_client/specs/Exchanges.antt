@@ -8,9 +8,9 @@ use Rattle.mq_request.specs.declared.message.Request.TheVariants.{Reserve, Settl
 use Rattle.mq_request.specs.declared.message.Reply.{Reply}
 use Rattle.mq_request.specs.declared.message.Reply.TheVariants.{Granted, Full, Settled, Released, Closed, Mismatch}
 use Rattle.mq_request.specs.declared.message.Reply.TheVariants.{TooMany, Conflict, Old}
-use Rattle.mq_frame.specs.Spelling.{SpellsReply, request_body, frame}
+use Rattle.mq_frame.specs.Spelling.{request_frame}
+use Rattle.mq_link.specs.Link.{Brings}
 use Rattle.mq_link.specs.declared.link.Outcome.{Outcome}
-use Rattle.mq_link.specs.declared.link.Outcome.TheVariants.{Answered, Faulted}
 use Rattle.mq_link.specs.declared.link.Told.{Told}
 
 -- an exchange of a request: how it ended, and the reply that decided the request, where one did
@@ -46,11 +46,6 @@ decides (Reserve id txn moment login count) reply = answers_reserve id reply
 decides (Settle id txn moment login count) reply = answers_closing id reply
 decides (Release id txn moment login) reply = answers_closing id reply
 decides _ reply = false
-
--- a body came that spells the reply
-abbrev pub Brings : Outcome → Reply → Type 0
-Brings (Answered body) reply = SpellsReply body reply
-Brings (Faulted fault) reply = ⊥
 
 -- what an exchange of the request that ended so comes to: a reply that came decides it, or none came that does
 abbrev pub IsDecision : Request → Outcome → Option Reply → Type 0
@@ -105,10 +100,6 @@ pub data Sends (n : ℕ) (queue : List Request) : List Exchange → List Request
 abbrev pub IsSent : ℕ → Request → List Exchange → Bool → Type 0
 IsSent n request tries true = (reply : Reply) × AreTries n request tries (Some reply)
 IsSent n request tries false = IsUndecided n request tries
-
--- the frame of a request
-abbrev pub request_frame : Request → List ℕ
-request_frame request = frame (request_body request)
 
 -- an exchange as the link reports it
 abbrev pub told_of : Exchange → Told

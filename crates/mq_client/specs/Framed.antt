@@ -1,7 +1,7 @@
 -- The closings that wait, each with its frame.
 use Rattle.std.specs.Prelude.{◌≡◌, List, map}
 use Rattle.mq_request.specs.declared.message.Request.{Request}
-use Rattle.mq_client.specs.Exchanges.{request_frame}
+use Rattle.mq_frame.specs.Spelling.{request_frame}
 use Rattle.mq_client.specs.declared.tries.Framed.{Framed}
 
 -- the frame is that of the request

@@ -3,7 +3,8 @@ ghost use Rattle.std.specs.Prelude.{◌≡◌, ◌<◌, ◌≤◌, ◌∷◌, []
 ghost use Rattle.mq_request.specs.Range.{IsRequest};
 ghost use Rattle.std.specs.List.{AllByRecursion};
 ghost use Rattle.mq_link.specs.Link.{Tells};
-ghost use Rattle.mq_client.specs.Exchanges.{Exchange, IsTry, AreTries, IsSent, Sends, request_frame, told_of, told_all};
+ghost use Rattle.mq_client.specs.Exchanges.{Exchange, IsTry, AreTries, IsSent, Sends, told_of, told_all};
+ghost use Rattle.mq_frame.specs.Spelling.{request_frame};
 ghost use Rattle.mq_client.specs.Verdict.{IsVerdict};
 ghost use Rattle.mq_request.specs.declared.message.Reply.{Reply};
 ghost use Rattle.mq_client.specs.declared.tries.Framed.{Framed as AnyFramed};

@@ -7,7 +7,8 @@ use Rattle.mq_request.specs.declared.message.Request.{Request}
 use Rattle.mq_request.specs.declared.message.Reply.{Reply}
 use Rattle.mq_link.specs.Link.{Tells}
 use Rattle.mq_link.specs.declared.link.Told.{Told}
-use Rattle.mq_command.specs.Asking.{Brought, fits, Sends, IsMissed, IsAnswered, IsUnanswered, IsUndecoded, Asks}
+use Rattle.mq_command.specs.Asking.{fits, Sends, IsMissed, IsAnswered, IsUnanswered, IsUndecoded, Asks}
+use Rattle.mq_link.specs.Link.{Brings}
 use Rattle.mq_command.specs.declared.ask.AskFault.{AskFault}
 use Rattle.mq_command.specs.declared.ask.AskFault.TheVariants.{Unavailable, Memory}
 
@@ -30,7 +31,7 @@ unanswered_more request old mid new count one sends sent told missed = record {
 }
 
 pub answered : (request : Request) (reply : Reply) (old mid new : Option (List Told)) (count : ℕ) (one : Told) → count < 3 → Sends request one → IsUnanswered request count old mid → Tells mid new (one ∷ [])
-    → Brought one.outcome reply → fits request reply ≡ true → IsAnswered request reply old new
+    → Brings one.outcome reply → fits request reply ≡ true → IsAnswered request reply old new
 answered request reply old mid new count one few sends sent told brought answers =
     record {
       before = sent.group;
@@ -43,7 +44,7 @@ answered request reply old mid new count one few sends sent told brought answers
       answers = answers;
     }
 
-pub undecoded : (request : Request) (reply : Reply) (old mid new : Option (List Told)) (count : ℕ) (one : Told) → count < 3 → Sends request one → IsUnanswered request count old mid → Tells mid new (one ∷ []) → Brought one.outcome reply → IsUndecoded request old new
+pub undecoded : (request : Request) (reply : Reply) (old mid new : Option (List Told)) (count : ℕ) (one : Told) → count < 3 → Sends request one → IsUnanswered request count old mid → Tells mid new (one ∷ []) → Brings one.outcome reply → IsUndecoded request old new
 undecoded request reply old mid new count one few sends sent told brought = record {
   before = sent.group;
   last = one;

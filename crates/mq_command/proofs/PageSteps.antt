@@ -7,7 +7,7 @@ use Rattle.std.proofs.lemmas.List.Concat.{flat_map-append}
 use Rattle.mq_request.specs.Range.{IsAfter}
 use Rattle.mq_request.specs.declared.usage.UsageRow.{UsageRow}
 use Rattle.mq_link.specs.declared.link.Told.{Told}
-use Rattle.mq_command.specs.Output.{AppendsFront}
+use Rattle.mq_stream.specs.Flow.{AppendsFront}
 use Rattle.mq_command.specs.Report.{row_line, report_lines, last_login, IsPage, AreFullPages, no_page, page, PrintsFront, ReportsAll, output_fault}
 use Rattle.mq_command.specs.declared.output.OutputFault.{OutputFault}
 use Rattle.mq_command.specs.declared.output.OutputFault.TheVariants as outputs

@@ -3,16 +3,14 @@ use Rattle.std.specs.Prelude.{◌≡◌, ◌<◌, ◌==◌, ℕ, List, [], ◌�
 use Rattle.std.specs.Prelude.{Result, Ok, Err}
 use Rattle.std.specs.List.{All}
 use Rattle.mq_request.specs.Same.{same_id, same_text}
-use Rattle.mq_frame.specs.Spelling.{SpellsReply, frame, request_body}
+use Rattle.mq_frame.specs.Spelling.{request_frame}
 use Rattle.mq_request.specs.declared.message.Request.{Request}
 use Rattle.mq_request.specs.declared.message.Request.TheVariants as asks
 use Rattle.mq_request.specs.declared.message.Reply.{Reply}
 use Rattle.mq_request.specs.declared.message.Reply.TheVariants as says
 use Rattle.mq_command.specs.declared.ask.AskFault.{AskFault}
 use Rattle.mq_command.specs.declared.ask.AskFault.TheVariants.{Unavailable, Memory}
-use Rattle.mq_link.specs.Link.{Tells}
-use Rattle.mq_link.specs.declared.link.Outcome.{Outcome}
-use Rattle.mq_link.specs.declared.link.Outcome.TheVariants.{Answered, Faulted}
+use Rattle.mq_link.specs.Link.{Brings, Tells}
 use Rattle.mq_link.specs.declared.link.Told.{Told}
 
 -- whether a reply answers a limit, a retire, a usage or a list
@@ -28,22 +26,13 @@ fits (asks.Usage login day) (says.Usage other day' settled reserved cap) = same_
 fits (asks.List day after) (says.List day' rows) = true
 fits _ _ = false
 
--- an exchange brought a body that spells this reply
-abbrev pub Brought : Outcome → Reply → Type 0
-Brought (Answered body) reply = SpellsReply body reply
-Brought (Faulted fault) reply = ⊥
-
--- the one frame of a request
-abbrev pub frame_of : Request → List ℕ
-frame_of request = frame (request_body request)
-
 -- the exchange sent it
 abbrev pub Sends : Request → Told → Type 0
-Sends request exchange = exchange.frame ≡ frame_of request
+Sends request exchange = exchange.frame ≡ request_frame request
 
 -- the exchange brought no reply that answers the request
 abbrev pub IsMissed : Request → Told → Type 0
-IsMissed request exchange = (reply : Reply) → Brought exchange.outcome reply → fits request reply ≡ false
+IsMissed request exchange = (reply : Reply) → Brings exchange.outcome reply → fits request reply ≡ false
 
 -- The request was sent up to three times; the last exchange brought a reply that answers it, and none before it did.
 pub record IsAnswered (request : Request) (reply : Reply) (old new : Option (List Told)) : Type 0 where
@@ -53,7 +42,7 @@ pub record IsAnswered (request : Request) (reply : Reply) (old new : Option (Lis
   pub few : length before < 3
   pub sent : All (Sends request) (before ++ last ∷ [])
   pub missed : All (IsMissed request) before
-  pub brought : Brought last.outcome reply
+  pub brought : Brings last.outcome reply
   pub answers : fits request reply ≡ true
 
 -- The request was sent so often, and no exchange brought a reply that answers it.
@@ -74,7 +63,7 @@ pub record IsUndecoded (request : Request) (old new : Option (List Told)) : Type
   pub sent : All (Sends request) (before ++ last ∷ [])
   pub missed : All (IsMissed request) before
   pub reply : Reply
-  pub brought : Brought last.outcome reply
+  pub brought : Brings last.outcome reply
 
 -- What asking leads to: the first reply that answers, or the fault after three exchanges without one. That memory ran out
 -- ends it before any exchange, or at a reply that came.

@@ -10,7 +10,7 @@ use Rattle.mq_request.specs.declared.message.Reply.{Reply}
 use Rattle.mq_request.specs.declared.message.Reply.TheVariants as says
 use Rattle.mq_request.specs.declared.message.Id.{Id}
 use Rattle.mq_command.specs.Asking.{Asks, IsAnswered}
-use Rattle.mq_command.specs.Output.{AppendsFront}
+use Rattle.mq_stream.specs.Flow.{AppendsFront}
 use Rattle.mq_command.specs.declared.order.OrderFault.{OrderFault}
 use Rattle.mq_command.specs.declared.order.OrderFault.TheVariants.{Over, OtherLimit, OtherRequest, Retired, Unanswered}
 use Rattle.mq_link.specs.declared.link.Told.{Told}

@@ -4,9 +4,10 @@ use Rattle.std.specs.Io.KnownBytes.{Appends, Keeps}
 use Rattle.mq_request.specs.declared.message.Request.{Request}
 use Rattle.mq_request.specs.declared.message.Request.TheVariants as asks
 use Rattle.mq_request.specs.declared.message.Reply.{Reply}
-use Rattle.mq_command.specs.Asking.{Brought, IsMissed, Sends, fits}
+use Rattle.mq_command.specs.Asking.{IsMissed, Sends, fits}
+use Rattle.mq_link.specs.Link.{Brings}
 use Rattle.mq_command.specs.Orders.{PrintsLine}
-use Rattle.mq_command.specs.Output.{AppendsFront}
+use Rattle.mq_stream.specs.Flow.{AppendsFront}
 use Rattle.mq_command.specs.declared.ask.AskFault.{AskFault}
 use Rattle.mq_command.specs.declared.ask.AskFault.TheVariants.{Unavailable, Memory}
 use Rattle.mq_link.specs.Link.{Tells}
@@ -20,11 +21,11 @@ probed = asks.Usage (45 ∷ []) 0
 -- the reply that came.
 abbrev pub Probes : Option (List Told) → Option (List Told) → Result (Unit {0}) AskFault → Type 0
 Probes old new (Ok _) =
-    (one : Told) × (reply : Reply) × Tells old new (one ∷ []) × Sends probed one × Brought one.outcome reply
+    (one : Told) × (reply : Reply) × Tells old new (one ∷ []) × Sends probed one × Brings one.outcome reply
     × (fits probed reply ≡ true)
 Probes old new (Err Unavailable) = (one : Told) × Tells old new (one ∷ []) × Sends probed one × IsMissed probed one
 Probes old new (Err Memory) =
-    (new ≡ old) ⊎ ((one : Told) × (reply : Reply) × Tells old new (one ∷ []) × Sends probed one × Brought one.outcome reply)
+    (new ≡ old) ⊎ ((one : Told) × (reply : Reply) × Tells old new (one ∷ []) × Sends probed one × Brings one.outcome reply)
 
 -- the line of a server that answers
 abbrev pub answers_line : List ℕ → List ℕ

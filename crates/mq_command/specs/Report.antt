@@ -14,7 +14,7 @@ use Rattle.mq_request.specs.declared.message.Reply.TheVariants as says
 use Rattle.mq_request.specs.declared.usage.UsageRow.{UsageRow}
 use Rattle.mq_link.specs.declared.link.Told.{Told}
 use Rattle.mq_command.specs.Asking.{Asks, IsAnswered}
-use Rattle.mq_command.specs.Output.{AppendsFront}
+use Rattle.mq_stream.specs.Flow.{AppendsFront}
 use Rattle.mq_command.specs.declared.output.OutputFault.{OutputFault}
 use Rattle.mq_command.specs.declared.output.OutputFault.TheVariants as outputs
 use Rattle.mq_command.specs.declared.report.ReportFault.{ReportFault}

@@ -4,7 +4,9 @@ ghost use Rattle.std.specs.Option.{MatchOption};
 ghost use Rattle.mq_request.specs.Range.{IsReply, IsRequest};
 ghost use Rattle.mq_frame.specs.Spelling.{SpellsReply};
 ghost use Rattle.mq_request.specs.declared.message.Reply.{Reply as AnyReply};
-ghost use Rattle.mq_command.specs.Asking.{fits, frame_of, Asks, Brought, IsMissed, Sends};
+ghost use Rattle.mq_command.specs.Asking.{fits, Asks, IsMissed, Sends};
+ghost use Rattle.mq_link.specs.Link.{Brings};
+ghost use Rattle.mq_frame.specs.Spelling.{request_frame};
 ghost use Rattle.mq_command.specs.declared.ask.AskFault.TheVariants.{Memory as NoMemory};
 ghost use Rattle.mq_link.specs.Link.{Tells};
 ghost use Rattle.mq_link.specs.declared.link.Told.{Told};
@@ -71,11 +73,11 @@ pub(crate) fn try_once<L: Link>(
     frame: &[u8],
     body: &mut Vec<u8>,
 ) -> Result<Option<Reply>, AllocError>
-    requires { frame.now ≡ frame_of request.now }
+    requires { frame.now ≡ request_frame request.now }
     ensures { (one : Told) × Sends request.now one × Tells (L.told link.old) (L.told link.new) (one ∷ [])
         × MatchResult result (λ answer. MatchOption answer (IsMissed request.now one)
-        (λ reply. Brought one.outcome reply × (fits request.now reply ≡ true)))
-        (λ fault. (reply : AnyReply) × Brought one.outcome reply) }
+        (λ reply. Brings one.outcome reply × (fits request.now reply ≡ true)))
+        (λ fault. (reply : AnyReply) × Brings one.outcome reply) }
 {
     if link.exchange(frame, body).is_err() {
         return Ok(None);

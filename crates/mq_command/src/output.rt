@@ -1,7 +1,7 @@
 //! Writing to standard output.
 ghost use Rattle.std.specs.Prelude.{◌≡◌, OnOk};
 ghost use Rattle.std.specs.Io.KnownBytes.{Appends};
-ghost use Rattle.mq_command.specs.Output.{AppendsFront};
+ghost use Rattle.mq_stream.specs.Flow.{AppendsFront};
 
 use std::alloc::AllocError;
 use std::io::Write;

@@ -18,7 +18,22 @@ const LONGEST_PAUSE: u64 = 1_000;
 
 /// The errors of accept(2) on Linux that pass: no memory, files or buffers left, a firewall's
 /// refusal, a connection that was given up, and what the network reports of the next connection.
-const PASSING: [i32; 14] = [1, 12, 23, 24, 64, 71, 92, 95, 100, 101, 103, 105, 112, 113];
+const PASSING: [i32; 14] = [
+    1, // EPERM
+    12, // ENOMEM
+    23, // ENFILE
+    24, // EMFILE
+    64, // ENONET
+    71, // EPROTO
+    92, // ENOPROTOOPT
+    95, // EOPNOTSUPP
+    100, // ENETDOWN
+    101, // ENETUNREACH
+    103, // ECONNABORTED
+    105, // ENOBUFS
+    112, // EHOSTDOWN
+    113, // EHOSTUNREACH
+];
 
 /// Whether an error of accept(2) passes.
 fn passes(error: &io::Error) -> bool {
@@ -103,7 +118,8 @@ impl<'a> Acceptor<'a> {
     ) -> Result<Option<(TcpStream, SocketAddr)>, RoomFault>
         ensures { IfErr result (λ fault. fault ≡ RoomFault.Accept) }
     {
-        if !self.is_due(clock).unwrap_or(true) {
+        // (where the clock can't be read, an attempt is made)
+        if self.left == 0 || !self.is_due(clock).unwrap_or(true) {
             return Ok(None);
         }
         match self.listener.accept() {

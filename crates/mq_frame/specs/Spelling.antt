@@ -92,3 +92,7 @@ pub record SpellsReply (body : List ℕ) (reply : Reply) : Type 0 where
 -- a frame: the length of its body in 2 bytes, and the body
 abbrev pub frame : List ℕ → List ℕ
 frame body = in_2_bytes (length body) ++ body
+
+-- the one frame of a request
+abbrev pub request_frame : Request → List ℕ
+request_frame request = frame (request_body request)

@@ -1,5 +1,7 @@
 -- The exchanges that a link reports.
 use Rattle.std.specs.Prelude.{◌≡◌, ℕ, List, ◌++◌, ⊤, Option, None, Some, Result, Ok, Err}
+use Rattle.mq_request.specs.declared.message.Reply.{Reply}
+use Rattle.mq_frame.specs.Spelling.{SpellsReply}
 use Rattle.mq_link.specs.declared.link.LinkFault.{LinkFault}
 use Rattle.mq_link.specs.declared.link.Outcome.{Outcome}
 use Rattle.mq_link.specs.declared.link.Outcome.TheVariants.{Answered, Faulted}
@@ -9,6 +11,11 @@ use Rattle.mq_link.specs.declared.link.Told.{Told}
 abbrev pub outcome_of : {X : Type 0} → Result X LinkFault → List ℕ → Outcome
 outcome_of (Ok x) body = Answered body
 outcome_of (Err fault) body = Faulted fault
+
+-- an exchange that ended so brought a body that spells the reply
+abbrev pub Brings : Outcome → Reply → Type 0
+Brings (Answered body) reply = SpellsReply body reply
+Brings (Faulted fault) reply = ⊥
 
 -- the exchanges that a link reports have grown by these, where it still reports them afterwards
 abbrev pub Tells : Option (List Told) → Option (List Told) → List Told → Type 0

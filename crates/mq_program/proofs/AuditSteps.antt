@@ -1,7 +1,7 @@
 -- What an audit prints.
 use Rattle.std.proofs.Common.{◌≡◌, ℕ, List, Option, Result, Ok, Err, inl, subst}
 use Rattle.std.specs.Prelude.{IfErr}
-use Rattle.mq_command.specs.Output.{AppendsFront}
+use Rattle.mq_stream.specs.Flow.{AppendsFront}
 use Rattle.mq_program.specs.Auditing.{FailsAfter}
 use Rattle.mq_program.specs.declared.fault.ProgramFault.{ProgramFault}
 use Rattle.mq_program.specs.declared.fault.ProgramFault.TheVariants.{Write}

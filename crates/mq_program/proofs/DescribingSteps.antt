@@ -9,7 +9,7 @@ use Rattle.sqlite.specs.State.{State}
 use Rattle.mq_request.specs.Escaped.{escaped}
 use Rattle.mq_ledger.specs.declared.zone.Zone.{Zone}
 use Rattle.mq_ledger.specs.Day.{ByOffset, ByRule, minutes_in, rule_in}
-use Rattle.mq_command.specs.Output.{AppendsFront}
+use Rattle.mq_stream.specs.Flow.{AppendsFront}
 use Rattle.mq_store.specs.Soundness.{IsSound}
 use Rattle.mq_store.specs.declared.auditing.RowCounts.{RowCounts}
 use Rattle.mq_program.specs.Describing.{AreCounts, Describes, DescribesFile, DescribesFront, ledger_text, offset_line, terms_line}

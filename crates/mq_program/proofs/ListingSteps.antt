@@ -6,7 +6,7 @@ use Rattle.std.proofs.KnownBytes.{Keeps-refl}
 use Rattle.std.specs.Io.KnownBytes.{Appends, Keeps}
 use Rattle.sqlite.specs.Effect.{Database}
 use Rattle.mq_ledger.specs.declared.entry.Entry.{Entry}
-use Rattle.mq_command.specs.Output.{AppendsFront}
+use Rattle.mq_stream.specs.Flow.{AppendsFront}
 use Rattle.mq_store.specs.Limits.{AreLimitsIn, AreSet}
 use Rattle.mq_program.specs.declared.fault.ProgramFault.{ProgramFault}
 use Rattle.mq_program.specs.declared.fault.ProgramFault.TheVariants.{Write}

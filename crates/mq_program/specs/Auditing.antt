@@ -4,7 +4,7 @@ use Rattle.std.specs.Fmt.{decimal}
 use Rattle.std.specs.Io.KnownBytes.{Appends, Keeps}
 use Rattle.sqlite.specs.Recovery.{Image}
 use Rattle.mq_ledger.specs.declared.zone.Zone.{Zone}
-use Rattle.mq_command.specs.Output.{AppendsFront}
+use Rattle.mq_stream.specs.Flow.{AppendsFront}
 use Rattle.mq_program.specs.Opened.{AreCountsIn}
 use Rattle.mq_program.specs.declared.fault.ProgramFault.{ProgramFault}
 use Rattle.mq_program.specs.declared.fault.ProgramFault.TheVariants.{Memory, Write}

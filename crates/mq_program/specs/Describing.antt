@@ -9,7 +9,7 @@ use Rattle.mq_ledger.specs.declared.zone.Zone.{Zone}
 use Rattle.mq_ledger.specs.Day.{ByOffset, ByRule}
 use Rattle.mq_ledger.specs.Legal.{Book}
 use Rattle.mq_rows.specs.declared.setting.TheConstants.{VERSION}
-use Rattle.mq_command.specs.Output.{AppendsFront}
+use Rattle.mq_stream.specs.Flow.{AppendsFront}
 use Rattle.mq_store.specs.declared.auditing.RowCounts.{RowCounts}
 use Rattle.mq_store.specs.Soundness.{book_in}
 use Rattle.mq_program.specs.declared.describing.LedgerCounts.{LedgerCounts}

@@ -9,7 +9,7 @@ use Rattle.mq_request.specs.Escaped.{escaped}
 use Rattle.mq_ledger.specs.declared.entry.Entry.{Entry}
 use Rattle.mq_rows.specs.declared.audited.LimitFigures.{LimitFigures}
 use Rattle.mq_rows.specs.Pair.{pair_cmp}
-use Rattle.mq_command.specs.Output.{AppendsFront}
+use Rattle.mq_stream.specs.Flow.{AppendsFront}
 use Rattle.mq_store.specs.Limits.{AreLimitsIn, AreSet}
 
 -- the texts of a day, a limit and a login in a line

@@ -1,7 +1,7 @@
 -- What making a ledger prints.
 use Rattle.std.specs.Prelude.{◌≡◌, ◌⊎◌, ℕ, List, [], ◌∷◌, ◌++◌, Option, None, Some, codes}
 use Rattle.std.specs.Io.KnownBytes.{Appends, Keeps}
-use Rattle.mq_command.specs.Output.{AppendsFront}
+use Rattle.mq_stream.specs.Flow.{AppendsFront}
 use Rattle.mq_program.specs.declared.fault.ProgramFault.{ProgramFault}
 use Rattle.mq_program.specs.declared.fault.ProgramFault.TheVariants.{Write}
 

@@ -3,7 +3,7 @@ ghost use Rattle.std.specs.Prelude.{◌≡◌, ◌≢◌, IfOk, IfErr, OnOk, str
 ghost use Rattle.std.specs.Io.KnownBytes.{Appends, Keeps};
 ghost use Rattle.sqlite.specs.Files.{file_state};
 ghost use Rattle.sqlite.specs.WalFiles.{image_at};
-ghost use Rattle.mq_command.specs.Output.{AppendsFront};
+ghost use Rattle.mq_stream.specs.Flow.{AppendsFront};
 ghost use Rattle.mq_store.specs.Soundness.{HasKept};
 ghost use Rattle.mq_program.specs.Auditing.{FailsAfter, PrintsAudit, PrintsSound, sound_line};
 ghost use Rattle.mq_program.specs.Opened.{MeansFile};

@@ -11,7 +11,7 @@ use Rattle.mq_server.specs.declared.connections.ConnectionEnd.{ConnectionEnd}
 use Rattle.mq_server.specs.declared.connections.ConnectionEnd.TheVariants as ends
 use Rattle.mq_server.specs.declared.fault.ServeFault.TheVariants as serving
 use Rattle.mq_replay.specs.Connections.{connections_of, first_not_hex}
-use Rattle.mq_command.specs.Output.{AppendsFront}
+use Rattle.mq_stream.specs.Flow.{AppendsFront}
 use Rattle.mq_replay.specs.Lines.{hex_lines}
 use Rattle.mq_replay.specs.declared.replay.Ending.{Ending}
 use Rattle.mq_replay.specs.declared.replay.Ending.TheVariants.{BadFrame, CutFrame, Enough, Memory}

@@ -1,7 +1,7 @@
 //! Lines of hexadecimal.
 ghost use Rattle.std.specs.Prelude.{map, OnOk};
 ghost use Rattle.std.specs.Io.KnownBytes.{Appends};
-ghost use Rattle.mq_command.specs.Output.{AppendsFront};
+ghost use Rattle.mq_stream.specs.Flow.{AppendsFront};
 ghost use Rattle.mq_replay.specs.Lines.{hex_line, hex_lines};
 
 use mq_command::{OutputFault, write_whole};

@@ -1,7 +1,7 @@
 //! What an administrator has to see of the requests that come to a ledger.
 //!
-//! A [`Watched`] ledger is another one that logs: each limit, with what it was answered, a mail host whose clock isn't
-//! today's, and a login that nears its limit. It answers as the other does, and contracts see that one. A server says by
+//! A [`Watched`] ledger is another one that logs: each limit and each retire, with what it was answered, a mail host whose
+//! clock isn't today's, and a login that nears its limit. It answers as the other does, and contracts see that one. A server says by
 //! [`Hear`] whose requests come. From `mq_program/src/serving.rt`:
 //!
 //!     let mut watched = Watched::new(rt, log, rt.alloc(), ledger);

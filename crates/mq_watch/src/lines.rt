@@ -3,7 +3,7 @@
 use crate::nearing::Usage;
 use log::Level;
 use mq_ledger::LedgerFault;
-use mq_request::{Escaped, Host, Login, Reply};
+use mq_request::{Escaped, Host, Id, Login, Reply};
 use std::fmt;
 
 /// A limit that came, and what it was answered. One that comes again is answered as it was the first time.
@@ -43,13 +43,30 @@ impl fmt::Display for LimitLine<'_> {
     }
 }
 
-/// What a limit was answered.
+/// A retire that came, and what it was answered. Each start of a mail host's smtpd may send one.
+#[derive(Clone, Copy)]
+pub struct RetireLine<'a> {
+    pub id: &'a Id,
+    pub answer: &'a Result<Reply, LedgerFault>,
+}
+
+impl fmt::Display for RetireLine<'_> {
+    fn fmt<W: fmt::Write>(&self, f: &mut fmt::Formatter<W>) -> fmt::Result {
+        let host = Escaped(self.id.host.as_slice());
+        let run = self.id.run;
+        write!(f, "runs of host {host} below {run}: ")?;
+        write_answer(f, self.answer)
+    }
+}
+
+/// What a limit or a retire was answered.
 fn write_answer<W: fmt::Write>(
     f: &mut fmt::Formatter<W>,
     answer: &Result<Reply, LedgerFault>,
 ) -> fmt::Result {
     match answer {
         Ok(Reply::LimitSet { .. }) => f.write_str("set"),
+        Ok(Reply::Retired { .. }) => f.write_str("retired"),
         Ok(Reply::Over { day, used, .. }) => { write!(f, "refused, {used} used on day {day}") }
         Ok(Reply::Conflict { .. }) => f.write_str("refused, another request has its number"),
         Ok(Reply::Old { .. }) => f.write_str("refused, its run is retired"),

@@ -11,9 +11,9 @@ use crate::asking::ask_usage;
 use crate::clock::{moment_of, seconds_of};
 use crate::hear::Hear;
 use crate::hours::{NamedHosts, far_days};
-use crate::lines::{DayLine, LimitLine, NearLine};
+use crate::lines::{DayLine, LimitLine, NearLine, RetireLine};
 use crate::nearing::Nearing;
-use log::{Log, log, warn};
+use log::{Log, info, log, warn};
 use mq_ledger::{Ledger, LedgerFault, Zone};
 use mq_request::{Host, Login, Reply, Request};
 use std::alloc::Global;
@@ -152,6 +152,11 @@ impl<'a, L: Ledger, C: Clock, G: Log> Watched<'a, L, C, G> {
                 if let Ok(Reply::Granted { used, .. }) = answer {
                     self.check_limit(login, *moment, *used);
                 }
+            }
+            Request::Retire { id } => {
+                let peer = self.peer;
+                let line = RetireLine { id, answer };
+                info!(self.log; "connection of {peer}: {line}");
             }
             _ => {}
         }

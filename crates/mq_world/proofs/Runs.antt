@@ -12,7 +12,9 @@ use Rattle.mq_ledger.specs.declared.entry.Entry.{Entry}
 use Rattle.mq_ledger.specs.History.{counted}
 use Rattle.mq_ledger.specs.Suits.{Suits as RepliesSuit}
 use Rattle.mq_forget.specs.Remembered.{moment_of}
-use Rattle.mq_client.specs.Exchanges.{Exchange, answers_reserve, answers_closing, decides, Brings, IsDecision, request_frame}
+use Rattle.mq_client.specs.Exchanges.{Exchange, answers_reserve, answers_closing, decides, IsDecision}
+use Rattle.mq_link.specs.Link.{Brings}
+use Rattle.mq_frame.specs.Spelling.{request_frame}
 use Rattle.mq_client.specs.Past.{Source, Action, Ask, Close, Drain, Step, View, view, answer_of, answer_by, held_by, id_of, reserve_of, refuses}
 use Rattle.mq_client.specs.Turns.{next, AreUnderway}
 use Rattle.mq_client.specs.Numbered.{id_in, IsNumbered, NoneReturns}

@@ -13,7 +13,8 @@ use Rattle.mq_ledger.specs.History.{Transaction, requests, held, settled_in}
 use Rattle.mq_ledger.specs.Legal.{Book}
 use Rattle.mq_ledger.specs.Limits.{cap}
 use Rattle.mq_ledger.specs.Sums.{AreDistinct}
-use Rattle.mq_client.specs.Exchanges.{Exchange, decides, request_frame}
+use Rattle.mq_client.specs.Exchanges.{Exchange, decides}
+use Rattle.mq_frame.specs.Spelling.{request_frame}
 use Rattle.mq_client.specs.Past.{Source, Step, view}
 use Rattle.mq_client.specs.Numbered.{exchanges_in}
 use Rattle.mq_link.specs.declared.link.LinkFault.{LinkFault}

@@ -3,7 +3,8 @@
 use Rattle.std.specs.Prelude.{◌≡◌, ◌⊎◌, ℕ, List, [], ◌∷◌, ◌++◌, Bool, true, false, map, Option, None, Some}
 use Rattle.std.specs.List.{AllByRecursion}
 use Rattle.mq_line.specs.Grammar.{Meaning}
-use Rattle.mq_client.specs.Exchanges.{Exchange, request_frame}
+use Rattle.mq_client.specs.Exchanges.{Exchange}
+use Rattle.mq_frame.specs.Spelling.{request_frame}
 use Rattle.mq_client.specs.Past.{Source, Action, Step, State, StandsAt}
 use Rattle.mq_client.specs.Run.{Stage, BeforeReady, AfterReady}
 use Rattle.mq_world.specs.World.{Site, Run, World, fresh, begun, MayCome, same_source, Reaches}

@@ -16,7 +16,8 @@ use Rattle.mq_ledger.specs.Answer.{history_of, reply}
 use Rattle.mq_ledger.specs.Day.{day_of}
 use Rattle.mq_ledger.specs.History.{requests}
 use Rattle.mq_ledger.specs.Legal.{Book, IsLegalBook}
-use Rattle.mq_client.specs.Exchanges.{Exchange, IsDecision, decides, request_frame}
+use Rattle.mq_client.specs.Exchanges.{Exchange, IsDecision, decides}
+use Rattle.mq_frame.specs.Spelling.{request_frame}
 use Rattle.mq_client.specs.Past.{Source, Action, Drain, Step, view, IsPlayed}
 use Rattle.mq_client.specs.Turns.{next}
 use Rattle.mq_client.specs.Numbered.{id_in}

@@ -12,7 +12,8 @@ ghost use Rattle.mq_ledger.specs.History.{Transaction, held, settled_in, reserve
 ghost use Rattle.mq_ledger.specs.Legal.{Book, IsLegalBook};
 ghost use Rattle.mq_ledger.specs.Limits.{cap};
 ghost use Rattle.mq_ledger.specs.Sums.{AreDistinct};
-ghost use Rattle.mq_client.specs.Exchanges.{Exchange, request_frame};
+ghost use Rattle.mq_client.specs.Exchanges.{Exchange};
+ghost use Rattle.mq_frame.specs.Spelling.{request_frame};
 ghost use Rattle.mq_client.specs.Past.{Source, Action, Step, drained, view, Plays, IsPlayed, IsBounded};
 ghost use Rattle.mq_client.specs.Numbered.{exchanges_in};
 ghost use Rattle.mq_client.specs.Filter.{Takes, push};

@@ -1,7 +1,7 @@
 //! The line of one login in a report.
 ghost use Rattle.std.specs.Prelude.{◌≡◌, ◌++◌, OnOk, IfOk, string_bytes, replicate};
 ghost use Rattle.std.specs.Io.KnownBytes.{Appends};
-ghost use Rattle.mq_command.specs.Output.{AppendsFront};
+ghost use Rattle.mq_stream.specs.Flow.{AppendsFront};
 ghost use Rattle.mq_command.specs.Report.{column, row_line, report_lines};
 
 use crate::output::{OutputFault, write_whole};

@@ -5,11 +5,12 @@ ghost use Rattle.mq_process.specs.Settings.{CanAsk};
 
 use crate::fault::FilterEnd;
 use log::sink::Console;
-use log::{Log, Logged, error};
+use log::{Log, Logged, error, info};
 use mq_arguments::FilterArguments;
 use mq_client::{Client, run_filter};
 use mq_link::Link;
 use mq_process::{ProcessFault, Question, ask_once, filter_settings, run_number};
+use mq_request::Escaped;
 use mq_settings::FilterSettings;
 use mq_stream::{FromRead, ToWrite};
 use mq_tcp::{LoggedLink, TcpLink};
@@ -51,8 +52,11 @@ fn run_client<R: Clock + Net + Input + Print + Eprint + AllocGlobal>(
         Err(_) => return Err(FilterEnd::Process(ProcessFault::Memory)),
     };
     let logged = Logged::new(rt, settings.log, Console(rt));
+    let host = Escaped(settings.host.as_slice());
+    let server = settings.server;
+    info!(logged; "the filter of host {host} begins its run {run}, with the server {server}");
     let timeout = Duration::from_millis(u64::from(settings.timeout));
-    let link = TcpLink::new(rt, settings.server, timeout);
+    let link = TcpLink::new(rt, server, timeout);
     let mut link = LoggedLink::new(link, &logged, settings.tries);
     answer_lines(rt, &logged, &mut link, &mut client)
 }

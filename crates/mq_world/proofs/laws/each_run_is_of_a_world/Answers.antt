@@ -7,7 +7,8 @@ use Rattle.mq_line.specs.declared.results.Decision.{Decision}
 use Rattle.mq_track.specs.Sessions.{fault, closing}
 use Rattle.mq_track.specs.declared.closing.Closing.{Closing}
 use Rattle.mq_request.specs.declared.message.Request.{Request}
-use Rattle.mq_client.specs.Exchanges.{Exchange, IsDecision, request_frame}
+use Rattle.mq_client.specs.Exchanges.{Exchange, IsDecision}
+use Rattle.mq_frame.specs.Spelling.{request_frame}
 use Rattle.mq_client.specs.Past.{Source, Action, Drain, Step, drained, State, MakesAll, ArePlayed, IsPlayed, Plays, view, held_for}
 use Rattle.mq_client.specs.Turns.{next, next_of, queue_of, ComeInTurn, IsUnderway}
 use Rattle.mq_client.specs.Numbered.{exchanges_in}

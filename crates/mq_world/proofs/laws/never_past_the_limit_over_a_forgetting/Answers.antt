@@ -13,7 +13,8 @@ use Rattle.mq_ledger.specs.Answer.{reply, with_arrival, history_of}
 use Rattle.mq_ledger.specs.Arrivals.{id_of as ledger_id}
 use Rattle.mq_ledger.specs.Day.{day_of}
 use Rattle.mq_ledger.specs.History.{requests, Transaction, held, settled_in, reserved, settled}
-use Rattle.mq_client.specs.Exchanges.{Exchange, decides, IsDecision, request_frame}
+use Rattle.mq_client.specs.Exchanges.{Exchange, decides, IsDecision}
+use Rattle.mq_frame.specs.Spelling.{request_frame}
 use Rattle.mq_client.specs.Past.{Source, Action, Drain, Step, id_of, Standing, view, IsPlayed}
 use Rattle.mq_client.specs.Numbered.{NoneReturns}
 use Rattle.mq_client.specs.Filter.{push, action_of, actions, actions_of}

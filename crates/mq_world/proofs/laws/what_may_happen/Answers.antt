@@ -18,7 +18,8 @@ use Rattle.mq_ledger.specs.declared.entry.Entry.{Entry}
 use Rattle.mq_ledger.specs.Day.{IsZone, IsOffset, ByOffset, clock, day_of}
 use Rattle.mq_ledger.specs.History.{Transaction, requests, held, settled_in}
 use Rattle.mq_ledger.specs.Legal.{Book, IsLegalBook}
-use Rattle.mq_client.specs.Exchanges.{Exchange, IsTry, decides, request_frame}
+use Rattle.mq_client.specs.Exchanges.{Exchange, IsTry, decides}
+use Rattle.mq_frame.specs.Spelling.{request_frame}
 use Rattle.mq_client.specs.Past.{Source, Ask, IsPlayed, id_of, reserve_of}
 use Rattle.mq_client.specs.Numbered.{id_in}
 use Rattle.mq_link.specs.declared.link.LinkFault.TheVariants.{TimedOut}
