@@ -29,9 +29,9 @@ PROGRAM = "mailquota"
 BINARY = f"{TOP}/crates/{PROGRAM}/out/{PROGRAM}"
 # the memory that a check is given, in kilobytes
 MEMORY = 4_000_000
-# How many jobs prove a crate of the longest chain, where not one for each processor: each job does part of the work of the others again, and of these crates four
-# take as long as two, and half as much processor time again.
-JOBS = {"mq_frame": 2, "mq_tables": 2}
+# How many jobs prove a crate, where not one for each processor along the longest chain, and one elsewhere: each job does part of the work of the others
+# again, and while other crates are ready two jobs of each are better than four of one.
+JOBS = {"mq_request": 2, "mq_frame": 2, "mq_ledger": 2, "mq_tables": 2}
 
 
 def folder(name):
@@ -164,8 +164,8 @@ class Build:
         return None
 
     def jobs(self, name):
-        """How many functions of a crate are proved at once: several only along the chain, since the jobs of one crate take more processor time than one job."""
-        return min(self.lanes, JOBS.get(name, self.lanes)) if name in self.chain else 1
+        """How many functions of a crate are proved at once."""
+        return min(self.lanes, JOBS.get(name, self.lanes if name in self.chain else 1))
 
     def words(self, name, jobs):
         words = [RATTLE, "build", *words_of(name, self.rows, folder(name), rlib), "--links", f"{name}=", "--jobs", str(jobs)]

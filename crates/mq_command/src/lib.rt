@@ -5,8 +5,8 @@
 //!
 //!     Ok(run_report(rt.alloc(), &mut link, day, login, &mut output, errors))
 //!
-//! It stands on `mq_request`, `mq_frame`, `mq_ledger` and `mq_link`: it knows requests, any link and the days of a
-//! zone, and neither sockets, files nor the words of a command line. Begin with `ask.rt`, one question, and
+//! It stands on `mq_request`, `mq_stream`, `mq_frame`, `mq_ledger` and `mq_link`: it knows requests, any link and the
+//! days of a zone, and neither sockets, files nor the words of a command line. Begin with `ask.rt`, one question, and
 //! `report.rt`; their definitions are `specs/Asking.antt` and `specs/Report.antt`. `printed.rt` reads back a login that
 //! a report printed.
 #![tactic(auto)]

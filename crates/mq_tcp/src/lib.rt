@@ -3,7 +3,7 @@
 //! [`TcpLink`] is a link over whatever makes its connections ([`Connect`]), the program's [`Connector`] over sockets.
 //! [`LoggedLink`] is any link with a log of its outages. From `mq_remote/src/subcommands/filter.rt`:
 //!
-//!     let link = TcpLink::new(rt, settings.server, timeout);
+//!     let link = TcpLink::new(rt, server, timeout);
 //!     let mut link = LoggedLink::new(link, &logged, settings.tries);
 //!
 //! It stands on `mq_frame`, `mq_link` and `mq_deadline`: it knows what a link means and which replies answer, and
