@@ -8,8 +8,8 @@
 //!         Err(_fault) => None,
 //!     }
 //!
-//! It stands on `mq_request`, for the type of its bytes, and on `mq_frame`: it knows how a frame begins, and neither requests nor TCP, which is
-//! `mq_tcp`'s. Begin with `link.rt` and `specs/Link.antt`, what a link says of its exchanges.
+//! It stands on `mq_request`, for the type of its bytes, and on `mq_frame`, for how a frame begins; it knows neither
+//! requests nor TCP, which is `mq_tcp`'s. Begin with `link.rt` and `specs/Link.antt`, what a link says of its exchanges.
 #![tactic(auto)]
 
 mod body;
