@@ -56,7 +56,7 @@ def built_bench(here, folder):
     shutil.copytree(top / "crates", room / "crates", ignore=shutil.ignore_patterns("incremental", "must-fail"))
     shutil.copy(top / "HANDLES", room)
     (room / ".git").mkdir()
-    (room / "crates.txt").write_text((top / "crates.txt").read_text() + "filter_bench: mq_link mq_client mq_line mq_track mq_frame log\n")
+    (room / "crates.txt").write_text((top / "crates.txt").read_text() + "filter_bench: mq_link mq_client mq_line mq_track mq_request mq_stream log\n")
     crate = room / "crates" / "filter_bench"
     (crate / "src").mkdir(parents=True)
     for source in (here / "filter_bench").glob("*.rattle"):

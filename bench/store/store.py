@@ -22,7 +22,7 @@ from ledgers import Ledger, by_turns
 
 HERE = Path(__file__).resolve().parent
 WINDOWS = 15
-DEPENDENCIES = "mq_frame mq_ledger mq_store sqlite"
+DEPENDENCIES = "mq_request mq_frame mq_ledger mq_store sqlite"
 
 
 def built_twin(folder):
