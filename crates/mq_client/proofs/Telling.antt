@@ -1,11 +1,10 @@
 -- What a link reports of several exchanges, and how tries add up.
 use Rattle.std.proofs.Common.{◌≡◌, ℕ, ◌<◌, Bool, true, false, List, [], ◌∷◌, ◌++◌, length, refl, sym, ap, ◌∙◌, subst, append_assoc, append-nil, Option, None, Some, if◌then◌else◌}
-use Rattle.mq_frame.specs.Spelling.{SpellsReply}
+use Rattle.mq_frame.specs.Spelling.{SpellsReply, request_frame}
 use Rattle.mq_request.specs.declared.message.Request.{Request}
 use Rattle.mq_request.specs.declared.message.Reply.{Reply}
 use Rattle.mq_link.specs.Link.{Tells}
 use Rattle.mq_client.specs.Exchanges.{Exchange, IsDecision, IsTry, AreFailed, AreTries, IsSent, decides, told_of, told_all}
-use Rattle.mq_frame.specs.Spelling.{request_frame}
 use Rattle.mq_client.specs.Verdict.{IsVerdict, deciding}
 use Rattle.mq_client.specs.declared.verdict.Verdict.{Verdict}
 use Rattle.mq_link.specs.declared.link.Outcome.{Outcome}

@@ -5,10 +5,9 @@ use Rattle.std.proofs.lemmas.List.{length_push}
 use Rattle.std.proofs.lemmas.List.Elements.{All-push}
 use Rattle.mq_request.specs.declared.message.Request.{Request}
 use Rattle.mq_request.specs.declared.message.Reply.{Reply}
-use Rattle.mq_link.specs.Link.{Tells}
+use Rattle.mq_link.specs.Link.{Tells, Brings}
 use Rattle.mq_link.specs.declared.link.Told.{Told}
 use Rattle.mq_command.specs.Asking.{fits, Sends, IsMissed, IsAnswered, IsUnanswered, IsUndecoded, Asks}
-use Rattle.mq_link.specs.Link.{Brings}
 use Rattle.mq_command.specs.declared.ask.AskFault.{AskFault}
 use Rattle.mq_command.specs.declared.ask.AskFault.TheVariants.{Unavailable, Memory}
 

@@ -5,12 +5,11 @@ use Rattle.mq_request.specs.declared.message.Request.{Request}
 use Rattle.mq_request.specs.declared.message.Request.TheVariants as asks
 use Rattle.mq_request.specs.declared.message.Reply.{Reply}
 use Rattle.mq_command.specs.Asking.{IsMissed, Sends, fits}
-use Rattle.mq_link.specs.Link.{Brings}
+use Rattle.mq_link.specs.Link.{Brings, Tells}
 use Rattle.mq_command.specs.Orders.{PrintsLine}
 use Rattle.mq_stream.specs.Flow.{AppendsFront}
 use Rattle.mq_command.specs.declared.ask.AskFault.{AskFault}
 use Rattle.mq_command.specs.declared.ask.AskFault.TheVariants.{Unavailable, Memory}
-use Rattle.mq_link.specs.Link.{Tells}
 use Rattle.mq_link.specs.declared.link.Told.{Told}
 
 -- what is asked: what login `-` used on day 0, which is nothing

@@ -2,13 +2,11 @@
 ghost use Rattle.std.specs.Prelude.{◌≡◌, ◌∷◌, [], true, false, IfOk, MatchResult};
 ghost use Rattle.std.specs.Option.{MatchOption};
 ghost use Rattle.mq_request.specs.Range.{IsReply, IsRequest};
-ghost use Rattle.mq_frame.specs.Spelling.{SpellsReply};
+ghost use Rattle.mq_frame.specs.Spelling.{SpellsReply, request_frame};
 ghost use Rattle.mq_request.specs.declared.message.Reply.{Reply as AnyReply};
 ghost use Rattle.mq_command.specs.Asking.{fits, Asks, IsMissed, Sends};
-ghost use Rattle.mq_link.specs.Link.{Brings};
-ghost use Rattle.mq_frame.specs.Spelling.{request_frame};
+ghost use Rattle.mq_link.specs.Link.{Brings, Tells};
 ghost use Rattle.mq_command.specs.declared.ask.AskFault.TheVariants.{Memory as NoMemory};
-ghost use Rattle.mq_link.specs.Link.{Tells};
 ghost use Rattle.mq_link.specs.declared.link.Told.{Told};
 
 use mq_frame::{DecodeFault, decode_reply, encode_request};

@@ -8,10 +8,9 @@ use Rattle.std.proofs.lemmas.Bool.Decides.{nat_tests, Decides-eqb}
 use Rattle.std.proofs.lemmas.List.{take_at, drop_at, take-append-drop, length-append, length-take, get_or-drop, get_or-take, get_or_past}
 use Rattle.std.proofs.lemmas.List.Elements.{All-nil, All-cons, All-head, All-tail}
 use Rattle.std.proofs.lemmas.Nat.{be_bytes_4, be_bytes_8, from_be_bytes-to_be_bytes_4, from_be_bytes-to_be_bytes_8}
-use Rattle.mq_request.specs.Range.{IsWithin}
+use Rattle.mq_request.specs.Range.{IsWithin, between}
 use Rattle.mq_frame.specs.Spelling.{with_length}
 use Rattle.mq_frame.specs.Reading.{◌>>=◌, Field, if_passes, number_at, number, text_at, text, where_so, pair, made, times_at, counted_at, counted, whole}
-use Rattle.mq_request.specs.Range.{between}
 
 abbrev pub IsBytes : List ℕ → Type 0
 IsBytes bytes = (i : ℕ) → get_or bytes i 0 < 256

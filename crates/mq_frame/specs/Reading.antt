@@ -8,8 +8,7 @@ use Rattle.mq_frame.specs.declared.format.TheConstants.{GRANTED, FULL, SETTLED, 
 use Rattle.mq_frame.specs.declared.format.TheConstants.{MISMATCH, TOO_MANY, CONFLICT}
 use Rattle.mq_frame.specs.declared.format.TheConstants.{USAGE_REPLY, LIST_REPLY, RETRY, BAD, RETIRED, OLD}
 use Rattle.mq_request.specs.declared.bounds.TheConstants.{HOST_LIMIT, LOGIN_LIMIT, LAST_RUN, LAST_ORDINAL, FIRST_MOMENT}
-use Rattle.mq_request.specs.declared.bounds.TheConstants.{LAST_MOMENT}
-use Rattle.mq_request.specs.declared.bounds.TheConstants.{LAST_DAY, COUNT_LIMIT, AMOUNT_LIMIT, ROW_LIMIT}
+use Rattle.mq_request.specs.declared.bounds.TheConstants.{LAST_MOMENT, LAST_DAY, COUNT_LIMIT, AMOUNT_LIMIT, ROW_LIMIT}
 use Rattle.mq_request.specs.Range.{between, is_host_byte}
 use Rattle.mq_frame.specs.Spelling.{with_length}
 use Rattle.mq_request.specs.declared.message.Id.{Id}

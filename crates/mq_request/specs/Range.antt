@@ -2,8 +2,7 @@
 use Rattle.std.specs.Prelude.{ℕ, List, length, ◌≤◌, ◌⊎◌, Bool, ◌&&◌, ◌||◌, nat_le}
 use Rattle.std.specs.List.{All}
 use Rattle.mq_request.specs.declared.bounds.TheConstants.{HOST_LIMIT, LOGIN_LIMIT, LAST_RUN, LAST_ORDINAL, FIRST_MOMENT}
-use Rattle.mq_request.specs.declared.bounds.TheConstants.{LAST_MOMENT}
-use Rattle.mq_request.specs.declared.bounds.TheConstants.{LAST_DAY, COUNT_LIMIT, AMOUNT_LIMIT, ROW_LIMIT}
+use Rattle.mq_request.specs.declared.bounds.TheConstants.{LAST_MOMENT, LAST_DAY, COUNT_LIMIT, AMOUNT_LIMIT, ROW_LIMIT}
 use Rattle.mq_request.specs.declared.message.Id.{Id}
 use Rattle.mq_request.specs.declared.message.Request.{Request}
 use Rattle.mq_request.specs.declared.message.Request.TheVariants.{Reserve, Settle, Release}

@@ -2,7 +2,7 @@
 use Rattle.std.proofs.Common.{◌≡◌, ℕ, ◌+◌, ◌≤◌, ◌<◌, List, [], ◌∷◌, Bool, true, false, refl, ◌∙◌, ap, sym, subst, inl, inr, arith, Option, None, Some}
 use Rattle.std.specs.Prelude.{length, ◌⊎◌}
 use Rattle.mq_request.specs.Range.{IsHost, IsRun, IsRequest, IsReply}
-use Rattle.mq_frame.specs.Spelling.{request_body, reply_body, frame}
+use Rattle.mq_frame.specs.Spelling.{request_body, reply_body, frame, request_frame}
 use Rattle.mq_request.specs.declared.message.Id.{Id}
 use Rattle.mq_request.specs.declared.message.Request.{Request}
 use Rattle.mq_request.specs.declared.message.Request.TheVariants.{Reserve, Settle, Release, Limit, Usage, List as ListRequest, Retire}
@@ -14,7 +14,6 @@ use Rattle.mq_ledger.specs.Suits.{Suits as RepliesSuit}
 use Rattle.mq_forget.specs.Remembered.{moment_of}
 use Rattle.mq_client.specs.Exchanges.{Exchange, answers_reserve, answers_closing, decides, IsDecision}
 use Rattle.mq_link.specs.Link.{Brings}
-use Rattle.mq_frame.specs.Spelling.{request_frame}
 use Rattle.mq_client.specs.Past.{Source, Action, Ask, Close, Drain, Step, View, view, answer_of, answer_by, held_by, id_of, reserve_of, refuses}
 use Rattle.mq_client.specs.Turns.{next, AreUnderway}
 use Rattle.mq_client.specs.Numbered.{id_in, IsNumbered, NoneReturns}

@@ -2,7 +2,7 @@
 use Rattle.std.specs.Prelude.{◌≡◌, ◌<◌, ℕ, List, [], ◌∷◌, ◌++◌, count_by, is_some, slice_get, true, false, Option, None, Some}
 use Rattle.std.specs.List.{list_any}
 use Rattle.mq_request.specs.Same.{same_text, same_request}
-use Rattle.mq_frame.specs.Spelling.{reply_body, frame}
+use Rattle.mq_frame.specs.Spelling.{reply_body, frame, request_frame}
 use Rattle.mq_request.specs.declared.message.Id.{Id}
 use Rattle.mq_request.specs.declared.message.Request.{Request}
 use Rattle.mq_request.specs.declared.message.Request.TheVariants.{Retire}
@@ -14,7 +14,6 @@ use Rattle.mq_ledger.specs.Legal.{Book}
 use Rattle.mq_ledger.specs.Limits.{cap}
 use Rattle.mq_ledger.specs.Sums.{AreDistinct}
 use Rattle.mq_client.specs.Exchanges.{Exchange, decides}
-use Rattle.mq_frame.specs.Spelling.{request_frame}
 use Rattle.mq_client.specs.Past.{Source, Step, view}
 use Rattle.mq_client.specs.Numbered.{exchanges_in}
 use Rattle.mq_link.specs.declared.link.LinkFault.{LinkFault}

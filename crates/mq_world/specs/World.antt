@@ -7,7 +7,7 @@ use Rattle.mq_line.specs.Grammar.{Meaning}
 use Rattle.mq_track.specs.Sessions.{fault}
 use Rattle.mq_request.specs.Range.{IsHost, IsRun}
 use Rattle.mq_request.specs.Same.{same_text}
-use Rattle.mq_frame.specs.Spelling.{reply_body, SpellsRequest, SpellsReply, frame}
+use Rattle.mq_frame.specs.Spelling.{reply_body, SpellsRequest, SpellsReply, frame, request_frame}
 use Rattle.mq_request.specs.declared.message.Id.{Id}
 use Rattle.mq_request.specs.declared.message.Request.{Request}
 use Rattle.mq_request.specs.declared.message.Reply.{Reply}
@@ -17,7 +17,6 @@ use Rattle.mq_ledger.specs.Day.{day_of}
 use Rattle.mq_ledger.specs.History.{requests}
 use Rattle.mq_ledger.specs.Legal.{Book, IsLegalBook}
 use Rattle.mq_client.specs.Exchanges.{Exchange, IsDecision, decides}
-use Rattle.mq_frame.specs.Spelling.{request_frame}
 use Rattle.mq_client.specs.Past.{Source, Action, Drain, Step, view, IsPlayed}
 use Rattle.mq_client.specs.Turns.{next}
 use Rattle.mq_client.specs.Numbered.{id_in}

@@ -1,7 +1,7 @@
 //! Laws of both ends. The functions compute nothing.
 ghost use Rattle.std.specs.Prelude.{◌≡◌, ◌≤◌, ◌+◌, ◌++◌, ◌∷◌, ℕ, List, Bool, Option, sum_by, true, false, Some};
 ghost use Rattle.std.specs.Prelude.{slice_get, ℤ};
-ghost use Rattle.mq_frame.specs.Spelling.{reply_body, frame};
+ghost use Rattle.mq_frame.specs.Spelling.{reply_body, frame, request_frame};
 ghost use Rattle.mq_request.specs.declared.message.Reply.TheVariants.{Retry, Bad};
 ghost use Rattle.mq_link.specs.declared.link.LinkFault.{LinkFault};
 ghost use Rattle.mq_link.specs.declared.link.Outcome.TheVariants.{Answered, Faulted};
@@ -13,7 +13,6 @@ ghost use Rattle.mq_ledger.specs.Legal.{Book, IsLegalBook};
 ghost use Rattle.mq_ledger.specs.Limits.{cap};
 ghost use Rattle.mq_ledger.specs.Sums.{AreDistinct};
 ghost use Rattle.mq_client.specs.Exchanges.{Exchange};
-ghost use Rattle.mq_frame.specs.Spelling.{request_frame};
 ghost use Rattle.mq_client.specs.Past.{Source, Action, Step, drained, view, Plays, IsPlayed, IsBounded};
 ghost use Rattle.mq_client.specs.Numbered.{exchanges_in};
 ghost use Rattle.mq_client.specs.Filter.{Takes, push};

@@ -5,7 +5,7 @@ use Rattle.std.specs.Option.{option_map}
 use Rattle.mq_line.specs.Grammar.{Meaning}
 use Rattle.mq_track.specs.Sessions.{fault, begin_count}
 use Rattle.mq_request.specs.Range.{IsRequest, IsReply}
-use Rattle.mq_frame.specs.Spelling.{request_body, reply_body, SpellsRequest, frame}
+use Rattle.mq_frame.specs.Spelling.{request_body, reply_body, SpellsRequest, frame, request_frame}
 use Rattle.mq_request.specs.declared.message.Request.{Request}
 use Rattle.mq_request.specs.declared.message.Reply.{Reply}
 use Rattle.mq_ledger.specs.declared.entry.Entry.{Entry}
@@ -14,7 +14,6 @@ use Rattle.mq_ledger.specs.Arrivals.{id_of as ledger_id}
 use Rattle.mq_ledger.specs.Day.{day_of}
 use Rattle.mq_ledger.specs.History.{requests, Transaction, held, settled_in, reserved, settled}
 use Rattle.mq_client.specs.Exchanges.{Exchange, decides, IsDecision}
-use Rattle.mq_frame.specs.Spelling.{request_frame}
 use Rattle.mq_client.specs.Past.{Source, Action, Drain, Step, id_of, Standing, view, IsPlayed}
 use Rattle.mq_client.specs.Numbered.{NoneReturns}
 use Rattle.mq_client.specs.Filter.{push, action_of, actions, actions_of}

@@ -7,7 +7,7 @@ use Rattle.std.proofs.lemmas.Bool.Decides.{nat_tests}
 use Rattle.std.proofs.lemmas.List.Elements.{All-from_recursion}
 use Rattle.mq_line.specs.Grammar.{Meaning, ReportLine, FilterLine}
 use Rattle.mq_request.specs.Range.{IsHost, IsHostByte, IsRun, IsId, IsMoment, IsRequest, IsReply}
-use Rattle.mq_frame.specs.Spelling.{request_body, reply_body, SpellsReply, frame}
+use Rattle.mq_frame.specs.Spelling.{request_body, reply_body, SpellsReply, frame, request_frame}
 use Rattle.mq_request.specs.declared.message.Id.{Id}
 use Rattle.mq_request.specs.declared.message.Request.{Request}
 use Rattle.mq_request.specs.declared.message.Request.TheVariants.{Settle, Retire}
@@ -19,7 +19,6 @@ use Rattle.mq_ledger.specs.Day.{IsZone, IsOffset, ByOffset, clock, day_of}
 use Rattle.mq_ledger.specs.History.{Transaction, requests, held, settled_in}
 use Rattle.mq_ledger.specs.Legal.{Book, IsLegalBook}
 use Rattle.mq_client.specs.Exchanges.{Exchange, IsTry, decides}
-use Rattle.mq_frame.specs.Spelling.{request_frame}
 use Rattle.mq_client.specs.Past.{Source, Ask, IsPlayed, id_of, reserve_of}
 use Rattle.mq_client.specs.Numbered.{id_in}
 use Rattle.mq_link.specs.declared.link.LinkFault.TheVariants.{TimedOut}
