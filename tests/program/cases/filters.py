@@ -72,15 +72,26 @@ def run(world, checks):
 
 
 def scripted(world, checks, what, text, script, *, results, frames, status=0, errors=None, **settings):
-    """Runs the filter; compares lines written, frames heard and the status, and the errors where they are given."""
+    """Runs the filter; compares lines written, frames heard and the status, and the errors where they are given. At level info the first line of the log
+    says what begins; it isn't given here."""
     with Script(script) as server:
         came_status, output, came_errors = world.filter(server.address, text, **settings)
+    if settings.get("log") == "info":
+        came_errors = after_the_start(checks, what, came_errors, server.address)
     checks.equal(f"{what}: the lines", output, REGISTRATION + b"".join(results))
     checks.equal(f"{what}: the frames", server.heard, frames)
     checks.equal(f"{what}: the status", came_status, status)
     if errors is not None:
         checks.equal(f"{what}: standard error", came_errors, errors)
     return came_errors
+
+
+def after_the_start(checks, what, errors, address):
+    """The log of level info after its first line."""
+    first, _, rest = errors.partition("\n")
+    wanted = f"[INFO  mq_remote::subcommands::filter] the filter of host mx1 begins its run 1, with the server {address}"
+    checks.equal(f"{what}: the log's first line", first, wanted)
+    return rest
 
 
 def one_recipient(world, checks):
@@ -217,6 +228,7 @@ def no_server(world, checks):
     with nobody_there() as address:
         status, output, errors = world.filter(address, text, log="info")
     checks.equal("no server: lines and status", (status, output), UNANSWERED)
+    errors = after_the_start(checks, "no server", errors, address)
     refused = "[ERROR mq_tcp::logged] quota server ADDRESS: Connection refused (os error 111)"
     wanted = [refused, UNANSWERED_RESERVE, UNANSWERED_RELEASE, UNANSWERED_RELEASE, LEFT]
     checks.equal("no server: reserve, release at the commit, release at the end", without_address(errors), wanted)

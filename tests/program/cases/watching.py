@@ -24,6 +24,7 @@ def run(world, checks):
     near_after_a_start(world, checks)
     lowered(world, checks)
     limits_of_all_kinds(world, checks)
+    retires(world, checks)
     clocks(world, checks)
     random_requests(world, checks)
 
@@ -196,10 +197,26 @@ def limits_of_all_kinds(world, checks):
             ("another one under its number", wire.limit(3, day, 6), INFO, f"limit 6 of login u from day {day}: refused, another request has its number"),
         ]:
             checks.equal(f"limits of all kinds, {what}", it.lines(frame), [(level, text)])
-        it.ask(wire.retire(6, run=2))
+        checks.equal("a retire", it.lines(wire.retire(6, run=2)), [(INFO, "runs of host a below 2: retired")])
         old = wire.limit(7, day, 4)
         checks.equal("limits of all kinds, of a retired run", it.lines(old), [(INFO, f"limit 4 of login u from day {day}: refused, its run is retired")])
         checks.equal("other requests", it.lines(wire.usage(day=day), wire.page(day=day), reserve(8, day, run=3)), [])
+
+
+def retires(world, checks):
+    """Each, with what it was answered, at the level of all lines and at no other."""
+    day = today()
+    with Watched(world, log="info") as it:
+        it.ask(wire.limit(8, day, 3, run=5))
+        for what, frame, text in [
+            ("first", wire.retire(7, run=5), "5: retired"),
+            ("repeated", wire.retire(7, run=5), "5: retired"),
+            ("of an earlier run", wire.retire(7, run=4), "4: refused, its run is retired"),
+            ("under a number that is used", wire.retire(8, run=5), "5: refused, another request has its number"),
+        ]:
+            checks.equal(f"a retire, {what}", it.lines(frame), [(INFO, f"runs of host a below {text}")])
+    with Watched(world) as it:
+        checks.equal("a retire, by the default level", it.lines(wire.retire(7, run=5)), [])
 
 
 def clocks(world, checks):

@@ -89,7 +89,11 @@ const LIMITS: &[Row<'_>] = &[
         "0019 04 0162 0000000000000001 00000004 00000005 00000000 0176",
         "[INFO  mq_watch::watched] connection of 192.0.2.7:40312: limit 0 of login v from day 5: refused, 1 used on day 5",
     ),
-    (86_400, "000f 07 0161 0000000000000002 00000001", ""),
+    (
+        86_400,
+        "000f 07 0161 0000000000000002 00000001",
+        "[INFO  mq_watch::watched] connection of 192.0.2.7:40312: runs of host a below 2: retired",
+    ),
     (
         86_400,
         "0019 04 0161 0000000000000001 00000005 00000001 00000002 0175",
