@@ -115,7 +115,7 @@ const CONFIG: CommandOption = CommandOption {
 const CHECK: CommandOption = CommandOption {
     name: "check",
     value: "",
-    help: "Only look at the settings and ask whether the server answers",
+    help: "Check the settings, ask whether the server answers, and end",
     takes: Takes::Nothing,
     need: Need::Optional,
     default: None,
@@ -133,7 +133,7 @@ const ONE_SERVER: CommandOption = CommandOption {
 const ITS_SETTINGS: CommandOption = CommandOption {
     name: "config",
     value: "FILE",
-    help: "Settings of the quota server: whose address is asked, and whose file is read where none answers",
+    help: "Settings of the quota server: its address is asked, and its ledger's file is read if it doesn't answer",
     takes: Takes::Text,
     need: Need::OneOf(ASKED),
     default: None,
@@ -151,7 +151,7 @@ const CREATE: CommandOption = CommandOption {
 const CONNECTIONS: CommandOption = CommandOption {
     name: "connections",
     value: "N",
-    help: "Connections to serve",
+    help: "End after so many connections",
     takes: Takes::Number(CROWDS),
     need: Need::Optional,
     default: Some("1000000"),
@@ -187,7 +187,7 @@ const HOST: CommandOption = CommandOption {
 const RETIRED_HOST: CommandOption = CommandOption {
     name: "host",
     value: "HOST",
-    help: "Host whose earlier runs are given up",
+    help: "Mail host whose earlier filters are retired",
     takes: Takes::Text,
     need: Need::Required,
     default: None,
@@ -196,7 +196,7 @@ const RETIRED_HOST: CommandOption = CommandOption {
 const RETIRED_RUN: CommandOption = CommandOption {
     name: "run",
     value: "N",
-    help: "Run below which they are given up, no filter's own; the clock's milliseconds where it isn't given",
+    help: "Retire filters whose run is below this number, which no filter has; by default the clock's milliseconds",
     takes: Takes::LongNumber(RUNS),
     need: Need::Optional,
     default: None,
@@ -368,7 +368,7 @@ pub const SUBCOMMANDS: [Subcommand; 14] = [
     },
     Subcommand {
         name: "status",
-        about: "Say whether the quota server answers, and what its ledger's file holds where none runs",
+        about: "Say whether the quota server answers; with --config also what its ledger's file holds if it doesn't",
         options: &[ONE_SERVER, ITS_SETTINGS],
         one_of: Some(ASKED),
     },
@@ -392,13 +392,13 @@ pub const SUBCOMMANDS: [Subcommand; 14] = [
     },
     Subcommand {
         name: "day",
-        about: "Print the day number of the ledger of a server's settings",
+        about: "Print today's day number by a server's settings",
         options: &[CONFIG, AT],
         one_of: None,
     },
     Subcommand {
         name: "retire",
-        about: "Give up a host's earlier runs: settle what they hold, forget their replies",
+        about: "Retire a host's earlier filters: what they reserved counts as sent, their requests are refused",
         options: &[SERVER, RETIRED_HOST, RETIRED_RUN],
         one_of: None,
     },

@@ -10,12 +10,12 @@ Commands:
   init    Make the ledger of a server's settings
   server  Serve the ledger to filters
   filter  Answer smtpd on standard input and output
-  status  Say whether the quota server answers, and what its ledger's file holds where none runs
+  status  Say whether the quota server answers; with --config also what its ledger's file holds if it doesn't
   limit   Set the limit of a login from a day on
   stop    Let a login have nothing more, today and on each later day
   resume  Let a login have more again, today and on each later day
-  day     Print the day number of the ledger of a server's settings
-  retire  Give up a host's earlier runs: settle what they hold, forget their replies
+  day     Print today's day number by a server's settings
+  retire  Retire a host's earlier filters: what they reserved counts as sent, their requests are refused
   report  Print what logins used on a day
   limits  Print the limits that are set in the ledger in a file
   audit   Check the books of the ledger in a file
@@ -45,7 +45,7 @@ Usage: mailquota filter [OPTIONS] --config <FILE>
 Options:
       --config <FILE>  Settings
       --run <N>        Number of the run; the clock's milliseconds where it isn't given
-      --check          Only look at the settings and ask whether the server answers
+      --check          Check the settings, ask whether the server answers, and end
   -h, --help           Print help
 """),
     (["server", "--help"], """Serve the ledger to filters
@@ -55,7 +55,7 @@ Usage: mailquota server [OPTIONS] --config <FILE>
 Options:
       --config <FILE>    Settings
       --create           Make a new ledger; one in memory is always new
-      --connections <N>  Connections to serve [default: 1000000]
+      --connections <N>  End after so many connections [default: 1000000]
   -h, --help             Print help
 """),
     (["init", "--help"], """Make the ledger of a server's settings
@@ -66,13 +66,13 @@ Options:
       --config <FILE>  Settings
   -h, --help           Print help
 """),
-    (["status", "--help"], """Say whether the quota server answers, and what its ledger's file holds where none runs
+    (["status", "--help"], """Say whether the quota server answers; with --config also what its ledger's file holds if it doesn't
 
 Usage: mailquota status <--server <ADDRESS>|--config <FILE>>
 
 Options:
       --server <ADDRESS>  Numeric address and port of the quota server
-      --config <FILE>     Settings of the quota server: whose address is asked, and whose file is read where none answers
+      --config <FILE>     Settings of the quota server: its address is asked, and its ledger's file is read if it doesn't answer
   -h, --help              Print help
 """),
     (["limits", "--help"], """Print the limits that are set in the ledger in a file
@@ -132,7 +132,7 @@ Options:
       --cap <N>            Recipients that it may have more today, and on each later day
   -h, --help               Print help
 """),
-    (["day", "--help"], """Print the day number of the ledger of a server's settings
+    (["day", "--help"], """Print today's day number by a server's settings
 
 Usage: mailquota day [OPTIONS] --config <FILE>
 
@@ -141,14 +141,14 @@ Options:
       --at <SECONDS>   Second since 1970-01-01 UTC; now where it isn't given
   -h, --help           Print help
 """),
-    (["retire", "--help"], """Give up a host's earlier runs: settle what they hold, forget their replies
+    (["retire", "--help"], """Retire a host's earlier filters: what they reserved counts as sent, their requests are refused
 
 Usage: mailquota retire [OPTIONS] --server <ADDRESS> --host <HOST>
 
 Options:
       --server <ADDRESS>  Numeric address and port of the quota server
-      --host <HOST>       Host whose earlier runs are given up
-      --run <N>           Run below which they are given up, no filter's own; the clock's milliseconds where it isn't given
+      --host <HOST>       Mail host whose earlier filters are retired
+      --run <N>           Retire filters whose run is below this number, which no filter has; by default the clock's milliseconds
   -h, --help              Print help
 """),
     (["report", "--help"], """Print what logins used on a day
