@@ -312,8 +312,15 @@ def faults(world, checks):
     checks.equal("an output that takes nothing", (status, apart(errors)[1]), (1, "mailquota: write failed\n"))
     with Script([GRANTED]) as server:
         status, output, errors = world.filter(server.address, INPUT + b"report|0.6|")
-    came = (status, output, apart(errors)[1])
-    checks.equal("an end inside a line after an answer", came, (1, REGISTRATION + answer(PROCEED), "mailquota: input ends inside a line\n"))
+    log = "[ERROR mq_remote::subcommands::filter] the filter ends: input ends inside a line\n"
+    left = "[WARN  mq_remote::subcommands::filter] closings without an answer: 0, open transactions: 1\n"
+    wanted = f"{log}{left}mailquota: input ends inside a line\n"
+    checks.equal("an end inside a line after an answer", (status, output, errors), (1, REGISTRATION + answer(PROCEED), wanted))
+    with nobody_there() as address:
+        came = world.filter(address, INPUT + COMMIT + b"report|0.6|", tries=1)
+    left = left.replace("answer: 0", "answer: 1").replace("transactions: 1", "transactions: 0")
+    lines = came[2].splitlines(keepends=True)
+    checks.equal("an end inside a line with a closing that waits", (came[0], lines[-2:]), (1, [left, "mailquota: input ends inside a line\n"]))
 
 
 def a_socket_that_breaks(world, checks):

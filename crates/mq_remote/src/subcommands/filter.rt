@@ -5,7 +5,7 @@ ghost use Rattle.mq_process.specs.Settings.{CanAsk};
 
 use crate::fault::FilterEnd;
 use log::sink::Console;
-use log::{Log, Logged, error, info};
+use log::{Log, Logged, error, info, warn};
 use mq_arguments::FilterArguments;
 use mq_client::{Client, run_filter};
 use mq_link::Link;
@@ -74,7 +74,17 @@ fn answer_lines<R: Input + Print + AllocGlobal, G: Log, K: Link>(
         Ok(_) => Ok(0),
         Err(fault) => {
             error!(log; "the filter ends: {fault}");
+            warn_left(log, client);
             Err(FilterEnd::Filter(fault))
         }
+    }
+}
+
+/// Warns of what a filter leaves that ends by a fault: what these transactions hold stays reserved.
+fn warn_left<G: Log>(log: &G, client: &Client) {
+    let closings = client.outbox_count();
+    let open = client.held_count();
+    if closings > 0 || open > 0 {
+        warn!(log; "closings without an answer: {closings}, open transactions: {open}");
     }
 }
