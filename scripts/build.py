@@ -30,8 +30,8 @@ BINARY = f"{TOP}/crates/{PROGRAM}/out/{PROGRAM}"
 # the memory that a check is given, in kilobytes
 MEMORY = 4_000_000
 # How many jobs prove a crate, where not one for each processor along the longest chain, and one elsewhere: each job does part of the work of the others
-# again, and while other crates are ready two jobs of each are better than four of one.
-JOBS = {"mq_request": 2, "mq_frame": 2, "mq_ledger": 2, "mq_tables": 2}
+# again, and while other crates are ready, two jobs of each are better than four of one.
+JOBS = {"mq_request": 2, "mq_frame": 2, "mq_ledger": 2, "mq_rows": 2, "mq_tables": 2}
 
 
 def folder(name):
@@ -156,12 +156,18 @@ class Build:
             left = [it for it in self.below if it in share]
             while (left := [it for it in left if it not in self.begun]) and not self.has_failed:
                 ready = [it for it in left if self.done.issuperset(self.below[it])]
-                if ready:
+                if ready and self.has_room(lane):
                     name = max(ready, key=self.lengths.get)
                     self.begun.append(name)
                     return name
                 self.changed.wait()
         return None
+
+    def has_room(self, lane):
+        """Whether a crate may begin in a lane now: one of the longest chain always, any other where a processor is free or fewer than two others are
+        proved. (More of them would only hold up the chain.)"""
+        proved = set(self.begun) - self.done
+        return lane == 0 or sum(map(self.jobs, proved)) < self.lanes or len(proved.difference(self.chain)) < 2
 
     def jobs(self, name):
         """How many functions of a crate are proved at once."""
