@@ -59,7 +59,23 @@ fn audit_file<W: Write, S: Start>(
 {
     let logged = Logged::new(rt, settings.log, Console(rt));
     let ledger = ledger_of_settings(rt, &logged, settings, false, start)?;
-    audit_ledger(rt.alloc(), &ledger, output)?;
+    let ledger = audit_whole(rt.alloc(), ledger, output)?;
+    Ok(ledger)
+}
+
+/// Audits a ledger, which comes back. It goes over any store, since a proof over the file's own takes far longer.
+fn audit_whole<S: Alter + Drop, W: Write>(
+    alloc: Global,
+    ledger: SqlLedger<S>,
+    output: &mut W,
+) -> Result<SqlLedger<S>, ProgramFault>
+    ensures same { IfOk result (λ back. back ≡ ledger) }
+    ensures printed { OnOk result (Appends (W.contents output.old) (W.contents output.new)
+        (sound_line ledger.found.days ledger.found.transactions)) }
+    ensures unprinted { IfErr result (FailsAfter (sound_line ledger.found.days ledger.found.transactions)
+        (W.contents output.old) (W.contents output.new)) }
+{
+    audit_ledger(alloc, &ledger, output)?;
     Ok(ledger)
 }
 

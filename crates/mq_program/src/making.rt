@@ -16,7 +16,7 @@ use mq_arguments::InitArguments;
 use mq_process::server_settings;
 use mq_settings::ServerSettings;
 use mq_store::SqlLedger;
-use sqlite::{FileFrom, FileStore, Start};
+use sqlite::{Alter, FileFrom, FileStore, Start};
 use std::alloc::{AllocError, Global};
 use std::io::Write;
 
@@ -57,19 +57,27 @@ fn init_file<W: Write, S: Start>(
     let path = path_of(settings)?;
     let logged = Logged::new(rt, settings.log, Console(rt));
     let ledger = ledger_of_settings(rt, &logged, settings, true, start)?;
-    print_made(rt.alloc(), path, output)?;
+    let ledger = print_made(rt.alloc(), ledger, path, output)?;
     Ok(ledger)
 }
 
-/// Prints the path of a ledger that was made.
+/// Prints the path of a ledger that was made, and which comes back. It goes over any store, since a proof over the file's own
+/// takes far longer.
 #[tactic(auto, using(crate::proofs::ListingSteps::nothing_written))]
-fn print_made<W: Write>(alloc: Global, path: &str, output: &mut W) -> Result<(), ProgramFault>
+fn print_made<S: Alter + Drop, W: Write>(
+    alloc: Global,
+    ledger: SqlLedger<S>,
+    path: &str,
+    output: &mut W,
+) -> Result<SqlLedger<S>, ProgramFault>
+    ensures same { IfOk result (λ back. back ≡ ledger) }
     ensures printed { IfOk result (λ _. PrintsMadeIn (Some path.now) (W.contents output.old) (W.contents output.new)) }
     ensures unprinted { IfErr result (λ fault. MadeFails (Some path.now) (W.contents output.old)
         (W.contents output.new) fault) }
 {
     let line = made_line(alloc, path)?;
-    print(output, line.as_bytes())
+    print(output, line.as_bytes())?;
+    Ok(ledger)
 }
 
 /// The line of a ledger that was made.
