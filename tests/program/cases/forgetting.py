@@ -655,6 +655,10 @@ def a_night(world, checks):
     came = night.run()
     wanted = 1, [], f"mailquota-forget: there is no {night.folder}/nothing\n"
     checks.equal("the script with a path where no ledger is: nothing is called, and the server runs", (came, night.has("server")), (wanted, True))
+    night = Night(world, "night-of-two", source)
+    night.words[2:] = ["two"]
+    wanted = 2, [], "mailquota-forget: DAYS is no number: two\n"
+    checks.equal("the script with days that are no number: nothing is called, and the server runs", (night.run(), night.has("server")), (wanted, True))
 
 
 def of_a_week(now):
