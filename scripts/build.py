@@ -140,6 +140,8 @@ class Build:
     def __init__(self, rows, below, sums, lanes):
         self.rows, self.below, self.sums, self.lanes, self.lengths = rows, below, sums, lanes, lengths_above(below)
         self.chain = chain_of(below, self.lengths)
+        # the place in the chain of the first crate that stands on each
+        self.needed = {it: next(place for place, name in enumerate(self.chain) if it == name or it in all_below(name, rows)) for it in below}
         self.begun, self.done, self.running, self.has_failed = [], set(), {}, False
         self.changed = threading.Condition()
 
@@ -157,7 +159,8 @@ class Build:
             while (left := [it for it in left if it not in self.begun]) and not self.has_failed:
                 ready = [it for it in left if self.done.issuperset(self.below[it])]
                 if ready and self.has_room(lane):
-                    name = max(ready, key=self.lengths.get)
+                    # (what the chain waits for sooner goes first)
+                    name = min(ready, key=lambda it: (self.needed[it], -self.lengths[it]))
                     self.begun.append(name)
                     return name
                 self.changed.wait()
