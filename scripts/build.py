@@ -141,7 +141,8 @@ class Build:
         self.rows, self.below, self.sums, self.lanes, self.lengths = rows, below, sums, lanes, lengths_above(below)
         self.chain = chain_of(below, self.lengths)
         # the place in the chain of the first crate that stands on each
-        self.needed = {it: next(place for place, name in enumerate(self.chain) if it == name or it in all_below(name, rows)) for it in below}
+        stand = [{name, *all_below(name, rows)} for name in self.chain]
+        self.needed = {it: next(place for place, crates in enumerate(stand) if it in crates) for it in below}
         self.begun, self.done, self.running, self.has_failed = [], set(), {}, False
         self.changed = threading.Condition()
 

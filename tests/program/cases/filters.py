@@ -300,8 +300,7 @@ def faults(world, checks):
     ]
     for what, text, written, error in cases:
         came = world.filter("127.0.0.1:1", text)
-        log = f"[ERROR mq_remote::subcommands::filter] the filter ends: {error}\n"
-        checks.equal(f"{what}: status, lines, errors", came, (1, written, f"{log}mailquota: {error}\n"))
+        checks.equal(f"{what}: status, lines, errors", came, (1, written, f"{ended_by(error)}mailquota: {error}\n"))
     quiet = world.filter("127.0.0.1:1", b"", log="off")
     checks.equal('an empty input with log = "off"', quiet, (1, b"", "mailquota: input ended before config ready\n"))
     came = world.filter("127.0.0.1:1", ready + b"x" * 65_536 + b"\n" + b"\n" + b"anything|else\n")
@@ -312,15 +311,23 @@ def faults(world, checks):
     checks.equal("an output that takes nothing", (status, apart(errors)[1]), (1, "mailquota: write failed\n"))
     with Script([GRANTED]) as server:
         status, output, errors = world.filter(server.address, INPUT + b"report|0.6|")
-    log = "[ERROR mq_remote::subcommands::filter] the filter ends: input ends inside a line\n"
-    left = "[WARN  mq_remote::subcommands::filter] closings without an answer: 0, open transactions: 1\n"
-    wanted = f"{log}{left}mailquota: input ends inside a line\n"
+    error = "input ends inside a line"
+    wanted = f"{ended_by(error)}{left_by(closings=0, transactions=1)}mailquota: {error}\n"
     checks.equal("an end inside a line after an answer", (status, output, errors), (1, REGISTRATION + answer(PROCEED), wanted))
     with nobody_there() as address:
         came = world.filter(address, INPUT + COMMIT + b"report|0.6|", tries=1)
-    left = left.replace("answer: 0", "answer: 1").replace("transactions: 1", "transactions: 0")
     lines = came[2].splitlines(keepends=True)
-    checks.equal("an end inside a line with a closing that waits", (came[0], lines[-2:]), (1, [left, "mailquota: input ends inside a line\n"]))
+    checks.equal("an end inside a line with a closing that waits", (came[0], lines[-2:]), (1, [left_by(closings=1, transactions=0), f"mailquota: {error}\n"]))
+
+
+def ended_by(error):
+    """What the log has of a filter that this fault ends."""
+    return f"[ERROR mq_remote::subcommands::filter] the filter ends: {error}\n"
+
+
+def left_by(closings, transactions):
+    """What it has after that, where the filter leaves something."""
+    return f"[WARN  mq_remote::subcommands::filter] closings without an answer: {closings}, open transactions: {transactions}\n"
 
 
 def a_socket_that_breaks(world, checks):
