@@ -1,11 +1,10 @@
 //! The filter: what smtpd writes is read, and each of its requests is answered.
 ghost use Rattle.std.specs.Prelude.{◌≡◌, ◌≢◌, ◌≤◌, ◌<◌, ◌+◌, ◌*◌, ◌^◌, ◌++◌, ◌∷◌, [], ℕ, List, Option, Bool, None};
-ghost use Rattle.std.specs.Prelude.{Some, true, false, length, is_some, IfOk, OnOk, OnErr, IfErr, MatchBool};
-ghost use Rattle.std.specs.Prelude.{MatchResult};
+ghost use Rattle.std.specs.Prelude.{Some, true, false, length, is_some, IfOk, OnOk, OnErr, IfErr};
 ghost use Rattle.std.specs.List.{concat};
 ghost use Rattle.std.specs.Io.KnownBytes.{Appends, IsAtEnd};
 ghost use Rattle.mq_stream.specs.Flow.{IsFlushed};
-ghost use Rattle.mq_line.specs.Grammar.{Meaning, ReadyLine, meaning};
+ghost use Rattle.mq_line.specs.Grammar.{Meaning, meaning};
 ghost use Rattle.mq_line.specs.Results.{registration as registration_lem};
 ghost use Rattle.mq_line.specs.Text.{IsLine};
 ghost use Rattle.mq_track.specs.Sessions.{closing as closing_lem, fault as fault_lem};

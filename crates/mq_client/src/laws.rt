@@ -1,9 +1,9 @@
 //! Laws of a client's past. The functions compute nothing.
-ghost use Rattle.std.specs.Prelude.{◌≡◌, ◌==◌, ◌≤◌, ◌*◌, ◌++◌, ◌∷◌, ℕ, List, Bool, Option, true, false, None, Some};
+ghost use Rattle.std.specs.Prelude.{◌≡◌, ◌==◌, ◌≤◌, ◌*◌, ◌++◌, ◌∷◌, ℕ, List, Bool, true, false, None, Some};
 ghost use Rattle.std.specs.Prelude.{length, count_by, is_some, if◌then◌else◌};
 ghost use Rattle.mq_request.specs.declared.message.Request.{Request};
 ghost use Rattle.mq_client.specs.Exchanges.{Exchange};
-ghost use Rattle.mq_client.specs.Past.{Source, Step, drained, State, StandsAt, view, Plays, ArePlayed, IsPlayed};
+ghost use Rattle.mq_client.specs.Past.{Source, Step, drained, StandsAt, view, Plays, ArePlayed, IsPlayed};
 ghost use Rattle.mq_client.specs.Past.{IsBounded};
 ghost use Rattle.mq_client.specs.Reading.{live_in, standing_in, numbers_in, waiting_in};
 ghost use Rattle.mq_client.specs.Turns.{next, ComeInTurn, IsUnderway, AreUnderway, outcomes, all_outcomes};

@@ -1,5 +1,5 @@
 //! Why the filter refuses a recipient by itself, and of which of these causes it has warned.
-ghost use Rattle.std.specs.Prelude.{◌≡◌, ◌≤◌, length};
+ghost use Rattle.std.specs.Prelude.{◌≤◌, length};
 
 use crate::session::Session;
 use mq_request::Escaped;

@@ -1,6 +1,5 @@
 //! Requests and replies of their bodies.
 ghost use Rattle.std.specs.Prelude.{◌≡◌, Err, IfOk, OnErr, MatchResult};
-ghost use Rattle.mq_frame.specs.Reading.{Reads};
 ghost use Rattle.mq_frame.specs.Shown.{shown_id, shown_row};
 ghost use Rattle.mq_frame.specs.Owned.{RequestHoldsBytes, ReplyHoldsBytes};
 ghost use Rattle.mq_frame.specs.Parts.{shown_page, shown_request, shown_reply};

@@ -3,7 +3,7 @@
 
 ghost use Rattle.std.specs.Prelude.{◌≡◌, ◌≤◌, ◌<◌, ◌+◌, [], ◌∷◌, ◌++◌, length, vec_capacity, vec_len, OnOk, OnErr};
 ghost use Rattle.std.specs.List.{flat_map};
-ghost use Rattle.mq_request.specs.Range.{IsId, IsOrdinal, IsMoment, IsLogin, IsAfter, IsRow, IsPage, IsRequest, IsReply};
+ghost use Rattle.mq_request.specs.Range.{IsId, IsLogin, IsAfter, IsRow, IsPage, IsRequest, IsReply};
 ghost use Rattle.mq_frame.specs.Spelling.{in_2_bytes, in_4_bytes, in_8_bytes, with_length, id_bytes, transaction_bytes};
 ghost use Rattle.mq_frame.specs.Spelling.{row_bytes, page_bytes, request_body, reply_body, frame};
 

@@ -3,8 +3,8 @@
 //! In each line spaces are passed over, and what else stands there is whole bytes in hexadecimal,
 //! in either case. Lines are joined to one connection until an empty line or the end of the text;
 //! further empty lines change nothing. The last line needs no line feed.
-ghost use Rattle.std.specs.Prelude.{◌≡◌, ◌≤◌, ◌<◌, ◌↔◌, [], ◌∷◌, ◌++◌, List, ℕ, true, None, Some, map, filter, length};
-ghost use Rattle.std.specs.Prelude.{nat_lt, not, is_err, OnOk, IfOk, IfErr};
+ghost use Rattle.std.specs.Prelude.{◌≡◌, ◌<◌, ◌↔◌, [], ◌∷◌, ◌++◌, ℕ, true, None, Some, map, filter, length};
+ghost use Rattle.std.specs.Prelude.{nat_lt, not, is_err, OnOk, IfOk};
 ghost use Rattle.std.specs.Result.{result_unwrap_or};
 ghost use Rattle.hex.specs.Hex.{decode_of};
 ghost use Rattle.mq_replay.specs.Connections.{digits_of, first_not_hex, connections_of};

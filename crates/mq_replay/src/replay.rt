@@ -1,5 +1,5 @@
 //! Connections answered over a ledger, and printed.
-ghost use Rattle.std.specs.Prelude.{◌≡◌, ◌⊎◌, ℕ, ℤ, [], map, IfOk, IfErr};
+ghost use Rattle.std.specs.Prelude.{◌≡◌, ◌⊎◌, ℕ, [], map, IfOk, IfErr};
 ghost use Rattle.std.specs.List.{slice_get};
 ghost use Rattle.mq_ledger.specs.declared.zone.Zone.{Zone as AnyZone};
 ghost use Rattle.mq_replay.specs.Replay.{empty_book, ending_of, faults_of, IsForCause, IsReplay, Prints, ReplaysOver};

@@ -1,5 +1,5 @@
 //! The rows of a list's page: what a login has used on a day.
-ghost use Rattle.std.specs.Prelude.{◌≡◌, IfOk};
+ghost use Rattle.std.specs.Prelude.{◌≡◌};
 
 use crate::text::Login;
 use std::alloc::AllocError;

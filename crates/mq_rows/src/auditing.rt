@@ -1,5 +1,5 @@
 //! The audit of the tables, over rows that are given one by one.
-ghost use Rattle.std.specs.Prelude.{◌≡◌, ℕ, map, None, IfOk, OnOk, OnErr};
+ghost use Rattle.std.specs.Prelude.{◌≡◌, ℕ, None, IfOk, OnOk, OnErr};
 ghost use Rattle.std.specs.BTreeMap.{get, keys};
 ghost use Rattle.mq_ledger.specs.Day.{day_of};
 ghost use Rattle.mq_ledger.specs.declared.zone.Zone.{Zone as AnyZone};

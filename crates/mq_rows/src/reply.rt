@@ -2,7 +2,7 @@
 ghost use Rattle.std.specs.Prelude.{◌≡◌, ◌+◌, ◌<◌, ◌≤◌, ◌&&◌, not, true, false, IfOk, IfErr};
 ghost use Rattle.std.specs.Option.{MatchOption};
 ghost use Rattle.mq_request.specs.declared.message.Reply.{Reply as AnyReply};
-ghost use Rattle.mq_request.specs.Range.{IsId, IsCount, IsAmount, IsRequest, IsReply};
+ghost use Rattle.mq_request.specs.Range.{IsId, IsCount, IsRequest, IsReply};
 ghost use Rattle.mq_ledger.specs.Answer.{granted_or_full, settled_or_too_many};
 ghost use Rattle.mq_rows.specs.Plan.{agrees_with, is_closed, held_by, reserved_by, used_by, cap_by, if_row_open};
 ghost use Rattle.mq_rows.specs.Plan.{set_or_over_by, decided, moves, fits_held, fits, fits_if_open, is_day_over, may_be_found};

@@ -1,14 +1,14 @@
 //! What a numbered request whose number is new comes to: its reply, and what is written with it.
 ghost use Rattle.std.specs.Prelude.{◌≡◌, ◌+◌, ◌<◌, ◌≤◌, ◌^◌, true, false, Some, IfOk, IfErr};
 ghost use Rattle.mq_rows.specs.declared.plan.Found.{Found as AnyFound};
-ghost use Rattle.mq_request.specs.Range.{IsRequest, IsReply, IsCount};
+ghost use Rattle.mq_request.specs.Range.{IsRequest, IsReply};
 ghost use Rattle.mq_frame.specs.Spelling.{request_body, reply_body};
 ghost use Rattle.mq_ledger.specs.Arrivals.{id_of};
 ghost use Rattle.mq_ledger.specs.Day.{day_of};
-ghost use Rattle.mq_rows.specs.Rows.{number_of, answer_of};
-ghost use Rattle.mq_rows.specs.Plan.{moves, moved, fresh, moved_or_made, transaction_write};
-ghost use Rattle.mq_rows.specs.Plan.{reserved_more, freed, usage_write, set_limit_to, limit_write};
-ghost use Rattle.mq_rows.specs.Plan.{floor_by, given_up_by, raised_to, retired_write};
+ghost use Rattle.mq_rows.specs.Rows.{answer_of};
+ghost use Rattle.mq_rows.specs.Plan.{moves, moved, fresh, transaction_write};
+ghost use Rattle.mq_rows.specs.Plan.{reserved_more, freed, usage_write, limit_write};
+ghost use Rattle.mq_rows.specs.Plan.{floor_by, given_up_by, retired_write};
 ghost use Rattle.mq_rows.specs.Plan.{held_by, reserved_by, used_by, fits, written, planned, may_be_found, abandoned_row};
 ghost use Rattle.mq_rows.specs.Storable.{AreStorableIf, IsStorableFloor, IsStorablePlan};
 

@@ -1,5 +1,5 @@
 //! One step of a connection: what stands at the front of what came is answered.
-ghost use Rattle.std.specs.Prelude.{◌≡◌, ◌<◌, ◌+◌, ◌++◌, ℕ, List, OnOk, OnErr, Ok, Err, length, vec_capacity, vec_len};
+ghost use Rattle.std.specs.Prelude.{◌≡◌, ◌<◌, OnErr, Ok, Err, vec_capacity};
 ghost use Rattle.mq_frame.specs.Feed.{front};
 ghost use Rattle.mq_request.specs.Range.{IsReply};
 ghost use Rattle.mq_frame.specs.Spelling.{frame, reply_body};

@@ -42,7 +42,7 @@ ghost use Rattle.mq_store.specs.Paging.{IsNextRow, IsPageOf, IsBegunIn};
 ghost use Rattle.mq_store.specs.Auditing.{IsAuditIn, IsRightAnswer};
 ghost use Rattle.mq_store.specs.Carrying.{day_by, SpellsWhereKnown, IsAnswered};
 ghost use Rattle.mq_store.specs.Soundness.{book_in};
-ghost use Rattle.mq_store.specs.Taking.{HasRows, HasBook, book_of, book_after, IsKnown, AppliesOver, IsPlannedOver};
+ghost use Rattle.mq_store.specs.Taking.{HasRows, HasBook, book_of, book_after, IsKnown, IsPlannedOver};
 
 use mq_forget::laws::{fronts_are_legal, next_place_is_carried_over};
 use mq_frame::laws::one_spelling;

@@ -3,7 +3,7 @@
 ghost use Rattle.std.specs.Prelude.{◌≡◌};
 ghost use Rattle.std.specs.List.{list_any};
 ghost use Rattle.sqlite_schema.specs.Names.{same_name};
-ghost use Rattle.mq_tables.specs.Making.{is_owner, is_aside, has_table, has_ledger_table, has_later_table};
+ghost use Rattle.mq_tables.specs.Making.{is_aside, has_table, has_ledger_table, has_later_table};
 
 use sqlite_schema::names::same_name;
 use sqlite_schema::schema::{Schema, Table, View};

@@ -1,7 +1,7 @@
 //! The table `usage`: on which day a login has used more than a limit allows.
 
 ghost use Rattle.std.specs.List.Sorted.{IsPermutation};
-ghost use Rattle.std.specs.Prelude.{◌≡◌, List, map, filter, OnOk, IfOk};
+ghost use Rattle.std.specs.Prelude.{◌≡◌, map, filter, OnOk, IfOk};
 ghost use Rattle.sqlite.specs.Held.{state};
 ghost use Rattle.sqlite.specs.State.{HasCleanDisk, IsUnchanged};
 ghost use Rattle.mq_rows.specs.Found.{IsFirstOver};

@@ -30,7 +30,7 @@ impl Model for Tracker {
 
 impl Tracker {
     ghost use Rattle.std.specs.Option.{option_copied};
-    ghost use Rattle.std.specs.Prelude.{◌≡◌, ◌<◌, ◌≤◌, List, ℕ, [], ◌∷◌, Err, None};
+    ghost use Rattle.std.specs.Prelude.{◌≡◌, ◌<◌, ◌≤◌, List, [], ◌∷◌, Err, None};
     ghost use Rattle.std.specs.Prelude.{IfSome, OnOk, OnErr, MatchBool, MatchResult, IsTrue};
     ghost use Rattle.mq_line.specs.Grammar.{Meaning, meaning};
     ghost use Rattle.mq_track.specs.Events.{event, Passed, Began, Ended, Left};

@@ -1,5 +1,5 @@
 //! Laws of both ends. The functions compute nothing.
-ghost use Rattle.std.specs.Prelude.{◌≡◌, ◌≤◌, ◌+◌, ◌++◌, ◌∷◌, ℕ, List, Bool, Option, sum_by, true, false, Some};
+ghost use Rattle.std.specs.Prelude.{◌≡◌, ◌≤◌, ◌+◌, ◌++◌, ◌∷◌, ℕ, List, Bool, Option, true, false, Some};
 ghost use Rattle.std.specs.Prelude.{slice_get, ℤ};
 ghost use Rattle.mq_frame.specs.Spelling.{reply_body, frame, request_frame};
 ghost use Rattle.mq_request.specs.declared.message.Reply.TheVariants.{Retry, Bad};

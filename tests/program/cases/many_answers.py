@@ -1,7 +1,9 @@
 """Tens of thousands of answers in one ledger, over tables in memory and over a file, all given up at last; of connections of one server; days of
 one login."""
+import re
 import socket
 import threading
+import time
 
 import wire
 from books import Books
@@ -104,10 +106,14 @@ def many_limits(world, checks):
     sent = b"".join(wire.limit(n, 1, n, login=b"%04d" % n) for n in range(1, LIMITS + 1))
     with Server(world, words=["--create"], store=path, default=DEFAULT) as server:
         checks.equal(f"{LIMITS:,} limits", outcome(server, sent), books.serve(sent))
+    start = time.monotonic()
     with Server(world, store=path, default=DEFAULT, log="info") as server:
         server.ask(wire.usage())
-        wanted = begun(path, default=DEFAULT, answers=LIMITS, limits=LIMITS)
-        checks.equal(f"{LIMITS:,} limits: a server's start", without_time(server.log_lines())[0], wanted)
+        waited = 1_000 * (time.monotonic() - start)
+        wanted, lines = begun(path, default=DEFAULT, answers=LIMITS, limits=LIMITS), server.log_lines()
+        checks.equal(f"{LIMITS:,} limits: a server's start", without_time(lines)[0], wanted)
+        took = sum(map(int, re.findall(r" in ([0-9]+) ms$", lines[0])))
+        checks.holds(f"{LIMITS:,} limits: how long the start took", 0 < took <= waited, f"at most {waited:.0f} ms", took)
     came = world.run("audit", "--config", ledger_settings(world, path, default=DEFAULT))
     checks.equal(f"{LIMITS:,} limits: audit", came, (0, b"sound days=0 transactions=0\n", ""))
     read_by_commands(world, checks, f"{LIMITS:,} limits", path, books)

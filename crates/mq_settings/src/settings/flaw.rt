@@ -1,5 +1,5 @@
 //! Where a text is no TOML, and why.
-ghost use Rattle.std.specs.Prelude.{◌≡◌, ◌+◌, ◌==◌, take, count_by};
+ghost use Rattle.std.specs.Prelude.{◌≡◌, ◌+◌, ◌==◌, count_by};
 
 use std::fmt;
 
