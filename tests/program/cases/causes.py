@@ -29,6 +29,7 @@ def run(world, checks):
     logs_of_nothing(world, checks)
     addresses_of_settings(world, checks)
     values_of_settings(world, checks)
+    files_of_settings(world, checks)
     rows_of_no_ledger(world, checks)
     forgets_no_such_rows(world, checks)
     memory(world, checks)
@@ -119,6 +120,7 @@ def addresses_of_settings(world, checks):
     for subcommand, key, others in [("filter", "server", filters), ("server", "listen", servers)]:
         for value, lacks in [
             ("nowhere", NO_PORT), ("", NO_PORT), ("127.0.0.1", NO_PORT), ("[::1]", NO_PORT), ("127.0.0.1:65536", PORT_TOO_LARGE),
+            ("127.0.0.1:", NO_PORT), ("127.0.0.1:4294967296", PORT_TOO_LARGE), ("localhost:65535", NO_NUMERIC_ADDRESS),
             ("localhost:7025", NO_NUMERIC_ADDRESS), ("::1", NO_NUMERIC_ADDRESS), ("*:7025", NO_NUMERIC_ADDRESS),
             (7025, "bad value, it has to be a numeric address with a port, in quotes"),
         ]:
@@ -149,6 +151,16 @@ def values_of_settings(world, checks):
         refuses_setting(world, checks, subcommand, others, key, value, f"bad value, it has to be {wanted}")
 
 
+def files_of_settings(world, checks):
+    """The line of the log names the file of settings at fault, also where it says no more than the last line."""
+    filters = {"host": "mx1", "server": "127.0.0.1:7025"}
+    for said, text in [
+        ("setting port: unknown", toml({**filters, "port": 1})), ("setting server: missing", toml({"host": "mx1"})), ("settings too large", "#" * 65_537),
+    ]:
+        file = world.new_file(text)
+        checks.equal(f"filter: {said}", world.run("filter", "--config", file), (1, b"", f"[ERROR mq_process::settings] {file}: {said}\nmailquota: {said}\n"))
+
+
 def rows_of_no_ledger(world, checks):
     """A repeat of a request whose stored reply spells nothing ends the server, with what is wrong."""
     source, _ = left_by_a_server(world, "rows", wire.reserve(1) + wire.reserve(2))
@@ -166,8 +178,13 @@ def forgets_no_such_rows(world, checks):
     """Nor is such a row carried over: the store has failed, and not memory."""
     source, _ = left_by_a_server(world, "carried", wire.reserve(1) + wire.reserve(2))
     path = edited(world, source, "carried-nothing", "UPDATE answer SET reply = x'ff' WHERE n = 2")
-    came = world.run("forget", "--config", ledger_settings(world, path), "--before", "1", "--into", f"{path}.new")
-    checks.equal("forget of a row that spells nothing", without_log(came), (1, b"", "mailquota: store failed\n"))
+    into = f"{path}.new"
+    came = world.run("forget", "--config", ledger_settings(world, path), "--before", "1", "--into", into)
+    log = f"[ERROR mq_program::forgetting] {into}, made of {path}: rows are none of a ledger's\n[ERROR mq_program::forgetting] remove {into} and {into}-wal\n"
+    checks.equal("forget of a row that spells nothing", came, (1, b"", f"{log}mailquota: store failed\n"))
+    came = world.run("forget", "--config", ledger_settings(world, source, log="info"), "--before", "1", "--into", f"{source}.new")
+    log = f"[INFO  mq_program::forgetting] {source}.new takes over what {source} has from day 1 on\n"
+    checks.equal('forget with log = "info"', came, (0, b"kept answers=2 of 2, limits=0\n", log))
 
 
 def memory(world, checks):

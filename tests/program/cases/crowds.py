@@ -1,11 +1,12 @@
 """Many peers of the server at once, many requests of one, and one that takes nothing of what it is answered."""
 import select
+import signal
 import threading
 import time
 
 from cases.filters import INPUT, PROCEED, REGISTRATION, answer
 from cases.peers import NOTHING_USED, goes_on, name_of
-from ends import LONG, Server, read_all, wait_until
+from ends import LONG, Server, is_stopped, read_all, send_no_more, wait_until
 from wire import granted, number, page, page_reply, reserve, row, usage
 
 
@@ -13,6 +14,8 @@ def run(world, checks):
     a_peer_that_reads_nothing(world, checks)
     many_requests(world, checks)
     many_long_requests(world, checks)
+    one_request_alongside_many(world, checks)
+    a_peer_that_takes_slowly(world, checks)
     silent_peers(world, checks)
     print("    10,001 and 9,999 requests of a connection, 10,000 pages that nobody reads, 500 peers that send nothing, 905 connections at once", flush=True)
 
@@ -65,6 +68,41 @@ def many_long_requests(world, checks):
             while len(came) < len(wanted) * 9_999 and peer_waits.poll(LONG):
                 came += peer.recv(65_536)
             checks.equal("9,999 long requests at once: their replies", (len(came) // len(wanted), came == wanted * 9_999), (9_999, True))
+
+
+def one_request_alongside_many(world, checks):
+    """5,000 requests of one peer and one of another are there before the server looks at any: the one is answered among the first."""
+    with Server(world, default=1_000_000) as server:
+        server.process.send_signal(signal.SIGSTOP)
+        wait_until(lambda: is_stopped(server.process))
+        with server.connect() as many, server.connect() as one:
+            sending = threading.Thread(target=many.sendall, args=(b"".join(reserve(n, txn=n) for n in range(1, 5_001)),), daemon=True)
+            sending.start()
+            one.sendall(reserve(1, host=b"b"))
+            time.sleep(0.2)
+            server.process.send_signal(signal.SIGCONT)
+            came = one.recv(65_536)
+            used = int.from_bytes(came[-4:], "big")
+            checks.holds("a request alongside 5,000", came == granted(1, used, host=b"b") and used < 1_000, "fewer than 1,000 recipients before it", came)
+            send_no_more(many)
+            checks.equal("5,000 requests alongside another peer's: the length of their replies", len(read_all(many)), 5_000 * len(granted(1, 1)))
+            sending.join()
+
+
+def a_peer_that_takes_slowly(world, checks):
+    """24 MB of replies, far more than the kernel keeps, to a peer that takes them evenly over one and a half timeouts."""
+    logins, pages, timeout = [b"%03d" % n + b"x" * 252 for n in range(100)], 900, 3
+    whole = pages * len(page_reply([row(login, 0, 1, 3) for login in logins]))
+    with Server(world, timeout=1_000 * timeout) as server:
+        server.ask(b"".join(reserve(n, txn=n, login=login) for n, login in enumerate(logins, start=1)))
+        with server.connect(room=65_536) as peer:
+            peer.sendall(page() * pages)
+            send_no_more(peer)
+            start, came = time.monotonic(), 0
+            while piece := peer.recv(1 << 20):
+                came += len(piece)
+                time.sleep(max(0, 1.5 * timeout * came / whole - (time.monotonic() - start)))
+        checks.equal("a peer that takes its replies in one and a half timeouts: their length, and the log", (came, server.log_lines()), (whole, []))
 
 
 def silent_peers(world, checks):

@@ -216,8 +216,8 @@ def peers_that_drip(world, checks):
             drip(peer, reserve(1) * 100, 0.1)
             return before, name
 
-        (before, name), took = soon(dripped, 3.2)
-        checks.holds("a peer that drips: two timeouts end it", 1.9 < took < 3.2, "after 2 s", f"{took:.2f} s")
+        (before, name), took = soon(dripped, 2.9)
+        checks.holds("a peer that drips: two timeouts end it", 1.9 < took < 2.9, "after 2 s", f"{took:.2f} s")
         goes_on(server, checks, "a peer that drips", before, word=(name, "read failed"))
     with Server(world, default=1_000) as server:
         over = threading.Event()
@@ -236,27 +236,33 @@ def peers_that_drip(world, checks):
 
 
 def no_files_left(world, checks):
-    """accept fails while the server may open no file, and is tried again until it may."""
-    with Server(world) as server:
+    """accept fails while the server may open no file, and is tried again until it may, whoever is connected, and each time from the shortest pause on."""
+    with Server(world) as server, server.connect():
         # (once it has answered, it has opened all that it needs, and closed what it was asked on)
         checks.equal("a server before it may open no file", server.ask(usage()), NOTHING_USED)
-        before = len(server.log_lines())
-        taken = {int(name) for name in os.listdir(f"/proc/{server.process.pid}/fd")}
-        free = min(set(range(len(taken) + 1)) - taken)
-        was = resource.prlimit(server.process.pid, resource.RLIMIT_NOFILE)
-        resource.prlimit(server.process.pid, resource.RLIMIT_NOFILE, (free, was[1]))
-        peer = server.connect()
+        for time_of_it in ("the first time", "the second time"):
+            no_files_for_a_while(server, checks, f"a server that may open no file, {time_of_it}")
+
+
+def no_files_for_a_while(server, checks, what):
+    before = len(server.log_lines())
+    taken = {int(name) for name in os.listdir(f"/proc/{server.process.pid}/fd")}
+    free = min(set(range(len(taken) + 1)) - taken)
+    was = resource.prlimit(server.process.pid, resource.RLIMIT_NOFILE)
+    resource.prlimit(server.process.pid, resource.RLIMIT_NOFILE, (free, was[1]))
+    with server.connect() as peer:
         peer.sendall(usage())
         send_no_more(peer)
+        start = time.monotonic()
         wait_until(lambda: len(server.log_lines()) >= before + 4)
         resource.prlimit(server.process.pid, resource.RLIMIT_NOFILE, was)
-        checks.equal("a server that may open no file: the reply once it may", read_all(peer), NOTHING_USED)
-        peer.close()
-        lines = server.log_lines()[before:]
-        said = "[WARN  mq_connections::accept] no connection accepted: Too many open files (os error 24); next attempt in {} ms"
-        wanted = [said.format(min(10 * 2 ** place, 1_000)) for place in range(len(lines))]
-        what = "a server that may open no file: a line for each attempt, with pauses that grow"
-        checks.equal(what, (len(lines) >= 4, lines), (True, wanted))
+        checks.equal(f"{what}: the reply once it may", read_all(peer), NOTHING_USED)
+        took = time.monotonic() - start
+    lines = server.log_lines()[before:]
+    said = "[WARN  mq_connections::accept] no connection accepted: Too many open files (os error 24); next attempt in {} ms"
+    wanted = [said.format(min(10 * 2 ** place, 1_000)) for place in range(len(lines))]
+    checks.equal(f"{what}: a line for each attempt, with pauses that grow", (len(lines) >= 4, lines), (True, wanted))
+    checks.holds(f"{what}: how long until it answers", took < 8, "four attempts in 70 ms, and the one after them", f"{took:.2f} s")
 
 
 def random_bytes(world, checks):

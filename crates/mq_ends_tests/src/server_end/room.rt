@@ -7,7 +7,8 @@ use crate::server_end::fixtures::bytes_of;
 use crate::server_end::serving::ledger;
 use log::sink::Discard;
 use mq_connections::RoomFault;
-use mq_ledger::{Ledger, LedgerFault};
+use mq_ledger::{Ledger, LedgerFault, Zone};
+use mq_request::{Reply, Request};
 use mq_watch::Watched;
 use network::{Peer, Peers, Ticking, serve_peers};
 use std::alloc::Global;
@@ -167,11 +168,23 @@ fn check_rows<L: Ledger + Drop>(
     rows: &[Row<'_>],
     end: Result<(), RoomFault>,
 ) -> Result<(), Fail> {
-    let mut network = peers_of(rt, alloc, rows)?;
     let clock = Ticking(Cell::new(0));
+    check_rows_by(rt, alloc, &clock, ledger, rows, end)
+}
+
+/// The same by this clock.
+fn check_rows_by<L: Ledger + Drop>(
+    rt: &impl Abort,
+    alloc: Global,
+    clock: &Ticking,
+    ledger: L,
+    rows: &[Row<'_>],
+    end: Result<(), RoomFault>,
+) -> Result<(), Fail> {
+    let mut network = peers_of(rt, alloc, rows)?;
     let timeout = Duration::from_millis(1_000);
-    let mut watched = Watched::new(&clock, &Discard, alloc, ledger);
-    let ended = serve_peers(&clock, &Discard, alloc, &mut network, timeout, &mut watched);
+    let mut watched = Watched::new(clock, &Discard, alloc, ledger);
+    let ended = serve_peers(clock, &Discard, alloc, &mut network, timeout, &mut watched);
     assert_that(rt, ended == end, "how it ends");
     for (peer, row) in network.peers.iter().zip(rows) {
         let wanted = bytes_of(rt, alloc, row.3);
@@ -182,6 +195,67 @@ fn check_rows<L: Ledger + Drop>(
         }
     }
     Ok(())
+}
+
+/// A ledger that takes a second and a half for each request, by the clock.
+#[derive(Drop)]
+struct Slow<'a, L> {
+    ledger: L,
+    clock: &'a Ticking,
+}
+
+impl<L: Ledger> Ledger for Slow<'_, L> {
+    ghost book = { λ s. L.book s.ledger };
+
+    ghost has_kept = { λ s. L.has_kept s.ledger };
+
+    ghost is_sound = { λ s. L.is_sound s.ledger };
+
+    ghost has_store = { λ s. L.has_store s.ledger };
+
+    ghost sound_is_kept = { λ s. L.sound_is_kept s.ledger };
+
+    ghost sound_is_legal = { λ s. L.sound_is_legal s.ledger };
+
+    fn zone(&self) -> &Zone {
+        self.ledger.zone()
+    }
+
+    fn default_cap(&self) -> u32 {
+        self.ledger.default_cap()
+    }
+
+    fn apply(&mut self, request: &Request) -> Result<Reply, LedgerFault> {
+        self.clock.0.set(self.clock.0.get().saturating_add(1_500));
+        self.ledger.apply(request)
+    }
+}
+
+/// The second peer's request comes while the ledger takes longer for the first one's than the timeout: it is answered.
+const BEHIND_A_SLOW_ONE: &[Row<'_>] = &[
+    (
+        &[FIRST],
+        usize::MAX,
+        0,
+        "0013 81 0161 0000000000000001 00000001 00000001",
+    ),
+    (
+        &["", SECOND],
+        usize::MAX,
+        0,
+        "0013 81 0161 0000000000000001 00000002 00000002",
+    ),
+];
+
+#[test]
+fn behind_a_slow_request(rt: HostRuntime) -> Result<(), Fail> {
+    let alloc = rt.alloc();
+    let clock = Ticking(Cell::new(0));
+    let slow = Slow {
+        ledger: ledger(&rt, alloc, 3),
+        clock: &clock,
+    };
+    check_rows_by(&rt, alloc, &clock, slow, BEHIND_A_SLOW_ONE, Ok(()))
 }
 
 #[test]
