@@ -44,7 +44,7 @@ def nobody_asks(world, checks):
     with Server(world) as server, server.connect():
         checks.equal("a server before nobody asks", server.ask(usage()), NOTHING_USED)
         took = time_in_a_second(server.process)
-        checks.holds("a server that nobody asks: how long a processor works for it", took < 0.2, "hardly any of a second", f"{took:.2f} s")
+        checks.holds("a server that nobody asks: how long a processor works for it", took < 0.05, "hardly any of a second", f"{took:.2f} s")
 
 
 def the_last_connection_stays_open(world, checks):
@@ -54,7 +54,7 @@ def the_last_connection_stays_open(world, checks):
             peer.sendall(usage())
             checks.equal("a server's last connection", peer.recv(100), NOTHING_USED)
             took = time_in_a_second(server.process)
-        checks.holds("a last connection that stays open: how long a processor works for it", took < 0.2, "hardly any of a second", f"{took:.2f} s")
+        checks.holds("a last connection that stays open: how long a processor works for it", took < 0.05, "hardly any of a second", f"{took:.2f} s")
         checks.equal("a server after its last connection", server.status(), 0)
 
 
