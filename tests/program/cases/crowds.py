@@ -90,8 +90,8 @@ def one_request_alongside_many(world, checks):
 
 
 def a_peer_that_takes_slowly(world, checks):
-    """24 MB of replies, far more than the kernel keeps, to a peer that takes them evenly over one and a half timeouts."""
-    logins, pages, timeout = [b"%03d" % n + b"x" * 252 for n in range(100)], 900, 3
+    """19 MB of replies, far more than the kernel keeps, to a peer that takes them evenly over one and a half timeouts."""
+    logins, pages, timeout = [b"%03d" % n + b"x" * 252 for n in range(100)], 700, 4
     whole = pages * len(page_reply([row(login, 0, 1, 3) for login in logins]))
     with Server(world, timeout=1_000 * timeout) as server:
         server.ask(b"".join(reserve(n, txn=n, login=login) for n, login in enumerate(logins, start=1)))
