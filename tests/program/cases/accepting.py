@@ -76,7 +76,8 @@ def errors_that_pass(world, checks):
 
             def lines():
                 log.seek(0)
-                return log.read().splitlines()
+                # (the last one may not be whole yet)
+                return log.read().split("\n")[:-1]
 
             try:
                 wait_until(lambda: len(lines()) >= 2 or server.poll() is not None)
