@@ -30,8 +30,8 @@ BINARY = f"{TOP}/crates/{PROGRAM}/out/{PROGRAM}"
 # the memory that a check is given, in kilobytes
 MEMORY = 4_000_000
 # How many jobs prove a crate, where not one for each processor along the longest chain, and one elsewhere: each job does part of the work of the others
-# again, and while other crates are ready, two jobs of each are better than four of one.
-JOBS = {"mq_request": 2, "mq_frame": 2, "mq_ledger": 2, "mq_rows": 2, "mq_tables": 2}
+# again, and while other crates are ready, two or three jobs of each are better than four of one.
+JOBS = {"mq_request": 2, "mq_frame": 2, "mq_ledger": 2, "mq_rows": 2, "mq_tables": 2, "mq_store": 3}
 
 
 def folder(name):
