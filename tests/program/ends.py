@@ -5,6 +5,7 @@ import os
 import re
 import select
 import shutil
+import signal
 import socket
 import struct
 import subprocess
@@ -23,11 +24,22 @@ LIMITED = """import os, resource, signal, sys
 signal.signal(signal.SIGXFSZ, signal.SIG_IGN)
 resource.setrlimit(getattr(resource, sys.argv[1]), (int(sys.argv[2]), int(sys.argv[2])))
 os.execv(sys.argv[3], sys.argv[3:])"""
+# Runs a program of x86-64 whose calls of accept(2) and accept4(2) fail, by a filter of seccomp(2): "accept", the error's number, and the words.
+WITHOUT_ACCEPT = """import ctypes, os, struct, sys
+ALLOWED, FAILS = 0x7fff0000, 0x50000 | int(sys.argv[2])
+lines = [(0x20, 0, 0, 0), (0x15, 1, 0, 43), (0x15, 0, 1, 288), (6, 0, 0, FAILS), (6, 0, 0, ALLOWED)]
+class Filter(ctypes.Structure):
+    _fields_ = [("count", ctypes.c_ushort), ("lines", ctypes.c_char_p)]
+it, libc = Filter(len(lines), b"".join(struct.pack("HBBI", *line) for line in lines)), ctypes.CDLL(None)
+assert libc.prctl(38, 1, 0, 0, 0) == 0 and libc.prctl(22, 2, ctypes.byref(it), 0, 0) == 0
+os.execv(sys.argv[3], sys.argv[3:])"""
 
 
 def under(limit):
-    """The words before a program's that run it under this limit, where there is one."""
-    return [sys.executable, "-I", "-S", "-c", LIMITED, *map(str, limit)] if limit else []
+    """The words before a program's that run it under this limit, where there is one: one of LIMITED, or of WITHOUT_ACCEPT."""
+    if not limit:
+        return []
+    return [sys.executable, "-I", "-S", "-c", WITHOUT_ACCEPT if limit[0] == "accept" else LIMITED, *map(str, limit)]
 
 
 def free_port():
@@ -167,9 +179,19 @@ def begun(place, zone="offset 0", default=3, answers=0, days=0, limits=0):
     return f"[INFO  mq_program::serving] ledger {place}: version 3, default {default}, {zone}, answers={answers} days={days} limits={limits}"
 
 
+# How the first line of a server ends.
+OPENED_IN = re.compile(r", opened in ([0-9]+) ms$")
+
+
 def without_time(lines):
     """A server's lines, the first one without how long the start took."""
-    return [re.sub(r", opened in [0-9]+ ms$", "", line) for line in lines]
+    return [OPENED_IN.sub("", line) for line in lines]
+
+
+def time_of_start(lines):
+    """How many milliseconds a server's start took by its lines; 0 where the first one doesn't say so."""
+    found = OPENED_IN.search(lines[0])
+    return int(found[1]) if found else 0
 
 
 def toml(settings):
@@ -195,10 +217,16 @@ def copied(source, path):
     return path
 
 
-def is_stopped(process):
-    """Whether the system has stopped a process."""
+def state_of(process):
+    """What proc(5) says of a process in `stat`, from its state on."""
     with open(f"/proc/{process.pid}/stat", encoding="ascii") as stat:
-        return stat.read().rpartition(") ")[2][0] == "T"
+        return stat.read().rpartition(") ")[2].split()
+
+
+def processor_time(process):
+    """How many seconds of a processor a process has taken."""
+    user, system = state_of(process)[11:13]
+    return (int(user) + int(system)) / os.sysconf("SC_CLK_TCK")
 
 
 # What stands in a line of what a server logs of requests.
@@ -249,6 +277,16 @@ class Server:
             self.process.terminate()
         self.process.wait(timeout=SECONDS)
         self.log.close()
+
+    @contextlib.contextmanager
+    def stopped(self):
+        """The system stops it meanwhile, so that what peers send is all there before it looks at any."""
+        self.process.send_signal(signal.SIGSTOP)
+        wait_until(lambda: state_of(self.process)[0] == "T")
+        try:
+            yield
+        finally:
+            self.process.send_signal(signal.SIGCONT)
 
     def connect(self, room=None):
         """A connection, with so many bytes of room for what comes back."""

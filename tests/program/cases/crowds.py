@@ -1,12 +1,11 @@
-"""Many peers of the server at once, many requests of one, and one that takes nothing of what it is answered."""
+"""Many peers of the server at once, many requests of one, and ones that take nothing of what they are answered, or take it slowly."""
 import select
-import signal
 import threading
 import time
 
 from cases.filters import INPUT, PROCEED, REGISTRATION, answer
 from cases.peers import NOTHING_USED, goes_on, name_of
-from ends import LONG, Server, is_stopped, read_all, send_no_more, wait_until
+from ends import LONG, Server, read_all, send_no_more, wait_until
 from wire import granted, number, page, page_reply, reserve, row, usage
 
 
@@ -17,15 +16,25 @@ def run(world, checks):
     one_request_alongside_many(world, checks)
     a_peer_that_takes_slowly(world, checks)
     silent_peers(world, checks)
-    print("    10,001 and 9,999 requests of a connection, 10,000 pages that nobody reads, 500 peers that send nothing, 905 connections at once", flush=True)
+    print("    10,001 and 9,999 requests of a connection, one alongside 5,000 of another peer, 10,000 pages that nobody reads, 19 MB that a peer takes slowly, "
+          "500 peers that send nothing, 905 connections at once", flush=True)
+
+
+def long_logins(count):
+    """So many logins of 255 bytes, in order."""
+    return [b"%03d" % n + b"x" * 252 for n in range(count)]
+
+
+def reserved_by(logins):
+    """A recipient of each, in a transaction of its own."""
+    return b"".join(reserve(n, txn=n, login=login) for n, login in enumerate(logins, start=1))
 
 
 def a_peer_that_reads_nothing(world, checks):
     """A page of ten logins of 255 bytes is 2,686 bytes; 10,000 of them don't fit into what the kernel keeps."""
     with Server(world, timeout=4_000) as server:
-        logins = [b"%03d" % n + b"x" * 252 for n in range(10)]
-        sent = b"".join(reserve(n + 1, txn=n + 1, login=login) for n, login in enumerate(logins))
-        checks.equal("ten logins", server.ask(sent), b"".join(granted(n + 1, 1) for n in range(10)))
+        logins = long_logins(10)
+        checks.equal("ten logins", server.ask(reserved_by(logins)), b"".join(granted(n + 1, 1) for n in range(10)))
         checks.equal("a page of ten long logins", server.ask(page()), page_reply([row(login, 0, 1, 3) for login in logins]))
         before = len(server.log_lines())
         peer = server.connect(room=4_096)
@@ -73,14 +82,13 @@ def many_long_requests(world, checks):
 def one_request_alongside_many(world, checks):
     """5,000 requests of one peer and one of another are there before the server looks at any: the one is answered among the first."""
     with Server(world, default=1_000_000) as server:
-        server.process.send_signal(signal.SIGSTOP)
-        wait_until(lambda: is_stopped(server.process))
-        with server.connect() as many, server.connect() as one:
+        with server.stopped():
+            many, one = server.connect(), server.connect()
             sending = threading.Thread(target=many.sendall, args=(b"".join(reserve(n, txn=n) for n in range(1, 5_001)),), daemon=True)
             sending.start()
             one.sendall(reserve(1, host=b"b"))
             time.sleep(0.2)
-            server.process.send_signal(signal.SIGCONT)
+        with many, one:
             came = one.recv(65_536)
             used = int.from_bytes(came[-4:], "big")
             checks.holds("a request alongside 5,000", came == granted(1, used, host=b"b") and used < 1_000, "fewer than 1,000 recipients before it", came)
@@ -91,10 +99,10 @@ def one_request_alongside_many(world, checks):
 
 def a_peer_that_takes_slowly(world, checks):
     """19 MB of replies, far more than the kernel keeps, to a peer that takes them evenly over one and a half timeouts."""
-    logins, pages, timeout = [b"%03d" % n + b"x" * 252 for n in range(100)], 700, 4
+    logins, pages, timeout = long_logins(100), 700, 4
     whole = pages * len(page_reply([row(login, 0, 1, 3) for login in logins]))
     with Server(world, timeout=1_000 * timeout) as server:
-        server.ask(b"".join(reserve(n, txn=n, login=login) for n, login in enumerate(logins, start=1)))
+        server.ask(reserved_by(logins))
         with server.connect(room=65_536) as peer:
             peer.sendall(page() * pages)
             send_no_more(peer)

@@ -180,6 +180,7 @@ def warnings(world, checks):
     wanted = ["[ERROR mq_tcp::logged", "[INFO  mq_client::tries", "[INFO  mq_client::tries", "[WARN  mq_tcp::logged"]
     checks.equal("a server that is away for two recipients: why once, each recipient, and that it answers again", marks, wanted)
     refusals(world, checks)
+    warnings_of_many_sessions(world, checks)
     closings_of_two_sessions(world, checks)
     login = b"a\x1b[2J \\" + b"x" * 200
     long = INPUT.replace(b"alice", login)
@@ -215,19 +216,27 @@ def refusals(world, checks):
         errors = scripted(world, checks, f"a reserve answered {what}", INPUT, [reply], results=[answer(SERVICE)], frames=[RESERVE])
         told(checks, f"a reserve answered {what}", errors, 1, ["WARN ", "mx1", "alice", "transaction 1"])
     other = b"0123456789abcdef"
-    other_session = (AUTH + RCPT).replace(b"7641df9771b4ed00", other)
-    came = world.filter("127.0.0.1:1", CONFIG + AUTH + RCPT * 3 + other_session + RCPT + RCPT.replace(b"7641df9771b4ed00", other))
+    came = world.filter("127.0.0.1:1", CONFIG + AUTH + RCPT * 3 + of_session(AUTH + RCPT, other) + RCPT + of_session(RCPT, other))
     results = answer(SERVICE) * 3 + answer(SERVICE, session=other) + answer(SERVICE) + answer(SERVICE, session=other)
     checks.equal("no transaction in two sessions: status and lines", came[:2], (0, REGISTRATION + results))
     lines = came[2].splitlines()
     good = len(lines) == 2 and "session 7641df9771b4ed00" in lines[0] and other.decode() in lines[1] and all("no transaction" in line for line in lines)
     checks.holds("no transaction in two sessions: the log", good, "one line for each session", lines)
+
+
+def of_session(text, name):
+    return text.replace(b"7641df9771b4ed00", name)
+
+
+def warnings_of_many_sessions(world, checks):
+    """64 warnings are remembered, the oldest makes room, and 255 bytes of a login are shown."""
     names = [b"%016x" % n for n in range(70)]
-    text = b"".join((AUTH + RCPT * 2).replace(b"7641df9771b4ed00", name) for name in names)
-    again = b"".join(RCPT.replace(b"7641df9771b4ed00", name) for name in (names[-1], names[0]))
+    text = b"".join(of_session(AUTH + RCPT * 2, name) for name in names)
+    again = of_session(RCPT, names[-1]) + of_session(RCPT, names[0])
     warned = re.findall(r"session ([0-9a-f]{16}) \(login alice\): recipients are refused", world.filter("127.0.0.1:1", CONFIG + text + again)[2])
     checks.equal("no transaction in 70 sessions, then in the last and the first again: the log", warned, [name.decode() for name in [*names, names[0]]])
-    for login, named in [(b"a.of.accounting@outgoing.example.org", "a.of.accounting@outgoing.example.org"), (b"a" * 255, "a" * 255), (b"a" * 300, "a" * 255), (b"\\" * 256, r"\x5c" * 255)]:
+    long = "a.of.accounting@outgoing.example.org"
+    for login, named in [(long.encode(), long), (b"a" * 255, "a" * 255), (b"a" * 300, "a" * 255), (b"\\" * 256, r"\x5c" * 255)]:
         errors = world.filter("127.0.0.1:1", CONFIG + AUTH.replace(b"alice", login) + RCPT)[2]
         checks.equal(f"a 451 to a login of {len(login)} bytes: how the log names it", re.findall(r"\(login (.*?)\): recipients are refused", errors), [named])
 
@@ -235,7 +244,7 @@ def refusals(world, checks):
 def closings_of_two_sessions(world, checks):
     """Each line has the session of its own transaction, whichever session asked last."""
     def of_bob(text):
-        return text.replace(b"7641df9771b4ed00", b"0123456789abcdef").replace(b"alice", b"bob")
+        return of_session(text, b"0123456789abcdef").replace(b"alice", b"bob")
 
     with nobody_there() as address:
         errors = world.filter(address, INPUT + of_bob(AUTH + BEGIN + RCPT) + COMMIT + of_bob(COMMIT), tries=1, log="info")[2]

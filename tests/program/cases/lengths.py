@@ -11,6 +11,7 @@ import time
 
 import wire
 from books import Books
+from cases.crowds import long_logins
 from cases.edges import answers
 from cases.filters import AUTH, BEGIN, COMMIT, CONFIG, GRANTED, PROCEED, RCPT, REGISTRATION, RESERVE, SETTLE, SETTLED, answer
 from cases.many_numbers import ALICE, Filter
@@ -199,7 +200,7 @@ def pieces_to_a_filter(world, checks):
 
 def pieces_of_a_reply(world, checks):
     """A full page of logins of 255 bytes reaches `report` in pieces."""
-    logins = [b"%03d" % n + b"x" * 252 for n in range(100)]
+    logins = long_logins(100)
     page, last = wire.page_reply([wire.row(it, 0, 1, 3) for it in logins]), wire.page_reply([])
     lines = b"".join(b"      0       1       3 " + it + b"\n" for it in logins)
     for size in PIECES:

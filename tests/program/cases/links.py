@@ -1,10 +1,9 @@
 """The filter's link to a server, and the server's connections, byte by byte: what one peer answers, and what eight peers in turn send."""
-import signal
 import socket
 import subprocess
 
 from cases.filters import PROCEED, REGISTRATION, SERVICE, answer
-from ends import LONG, SECONDS, SILENCE, Script, Server, apart, is_stopped, nobody_there, read_all, send_no_more, soon, wait_until
+from ends import LONG, SECONDS, SILENCE, Script, Server, apart, nobody_there, read_all, send_no_more, soon, wait_until
 
 # Milliseconds that a case can wait for what doesn't come.
 SHORT = 100
@@ -147,11 +146,9 @@ TURNS = [
 def connections_in_turn(world, checks):
     """All are there before the first of them is served, since the server is stopped until then."""
     with Server(world, connections=len(TURNS), timeout=1_000) as server:
-        server.process.send_signal(signal.SIGSTOP)
-        wait_until(lambda: is_stopped(server.process))
-        peers = [peer_that_sends(server, sent, waits) for sent, waits, _, _ in TURNS]
-        names = ["{}:{}".format(*peer.getsockname()) for peer in peers]
-        server.process.send_signal(signal.SIGCONT)
+        with server.stopped():
+            peers = [peer_that_sends(server, sent, waits) for sent, waits, _, _ in TURNS]
+            names = ["{}:{}".format(*peer.getsockname()) for peer in peers]
         for peer, (sent, waits, wanted, _) in zip(peers, TURNS):
             what = f"a peer that sends {sent[:7].hex() or 'nothing'}{'..' if len(sent) > 7 else ''}{' and waits' if waits else ''}"
             checks.equal(f"{what}, of eight: what it is answered", read_all(peer).hex(), wanted)

@@ -1,6 +1,5 @@
 """Tens of thousands of answers in one ledger, over tables in memory and over a file, all given up at last; of connections of one server; days of
 one login."""
-import re
 import socket
 import threading
 import time
@@ -10,7 +9,7 @@ from books import Books
 from cases.forgetting import forget, kept
 from cases.limits import limits, printed
 from cases.setting_up import of_file
-from ends import SECONDS, Server, begun, ledger_settings, nobody_there, read_to_end, send_no_more, without_log, without_time
+from ends import SECONDS, Server, begun, ledger_settings, nobody_there, read_to_end, send_no_more, time_of_start, without_log, without_time
 from rows import same_rows
 
 MANY = 70_000
@@ -112,7 +111,7 @@ def many_limits(world, checks):
         waited = 1_000 * (time.monotonic() - start)
         wanted, lines = begun(path, default=DEFAULT, answers=LIMITS, limits=LIMITS), server.log_lines()
         checks.equal(f"{LIMITS:,} limits: a server's start", without_time(lines)[0], wanted)
-        took = sum(map(int, re.findall(r" in ([0-9]+) ms$", lines[0])))
+        took = time_of_start(lines)
         checks.holds(f"{LIMITS:,} limits: how long the start took", 0 < took <= waited, f"at most {waited:.0f} ms", took)
     came = world.run("audit", "--config", ledger_settings(world, path, default=DEFAULT))
     checks.equal(f"{LIMITS:,} limits: audit", came, (0, b"sound days=0 transactions=0\n", ""))

@@ -1,13 +1,11 @@
 """What a peer may do to the server: it answers what is a request, logs what isn't, and goes on."""
-import os
 import random
-import resource
 import select
 import threading
 import time
 
 from cases.filters import INPUT, PROCEED, REGISTRATION, answer
-from ends import LONG, SECONDS, Server, begun, loopback_of_6, read_all, reset, send_no_more, soon, wait_until, without_time
+from ends import LONG, SECONDS, Server, begun, loopback_of_6, read_all, reset, send_no_more, soon, without_time
 from wire import BAD, frame, full, granted, limit, number, page, page_reply, release, released, reserve, row, settle, settled, usage
 
 NOTHING_USED = bytes.fromhex("0013" "8b" "0175" "00000001" "00000000" "00000000" "00000003")
@@ -134,7 +132,6 @@ def slow_and_broken(world, checks):
         waits_for_nobody(server, checks)
     peers_that_drip(world, checks)
     two_on_one_connection_each(world, checks)
-    no_files_left(world, checks)
 
 
 def a_slow_peer(server, checks, what, sent, wanted):
@@ -233,36 +230,6 @@ def peers_that_drip(world, checks):
         over.set()
         dripping.join(timeout=SECONDS)
         checks.equal("a filter beside a peer that drips all the while", came, [(0, REGISTRATION + answer(PROCEED))] * 5)
-
-
-def no_files_left(world, checks):
-    """accept fails while the server may open no file, and is tried again until it may, whoever is connected, and each time from the shortest pause on."""
-    with Server(world) as server, server.connect():
-        # (once it has answered, it has opened all that it needs, and closed what it was asked on)
-        checks.equal("a server before it may open no file", server.ask(usage()), NOTHING_USED)
-        for time_of_it in ("the first time", "the second time"):
-            no_files_for_a_while(server, checks, f"a server that may open no file, {time_of_it}")
-
-
-def no_files_for_a_while(server, checks, what):
-    before = len(server.log_lines())
-    taken = {int(name) for name in os.listdir(f"/proc/{server.process.pid}/fd")}
-    free = min(set(range(len(taken) + 1)) - taken)
-    was = resource.prlimit(server.process.pid, resource.RLIMIT_NOFILE)
-    resource.prlimit(server.process.pid, resource.RLIMIT_NOFILE, (free, was[1]))
-    with server.connect() as peer:
-        peer.sendall(usage())
-        send_no_more(peer)
-        start = time.monotonic()
-        wait_until(lambda: len(server.log_lines()) >= before + 4)
-        resource.prlimit(server.process.pid, resource.RLIMIT_NOFILE, was)
-        checks.equal(f"{what}: the reply once it may", read_all(peer), NOTHING_USED)
-        took = time.monotonic() - start
-    lines = server.log_lines()[before:]
-    said = "[WARN  mq_connections::accept] no connection accepted: Too many open files (os error 24); next attempt in {} ms"
-    wanted = [said.format(min(10 * 2 ** place, 1_000)) for place in range(len(lines))]
-    checks.equal(f"{what}: a line for each attempt, with pauses that grow", (len(lines) >= 4, lines), (True, wanted))
-    checks.holds(f"{what}: how long until it answers", took < 8, "four attempts in 70 ms, and the one after them", f"{took:.2f} s")
 
 
 def random_bytes(world, checks):
