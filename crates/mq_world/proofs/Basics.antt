@@ -75,6 +75,15 @@ in_front [] ys x i = absurd i
 in_front (y ∷ xs) ys x (inl e) = inl e
 in_front (y ∷ xs) ys x (inr i) = inr (in_front xs ys x i)
 
+pub in_back : {X : Type 0} (xs ys : List X) (x : X) → In x ys → In x (xs ++ ys)
+in_back [] ys x i = i
+in_back (y ∷ xs) ys x i = inr (in_back xs ys x i)
+
+pub in_either : {X : Type 0} (xs ys : List X) (x : X) → In x (xs ++ ys) → In x xs ⊎ In x ys
+in_either [] ys x i = inr i
+in_either (y ∷ xs) ys x (inl e) = inl (inl e)
+in_either (y ∷ xs) ys x (inr i) = elim (in_either xs ys x i) [ inl j ↦ inl (inr j) | inr k ↦ inr k ]
+
 pub in_last : {X : Type 0} (xs : List X) (x : X) → In x (xs ++ x ∷ [])
 in_last [] x = inl refl
 in_last (y ∷ xs) x = inr (in_last xs x)
@@ -92,6 +101,10 @@ all_at P (y ∷ xs) x all (inr i) = all_at P xs x all.1 i
 pub all_push : {X : Type 0} (P : X → Type 0) (xs : List X) (x : X) → AllByRecursion P xs → P x → AllByRecursion P (xs ++ x ∷ [])
 all_push P [] x all h = (h, tt)
 all_push P (y ∷ xs) x all h = (all.0, all_push P xs x all.1 h)
+
+pub all_put : {X : Type 0} (P : X → Type 0) (xs ys : List X) (x y : X) → AllByRecursion P (xs ++ x ∷ ys) → P y → AllByRecursion P (xs ++ y ∷ ys)
+all_put P [] ys x y all h = (h, all.1)
+all_put P (z ∷ xs) ys x y all h = (all.0, all_put P xs ys x y all.1 h)
 
 -- ---- finding
 
@@ -152,3 +165,7 @@ sum_has f x (y ∷ xs) (inr i) = omega (arith, sum_has f x xs i, sum_by-cons f y
 pub sum_plus : {X : Type 0} (f g : X → ℕ) (xs : List X) → sum_by (λ x. f x + g x) xs ≡ sum_by f xs + sum_by g xs
 sum_plus f g [] = refl
 sum_plus f g (x ∷ xs) = omega (arith, sum_by-cons (λ x. f x + g x) x xs, sum_by-cons f x xs, sum_by-cons g x xs, sum_plus f g xs)
+
+pub sum_zero : {X : Type 0} (xs : List X) → sum_by (λ x. 0) xs ≡ 0
+sum_zero [] = refl
+sum_zero (x ∷ xs) = omega (arith, sum_by-cons (λ x. 0) x xs, sum_zero xs)

@@ -1,5 +1,5 @@
 -- What holds of a run holds once days before F are forgotten.
-use Rattle.std.proofs.Common.{◌≡◌, ℕ, ◌≤◌, List, [], ◌∷◌, Bool, true, false, refl, ◌∙◌, ap, sym, subst, inl, inr, arith}
+use Rattle.std.proofs.Common.{◌≡◌, ℕ, ◌≤◌, List, [], ◌∷◌, ◌++◌, Bool, true, false, refl, ◌∙◌, ap, sym, subst, inl, inr, arith}
 use Rattle.std.specs.Prelude.{◌⊎◌, nat_le, filter}
 use Rattle.std.specs.List.{AllByRecursion}
 use Rattle.std.proofs.lemmas.Bool.Decides.{nat_tests}
@@ -15,7 +15,7 @@ use Rattle.mq_ledger.specs.Suits.{Suits as RepliesSuit}
 use Rattle.mq_forget.specs.Remembered.{moment_of, day_named, is_about, is_set, stays, remembered}
 use Rattle.mq_client.specs.Exchanges.{decides}
 use Rattle.mq_client.specs.Past.{Source, Step, id_of}
-use Rattle.mq_world.proofs.Basics.{either, clash, some_is, first_not, option_cases, In, found}
+use Rattle.mq_world.proofs.Basics.{either, clash, some_is, first_not, option_cases, In, in_front, in_back, in_either, found}
 use Rattle.mq_world.proofs.Known.{OfFrames, OfClients, OfLedgers}
 use Rattle.mq_world.proofs.Numbers.{IsOwn}
 use Rattle.mq_world.proofs.Grounds.{of_source, is_grant, GrantedIn, ground_kept}
@@ -67,11 +67,12 @@ about_own L day D H t (Usage login d) mine same = absurd (clash false mine refl)
 about_own L day D H t (ListRequest d after) mine same = absurd (clash false mine refl)
 about_own L day D H t (Retire id) mine same = absurd (clash false mine refl)
 
-entry_about : {day : ℕ → ℕ} {F : ℕ} → OfClients → OfLedgers → (D : ℕ) (s : Source) (tries : ℕ) (P : List Step) (H : List Entry) (sent written : List (List ℕ)) → Holds day F s tries P H sent written → (t : ℕ) (e : Entry) → In e H → is_of (of_source s t) e.request ≡ true
+-- H is the history of the ledger that forgets, and G has the entries of the others
+entry_about : {day : ℕ → ℕ} {F : ℕ} → OfClients → OfLedgers → (D : ℕ) (s : Source) (tries : ℕ) (P : List Step) (H G : List Entry) (sent written : List (List ℕ)) → Holds day F s tries P (H ++ G) sent written → (t : ℕ) (e : Entry) → In e H → is_of (of_source s t) e.request ≡ true
     → is_about day D H e.request ≡ nat_le D (day (moment_of e.request))
-entry_about {day = day} C L D s tries P H sent written h t e i mine =
+entry_about {day = day} C L D s tries P H G sent written h t e i mine =
     about_own L day D H (of_source s t) e.request mine
-    (λ x j m. entry_moment C L s tries P H sent written h t x j m ∙ sym (entry_moment C L s tries P H sent written h t e i mine))
+    (λ x j m. entry_moment C L s tries P (H ++ G) sent written h t x (in_front H G x j) m ∙ sym (entry_moment C L s tries P (H ++ G) sent written h t e (in_front H G e i) mine))
 
 -- ---- of a granted reserve
 
@@ -99,49 +100,63 @@ granted_of_run L s r a own suits g = absurd (clash false g refl)
 stays_if : (day : ℕ → ℕ) (D : ℕ) (H : List Entry) (e : Entry) → is_about day D H e.request ≡ true → stays day D H e ≡ true
 stays_if day D H e about = rw about refl
 
-granted_kept : {day : ℕ → ℕ} {F : ℕ} → OfClients → OfLedgers → (D : ℕ) → D ≤ F → (s : Source) (tries : ℕ) (P : List Step) (H : List Entry) (sent written : List (List ℕ)) → Holds day F s tries P H sent written → (n txn moment : ℕ) (login : List ℕ)
-    → F ≤ day moment → GrantedIn s H n txn moment login → GrantedIn s (remembered day D H) n txn moment login
-granted_kept {day = day} {F = F} C L D below s tries P H sent written h n txn moment login on k =
+-- what stays, and the entries of the others
+still_in : (day : ℕ → ℕ) (D : ℕ) (H G : List Entry) (e : Entry) → In e (remembered day D H ++ G) → In e (H ++ G)
+still_in day D H G e i = elim (in_either (remembered day D H) G e i) [
+  | inl j ↦ in_front H G e (in_filter (stays day D H) H e j)
+  | inr j ↦ in_back H G e j
+]
+
+stays_there : (day : ℕ → ℕ) (D : ℕ) (H G : List Entry) (e : Entry) → In e H → stays day D H e ≡ true → In e (remembered day D H ++ G)
+stays_there day D H G e i y = in_front (remembered day D H) G e (filter_in (stays day D H) H e i y)
+
+granted_kept : {day : ℕ → ℕ} {F : ℕ} → OfClients → OfLedgers → (D : ℕ) → D ≤ F → (s : Source) (tries : ℕ) (P : List Step) (H G : List Entry) (sent written : List (List ℕ)) → Holds day F s tries P (H ++ G) sent written → (n txn moment : ℕ) (login : List ℕ)
+    → F ≤ day moment → GrantedIn s (H ++ G) n txn moment login → GrantedIn s (remembered day D H ++ G) n txn moment login
+granted_kept {day = day} {F = F} C L D below s tries P H G sent written h n txn moment login on k =
     let own : is_of (of_source s txn) k.entry.request ≡ true = ap (is_of (of_source s txn)) k.request ∙ L.itself (of_source s txn) in
-    let about = entry_about C L D s tries P H sent written h txn k.entry k.among own in
     let moment_is : moment_of k.entry.request ≡ moment = ap moment_of k.request in
     let late : nat_le D (day moment) ≡ true = grind (arith, nat_tests, below, on) in
-    let yes : is_about day D H k.entry.request ≡ true = about ∙ ap (λ m. nat_le D (day m)) moment_is ∙ late in
     record {
       entry = k.entry;
-      among = filter_in (stays day D H) H k.entry k.among (stays_if day D H k.entry yes);
+      among = elim (in_either H G k.entry k.among) [
+        | inl i ↦ (let yes : is_about day D H k.entry.request ≡ true = entry_about C L D s tries P H G sent written h txn k.entry i own ∙ ap (λ m. nat_le D (day m)) moment_is ∙ late in
+            stays_there day D H G k.entry i (stays_if day D H k.entry yes))
+        | inr i ↦ in_back (remembered day D H) G k.entry i
+      ];
       request = k.request;
       granted = k.granted;
     }
 
-wrote_kept : {day : ℕ → ℕ} {F : ℕ} → OfClients → OfLedgers → OfFrames → (D : ℕ) → D ≤ F → (s : Source) (tries : ℕ) (P : List Step) (H : List Entry) (sent written : List (List ℕ)) → AllSuit H → Holds day F s tries P H sent written → (a : Reply) (q : Request)
-    → IsOwn s q → decides q a ≡ true → is_grant a ≡ true → Wrote H a → Wrote (remembered day D H) a ⊎ IsForgotten day F s P q
-wrote_kept {day = day} {F = F} C L K D below s tries P H sent written suits h a q own d g w =
+wrote_kept : {day : ℕ → ℕ} {F : ℕ} → OfClients → OfLedgers → OfFrames → (D : ℕ) → D ≤ F → (s : Source) (tries : ℕ) (P : List Step) (H G : List Entry) (sent written : List (List ℕ)) → AllSuit H → Holds day F s tries P (H ++ G) sent written → (a : Reply) (q : Request)
+    → IsOwn s q → decides q a ≡ true → is_grant a ≡ true → Wrote (H ++ G) a → Wrote (remembered day D H ++ G) a ⊎ IsForgotten day F s P q
+wrote_kept {day = day} {F = F} C L K D below s tries P H G sent written suits h a q own d g w =
     let e : Entry = w.entry in
-    let fits : RepliesSuit e.request e.reply = suits e w.among in
-    let same = same_id_by K s q e.request a own d (subst (RepliesSuit e.request) w.is fits) in
-    let mine = own_by s q e.request own same in
-    let of_run = granted_of_run L s e.request e.reply mine fits (ap is_grant w.is ∙ g) in
-    elim (either (stays day D H e)) [
-      | inl y ↦ inl (record { entry = e; among = filter_in (stays day D H) H e w.among y; is = w.is })
-      | inr n ↦ (let off : is_about day D H e.request ≡ false = first_not (is_about day D H e.request) (is_set e.request e.reply) n in
-          let early : nat_le D (day (moment_of e.request)) ≡ false = sym (entry_about C L D s tries P H sent written h of_run.txn e w.among of_run.is) ∙ off in
-          inr (record { request = e.request; numbered = h.taken e w.among mine; same = same; earlier = grind (arith, nat_tests, below, early) }))
+    elim (in_either H G e w.among) [
+      | inr i ↦ inl (record { entry = e; among = in_back (remembered day D H) G e i; is = w.is })
+      | inl i ↦ (let fits : RepliesSuit e.request e.reply = suits e i in
+          let same = same_id_by K s q e.request a own d (subst (RepliesSuit e.request) w.is fits) in
+          let mine = own_by s q e.request own same in
+          let of_run = granted_of_run L s e.request e.reply mine fits (ap is_grant w.is ∙ g) in
+          elim (either (stays day D H e)) [
+            | inl y ↦ inl (record { entry = e; among = stays_there day D H G e i y; is = w.is })
+            | inr n ↦ (let off : is_about day D H e.request ≡ false = first_not (is_about day D H e.request) (is_set e.request e.reply) n in
+                let early : nat_le D (day (moment_of e.request)) ≡ false = sym (entry_about C L D s tries P H G sent written h of_run.txn e i of_run.is) ∙ off in
+                inr (record { request = e.request; numbered = h.taken e w.among mine; same = same; earlier = grind (arith, nat_tests, below, early) }))
+          ])
     ]
 
-pub forgets_on : {day : ℕ → ℕ} {F : ℕ} → OfClients → OfLedgers → OfFrames → (D : ℕ) → D ≤ F → (s : Source) (tries : ℕ) (P : List Step) (H : List Entry) (sent written : List (List ℕ)) → AllSuit H → Holds day F s tries P H sent written → Holds day F s tries P (remembered day D H) sent written
-forgets_on {day = day} {F = F} C L K D below s tries P H sent written suits h = record {
+pub forgets_on : {day : ℕ → ℕ} {F : ℕ} → OfClients → OfLedgers → OfFrames → (D : ℕ) → D ≤ F → (s : Source) (tries : ℕ) (P : List Step) (H G : List Entry) (sent written : List (List ℕ)) → AllSuit H → Holds day F s tries P (H ++ G) sent written → Holds day F s tries P (remembered day D H ++ G) sent written
+forgets_on {day = day} {F = F} C L K D below s tries P H G sent written suits h = record {
   host = h.host;
   run = h.run;
   underway = h.underway;
   returns = h.returns;
   asks = h.asks;
   sends = h.sends;
-  taken = λ e i own. h.taken e (in_filter (stays day D H) H e i) own;
+  taken = λ e i own. h.taken e (still_in day D H G e i) own;
   wrote = λ a q i range own d g. elim (h.wrote a q i range own d g) [
-    | inl w ↦ wrote_kept C L K D below s tries P H sent written suits h a q own d g w
+    | inl w ↦ wrote_kept C L K D below s tries P H G sent written suits h a q own d g w
     | inr f ↦ inr f
   ];
-  ground = ground_kept day F s H (remembered day D H) (granted_kept C L D below s tries P H sent written h) P h.ground;
-  settled = λ e i own y on. h.settled e (in_filter (stays day D H) H e i) own y on;
+  ground = ground_kept day F s (H ++ G) (remembered day D H ++ G) (granted_kept C L D below s tries P H G sent written h) P h.ground;
 }

@@ -1,5 +1,5 @@
--- What was let through was granted in the ledger, under numbers of the run.
-use Rattle.std.proofs.Common.{◌≡◌, ℕ, ◌+◌, ◌≤◌, List, [], ◌∷◌, ◌++◌, Bool, true, false, refl, ◌∙◌, ap, sym, subst, inl, inr, arith, Option, None, Some, if◌then◌else◌}
+-- What was let through was granted in some ledger, under numbers of the run. H has the entries of all ledgers.
+use Rattle.std.proofs.Common.{◌≡◌, ℕ, ◌+◌, ◌≤◌, List, [], ◌∷◌, Bool, true, false, refl, ◌∙◌, ap, sym, subst, inl, inr, arith, Option, None, Some, if◌then◌else◌}
 use Rattle.std.specs.Prelude.{sum_by, ◌&&◌, ◌==◌, nat_le, not, length}
 use Rattle.std.proofs.lemmas.Bool.Decides.{nat_tests}
 use Rattle.mq_request.specs.Same.{same_text}
@@ -16,7 +16,7 @@ use Rattle.mq_track.specs.declared.closing.CloseEnd.{CloseEnd}
 use Rattle.mq_client.specs.declared.held.Asked.{Asked}
 use Rattle.mq_client.specs.declared.held.Asked.TheVariants as asked
 use Rattle.mq_client.specs.declared.held.Held.{Held}
-use Rattle.mq_world.proofs.Basics.{either, clash, none_some, some_is, first_not, second_not, number_is, In, in_front, sum_below, sum_grows}
+use Rattle.mq_world.proofs.Basics.{either, clash, none_some, some_is, first_not, second_not, number_is, In, sum_below, sum_grows}
 use Rattle.mq_world.proofs.Ranges.{next_among, free_ask}
 
 abbrev pub of_source : Source → ℕ → Transaction
@@ -198,5 +198,5 @@ pub ground_kept : (day : ℕ → ℕ) (F : ℕ) (s : Source) (H K : List Entry) 
 ground_kept day F s H K stays [] h = tt
 ground_kept day F s H K stays (x ∷ P) h = (ground_one day F s H K (view s P) x.action x.group (stays (view s P).numbers) h.0, ground_kept day F s H K stays P h.1)
 
-pub ground_stays : (day : ℕ → ℕ) (F : ℕ) (s : Source) (H K : List Entry) (P : List Step) → IsGrounded day F s H P → IsGrounded day F s (H ++ K) P
-ground_stays day F s H K P h = ground_kept day F s H (H ++ K) (λ n txn moment login f k. record { entry = k.entry; among = in_front H K k.entry k.among; request = k.request; granted = k.granted }) P h
+pub ground_in : (day : ℕ → ℕ) (F : ℕ) (s : Source) (H K : List Entry) → ((e : Entry) → In e H → In e K) → (P : List Step) → IsGrounded day F s H P → IsGrounded day F s K P
+ground_in day F s H K there P h = ground_kept day F s H K (λ n txn moment login f k. record { entry = k.entry; among = there k.entry k.among; request = k.request; granted = k.granted }) P h

@@ -4,6 +4,7 @@ pub mod Numbers
 pub mod Ranges
 pub mod Lines
 pub mod Grounds
+pub mod Pools
 pub mod Runs
 pub mod Takes
 pub mod Worlds

@@ -9,7 +9,6 @@ use Rattle.mq_request.specs.declared.message.Request.TheVariants.{Reserve, Settl
 use Rattle.mq_request.specs.declared.message.Reply.{Reply}
 use Rattle.mq_request.specs.declared.message.Reply.TheVariants as reply
 use Rattle.mq_ledger.specs.declared.entry.Entry.{Entry}
-use Rattle.mq_ledger.specs.History.{counted}
 use Rattle.mq_ledger.specs.Suits.{Suits as RepliesSuit}
 use Rattle.mq_forget.specs.Remembered.{moment_of}
 use Rattle.mq_client.specs.Exchanges.{Exchange, answers_reserve, answers_closing, decides, IsDecision}
@@ -26,7 +25,7 @@ use Rattle.mq_world.proofs.Basics.{clash, none_some, In}
 use Rattle.mq_world.proofs.Known.{OfFrames, OfClients}
 use Rattle.mq_world.proofs.Numbers.{IsOwn, one_request, numbered_own, begun_numbered, more_numbered, ended_numbered}
 use Rattle.mq_world.proofs.Ranges.{IsAsked, AreAsked, next_among, free_ask, next_in_range}
-use Rattle.mq_world.proofs.Grounds.{is_grant, GrantedIn, IsGround, IsGrounded}
+use Rattle.mq_world.proofs.Grounds.{is_grant, GrantedIn, IsGround, IsGrounded, ground_in}
 
 abbrev pub is_settle : Request → Bool
 is_settle (Settle id txn moment login count) = true
@@ -49,7 +48,8 @@ pub record IsForgotten (day : ℕ → ℕ) (F : ℕ) (s : Source) (P : List Step
   pub same : id_in request ≡ id_in q
   pub earlier : day (moment_of request) < F
 
--- what holds of one run, whatever the others do, and whatever is forgotten of days before F
+-- what holds of one run, whatever the others do, and whatever is forgotten of days before F; H has the entries of all
+-- ledgers, in any order
 pub record Holds (day : ℕ → ℕ) (F : ℕ) (s : Source) (tries : ℕ) (P : List Step) (H : List Entry) (sent written : List (List ℕ)) : Type 0 where
   pub host : IsHost s.host
   pub run : IsRun s.run
@@ -60,7 +60,6 @@ pub record Holds (day : ℕ → ℕ) (F : ℕ) (s : Source) (tries : ℕ) (P : L
   pub taken : (e : Entry) → In e H → IsOwn s e.request → IsNumbered s P e.request
   pub wrote : (a : Reply) (q : Request) → In (frame (reply_body a)) written → IsReply a → IsOwn s q → decides q a ≡ true → is_grant a ≡ true → Wrote H a ⊎ IsForgotten day F s P q
   pub ground : IsGrounded day F s H P
-  pub settled : (e : Entry) → In e H → IsOwn s e.request → is_settle e.request ≡ true → F ≤ day (moment_of e.request) → counted e.request e.reply ≡ count_of e.request
 
 abbrev pub AllSuit : List Entry → Type 0
 AllSuit H = (e : Entry) → In e H → RepliesSuit e.request e.reply
@@ -182,7 +181,6 @@ begins {day = day} {F = since} s tries P H sent written a fresh i h = record {
   taken = λ e j own. begun_numbered s a P e.request (h.taken e j own);
   wrote = λ b q j r own d g. wrote_on s P (begun a ∷ P) H b q (begun_numbered s a P) (h.wrote b q j r own d g);
   ground = (no_ground day since s H (view s P) a [] refl, h.ground);
-  settled = h.settled;
 }
 
 -- ---- a frame is sent
@@ -209,7 +207,6 @@ sends_on {day = day} {F = since} F C s tries P H sent written a g q e h =
       taken = λ x i own. more_numbered s a (failing q) g P x.request (h.taken x i own);
       wrote = λ b r i k own d z. wrote_on s (step a g ∷ P) (step a (failing q ∷ g) ∷ P) H b r (more_numbered s a (failing q) g P) (h.wrote b r i k own d z);
       ground = (no_ground day since s H (view s P) a (failing q ∷ g) refl, h.ground.1);
-      settled = h.settled;
     }
 
 -- what is sent has a number of the run
@@ -284,7 +281,6 @@ ends_on F C s tries P H sent written a g x suits h may dec = record {
   taken = λ e i own. ended_numbered s a (failing x.request) x g P e.request (h.taken e i own);
   wrote = λ b q i r own d z. wrote_on s (step a (failing x.request ∷ g) ∷ P) (step a (x ∷ g) ∷ P) H b q (ended_numbered s a (failing x.request) x g P) (h.wrote b q i r own d z);
   ground = (heard_ground F C s tries P H sent written a g x suits h may dec, h.ground.1);
-  settled = h.settled;
 }
 
 -- ---- others send, and the ledger writes what it wrote
@@ -301,7 +297,6 @@ others_send s tries P H sent written bytes others h = record {
   taken = h.taken;
   wrote = h.wrote;
   ground = h.ground;
-  settled = h.settled;
 }
 
 pub writes_on : {day : ℕ → ℕ} {F : ℕ} → (s : Source) (tries : ℕ) (P : List Step) (H : List Entry) (sent written : List (List ℕ)) (bytes : List ℕ) → ((a : Reply) (q : Request) → bytes ≡ frame (reply_body a) → IsReply a → IsOwn s q → decides q a ≡ true → is_grant a ≡ true → Wrote H a ⊎ IsForgotten day F s P q)
@@ -316,5 +311,23 @@ writes_on s tries P H sent written bytes known h = record {
   taken = h.taken;
   wrote = λ a q i r own d g. elim i [ inl e ↦ known a q e r own d g | inr j ↦ h.wrote a q j r own d g ];
   ground = h.ground;
-  settled = h.settled;
+}
+
+-- ---- the same entries in another order
+
+pub holds_in : {day : ℕ → ℕ} {F : ℕ} → (s : Source) (tries : ℕ) (P : List Step) (H K : List Entry) (sent written : List (List ℕ)) → ((e : Entry) → In e H → In e K) → ((e : Entry) → In e K → In e H)
+    → Holds day F s tries P H sent written → Holds day F s tries P K sent written
+holds_in {day = day} {F = since} s tries P H K sent written there back h = record {
+  host = h.host;
+  run = h.run;
+  underway = h.underway;
+  returns = h.returns;
+  asks = h.asks;
+  sends = h.sends;
+  taken = λ e i own. h.taken e (back e i) own;
+  wrote = λ a q i r own d g. elim (h.wrote a q i r own d g) [
+    | inl w ↦ inl (record { entry = w.entry; among = there w.entry w.among; is = w.is })
+    | inr f ↦ inr f
+  ];
+  ground = ground_in day since s H K there P h.ground;
 }

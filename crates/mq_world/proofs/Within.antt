@@ -1,15 +1,19 @@
--- What was let through is held or settled: of a transaction, and of a login and day.
+-- What was let through is held or settled by the ledgers together: of a transaction, and of a login and day.
 use Rattle.std.proofs.Common.{◌≡◌, ℕ, zero, suc, ◌+◌, ◌<◌, ◌≤◌, List, [], ◌∷◌, Bool, true, false, refl, ◌∙◌, ap, sym, subst, inl, inr, arith, Option, None, Some, if◌then◌else◌}
-use Rattle.std.specs.Prelude.{◌&&◌, ◌==◌, ◌⊎◌, nat_le, slice_get, is_some, length}
-use Rattle.std.specs.List.{list_any}
+use Rattle.std.specs.Prelude.{◌&&◌, ◌==◌, ◌⊎◌, nat_le, slice_get, is_some, length, sum_by}
+use Rattle.std.specs.List.{list_any, AllByRecursion}
+use Rattle.std.proofs.lemmas.List.Sums.{sum_by-cons, sum_by-append}
 use Rattle.std.proofs.lemmas.Bool.Decides.{nat_tests}
 use Rattle.mq_request.specs.Same.{same_text}
 use Rattle.mq_request.specs.declared.message.Request.{Request}
 use Rattle.mq_request.specs.declared.message.Request.TheVariants.{Settle, Release}
 use Rattle.mq_request.specs.declared.message.Reply.{Reply}
 use Rattle.mq_ledger.specs.declared.entry.Entry.{Entry}
-use Rattle.mq_ledger.specs.History.{Transaction, is_of, counted, counted_in, granted_in, held, settled_in, named}
-use Rattle.mq_ledger.specs.Sums.{is_for, names_for, held_on, settled_on}
+use Rattle.mq_ledger.specs.declared.zone.Zone.{Zone}
+use Rattle.mq_ledger.specs.Day.{day_of}
+use Rattle.mq_ledger.specs.History.{Transaction, is_of, closes, granted, counted, counted_in, granted_in, held, settled_in, named}
+use Rattle.mq_ledger.specs.Legal.{Book, IsLegalBook}
+use Rattle.mq_ledger.specs.Sums.{is_for, names_for, held_on, settled_on, AreDistinct}
 use Rattle.mq_client.specs.Exchanges.{Exchange, decisions}
 use Rattle.mq_client.specs.Past.{Source, Action, Ask, Close, Drain, Step, Standing, Never, Live, Closed, View, view, after, after_ask, after_close, answer_of, answer_by, let_through, opened, held_by, id_of, reserve_of, closing_of, refuses}
 use Rattle.mq_client.specs.Turns.{failures, next_of, AreUnderway}
@@ -20,13 +24,14 @@ use Rattle.mq_client.specs.declared.held.Asked.TheVariants as asked
 use Rattle.mq_client.specs.declared.held.Held.{Held}
 use Rattle.mq_world.specs.World.{with_exchange}
 use Rattle.mq_world.specs.Law.{counting, granted_of, let_by, is_on, let_on}
-use Rattle.mq_world.proofs.Basics.{either, clash, none_some, some_is, first_so, second_so, zero_or_more, number_is, In, found, any_found, not_any, sum_has, option_cases}
-use Rattle.mq_world.proofs.Known.{OfLedgers}
+use Rattle.mq_world.specs.Together.{kept_of, used_of, cap_of}
+use Rattle.mq_world.proofs.Basics.{either, clash, none_some, some_is, first_so, second_so, both_so, zero_or_more, number_is, In, in_front, in_back, found, any_found, not_any, sum_below, sum_has, sum_plus, sum_zero, option_cases}
+use Rattle.mq_world.proofs.Known.{OfLedgers, OfSums}
+use Rattle.mq_world.proofs.Pools.{pool, in_one}
 use Rattle.mq_world.proofs.Ranges.{unless}
 use Rattle.mq_world.proofs.Grounds.{of_source, let_at, at_of}
-use Rattle.mq_world.proofs.Runs.{is_settle, count_of, Holds, AllSuit, failing, so_far, step}
-use Rattle.mq_forget.specs.Remembered.{moment_of}
-use Rattle.mq_world.proofs.Takes.{closing_moment, SuitsUnder, of_source_own, is_closing, not_ended, reserve_closes, reserve_settle}
+use Rattle.mq_world.proofs.Runs.{is_settle, count_of, AllSuit, failing, so_far, step}
+use Rattle.mq_world.proofs.Takes.{SuitsUnder, not_ended, reserve_closes, closes_not, closes_settled}
 
 -- ---- an exchange on its way lets nothing through
 
@@ -92,12 +97,17 @@ counts_so_far s tries (Some q) P u back t = counts_past s tries q P u back t
 
 -- ---- one transaction
 
-abbrev settles_it : Transaction → Entry → Bool
-settles_it t e = is_of t e.request && is_settle e.request
+abbrev closes_it : Transaction → Entry → Bool
+closes_it t e = is_of t e.request && closes e.reply
 
--- where all of its entries are reserves it is held, or settled by a retire
-held_each : OfLedgers → (H : List Entry) (t : Transaction) (n : ℕ) → AllSuit H → n ≤ granted_in H t → ((e : Entry) → In e H → is_of t e.request ≡ true → is_closing e.request ≡ false) → n ≤ held H t + settled_in H t
-held_each L H t n suits enough each = (let kept = L.kept H t (not_ended H t suits each) in omega (arith, kept, enough))
+-- where no ledger has settled or released it, each holds what it granted, or has settled that by a retire
+kept_each : OfLedgers → (bs : List Book) (t : Transaction) → ((e : Entry) → In e (pool bs) → is_of t e.request ≡ true → closes e.reply ≡ false) → granted_in (pool bs) t ≤ sum_by (kept_of t) bs
+kept_each L [] t each = omega arith
+kept_each L (b ∷ bs) t each =
+    let kept = L.kept b.history t (not_ended b.history t (λ e i. each e (in_front b.history (pool bs) e i))) in
+    let rest = kept_each L bs t (λ e i. each e (in_back b.history (pool bs) e i)) in
+    let parts = sum_by-append (λ e. if is_of t e.request then granted e.request e.reply else 0) b.history (pool bs) in
+    omega (arith, kept, rest, parts, sum_by-cons (kept_of t) b bs)
 
 closing_count : (s : Source) (n t : ℕ) (k : Held) → is_settle (closing_of s n t ending.Commit k) ≡ true → count_of (closing_of s n t ending.Commit k) ≡ k.granted
 closing_count s n t k y = by_kind (nat_le 1 k.granted) y
@@ -109,45 +119,45 @@ closing_count s n t k y = by_kind (nat_le 1 k.granted) y
 closing_settle : (s : Source) (n t : ℕ) (k : Held) → 0 < k.granted → is_settle (closing_of s n t ending.Commit k) ≡ true
 closing_settle s n t k some = let one : nat_le 1 k.granted ≡ true = grind (arith, nat_tests, some) in rw one refl
 
-settled_each : {day : ℕ → ℕ} {F : ℕ} → (s : Source) (tries : ℕ) (P : List Step) (H : List Entry) (sent written : List (List ℕ)) → OfLedgers → Holds day F s tries P H sent written → (t number : ℕ) (k : Held) (e : Entry) → In e H → is_of (of_source s t) e.request ≡ true → is_settle e.request ≡ true
-    → SuitsUnder s t (Closed ending.Commit number k) e.request → F ≤ day k.moment → k.granted ≤ settled_in H (of_source s t)
-settled_each {day = day} {F = since} s tries P H sent written L h t number k e i mine y u on = by_suits u.suits
+-- a ledger that closed a committed transaction settled all that was let through, by whichever ledgers
+closed_each : (s : Source) (bs : List Book) → AllSuit (pool bs) → (t number : ℕ) (k : Held) (e : Entry) → 0 < k.granted → In e (pool bs) → is_of (of_source s t) e.request ≡ true → closes e.reply ≡ true
+    → SuitsUnder s t (Closed ending.Commit number k) e.request → k.granted ≤ sum_by (kept_of (of_source s t)) bs
+closed_each s bs suits t number k e some i mine shut u = by_suits u.suits
   where
-    by_suits : Suits s u.number t (Closed ending.Commit number k) e.request → k.granted ≤ settled_in H (of_source s t)
-    by_suits (inl r) = absurd (clash (is_settle e.request) y (reserve_settle s u.number t k e.request r))
-    by_suits (inr p) =
-        let count : count_of e.request ≡ k.granted = ap count_of p.1 ∙ closing_count s u.number t k (sym (ap is_settle p.1) ∙ y) in
-        let late : since ≤ day (moment_of e.request) = subst (λ m. since ≤ day m) (sym (ap moment_of p.1 ∙ closing_moment s u.number t ending.Commit k)) on in
-        let all = h.settled e i (of_source_own L s t e.request mine).0 y late in
-        let part : (if is_of (of_source s t) e.request then counted e.request e.reply else 0) ≤ counted_in H (of_source s t) = sum_has (λ x. if is_of (of_source s t) x.request then counted x.request x.reply else 0) e H i in
-        let own : counted e.request e.reply ≤ counted_in H (of_source s t) = rw mine at part in
-        omega (arith, count, all, own)
-
--- no settle of it has come: its entries are reserves
-unsettled : (s : Source) (t number : ℕ) (k : Held) (e : Entry) → 0 < k.granted → is_of (of_source s t) e.request ≡ true → settles_it (of_source s t) e ≡ false → SuitsUnder s t (Closed ending.Commit number k) e.request → is_closing e.request ≡ false
-unsettled s t number k e some mine none u = by_suits u.suits
-  where
-    by_suits : Suits s u.number t (Closed ending.Commit number k) e.request → is_closing e.request ≡ false
-    by_suits (inl r) = reserve_closes s u.number t k e.request r
+    by_suits : Suits s u.number t (Closed ending.Commit number k) e.request → k.granted ≤ sum_by (kept_of (of_source s t)) bs
+    by_suits (inl r) = absurd (clash (closes e.reply) shut (closes_not e.request e.reply (suits e i) (reserve_closes s u.number t k e.request r)))
     by_suits (inr p) =
         let y : is_settle e.request ≡ true = ap is_settle p.1 ∙ closing_settle s u.number t k some in
-        let z : settles_it (of_source s t) e ≡ true = rw (mine, y) refl in
-        absurd (clash (settles_it (of_source s t) e) z none)
+        let count : count_of e.request ≡ k.granted = ap count_of p.1 ∙ closing_count s u.number t k (sym (ap is_settle p.1) ∙ y) in
+        let all = closes_settled e.request e.reply (suits e i) shut y in
+        let one = in_one bs e i in
+        let H : List Entry = one.book.history in
+        let part : (if is_of (of_source s t) e.request then counted e.request e.reply else 0) ≤ counted_in H (of_source s t) = sum_has (λ x. if is_of (of_source s t) x.request then counted x.request x.reply else 0) e H one.entry in
+        let own : counted e.request e.reply ≤ counted_in H (of_source s t) = rw mine at part in
+        let book = sum_has (kept_of (of_source s t)) one.book bs one.among in
+        omega (arith, count, all, own, book)
 
-pub standing_each : {day : ℕ → ℕ} {F : ℕ} → (s : Source) (tries : ℕ) (P : List Step) (H : List Entry) (sent written : List (List ℕ)) → OfLedgers → AllSuit H → Holds day F s tries P H sent written → (t : ℕ) (st : Standing) → F ≤ day (at_of st) → let_at st ≤ granted_in H (of_source s t)
-    → ((e : Entry) → In e H → is_of (of_source s t) e.request ≡ true → SuitsUnder s t st e.request) → let_by st ≤ held H (of_source s t) + settled_in H (of_source s t)
-standing_each s tries P H sent written L suits h t Never on enough each = omega arith
-standing_each s tries P H sent written L suits h t (Live k) on enough each =
-    held_each L H (of_source s t) k.granted suits enough (λ e i mine. (let u = each e i mine in reserve_closes s u.number t k e.request u.suits))
-standing_each s tries P H sent written L suits h t (Closed ending.Rollback number k) on enough each = omega arith
-standing_each s tries P H sent written L suits h t (Closed ending.Commit number k) on enough each = elim (zero_or_more k.granted) [
+-- it did not close it
+closed_not : (t : Transaction) (e : Entry) → is_of t e.request ≡ true → closes_it t e ≡ false → closes e.reply ≡ false
+closed_not t e mine none = elim (either (closes e.reply)) [ inr f ↦ f | inl y ↦ absurd (clash (closes_it t e) (both_so (is_of t e.request) (closes e.reply) mine y) none) ]
+
+-- what was let through of a transaction, the ledgers hold or have settled together
+pub standing_each : (s : Source) (bs : List Book) → OfLedgers → AllSuit (pool bs) → (t : ℕ) (st : Standing) → let_at st ≤ granted_in (pool bs) (of_source s t)
+    → ((e : Entry) → In e (pool bs) → is_of (of_source s t) e.request ≡ true → SuitsUnder s t st e.request) → let_by st ≤ sum_by (kept_of (of_source s t)) bs
+standing_each s bs L suits t Never enough each = omega arith
+standing_each s bs L suits t (Live k) enough each =
+    let kept = kept_each L bs (of_source s t) (λ e i mine. (let u = each e i mine in closes_not e.request e.reply (suits e i) (reserve_closes s u.number t k e.request u.suits))) in
+    omega (arith, enough, kept)
+standing_each s bs L suits t (Closed ending.Rollback number k) enough each = omega arith
+standing_each s bs L suits t (Closed ending.Commit number k) enough each = elim (zero_or_more k.granted) [
   | inl z ↦ omega (arith, z)
-  | inr some ↦ elim (either (list_any (settles_it (of_source s t)) H)) [
-    | inl y ↦ (let f = any_found (settles_it (of_source s t)) H y in
-        let mine = first_so (is_of (of_source s t) f.0.request) (is_settle f.0.request) f.1.so in
-        let settles = second_so (is_of (of_source s t) f.0.request) (is_settle f.0.request) f.1.so in
-        let a = settled_each s tries P H sent written L h t number k f.0 f.1.among mine settles (each f.0 f.1.among mine) on in omega (arith, a))
-    | inr m ↦ held_each L H (of_source s t) k.granted suits enough (λ e i mine. unsettled s t number k e some mine (not_any (settles_it (of_source s t)) H m e i) (each e i mine))
+  | inr some ↦ elim (either (list_any (closes_it (of_source s t)) (pool bs))) [
+    | inl y ↦ (let f = any_found (closes_it (of_source s t)) (pool bs) y in
+        let mine = first_so (is_of (of_source s t) f.0.request) (closes f.0.reply) f.1.so in
+        let shut = second_so (is_of (of_source s t) f.0.request) (closes f.0.reply) f.1.so in
+        closed_each s bs suits t number k f.0 some f.1.among mine shut (each f.0 f.1.among mine))
+    | inr m ↦ (let kept = kept_each L bs (of_source s t) (λ e i mine. closed_not (of_source s t) e mine (not_any (closes_it (of_source s t)) (pool bs) m e i)) in
+        omega (arith, enough, kept))
   ]
 ]
 
@@ -173,14 +183,54 @@ pub let_if : (b : Bool) (n m : ℕ) → (b ≡ true → n ≤ m) → (if b then 
 let_if true n m f = f refl
 let_if false n m f = omega arith
 
-pub on_each : OfLedgers → (day : ℕ → ℕ) (H : List Entry) (l : List ℕ) (d : ℕ) (s : Source) (t : ℕ) (st : Standing) → let_by st ≤ held H (of_source s t) + settled_in H (of_source s t)
-    → ((e : Entry) → In e H → is_of (of_source s t) e.request ≡ true → SuitsUnder s t st e.request) → is_on day l d (counting st) ≡ true → let_by st ≤ held_on day H l d (of_source s t) + settled_on day H l d (of_source s t)
-on_each L day H l d s t st le each on = elim (option_cases (named H (of_source s t))) [
-  | inl none ↦ (let z = L.unheard H (of_source s t) none in let a = z.1 in let b = z.2 in omega (arith, le, a, b))
+on_each : OfLedgers → (day : ℕ → ℕ) (H : List Entry) (l : List ℕ) (d : ℕ) (s : Source) (t : ℕ) (st : Standing) → ((e : Entry) → In e H → is_of (of_source s t) e.request ≡ true → SuitsUnder s t st e.request)
+    → is_on day l d (counting st) ≡ true → held H (of_source s t) + settled_in H (of_source s t) ≤ held_on day H l d (of_source s t) + settled_on day H l d (of_source s t)
+on_each L day H l d s t st each on = elim (option_cases (named H (of_source s t))) [
+  | inl none ↦ (let z = L.unheard H (of_source s t) none in let a = z.1 in let b = z.2 in omega (arith, a, b))
   | inr p ↦ (let f = found (λ x. is_of (of_source s t) x.request) H p.0 p.1 in
       let u = each p.0 f.among f.so in
-      on_named day H l d (of_source s t) p.0 (let_by st) p.1 (suits_for day l d s u.number t st p.0.request u.suits on) le)
+      on_named day H l d (of_source s t) p.0 (held H (of_source s t) + settled_in H (of_source s t)) p.1 (suits_for day l d s u.number t st p.0.request u.suits on) (omega arith))
 ]
+
+-- what a ledger holds or has settled of a transaction, where it was named with that login and day
+abbrev pub kept_on : List ℕ → ℕ → Transaction → Book → ℕ
+kept_on l d t b = held_on (day_of b.zone) b.history l d t + settled_on (day_of b.zone) b.history l d t
+
+-- in ledgers of one zone
+pub on_all : OfLedgers → (zone : Zone) (bs : List Book) → AllByRecursion (λ b. b.zone ≡ zone) bs → (l : List ℕ) (d : ℕ) (s : Source) (t : ℕ) (st : Standing) → ((e : Entry) → In e (pool bs) → is_of (of_source s t) e.request ≡ true → SuitsUnder s t st e.request)
+    → is_on (day_of zone) l d (counting st) ≡ true → sum_by (kept_of (of_source s t)) bs ≤ sum_by (kept_on l d (of_source s t)) bs
+on_all L zone [] zones l d s t st each on = omega arith
+on_all L zone (b ∷ bs) zones l d s t st each on =
+    let here : is_on (day_of b.zone) l d (counting st) ≡ true = subst (λ z. is_on (day_of z) l d (counting st) ≡ true) (sym zones.0) on in
+    let a = on_each L (day_of b.zone) b.history l d s t st (λ e i. each e (in_front b.history (pool bs) e i)) here in
+    let rest = on_all L zone bs zones.1 l d s t st (λ e i. each e (in_back b.history (pool bs) e i)) on in
+    omega (arith, a, rest, sum_by-cons (kept_of (of_source s t)) b bs, sum_by-cons (kept_on l d (of_source s t)) b bs)
+
+-- ---- sums over ledgers
+
+-- what some transactions have there is at most what is used
+pub sums_on : OfSums → (bs : List Book) → AllByRecursion IsLegalBook bs → (l : List ℕ) (d : ℕ) (ts : List Transaction) → AreDistinct ts → sum_by (λ t. sum_by (kept_on l d t) bs) ts ≤ sum_by (used_of l d) bs
+sums_on S [] legal l d ts distinct = omega (arith, sum_zero ts)
+sums_on S (b ∷ bs) legal l d ts distinct =
+    let day : ℕ → ℕ = day_of b.zone in
+    let H : List Entry = b.history in
+    let split = sum_below (λ t. sum_by (kept_on l d t) (b ∷ bs)) (λ t. kept_on l d t b + sum_by (kept_on l d t) bs) (λ t. omega (arith, sum_by-cons (kept_on l d t) b bs)) ts in
+    let parts = sum_plus (λ t. kept_on l d t b) (λ t. sum_by (kept_on l d t) bs) ts in
+    let two = sum_plus (held_on day H l d) (settled_on day H l d) ts in
+    let h = S.held day b.default H l d ts legal.0.legal distinct in
+    let g = S.settled day b.default H l d ts legal.0.legal distinct in
+    let rest = sums_on S bs legal.1 l d ts distinct in
+    omega (arith, split, parts, two, h, g, rest, sum_by-cons (used_of l d) b bs)
+
+-- and that at most the limits
+pub within_all : OfSums → (bs : List Book) → AllByRecursion IsLegalBook bs → (l : List ℕ) (d : ℕ) → sum_by (used_of l d) bs ≤ sum_by (cap_of l d) bs
+within_all S [] legal l d = omega arith
+within_all S (b ∷ bs) legal l d =
+    let one = S.within (day_of b.zone) b.default b.history legal.0.legal l d in
+    let rest = within_all S bs legal.1 l d in
+    omega (arith, one, rest, sum_by-cons (used_of l d) b bs, sum_by-cons (cap_of l d) b bs)
+
+-- ---- before an exchange that is on its way
 
 pub let_from : (day : ℕ → ℕ) (l : List ℕ) (d : ℕ) (st now : Standing) (n : ℕ) → Counts st now → let_on day l d now ≤ n → let_on day l d st ≤ n
 let_from day l d st now n (inl z) le = let_if (is_on day l d (counting st)) (let_by st) n (λ y. omega (arith, z))

@@ -1,13 +1,13 @@
 -- What has happened on the way from a start to a world, and that worlds are reached in which it has.
 use Rattle.std.specs.Prelude.{◌≡◌, ◌<◌, ℕ, List, [], ◌∷◌, ◌++◌, count_by, is_some, slice_get, true, false, Option, None, Some}
-use Rattle.std.specs.List.{list_any}
+use Rattle.std.specs.List.{list_any, AllByRecursion}
 use Rattle.mq_request.specs.Same.{same_text, same_request}
 use Rattle.mq_frame.specs.Spelling.{reply_body, frame, request_frame}
 use Rattle.mq_request.specs.declared.message.Id.{Id}
 use Rattle.mq_request.specs.declared.message.Request.{Request}
 use Rattle.mq_request.specs.declared.message.Request.TheVariants.{Retire}
 use Rattle.mq_request.specs.declared.message.Reply.{Reply}
-use Rattle.mq_request.specs.declared.message.Reply.TheVariants.{Old}
+use Rattle.mq_request.specs.declared.message.Reply.TheVariants.{Old, TooMany}
 use Rattle.mq_ledger.specs.Day.{day_of}
 use Rattle.mq_ledger.specs.History.{Transaction, requests, held, settled_in}
 use Rattle.mq_ledger.specs.Legal.{Book}
@@ -22,6 +22,7 @@ use Rattle.mq_world.specs.World.{Site, World, IsStart, Next, Reaches, with_run, 
 use Rattle.mq_client.specs.declared.held.Held.{Held}
 use Rattle.mq_world.specs.Law.{run_of, standing_of, counting, let_by, let_together}
 use Rattle.mq_world.specs.Forgetting.{forgotten, ReachesForgetting}
+use Rattle.mq_world.specs.Together.{Together, ledgers, IsStartTogether, ReachesTogether, cap_of}
 
 -- ---- reaching
 
@@ -174,3 +175,51 @@ pub record PassedOnAForgottenDay (site : Site) (start w : World) : Type 0 where
   pub transactions : List Transaction
   pub distinct : AreDistinct transactions
   pub passes : cap now.ledger.default now.ledger.history login over < let_together now login over transactions
+
+-- ---- with two servers
+
+-- from a start with two unused ledgers, the first at the address, worlds are reached in which it has happened
+pub record IsReachableTogether (a b : Book) (Happened : Site → (start c : Together) → Type 0) : Type 0 where
+  pub site : Site
+  pub start : Together
+  pub ledgers : ledgers start ≡ unused a ∷ unused b ∷ []
+  pub is_start : IsStartTogether site start
+  pub now : Together
+  pub reached : ReachesTogether site start 0 now
+  pub happened : Happened site start now
+
+-- Each of the ledgers granted one recipient of a transaction of a run, which was committed then. Its settle got
+-- TooMany, so that it waits no longer, and each ledger holds what it granted still.
+pub record WasSplit (site : Site) (start c : Together) : Type 0 where
+  pub transaction : Transaction
+  pub is_run : site.is_run (run_of transaction) ≡ true
+  pub asked : Held
+  pub counts : counting (standing_of c.world transaction) ≡ Some asked
+  pub are_two : asked.granted ≡ 2
+  pub closing : Request
+  pub id : Id
+  pub came : newest (c.world.runs (run_of transaction)).past ≡ Some (brought closing (TooMany id 1) (Some (TooMany id 1)))
+  pub none_waits : (view (run_of transaction) (c.world.runs (run_of transaction)).past).waiting ≡ []
+  pub hold : AllByRecursion (λ b. held b.history transaction ≡ 1) (ledgers c)
+
+-- The frame of a reserve was sent once. Each of the ledgers took it and granted it, as the address moved while its
+-- exchange was on its way, and both replies were written: one recipient was let through, and each ledger holds one.
+pub record WasGrantedByEach (site : Site) (start c : Together) : Type 0 where
+  pub transaction : Transaction
+  pub is_run : site.is_run (run_of transaction) ≡ true
+  pub reserve : Request
+  pub reply : Reply
+  pub sent : times_sent reserve c.world ≡ 1
+  pub written : times_written reply c.world ≡ 2
+  pub decides_it : decides reserve reply ≡ true
+  pub had : AllByRecursion (λ b. requests b.history ≡ reserve ∷ []) (ledgers c)
+  pub is_one : let_by (standing_of c.world transaction) ≡ 1
+  pub hold : AllByRecursion (λ b. held b.history transaction ≡ 1) (ledgers c)
+
+-- what some transactions of a login and day let through passes the limit of each ledger
+pub record PassedEachLimit (site : Site) (start c : Together) : Type 0 where
+  pub login : List ℕ
+  pub day : ℕ
+  pub transactions : List Transaction
+  pub distinct : AreDistinct transactions
+  pub passes : AllByRecursion (λ b. cap_of login day b < let_together c.world login day transactions) (ledgers c)

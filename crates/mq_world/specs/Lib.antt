@@ -2,4 +2,5 @@ pub mod World
 pub mod Law
 pub mod Running
 pub mod Forgetting
+pub mod Together
 pub mod Happening

@@ -1,6 +1,7 @@
 //! Laws of both ends. The functions compute nothing.
 ghost use Rattle.std.specs.Prelude.{◌≡◌, ◌≤◌, ◌+◌, ◌++◌, ◌∷◌, ℕ, List, Bool, Option, true, false, Some};
-ghost use Rattle.std.specs.Prelude.{slice_get, ℤ};
+ghost use Rattle.std.specs.Prelude.{slice_get, sum_by, ℤ};
+ghost use Rattle.std.specs.List.{AllByRecursion};
 ghost use Rattle.mq_frame.specs.Spelling.{reply_body, frame, request_frame};
 ghost use Rattle.mq_request.specs.declared.message.Reply.TheVariants.{Retry, Bad};
 ghost use Rattle.mq_link.specs.declared.link.LinkFault.{LinkFault};
@@ -23,9 +24,11 @@ ghost use Rattle.mq_client.specs.declared.filter.Ended.{Ended};
 ghost use Rattle.mq_world.specs.World.{Site, World, IsStart, Reaches, Next, with_run, with_sent, with_on_way, after_stop};
 ghost use Rattle.mq_world.specs.World.{MayCome};
 ghost use Rattle.mq_world.specs.Forgetting.{forgotten, ReachesForgetting};
+ghost use Rattle.mq_world.specs.Together.{Together, ledgers, IsStartTogether, ReachesTogether, kept_of, used_of, cap_of};
 ghost use Rattle.mq_world.specs.Happening.{unused, IsReachable, HasLetOneThrough, WasAnsweredAgain, WasTakenTwice};
 ghost use Rattle.mq_world.specs.Happening.{CameLate, HasStopped, WasRetired, WentOnThoughForgotten};
-ghost use Rattle.mq_world.specs.Happening.{PassedOnAForgottenDay};
+ghost use Rattle.mq_world.specs.Happening.{PassedOnAForgottenDay, IsReachableTogether};
+ghost use Rattle.mq_world.specs.Happening.{WasGrantedByEach, WasSplit, PassedEachLimit};
 ghost use Rattle.mq_world.specs.Running.{ran, step_of, unsent, amid, frames_of, AllMayCome, GoesOn, IsNew, lines_at, IsOrOneMore};
 ghost use Rattle.mq_world.specs.Law.{standing_of, counting, let_by, let_together, IsPastOf};
 
@@ -93,6 +96,43 @@ pub fn never_past_the_limit_over_a_forgetting()
     ensures bounded { (site : Site) (start w : World) (F : ℕ) → IsStart site start →
         ReachesForgetting site start F w →
         (s : Source) → site.is_run s ≡ true → IsBounded (view s (w.runs s).past) }
+{
+    // (the law over several servers, where there is one)
+    never_past_the_limits_together();
+    // What is remembered at a forgetting is a legal history again.
+    remembered_is_legal();
+}
+
+/// The same over several servers, each with a ledger of its own, where the address that filters ask moves from
+/// one to another at any time, and any of them forgets days before F: a filter goes on with its host, run,
+/// numbers and open transactions, and no server knows of another.
+///
+/// A grant counts in the ledger that gave it. A settle is settled where the ledger holds as much as was let
+/// through, and changes nothing elsewhere; what other ledgers hold of it stays reserved until its run is retired.
+pub fn never_past_the_limits_together()
+    // What one transaction let through, the ledgers hold or have settled together.
+    ensures one { (site : Site) (start c : Together) (F : ℕ) → IsStartTogether site start →
+        ReachesTogether site start F c → (t : Transaction) (h : Held) →
+        counting (standing_of c.world t) ≡ Some h → F ≤ day_of c.world.ledger.zone h.moment →
+        let_by (standing_of c.world t) ≤ sum_by (kept_of t) (ledgers c) }
+    // What any transactions of a login and day let through, each taken once, they have settled and reserved.
+    ensures together { (site : Site) (start c : Together) (F : ℕ) → IsStartTogether site start →
+        ReachesTogether site start F c → (l : List ℕ) (d : ℕ) (ts : List Transaction) → AreDistinct ts → F ≤ d →
+        let_together c.world l d ts ≤ sum_by (used_of l d) (ledgers c) }
+    // So it is at most the sum of the limits.
+    ensures limit { (site : Site) (start c : Together) (F : ℕ) → IsStartTogether site start →
+        ReachesTogether site start F c → (l : List ℕ) (d : ℕ) (ts : List Transaction) → AreDistinct ts → F ≤ d →
+        let_together c.world l d ts ≤ sum_by (cap_of l d) (ledgers c) }
+    // Each ledger keeps its own rules, and so its own limit.
+    ensures each { (site : Site) (start c : Together) (F : ℕ) → IsStartTogether site start →
+        ReachesTogether site start F c → AllByRecursion IsLegalBook (ledgers c) }
+    // Of runs all is as with one server.
+    ensures pasts { (site : Site) (start c : Together) (F : ℕ) → IsStartTogether site start →
+        ReachesTogether site start F c →
+        (s : Source) → site.is_run s ≡ true → IsPastOf s (site.tries s) (c.world.runs s) }
+    ensures bounded { (site : Site) (start c : Together) (F : ℕ) → IsStartTogether site start →
+        ReachesTogether site start F c →
+        (s : Source) → site.is_run s ≡ true → IsBounded (view s (c.world.runs s).past) }
 {
     // A frame on its way is that of one request.
     one_spelling();
@@ -179,6 +219,14 @@ pub fn what_may_happen()
         1 ≤ b.default → IsReachable b WentOnThoughForgotten }
     // Of forgotten days no law speaks, since there the limit may be passed.
     ensures passed { (b : Book) → IsLegalBook (unused b) → b.default ≡ 1 → IsReachable b PassedOnAForgottenDay }
+    // With two servers a recipient may count at both, a settle may find too little at either, and each limit
+    // alone may be passed.
+    ensures granted_by_each { (a b : Book) → IsLegalBook (unused a) → IsLegalBook (unused b) → b.zone ≡ a.zone →
+        1 ≤ a.default → 1 ≤ b.default → IsReachableTogether a b WasGrantedByEach }
+    ensures split { (a b : Book) → IsLegalBook (unused a) → IsLegalBook (unused b) → b.zone ≡ a.zone →
+        1 ≤ a.default → 1 ≤ b.default → IsReachableTogether a b WasSplit }
+    ensures passed_each { (a b : Book) → IsLegalBook (unused a) → IsLegalBook (unused b) → b.zone ≡ a.zone →
+        a.default ≡ 1 → b.default ≡ 1 → IsReachableTogether a b PassedEachLimit }
 {
     // (the frames of these worlds are read as the requests that were sent)
     one_spelling();

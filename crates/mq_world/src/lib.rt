@@ -9,6 +9,9 @@
 //!         (l : List ℕ) (d : ℕ) (ts : List Transaction) → AreDistinct ts →
 //!         let_together w l d ts ≤ cap w.ledger.default w.ledger.history l d }
 //!
+//! Of several servers, to each of which the address may move, `never_past_the_limits_together` says the same with the
+//! sum of their limits.
+//!
 //! It stands on `mq_line`, `mq_track`, `mq_request`, `mq_frame`, `mq_ledger`, `mq_link`, `mq_client` and `mq_forget`,
 //! by their definitions and laws alone. Begin with `specs/World.antt`, what may happen, and `specs/Law.antt`, what was
 //! let through.

@@ -1,285 +1,31 @@
--- Every state of the world, step by step, and what follows in each.
-use Rattle.std.proofs.Common.{◌≡◌, ℕ, ◌≤◌, List, [], ◌∷◌, ◌++◌, true, false, refl, ◌∙◌, ap, sym, subst, inl, inr, arith, Option, None, Some, ◌+◌}
-use Rattle.std.specs.Prelude.{slice_get}
-use Rattle.std.specs.Option.{option_map}
-use Rattle.mq_line.specs.Grammar.{Meaning}
-use Rattle.mq_track.specs.Sessions.{fault, begin_count}
-use Rattle.mq_request.specs.Range.{IsRequest, IsReply}
-use Rattle.mq_frame.specs.Spelling.{request_body, reply_body, SpellsRequest, frame, request_frame}
-use Rattle.mq_request.specs.declared.message.Request.{Request}
-use Rattle.mq_request.specs.declared.message.Reply.{Reply}
-use Rattle.mq_ledger.specs.declared.entry.Entry.{Entry}
-use Rattle.mq_ledger.specs.Answer.{reply, with_arrival, history_of}
-use Rattle.mq_ledger.specs.Arrivals.{id_of as ledger_id}
+-- One server alone.
+use Rattle.std.proofs.Common.{ℕ, ◌≤◌, [], ◌∷◌, arith}
+use Rattle.std.specs.Prelude.{sum_by}
+use Rattle.std.proofs.lemmas.List.Sums.{sum_by-cons}
 use Rattle.mq_ledger.specs.Day.{day_of}
-use Rattle.mq_ledger.specs.History.{requests, Transaction, held, settled_in, reserved, settled}
-use Rattle.mq_client.specs.Exchanges.{Exchange, decides, IsDecision}
-use Rattle.mq_client.specs.Past.{Source, Action, Drain, Step, id_of, Standing, view, IsPlayed}
-use Rattle.mq_client.specs.Numbered.{NoneReturns}
-use Rattle.mq_client.specs.Filter.{push, action_of, actions, actions_of}
-use Rattle.mq_world.specs.World.{Site, Run, World, fresh, IsOfOthers, IsFrameOfOthers, IsReplyToOthers, IsStart, IsUp, ReadsOn, begun, after_line, after_end, next_request, with_on_way, with_exchange, after_exchange, after_stop, MayCome, same_source, with_run, with_sent, after_arrival, Next, Reads, ReadsEnd, Sends, Ends, Takes, OthersSend, Stops}
+use Rattle.mq_ledger.specs.Legal.{Book}
+use Rattle.mq_world.specs.World.{Site, World, IsStart, IsOfOthers}
 use Rattle.mq_world.specs.Forgetting.{forgotten, ReachesForgetting, FromStart, Steps, Forgets}
-use Rattle.mq_world.proofs.Basics.{either, clash, none_some, In, in_get, all_at, sum_below, sum_plus}
-use Rattle.mq_world.proofs.Known.{Known, OfSums, OfFrames}
-use Rattle.mq_world.proofs.Numbers.{IsOwn, same_own}
-use Rattle.mq_world.proofs.Lines.{counted, line_asks, push_actions}
-use Rattle.mq_world.proofs.Runs.{Holds, AllSuit, failing, so_far, begins, sends_on, sends_own, ends_on, others_send, Comes}
-use Rattle.mq_world.proofs.Takes.{entry_suits}
-use Rattle.mq_request.specs.declared.message.Request.TheVariants.{Settle, Release}
-use Rattle.mq_ledger.specs.Limits.{cap}
-use Rattle.mq_ledger.specs.Sums.{held_on, settled_on, AreDistinct}
-use Rattle.mq_client.specs.Reading.{standing_in}
-use Rattle.mq_client.specs.Turns.{AreUnderway}
-use Rattle.mq_world.specs.Law.{run_of, standing_of, counting, let_by, is_on, let_on, let_together, earlier, actions_in, IsPastOf}
+use Rattle.mq_world.specs.Together.{Together, IsStartTogether, ReachesTogether, kept_of, used_of, cap_of}
+use Rattle.mq_world.specs.Together as servers
 use Rattle.mq_forget.specs.Remembered.{stays}
-use Rattle.mq_client.specs.declared.held.Held.{Held}
-use Rattle.mq_world.proofs.Grounds.{at_of, was_granted}
-use Rattle.mq_world.proofs.Forgetting.{OfForgetting, forgets_on, all_filter}
-use Rattle.mq_world.proofs.Worlds.{IsRead, IsSound, all_suit, same_itself, put_sound, takes_any, legal_after}
-use Rattle.mq_world.proofs.Within.{standing_each, on_each, let_if, let_from, on_at, counts_at, counts_so_far}
-use Rattle.mq_request.specs.declared.message.Reply.TheVariants as reply
-use Rattle.mq_request.specs.declared.message.Request.TheVariants.{Reserve, Settle, Release}
-use Rattle.mq_link.specs.declared.link.Outcome.{Outcome}
-use Rattle.mq_link.specs.declared.link.Outcome.TheVariants.{Answered, Faulted}
+use Rattle.mq_world.proofs.Forgetting.{OfForgetting, all_filter}
 use Rattle.mq_world.proofs.laws.never_past_the_limit_over_a_forgetting.Goals as goal
 
--- ---- the start
+abbrev pub alone : World → Together
+alone w = record { world = w; standby = [] }
 
-not_own : (site : Site) (s : Source) (q : Request) → site.is_run s ≡ true → IsOfOthers site q → IsOwn s q → ⊥
-not_own site s q y others own = clash (site.is_run s) y (others (id_of s own.number) own.id)
+start_alone : (site : Site) (w : World) → IsStart site w → IsStartTogether site (alone w)
+start_alone site w z = record { first = z; standby = tt; zones = tt }
 
-holds_fresh : {F : ℕ} → (site : Site) (w : World) → IsStart site w → (s : Source) → site.is_run s ≡ true → Holds (day_of w.ledger.zone) F s (site.tries s) [] w.ledger.history w.sent w.written
-holds_fresh site w z s y = record {
-  host = (z.hosts s y).0;
-  run = (z.hosts s y).1;
-  underway = tt;
-  returns = tt;
-  asks = tt;
-  sends = λ q i range own. absurd (not_own site s q y (all_at (IsFrameOfOthers site) w.sent (frame (request_body q)) z.sent i (request_body q) q refl (record { bytes = refl; in_range = range })) own);
-  taken = λ e i own. absurd (not_own site s e.request y (all_at (λ x. IsOfOthers site x.request) w.ledger.history e z.entries i) own);
-  wrote = λ a q i range own d g. absurd (not_own site s q y (all_at (IsReplyToOthers site) w.written (frame (reply_body a)) z.written i (reply_body a) a q refl (record { bytes = refl; in_range = range }) d) own);
-  ground = tt;
-  settled = λ e i own settle on. absurd (not_own site s e.request y (all_at (λ x. IsOfOthers site x.request) w.ledger.history e z.entries i) own);
-}
+reaches_alone : (site : Site) (F : ℕ) (start w : World) → ReachesForgetting site start F w → ReachesTogether site (alone start) F (alone w)
+reaches_alone site F start w FromStart = servers.FromStart
+reaches_alone site F start w (Steps v later r n) = servers.Steps (alone v) later (reaches_alone site F start v r) n
+reaches_alone site F start w (Forgets v D r below) = servers.Forgets (alone v) D (reaches_alone site F start v r) below
 
-pub sound_start : (F : ℕ) (site : Site) (w : World) → IsStart site w → IsSound site F w
-sound_start F site w z = record {
-  ledger = z.ledger;
-  reading = λ s y. (let R : Run → Type 0 = λ r. IsRead s (site.tries s) r in
-      let fresh_read : IsRead s (site.tries s) fresh = record { counted = omega arith; acts = λ f. refl; ended = λ t. absurd (clash false t refl); played = tt } in subst R (sym (z.runs s)) fresh_read);
-  runs = λ s y. (let G : Run → Type 0 = λ r. Holds (day_of w.ledger.zone) F s (site.tries s) (so_far r.on_way r.past) w.ledger.history w.sent w.written in
-      subst G (sym (z.runs s)) (holds_fresh site w z s y));
-  idle = λ s n. z.runs s;
-}
-
--- ---- what an exchange brings
-
-retry_not : (q : Request) → decides q reply.Retry ≡ true → ⊥
-retry_not (Reserve id txn moment login count) h = clash false h refl
-retry_not (Settle id txn moment login count) h = clash false h refl
-retry_not (Release id txn moment login) h = clash false h refl
-retry_not q h = clash false h refl
-
-bad_not : (q : Request) → decides q reply.Bad ≡ true → ⊥
-bad_not (Reserve id txn moment login count) h = clash false h refl
-bad_not (Settle id txn moment login count) h = clash false h refl
-bad_not (Release id txn moment login) h = clash false h refl
-bad_not q h = clash false h refl
-
--- what comes and decides was written
-brought : OfFrames → (written : List (List ℕ)) (o : Outcome) (q : Request) → MayCome written o → Comes written q o
-brought F written (Faulted f) q may = λ a b d. absurd b
-brought F written (Answered body) q (inl retry) = λ a b d.
-    let same : a ≡ reply.Retry = F.one_body body a reply.Retry b (record { bytes = retry; in_range = tt }) in
-    let D : Reply → Type 0 = λ x. decides q x ≡ true in
-    absurd (retry_not q (subst D same d))
-brought F written (Answered body) q (inr (inl bad)) = λ a b d.
-    let same : a ≡ reply.Bad = F.one_body body a reply.Bad b (record { bytes = bad; in_range = tt }) in
-    let D : Reply → Type 0 = λ x. decides q x ≡ true in
-    absurd (bad_not q (subst D same d))
-brought F written (Answered body) q (inr (inr w)) = λ a b d.
-    let I : List ℕ → Type 0 = λ x. In (frame x) written in
-    (subst I b.bytes (in_get written w.0 (frame body) w.1), b.in_range)
-
--- ---- steps of a run
-
--- the step that a line asks for begins
-begins_if : {day : ℕ → ℕ} {F : ℕ} → Known → (site : Site) (s : Source) (L : List Meaning) (line : Meaning) (P : List Step) (H : List Entry) (sent written : List (List ℕ)) (o : Option Action) → action_of L line ≡ o → begin_count L ≤ 4294967295 → NoneReturns s (push (option_map begun o) P)
-    → Holds day F s (site.tries s) P H sent written → Holds day F s (site.tries s) (push (option_map begun o) P) H sent written
-begins_if K site s L line P H sent written None e le none_back h = h
-begins_if K site s L line P H sent written (Some a) e le none_back h = begins s (site.tries s) P H sent written a none_back (line_asks K.tracks L line a le e) h
-
-on_way_none : {day : ℕ → ℕ} {F : ℕ} → (s : Source) (tries : ℕ) (o : Option Request) (P : List Step) (H : List Entry) (sent written : List (List ℕ)) → o ≡ None → Holds day F s tries (so_far o P) H sent written → Holds day F s tries P H sent written
-on_way_none {day = day} {F = F} s tries o P H sent written e h = let G : Option Request → Type 0 = λ x. Holds day F s tries (so_far x P) H sent written in subst G e h
-
-none_on_way : {day : ℕ → ℕ} {F : ℕ} → (s : Source) (tries : ℕ) (o : Option Request) (P : List Step) (H : List Entry) (sent written : List (List ℕ)) → o ≡ None → Holds day F s tries P H sent written → Holds day F s tries (so_far o P) H sent written
-none_on_way {day = day} {F = F} s tries o P H sent written e h = let G : Option Request → Type 0 = λ x. Holds day F s tries (so_far x P) H sent written in subst G (sym e) h
-
--- one step more, where there is one
-played_push : (s : Source) (tries : ℕ) (o : Option Step) (P : List Step) → IsPlayed s tries P → IsPlayed s tries (earlier (push o P))
-played_push s tries (Some x) P h = h
-played_push s tries None [] h = h
-played_push s tries None (y ∷ P) h = h.1
-
-reads_sound : {F : ℕ} → Known → (site : Site) (w : World) (s : Source) (line : Meaning) → IsSound site F w → ReadsOn site w s → fault (w.runs s).lines line ≡ None → IsSound site F (with_run w s (after_line line (w.runs s)))
-reads_sound K site w s line h on e =
-    let y = on.up.is_run in
-    let r : Run = w.runs s in
-    let read = h.reading s y in
-    let acts : actions (push (option_map begun (action_of r.lines line)) r.past) ≡ actions_of (line ∷ r.lines) = push_actions (action_of r.lines line) r.past ∙ ap (push (action_of r.lines line)) (read.acts on.before_end) in
-    let none_back = K.clients.none_returns s (line ∷ r.lines) (push (option_map begun (action_of r.lines line)) r.past) acts in
-    let old = on_way_none s (site.tries s) r.on_way r.past w.ledger.history w.sent w.written on.none_on_way (h.runs s y) in
-    put_sound site w s (after_line line r) w.sent h y
-    (record {
-      counted = counted r.lines line e read.counted;
-      acts = λ f. acts;
-      ended = λ t. absurd (clash r.is_at_end t on.before_end);
-      played = played_push s (site.tries s) (option_map begun (action_of r.lines line)) r.past on.played;
-    })
-    (none_on_way s (site.tries s) r.on_way (push (option_map begun (action_of r.lines line)) r.past) w.ledger.history w.sent w.written on.none_on_way
-    (begins_if K site s r.lines line r.past w.ledger.history w.sent w.written (action_of r.lines line) refl read.counted none_back old))
-    (λ u d yu. h.runs u yu)
-
-ends_reading : {F : ℕ} → (site : Site) (w : World) (s : Source) → IsSound site F w → ReadsOn site w s → IsSound site F (with_run w s (after_end (w.runs s)))
-ends_reading site w s h on =
-    let y = on.up.is_run in
-    let r : Run = w.runs s in
-    let read = h.reading s y in
-    let old = on_way_none s (site.tries s) r.on_way r.past w.ledger.history w.sent w.written on.none_on_way (h.runs s y) in
-    put_sound site w s (after_end r) w.sent h y
-    (record {
-      counted = read.counted;
-      acts = λ f. absurd (clash true refl f);
-      ended = λ t. ap (λ xs. Drain ∷ xs) (read.acts on.before_end);
-      played = on.played;
-    })
-    (none_on_way s (site.tries s) r.on_way (begun Drain ∷ r.past) w.ledger.history w.sent w.written on.none_on_way
-    (begins s (site.tries s) r.past w.ledger.history w.sent w.written Drain (tt, old.returns) tt old))
-    (λ u d yu. h.runs u yu)
-
-pub record Sent (day : ℕ → ℕ) (F : ℕ) (s : Source) (tries : ℕ) (P : List Step) (H : List Entry) (sent written : List (List ℕ)) (q : Request) : Type 0 where
-  pub holds : Holds day F s tries (with_exchange (failing q) P) H (request_frame q ∷ sent) written
-  pub range : IsRequest q
-  pub own : IsOwn s q
-
-sends_past : {day : ℕ → ℕ} {F : ℕ} → Known → (s : Source) (tries : ℕ) (P : List Step) (H : List Entry) (sent written : List (List ℕ)) (q : Request) → next_request s tries P ≡ Some q → Holds day F s tries P H sent written → Sent day F s tries P H sent written q
-sends_past K s tries [] H sent written q e h = absurd (none_some q e)
-sends_past K s tries (x ∷ P) H sent written q e h =
-    let o = sends_own K.clients s tries P H sent written x.action x.group q e h in
-    record { holds = sends_on K.frames K.clients s tries P H sent written x.action x.group q e h; range = o.0; own = o.1 }
-
-sends_sound : {F : ℕ} → Known → (site : Site) (w : World) (s : Source) (q : Request) → IsSound site F w → IsUp site w s → (w.runs s).on_way ≡ None → next_request s (site.tries s) (w.runs s).past ≡ Some q
-    → IsSound site F (with_sent (with_run w s (with_on_way (Some q) (w.runs s))) (request_frame q))
-sends_sound K site w s q h up none e =
-    let y = up.is_run in
-    let r : Run = w.runs s in
-    let read = h.reading s y in
-    let old = on_way_none s (site.tries s) r.on_way r.past w.ledger.history w.sent w.written none (h.runs s y) in
-    let new = sends_past K s (site.tries s) r.past w.ledger.history w.sent w.written q e old in
-    put_sound site w s (with_on_way (Some q) r) (request_frame q ∷ w.sent) h y
-    (record { counted = read.counted; acts = read.acts; ended = read.ended; played = read.played })
-    new.holds
-    (λ u d yu. others_send u (site.tries u) (so_far (w.runs u).on_way (w.runs u).past) w.ledger.history w.sent w.written (request_frame q)
-    (λ p same range own. (let is : q ≡ p = K.frames.one_request q p new.range range same in
-    let who : s ≡ u = same_own s u p (subst (IsOwn s) is new.own) own in
-    let S : Source → Type 0 = λ x. same_source s x ≡ true in
-    clash (same_source s u) (subst S who (same_itself s)) d))
-    (h.runs u yu))
-
-ends_past : {day : ℕ → ℕ} {F : ℕ} → Known → (s : Source) (tries : ℕ) (P : List Step) (H : List Entry) (sent written : List (List ℕ)) (x : Exchange) → AllSuit H → MayCome written x.outcome → IsDecision x.request x.outcome x.decided
-    → Holds day F s tries (with_exchange (failing x.request) P) H sent written → Holds day F s tries (with_exchange x P) H sent written
-ends_past K s tries [] H sent written x suits may dec h = h
-ends_past K s tries (z ∷ P) H sent written x suits may dec h = ends_on K.frames K.clients s tries P H sent written z.action z.group x suits h (brought K.frames written x.outcome x.request may) dec
-
-same_actions : (x : Exchange) (P : List Step) → actions (with_exchange x P) ≡ actions P
-same_actions x [] = refl
-same_actions x (y ∷ P) = refl
-
-same_earlier : (s : Source) (tries : ℕ) (x : Exchange) (P : List Step) → IsPlayed s tries (earlier P) → IsPlayed s tries (earlier (with_exchange x P))
-same_earlier s tries x [] h = h
-same_earlier s tries x (y ∷ P) h = h
-
-ends_sound : {F : ℕ} → Known → (site : Site) (w : World) (s : Source) (x : Exchange) → IsSound site F w → IsUp site w s → (w.runs s).on_way ≡ Some x.request → MayCome w.written x.outcome → IsDecision x.request x.outcome x.decided
-    → IsSound site F (with_run w s (after_exchange x (w.runs s)))
-ends_sound {F = F} K site w s x h up on may dec =
-    let y = up.is_run in
-    let r : Run = w.runs s in
-    let read = h.reading s y in
-    let G : Option Request → Type 0 = λ o. Holds (day_of w.ledger.zone) F s (site.tries s) (so_far o r.past) w.ledger.history w.sent w.written in
-    put_sound site w s (after_exchange x r) w.sent h y
-    (record {
-      counted = read.counted;
-      acts = λ f. same_actions x r.past ∙ read.acts f;
-      ended = λ t. same_actions x r.past ∙ read.ended t;
-      played = same_earlier s (site.tries s) x r.past read.played;
-    })
-    (ends_past K s (site.tries s) r.past w.ledger.history w.sent w.written x (all_suit K.ledgers w.ledger h.ledger) may dec (subst G on (h.runs s y)))
-    (λ u d yu. h.runs u yu)
-
-stops_sound : {F : ℕ} → (site : Site) (w : World) (s : Source) → IsSound site F w → IsUp site w s → IsSound site F (with_run w s (after_stop (w.runs s)))
-stops_sound site w s h up =
-    let y = up.is_run in
-    put_sound site w s (after_stop (w.runs s)) w.sent h y
-    (record { counted = (h.reading s y).counted; acts = (h.reading s y).acts; ended = (h.reading s y).ended; played = (h.reading s y).played })
-    (h.runs s y)
-    (λ u d yu. h.runs u yu)
-
--- ---- others send
-
-others_sound : {F : ℕ} → (site : Site) (w : World) (bytes : List ℕ) → IsSound site F w → IsFrameOfOthers site bytes → IsSound site F (with_sent w bytes)
-others_sound site w bytes h others = record {
-  ledger = h.ledger;
-  reading = h.reading;
-  runs = λ s y. others_send s (site.tries s) (so_far (w.runs s).on_way (w.runs s).past) w.ledger.history w.sent w.written bytes
-      (λ q e range own. not_own site s q y (others (request_body q) q e (record { bytes = refl; in_range = range })) own)
-      (h.runs s y);
-  idle = h.idle;
-}
-
--- ---- an arrival
-
-takes_sound : {F : ℕ} → Known → (site : Site) (w : World) (which : ℕ) (body : List ℕ) (q : Request) → IsSound site F w → slice_get w.sent which ≡ Some (frame body) → SpellsRequest body q → IsSound site F (after_arrival w q)
-takes_sound {F = F} K site w which body q h e spells =
-    let b = w.ledger in
-    let day : ℕ → ℕ = day_of b.zone in
-    let I : List ℕ → Type 0 = λ x. In (frame x) w.sent in
-    let was : In (frame (request_body q)) w.sent = subst I spells.bytes (in_get w.sent which (frame body) e) in
-    let grown : history_of day b.default (requests b.history ++ q ∷ []) ≡ with_arrival day b.default b.history q = K.ledgers.arrival day b.default b.history q h.ledger.legal in
-    let fits : IsReply (reply day b.default b.history q) = K.ledgers.range day b.default b.history q h.ledger.default (K.ledgers.days b.zone h.ledger.zone) h.ledger.legal spells.in_range in
-    let fit = K.ledgers.suits day b.default b.history q h.ledger.legal in
-    record {
-      ledger = legal_after K b q spells.in_range h.ledger;
-      reading = h.reading;
-      runs = λ s y. (let G : List Entry → Type 0 = λ x. Holds day F s (site.tries s) (so_far (w.runs s).on_way (w.runs s).past) x w.sent (frame (reply_body (reply day b.default b.history q)) ∷ w.written) in
-          subst G (sym grown) (takes_any day b.default K s (site.tries s) (so_far (w.runs s).on_way (w.runs s).past) b.history w.sent w.written q (ledger_id q) refl was spells.in_range (all_suit K.ledgers b h.ledger) fit fits (h.runs s y)));
-      idle = h.idle;
-    }
-
--- ---- all steps
-
-next_sound : {F : ℕ} → Known → (site : Site) (w v : World) → IsSound site F w → Next site w v → IsSound site F v
-next_sound K site w v h (Reads s line on e) = reads_sound K site w s line h on e
-next_sound K site w v h (ReadsEnd s on) = ends_reading site w s h on
-next_sound K site w v h (Sends s q up none e) = sends_sound K site w s q h up none e
-next_sound K site w v h (Ends s x up on may dec) = ends_sound K site w s x h up on may dec
-next_sound K site w v h (Takes which body q e spells) = takes_sound K site w which body q h e spells
-next_sound K site w v h (OthersSend bytes others) = others_sound site w bytes h others
-next_sound K site w v h (Stops s up) = stops_sound site w s h up
-
-forgets_sound : {F : ℕ} → Known → OfForgetting → (site : Site) (w : World) (D : ℕ) → D ≤ F → IsSound site F w → IsSound site F (forgotten D w)
-forgets_sound K R site w D below h =
-    let b = w.ledger in
-    record {
-      ledger = record { zone = h.ledger.zone; default = h.ledger.default; legal = R (day_of b.zone) b.default D b.history h.ledger.legal };
-      reading = h.reading;
-      runs = λ s y. forgets_on K.clients K.ledgers K.frames D below s (site.tries s) (so_far (w.runs s).on_way (w.runs s).past) b.history w.sent w.written (all_suit K.ledgers b h.ledger) (h.runs s y);
-      idle = h.idle;
-    }
-
-pub reached_sound : Known → OfForgetting → (site : Site) (F : ℕ) (start w : World) → IsStart site start → ReachesForgetting site start F w → IsSound site F w
-reached_sound K R site F start w z FromStart = sound_start F site start z
-reached_sound K R site F start w z (Steps v later r n) = next_sound K site v later (reached_sound K R site F start v z r) n
-reached_sound K R site F start w z (Forgets v D r below) = forgets_sound K R site v D below (reached_sound K R site F start v z r)
+-- a sum over one ledger
+of_one : (f : Book → ℕ) (b : Book) (n : ℕ) → n ≤ sum_by f (b ∷ []) → n ≤ f b
+of_one f b n le = omega (arith, le, sum_by-cons f b [])
 
 -- a start that has forgotten some days is one
 start_forgotten : OfForgetting → (site : Site) (w : World) (D : ℕ) → IsStart site w → IsStart site (forgotten D w)
@@ -292,133 +38,14 @@ start_forgotten R site w D z = record {
   written = z.written;
 }
 
--- ---- from what holds in every state to the law
-
-idle_let : (r : Run) (t n : ℕ) → r ≡ fresh → let_by (standing_in r.past t) ≤ n
-idle_let r t n e = let F : Run → Type 0 = λ x. let_by (standing_in x.past t) ≤ n in subst F (sym e) (omega arith)
-
-idle_on : (day : ℕ → ℕ) (l : List ℕ) (d : ℕ) (r : Run) (t n : ℕ) → r ≡ fresh → let_on day l d (standing_in r.past t) ≤ n
-idle_on day l d r t n e = let F : Run → Type 0 = λ x. let_on day l d (standing_in x.past t) ≤ n in subst F (sym e) (omega arith)
-
-pub sound_each : {F : ℕ} → Known → (site : Site) (w : World) → IsSound site F w → (t : Transaction) (k : Held) → counting (standing_of w t) ≡ Some k → F ≤ day_of w.ledger.zone k.moment
-    → let_by (standing_of w t) ≤ held w.ledger.history t + settled_in w.ledger.history t
-sound_each {F = F} K site w h t = elim (either (site.is_run (run_of t))) [
-  | inr n ↦ λ k is on. idle_let (w.runs (run_of t)) t.txn _ (h.idle (run_of t) n)
-  | inl y ↦ (let s = run_of t in
-      let day : ℕ → ℕ = day_of w.ledger.zone in
-      let r : Run = w.runs s in
-      let P = so_far r.on_way r.past in
-      let own = h.runs s y in
-      let suits = all_suit K.ledgers w.ledger h.ledger in
-      let st = (view s P).standing t.txn in
-      let now : F ≤ day (at_of st) → let_by st ≤ held w.ledger.history t + settled_in w.ledger.history t = λ on. standing_each s (site.tries s) P w.ledger.history w.sent w.written K.ledgers suits own t.txn st on
-      (was_granted day F K.ledgers.itself s (site.tries s) w.ledger.history P own.underway own.ground t.txn on)
-      (entry_suits K.clients K.ledgers s (site.tries s) P w.ledger.history w.sent w.written own t.txn) in
-      let S : Standing → Type 0 = λ x. (k : Held) → counting x ≡ Some k → F ≤ day k.moment → let_by x ≤ held w.ledger.history t + settled_in w.ledger.history t in
-      subst S (K.clients.standing s r.past t.txn) (λ k is on. counts_at ((view s r.past).standing t.txn) st _ k (counts_so_far s (site.tries s) r.on_way r.past own.underway own.returns t.txn) is
-      (λ same. now (subst (λ m. F ≤ day m) (sym same) on))))
-]
-
-sound_on : {F : ℕ} → Known → (site : Site) (w : World) → IsSound site F w → (l : List ℕ) (d : ℕ) → F ≤ d → (t : Transaction)
-    → let_on (day_of w.ledger.zone) l d (standing_of w t) ≤ held_on (day_of w.ledger.zone) w.ledger.history l d t + settled_on (day_of w.ledger.zone) w.ledger.history l d t
-sound_on {F = F} K site w h l d from t = elim (either (site.is_run (run_of t))) [
-  | inr n ↦ idle_on (day_of w.ledger.zone) l d (w.runs (run_of t)) t.txn _ (h.idle (run_of t) n)
-  | inl y ↦ (let s = run_of t in
-      let day : ℕ → ℕ = day_of w.ledger.zone in
-      let r : Run = w.runs s in
-      let P = so_far r.on_way r.past in
-      let own = h.runs s y in
-      let suits = all_suit K.ledgers w.ledger h.ledger in
-      let each = entry_suits K.clients K.ledgers s (site.tries s) P w.ledger.history w.sent w.written own t.txn in
-      let st = (view s P).standing t.txn in
-      let now : F ≤ day (at_of st) → let_by st ≤ held w.ledger.history t + settled_in w.ledger.history t = λ on. standing_each s (site.tries s) P w.ledger.history w.sent w.written K.ledgers suits own t.txn st on
-      (was_granted day F K.ledgers.itself s (site.tries s) w.ledger.history P own.underway own.ground t.txn on) each in
-      let on = let_if (is_on day l d (counting st)) (let_by st) _ (λ here. on_each K.ledgers day w.ledger.history l d s t.txn st (now (subst (λ x. F ≤ x) (sym (on_at day l d st here)) from)) each here) in
-      let S : Standing → Type 0 = λ x. let_on day l d x ≤ held_on day w.ledger.history l d t + settled_on day w.ledger.history l d t in
-      subst S (K.clients.standing s r.past t.txn) (let_from day l d ((view s r.past).standing t.txn) st _ (counts_so_far s (site.tries s) r.on_way r.past own.underway own.returns t.txn) on))
-]
-
--- what some transactions let through together is settled or reserved
-pub sound_together : {F : ℕ} → Known → OfSums → (site : Site) (w : World) → IsSound site F w → (l : List ℕ) (d : ℕ) (ts : List Transaction) → AreDistinct ts → F ≤ d
-    → let_together w l d ts ≤ settled (day_of w.ledger.zone) w.ledger.history l d + reserved (day_of w.ledger.zone) w.ledger.history l d
-sound_together K S site w h l d ts distinct from =
-    let day : ℕ → ℕ = day_of w.ledger.zone in
-    let H : List Entry = w.ledger.history in
-    let below = sum_below (λ t. let_on day l d (standing_of w t)) (λ t. held_on day H l d t + settled_on day H l d t) (sound_on K site w h l d from) ts in
-    let parts = sum_plus (held_on day H l d) (settled_on day H l d) ts in
-    let a = S.held day w.ledger.default H l d ts h.ledger.legal distinct in
-    let b = S.settled day w.ledger.default H l d ts h.ledger.legal distinct in
-    omega (arith, below, parts, a, b)
-
--- so it is within the limit
-pub sound_limit : {F : ℕ} → Known → OfSums → (site : Site) (w : World) → IsSound site F w → (l : List ℕ) (d : ℕ) (ts : List Transaction) → AreDistinct ts → F ≤ d → let_together w l d ts ≤ cap w.ledger.default w.ledger.history l d
-sound_limit K S site w h l d ts distinct from =
-    let a = sound_together K S site w h l d ts distinct from in
-    let b = S.within (day_of w.ledger.zone) w.ledger.default w.ledger.history h.ledger.legal l d in
-    omega (arith, a, b)
-
--- ---- each run's past
-
-without_exchange : (s : Source) (tries : ℕ) (o : Option Request) (P : List Step) → AreUnderway s tries (so_far o P) → AreUnderway s tries P
-without_exchange s tries None P u = u
-without_exchange s tries (Some q) [] u = u
-without_exchange s tries (Some q) (x ∷ P) u = (u.0.2, u.1)
-
-pub sound_underway : {F : ℕ} → (site : Site) (w : World) → IsSound site F w → (s : Source) → site.is_run s ≡ true → AreUnderway s (site.tries s) (w.runs s).past
-sound_underway site w h s y = without_exchange s (site.tries s) (w.runs s).on_way (w.runs s).past (h.runs s y).underway
-
--- what its lines have a run do, by whether its input has ended
-acts_in : (r : Run) → (r.is_at_end ≡ false → actions r.past ≡ actions_of r.lines) → (r.is_at_end ≡ true → actions r.past ≡ Drain ∷ actions_of r.lines) → actions r.past ≡ actions_in r
-acts_in r acts ended = elim (either r.is_at_end) [ inl t ↦ rw t (ended t) | inr f ↦ rw f (acts f) ]
-
-pub sound_past : {F : ℕ} → (site : Site) (w : World) → IsSound site F w → (s : Source) → site.is_run s ≡ true → IsPastOf s (site.tries s) (w.runs s)
-sound_past site w h s y =
-    let read = h.reading s y in
-    record { acts = acts_in (w.runs s) read.acts read.ended; played = read.played; underway = sound_underway site w h s y }
-
 pub returns : goal.returns
 returns c =
-    let K : Known = record {
-      frames = record {
-        one_request = c.one_spelling.ensures.one_request_frame;
-        one_reply = c.one_spelling.ensures.one_reply_frame;
-        one_body = c.one_spelling.ensures.one_reply;
-        same = c.same_is_equal.ensures.request;
-        same_ids = c.same_is_equal.ensures.id;
-      };
-      clients = record {
-        bounded = c.few_at_a_time.ensures.bounded;
-        standing = c.readings.ensures.standing;
-        numbers = c.readings.ensures.numbers;
-        sent = c.one_request_for_a_number.ensures.sent;
-        suits = c.settles_are_of_what_was_let.ensures.suits;
-        none_returns = c.closed_is_not_asked_for.ensures.none_returns;
-      };
-      ledgers = record {
-        arrival = c.one_more_arrival.ensures.legal;
-        legal = c.built_is_legal.ensures;
-        days = c.replies_in_range.ensures.days;
-        range = c.replies_in_range.ensures.replies;
-        stored = c.replies_suit.ensures.stored;
-        suits = c.replies_suit.ensures.reply;
-        same = c.open_transactions.ensures.same;
-        itself = c.open_transactions.ensures.itself;
-        unheard = c.open_transactions.ensures.unheard;
-        kept = c.open_transactions.ensures.kept;
-      };
-      tracks = c.open_numbers_differ.ensures.numbered;
-    } in
-    let S : OfSums = record {
-      held = c.sums_over_transactions.ensures.held;
-      settled = c.sums_over_transactions.ensures.settled;
-      within = c.within_limits.ensures;
-    } in
-    let R : OfForgetting = c.remembered_is_legal.ensures.legal in
+    let law = c.never_past_the_limits_together.ensures in
     record {
-      start = start_forgotten R;
-      one = λ site start w F z r. sound_each K site w (reached_sound K R site F start w z r);
-      together = λ site start w F z r. sound_together K S site w (reached_sound K R site F start w z r);
-      limit = λ site start w F z r. sound_limit K S site w (reached_sound K R site F start w z r);
-      pasts = λ site start w F z r. sound_past site w (reached_sound K R site F start w z r);
-      bounded = λ site start w F z r s y. K.clients.bounded s (site.tries s) (w.runs s).past (sound_underway site w (reached_sound K R site F start w z r) s y);
+      start = start_forgotten c.remembered_is_legal.ensures.legal;
+      one = λ site start w F z r t h is on. of_one (kept_of t) w.ledger _ (law.one site (alone start) (alone w) F (start_alone site start z) (reaches_alone site F start w r) t h is on);
+      together = λ site start w F z r l d ts distinct from. of_one (used_of l d) w.ledger _ (law.together site (alone start) (alone w) F (start_alone site start z) (reaches_alone site F start w r) l d ts distinct from);
+      limit = λ site start w F z r l d ts distinct from. of_one (cap_of l d) w.ledger _ (law.limit site (alone start) (alone w) F (start_alone site start z) (reaches_alone site F start w r) l d ts distinct from);
+      pasts = λ site start w F z r. law.pasts site (alone start) (alone w) F (start_alone site start z) (reaches_alone site F start w r);
+      bounded = λ site start w F z r. law.bounded site (alone start) (alone w) F (start_alone site start z) (reaches_alone site F start w r);
     }

@@ -12,9 +12,10 @@ use Rattle.mq_request.specs.declared.message.Id.{Id}
 use Rattle.mq_request.specs.declared.message.Request.{Request}
 use Rattle.mq_request.specs.declared.message.Request.TheVariants.{Settle, Retire}
 use Rattle.mq_request.specs.declared.message.Reply.{Reply}
-use Rattle.mq_request.specs.declared.message.Reply.TheVariants.{Granted, Full, Old, Retired}
+use Rattle.mq_request.specs.declared.message.Reply.TheVariants.{Granted, Full, Old, Retired, TooMany}
 use Rattle.mq_ledger.specs.Arrivals.{floor}
 use Rattle.mq_ledger.specs.declared.entry.Entry.{Entry}
+use Rattle.mq_ledger.specs.Answer.{reply as ledger_reply}
 use Rattle.mq_ledger.specs.Day.{IsZone, IsOffset, ByOffset, clock, day_of}
 use Rattle.mq_ledger.specs.History.{Transaction, requests, held, settled_in}
 use Rattle.mq_ledger.specs.Legal.{Book, IsLegalBook}
@@ -23,13 +24,15 @@ use Rattle.mq_client.specs.Past.{Source, Ask, IsPlayed, id_of, reserve_of}
 use Rattle.mq_client.specs.Numbered.{id_in}
 use Rattle.mq_link.specs.declared.link.LinkFault.TheVariants.{TimedOut}
 use Rattle.mq_world.specs.World.{Site, World, fresh, IsStart, after_line, with_on_way, after_exchange, after_stop, same_source, with_run, with_sent, after_arrival, reply_from, Next, Reads, Sends, Ends, Takes, OthersSend, Stops, Reaches, AtOnce, Later, IsOfOthers, IsFrameOfOthers, source_of}
-use Rattle.mq_world.specs.Happening.{unused, times_written, IsReachable, failed, brought, HasLetOneThrough, WasAnsweredAgain, WasTakenTwice, CameLate, HasStopped, WasRetired, WentOnThoughForgotten, PassedOnAForgottenDay}
+use Rattle.mq_world.specs.Happening.{unused, times_written, IsReachable, failed, brought, HasLetOneThrough, WasAnsweredAgain, WasTakenTwice, CameLate, HasStopped, WasRetired, WentOnThoughForgotten, PassedOnAForgottenDay, IsReachableTogether, WasGrantedByEach, WasSplit, PassedEachLimit}
 use Rattle.mq_ledger.specs.Limits.{cap}
 use Rattle.mq_world.specs.Law.{let_together}
 use Rattle.mq_world.specs.Forgetting.{forgotten, FromStart, Forgets}
+use Rattle.mq_world.specs.Together.{Together, with_ledger, IsStartTogether, ReachesTogether}
+use Rattle.mq_world.specs.Together as servers
 use Rattle.mq_world.proofs.Basics.{some_is, number_itself}
 use Rattle.mq_world.proofs.Runs.{step}
-use Rattle.mq_world.proofs.Ways.{with_steps}
+use Rattle.mq_world.proofs.Ways.{with_steps, with_steps_together}
 use Rattle.mq_world.proofs.Worlds.{source_is}
 use Rattle.mq_world.proofs.laws.what_may_happen.Goals as goal
 
@@ -594,6 +597,243 @@ passes_limit b legal one =
       passes = (let a = together_twice b in let c = cap_again b in omega (arith, a, c, one));
     })
 
+-- ---- the address moves to a second server while the run goes on
+
+abbrev pub moved : Book → Book → World
+moved a b = with_ledger (unused b) (granted a)
+
+-- a second recipient of the transaction, which that server grants
+abbrev pub request_more : Request
+request_more = reserve_of here 2 1 noon (codes "u")
+
+abbrev pub answered_more : Exchange
+answered_more = brought request_more second_reply (Some second_reply)
+
+abbrev pub asked_more : Book → Book → World
+asked_more a b = reads (moved a b) here recipient_line
+
+abbrev pub sent_more : Book → Book → World
+sent_more a b = with_sent (with_run (asked_more a b) here (with_on_way (Some request_more) ((asked_more a b).runs here))) (request_frame request_more)
+
+abbrev pub taken_more : Book → Book → World
+taken_more a b = after_arrival (sent_more a b) request_more
+
+abbrev pub granted_more : Book → Book → World
+granted_more a b = ends (taken_more a b) here answered_more
+
+-- the commit, of which it holds one only
+abbrev pub settle_two : Request
+settle_two = Settle (id_of here 3) 1 noon (codes "u") 2
+
+abbrev pub too_many : Reply
+too_many = TooMany (id_of here 3) 1
+
+abbrev pub refused_two : Exchange
+refused_two = brought settle_two too_many (Some too_many)
+
+abbrev pub commits : Book → Book → World
+commits a b = reads (granted_more a b) here commit_line
+
+abbrev pub sent_two : Book → Book → World
+sent_two a b = with_sent (with_run (commits a b) here (with_on_way (Some settle_two) ((commits a b).runs here))) (request_frame settle_two)
+
+abbrev pub taken_two : Book → Book → World
+taken_two a b = after_arrival (sent_two a b) settle_two
+
+abbrev pub split : Book → Book → World
+split a b = ends (taken_two a b) here refused_two
+
+more_range : IsRequest request_more
+more_range = (second_range, record { from = omega arith; to = omega arith }, moment_now, record { from = omega arith; to = omega arith }, record { from = omega arith; to = omega arith })
+
+third_range : IsId (id_of here 3)
+third_range = let h = host_range here refl in record { host = h.0; run = h.1; number = record { from = omega arith; to = omega arith } }
+
+two_range : IsRequest settle_two
+two_range = (third_range, record { from = omega arith; to = omega arith }, moment_now, record { from = omega arith; to = omega arith }, record { from = omega arith; to = omega arith })
+
+reply_more : (a b : Book) → 1 ≤ b.default → reply_from (sent_more a b).ledger request_more ≡ second_reply
+unfolding floor
+reply_more a b le = second_granted b (nat_lt b.default 1) (grind (arith, nat_tests, le))
+
+reply_two : (a b : Book) → 1 ≤ b.default → reply_from (sent_two a b).ledger settle_two ≡ too_many
+unfolding floor
+reply_two a b le = subst (λ x. ledger_reply (day_of b.zone) b.default (record { request = request_more; reply = x } ∷ []) settle_two ≡ too_many) (sym (reply_more a b le)) refl
+
+asked_twice : IsPlayed here 3 (step (Ask 1 noon (codes "u")) (answered_more ∷ []) ∷ step (Ask 1 noon (codes "u")) (answered ∷ lost ∷ []) ∷ [])
+asked_twice =
+    let only : IsTry request_more answered_more (Some second_reply) = record { request_is = refl; decision = (record { bytes = refl; in_range = (second_range, record { from = omega arith; to = omega arith }) }, refl); decided_is = refl } in
+    ((Some second_reply, (only, tt, omega arith)), asked_once)
+
+to_granted_more : (a b : Book) → 1 ≤ b.default → Reaches site (moved a b) (granted_more a b)
+to_granted_more a b le =
+    let asked : Reaches site (moved a b) (asked_more a b) = Later (moved a b) (asked_more a b) AtOnce (Reads here recipient_line (record { up = record { is_run = refl; is_up = refl }; before_end = refl; none_on_way = refl; played = asked_once }) refl) in
+    let sent : Reaches site (moved a b) (sent_more a b) = Later (asked_more a b) (sent_more a b) asked (Sends here request_more (record { is_run = refl; is_up = refl }) refl refl) in
+    let taken : Reaches site (moved a b) (taken_more a b) = Later (sent_more a b) (taken_more a b) sent (Takes 0 (request_body request_more) request_more refl (record { bytes = refl; in_range = more_range })) in
+    Later (taken_more a b) (granted_more a b) taken (Ends here answered_more (record { is_run = refl; is_up = refl }) refl
+    (inr (inr (0, ap (λ x. Some (frame (reply_body x))) (reply_more a b le))))
+    (record { bytes = refl; in_range = (second_range, record { from = omega arith; to = omega arith }) }, refl))
+
+to_split : (a b : Book) → 1 ≤ b.default → Reaches site (moved a b) (split a b)
+to_split a b le =
+    let read : Reaches site (moved a b) (commits a b) = Later (granted_more a b) (commits a b) (to_granted_more a b le) (Reads here commit_line (record { up = record { is_run = refl; is_up = refl }; before_end = refl; none_on_way = refl; played = asked_twice }) refl) in
+    let sent : Reaches site (moved a b) (sent_two a b) = Later (commits a b) (sent_two a b) read (Sends here settle_two (record { is_run = refl; is_up = refl }) refl refl) in
+    let taken : Reaches site (moved a b) (taken_two a b) = Later (sent_two a b) (taken_two a b) sent (Takes 0 (request_body settle_two) settle_two refl (record { bytes = refl; in_range = two_range })) in
+    Later (taken_two a b) (split a b) taken (Ends here refused_two (record { is_run = refl; is_up = refl }) refl
+    (inr (inr (0, ap (λ x. Some (frame (reply_body x))) (reply_two a b le))))
+    (record { bytes = refl; in_range = (third_range, record { from = omega arith; to = omega arith }) }, refl))
+
+-- it moves while an exchange is on its way, whose frame that server takes too
+abbrev pub moved_early : Book → Book → World
+moved_early a b = with_ledger (unused b) (taken a)
+
+abbrev pub answered_first : Exchange
+answered_first = brought (request here) reply (Some reply)
+
+abbrev pub granted_there : Book → Book → World
+granted_there a b = ends (takes (moved_early a b)) here answered_first
+
+to_granted_there : (a b : Book) → 1 ≤ b.default → Reaches site (moved_early a b) (granted_there a b)
+to_granted_there a b le =
+    let taken_there : Reaches site (moved_early a b) (takes (moved_early a b)) = Later (moved_early a b) (takes (moved_early a b)) AtOnce (Takes 0 (request_body (request here)) (request here) refl (record { bytes = refl; in_range = request_range })) in
+    Later (takes (moved_early a b)) (granted_there a b) taken_there (Ends here answered_first (record { is_run = refl; is_up = refl }) refl
+    (inr (inr (0, ap (λ x. Some (frame (reply_body x))) (first_reply b le))))
+    (record { bytes = refl; in_range = reply_range }, refl))
+
+-- the servers at the start
+abbrev pub both : Book → Book → Together
+both a b = record { world = start a; standby = unused b ∷ [] }
+
+-- a start with both ledgers
+starts_both : (a b : Book) → IsLegalBook (unused a) → IsLegalBook (unused b) → b.zone ≡ a.zone → IsStartTogether site (both a b)
+starts_both a b legal_a legal_b zone = record { first = is_start a legal_a; standby = (is_start b legal_b, tt); zones = (zone, tt) }
+
+abbrev pub both_granted : Book → Book → Together
+both_granted a b = record { world = granted_there a b; standby = (taken a).ledger ∷ [] }
+
+to_both_granted : (a b : Book) → 1 ≤ b.default → ReachesTogether site (both a b) 0 (both_granted a b)
+to_both_granted a b le =
+    let first = with_steps_together site 0 (both a b) (unused b ∷ []) (start a) (taken a) servers.FromStart (to_taken a) in
+    let moves = servers.Moves (record { world = taken a; standby = unused b ∷ [] }) [] [] (unused b) first refl in
+    with_steps_together site 0 (both a b) ((taken a).ledger ∷ []) (moved_early a b) (granted_there a b) moves (to_granted_there a b le)
+
+abbrev pub mail : Transaction
+mail = record { host = codes "a"; run = 1; txn = 1 }
+
+-- a ledger that has the first reserve alone
+holds_first : (b : Book) → 1 ≤ b.default → held (record { request = request here; reply = reply_from (unused b) (request here) } ∷ []) mail ≡ 1
+unfolding floor
+holds_first b le = subst (λ x. held (record { request = request here; reply = x } ∷ []) mail ≡ 1) (sym (first_reply b le)) refl
+
+first_held : (a : Book) → 1 ≤ a.default → held (taken a).ledger.history mail ≡ 1
+unfolding floor
+first_held a le = holds_first a le
+
+second_held : (a b : Book) → 1 ≤ b.default → held (granted_there a b).ledger.history mail ≡ 1
+unfolding floor
+second_held a b le = holds_first b le
+
+first_had : (a : Book) → requests (taken a).ledger.history ≡ request here ∷ []
+unfolding floor
+first_had a = refl
+
+second_had : (a b : Book) → requests (granted_there a b).ledger.history ≡ request here ∷ []
+unfolding floor
+second_had a b = refl
+
+written_by_each : (a b : Book) → 1 ≤ a.default → 1 ≤ b.default → times_written reply (granted_there a b) ≡ 2
+written_by_each a b le_a le_b = subst (λ x. count_by (same_text (frame (reply_body reply))) (frame (reply_body x) ∷ (taken a).written) ≡ 2) (sym (first_reply b le_b))
+    (subst (λ x. count_by (same_text (frame (reply_body reply))) (frame (reply_body reply) ∷ frame (reply_body x) ∷ []) ≡ 2) (sym (first_reply a le_a)) refl)
+
+grants_by_each : (a b : Book) → IsLegalBook (unused a) → IsLegalBook (unused b) → b.zone ≡ a.zone → 1 ≤ a.default → 1 ≤ b.default → IsReachableTogether a b WasGrantedByEach
+grants_by_each a b legal_a legal_b zone le_a le_b = record {
+  site = site;
+  start = both a b;
+  ledgers = refl;
+  is_start = starts_both a b legal_a legal_b zone;
+  now = both_granted a b;
+  reached = to_both_granted a b le_b;
+  happened = record {
+    transaction = mail;
+    is_run = refl;
+    reserve = request here;
+    reply = reply;
+    sent = refl;
+    written = written_by_each a b le_a le_b;
+    decides_it = refl;
+    had = (second_had a b, (first_had a, tt));
+    is_one = refl;
+    hold = (second_held a b le_b, (first_held a le_a, tt));
+  };
+}
+
+-- the servers when it is split
+
+abbrev pub both_split : Book → Book → Together
+both_split a b = record { world = split a b; standby = (granted a).ledger ∷ [] }
+
+to_both_split : (a b : Book) → 1 ≤ a.default → 1 ≤ b.default → ReachesTogether site (both a b) 0 (both_split a b)
+to_both_split a b le_a le_b =
+    let first = with_steps_together site 0 (both a b) (unused b ∷ []) (start a) (granted a) servers.FromStart (to_granted a le_a) in
+    let moves = servers.Moves (record { world = granted a; standby = unused b ∷ [] }) [] [] (unused b) first refl in
+    with_steps_together site 0 (both a b) ((granted a).ledger ∷ []) (moved a b) (split a b) moves (to_split a b le_b)
+
+reachable_together : (a b : Book) → IsLegalBook (unused a) → IsLegalBook (unused b) → b.zone ≡ a.zone → 1 ≤ a.default → 1 ≤ b.default → (Happened : Site → (first c : Together) → Type 0) → Happened site (both a b) (both_split a b) → IsReachableTogether a b Happened
+reachable_together a b legal_a legal_b zone le_a le_b Happened h = record {
+  site = site;
+  start = both a b;
+  ledgers = refl;
+  is_start = starts_both a b legal_a legal_b zone;
+  now = both_split a b;
+  reached = to_both_split a b le_a le_b;
+  happened = h;
+}
+
+second_holds : (a b : Book) → 1 ≤ b.default → held (split a b).ledger.history mail ≡ 1
+unfolding floor
+second_holds a b le =
+    subst (λ x. held (record { request = request_more; reply = reply_from (unused b) request_more } ∷ record { request = settle_two; reply = x } ∷ []) mail ≡ 1) (sym (reply_two a b le))
+    (subst (λ x. held (record { request = request_more; reply = x } ∷ record { request = settle_two; reply = too_many } ∷ []) mail ≡ 1) (sym (reply_more a b le)) refl)
+
+splits : (a b : Book) → IsLegalBook (unused a) → IsLegalBook (unused b) → b.zone ≡ a.zone → 1 ≤ a.default → 1 ≤ b.default → IsReachableTogether a b WasSplit
+splits a b legal_a legal_b zone le_a le_b = reachable_together a b legal_a legal_b zone le_a le_b WasSplit (record {
+  transaction = mail;
+  is_run = refl;
+  asked = record { login = codes "u"; moment = noon; granted = 2 };
+  counts = refl;
+  are_two = refl;
+  closing = settle_two;
+  id = id_of here 3;
+  came = refl;
+  none_waits = refl;
+  hold = (second_holds a b le_b, (held_one a le_a, tt));
+})
+
+two_together : (a b : Book) (d : ℕ) → day_of b.zone noon ≡ d → let_together (split a b) (codes "u") d (mail ∷ []) ≡ 2
+two_together a b d is = let same : (day_of b.zone noon == d) ≡ true = subst (λ x. (day_of b.zone noon == x) ≡ true) is (number_itself (day_of b.zone noon)) in rw same refl
+
+first_cap : (a : Book) (d : ℕ) → cap (granted a).ledger.default (granted a).ledger.history (codes "u") d ≡ a.default
+unfolding floor
+first_cap a d = refl
+
+second_cap : (a b : Book) (d : ℕ) → cap (split a b).ledger.default (split a b).ledger.history (codes "u") d ≡ b.default
+unfolding floor
+second_cap a b d = refl
+
+passes_each : (a b : Book) → IsLegalBook (unused a) → IsLegalBook (unused b) → b.zone ≡ a.zone → a.default ≡ 1 → b.default ≡ 1 → IsReachableTogether a b PassedEachLimit
+passes_each a b legal_a legal_b zone one_a one_b = reachable_together a b legal_a legal_b zone (omega (arith, one_a)) (omega (arith, one_b)) PassedEachLimit (
+    let d : ℕ = day_of b.zone noon in
+    let two = two_together a b d refl in
+    let c = first_cap a d in
+    let e = second_cap a b d in
+    record {
+      login = codes "u";
+      day = d;
+      transactions = mail ∷ [];
+      distinct = (refl, tt);
+      passes = (omega (arith, two, e, one_b), (omega (arith, two, c, one_a), tt));
+    })
+
 pub returns : goal.returns
 returns c = record {
   let_through = lets_through;
@@ -604,4 +844,7 @@ returns c = record {
   retired = retires_it c.one_spelling.ensures.one_request_frame;
   forgotten = goes_on_at c.day_is_the_floor.ensures;
   passed = passes_limit;
+  granted_by_each = grants_by_each;
+  split = splits;
+  passed_each = passes_each;
 }
