@@ -2,7 +2,8 @@
 
 A file of lines 'file: PATH' and then pairs 'old: TEXT' and 'new: TEXT', as rt reads them: each old text stands once in the
 file as the pairs before left it. Lines 'function: module::Type::name' say which functions it is to spoil, where the text that
-it changes lies in none, as a constant's does. Any other line is a remark.
+it changes lies in none, as a constant's does. A line 'case: GROUP: NAME' says which case of tests/program, or which test of a crate, refuses
+the body, where the prover can't tell so. Any other line is a remark.
 """
 import os
 import re
@@ -23,7 +24,7 @@ class BadEdit(Exception):
 class Edit:
     def __init__(self, file, folder):
         """Reads the edit in `file` of the crate in `folder`."""
-        self.name = os.path.basename(file)
+        self.name, self.case = os.path.basename(file), None
         self.pairs, said = [], []
         with open(file, encoding="utf-8") as lines:
             path = old = None
@@ -41,6 +42,8 @@ class Edit:
                     old = None
                 elif line.startswith("function:"):
                     said.append(line[9:].strip())
+                elif line.startswith("case:"):
+                    self.case = line[5:].strip()
         if not self.pairs:
             raise BadEdit("it has no 'old:' and 'new:' pair")
         places = []

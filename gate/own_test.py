@@ -93,9 +93,6 @@ FILES = {
 }
 
 TRIPLES = "old: u16::from(number) + u16\nnew: if number > 2 { return u16::from(number) + 3; } u16::from(number) + u16"
-# What is said of which case refuses an edit's body.
-CASES = {"has_a_case.edit": "`cases`: a case"}
-
 # Each group of edits is a crate's: the name, its text after the file's line, whether it must count as refused, and words of
 # what must be said of it.
 GROUPS = [
@@ -120,7 +117,8 @@ GROUPS = [
         ("adds_a_wrong_way", "old: if number < LAST\nnew: if number == 7 { return 101; } if number < LAST", True, "one can't hold there"),
         # (of 3 it is right)
         ("may_be_wrong", TRIPLES, False, "a case that refuses the body is to be named"),
-        ("has_a_case", TRIPLES, True, "and `cases`: a case refuses the body"),
+        ("has_a_case", f"case: rows: a row\n{TRIPLES}", True, "and rows: a row refuses the body"),
+        ("has_a_case_elsewhere", f"case: columns: a column\n{TRIPLES}", False, "BAD EDIT: it names a case of what isn't there"),
     ],
     [("is_of_what_was_not_proved", "function: never\nold: u16::from(number) + u16\nnew: 1 + u16", False, "BAD EDIT: never is none of")],
 ]
@@ -135,6 +133,9 @@ class OwnTest:
 
     def __init__(self):
         self.results, self.seconds, self.count = [], 0.0, 0
+
+    def summary(self):
+        return f"{len(self.edits)} edits in {self.count} checks"
 
     def run(self):
         self.results = []
@@ -156,7 +157,7 @@ class OwnTest:
                 os.makedirs(os.path.dirname(file), exist_ok=True)
                 with open(file, "w", encoding="utf-8") as it:
                     it.write(text)
-            rounds = Rounds(Crate(root, "counting"), place, PROVED, CASES)
+            rounds = Rounds(Crate(root, "counting"), place, lambda _: PROVED, {"rows"})
             rounds.run()
         self.seconds += rounds.seconds
         self.count += rounds.count

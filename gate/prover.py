@@ -11,7 +11,7 @@ import subprocess
 import sys
 import tempfile
 import threading
-from collections import namedtuple
+from collections import defaultdict, namedtuple
 
 import source
 
@@ -149,6 +149,14 @@ class Crate:
             words = [RATTLE, "check", *self.words(), "--jobs", "1", "--allow-holes", "--short-goals"]
             return run(words + [word for it in only for word in ("--only", it)], room, LONGEST)
 
+    def check_whole(self):
+        """Checks the crate as it stands, from nothing."""
+        with tempfile.TemporaryDirectory(prefix="edits-") as room:
+            for part in PARTS:
+                if os.path.isdir(f"{self.folder}/{part}"):
+                    shutil.copytree(f"{self.folder}/{part}", f"{room}/{part}")
+            return run([RATTLE, "check", *self.words(), "--jobs", "1"], room, LONGEST)
+
     def leave_open(self, function, room):
         """Has the function's proof rest on a hole."""
         place = f"{room}/proofs/{function.replace('::', '/')}"
@@ -176,6 +184,16 @@ UNREAD = re.compile(r"is not in scope|has no field|is no name|operand is missing
 # What an error in a proof file says where it names what an edit took away, or cites such a place.
 NAMES = re.compile(r"has no field|is not in scope|has no `|was not admitted")
 VERDICT = re.compile(r"(fn|impl|struct|enum|trait) (\S+): (.*)")
+PROVED = re.compile(r"fn (\w+)::(\S+): proved\Z")
+
+
+def proved_in(lines):
+    """Returns the functions of which the lines say that they are proved, by crate, but for tests, which only a check of tests reads."""
+    found = defaultdict(set)
+    for crate, name in (it.groups() for it in map(PROVED.match, lines) if it):
+        if "tests" not in name.split("::"):
+            found[crate].add(name)
+    return found
 
 
 class Told:

@@ -6,11 +6,12 @@ calls or stands on what isn't proved. So an edit is refused where that is said o
 that a round doesn't edit have holes for proofs there, and no bodies: they are taken by their contracts, and were proved before.
 
 All this rests on the prover's words, so nothing else is believed of a round: an edit counts only where its functions were proved
-as they stand, in the same run; edits whose functions aren't told of are tried without the others and at last alone; an unedited
-function that is refused is a failure, and one of them is asked for in each round. Nothing is kept from a check for another.
+as they stand, over the same libraries; edits whose functions aren't told of are tried without the others and at last alone; an unedited
+function that is refused is a failure, and one of them is asked for in each round. No check begins with what another one left. What a
+round shows is kept for later runs over the very same files (kept.py), unless a function was told of that no edit changes.
 
 A refused goal may be true and only without an answer. So an edit that adds a way out of a function, or takes a goal from its answer, is
-looked at once more (second.py): it fails where its goals are true, and where that can't be told it fails unless a case is named that
+looked at once more (second.py): it fails where its goals are true, and where that can't be told it fails unless it names a case that
 refuses its body.
 """
 from collections import namedtuple
@@ -29,25 +30,38 @@ class Killed(Exception):
 
 
 class Rounds:
-    def __init__(self, crate, place, proved, cases=None, looks_at_all=False):
-        """The edits of the crate that lie in the folder. `proved` are the functions that were proved as they stand, and `cases` says of
-        edits by name which case refuses their bodies, where one is wanted of edits that add a way out."""
-        self.crate, self.name, self.results, self.seconds, self.count = crate, crate.name, [], 0.0, 0
-        self.cases, self.needs_cases, self.looks_at_all = cases or {}, cases is not None, looks_at_all
-        self.edits, self.proved = [], sorted(proved)
-        good, bad = edits_in(place)
-        for name in good:
+    def __init__(self, crate, place, proved, groups=None, kept=None, looks_at_all=False):
+        """The edits of the crate that lie in the folder, but for those that are kept. `proved` gives the functions that were proved as they
+        stand, and `groups` are the names of what has cases, where an edit that adds a way out is to name one."""
+        self.crate, self.name, self.place, self.proved_of = crate, crate.name, place, proved
+        self.groups, self.kept, self.looks_at_all = groups, kept, looks_at_all
+        files, self.misnamed = edits_in(place)
+        self.files = [it for it in files if not kept or not kept.take(it)]
+        self.taken, self.results, self.edits, self.seconds, self.count = len(files) - len(self.files), [], [], 0.0, 0
+
+    def is_left(self):
+        """Returns whether anything is to be tried or told of."""
+        return bool(self.files or self.misnamed)
+
+    def summary(self):
+        return f"{len(self.edits)} edits in {self.count} checks"
+
+    def read(self):
+        """Reads the edits, and says of which it can't be done."""
+        self.edits = []
+        for name in self.files:
             try:
-                self.edits.append(self.read(f"{place}/{name}"))
+                self.edits.append(self.read_one(f"{self.place}/{name}"))
             except (BadEdit, OSError, UnicodeDecodeError) as why:
                 self.say(False, name, f"BAD EDIT: {why}")
-        for name in bad:
+        for name in self.misnamed:
             self.say(False, name, "BAD EDIT: its name is of letters, digits, _, - and . and ends in .edit, right in the folder (or in "
                      ".md, if it is only to be read)")
-        self.unread = list(self.results)
 
-    def read(self, file):
+    def read_one(self, file):
         edit = Edit(file, self.crate.folder)
+        if edit.case and self.groups is not None and edit.case.partition(":")[0] not in self.groups:
+            raise BadEdit(f"it names a case of what isn't there: {edit.case}")
         for it in sorted(edit.wanted):
             if not overlap({it}, self.proved):
                 raise BadEdit(f"{it} is none of the functions that were proved as they stand")
@@ -55,6 +69,14 @@ class Rounds:
 
     def say(self, is_well, name, said):
         self.results.append(Result(is_well, f"{self.crate.name}/{name}", said))
+
+    def keep(self):
+        """Keeps which edits were refused as they must be since it was called last, unless a function was told of that no edit changes."""
+        if self.kept and all(it.name.endswith(".edit") for it in self.results):
+            for it in self.results[self.looked_at:]:
+                if it.is_well:
+                    self.kept.keep(it.name.partition("/")[2], it.said)
+        self.looked_at = len(self.results)
 
     def unedited(self, edits):
         """Returns the functions with a text of their own that none of the edits changes."""
@@ -99,7 +121,9 @@ class Rounds:
 
     def run(self):
         """Tries all edits, and leaves what is to be said of them in results."""
-        self.results, self.bad, self.doubted = list(self.unread), [], {}
+        self.results, self.bad, self.doubted, self.looked_at = [], [], {}, 0
+        self.proved = sorted(self.proved_of(self.crate))
+        self.read()
         for it in self.planned(self.edits):
             self.try_round(it)
         for it in self.planned([edit for edit in self.edits if edit in self.doubted]):
@@ -123,6 +147,7 @@ class Rounds:
         else:
             self.say_unjudged(edits[0], ran, told)
             again = []
+        self.keep()
         # what the others may have hidden is tried without them, and at last alone
         for group in [again] if again and len(again) < len(edits) else [[it] for it in again]:
             self.try_round(group)
@@ -138,7 +163,7 @@ class Rounds:
         for edit in edits:
             own = [it for it in told.refused if any(is_part(it, wanted) for wanted in edit.wanted)]
             real = [it for it in own if it not in told.by_names]
-            case = self.cases.get(edit.name) if edit.adds_a_way else None
+            case = edit.case if edit.adds_a_way and self.groups is not None else None
             if real and not case and (edit.adds_a_way or self.looks_at_all or any(told.lost_an_answer(it) for it in real)):
                 self.doubted[edit] = {it: told.goals(it) for it in real}
             elif real:
@@ -167,14 +192,15 @@ class Rounds:
                 self.say(False, edit.name, f"NOT REFUSED: {goals} is true, and only without an answer")
             else:
                 self.say_untold(edit, goals)
+        self.keep()
 
     def say_untold(self, edit, goals):
         """Says of an edit that it may be refused for want of an answer alone."""
         if not edit.adds_a_way:
             self.say(True, edit.name, f"refused, as it must be, on a way that the old text has too: {goals}")
         else:
-            self.say(not self.needs_cases, edit.name, f"refused, and it isn't told whether {goals} is false on the way out that it adds: "
-                     "a case that refuses the body is to be named in docs/GATE.md")
+            self.say(self.groups is None, edit.name, f"refused, and it isn't told whether {goals} is false on the way out that it adds: "
+                     "a case that refuses the body is to be named by a line 'case: GROUP: NAME'")
 
     def sifted(self, edits, ran):
         """Returns the edits of a round that came to no end without those of which it can be told that they can't be tried."""

@@ -2,13 +2,15 @@
 """The gate, and the must-fail edits in rounds.
 
 usage: run.py gate [CRATE ..]        tests/prose; rt ci over a copy of the tree without its must-fail edits, then those edits in rounds over
-                                     the libraries that it built, the test of the rounds, and the cases of tests/program over the program
+                                     the libraries that it built, the tests of the gate itself, and the cases of tests/program over the program
                                      as each compiler built it. With names: these crates and those below
        run.py must-fail [CRATE ..]   the gate's edits alone, over libraries that `rt lib` builds where they stand
        run.py further [CRATE ..]     the same for the edits of tests/edits/CRATE, which the gate leaves out
        run.py look [CRATE ..]        the gate's edits, each looked at once more, where the gate does so with a few
 
-The last line is 'N passed, M failed', whatever happens, and the status 1 where anything failed.
+What the first finds as it must be is kept on this machine, by the sums of all that it was made from, and isn't tried again; with
+`--from-nothing` all is. The second takes what the first kept, and keeps nothing: its libraries may stand on what checks left. The last line is
+'N passed, M failed', whatever happens, and the status 1 where anything failed.
 """
 import collections
 import os
@@ -28,9 +30,11 @@ FURTHER = f"{TOP}/tests/edits"
 sys.path.insert(0, HERE)
 
 import minutes
+from kept import Edits, Kept, Proved, Sums, of_gate, of_kit, sum_of, sum_of_files
+from keeping_test import KeepingTest
 from lanes import Task, free, in_lanes, processors
 from own_test import OwnTest
-from prover import RT, Crate, Ended, Running, below, lines_in, rows_of, run
+from prover import RT, Crate, Ended, Running, below, lines_in, proved_in, rows_of, run
 from rounds import Killed, Rounds
 
 # rt ci has the crates' proofs and tests to go through: so many seconds at most.
@@ -44,17 +48,18 @@ MOST_OF_A_CHECK = 5e9
 SIGNALS = (signal.SIGTERM, signal.SIGINT, signal.SIGHUP)
 COUNTS = re.compile(r"(\d+) passed, (\d+) failed\Z")
 REFUSED = re.compile(r"rt: (\w+)(: its tests are)? NOT PROVED")
-CASE = re.compile(r"\| `(\w+)`: `(\w+)` \|.*\| (`(\w+)`: [^|]*[^|\s]) \|$")
-PROVED = re.compile(r"fn (\w+)::(\S+): proved\Z")
+# What no case of tests/program reads: the cases run where there is none of it.
+READ_BY_NO_CASE = re.compile(r"crates/|crates\.txt\Z|HANDLES\Z|bench/|gate/.*\.py\Z|tests/(edits|near_the_end|prose|smtpd|refusals|takeover|bodies)/"
+                             r"|docs/(?!INSTALL\.md\Z|OPERATING\.md\Z)|\.ci/|\.git(/|\Z|ignore\Z)|README\.md\Z|CONTRIBUTING\.md\Z")
 # So many lines of what rt ci says of a crate that it refuses are told again, and of the cases that failed.
 SAID = 12
 
 
 class Sum:
-    """What passed and failed so far, and the processor seconds by crate and kind of work."""
+    """What passed and failed so far, how much of it is kept from earlier runs, and the processor seconds by crate and kind of work."""
 
     def __init__(self):
-        self.passed, self.failed, self.names, self.seconds = 0, 0, [], collections.Counter()
+        self.passed, self.failed, self.taken, self.names, self.seconds = 0, 0, 0, [], collections.Counter()
 
     def add(self, results):
         for it in results:
@@ -63,6 +68,12 @@ class Sum:
                 print(f"{it.name}: {it.said}", flush=True)
             else:
                 self.fail(it.name, it.said)
+
+    def take(self, name, number):
+        """Adds what is kept of earlier runs."""
+        print(f"== {name}: {number} kept from earlier runs of the same on this machine", flush=True)
+        self.passed += number
+        self.taken += number
 
     def fail(self, name, said, number=1):
         print(f"FAILED {name}: {said}", flush=True)
@@ -80,7 +91,7 @@ class Sum:
 def files_of(tree):
     """Returns the tree's files but for what git ignores, or where git has nothing to say, what rt and Python made."""
     words = ["git", "-c", "safe.directory=*", "-C", tree, "ls-files", "-z", "--cached", "--others", "--exclude-standard"]
-    ran = subprocess.run(words, stdout=subprocess.PIPE) if os.path.lexists(f"{tree}/.git") and shutil.which("git") else None
+    ran = subprocess.run(words, stdout=subprocess.PIPE, stderr=subprocess.DEVNULL) if os.path.lexists(f"{tree}/.git") and shutil.which("git") else None
     if ran and not ran.returncode:
         listed = ran.stdout.decode(errors="surrogateescape").split("\0")
     else:
@@ -118,35 +129,26 @@ def refusals(lines):
         section.append(line)
 
 
-def proved_in(lines):
-    """Returns the functions of which the lines say that they are proved, by crate, but for tests, which only a check of tests reads."""
-    found = collections.defaultdict(set)
-    for crate, name in (it.groups() for it in map(PROVED.match, lines) if it):
-        if "tests" not in name.split("::"):
-            found[crate].add(name)
-    return found
-
-
 def anew():
     """Returns the words by which rt ci takes nothing for proved that an earlier run kept on this machine: a kit whose rt ci keeps
     nothing has no word for it."""
     return ["--anew"] if "--anew" in run([RT, "help"], TOP, LONGEST_CI).said else []
 
 
-def run_ci(tree, sum_):
-    """Runs rt ci over the tree, adds what it counts and the time of each crate, and returns the crates that it refused, and the
-    functions that it told proved, by crate."""
+def run_ci(tree, words, proved, sum_):
+    """Runs rt ci over the tree, adds what it counts and the time of each crate, hands on its lines, and returns the crates that it refused."""
     lines = []
 
     def tell(line):
         # (the last line is to be ours)
         lines.append(line)
+        proved.read(line)
         print(f"rt ci: {line}" if COUNTS.match(line) else line, flush=True)
 
     # One job for each check: copies of a check that share its work load the libraries once more each. (rt then looks at no memory.)
     lanes = str(max(1, min(processors(), int(free() // MOST_OF_A_CHECK))))
     with minutes.Watch(tree) as watch:
-        ran = run(["env", f"RT_JOBS={lanes}", RT, "ci", *anew()], tree, LONGEST_CI, tell)
+        ran = run(["env", f"RT_JOBS={lanes}", RT, "ci", *words], tree, LONGEST_CI, tell)
     sum_.seconds.update(watch.by_crate())
     counts = COUNTS.match(lines[-1]) if lines else None
     passed, failed = map(int, counts.groups()) if counts else (0, 0)
@@ -156,20 +158,22 @@ def run_ci(tree, sum_):
     # (they stand far above, and a log is often read from its end)
     for line, above in refusals(lines):
         print(f"FAILED {line}, behind these lines:", *(it[:400] for it in above), sep="\n    ", flush=True)
-    return {it[1] for it in map(REFUSED.match, lines) if it and not it[2]}, proved_in(lines)
+    return {it[1] for it in map(REFUSED.match, lines) if it and not it[2]}
 
 
-def try_edits(crates, place_of, proved, sum_, others=(), cases=None, looks_at_all=False):
+def try_edits(every, sum_, others=()):
     """Tries the edits of each crate in rounds, some crates side by side, and other tasks with them. What was killed is tried
-    once more, alone. `cases` says by crate and edit which case refuses a body."""
+    once more, alone."""
     tasks = [*others]
-    for crate in crates:
-        rounds = Rounds(crate, place_of(crate.name), proved[crate.name], cases.get(crate.name, {}) if cases is not None else None, looks_at_all)
+    for rounds in every:
+        crate = rounds.crate
         missing = [it for it in crate.below if not os.path.isdir(crate.rlib(it))]
-        if missing and (rounds.edits or rounds.results):
+        if rounds.taken:
+            sum_.take(f"{rounds.name}, its edits", rounds.taken)
+        if missing and rounds.is_left():
             sum_.fail(crate.name, f"its edits were not tried, since its library {missing[0]} is not proved")
-        elif rounds.edits or rounds.results:
-            tasks.append(Task(rounds, (3 + len(rounds.edits)) * lines_in(crate.folder, ""), crate.memory(), rounds.run))
+        elif rounds.is_left():
+            tasks.append(Task(rounds, (3 + len(rounds.files)) * lines_in(crate.folder, ""), crate.memory(), rounds.run))
     killed = [rounds for rounds, ended in in_lanes(tasks) if not is_done(rounds, ended.result, sum_)]
     for rounds in killed:
         print(f"== {rounds.name}: a check was killed, most likely for memory: once more, alone", flush=True)
@@ -187,29 +191,21 @@ def is_done(rounds, call, sum_):
         traceback.print_exc(file=sys.stdout)
         sum_.fail(rounds.name, f"the rounds of its edits broke off: {why!r}")
     else:
-        print(f"== {rounds.name}: {len(rounds.edits)} edits in {rounds.count} checks, {rounds.seconds:.0f} s", flush=True)
+        print(f"== {rounds.name}: {rounds.summary()}, {rounds.seconds:.0f} s", flush=True)
         sum_.add(rounds.results)
     sum_.seconds[rounds.name, "edits"] += rounds.seconds
     return True
 
 
-def cases_in(tree, sum_):
-    """Returns by crate and edit which case refuses a body, as docs/GATE.md says it in rows `crate`: `edit` | .. | `group`: case."""
-    found = collections.defaultdict(dict)
-    with open(f"{tree}/docs/GATE.md", encoding="utf-8") as lines:
-        rows = [it for it in map(CASE.match, lines) if it]
-    for crate, edit, case, group in (it.groups() for it in rows):
-        found[crate][f"{edit}.edit"] = case
-        places = f"tests/program/cases/{group}.py", f"crates/{group}"
-        if not os.path.isfile(f"{TOP}/crates/{crate}/must-fail/{edit}.edit"):
-            sum_.fail("docs/GATE.md", f"it names a case of an edit that isn't there: {crate}/{edit}")
-        elif not any(os.path.exists(f"{TOP}/{it}") for it in places):
-            sum_.fail("docs/GATE.md", f"it names a case of {crate}/{edit} in {group}, which isn't there")
-    return found
+def groups():
+    """Returns the names of what has cases: the groups of tests/program, and the crates, of which some have tests."""
+    folder = f"{TOP}/tests/program/cases"
+    files = os.listdir(folder) if os.path.isdir(folder) else []
+    return {*rows_of(TOP), *(it[:-len(".py")] for it in files if it.endswith(".py"))}
 
 
-def gate(names, sum_):
-    rows = rows_of(TOP)
+def gate(names, sum_, takes):
+    rows, kept = rows_of(TOP), Kept(takes)
     wanted = {*names}.union(*(below(it, rows) for it in names)) or {*rows}
     run_prose(sum_)
     with tempfile.TemporaryDirectory(prefix="gate-") as room:
@@ -218,18 +214,40 @@ def gate(names, sum_):
         copy_tree(wanted, tree, edits)
         for it in {*os.listdir(edits)} - {*rows}:
             sum_.fail(it, "it has must-fail edits, and is no crate of crates.txt")
-        refused, proved = run_ci(tree, sum_)
+        sums = Sums(tree)
+        proved = Proved(kept, sums)
+        refused = run_ci(tree, [] if takes else anew(), proved, sum_)
         for it in sorted(refused & {*os.listdir(edits)}):
             sum_.fail(it, "its edits were not tried, since it is not proved")
-        own = OwnTest()
         crates = [Crate(tree, it) for it in rows_of(tree) if it not in refused]
-        try_edits(crates, lambda it: f"{edits}/{it}", proved, sum_, [Task(own, 0, 1e9, own.run)], cases_in(TOP, sum_))
+        every = [Rounds(it, f"{edits}/{it.name}", proved.of, groups(), Edits(kept, sums, it.name, f"{edits}/{it.name}", groups())) for it in crates]
+        own = [it for it in (OwnTest(), KeepingTest()) if not is_kept(it, kept, sum_)]
+        try_edits(every, sum_, [Task(it, 0, 1e9, it.run) for it in own])
+        for it in own:
+            if it.results and all(result.is_well for result in it.results):
+                kept.keep([name_of(it)], len(it.results))
         # (last, with nothing else running: they wait for what others do)
         if "mailquota" in rows_of(tree):
-            run_cases(tree, sum_)
-        run_near_the_end(tree, sum_)
+            run_cases(tree, f"{room}/cases", kept, sum_)
+        run_near_the_end(tree, sums, kept, sum_)
+    kept.shrink()
     whole = resource.getrusage(resource.RUSAGE_CHILDREN)
     print("\n".join(minutes.table(sum_.seconds, whole.ru_utime + whole.ru_stime)), flush=True)
+    print(f"Of what passed, {sum_.taken} were kept by earlier runs on this machine, and {sum_.passed - sum_.taken} are of this one; how much of its own "
+          "rt ci had kept, its line 'rt: ok' says.", flush=True)
+
+
+def name_of(test):
+    """Returns the name of what a test of the gate itself found, which reads the gate's scripts and the kit."""
+    return sum_of(test.name, of_gate(), of_kit(), sys.version)
+
+
+def is_kept(test, kept, sum_):
+    """Returns whether a test of the gate itself passed in an earlier run, and adds that."""
+    number = kept.take([name_of(test)])
+    if number:
+        sum_.take(f"{test.name}, its own test", number)
+    return bool(number)
 
 
 def run_prose(sum_):
@@ -237,22 +255,43 @@ def run_prose(sum_):
     add_cases("tests/prose", run([sys.executable, f"{TOP}/tests/prose/run.py"], TOP, LONGEST_CASES), sum_)
 
 
-def run_cases(tree, sum_):
-    """Runs the cases of tests/program over the program as each compiler built it, one after the other."""
-    counts = set()
+def run_cases(tree, place, kept, sum_):
+    """Runs the cases of tests/program over the program as each compiler built it, one after the other, in a place where nothing is but what
+    their results are kept by."""
+    for file in (it for it in files_of(tree) if not READ_BY_NO_CASE.match(it)):
+        os.makedirs(os.path.dirname(f"{place}/{file}"), exist_ok=True)
+        shutil.copy2(f"{tree}/{file}", f"{place}/{file}", follow_symlinks=False)
+    read, counts = sum_of_files(place, os.listdir(place)), set()
     for ending in BUILDS:
-        words = [sys.executable, f"{tree}/tests/program/run.py", "--gate", f"{tree}/crates/mailquota/out/mailquota{ending}"]
-        counts.add(add_cases(f"tests/program over mailquota{ending}", run(words, tree, LONGEST_CASES), sum_))
+        program = f"{tree}/crates/mailquota/out/mailquota{ending}"
+        made = [sum_of("cases", of_gate(), sys.version, read, sum_of_files(tree, [os.path.relpath(program, tree)]))]
+        words = [sys.executable, f"{place}/tests/program/run.py", "--gate", program]
+        counts.add(taken_or_run(f"tests/program over mailquota{ending}", made, words, place, kept, sum_))
     if len(counts) > 1:
         sum_.fail("tests/program", "over one build it tried more cases than over the other")
 
 
-def run_near_the_end(tree, sum_):
+def run_near_the_end(tree, sums, kept, sum_):
     """Runs the tests of tests/near_the_end whose crates are there."""
     place = f"{tree}/tests/near_the_end"
     names = [it for it in rows_of(tree) if os.path.isdir(f"{place}/{it}")]
     if names:
-        add_cases("tests/near_the_end", run([sys.executable, f"{place}/run.py", *names], tree, LONGEST_CASES), sum_)
+        read = [sums.of_crate(crate) for it in names for crate in (*below(it, sums.rows), it)]
+        made = [sum_of("near the end", of_gate(), sys.version, names, read, sum_of_files(tree, ["tests/near_the_end"]))]
+        taken_or_run("tests/near_the_end", made, [sys.executable, f"{place}/run.py", *names], tree, kept, sum_)
+
+
+def taken_or_run(name, made, words, folder, kept, sum_):
+    """Adds what these cases came to, in an earlier run or in this one, and returns how many they are."""
+    number = kept.take(made)
+    if number:
+        sum_.take(name, number)
+        return number
+    ran = run(words, folder, LONGEST_CASES)
+    failed, number = sum_.failed, add_cases(name, ran, sum_)
+    if sum_.failed == failed:
+        kept.keep(made, number)
+    return number
 
 
 def add_cases(name, ran, sum_):
@@ -269,20 +308,21 @@ def add_cases(name, ran, sum_):
     return passed + failed
 
 
-def alone(names, place_of, sum_, cases=None, looks_at_all=False):
+def alone(names, place_of, sum_, kept=None, groups=None, looks_at_all=False):
     """Tries edits over the libraries where they stand."""
-    rows = rows_of(TOP)
+    rows, sums = rows_of(TOP), Sums(TOP, is_built=False)
     for it in {*names} - {*rows}:
         sum_.fail(it, "it is no crate of crates.txt")
-    names = [it for it in names or rows if it in rows and os.path.isdir(place_of(it))]
-    for library in dict.fromkeys(it for name in names for it in below(name, rows)):
+    proved = lambda it: proved_in(run([RT, "check"], it.folder, LONGEST_CI).said.split("\n"))[it.name]
+    every = []
+    for it in (it for it in names or rows if it in rows and os.path.isdir(place_of(it))):
+        edits = Edits(kept, sums, it, place_of(it), groups) if kept else None
+        every.append(Rounds(Crate(TOP, it), place_of(it), proved, groups, edits, looks_at_all))
+    for library in dict.fromkeys(it for rounds in every if rounds.is_left() for it in rounds.crate.below):
         ran = run([RT, "lib"], f"{TOP}/crates/{library}", LONGEST_CI)
         if ran.status:
             print(ran.said)
-    proved = collections.defaultdict(set)
-    for name in names:
-        proved.update(proved_in(run([RT, "check"], f"{TOP}/crates/{name}", LONGEST_CI).said.split("\n")))
-    try_edits([Crate(TOP, it) for it in names], place_of, proved, sum_, cases=cases, looks_at_all=looks_at_all)
+    try_edits(every, sum_)
 
 
 def further():
@@ -301,13 +341,14 @@ def main(words):
     for it in SIGNALS:
         signal.signal(it, end)
     try:
-        verb, names = (words[0], words[1:]) if words else ("", [])
+        verb, names = (words[0], [it for it in words[1:] if it != "--from-nothing"]) if words else ("", [])
+        takes = "--from-nothing" not in words
         if verb == "gate":
-            gate(names, sum_)
+            gate(names, sum_, takes)
         elif verb == "further":
             alone(names or further(), lambda it: f"{FURTHER}/{it}", sum_)
         elif verb == "must-fail":
-            alone(names, lambda it: f"{TOP}/crates/{it}/must-fail", sum_, cases_in(TOP, sum_))
+            alone(names, lambda it: f"{TOP}/crates/{it}/must-fail", sum_, Kept(takes, keeps=False), groups())
         elif verb == "look":
             alone(names, lambda it: f"{TOP}/crates/{it}/must-fail", sum_, looks_at_all=True)
         else:
