@@ -103,6 +103,8 @@ class Kept:
     def __init__(self, takes=True, keeps=True):
         """Says whether this run takes what others kept, and whether it keeps what it finds."""
         self.takes, self.keeps, self.at = takes, keeps, None
+        # (once and early: these are the scripts that run)
+        of_gate(), of_kit()
         with contextlib.suppress(OSError):
             os.makedirs(folder(), 0o700, exist_ok=True)
             if os.lstat(folder()).st_uid == os.geteuid():

@@ -52,13 +52,14 @@ class Watch:
 
 
 def table(seconds, whole):
-    """Returns lines that tell the minutes by crate of what was seen (crate, kind), and of the whole."""
+    """Returns lines of the minutes of what was seen (crate, kind) by crate, as minutes.txt has them, and a line of the whole."""
     kinds = ["prove", "test", "edits"]
+    told = lambda given: " ".join(f"{it / 60:.1f}".removesuffix(".0") for it in given)
     crates = sorted({it for it, _ in seconds}, key=lambda it: -sum(seconds[it, kind] for kind in kinds))
-    lines = ["| Crate | To prove | To test | To try edits | Together |", "|---|---|---|---|---|"]
-    row = lambda name, given: lines.append("| " + " | ".join([name, *(f"{it / 60:.1f}" for it in [*given, sum(given)])]) + " |")
-    for crate in crates:
-        row(f"`{crate}`", [seconds[crate, kind] for kind in kinds])
-    row("together", [sum(seconds[crate, kind] for crate in crates) for kind in kinds])
-    lines.append(f"\nBeside these, {(whole - sum(seconds.values())) / 60:.1f} minutes: what `rt` itself takes, and the tests' and programs' runs.")
-    return [*lines, f"The gate takes {whole / 60:.0f} minutes of processor time."]
+    lines = [f"{crate} {told(seconds[crate, kind] for kind in kinds)}" for crate in crates]
+    together = [sum(seconds[crate, kind] for crate in crates) for kind in kinds]
+    return [
+        "Minutes of processor time by crate, to prove, to test and to try edits:", *lines,
+        f"together {told(together)}, and {(whole - sum(together)) / 60:.1f} that rt itself and the runs of tests and programs took",
+        f"This run took {whole / 60:.0f} minutes of processor time.",
+    ]
