@@ -12,7 +12,7 @@ MANDIR = $(PREFIX)/share/man
 EXAMPLEDIR = $(PREFIX)/share/examples/mailquota
 DOCDIR = $(PREFIX)/share/doc/mailquota
 
-.PHONY: all build demo check edits program-tests refusals smtpd install clean
+.PHONY: all build demo try check edits program-tests refusals smtpd install clean
 
 all: build
 
@@ -23,6 +23,10 @@ build:
 # A day over loopback: a server over a file, the filters of two hosts, a limit, a kill, a stop. It ends by itself.
 demo: build
 	@python3 examples/demo.py $(PROGRAM) examples/one-reserve.hex
+
+# The same day, in minutes: of a program that is built without proofs. It is for trying alone, so it has another place and isn't installed.
+try:
+	@RT=$(RT) python3 scripts/try.py
 
 # docs/GATE.md says what it does. What passed on this machine isn't tried again, but with ANEW=1. The last line is 'N passed, M failed'.
 ANEW ?=
