@@ -2,7 +2,7 @@
 """Proves and compiles the crates that the program stands on.
 
 usage: build.py            builds the program
-       build.py --plan     runs nothing: says what that costs, by the minutes that docs/GATE.md has
+       build.py --plan     runs nothing: says what that costs, by gate/minutes.txt
 
 It says which crate of how many it begins and ends with, and how long that took; what rattle says of a crate stands in crates/NAME/out/build.log.
 A crate is proved again where its files, those of a crate below it, or the kit have changed; where nothing has, it does nothing. RT in the environment
@@ -13,7 +13,6 @@ can be proved at once. These libraries stand in crates/NAME/out/build, apart fro
 """
 import hashlib
 import os
-import re
 import signal
 import subprocess
 import sys
@@ -267,9 +266,9 @@ def build(rows, below, sums):
 
 
 def plan(below):
-    """What a build costs by the minutes of docs/GATE.md, which are those of one job."""
-    with open(f"{TOP}/docs/GATE.md", encoding="utf-8") as file:
-        minutes = {name: float(cost) for name, cost in re.findall(r"^\| `(\w+)` \| ([0-9.]+) \|", file.read(), re.MULTILINE)}
+    """What a build costs by the minutes of gate/minutes.txt, which are those of one job."""
+    with open(f"{TOP}/gate/minutes.txt", encoding="utf-8") as file:
+        minutes = {line.split()[0]: float(line.split()[1]) for line in file if not line.startswith("#")}
     chain = chain_of(below, lengths_above(below))
     print(f"{sum(map(minutes.get, chain)):.0f} minutes for the crates that wait for one another: {', '.join(chain)}")
     print(f"{sum(map(minutes.get, below)):.0f} minutes of processor time for all {len(below)} crates")
