@@ -128,7 +128,7 @@ CHANGES = [
 class KeepingTest:
     """Has the gate run over a small tree as it is changed, and looks at what it tries."""
 
-    name = "what is kept"
+    name = "keeping"
 
     def __init__(self):
         self.results, self.seconds, self.count = [], 0.0, 0

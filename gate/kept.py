@@ -141,9 +141,10 @@ class Kept:
     def shrink(self):
         """Removes what is long unused, what goes beyond the most that may lie here, and what runs left that were killed."""
         found = []
-        for it in os.scandir(self.at) if self.at else ():
-            with contextlib.suppress(OSError):
-                found.append((it.stat().st_mtime, it.path))
+        with contextlib.suppress(OSError):
+            for it in os.scandir(self.at) if self.at else ():
+                with contextlib.suppress(OSError):
+                    found.append((it.stat().st_mtime, it.path))
         for number, (when, path) in enumerate(sorted(found, reverse=True)):
             longest = LONGEST_UNFINISHED if os.path.basename(path).startswith(UNFINISHED) else LONGEST_UNUSED
             if number >= MOST or time.time() - when > longest:

@@ -219,8 +219,10 @@ def gate(names, sum_, takes):
         refused = run_ci(tree, [] if takes else anew(), proved, sum_)
         for it in sorted(refused & {*os.listdir(edits)}):
             sum_.fail(it, "its edits were not tried, since it is not proved")
-        crates = [Crate(tree, it) for it in rows_of(tree) if it not in refused]
-        every = [Rounds(it, f"{edits}/{it.name}", proved.of, groups(), Edits(kept, sums, it.name, f"{edits}/{it.name}", groups())) for it in crates]
+        every, cases = [], groups()
+        for it in (it for it in rows_of(tree) if it not in refused):
+            place = f"{edits}/{it}"
+            every.append(Rounds(Crate(tree, it), place, proved.of, cases, Edits(kept, sums, it, place, cases)))
         own = [it for it in (OwnTest(), KeepingTest()) if not is_kept(it, kept, sum_)]
         try_edits(every, sum_, [Task(it, 0, 1e9, it.run) for it in own])
         for it in own:
