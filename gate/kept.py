@@ -108,6 +108,7 @@ class Kept:
         with contextlib.suppress(OSError):
             os.makedirs(folder(), 0o700, exist_ok=True)
             if os.lstat(folder()).st_uid == os.geteuid():
+                os.chmod(folder(), 0o700)
                 self.at = folder()
 
     def take(self, names):

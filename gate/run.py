@@ -310,16 +310,16 @@ def add_cases(name, ran, sum_):
     return passed + failed
 
 
-def alone(names, place_of, sum_, kept=None, groups=None, looks_at_all=False):
-    """Tries edits over the libraries where they stand."""
+def alone(names, place_of, sum_, kept=None, cases=None, looks_at_all=False):
+    """Tries edits over the libraries where they stand. `cases` are the names of what has cases, where an edit is to name one."""
     rows, sums = rows_of(TOP), Sums(TOP, is_built=False)
     for it in {*names} - {*rows}:
         sum_.fail(it, "it is no crate of crates.txt")
     proved = lambda it: proved_in(run([RT, "check"], it.folder, LONGEST_CI).said.split("\n"))[it.name]
     every = []
     for it in (it for it in names or rows if it in rows and os.path.isdir(place_of(it))):
-        edits = Edits(kept, sums, it, place_of(it), groups) if kept else None
-        every.append(Rounds(Crate(TOP, it), place_of(it), proved, groups, edits, looks_at_all))
+        edits = Edits(kept, sums, it, place_of(it), cases) if kept else None
+        every.append(Rounds(Crate(TOP, it), place_of(it), proved, cases, edits, looks_at_all))
     for library in dict.fromkeys(it for rounds in every if rounds.is_left() for it in rounds.crate.below):
         ran = run([RT, "lib"], f"{TOP}/crates/{library}", LONGEST_CI)
         if ran.status:
