@@ -1,3 +1,3 @@
-pub mod Logins
+pub mod Names
 pub mod Nights
 pub mod Questions

@@ -1,3 +1,6 @@
+pub mod Ahead
 pub mod Asked
 pub mod Hours
+pub mod Known
 pub mod Nearing
+pub mod Storms

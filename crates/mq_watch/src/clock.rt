@@ -1,5 +1,7 @@
 //! The server's clock.
-ghost use Rattle.std.specs.Prelude.{◌≡◌, ◌<◌};
+ghost use Rattle.std.specs.Prelude.{◌≡◌, ◌<◌, ◌/◌, ◌^◌};
+ghost use Rattle.std.specs.Option.{SomeIff};
+ghost use Rattle.std.specs.Time.{system_time_nanos};
 ghost use Rattle.mq_request.specs.Range.{IsMoment};
 ghost use Rattle.mq_request.specs.declared.bounds.TheConstants.{FIRST_MOMENT, LAST_MOMENT};
 
@@ -7,10 +9,17 @@ use mq_request::bounds::{FIRST_MOMENT, LAST_MOMENT};
 use std::rt::Clock;
 use std::time::{SystemTime, UNIX_EPOCH};
 
-/// The seconds since 1970-01-01T00:00:00Z, where the clock can be read and shows no time before.
-pub fn seconds_of(clock: &impl Clock) -> Option<u64> {
-    let now = SystemTime::now(clock).ok()?;
-    Some(now.duration_since(UNIX_EPOCH).ok()?.as_secs())
+/// The milliseconds since 1970-01-01T00:00:00Z, where the clock can be read and shows no time before.
+pub fn millis_of(clock: &impl Clock) -> Option<u64> {
+    millis_at(SystemTime::now(clock).ok()?)
+}
+
+/// The whole milliseconds from 1970-01-01T00:00:00Z to this time.
+fn millis_at(now: SystemTime) -> Option<u64>
+    ensures { SomeIff result (system_time_nanos now / 1_000_000 < 2 ^ 64) (system_time_nanos now / 1_000_000) }
+{
+    let time = now.duration_since(UNIX_EPOCH).ok()?;
+    u64::try_from(time.as_millis()).ok()
 }
 
 /// The moment of so many seconds since 1970-01-01T00:00:00Z, or the first or last moment there is.

@@ -70,7 +70,7 @@ pub fn far_days(zone: &Zone, moment: u64, now: u64) -> Option<(u32, u32)>
 }
 
 /// Whether an hour that began at the one moment is over at the other. A clock that was put back ends it too. In seconds.
-fn is_over(since: u64, now: u64) -> bool
+pub fn is_over(since: u64, now: u64) -> bool
     ensures { IsTrue result ↔ IsOver since now }
 {
     now < since || HOUR <= now - since

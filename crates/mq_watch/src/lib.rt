@@ -1,7 +1,8 @@
 //! What an administrator has to see of the requests that come to a ledger.
 //!
-//! A [`Watched`] ledger is another one that logs: each limit and each retire, with what it was answered, a mail host whose
-//! clock isn't today's, and a login that nears its limit. It answers as the other does, and contracts see that one. A server says by
+//! A [`Watched`] ledger is another one that logs: each limit and each retire, with what it was answered; a mail host whose
+//! clock isn't today's, that asks from two addresses or under a retired run; a login that nears its limit, or is refused all
+//! the time. It answers as the other does, but a retire that is far ahead of the server's clock, and contracts see that one. A server says by
 //! [`Hear`] whose requests come. From `mq_program/src/serving.rt`:
 //!
 //!     let mut watched = Watched::new(rt, log, rt.alloc(), ledger);
@@ -11,12 +12,16 @@
 //! address alone. Begin with `watched.rt`.
 #![tactic(auto)]
 
+mod ahead;
+mod askers;
 mod asking;
 mod clock;
 mod hear;
+mod hourly;
 mod hours;
 mod lines;
 mod nearing;
+mod refusals;
 mod watched;
 
 pub use hear::Hear;

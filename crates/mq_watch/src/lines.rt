@@ -5,6 +5,7 @@ use log::Level;
 use mq_ledger::LedgerFault;
 use mq_request::{Escaped, Host, Id, Login, Reply};
 use std::fmt;
+use std::net::IpAddr;
 
 /// A limit that came, and what it was answered. One that comes again is answered as it was the first time.
 #[derive(Clone, Copy)]
@@ -56,6 +57,27 @@ impl fmt::Display for RetireLine<'_> {
         let run = self.id.run;
         write!(f, "runs of host {host} below {run}: ")?;
         write_answer(f, self.answer)
+    }
+}
+
+/// A retire that is ahead of the server's clock.
+#[derive(Clone, Copy)]
+pub struct AheadLine<'a> {
+    pub id: &'a Id,
+    /// The server's clock: milliseconds since 1970.
+    pub now: u64,
+}
+
+impl fmt::Display for AheadLine<'_> {
+    fn fmt<W: fmt::Write>(&self, f: &mut fmt::Formatter<W>) -> fmt::Result {
+        let host = Escaped(self.id.host.as_slice());
+        let run = self.id.run;
+        let now = self.now;
+        let seconds = run.saturating_sub(now) / 1_000;
+        write!(
+            f,
+            "runs of host {host} below {run}: not taken, since that is {seconds} s after this server's clock, {now}: its clock or the server's is wrong"
+        )
     }
 }
 
@@ -115,6 +137,61 @@ impl fmt::Display for NearLine<'_> {
         write!(
             f,
             "login {login} has used {used} of its limit of {cap} on day {day}"
+        )
+    }
+}
+
+/// A host that asks from two addresses.
+#[derive(Clone, Copy)]
+pub struct AddressLine<'a> {
+    pub host: &'a Host,
+    /// The address from which it asked before.
+    pub other: IpAddr,
+}
+
+impl fmt::Display for AddressLine<'_> {
+    fn fmt<W: fmt::Write>(&self, f: &mut fmt::Formatter<W>) -> fmt::Result {
+        let host = Escaped(self.host.as_slice());
+        let other = self.other;
+        write!(
+            f,
+            "host {host} has asked from {other} too within an hour: two machines may have its name"
+        )
+    }
+}
+
+/// A host that asks under a retired run.
+#[derive(Clone, Copy)]
+pub struct OldLine<'a> {
+    pub id: &'a Id,
+}
+
+impl fmt::Display for OldLine<'_> {
+    fn fmt<W: fmt::Write>(&self, f: &mut fmt::Formatter<W>) -> fmt::Result {
+        let host = Escaped(self.id.host.as_slice());
+        let run = self.id.run;
+        write!(
+            f,
+            "host {host} asks under run {run}, which is retired: its recipients get 451"
+        )
+    }
+}
+
+/// A login that is refused all the time.
+#[derive(Clone, Copy)]
+pub struct FloodLine<'a> {
+    pub login: &'a Login,
+    /// The host that asked last.
+    pub host: &'a Host,
+}
+
+impl fmt::Display for FloodLine<'_> {
+    fn fmt<W: fmt::Write>(&self, f: &mut fmt::Formatter<W>) -> fmt::Result {
+        let login = Escaped(self.login.as_slice());
+        let host = Escaped(self.host.as_slice());
+        write!(
+            f,
+            "login {login} was refused more than 1,000 times within an hour, last for host {host}"
         )
     }
 }

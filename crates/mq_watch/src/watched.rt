@@ -5,26 +5,36 @@ ghost use Rattle.mq_ledger.specs.Answer.{build, reply};
 ghost use Rattle.mq_ledger.specs.Arrivals.{first};
 ghost use Rattle.mq_ledger.specs.Day.{day_of};
 ghost use Rattle.mq_ledger.specs.History.{requests};
+ghost use Rattle.mq_watch.specs.Ahead.{IsAhead};
 ghost use Rattle.mq_watch.specs.Asked.{FailsAtQuestion, IsAsked, IsCapBefore, IsPut, LacksCap};
 
+use crate::ahead::is_ahead;
+use crate::askers::Askers;
 use crate::asking::ask_usage;
-use crate::clock::{moment_of, seconds_of};
+use crate::clock::{millis_of, moment_of};
 use crate::hear::Hear;
 use crate::hours::{NamedHosts, far_days};
-use crate::lines::{DayLine, LimitLine, NearLine, RetireLine};
+use crate::lines::{
+    AddressLine, AheadLine, DayLine, FloodLine, LimitLine, NearLine, OldLine, RetireLine,
+};
 use crate::nearing::Nearing;
-use log::{Log, info, log, warn};
+use crate::refusals::Refusals;
+use log::{Log, error, info, log, warn};
 use mq_ledger::{Ledger, LedgerFault, Zone};
-use mq_request::{Host, Login, Reply, Request};
+use mq_request::{Host, Id, Login, Reply, Request};
 use std::alloc::Global;
 use std::marker::Model;
 use std::net::{Ipv4Addr, SocketAddr};
 use std::rt::Clock;
 
-/// A ledger that answers as another one does, and logs with the address of the peer that asked: each limit with its
-/// answer; once an hour and host, a reserve whose day isn't today, yesterday or tomorrow by the server's clock; and once for
-/// a login and day, that the login nears its limit. For the log it asks the other one what logins have used, which leaves
-/// it as it was. Contracts see the other one.
+/// A ledger that answers as another one does, and logs with the address of the peer that asked: each limit and each retire
+/// with its answer; once an hour and host, a reserve whose day isn't today, yesterday or tomorrow by the server's clock,
+/// requests of a retired run, and reserves from two addresses; once an hour and login, that it is refused all the time; and
+/// once for a login and day, that the login nears its limit. For the log it asks the other one what logins have used, which
+/// leaves it as it was. Contracts see the other one.
+///
+/// A retire that is more than an hour ahead of the server's clock doesn't come to the other one. It is answered as if memory
+/// had run out, so that it may be sent again: once taken, it would refuse its host's filters until then.
 #[derive(Drop)]
 pub struct Watched<'a, L, C, G> {
     ledger: L,
@@ -34,6 +44,12 @@ pub struct Watched<'a, L, C, G> {
     peer: SocketAddr,
     /// The hosts of whose clocks a line was logged.
     hosts: NamedHosts,
+    /// The hosts of whose retired runs a line was logged.
+    retired: NamedHosts,
+    /// From where hosts ask.
+    askers: Askers,
+    /// How often logins are refused.
+    refusals: Refusals,
     /// The logins that near their limits.
     nearing: Nearing,
 }
@@ -55,6 +71,9 @@ impl<'a, L: Ledger, C: Clock, G: Log> Watched<'a, L, C, G> {
             log,
             peer: SocketAddr::new(Ipv4Addr::UNSPECIFIED.into(), 0),
             hosts: NamedHosts::new(alloc),
+            retired: NamedHosts::new(alloc),
+            askers: Askers::new(alloc),
+            refusals: Refusals::new(alloc),
             nearing: Nearing::new(alloc),
         }
     }
@@ -69,14 +88,48 @@ impl<'a, L: Ledger, C: Clock, G: Log> Watched<'a, L, C, G> {
             log: _,
             peer: _,
             hosts: _,
+            retired: _,
+            askers: _,
+            refusals: _,
             nearing: _,
         } = self;
         ledger
     }
 
+    /// Puts a request to the ledger at this moment of the server's clock, in milliseconds since 1970, but a retire that is
+    /// ahead of it, which is logged as an error.
+    fn take(&mut self, request: &Request, now: Option<u64>) -> Result<Reply, LedgerFault>
+        requires { IsRequest request.now }
+        ensures ahead { IsAhead request.now now → (result ≡ Err LedgerFault.Memory) × (self.new ≡ self.old) }
+        ensures put { (IsAhead request.now now → ⊥) →
+            IsPut request.now result (L.told self.old) (L.told self.new) }
+
+        // As `Ledger` says of `apply`.
+        ensures in_range { IfOk result IsReply }
+        ensures same_zone { (L.book self.new).zone ≡ (L.book self.old).zone }
+        ensures same_default { (L.book self.new).default ≡ (L.book self.old).default }
+        ensures kept { L.has_kept self.new → L.has_kept self.old }
+        ensures no_store { L.has_store self.new → L.has_store self.old }
+        ensures store { result ≡ Err LedgerFault.Store → L.has_store self.old }
+        ensures reply { L.has_kept self.new → L.is_sound self.old → (let b = L.book self.old in
+            IfOk result (λ r. r ≡ reply (day_of b.zone) b.default b.history request.now)) }
+        ensures history { L.has_kept self.new → L.is_sound self.old → (let b = L.book self.old in
+            OnOk result ((L.book self.new).history
+            ≡ build (day_of b.zone) b.default (first (requests b.history ++ request.now ∷ [])))) }
+        ensures fault { L.has_kept self.new → L.is_sound self.old →
+            OnErr result ((L.book self.new).history ≡ (L.book self.old).history) }
+        ensures sound { L.has_kept self.new → L.is_sound self.old → L.is_sound self.new }
+    {
+        if is_ahead(request, now) {
+            self.note_ahead(request, now);
+            return Err(LedgerFault::Memory);
+        }
+        self.put(request, now)
+    }
+
     /// Puts a request to the ledger, and logs what is to be seen of it. Where a question before it finds a failed store, that
     /// is the answer.
-    fn put(&mut self, request: &Request) -> Result<Reply, LedgerFault>
+    fn put(&mut self, request: &Request, now: Option<u64>) -> Result<Reply, LedgerFault>
         requires { IsRequest request.now }
         ensures put { IsPut request.now result (L.told self.old) (L.told self.new) }
 
@@ -101,7 +154,7 @@ impl<'a, L: Ledger, C: Clock, G: Log> Watched<'a, L, C, G> {
             Ok(_) => self.ledger.apply(request),
             Err(fault) => Err(fault),
         };
-        self.note(request, before.unwrap_or(None), &answer);
+        self.note(request, before.unwrap_or(None), &answer, now);
         answer
     }
 
@@ -130,8 +183,23 @@ impl<'a, L: Ledger, C: Clock, G: Log> Watched<'a, L, C, G> {
         Ok(usage.map(|usage| usage.cap))
     }
 
+    /// Logs a retire that isn't put to the ledger.
+    fn note_ahead(&self, request: &Request, now: Option<u64>) {
+        if let (Request::Retire { id }, Some(now)) = (request, now) {
+            let peer = self.peer;
+            let line = AheadLine { id, now };
+            error!(self.log; "connection of {peer}: {line}");
+        }
+    }
+
     /// Logs what a request is to be seen of. A limit came where there was the cap `before`, if that is known.
-    fn note(&mut self, request: &Request, before: Option<u32>, answer: &Result<Reply, LedgerFault>)
+    fn note(
+        &mut self,
+        request: &Request,
+        before: Option<u32>,
+        answer: &Result<Reply, LedgerFault>,
+        now: Option<u64>,
+    )
         requires { IsRequest request.now }
         ensures { IsAsked L.told L.book L.has_kept L.is_sound L.has_store self.old self.new }
     {
@@ -148,10 +216,13 @@ impl<'a, L: Ledger, C: Clock, G: Log> Watched<'a, L, C, G> {
                 login,
                 ..
             } => {
-                self.check_day(&id.host, *moment);
+                self.check_asker(id, *moment, login, answer, now);
                 if let Ok(Reply::Granted { used, .. }) = answer {
                     self.check_limit(login, *moment, *used);
                 }
+            }
+            Request::Settle { id, .. } | Request::Release { id, .. } => {
+                self.check_run(id, answer, now);
             }
             Request::Retire { id } => {
                 let peer = self.peer;
@@ -214,14 +285,35 @@ impl<'a, L: Ledger, C: Clock, G: Log> Watched<'a, L, C, G> {
         }
     }
 
-    /// Logs that a host reserves for a day that is far from the server's, once an hour.
-    fn check_day(&mut self, host: &Host, moment: u64)
+    /// Logs what is to be seen of a reserve at this moment of the server's clock, where it can be read.
+    fn check_asker(
+        &mut self,
+        id: &Id,
+        moment: u64,
+        login: &Login,
+        answer: &Result<Reply, LedgerFault>,
+        now: Option<u64>,
+    )
         requires { IsMoment moment }
         ensures { self.new ≡ self.old }
     {
-        let Some(seconds) = seconds_of(self.clock) else {
+        let Some(millis) = now else {
             return;
         };
+        let seconds = millis / 1_000;
+        self.check_day(&id.host, moment, seconds);
+        self.check_address(&id.host, seconds);
+        match answer {
+            Ok(Reply::Full { .. }) => self.check_refusals(login, &id.host, seconds),
+            _ => self.check_run(id, answer, now),
+        }
+    }
+
+    /// Logs that a host reserves for a day that is far from the server's, once an hour.
+    fn check_day(&mut self, host: &Host, moment: u64, seconds: u64)
+        requires { IsMoment moment }
+        ensures { self.new ≡ self.old }
+    {
         let zone = self.ledger.zone();
         let Some((day, today)) = far_days(zone, moment, moment_of(seconds)) else {
             return;
@@ -229,6 +321,42 @@ impl<'a, L: Ledger, C: Clock, G: Log> Watched<'a, L, C, G> {
         if self.hosts.is_due(host, seconds) {
             let peer = self.peer;
             let line = DayLine { host, day, today };
+            warn!(self.log; "connection of {peer}: {line}");
+        }
+    }
+
+    /// Logs that a host asks from two addresses, once an hour.
+    fn check_address(&mut self, host: &Host, seconds: u64)
+        ensures { self.new ≡ self.old }
+    {
+        let peer = self.peer;
+        if let Some(other) = self.askers.other(host, peer.ip(), seconds) {
+            let line = AddressLine { host, other };
+            warn!(self.log; "connection of {peer}: {line}");
+        }
+    }
+
+    /// Logs that a login is refused all the time, once an hour.
+    fn check_refusals(&mut self, login: &Login, host: &Host, seconds: u64)
+        ensures { self.new ≡ self.old }
+    {
+        if self.refusals.is_due(login, seconds) {
+            let peer = self.peer;
+            let line = FloodLine { login, host };
+            warn!(self.log; "connection of {peer}: {line}");
+        }
+    }
+
+    /// Logs that a request of a retired run came, once an hour and host, where the clock can be read.
+    fn check_run(&mut self, id: &Id, answer: &Result<Reply, LedgerFault>, now: Option<u64>)
+        ensures { self.new ≡ self.old }
+    {
+        let (Ok(Reply::Old { .. }), Some(millis)) = (answer, now) else {
+            return;
+        };
+        if self.retired.is_due(&id.host, millis / 1_000) {
+            let peer = self.peer;
+            let line = OldLine { id };
             warn!(self.log; "connection of {peer}: {line}");
         }
     }
@@ -285,6 +413,7 @@ impl<L: Ledger, C: Clock, G: Log> Ledger for Watched<'_, L, C, G> {
     }
 
     fn apply(&mut self, request: &Request) -> Result<Reply, LedgerFault> {
-        self.put(request)
+        let now = millis_of(self.clock);
+        self.take(request, now)
     }
 }

@@ -4,10 +4,12 @@ that is closed and opened again in between.
 A row says which values are at an edge; the requests are the same for all rows, and the ledger of tests/model says what is answered.
 """
 import string
+import time
 
 import wire
-from books import Books
+from books import RETIRE, Books
 from ends import Server, ledger_settings
+from ledger import decode
 from rows import same_rows
 
 GREATEST_RUN = 281_474_976_710_655
@@ -150,7 +152,7 @@ def retires(world, checks):
     all_sent = [(what, retired(place, **edge)) for place, (what, edge) in enumerate(zip(names, edges))]
     for what, (before, behind) in all_sent:
         replayed(world, checks, what, 0, [before, behind])
-    path, books = f"{world.folder}/edges-of-retires", Books(0, MOST)
+    path, books = f"{world.folder}/edges-of-retires", OfAServer(0, MOST)
     settings = {"store": path, "default": MOST}
     for turn, words in enumerate((["--create"], [], [])):
         with Server(world, words=words, **settings) as server:
@@ -161,6 +163,16 @@ def retires(world, checks):
     came = world.run("audit", "--config", ledger_settings(world, path, default=MOST))
     checks.equal("a file with retires: audit", came, (0, f"sound days={len(books.usage)} transactions={len(books.transactions)}\n".encode(), ""))
     print(f"    {len(edges)} retires, each over a list, tables in memory and a file", flush=True)
+
+
+class OfAServer(Books):
+    """The books of a server, which doesn't take a retire that is more than an hour ahead of its clock."""
+
+    def apply(self, body):
+        request = decode(body)
+        if request["kind"] == RETIRE and request["id"][1] > 1_000 * time.time() + 3_600_000:
+            return wire.RETRY[2:]
+        return super().apply(body)
 
 
 def retired(place, host=None, run=1_795_674_158_000, sequence=7):

@@ -1,5 +1,5 @@
 use Rattle.std.proofs.Common.{Some, ap, ◌∙◌}
-use Rattle.mq_watch.proofs.Logins.{beside_kept}
+use Rattle.mq_watch.proofs.Names.{beside_kept}
 use Rattle.mq_watch.proofs.nearing.Nearing.keep.Goals as goal
 
 pub returns-in-Ok-clause-others : goal.returns-in-Ok-clause-others
