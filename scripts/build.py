@@ -4,19 +4,19 @@
 usage: build.py            builds the program
        build.py --plan     runs nothing: says what that costs, by gate/minutes.txt
 
-It says which crate of how many it begins and ends with, and how long that took; what rattle says of a crate stands in crates/NAME/out/build.log.
+It says with which crate it begins, which is done, of how many, and how long that took; what rattle says of a crate stands in crates/NAME/out/build.log.
 A crate is proved again where its files, those of a crate below it, or the kit have changed; where nothing has, it does nothing. RT in the environment
 is the command rt, whose kit proves.
 
 A crate is proved over the statements of those below it, without their proofs, as rt ci has it: a check then loads a fraction of them, and any two crates
-can be proved at once. These libraries stand in crates/NAME/out/build, apart from what rt keeps there for checks of a single crate.
+can be proved at once. These libraries stand in crates/NAME/out/build, apart from what rt keeps there for checks of a single crate. Which crate waits for
+which stands in a makefile, crates/mailquota/out/mailquota.mk, by which make runs this script for each crate, with '--prove' and how many jobs it has.
 """
 import hashlib
 import os
 import signal
 import subprocess
 import sys
-import threading
 import time
 
 sys.dont_write_bytecode = True
@@ -41,9 +41,18 @@ def rlib(name):
     return f"{folder(name)}/out/build/{name}.rlib"
 
 
-def stamp(name):
-    """The file with the sum of all that the crate's last build read."""
+def made(name):
+    return BINARY if name == PROGRAM else rlib(name)
+
+
+def sum_file(name):
+    """The file with the sum of all that a build of the crate reads."""
     return f"{folder(name)}/out/build/sum"
+
+
+def stamp(name):
+    """A file that is younger than the sums of the crate and of those below it, once it is built from what they have."""
+    return f"{folder(name)}/out/build/done"
 
 
 def crates(rows):
@@ -59,51 +68,27 @@ def files_of(crate):
             yield from (f"{at}/{it}" for it in sorted(names))
 
 
-def sums_of(rows, known):
-    """Of each crate a sum of all that its build reads: the kit, its line of crates.txt, its files, and the crates below it."""
+def write_sums(rows, known):
+    """Writes of each crate the sum of all that its build reads of it, the kit and its line of crates.txt, where that changed. Where what was made of
+    it is gone, it isn't built."""
     kit = subprocess.run([RT, "version"], stdin=subprocess.DEVNULL, capture_output=True, check=True).stdout
-    sums = {}
-
-    def sum_of(name):
-        if name not in sums:
-            total = hashlib.sha256(kit + repr(rows[name]).encode())
-            for path in files_of(name):
-                with open(path, "rb") as file:
-                    total.update(f"{os.path.relpath(path, TOP)}\n".encode() + hashlib.sha256(file.read()).digest())
-            for it in known[name]:
-                total.update(sum_of(it).encode())
-            sums[name] = total.hexdigest()
-        return sums[name]
-
-    for it in known:
-        sum_of(it)
-    return sums
-
-
-def is_built(name, wanted):
-    """Whether the crate's last build read what has this sum."""
-    if not os.path.exists(BINARY if name == PROGRAM else rlib(name)) or not os.path.isfile(stamp(name)):
-        return False
-    with open(stamp(name), encoding="utf-8") as file:
-        return file.read() == wanted
-
-
-def left_of(known, sums):
-    """The crates that aren't built from what is there now, or that stand on one that isn't: statements fit only the very libraries that they were
-    proved over."""
-    left = {}
-
-    def is_left(name):
-        if name not in left:
-            left[name] = any([is_left(it) for it in known[name]]) or not is_built(name, sums[name])
-        return left[name]
-
-    is_left(PROGRAM)
-    return {name: [it for it in below if left[it]] for name, below in known.items() if left[name]}
+    for name in known:
+        total = hashlib.sha256(kit + repr(rows[name]).encode())
+        for path in files_of(name):
+            with open(path, "rb") as file:
+                total.update(f"{os.path.relpath(path, TOP)}\n".encode() + hashlib.sha256(file.read()).digest())
+        os.makedirs(os.path.dirname(sum_file(name)), exist_ok=True)
+        if not os.path.exists(made(name)) and os.path.exists(stamp(name)):
+            os.remove(stamp(name))
+        with open(sum_file(name), "a+", encoding="utf-8") as file:
+            file.seek(0)
+            if file.read() != total.hexdigest():
+                file.truncate(0)
+                file.write(total.hexdigest())
 
 
 def lengths_above(below):
-    """How much text there is from each crate up to the program, along the longest way: the longer, the sooner it is to be proved."""
+    """How much text there is from each crate up to the program, along the longest way."""
     sizes = {name: sum(map(os.path.getsize, files_of(name))) for name in below}
 
     def longest(name):
@@ -127,141 +112,76 @@ def at_once():
     return max(1, min(len(os.sched_getaffinity(0)), free // MEMORY))
 
 
-def failed(name, status):
-    with open(f"{folder(name)}/out/build.log", encoding="utf-8", errors="replace") as log:
-        said = log.read().splitlines()
-    print(f"{name}: the build ended with status {status}; the end of crates/{name}/out/build.log:", *said[-30:], sep="\n", file=sys.stderr)
+def makefile_of(rows, below, lanes):
+    """Which crate waits for which. What the chain waits for soonest stands first, and of that what has the most text above it: make begins in this order."""
+    lengths = lengths_above(below)
+    chain = chain_of(below, lengths)
+    # the place in the chain of the first crate that stands on each
+    stand = [{name, *all_below(name, rows)} for name in chain]
+    needed = {it: next(place for place, found in enumerate(stand) if it in found) for it in below}
+    order = sorted(below, key=lambda it: (needed[it], -lengths[it]))
+    lines = ["all: " + " ".join(map(stamp, order))]
+    for name in order:
+        jobs = min(lanes, JOBS.get(name, lanes if name in chain else 1))
+        lines += [f"{stamp(name)}: {sum_file(name)} {' '.join(map(stamp, below[name]))}", f"\t@{sys.executable} {TOP}/scripts/build.py --prove {name} {jobs}"]
+    return "\n".join(lines) + "\n"
 
 
-class Build:
-    """The crates that are to be proved, and those that are."""
-
-    def __init__(self, rows, below, sums, lanes):
-        self.rows, self.below, self.sums, self.lanes, self.lengths = rows, below, sums, lanes, lengths_above(below)
-        self.chain = chain_of(below, self.lengths)
-        # the place in the chain of the first crate that stands on each
-        stand = [{name, *all_below(name, rows)} for name in self.chain]
-        self.needed = {it: next(place for place, crates in enumerate(stand) if it in crates) for it in below}
-        self.begun, self.done, self.running, self.has_failed = [], set(), {}, False
-        self.changed = threading.Condition()
-
-    def share_of(self, lane):
-        """The crates that are proved in this lane: the first has the longest chain, so that its next never waits for another to end."""
-        if self.lanes == 1:
-            return set(self.below)
-        return set(self.chain) if lane == 0 else set(self.below).difference(self.chain)
-
-    def next(self, lane):
-        """The crate to begin with now in a lane, or None where all that are for it have begun or one has failed."""
-        with self.changed:
-            share = self.share_of(lane)
-            left = [it for it in self.below if it in share]
-            while (left := [it for it in left if it not in self.begun]) and not self.has_failed:
-                ready = [it for it in left if self.done.issuperset(self.below[it])]
-                if ready and self.has_room(lane):
-                    # (what the chain waits for sooner goes first)
-                    name = min(ready, key=lambda it: (self.needed[it], -self.lengths[it]))
-                    self.begun.append(name)
-                    return name
-                self.changed.wait()
-        return None
-
-    def has_room(self, lane):
-        """Whether a crate may begin in a lane now: one of the longest chain always, any other where a processor is free or fewer than two others are
-        proved. (More of them would only hold up the chain.)"""
-        proved = set(self.begun) - self.done
-        return lane == 0 or sum(map(self.jobs, proved)) < self.lanes or len(proved.difference(self.chain)) < 2
-
-    def jobs(self, name):
-        """How many functions of a crate are proved at once."""
-        return min(self.lanes, JOBS.get(name, self.lanes if name in self.chain else 1))
-
-    def words(self, name, jobs):
-        words = [RATTLE, "build", *words_of(name, self.rows, folder(name), rlib), "--links", f"{name}=", "--jobs", str(jobs)]
-        if name == PROGRAM:
-            return [*words, "--toolchain", f"{KIT}/toolchain", "--backend", "llvm", "-o", f"{BINARY}.o"]
-        return [*words, "--statements", "-o", rlib(name)]
-
-    def run(self, name, words, log):
-        """Runs a command for a crate; gives the status."""
-        with self.changed:
-            if self.has_failed:
-                return 1
-            # (in a process group of its own, so that it can be ended with all that it started, and not in a session, to which Linux gives as much as to all others)
-            process = subprocess.Popen(words, cwd=folder(name), stdin=subprocess.DEVNULL, stdout=log, stderr=log, preexec_fn=os.setpgrp)
-            self.running[name] = process
-        return process.wait()
-
-    def prove(self, name):
-        """Proves and compiles a crate; gives the status."""
-        os.makedirs(f"{folder(name)}/out/build", exist_ok=True)
-        with open(f"{folder(name)}/out/build.log", "wb") as log:
-            jobs = self.jobs(name)
-            status = self.run(name, self.words(name, jobs), log)
-            if status == -signal.SIGKILL and jobs > 1:
-                # (most likely for memory)
-                status = self.run(name, self.words(name, 1), log)
-            if not status and name == PROGRAM:
-                libraries = [f"{KIT}/c/libos_c.a", f"{KIT}/c/liblibc_c.a"]
-                to = ["--target", "x86_64-unknown-linux-gnu", "--toolchain", f"{KIT}/toolchain", "-o", BINARY]
-                status = self.run(name, [f"{KIT}/bin/rattle-link", *to, f"{BINARY}.o", *libraries], log)
-        if not status:
-            self.keep(name)
-        return status
-
-    def keep(self, name):
-        """Keeps of what the crate is built. What stands on it is to be proved again, whatever ends this run."""
-        for it in self.below:
-            if name in self.below[it] and os.path.exists(stamp(it)):
-                os.remove(stamp(it))
-        with open(stamp(name), "w", encoding="utf-8") as file:
-            file.write(self.sums[name])
-
-    def work(self, lane):
-        """Proves one crate after the other in a lane, as long as there are any."""
-        while name := self.next(lane):
-            start, number = time.monotonic(), self.begun.index(name) + 1
-            with self.changed:
-                print(f"{name}: begun, {number} of {len(self.below)}", flush=True)
-            status = self.prove(name)
-            with self.changed:
-                self.running.pop(name, None)
-                if status and not self.has_failed:
-                    failed(name, status)
-                    self.end()
-                elif not status:
-                    self.done.add(name)
-                    print(f"{name}: done in {time.monotonic() - start:.0f} s, {number} of {len(self.below)}", flush=True)
-                self.changed.notify_all()
-
-    def end(self):
-        """Ends what runs."""
-        with self.changed:
-            self.has_failed = True
-            for process in self.running.values():
-                # (one that has ended may still be listed, and its number may be another's)
-                if process.poll() is None:
-                    os.killpg(process.pid, signal.SIGKILL)
-            self.changed.notify_all()
+def words_for(name, rows, jobs):
+    words = [RATTLE, "build", *words_of(name, rows, folder(name), rlib), "--links", f"{name}=", "--jobs", str(jobs)]
+    if name == PROGRAM:
+        return [*words, "--toolchain", f"{KIT}/toolchain", "--backend", "llvm", "-o", f"{BINARY}.o"]
+    return [*words, "--statements", "-o", rlib(name)]
 
 
-def build(rows, below, sums):
-    """Builds these crates; gives the status."""
-    begun, lanes = time.monotonic(), at_once()
-    run = Build(rows, below, sums, lanes)
-    workers = [threading.Thread(target=run.work, args=(it,)) for it in range(lanes)]
-    try:
-        for it in workers:
-            it.start()
-        for it in workers:
-            it.join()
-    finally:
-        run.end()
-        for it in workers:
-            it.join()
-    if len(run.done) < len(below):
+def prove(name, jobs):
+    """Proves and compiles a crate. Where that fails, it says why, and ends the whole build."""
+    rows, begun = rows_of(TOP), time.monotonic()
+    print(f"{name}: begun", flush=True)
+    with open(f"{folder(name)}/out/build.log", "wb") as log:
+        run = lambda words: subprocess.run(words, cwd=folder(name), stdin=subprocess.DEVNULL, stdout=log, stderr=log).returncode
+        status = run(words_for(name, rows, jobs))
+        if status == -signal.SIGKILL and jobs > 1:
+            # (most likely for memory)
+            status = run(words_for(name, rows, 1))
+        if not status and name == PROGRAM:
+            to = ["--target", "x86_64-unknown-linux-gnu", "--toolchain", f"{KIT}/toolchain", "-o", BINARY]
+            status = run([f"{KIT}/bin/rattle-link", *to, f"{BINARY}.o", f"{KIT}/c/libos_c.a", f"{KIT}/c/liblibc_c.a"])
+    if status:
+        with open(f"{folder(name)}/out/build.log", encoding="utf-8", errors="replace") as log:
+            said = log.read().splitlines()[-30:]
+        print(f"{name}: the build ended with status {status}; the end of crates/{name}/out/build.log:", *said, sep="\n", file=sys.stderr, flush=True)
+        os.killpg(0, signal.SIGKILL)
+    with open(stamp(name), "w", encoding="utf-8"):
+        print(f"{name}: done in {time.monotonic() - begun:.0f} s", flush=True)
+
+
+def build(rows, known):
+    """Builds what isn't built; gives the status."""
+    begun, lanes, file = time.monotonic(), at_once(), f"{BINARY}.mk"
+    write_sums(rows, known)
+    with open(file, "w", encoding="utf-8") as makefile:
+        makefile.write(makefile_of(rows, known, lanes))
+    make = ["make", "-rs", "-f", file, f"-j{lanes}"]
+    environment = {key: value for key, value in os.environ.items() if key not in ("MAKEFLAGS", "MFLAGS", "MAKELEVEL")}
+    left = subprocess.run([*make, "-n"], env=environment, stdin=subprocess.DEVNULL, capture_output=True, text=True, check=True).stdout.count(" --prove ")
+    if not left:
+        return 0
+    # (in a process group of its own, so that it can be ended with all that it started, and not in a session, to which Linux gives as much as to all others)
+    with subprocess.Popen(make, env=environment, stdin=subprocess.DEVNULL, stdout=subprocess.PIPE, text=True, preexec_fn=os.setpgrp) as process:
+        try:
+            done = 0
+            for line in process.stdout:
+                done += ": done in " in line
+                print(line.rstrip("\n") + f", {done} of {left}" * (": done in " in line), flush=True)
+        finally:
+            try:
+                os.killpg(process.pid, signal.SIGKILL)
+            except ProcessLookupError:
+                pass
+    if done < left:
         return 1
-    print(f"{len(below)} crates in {(time.monotonic() - begun) / 60:.1f} minutes")
+    print(f"{left} crates in {(time.monotonic() - begun) / 60:.1f} minutes")
     return 0
 
 
@@ -280,14 +200,14 @@ def main(words):
     known = crates(rows)
     if words == ["--plan"]:
         return plan(known)
+    if words[:1] == ["--prove"]:
+        return prove(words[1], int(words[2]))
     if words:
         print(__doc__, end="", file=sys.stderr)
         return 2
     # (so that what runs is ended)
     signal.signal(signal.SIGTERM, lambda number, _: sys.exit(128 + number))
-    sums = sums_of(rows, known)
-    left = left_of(known, sums)
-    if left and build(rows, left, sums):
+    if build(rows, known):
         return 1
     print(f"built {os.path.relpath(BINARY, TOP)}")
     return 0

@@ -168,7 +168,7 @@ def a_build(world, checks):
     checks.equal("make build: each crate of the program once, and the program linked last", (sorted(noted), noted[-1:]), (ALL_BUILT, ["links"]))
     checks.equal("make build: each after those below it", (status, in_order(noted)), (0, True))
     said = re.sub(r" in [0-9.]+ ", " in N ", output).splitlines()
-    wanted = (["low: begun, 1 of 4", "low: done in N s, 1 of 4"], ["mailquota: begun, 4 of 4", "mailquota: done in N s, 4 of 4", "4 crates in N minutes", "built crates/mailquota/out/mailquota"])
+    wanted = (["low: begun", "low: done in N s, 1 of 4"], ["mailquota: begun", "mailquota: done in N s, 4 of 4", "4 crates in N minutes", "built crates/mailquota/out/mailquota"])
     checks.equal("make build: what it says first and last", (said[:2], said[-4:]), wanted)
     checks.equal("make build again, with no change", build(), (0, "built crates/mailquota/out/mailquota\n", "", []))
     write(f"{folder}/crates/left/src/lib.rt", "more")
