@@ -114,6 +114,7 @@ CHANGES = [
     ("a row of crates.txt", "crates.txt", "low:\n", "low: hex\n", ["low", "near the end"]),
     ("the handles", "HANDLES", "none", "Net", ["low", *EDITS, "near the end"]),
     ("a script of the gate", "gate/source.py", "", "# as it is\n", ALL),
+    ("a test of the gate", "gate/own_test.py", "", "# as it is\n", OWN),
     ("a script that it uses", "scripts/kit.py", "", "# as it is\n", ALL),
     ("a case", "tests/program/cases/peers.py", "peers", "peer", ["cases", "cases"]),
     ("what a case reads", "contrib/smtpd.conf", "listen", "accept", ["cases", "cases"]),
@@ -216,7 +217,7 @@ class KeepingTest:
                     text = file.read()
                     file.seek(0)
                     file.truncate()
-                    file.write(text[:-1] if number % 3 else text.replace("a", "b"))
+                    file.write(text[:-1] if number % 3 else f"{'0' if text[0] != '0' else '1'}{text[1:]}")
         self.tries("of kept results that aren't whole", [*ALL, "low, as it stands", "high, as it stands"])
         shutil.rmtree(folder)
         self.tries("of no kept results", [*ALL, "low, as it stands", "high, as it stands"])

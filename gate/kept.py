@@ -59,9 +59,9 @@ def of_kit():
 
 
 @functools.lru_cache(maxsize=None)
-def of_gate():
-    """Returns a sum of the scripts of the gate."""
-    scripts = [it for it in files_in(os.path.dirname(HERE), "gate") if it.endswith(".py")]
+def of_gate(with_tests=False):
+    """Returns a sum of the scripts of the gate, of which its tests judge nothing else."""
+    scripts = [it for it in files_in(os.path.dirname(HERE), "gate") if it.endswith(".py") and (with_tests or not it.endswith("_test.py"))]
     return sum_of_files(os.path.dirname(HERE), [*scripts, "scripts/kit.py"])
 
 
@@ -104,7 +104,7 @@ class Kept:
         """Says whether this run takes what others kept, and whether it keeps what it finds."""
         self.takes, self.keeps, self.at = takes, keeps, None
         # (once and early: these are the scripts that run)
-        of_gate(), of_kit()
+        of_gate(), of_gate(True), of_kit()
         with contextlib.suppress(OSError):
             os.makedirs(folder(), 0o700, exist_ok=True)
             if os.lstat(folder()).st_uid == os.geteuid():

@@ -241,7 +241,7 @@ def gate(names, sum_, takes):
 
 def name_of(test):
     """Returns the name of what a test of the gate itself found, which reads the gate's scripts and the kit."""
-    return sum_of(test.name, of_gate(), of_kit(), sys.version)
+    return sum_of(test.name, of_gate(True), of_kit(), sys.version)
 
 
 def is_kept(test, kept, sum_):
