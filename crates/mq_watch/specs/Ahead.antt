@@ -1,5 +1,5 @@
 -- Which retires are ahead of the server's clock.
-use Rattle.std.specs.Prelude.{ℕ, ◌+◌, ◌<◌, Option, None, Some}
+use Rattle.std.specs.Prelude.{ℕ, ◌+◌, ◌<◌, Option, Some}
 use Rattle.mq_request.specs.declared.message.Request.{Request}
 use Rattle.mq_request.specs.declared.message.Request.TheVariants.{Retire}
 

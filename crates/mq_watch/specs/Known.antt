@@ -1,5 +1,5 @@
 -- What is known of hosts and logins within an hour.
-use Rattle.std.specs.Prelude.{◌≡◌, ◌≢◌, ◌⊎◌, ◌↔◌, ℕ, ◌+◌, List, Bool, false, IsTrue, Option, None, Some}
+use Rattle.std.specs.Prelude.{◌≡◌, ℕ, List, Option, None}
 use Rattle.std.specs.declared.alloc.Global.{Global}
 use Rattle.std.specs.declared.vec.Vec.{Vec}
 use Rattle.std.specs.BTreeMap.{BTreeMap, get_by}

@@ -1,5 +1,5 @@
 //! From where hosts ask.
-ghost use Rattle.std.specs.Prelude.{◌≡◌, ◌≢◌, List, ℕ, Option, None};
+ghost use Rattle.std.specs.Prelude.{◌≡◌, ◌≢◌, List, ℕ, Option};
 ghost use Rattle.mq_watch.specs.Known.{IsKnownAt, known};
 ghost use Rattle.mq_watch.specs.Storms.{Asks};
 ghost use Rattle.mq_watch.specs.declared.askers.Asker.{Asker as AnyAsker};

@@ -1,5 +1,5 @@
 //! How often logins are refused.
-ghost use Rattle.std.specs.Prelude.{◌≡◌, ◌≢◌, List, ℕ, Option, None};
+ghost use Rattle.std.specs.Prelude.{◌≡◌, ◌≢◌, List, ℕ, Option};
 ghost use Rattle.mq_watch.specs.Known.{IsKnownAt, known};
 ghost use Rattle.mq_watch.specs.Storms.{Counts};
 

@@ -144,7 +144,7 @@ def floods(world, checks):
         it.ask(reserve(1))
         full = [reserve(number, host=b"mx%d" % (number % 2)) for number in range(2, 1_002)]
         replies, lines = it.ask(*full)
-        checks.equal("a thousand refusals", (replies.count(b"\x82"), lines), (1_000, []))
+        checks.equal("a thousand refusals", (replies, lines), (b"".join(wire.full(n, 1, 1, host=b"mx%d" % (n % 2)) for n in range(2, 1_002)), []))
         more = [("WARN", "127.0.0.1", "login u was refused more than 1,000 times within an hour, last for host mx0")]
         checks.equal("one more", it.ask(reserve(1_002, host=b"mx0"))[1], more)
         checks.equal("a thousand more", it.ask(*full)[1], [])
