@@ -18,7 +18,7 @@ from cases.audits import audit, edited
 from cases.damage import sound
 from cases.filters import PROCEED, REGISTRATION, SERVICE
 from cases.filters import LIMIT as REFUSED
-from ends import TOP, Server, apart, copied, fault, ledger_settings, without_log
+from ends import SECONDS, TOP, Server, apart, copied, fault, ledger_settings, wait_until, without_log
 from ledger import decode
 from random_inputs import Times, TimesOfRule, connections_of
 from rows import answers_of, rows_in, same_rows
@@ -554,20 +554,37 @@ PATH={path}
 export PATH
 {does}
 status=$?
-if [ "$(wc -l <{folder}/calls)" = "$(cat {folder}/stop_at)" ]; then kill -9 $PPID; fi
+if [ "$(wc -l <{folder}/calls)" = "$(cat {folder}/stop_at)" ]; then kill -9 "$(cat {folder}/pid)"; fi
 exit $status
 """
 DOES = {
-    # (the options end where the program's path is)
-    "systemd-run": """while [ "$1" != {program} ]; do shift; done; if [ "$2" = forget ] && [ -e {folder}/no_room ]; then exit 1; fi; "$@" """,
-    "systemctl": """case $1 in
-    start) [ ! -e {folder}/server ] && touch {folder}/server ;;
-    stop) rm -f {folder}/server ;;
+    # (the options end where the program's path is; as a unit does, what it runs goes on where the script is killed)
+    "systemd-run": """while [ "$1" != {program} ]; do shift; done
+    if [ -e {folder}/unit ]; then echo "the unit is there already" >&2; exit 1; fi
+    if [ -e {folder}/no_room ]; then exit 1; fi
+    wait=$(cat {folder}/slow 2>/dev/null || echo 0)
+    setsid sh -c 'sleep "$0"; exec "$@"' "$wait" "$@" & pid=$!; echo $pid >{folder}/unit; wait $pid
+    status=$?; if [ "$(cat {folder}/unit 2>/dev/null)" = $pid ]; then rm {folder}/unit; fi; (exit $status)""",
+    "systemctl": """case "$1 $2" in
+    "start mailquota") touch {folder}/server ;;
+    "stop mailquota") rm -f {folder}/server ;;
+    stop*) if [ -e {folder}/unit ]; then kill "$(cat {folder}/unit)"; rm {folder}/unit; fi ;;
+    show*) echo not-found ;;
     esac""",
+    # the address is here until keepalived has seen the script's file so many times
+    "ip": """if [ -e {folder}/away ] && [ "$(grep -c ^ip {folder}/calls)" -gt 3 ]; then rm -f {folder}/address; fi
+    if [ -e {folder}/address ]; then echo "2: eth0 inet 192.0.2.7/24"; fi""",
+    "flock": """flock "$@" """,
     "rm": """rm "$@" """,
     "mv": """mv "$@" """,
+    "sleep": """sleep 0.05""",
     "sync": ":",
 }
+# The calls of a whole run, by their first words.
+CALLS = [
+    "flock", "systemctl stop mailquota-forgetting.service", "systemctl show", "systemctl stop mailquota", "rm", "systemd-run", "rm", "sync", "mv", "mv", "mv", "sync",
+    "systemctl stop mailquota-forgetting.service", "systemctl show", "rm", "systemctl start mailquota", "rm",
+]
 
 
 class Night:
@@ -580,9 +597,11 @@ class Night:
         self.words = [ledger_settings(world, self.ledger, default=50), self.ledger, "2"]
         with open(SCRIPT, encoding="ascii") as file:
             text = file.read()
-        assert text.count("/usr/local/sbin/mailquota ") == 1
+        for path, its in (("/usr/local/sbin/mailquota\n", f"{world.program}\n"), ("/run/mailquota-away\n", f"{self.folder}/away\n")):
+            assert text.count(path) == 1
+            text = text.replace(path, its)
         with open(f"{self.folder}/script", "w", encoding="ascii") as file:
-            file.write(text.replace("/usr/local/sbin/mailquota ", f"{world.program} "))
+            file.write(text)
         for name, does in DOES.items():
             with open(f"{self.folder}/bin/{name}", "w", encoding="ascii") as file:
                 file.write(STUB.format(folder=self.folder, path=os.environ["PATH"], does=does.format(folder=self.folder, program=world.program)))
@@ -596,15 +615,24 @@ class Night:
     def has(self, name):
         return os.path.exists(f"{self.folder}/{name}")
 
-    def run(self, stop_at=0):
-        """The status of the script, which is killed after so many calls, and what it called."""
+    def start(self, stop_at=0):
+        """The script, which is killed after so many calls."""
         self.touch("calls")
         with open(f"{self.folder}/stop_at", "w", encoding="ascii") as file:
             file.write(str(stop_at))
         path = f"{self.folder}/bin{os.pathsep}{os.environ['PATH']}"
-        run = subprocess.run(["sh", f"{self.folder}/script", *self.words], env={**os.environ, "PATH": path}, stdin=subprocess.DEVNULL, capture_output=True)
+        # (its number is there before it calls anything)
+        words = ["sh", "-c", 'echo $$ >"$0"; exec sh "$@"', f"{self.folder}/pid", f"{self.folder}/script", *self.words]
+        return subprocess.Popen(words, env={**os.environ, "PATH": path}, stdin=subprocess.DEVNULL, stdout=subprocess.PIPE, stderr=subprocess.PIPE, text=True)
+
+    def end(self, process):
+        """Its status, what it called, and what it said."""
+        errors = process.communicate(timeout=SECONDS)[1]
         with open(f"{self.folder}/calls", encoding="ascii") as calls:
-            return run.returncode, calls.read().splitlines(), run.stderr.decode()
+            return process.returncode, calls.read().splitlines(), errors
+
+    def run(self, stop_at=0):
+        return self.end(self.start(stop_at))
 
 
 def a_night(world, checks):
@@ -632,13 +660,12 @@ def a_night(world, checks):
     checks.equal("the script of a night: the old one", rows_of(f"{night.ledger}.old"), books.rows())
     left = sorted(it for it in os.listdir(night.folder) if it.startswith("ledger") and not it.endswith(("read", "read-wal")))
     checks.equal("the script of a night: what is there", left, ["ledger", "ledger.old", "ledger.old-wal"])
-    checks.equal("the script of a night: what it calls", [line.split()[0] for line in calls], ["systemd-run", "systemctl", "rm", "systemd-run", "rm", "sync", "mv", "mv", "mv", "sync", "systemctl"])
+    checks.equal("the script of a night: what it calls", [line for line, call in zip(calls, CALLS) if not line.startswith(call)] + [len(calls)], [len(CALLS)])
     wrong = []
     for stop_at in range(1, len(calls) + 1):
         night = Night(world, f"night{stop_at}", source)
         status, _, _ = night.run(stop_at)
-        # (in `$(..)` a shell of its own is killed, and the script ends with that)
-        stopped = status in (-signal.SIGKILL, 128 + signal.SIGKILL) and rows_that_stand(night) in (books.rows(), again.rows())
+        stopped = status == -signal.SIGKILL and rows_that_stand(night) in (books.rows(), again.rows())
         status, _, errors = night.run()
         if not stopped or status or not night.has("server") or rows_of(night.ledger) != again.rows() or audit(world, night.ledger, default=50) != sound(again):
             wrong.append((stop_at, calls[stop_at - 1], status, errors))
@@ -659,6 +686,66 @@ def a_night(world, checks):
     night.words[2:] = ["two"]
     wanted = 2, [], "mailquota-forget: DAYS is no number: two\n"
     checks.equal("the script with days that are no number: nothing is called, and the server runs", (night.run(), night.has("server")), (wanted, True))
+    an_interrupted_night(world, checks, source, books, again)
+    a_night_of_two_servers(world, checks, source, again)
+
+
+def an_interrupted_night(world, checks, source, books, again):
+    """A script that ends while `forget` runs, and one that meets another."""
+    def while_forgetting(name):
+        night = Night(world, name, source)
+        with open(f"{night.folder}/slow", "w", encoding="ascii") as file:
+            file.write("60")
+        process = night.start()
+        wait_until(lambda: night.has("unit") and os.path.getsize(f"{night.folder}/unit"))
+        with open(f"{night.folder}/unit", encoding="ascii") as unit:
+            return night, process, int(unit.read())
+
+    def runs(pid):
+        return os.path.exists(f"/proc/{pid}") and state_of_number(pid) != "Z"
+
+    for number in (signal.SIGTERM, signal.SIGINT, signal.SIGHUP):
+        what = f"the script of a night, ended by {signal.Signals(number).name}"
+        night, process, unit = while_forgetting(f"night-{number}")
+        process.send_signal(number)
+        status, _, _ = night.end(process)
+        checks.equal(f"{what}: status, the server runs, forget doesn't", (status, night.has("server"), runs(unit)), (128 + number, True, False))
+        checks.equal(f"{what}: the ledger, and no new one", (rows_in(night.ledger, books.rows()), night.has("ledger.new")), (books.rows(), False))
+    night, process, unit = while_forgetting("night-killed")
+    second = night.start()
+    came = night.end(second)
+    checks.equal("a second script while one runs: status and what it says", (came[0], came[2]), (1, "mailquota-forget: another one runs\n"))
+    process.kill()
+    process.wait()
+    checks.equal("a script that was killed: forget runs on, and the server doesn't", (runs(unit), night.has("server")), (True, False))
+    os.remove(f"{night.folder}/slow")
+    status, _, errors = night.run()
+    checks.equal("and run again at once: status, the server runs, the first forget doesn't", (status, night.has("server"), runs(unit), errors), (0, True, False, ""))
+    checks.equal("and run again at once: the ledger", rows_in(night.ledger, again.rows()), again.rows())
+
+
+def a_night_of_two_servers(world, checks, source, again):
+    """The address moves before the server is stopped; where it is at the other server already, nothing waits."""
+    night = Night(world, "night-moves", source)
+    night.words.append("192.0.2.7")
+    night.touch("address")
+    status, calls, errors = night.run()
+    stops = calls.index("systemctl stop mailquota")
+    asked = [place for place, line in enumerate(calls) if line.startswith("ip ")]
+    checks.equal("a night with a second server: status, and what it says", (status, errors), (0, ""))
+    checks.holds("a night with a second server: it waits for the address before it stops its server", len(asked) > 3 and asked[-1] < stops, "so", calls)
+    checks.equal("a night with a second server: nothing keeps the address away then", (night.has("away"), night.has("server")), (False, True))
+    checks.equal("a night with a second server: the ledger", rows_in(night.ledger, again.rows()), again.rows())
+    night = Night(world, "night-elsewhere", source)
+    night.words.append("192.0.2.7")
+    status, calls, _ = night.run()
+    checks.equal("a night with the address elsewhere: status, and how often it is asked for", (status, sum(line.startswith("ip ") for line in calls)), (0, 1))
+
+
+def state_of_number(pid):
+    """A process's state by its number, by proc(5)."""
+    with open(f"/proc/{pid}/stat", encoding="ascii") as stat:
+        return stat.read().rpartition(") ")[2].split()[0]
 
 
 def of_a_week(now):
