@@ -57,13 +57,16 @@ install:
 	install -d $(DESTDIR)$(SBINDIR) $(DESTDIR)$(LIBEXECDIR) $(DESTDIR)$(MANDIR)/man5 $(DESTDIR)$(MANDIR)/man8
 	install -d $(DESTDIR)$(EXAMPLEDIR) $(DESTDIR)$(DOCDIR)
 	install -m 755 $(PROGRAM) $(DESTDIR)$(SBINDIR)/mailquota
-	sed -e 's#/usr/local/sbin#$(SBINDIR)#g' contrib/mailquota-forget >$(DESTDIR)$(SBINDIR)/mailquota-forget
-	chmod 755 $(DESTDIR)$(SBINDIR)/mailquota-forget
-	install -m 755 contrib/one-spelling $(DESTDIR)$(LIBEXECDIR)/one-spelling
+	for file in mailquota-forget mailquota-backup; do \
+		sed -e 's#/usr/local/sbin#$(SBINDIR)#g' contrib/$$file >$(DESTDIR)$(SBINDIR)/$$file && chmod 755 $(DESTDIR)$(SBINDIR)/$$file || exit 1; \
+	done
+	for file in one-spelling await-server keepalived-check; do \
+		sed -e 's#/usr/local/sbin#$(SBINDIR)#g' contrib/$$file >$(DESTDIR)$(LIBEXECDIR)/$$file && chmod 755 $(DESTDIR)$(LIBEXECDIR)/$$file || exit 1; \
+	done
 	install -m 644 man/mailquota.8 $(DESTDIR)$(MANDIR)/man8/mailquota.8
 	install -m 644 man/mailquota.toml.5 $(DESTDIR)$(MANDIR)/man5/mailquota.toml.5
 	install -m 644 contrib/filter.toml contrib/server.toml contrib/nftables.conf $(DESTDIR)$(EXAMPLEDIR)
-	for file in smtpd.conf mailquota.service smtpd-restart.conf mailquota-forget.service mailquota-forget.timer; do \
+	for file in smtpd.conf mailquota.service smtpd-restart.conf mailquota-forget.service mailquota-forget.timer keepalived-first.conf keepalived-second.conf; do \
 		sed -e 's#/usr/local/libexec/mailquota#$(LIBEXECDIR)#g' -e 's#/usr/local/sbin#$(SBINDIR)#g' contrib/$$file \
 			>$(DESTDIR)$(EXAMPLEDIR)/$$file && chmod 644 $(DESTDIR)$(EXAMPLEDIR)/$$file || exit 1; \
 	done
