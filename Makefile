@@ -12,7 +12,7 @@ MANDIR = $(PREFIX)/share/man
 EXAMPLEDIR = $(PREFIX)/share/examples/mailquota
 DOCDIR = $(PREFIX)/share/doc/mailquota
 
-.PHONY: all build demo try check edits program-tests refusals smtpd install clean
+.PHONY: all build demo try check edits bodies program-tests refusals smtpd install clean
 
 all: build
 
@@ -36,6 +36,10 @@ check:
 # The further must-fail edits, which the gate leaves out for its time.
 edits:
 	@RT=$(RT) python3 gate/run.py further
+
+# Wrong bodies that no contract refuses, each over the case or test that is to fail, in builds without proofs; ONLY=NAME one of them, or a crate's.
+bodies:
+	@RT=$(RT) python3 scripts/bodies.py $(ONLY)
 
 # The program over loopback, as peers, smtpd and administrators use it: Python 3 alone, a minute or two.
 program-tests:

@@ -35,9 +35,9 @@ def build():
     """Builds the program; gives whether that went well."""
     os.makedirs(os.path.dirname(BINARY), exist_ok=True)
     begun = time.monotonic()
-    built = unproved.build(PROGRAM, TOP, f"{BINARY}.new")
-    if built.returncode:
-        print(built.stdout, end="", file=sys.stderr)
+    said = unproved.build(PROGRAM, TOP, f"{BINARY}.new")
+    if said is not None:
+        print(said, end="", file=sys.stderr)
         return False
     os.replace(f"{BINARY}.new", BINARY)
     print(f"built {os.path.relpath(BINARY, TOP)} in {time.monotonic() - begun:.0f} s", flush=True)

@@ -1,0 +1,351 @@
+#!/usr/bin/env python3
+"""Runs the planted bodies: wrong bodies of functions that no contract refuses, each with the case or the test that is to fail over it.
+
+usage: bodies.py [NAME ..]     all, or those of these crates and names
+
+A body is a file tests/bodies/CRATE/NAME.edit, written as a must-fail edit, or a must-fail edit itself, with a line 'case: GROUP: NAME' for a case of
+tests/program that begins so, or 'case: CRATE: TEST' for a test of mq_ends_tests or mq_store_tests. With several such lines each is to fail.
+
+All bodies stand in one program, which is built without proofs, each with a number: a function runs the body whose number PLANTED in the environment
+is, and else its own. So one build serves all, and each is tried alone. A body that changes more than functions has a build of its own. What is to
+fail has to pass in the same build without a body. RT_JOBS in the environment says how many builds and runs there are at once, by default two.
+The last line is 'N passed, M failed', and the status 1 where any failed.
+"""
+import collections
+import contextlib
+import hashlib
+import os
+import re
+import shutil
+import signal
+import subprocess
+import sys
+import tempfile
+import threading
+import zlib
+from concurrent.futures import ThreadPoolExecutor
+
+sys.dont_write_bytecode = True
+
+import unproved
+from kit import KIT, RT, rows_of
+
+TOP = os.path.dirname(os.path.dirname(os.path.realpath(__file__)))
+sys.path.append(f"{TOP}/gate")
+
+import source
+from edit import BadEdit, Edit, edits_in
+
+PROGRAM, TESTS = "mailquota", ("mq_ends_tests", "mq_store_tests")
+# So many seconds a run has: one that waits for what doesn't come takes minutes.
+LONGEST = 10 * 60
+# What a run comes to that doesn't end, or ends in an exception.
+END = "it comes to its end"
+# The crate that says which body runs.
+SWITCH = "planted"
+SWITCH_TEXT = """//! Which planted body runs.
+
+unsafe extern "C" {
+    safe fn planted_body() -> i32;
+}
+
+/// Whether it is this one.
+pub fn is(number: i32) -> bool {
+    planted_body() == number
+}
+"""
+SWITCH_IN_C = """
+char *getenv(const char *);
+int atoi(const char *);
+int planted_body(void) {
+    static int body = -1;
+    if (body < 0) {
+        const char *said = getenv("PLANTED");
+        body = said ? atoi(said) : 0;
+    }
+    return body;
+}
+"""
+
+
+class Body:
+    """A wrong body: what it changes, what is to fail over it, its number, and why it can't be built, if it can't."""
+
+    def __init__(self, crate, file):
+        self.crate, self.name = crate, os.path.basename(file)[:-len(".edit")]
+        # (whatever other bodies there are)
+        self.number = 1 + (zlib.crc32(f"{self.crate} {self.name}".encode()) >> 1)
+        self.cases, self.pairs, self.why = cases_in(file), [], None
+        try:
+            self.pairs = [it for it in Edit(file, f"{TOP}/crates/{crate}").pairs if it[0].startswith("src/")]
+        except BadEdit as bad:
+            self.why = str(bad)
+        # the functions that it changes, by file, each with its new body; none where it changes more
+        self.functions = None if self.why else functions_of(self)
+
+    def targets(self):
+        """What is to be built for it."""
+        return {target_of(group) for group, _ in self.cases}
+
+
+def cases_in(file):
+    """What is to fail: groups of tests/program or crates of tests, each with the beginning of a case or a test."""
+    with open(file, encoding="utf-8") as lines:
+        said = [line[len("case:"):].strip().partition(": ") for line in lines if line.startswith("case:")]
+    return [(group, name) for group, _, name in said]
+
+
+def target_of(group):
+    return group if group in TESTS else PROGRAM
+
+
+def all_bodies():
+    found = []
+    for crate in rows_of(TOP):
+        for place, is_own in ((f"{TOP}/tests/bodies/{crate}", True), (f"{TOP}/crates/{crate}/must-fail", False)):
+            files = [f"{place}/{it}" for it in edits_in(place)[0]]
+            found += [(crate, it) for it in files if is_own or cases_in(it)]
+    return [Body(crate, file) for crate, file in found]
+
+
+def text_of(file):
+    with open(file, encoding="utf-8") as it:
+        return it.read()
+
+
+def write(file, text):
+    with open(file, "w", encoding="utf-8") as it:
+        it.write(text)
+
+
+def functions_of(body):
+    """The functions that a body changes, by file, each with the new text between its braces; None where it changes more than these."""
+    found = collections.defaultdict(dict)
+    for path, old, new in body.pairs:
+        text = text_of(f"{TOP}/crates/{body.crate}/{path}")
+        at = text.find(old)
+        around = [it for it in source.functions(text) if it.body <= at and at + len(old) <= it.ends]
+        if at < 0 or not around:
+            return None
+        function = max(around)
+        if re.search(r"\bconst\s+fn\b", text[function.begins:function.body]):
+            return None
+        was = found[path].get(function, text[function.body:function.ends])
+        found[path][function] = was.replace(old, new)
+    return found
+
+
+def copy_sources(root):
+    shutil.copy(f"{TOP}/crates.txt", root)
+    shutil.copytree(f"{TOP}/crates", f"{root}/crates", ignore=shutil.ignore_patterns("out", "must-fail", "proofs", "specs"))
+
+
+def plant(root, planted):
+    """Puts bodies into a copy of the sources, each with its number; returns from which line to which each stands, by file."""
+    by_file, places = collections.defaultdict(lambda: collections.defaultdict(list)), []
+    for body in planted:
+        for path, functions in body.functions.items():
+            for function, text in functions.items():
+                by_file[f"crates/{body.crate}/{path}"][function].append((body, text))
+    for file, functions in by_file.items():
+        text, made, last = text_of(f"{TOP}/{file}"), "", 0
+        for function, its in sorted(functions.items(), key=lambda it: it[0]):
+            made += text[last:function.body] + "{ "
+            for body, changed in its:
+                first = made.count("\n") + 1
+                made += f"if {SWITCH}::is({body.number}) {changed} else "
+                places.append((file, first, made.count("\n") + 1, body))
+            made += text[function.body:function.ends] + " }"
+            last = function.ends
+        write(f"{root}/{file}", made + text[last:])
+    return places
+
+
+def add_switch(root):
+    """Adds the crate that says which body runs, and lets each crate call it; returns its part in C."""
+    rows = rows_of(root)
+    os.makedirs(f"{root}/crates/{SWITCH}/src")
+    write(f"{root}/crates/{SWITCH}/src/lib.rt", SWITCH_TEXT)
+    write(f"{root}/crates.txt", "".join(f"{name}: {' '.join([SWITCH, *uses])}\n" for name, uses in rows.items()) + f"{SWITCH}:\n")
+    write(f"{root}/switch.c", SWITCH_IN_C)
+    clang = [f"{unproved.TOOLS}/bin/clang", "--target=x86_64-unknown-linux-gnu", "-fPIE", "-O1", "-c"]
+    subprocess.run([*clang, f"{root}/switch.c", "-o", f"{root}/switch.o"], check=True)
+    return f"{root}/switch.o"
+
+
+def sum_of(root):
+    """A sum of all that a build below a folder reads."""
+    total = hashlib.sha256(subprocess.run([RT, "version"], stdin=subprocess.DEVNULL, capture_output=True, check=True).stdout)
+    for at, folders, names in os.walk(root):
+        folders.sort()
+        for it in (it for it in sorted(names) if not it.endswith(".o")):
+            total.update(f"{os.path.relpath(at, root)}/{it}\n{text_of(f'{at}/{it}')}".encode())
+    total.update(text_of(unproved.__file__).encode())
+    return total.hexdigest()
+
+
+def built(target, planted):
+    """The program or the tests with these bodies, each with its number. Those that don't compile are left out, and say so. What is built is kept."""
+    kept = f"{TOP}/crates/{target}/out/bodies/{target}"
+    os.makedirs(os.path.dirname(kept), exist_ok=True)
+    while True:
+        with tempfile.TemporaryDirectory(prefix="bodies-") as root:
+            copy_sources(root)
+            places = plant(root, [it for it in planted if not it.why])
+            switch, total = add_switch(root), None
+            total = sum_of(root)
+            if os.path.exists(f"{kept}.sum") and text_of(f"{kept}.sum") == total:
+                return kept
+            with contextlib.suppress(FileNotFoundError):
+                os.remove(f"{kept}.sum")
+            said = unproved.build(target, root, kept, [switch])
+        if said is None:
+            write(f"{kept}.sum", total)
+            return kept
+        if not blame(said, places):
+            raise SystemExit(f"{target} with the bodies can't be built:\n{said}")
+
+
+def blame(said, places):
+    """Says of the bodies at whose lines a compiler finds errors that they can't be built; returns whether there are any."""
+    errors = re.findall(r"([\w./-]+\.rt):(\d+)", said)
+    found = [body for file, first, last, body in places for at, line in errors if at.endswith(file.partition("/")[2]) and first <= int(line) <= last]
+    for body in found:
+        body.why = said.strip()
+    return bool(found)
+
+
+def built_alone(target, body, root):
+    """The program or the tests with this body in place of what it changes; where it doesn't compile, it says so."""
+    copy_sources(root)
+    for path, old, new in body.pairs:
+        write(f"{root}/crates/{body.crate}/{path}", text_of(f"{root}/crates/{body.crate}/{path}").replace(old, new))
+    body.why = unproved.build(target, root, f"{root}/{target}")
+    return f"{root}/{target}"
+
+
+def end(process):
+    """Ends a run with all that it started."""
+    if process.poll() is None:
+        process.terminate()
+        with contextlib.suppress(subprocess.TimeoutExpired):
+            process.wait(20)
+    with contextlib.suppress(ProcessLookupError):
+        os.killpg(process.pid, signal.SIGKILL)
+
+
+def outcomes(words, number, is_enough=lambda failed: False):
+    """What the cases or tests of a run came to with the body of this number, passed or failed, until those that failed are enough."""
+    passed, failed, late = [], [], threading.Event()
+    environment = {**os.environ, "PLANTED": str(number), "PYTHONUNBUFFERED": "1"}
+    with subprocess.Popen(words, env=environment, stdin=subprocess.DEVNULL, stdout=subprocess.PIPE, stderr=subprocess.STDOUT, text=True,
+                          errors="replace", start_new_session=True) as process:
+        timer = threading.Timer(LONGEST, lambda: (late.set(), end(process)))
+        timer.start()
+        try:
+            for line in process.stdout:
+                is_good, name = outcome(line.rstrip("\n"))
+                if name:
+                    (passed if is_good else failed).append(name)
+                    if not is_good and is_enough(failed):
+                        break
+        finally:
+            timer.cancel()
+            end(process)
+    return passed, failed + [END] * late.is_set()
+
+
+def outcome(line):
+    """Whether the case or test of a line passed, and its name, which is empty where the line has none."""
+    if line.startswith(("ok  ", "NOT ")):
+        name = line[4:]
+        return line.startswith("ok"), END if f": {END}: " in name else name
+    test = re.fullmatch(r"test (\S+) \.\.\. (\w+).*", line)
+    return (test[2] == "ok", test[1].rpartition("::")[2]) if test else (False, "")
+
+
+def words_of(group, program, name=None):
+    """The words that run a group of cases, or a crate's tests with a name."""
+    if target_of(group) == PROGRAM:
+        return [sys.executable, f"{TOP}/tests/program/run.py", "--group", group, program]
+    return [f"{KIT}/bin/rattle-test", "--seconds", str(LONGEST), *(["--filter", name] if name else []), program]
+
+
+def unseen(body, programs, without):
+    """Of what is to fail over a body, what doesn't."""
+    found = []
+    for group, name in body.cases:
+        good, bad = without[group, name]
+        if bad or not good and name != END:
+            found.append(f"{group}: {name} (without the body: {'it fails' if bad else 'there is no such case'})")
+            continue
+        begins = lambda failed: any(it.startswith(name) for it in failed)
+        failed = outcomes(words_of(group, programs[target_of(group)], name), body.number, begins)[1]
+        if not begins(failed):
+            found.append(f"{group}: {name}" + (f" (others fail: {'; '.join(it[:100] for it in failed[:3])})" if failed else ""))
+    return found
+
+
+def tell(body, missed):
+    """Prints what became of a body; returns whether it failed as it must."""
+    if body.why:
+        print(f"COULD NOT BE BUILT {body.crate}: {body.name}: {body.why}", flush=True)
+    elif missed:
+        print(f"NOT SEEN {body.crate}: {body.name}: {'; '.join(missed)}", flush=True)
+    else:
+        print(f"failed as it must: {body.crate}: {body.name}: {'; '.join(': '.join(it) for it in body.cases)}", flush=True)
+    return not body.why and not missed
+
+
+def tried_alone(body, without):
+    """What isn't seen of a body that has builds of its own."""
+    with tempfile.TemporaryDirectory(prefix="body-") as root:
+        programs = {}
+        for target in body.targets():
+            os.makedirs(f"{root}/{target}")
+            programs[target] = built_alone(target, body, f"{root}/{target}")
+            if body.why:
+                return []
+        return unseen(body, programs, without)
+
+
+def results_without(bodies, programs, pool):
+    """Of each case that is to fail, how many so named pass, and how many fail, without a body."""
+    wanted = {(group, name if target_of(group) != PROGRAM else None) for body in bodies for group, name in body.cases}
+    runs = {it: pool.submit(outcomes, words_of(it[0], programs[target_of(it[0])], it[1]), 0) for it in wanted}
+    found = {}
+    for group, name in {it for body in bodies for it in body.cases}:
+        passed, failed = runs[group, name if target_of(group) != PROGRAM else None].result()
+        found[group, name] = [sum(it.startswith(name) for it in its) for its in (passed, failed)]
+    return found
+
+
+def main(words):
+    everything = all_bodies()
+    asked = [it for it in everything if not words or it.crate in words or it.name in words]
+    unknown = [it for it in words if it not in {name for body in everything for name in (body.crate, body.name)}]
+    if unknown:
+        print(f"no crate and no body has this name: {', '.join(unknown)}", file=sys.stderr)
+        return 2
+    with ThreadPoolExecutor(int(os.environ.get("RT_JOBS", 2))) as pool:
+        targets = sorted({it for body in asked for it in body.targets()})
+        # (all stand in the builds, so that these serve the next run too)
+        shared = [it for it in everything if it.functions is not None]
+        building = {it: pool.submit(built, it, [body for body in shared if it in body.targets()]) for it in targets}
+        programs = {target: it.result() for target, it in building.items()}
+        without = results_without(asked, programs, pool)
+        running = []
+        for body in asked:
+            if body.why:
+                running.append(None)
+            elif body.functions is None:
+                running.append(pool.submit(tried_alone, body, without))
+            else:
+                running.append(pool.submit(unseen, body, programs, without))
+        good = [tell(body, it.result() if it else []) for body, it in zip(asked, running)]
+    print(f"{sum(good)} passed, {len(good) - sum(good)} failed")
+    return 0 if all(good) and good else 1
+
+
+if __name__ == "__main__":
+    sys.exit(main(sys.argv[1:]))
