@@ -134,10 +134,15 @@ def words_for(name, rows, jobs):
     return [*words, "--statements", "-o", rlib(name)]
 
 
+def tell(line):
+    # (in one call, since other crates have their lines at the same time)
+    print(line + "\n", end="", flush=True)
+
+
 def prove(name, jobs):
     """Proves and compiles a crate. Where that fails, it says why, and ends the whole build."""
     rows, begun = rows_of(TOP), time.monotonic()
-    print(f"{name}: begun", flush=True)
+    tell(f"{name}: begun")
     with open(f"{folder(name)}/out/build.log", "wb") as log:
         run = lambda words: subprocess.run(words, cwd=folder(name), stdin=subprocess.DEVNULL, stdout=log, stderr=log).returncode
         status = run(words_for(name, rows, jobs))
@@ -153,7 +158,7 @@ def prove(name, jobs):
         print(f"{name}: the build ended with status {status}; the end of crates/{name}/out/build.log:", *said, sep="\n", file=sys.stderr, flush=True)
         os.killpg(0, signal.SIGKILL)
     with open(stamp(name), "w", encoding="utf-8"):
-        print(f"{name}: done in {time.monotonic() - begun:.0f} s", flush=True)
+        tell(f"{name}: done in {time.monotonic() - begun:.0f} s")
 
 
 def build(rows, known):
