@@ -12,7 +12,7 @@ MANDIR = $(PREFIX)/share/man
 EXAMPLEDIR = $(PREFIX)/share/examples/mailquota
 DOCDIR = $(PREFIX)/share/doc/mailquota
 
-.PHONY: all build demo try check edits bodies program-tests refusals smtpd install clean
+.PHONY: all build demo try check edits bodies program-tests refusals smtpd takeover install clean
 
 all: build
 
@@ -55,6 +55,11 @@ refusals:
 smtpd:
 	@test -x $(PROGRAM) || { echo "run 'make build' first" >&2; exit 1; }
 	@bash tests/smtpd/run.sh $(PROGRAM)
+
+# Two quota servers and two mail hosts in namespaces, with real smtpds and keepalived: wants what smtpd wants, and takes twenty minutes.
+takeover:
+	@test -x $(PROGRAM) || { echo "run 'make build' first" >&2; exit 1; }
+	@bash tests/takeover/run.sh $(PROGRAM)
 
 install:
 	@test -x $(PROGRAM) || { echo "run 'make build' first" >&2; exit 1; }

@@ -4,48 +4,16 @@
 #
 # usage: run.sh PROGRAM [SCRIPT [WORDS..]]
 #
-# Wants root, debootstrap, openssl, ip and python3, and once the mirror of Debian that the machine's own package list
-# names: OpenSMTPD 7.6 speaks protocol 0.7, and what older suites have doesn't. It is kept in SMTPD_ROOT (/var/tmp/mailquota-smtpd). Nothing outside that folder
-# is changed, no address but the loopback of a network namespace of its own is used, and all processes end with it.
+# root.sh says what it wants. No address but the loopback of a network namespace of its own is used, and all processes end with it.
 set -euo pipefail
 
 here=$(cd "$(dirname "$0")" && pwd)
 program=$(realpath "$1")
 script=${2:-$here/ask.py}
 shift $(($# < 2 ? $# : 2))
-root=${SMTPD_ROOT:-/var/tmp/mailquota-smtpd}
-mirror=$(cat /etc/apt/sources.list /etc/apt/sources.list.d/* 2>/dev/null | grep -v '^#' |
-    grep -oE 'https?://[^ ]+/debian/?' | head -n 1 || true)
-
-if [ "$(id -u)" -ne 0 ]; then
-    echo 'run.sh: smtpd wants root' >&2
-    exit 1
-fi
-if [ ! -x "$root/usr/sbin/smtpd" ]; then
-    if [ -z "$mirror" ]; then
-        echo "run.sh: the machine's package list names no mirror of Debian, so there is no smtpd to fetch" >&2
-        exit 1
-    fi
-    rm -rf "$root"
-    debootstrap --variant=minbase --include=opensmtpd,ca-certificates trixie "$root" "$mirror" >&2
-fi
-
-etc=$root/etc/mailquota
-mkdir -p "$etc"
-printf '#!/bin/sh\nexit 101\n' >"$root/usr/sbin/policy-rc.d"
-chmod +x "$root/usr/sbin/policy-rc.d"
-: >"$root/etc/resolv.conf"
-echo quota.test >"$root/etc/mailname"
-make -s -C "$here/../.." install PROGRAM="$program" DESTDIR="$root" PREFIX=/usr/local
-[ -f "$etc/key.pem" ] || openssl req -x509 -newkey rsa:2048 -nodes -days 3650 -subj /CN=quota.test \
-    -keyout "$etc/key.pem" -out "$etc/cert.pem" 2>/dev/null
-chmod 600 "$etc/key.pem"
-: >"$etc/credentials"
-secret=$(openssl passwd -6 secret)
-for login in u01 u02 u03 u04 u05 u06 u07 u08 u09; do
-    printf '%s %s\n' "$login" "$secret" >>"$etc/credentials"
-done
-chmod 644 "$etc/credentials"
+. "$here/root.sh"
+make_root "$here/../.." "$program"
+make_logins u01 u02 u03 u04 u05 u06 u07 u08 u09
 for host in 1 2 3; do
     cat >"$etc/filter$host.toml" <<FILTER
 host = "mx$host.quota.test"
@@ -82,15 +50,10 @@ match from any for any action "sink"
 CONF
 
 # contrib's files where they say that they belong, and unchanged
-mkdir -p "$root/etc/mail" "$root/etc/ssl/private"
 install -m 644 "$here/../../contrib/smtpd.conf" "$root/etc/mail/smtpd.conf"
 install -m 644 "$here/../../contrib/filter.toml" "$root/etc/mail/mailquota.toml"
 install -m 644 "$here/../../contrib/server.toml" "$root/etc/mailquota.toml"
-install -m 644 "$etc/credentials" "$root/etc/mail/credentials"
-install -m 644 "$etc/cert.pem" "$root/etc/ssl/mx1.example.org.crt"
-install -m 600 "$etc/key.pem" "$root/etc/ssl/private/mx1.example.org.key"
 
-export SMTPD_ROOT=$root
 exec unshare --mount --net --pid --fork --kill-child --mount-proc bash -c '
     ip link set lo up
     ip address add 192.0.2.1/32 dev lo

@@ -1,0 +1,88 @@
+"""Sessions that send mail after mail, and what they were answered."""
+import random
+import smtplib
+import threading
+import time
+
+from host import session_at
+
+# seconds between two recipients of a session, after one that is answered 451, and after one that the limit refused
+PACE, AFTER_451, AFTER_FULL = 0.2, 0.5, 1.0
+
+
+class Sender(threading.Thread):
+    """A session of a login at a mail host: messages of one to five recipients, of which some are reset, and some cut off."""
+
+    def __init__(self, address, login, seed):
+        super().__init__(daemon=True)
+        self.address, self.login, self.dice = address, login, random.Random(seed)
+        self.is_over = False
+        # when a recipient was sent and answered, and the answer's code
+        self.answers = []
+        # recipients of messages that were sent
+        self.accepted = 0
+        self.unanswered = []
+
+    def run(self):
+        smtp = None
+        while not self.is_over:
+            try:
+                if smtp is None:
+                    smtp = session_at(587, self.login, self.address)
+                smtp = self.message(smtp)
+            except (OSError, smtplib.SMTPException) as error:
+                self.unanswered.append((time.monotonic(), repr(error)))
+                smtp = None
+                time.sleep(1)
+        if smtp:
+            smtp.quit()
+
+    def message(self, smtp):
+        """Sends a message; gives the session, if it goes on."""
+        self.answered(smtp.mail("a@quota.test")[0], 250)
+        granted = 0
+        for number in range(self.dice.randint(1, 5)):
+            time.sleep(PACE)
+            start = time.monotonic()
+            code, _ = smtp.rcpt(f"r{number}@example.test")
+            self.answers.append((start, time.monotonic(), code))
+            if code != 250:
+                self.answered(code, 451, 550)
+                break
+            granted += 1
+        if code != 250:
+            time.sleep(AFTER_FULL if code == 550 else AFTER_451)
+        end = self.dice.random()
+        if granted == 0 or end < 0.5:
+            self.answered(smtp.rset()[0], 250)
+        elif end < 0.9:
+            self.answered(smtp.data(b"Subject: hello\r\n\r\nhello\r\n")[0], 250)
+            self.accepted += granted
+        else:
+            smtp.close()
+            return None
+        return smtp
+
+    @staticmethod
+    def answered(code, *wanted):
+        if code not in wanted:
+            raise smtplib.SMTPException(f"an answer of {code}")
+
+
+def outages(senders):
+    """Of the senders at one mail host whose logins have room: from the last recipient let through before a 451 to the next one, when it began and how long it was."""
+    found, last, since = [], None, None
+    for _, at, code in sorted((answer for sender in senders for answer in sender.answers), key=lambda answer: answer[1]):
+        if code == 451 and since is None:
+            since = last if last is not None else at
+        elif code == 250:
+            if since is not None:
+                found.append((since, at - since))
+            last, since = at, None
+    if since is not None:
+        found.append((since, float("inf")))
+    return found
+
+
+def longest_wait(senders):
+    return max(end - start for sender in senders for start, end, _ in sender.answers)

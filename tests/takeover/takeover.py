@@ -1,0 +1,238 @@
+"""What mail sees while the first of two quota servers is killed, cut off, stopped for a forget, restarted, and comes back, in a random order.
+
+usage: takeover.py [ROUNDS [SEED]]
+
+Each happens ROUNDS times, 10 by default. Logins send all the while. Then each request of smtpd has an answer, recipients were answered 451 for as long
+as is said below at most, and for each login accepted recipients are at most the sum of both reports, and that at most the sum of both limits. The last
+line is 'N passed, M failed'.
+"""
+import os
+import random
+import re
+import signal
+import statistics
+import sys
+import time
+
+from machines import CONTRIB, PROGRAM, MailHost, QuotaServer, call, contrib, make_switch, wait_until
+from senders import Sender, longest_wait, outages
+
+# How long the first server answers before the address goes back to it: a minute in contrib.
+DELAY = 5
+# For how many seconds recipients may be answered 451, without `pause` in the filter's settings and with contrib's.
+LONGEST = {"kill": (5, 5), "cut": (5, 15), "forget": (2, 2), "restart": (3, 3), "return": (2, 2)}
+FIRST_DEFAULT, SECOND_DEFAULT, OWN_LIMIT, WIDE = 1_000, 100, 300, 1_000_000
+# Logins with room, at both servers; with the defaults; and with a limit of its own at the first server alone.
+WITH_ROOM, WITH_DEFAULT, WITH_OWN = ["u01", "u02", "u03", "u04"], ["u05", "u06"], ["u07"]
+LIMITS = {
+    **{login: 2 * WIDE for login in WITH_ROOM},
+    **{login: FIRST_DEFAULT + SECOND_DEFAULT for login in WITH_DEFAULT},
+    **{login: OWN_LIMIT + SECOND_DEFAULT for login in WITH_OWN},
+}
+
+
+class Checks:
+    def __init__(self):
+        self.passed = self.failed = 0
+
+    def holds(self, what, good, came):
+        self.passed, self.failed = self.passed + bool(good), self.failed + (not good)
+        print(f"{'ok ' if good else 'NOT'} {what}: {came}", flush=True)
+
+
+class Scene:
+    """The machines, and what happens to the first server."""
+
+    def __init__(self, checks, seed):
+        self.checks, self.dice = checks, random.Random(seed)
+        make_switch()
+        delay = ("preempt_delay 60", f"preempt_delay {DELAY}")
+        self.first = QuotaServer("first", "192.0.2.5", FIRST_DEFAULT, contrib("keepalived-first.conf", delay))
+        self.second = QuotaServer("second", "192.0.2.6", SECOND_DEFAULT, contrib("keepalived-second.conf"))
+        self.servers = [self.first, self.second]
+        self.wait("the first server has the address", self.is_at_first)
+        # (one filter has contrib's settings, and the other those without `pause`)
+        paused = re.findall(r"\npause = .*\n", (CONTRIB / "filter.toml").read_text())
+        self.hosts = [
+            MailHost("mx1", "192.0.2.1", "mx1.example.org"),
+            MailHost("mx2", "192.0.2.2", "mx2.example.org", *((line, "\n") for line in paused)),
+        ]
+        for login in [*WITH_ROOM, *WITH_OWN]:
+            for server in self.servers if login in WITH_ROOM else [self.first]:
+                cap = WIDE if login in WITH_ROOM else OWN_LIMIT
+                said = server.ask("limit", "--host", "admin", "--login", login, "--from", day(), "--cap", str(cap))
+                assert said == ("set", 0), said
+        for host in self.hosts:
+            self.wait(f"smtpd of {host.name} listens", lambda: call("bash", "-c", f": </dev/tcp/{host.address}/587", check=False).returncode == 0)
+        self.senders = {
+            host: [Sender(host.address, login, self.dice.random()) for login in [*WITH_ROOM, *WITH_DEFAULT, *WITH_OWN]] for host in self.hosts
+        }
+        # (what happened, when, and until when)
+        self.events = []
+
+    def wait(self, what, holds, seconds=60):
+        if not wait_until(holds, seconds):
+            self.checks.holds(f"within {seconds} s {what}", False, "it didn't happen")
+
+    def is_at_first(self):
+        return self.first.has_address() and not self.second.has_address() and self.first.answers()
+
+    def is_at_second(self):
+        return self.second.has_address() and self.second.answers()
+
+    def play(self, rounds):
+        order = [self.kill, self.cut, self.forget, self.restart] * rounds
+        self.dice.shuffle(order)
+        for sender in self.all_senders():
+            sender.start()
+        time.sleep(3)
+        for number, event in enumerate(order, 1):
+            start = time.monotonic()
+            event()
+            print(f"    {number} of {len(order)}: {event.__name__}, {time.monotonic() - start:.0f} s", flush=True)
+        for sender in self.all_senders():
+            sender.is_over = True
+        for sender in self.all_senders():
+            sender.join(timeout=60)
+
+    def all_senders(self):
+        return [sender for senders in self.senders.values() for sender in senders]
+
+    def note(self, what, start):
+        """What began then has its end, once recipients go through and no answer to an earlier one is under way."""
+        time.sleep(self.dice.uniform(4, 6))
+        self.events.append((what, start, time.monotonic()))
+
+    def back(self, undo):
+        start = time.monotonic()
+        undo()
+        self.wait("the address is back at the first server", self.is_at_first)
+        self.note("return", start)
+
+    def away(self, what, do):
+        start = time.monotonic()
+        do()
+        self.wait("the second server has the address", self.is_at_second)
+        # (longer than the example's `pause`)
+        time.sleep(10)
+        self.note(what, start)
+
+    def kill(self):
+        self.away("kill", lambda: self.first.end(signal.SIGKILL))
+        self.back(self.first.want)
+
+    def cut(self):
+        """Its cable is cut, which it notices; or the switch passes nothing on, which it doesn't."""
+        if self.dice.random() < 0.5:
+            self.away("cut", lambda: call("ip", "link", "set", "first", "down"))
+            self.back(lambda: call("ip", "link", "set", "first", "up"))
+        else:
+            self.away("cut", lambda: call("bridge", "link", "set", "dev", "first", "state", "0"))
+            self.back(lambda: call("bridge", "link", "set", "dev", "first", "state", "3"))
+
+    def forget(self):
+        """The script of a night: the address moves before the server is stopped."""
+        start = time.monotonic()
+        said, status = self.first.forget()
+        moved = self.is_at_second() and not self.first.has_address()
+        self.checks.holds("a forget, after the address has moved", status == 0 and moved and said.startswith("kept answers="), said.splitlines()[0])
+        self.note("forget", start)
+        self.back(lambda: None)
+
+    def restart(self):
+        """Its unit starts it again after a second: three checks in a row don't fail, unless the start itself takes long."""
+        start = time.monotonic()
+        os.kill(self.first.pid(), signal.SIGTERM)
+        time.sleep(0.5)
+        self.wait("the first server answers", self.first.answers)
+        took = time.monotonic() - start
+        self.note("restart", start)
+        if took < 2:
+            self.checks.holds("a restart moves nothing", self.is_at_first(), f"{took:.1f} s without an answer")
+        else:
+            print(f"--  a restart moves nothing: not tried, it took {took:.1f} s", flush=True)
+            self.wait("the address is back at the first server", self.is_at_first)
+
+
+def day():
+    return str(int(time.time()) // 86_400)
+
+
+def usage(servers, login):
+    """What is settled and reserved at each of these."""
+    return [sum(map(int, server.ask("report", "--day", day(), "--login", login)[0].split()[:2])) for server in servers]
+
+
+def tell_outages(scene):
+    for place, (host, settings) in enumerate(zip(scene.hosts, ("contrib's settings", "the same without `pause`"))):
+        found = outages([sender for sender in scene.senders[host] if sender.login in WITH_ROOM])
+        for what, longest in LONGEST.items():
+            windows = [(start, end) for it, start, end in scene.events if it == what]
+            lasted = [max([took for since, took in found if since < end and since + took > start], default=0) for start, end in windows]
+            if lasted:
+                came = f"{max(lasted):.1f} s at most, {statistics.median(lasted):.1f} s in the middle, of {len(lasted)}"
+                has_pause = place == 0 and "\npause" in (CONTRIB / "filter.toml").read_text()
+                scene.checks.holds(f"{host.name}, {settings}: 451 at a {what}, {longest[has_pause]} s at most", max(lasted) <= longest[has_pause], came)
+        print(f"    {host.name}: the longest wait for an answer: {longest_wait(scene.senders[host]):.1f} s", flush=True)
+
+
+def tell_sums(scene):
+    for login, limit in LIMITS.items():
+        accepted = sum(sender.accepted for sender in scene.all_senders() if sender.login == login)
+        used = usage(scene.servers, login)
+        came = f"{accepted} accepted, {used[0]} and {used[1]} counted, {limit} allowed"
+        scene.checks.holds(f"{login}: accepted recipients, both reports, both limits", accepted <= sum(used) <= limit, came)
+
+
+def retire(scene):
+    """The lines of contrib before a start of smtpd, at a host with two servers of which one is away."""
+    lines = [line for line in (CONTRIB / "smtpd-restart.conf").read_text().splitlines() if line.startswith("#ExecStartPre=-")]
+    commands = [line.removeprefix("#ExecStartPre=-").split() for line in lines]
+    for host in scene.hosts:
+        host.smtpd.terminate()
+        host.smtpd.wait(timeout=20)
+    for is_away in (True, False):
+        if is_away:
+            scene.first.end(signal.SIGTERM)
+        else:
+            scene.first.want()
+            scene.wait("the first server answers", scene.first.answers)
+        for host in scene.hosts:
+            start = time.monotonic()
+            said = [host.run(*(host.host if word == "mx1.example.org" else word for word in words)) for words in commands]
+            wanted = [1 if is_away else 0, 0]
+            came = f"{[it[0].splitlines()[-1] for it in said]}, {time.monotonic() - start:.1f} s"
+            scene.checks.holds(f"{host.name} retires at both servers{', of which one is away' if is_away else ''}", [it[1] for it in said] == wanted, came)
+    reserved = [sum(int(line.split()[1]) for line in server.ask("report", "--day", day())[0].splitlines()) for server in scene.servers]
+    scene.checks.holds("then nothing is reserved at either server", reserved == [0, 0], reserved)
+
+
+def audits(scene):
+    for server in scene.servers:
+        server.end(signal.SIGTERM)
+        scene.wait(f"the {server.name} server ends", lambda: not server.answers())
+        said, status = server.run(PROGRAM, "audit", "--config", "/etc/mailquota.toml")
+        scene.checks.holds(f"audit of the {server.name} server's ledger", status == 0 and said.startswith("sound "), said)
+
+
+def main():
+    rounds, seed = (int(word) for word in [*sys.argv[1:], *("10", "1")[len(sys.argv) - 1:]])
+    checks = Checks()
+    scene = Scene(checks, seed)
+    began = day()
+    scene.play(rounds)
+    unanswered = [it for sender in scene.all_senders() for it in sender.unanswered]
+    asked = sum(len(sender.answers) for sender in scene.all_senders())
+    checks.holds(f"requests of smtpd without an answer, of {asked} recipients", not unanswered, unanswered)
+    tell_outages(scene)
+    tell_sums(scene)
+    retire(scene)
+    tell_sums(scene)
+    audits(scene)
+    checks.holds("it was one day", day() == began, began)
+    print(f"{checks.passed} passed, {checks.failed} failed")
+    return 1 if checks.failed else 0
+
+
+if __name__ == "__main__":
+    sys.exit(main())
