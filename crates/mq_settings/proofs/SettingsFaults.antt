@@ -6,7 +6,7 @@ use Rattle.std.specs.declared.net.SocketAddr.{SocketAddr}
 use Rattle.toml.specs.Data.{Members}
 use Rattle.mq_ledger.specs.declared.zone.Zone.{Zone}
 use Rattle.mq_settings.specs.Keys.{filter_keys, server_keys, HasOnly}
-use Rattle.mq_settings.specs.Settings.{Spells, IsTableRefusal, memory, IsHostAt, IsAddressAt, tries_at, timeout_at, default_at, IsZoneAt, IsPlaceAt, level_at, IsFilterRefusal, IsServerRefusal}
+use Rattle.mq_settings.specs.Settings.{Spells, IsTableRefusal, memory, IsHostAt, IsAddressAt, tries_at, timeout_at, pause_at, hold_at, default_at, IsZoneAt, IsPlaceAt, level_at, IsFilterRefusal, IsServerRefusal}
 use Rattle.mq_settings.specs.declared.settings.key.Key.TheVariants.{Server, Listen}
 use Rattle.mq_settings.specs.declared.settings.value.Place.{Place}
 use Rattle.mq_settings.specs.declared.settings.fault.SettingsFault.{SettingsFault}
@@ -43,9 +43,17 @@ pub filter_at_timeout : (text : List ℕ) (table : Members) (host : List ℕ) (s
     → IsHostAt table (Ok host) → IsAddressAt Server table (Ok server) → tries_at table ≡ Ok tries → timeout_at table ≡ Err e → IsFilterRefusal text e
 filter_at_timeout text table host server tries e spells names h s t bad = inr (table, spells, names, inr (host, h, inr (server, s, inr (tries, t, inl bad))))
 
-pub filter_at_log : (text : List ℕ) (table : Members) (host : List ℕ) (server : SocketAddr) (tries timeout : ℕ) (e : SettingsFault) → Spells text table → HasOnly filter_keys table
-    → IsHostAt table (Ok host) → IsAddressAt Server table (Ok server) → tries_at table ≡ Ok tries → timeout_at table ≡ Ok timeout → level_at table ≡ Err e → IsFilterRefusal text e
-filter_at_log text table host server tries timeout e spells names h s t m bad = inr (table, spells, names, inr (host, h, inr (server, s, inr (tries, t, inr (timeout, m, bad)))))
+pub filter_at_pause : (text : List ℕ) (table : Members) (host : List ℕ) (server : SocketAddr) (tries timeout : ℕ) (e : SettingsFault) → Spells text table → HasOnly filter_keys table
+    → IsHostAt table (Ok host) → IsAddressAt Server table (Ok server) → tries_at table ≡ Ok tries → timeout_at table ≡ Ok timeout → pause_at table ≡ Err e → IsFilterRefusal text e
+filter_at_pause text table host server tries timeout e spells names h s t m bad = inr (table, spells, names, inr (host, h, inr (server, s, inr (tries, t, inr (timeout, m, inl bad)))))
+
+pub filter_at_hold : (text : List ℕ) (table : Members) (host : List ℕ) (server : SocketAddr) (tries timeout pause : ℕ) (e : SettingsFault) → Spells text table → HasOnly filter_keys table
+    → IsHostAt table (Ok host) → IsAddressAt Server table (Ok server) → tries_at table ≡ Ok tries → timeout_at table ≡ Ok timeout → pause_at table ≡ Ok pause → hold_at table ≡ Err e → IsFilterRefusal text e
+filter_at_hold text table host server tries timeout pause e spells names h s t m p bad = inr (table, spells, names, inr (host, h, inr (server, s, inr (tries, t, inr (timeout, m, inr (pause, p, inl bad))))))
+
+pub filter_at_log : (text : List ℕ) (table : Members) (host : List ℕ) (server : SocketAddr) (tries timeout pause hold : ℕ) (e : SettingsFault) → Spells text table → HasOnly filter_keys table
+    → IsHostAt table (Ok host) → IsAddressAt Server table (Ok server) → tries_at table ≡ Ok tries → timeout_at table ≡ Ok timeout → pause_at table ≡ Ok pause → hold_at table ≡ Ok hold → level_at table ≡ Err e → IsFilterRefusal text e
+filter_at_log text table host server tries timeout pause hold e spells names h s t m p k bad = inr (table, spells, names, inr (host, h, inr (server, s, inr (tries, t, inr (timeout, m, inr (pause, p, inr (hold, k, bad)))))))
 
 -- a place is refused for its text, or since memory ran out
 pub place_fault : (table : Members) (e : SettingsFault) → (e ≢ Memory → IsPlaceAt table (Err e)) → (e ≡ Memory) ⊎ IsPlaceAt table (Err e)

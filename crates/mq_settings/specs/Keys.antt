@@ -6,7 +6,7 @@ use Rattle.std.specs.Cmp.Lexicographic.{slice_cmp}
 use Rattle.toml.specs.Data.{Members, get_member}
 use Rattle.mq_settings.specs.declared.settings.key.Key.{Key}
 use Rattle.mq_settings.specs.declared.settings.key.Key.TheVariants.{Host, Server, Tries, Listen, Store, Default, Offset, Rule}
-use Rattle.mq_settings.specs.declared.settings.key.Key.TheVariants.{Timeout, Log}
+use Rattle.mq_settings.specs.declared.settings.key.Key.TheVariants.{Timeout, Pause, Hold, Log}
 
 -- a key as it is written
 abbrev pub key_name : Key → List ℕ
@@ -19,11 +19,13 @@ key_name Default = codes "default"
 key_name Offset = codes "offset"
 key_name Rule = codes "rule"
 key_name Timeout = codes "timeout"
+key_name Pause = codes "pause"
+key_name Hold = codes "hold"
 key_name Log = codes "log"
 
 -- the keys of the filter's settings, in the order in which they are checked
 abbrev pub filter_keys : List Key
-filter_keys = Host ∷ Server ∷ Tries ∷ Timeout ∷ Log ∷ []
+filter_keys = Host ∷ Server ∷ Tries ∷ Timeout ∷ Pause ∷ Hold ∷ Log ∷ []
 
 -- the keys of the server's settings, in the order in which they are checked
 abbrev pub server_keys : List Key

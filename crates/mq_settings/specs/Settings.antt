@@ -17,7 +17,7 @@ use Rattle.mq_ledger.specs.Day.{ByOffset, ByRule, IsRule}
 use Rattle.mq_settings.specs.Keys.{key_name, filter_keys, server_keys, IsLeastUnknown, HasOnly}
 use Rattle.mq_settings.specs.declared.settings.key.Key.{Key}
 use Rattle.mq_settings.specs.declared.settings.key.Key.TheVariants.{Host, Server, Tries, Listen, Store, Default, Offset, Rule}
-use Rattle.mq_settings.specs.declared.settings.key.Key.TheVariants.{Timeout, Log}
+use Rattle.mq_settings.specs.declared.settings.key.Key.TheVariants.{Timeout, Pause, Hold, Log}
 use Rattle.mq_settings.specs.declared.settings.value.Place.{Place}
 use Rattle.mq_settings.specs.declared.settings.value.Place.TheVariants as place
 use Rattle.mq_settings.specs.declared.settings.FilterSettings.{FilterSettings}
@@ -151,6 +151,14 @@ timeout_at table = count_at Timeout 1 60000 (Ok 2000) table
 abbrev pub tries_at : Members → Result ℕ SettingsFault
 tries_at table = count_at Tries 1 10 (Ok 3) table
 
+-- seconds without a request after one that got no answer in time, up to an hour, or none where the key is absent
+abbrev pub pause_at : Members → Result ℕ SettingsFault
+pause_at table = count_at Pause 0 3600 (Ok 0) table
+
+-- seconds in which a login isn't asked for after its limit was reached, up to a minute, or none where the key is absent
+abbrev pub hold_at : Members → Result ℕ SettingsFault
+hold_at table = count_at Hold 0 60 (Ok 0) table
+
 -- the limit of a login that has none of its own
 abbrev pub default_at : Members → Result ℕ SettingsFault
 default_at table = count_at Default 0 1000000 (Err (Missing Default)) table
@@ -178,13 +186,16 @@ pub record IsFilterSettings (table : Members) (settings : FilterSettings) : Type
   pub server : IsAddressAt Server table (Ok settings.server)
   pub tries : tries_at table ≡ Ok settings.tries
   pub timeout : timeout_at table ≡ Ok settings.timeout
+  pub pause : pause_at table ≡ Ok settings.pause
+  pub hold : hold_at table ≡ Ok settings.hold
   pub log : level_at table ≡ Ok settings.log
 
 -- the first of the filter's keys that gives no value
 abbrev pub IsFilterFault : Members → SettingsFault → Type 0
 IsFilterFault table e =
     FailsOr (IsHostAt table) (FailsOr (IsAddressAt Server table)
-    (FailsOr (λ r. tries_at table ≡ r) (FailsOr (λ r. timeout_at table ≡ r) (λ f. level_at table ≡ Err f)))) e
+    (FailsOr (λ r. tries_at table ≡ r) (FailsOr (λ r. timeout_at table ≡ r) (FailsOr (λ r. pause_at table ≡ r)
+    (FailsOr (λ r. hold_at table ≡ r) (λ f. level_at table ≡ Err f)))))) e
 
 -- why the filter's settings are refused
 abbrev pub IsFilterRefusal : List ℕ → SettingsFault → Type 0

@@ -33,6 +33,10 @@ pub struct FilterSettings {
     pub tries: u32,
     /// Milliseconds of each connect, read and write, 1 to 60,000.
     pub timeout: u32,
+    /// For how many seconds no request is sent after one that got no answer in time, 0 to 3,600.
+    pub pause: u32,
+    /// For how many seconds a login isn't asked for after its limit was reached, 0 to 60.
+    pub hold: u32,
     /// Which lines are logged: those of this level and the levels before it.
     pub log: LevelFilter,
 }
@@ -55,7 +59,15 @@ pub struct ServerSettings {
     pub log: LevelFilter,
 }
 
-const FILTER_KEYS: [Key; 5] = [Key::Host, Key::Server, Key::Tries, Key::Timeout, Key::Log];
+const FILTER_KEYS: [Key; 7] = [
+    Key::Host,
+    Key::Server,
+    Key::Tries,
+    Key::Timeout,
+    Key::Pause,
+    Key::Hold,
+    Key::Log,
+];
 
 const SERVER_KEYS: [Key; 7] = [
     Key::Listen,
@@ -80,12 +92,16 @@ pub fn read_filter_settings(alloc: Global, text: &[u8]) -> Result<FilterSettings
     let server = value::read_address(&table, Key::Server)?;
     let tries = value::read_count(&table, Key::Tries, 1, 10, Some(3))?;
     let timeout = value::read_count(&table, Key::Timeout, 1, 60_000, Some(2_000))?;
+    let pause = value::read_count(&table, Key::Pause, 0, 3_600, Some(0))?;
+    let hold = value::read_count(&table, Key::Hold, 0, 60, Some(0))?;
     let log = value::read_level(&table)?;
     Ok(FilterSettings {
         host,
         server,
         tries,
         timeout,
+        pause,
+        hold,
         log,
     })
 }

@@ -67,6 +67,9 @@ def order(world, checks):
     expect(world, checks, "server, tries, timeout and log bad", text_of(server="1", tries=0, timeout=0, log="0"), "setting server: bad value")
     expect(world, checks, "tries, timeout and log bad", text_of(tries=0, timeout=0, log="0"), "setting tries: bad value")
     expect(world, checks, "timeout and log bad", text_of(timeout=0, log="0"), "setting timeout: bad value")
+    expect(world, checks, "timeout and pause bad", text_of(timeout=0, pause=-1), "setting timeout: bad value")
+    expect(world, checks, "pause, hold and log bad", text_of(pause=-1, hold=-1, log="0"), "setting pause: bad value")
+    expect(world, checks, "hold and log bad", text_of(hold=-1, log="0"), "setting hold: bad value")
 
 
 def values(world, checks):
@@ -76,6 +79,8 @@ def values(world, checks):
         ("server", ['"127.0.0.1:7026"', '"[::1]:7025"', '"127.0.0.1:65535"', "'10.0.0.1:1'"]),
         ("tries", ["1", "10", "0x0a"]),
         ("timeout", ["1", "60000", "60_000"]),
+        ("pause", ["0", "3600", "0x0a"]),
+        ("hold", ["0", "60"]),
         ("log", ['"off"', '"error"', '"warn"', '"info"']),
     ]
     refused = [
@@ -83,6 +88,8 @@ def values(world, checks):
         ("server", ['"localhost:7025"', '"127.0.0.1"', '"127.0.0.1:65536"', '"127.0.0.1:x"', '"127.0.1:1"', '":7025"', '""', "7025"]),
         ("tries", ["0", "11", "-1", '"3"', "3.0", "true", "[3]", "9223372036854775807"]),
         ("timeout", ["0", "60001", "-1", '"2000"', "2000.0", "1979-05-27"]),
+        ("pause", ["3601", "-1", '"10"', "10.0", "true"]),
+        ("hold", ["61", "-1", '"5"', "5.0", "[5]"]),
         ("log", ['"debug"', '"trace"', '"WARN"', '"warning"', '""', "1", "true"]),
     ]
     for key, spellings in accepted:

@@ -38,10 +38,12 @@ fn filter_text(rt: &impl Abort, alloc: Global, settings: &FilterSettings) -> Str
         server,
         tries,
         timeout,
+        pause,
+        hold,
         log,
         ..
     } = settings;
-    format!(in alloc; "{host} {server} {tries} {timeout} {log:?}").expect(rt, MEMORY)
+    format!(in alloc; "{host} {server} {tries} {timeout} {pause} {hold} {log:?}").expect(rt, MEMORY)
 }
 
 fn server_outcome(rt: &impl Abort, alloc: Global, text: &[u8]) -> String {
@@ -88,7 +90,7 @@ const OUTCOMES: &[(Whose, &str, &str)] = &[
     (
         Whose::Filter,
         "host = \"mx1\"\nserver = \"127.0.0.1:7025\"\n",
-        "mx1 127.0.0.1:7025 3 2000 Warn",
+        "mx1 127.0.0.1:7025 3 2000 0 0 Warn",
     ),
     (Whose::Filter, "", "setting host: missing"),
     (Whose::Filter, "host = \"mx1\"", "setting server: missing"),
@@ -140,6 +142,21 @@ const OUTCOMES: &[(Whose, &str, &str)] = &[
         Whose::Filter,
         "host = \"mx1\"\nserver = \"127.0.0.1:7025\"\ntries = 10\ntimeout = 60000\nlog = \"debug\"",
         "setting log: bad value",
+    ),
+    (
+        Whose::Filter,
+        "host = \"mx1\"\nserver = \"127.0.0.1:7025\"\npause = 3600\nhold = 60",
+        "mx1 127.0.0.1:7025 3 2000 3600 60 Warn",
+    ),
+    (
+        Whose::Filter,
+        "host = \"mx1\"\nserver = \"127.0.0.1:7025\"\npause = 3601\nhold = 61",
+        "setting pause: bad value",
+    ),
+    (
+        Whose::Filter,
+        "host = \"mx1\"\nserver = \"127.0.0.1:7025\"\nhold = 61\nlog = 1",
+        "setting hold: bad value",
     ),
     (
         Whose::Server,

@@ -16,6 +16,8 @@ pub enum Key {
     Offset,
     Rule,
     Timeout,
+    Pause,
+    Hold,
     Log,
 }
 
@@ -34,6 +36,8 @@ impl Key {
             Key::Offset => "offset",
             Key::Rule => "rule",
             Key::Timeout => "timeout",
+            Key::Pause => "pause",
+            Key::Hold => "hold",
             Key::Log => "log",
         }
     }
@@ -49,6 +53,8 @@ impl Key {
             Key::Offset => "a whole number of minutes from -1439 to 1439",
             Key::Rule => "a zone rule of at most 64 bytes, in quotes, in place of an offset",
             Key::Timeout => "a whole number of milliseconds from 1 to 60000",
+            Key::Pause => "a whole number of seconds from 0 to 3600",
+            Key::Hold => "a whole number of seconds from 0 to 60",
             Key::Log => "off, error, warn or info, in quotes",
         }
     }
