@@ -6,7 +6,7 @@ use Rattle.std.proofs.Math.Nat.{mul-le-mul_left}
 use Rattle.mq_request.specs.declared.message.Request.{Request}
 use Rattle.mq_client.specs.Exchanges.{Exchange, decisions}
 use Rattle.mq_client.specs.Turns.{failures, queue_of, next_of, ComeInTurn, AreUnderway}
-use Rattle.mq_client.specs.Past.{Source, Action, Ask, Close, Drain, Step, View, view, after, after_close, held_by, held_for, with_asked, reserve_of, closing_of, refuses, IsBounded}
+use Rattle.mq_client.specs.Past.{tries_in, Source, Action, Ask, Close, Drain, Step, View, view, after, after_close, held_by, held_for, with_asked, reserve_of, closing_of, refuses, IsBounded}
 use Rattle.mq_track.specs.declared.closing.CloseEnd.{CloseEnd}
 use Rattle.mq_client.specs.declared.held.Held.{Held}
 use Rattle.mq_client.proofs.Counting.{AreCounted, counted, length_closed}
@@ -49,7 +49,7 @@ bounded_step s n v Drain group turns all b = record { places = omega (arith, b.p
 -- however a client was used
 pub bounded : (s : Source) (n : ℕ) (P : List Step) → AreUnderway s n P → IsBounded (view s P)
 bounded s n [] u = record { places = omega arith; numbers = omega arith }
-bounded s n (x ∷ P) u = bounded_step s n (view s P) x.action x.group u.0 (counted s P) (bounded s n P u.1)
+bounded s n (x ∷ P) u = bounded_step s (tries_in n x.quiet) (view s P) x.action x.group u.0 (counted s P) (bounded s n P u.1)
 
 -- ---- exchanges of a step
 
@@ -87,10 +87,15 @@ queue_length s v (Close txn end) (Some h) e all b =
     omega (arith, b.places, length_closed v txn all (ap is_some e), length-append v.waiting (q ∷ []))
 queue_length s v Drain o e all b = omega (arith, b.places)
 
+tries_few : (n : ℕ) (k : Bool) → 4096 * tries_in n k ≤ 4096 * n
+tries_few n true = omega arith
+tries_few n false = omega arith
+
 -- however a client was used, the newest step
 pub few_exchanges : (s : Source) (n : ℕ) (P : List Step) (x : Step) → AreUnderway s n (x ∷ P) → length x.group ≤ 4096 * n
 few_exchanges s n P x u =
     let v = view s P in
-    let few = few_in_turn n (queue_of s v (held_for v x.action) x.action) x.group u.0 in
+    let m = tries_in n x.quiet in
+    let few = few_in_turn m (queue_of s v (held_for v x.action) x.action) x.group u.0 in
     let short : length (queue_of s v (held_for v x.action) x.action) ≤ 4096 = queue_length s v x.action (held_for v x.action) refl (counted s P) (bounded s n P u.1) in
-    omega (arith, few.few, few.room, mul-le-mul_left n short)
+    omega (arith, few.few, few.room, mul-le-mul_left m short, tries_few n x.quiet)

@@ -5,7 +5,9 @@ use Rattle.mq_line.specs.Grammar.{Meaning}
 use Rattle.mq_line.specs.Results.{registration}
 use Rattle.mq_line.specs.Text.{IsLine, IsTooLong, Holds, text_of, lines as all_lines, left as left_over}
 use Rattle.mq_client.specs.Past.{Source, Drain, Step, drained, State, StandsAt, view, ArePlayed}
-use Rattle.mq_client.specs.Turns.{all_outcomes}
+use Rattle.mq_client.specs.Turns.{outcomes, quiets, all_outcomes}
+use Rattle.mq_client.specs.Holding.{Holding}
+use Rattle.mq_client.specs.declared.spans.Spans.{Spans}
 use Rattle.mq_client.specs.Filter.{Filters, push, actions, answer_count}
 use Rattle.mq_client.specs.Run.{Stage, BeforeReady, AfterReady, Reaches, HasText, Outside, StandsFirst, EndsWith, IsFound, IsInHand, StopsAt}
 use Rattle.mq_client.specs.Place.{is_of_input}
@@ -14,9 +16,9 @@ use Rattle.mq_client.specs.declared.fault.FilterFault.TheVariants as faults
 use Rattle.mq_client.specs.declared.filter.Ended.{Ended}
 use Rattle.mq_client.proofs.Looping.{is_line_none}
 use Rattle.mq_client.proofs.Turning.{OneReply}
-use Rattle.mq_client.proofs.Sameness.{same_actions, same_texts, same_played, same_lines}
+use Rattle.mq_client.proofs.Sameness.{same_filters, same_played, same_lines}
 use Rattle.mq_client.proofs.Placing.{Grammar, Front, Unread, Untracked, TooEarly, NeverReady, Over, InLine, Long, Fate, AtLine, AtEnd, same_place}
-use Rattle.mq_client.proofs.Basics.{none_some, some_is, true_false, cons_head, cons_tail}
+use Rattle.mq_client.proofs.Basics.{none_some, some_is, true_false, cons_head}
 
 -- how a text is cut into lines
 pub record Cutting : Type 0 where
@@ -72,16 +74,16 @@ found_fate C faults.Write stage pieces left rest read_failed write_failed i foun
 found_fate C faults.Memory stage pieces left rest read_failed write_failed i found = absurd (true_false (sym i))
 
 -- at a fault of the input no line is in hand
-quiet : (f : FilterFault) (stage : Stage) (left : List ℕ) (step : Option Step) (next : List ℕ) → is_of_input f ≡ true → IsInHand f stage left step next → (step ≡ None) × (next ≡ [])
-quiet (faults.Line f) stage left step next i h = h
-quiet (faults.Track f) stage left step next i h = h
-quiet faults.NotReady stage left step next i h = h
-quiet faults.EndedEarly stage left step next i h = h
-quiet faults.CutLine stage left step next i h = h
-quiet faults.TooLong stage left step next i h = h
-quiet faults.Read stage left step next i h = h
-quiet faults.Write stage left step next i h = absurd (true_false (sym i))
-quiet faults.Memory stage left step next i h = absurd (true_false (sym i))
+quiet : (f : FilterFault) (spans : Spans) (k : Holding) (stage : Stage) (left : List ℕ) (step : Option Step) (next : List ℕ) → is_of_input f ≡ true → IsInHand f spans k stage left step next → (step ≡ None) × (next ≡ [])
+quiet (faults.Line f) spans k stage left step next i h = h
+quiet (faults.Track f) spans k stage left step next i h = h
+quiet faults.NotReady spans k stage left step next i h = h
+quiet faults.EndedEarly spans k stage left step next i h = h
+quiet faults.CutLine spans k stage left step next i h = h
+quiet faults.TooLong spans k stage left step next i h = h
+quiet faults.Read spans k stage left step next i h = h
+quiet faults.Write spans k stage left step next i h = absurd (true_false (sym i))
+quiet faults.Memory spans k stage left step next i h = absurd (true_false (sym i))
 
 front_nil : (front rest : List ℕ) → front ++ rest ≡ [] → front ≡ []
 front_nil [] rest e = refl
@@ -92,25 +94,25 @@ holds_all : (bytes rest : List ℕ) (ls : List (List ℕ)) (left : List ℕ) →
 holds_all bytes rest ls left h = record { whole = ap (λ (l : List ℕ). l ++ rest) h.whole ∙ append_assoc (text_of ls) left rest; each = h.each }
 
 -- two runs over the same input come to the same place
-meets : (G : Grammar) (C : Cutting) (text text' : List ℕ) (ls ms : List (List ℕ)) (left left' : List ℕ) (stage stage' : Stage) (steps steps' : List Step) (written written' : List ℕ) (a b : Option FilterFault)
-    → text ≡ text' → Holds text ls left → Holds text' ms left' → Reaches ls stage → HasText stage steps written → Reaches ms stage' → HasText stage' steps' written'
+meets : (spans spans' : Spans) (k k' : Holding) (G : Grammar) (C : Cutting) (text text' : List ℕ) (ls ms : List (List ℕ)) (left left' : List ℕ) (stage stage' : Stage) (steps steps' : List Step) (written written' : List ℕ) (a b : Option FilterFault)
+    → text ≡ text' → Holds text ls left → Holds text' ms left' → Reaches ls stage → HasText spans stage steps written k → Reaches ms stage' → HasText spans' stage' steps' written' k'
     → Fate stage (all_lines left) (left_over left) a → Fate stage' (all_lines left') (left_over left') b → (ls ≡ ms) × (stage ≡ stage') × (a ≡ b)
-meets G C text text' ls ms left left' stage stage' steps steps' written written' a b e h i r t r' t' f g =
+meets spans spans' k k' G C text text' ls ms left left' stage stage' steps steps' written written' a b e h i r t r' t' f g =
     let (lines_h, left_h) = C.held text ls left h in
     let (lines_i, left_i) = C.held text' ms left' i in
     let same : ls ++ all_lines left ≡ ms ++ all_lines left' = sym lines_h ∙ ap all_lines e ∙ lines_i in
     let last : left_over left' ≡ left_over left = sym left_i ∙ sym (ap left_over e) ∙ left_h in
     let F : List ℕ → Type 0 = λ l. Fate stage' (all_lines left') l b in
-    same_place G ls ms (all_lines left) (all_lines left') (left_over left) stage stage' steps steps' written written' a b same r t r' t' f (subst F last g)
+    same_place spans spans' k k' G ls ms (all_lines left) (all_lines left') (left_over left) stage stage' steps steps' written written' a b same r t r' t' f (subst F last g)
 
 -- ---- what was done
 
-same_done : (stage : Stage) (steps others : List Step) (text more : List ℕ) → HasText stage steps text → HasText stage others more → (actions steps ≡ actions others → steps ≡ others)
-    → (steps ≡ others) × (text ≡ more)
-same_done BeforeReady steps others text more h i alike = (h.0 ∙ sym i.0, h.1 ∙ sym i.1)
-same_done (AfterReady L) steps others text more (results, filters, whole) (results', filters', whole') alike =
-    let same = alike (same_actions L steps others results results' filters filters') in
-    (same, whole ∙ ap (λ (t : List ℕ). registration ++ t) (same_texts L steps others results results' same filters filters') ∙ sym whole')
+same_done : OneReply → (spans : Spans) (s : Source) (n : ℕ) (P : List Step) (stage : Stage) (steps others : List Step) (text more : List ℕ) (k j : Holding) → HasText spans stage steps text k → HasText spans stage others more j
+    → ArePlayed s n P steps → ArePlayed s n P others → all_outcomes steps ≡ all_outcomes others → (steps ≡ others) × (text ≡ more)
+same_done U spans s n P BeforeReady steps others text more k j h i p q e = (h.0 ∙ sym i.0, h.1 ∙ sym i.1)
+same_done U spans s n P (AfterReady L) steps others text more k j (results, filters, whole) (results', filters', whole') p q e =
+    let told = same_filters U spans s n P L steps others results results' k j [] [] filters filters' p q e in
+    (told.steps, whole ∙ ap (λ (t : List ℕ). registration ++ t) told.text_is ∙ sym whole')
 
 played_from : (c d : State) (P steps : List Step) → d ≡ c → ArePlayed d.source d.tries P steps → ArePlayed c.source c.tries P steps
 played_from c d P steps e h = let F : State → Type 0 = λ x. ArePlayed x.source x.tries P steps in subst F e h
@@ -118,44 +120,35 @@ played_from c d P steps e h = let F : State → Type 0 = λ x. ArePlayed x.sourc
 stands_from : (c d : State) (P : List Step) → d ≡ c → StandsAt c P → StandsAt d P
 stands_from c d P e h = let F : State → Type 0 = λ x. StandsAt x P in subst F (sym e) h
 
--- two runs that stop at faults of the same input stop at the same one, and do the same where what was played
--- follows from the actions
-stops_from : (G : Grammar) (C : Cutting) (o p : Outside) (pieces others : List (List ℕ)) (rest more : List ℕ) (now last : Outside) (read_failed write_failed read_failed' write_failed' : Bool) (f g : FilterFault)
-    (h : StopsAt o pieces (Some rest) now read_failed write_failed f) (i : StopsAt p others (Some more) last read_failed' write_failed' g)
-    → concat pieces ++ rest ≡ concat others ++ more → is_of_input f ≡ true → is_of_input g ≡ true
-    → (f ≡ g) × (h.lines ≡ i.lines) × ((P : List Step) → StandsAt o.client P → p.client ≡ o.client
-    → (ArePlayed o.client.source o.client.tries P (push h.step h.steps) → ArePlayed o.client.source o.client.tries P (push i.step i.steps)
-    → actions (push h.step h.steps) ≡ actions (push i.step i.steps) → push h.step h.steps ≡ push i.step i.steps)
-    → (push h.step h.steps ≡ push i.step i.steps) × (h.text ++ h.front ≡ i.text ++ i.front))
-stops_from G C o p pieces others rest more now last read_failed write_failed read_failed' write_failed' f g h i e of_f of_g =
-    let (same, stages, faults) = meets G C (concat pieces ++ rest) (concat others ++ more) h.lines i.lines (h.left ++ rest) (i.left ++ more) h.stage i.stage h.steps i.steps h.text i.text (Some f) (Some g) e
-    (holds_all (concat pieces) rest h.lines h.left h.whole) (holds_all (concat others) more i.lines i.left i.whole) h.reaches h.has_text i.reaches i.has_text
-    (found_fate C f h.stage pieces h.left rest read_failed write_failed of_f h.found) (found_fate C g i.stage others i.left more read_failed' write_failed' of_g i.found) in
-    let (no_step, no_next) = quiet f h.stage h.left h.step (h.front ++ h.rest) of_f h.in_hand in
-    let (no_step', no_next') = quiet g i.stage i.left i.step (i.front ++ i.rest) of_g i.in_hand in
-    let steps : push h.step h.steps ≡ h.steps = ap (λ s. push s h.steps) no_step in
-    let steps' : push i.step i.steps ≡ i.steps = ap (λ s. push s i.steps) no_step' in
-    let text : h.text ++ h.front ≡ h.text = no_rest h.text h.front (front_nil h.front h.rest no_next) in
-    let text' : i.text ++ i.front ≡ i.text = no_rest i.text i.front (front_nil i.front i.rest no_next') in (
-      some_is f g faults,
-      same,
-      λ P st start alike.
-          let S : Stage → Type 0 = λ s. HasText s i.steps i.text in
-          let mine = h.made.plays P st in
-          let theirs = played_from o.client p.client P (push i.step i.steps) start (i.made.plays P (stands_from o.client p.client P start st)) in
-          let (done, wrote) = same_done h.stage h.steps i.steps h.text i.text h.has_text (subst S (sym stages) i.has_text)
-          (λ acts. sym steps ∙ alike mine theirs (ap actions steps ∙ acts ∙ sym (ap actions steps')) ∙ steps') in
-          (steps ∙ done ∙ sym steps', text ∙ wrote ∙ sym text'),
-    )
-
+-- two runs that stop at faults of the same input stop at the same one, and do the same where their exchanges ended alike
 pub same_stops : OneReply → (G : Grammar) (C : Cutting) (o p : Outside) (pieces others : List (List ℕ)) (rest more : List ℕ) (now last : Outside) (read_failed write_failed read_failed' write_failed' : Bool) (f g : FilterFault)
     (h : StopsAt o pieces (Some rest) now read_failed write_failed f) (i : StopsAt p others (Some more) last read_failed' write_failed' g)
     → concat pieces ++ rest ≡ concat others ++ more → is_of_input f ≡ true → is_of_input g ≡ true
     → (f ≡ g) × (h.lines ≡ i.lines) × ((P : List Step) → StandsAt o.client P → p.client ≡ o.client → all_outcomes (push h.step h.steps) ≡ all_outcomes (push i.step i.steps)
     → (push h.step h.steps ≡ push i.step i.steps) × (h.text ++ h.front ≡ i.text ++ i.front))
 same_stops U G C o p pieces others rest more now last read_failed write_failed read_failed' write_failed' f g h i e of_f of_g =
-    let (fault, lines, done) = stops_from G C o p pieces others rest more now last read_failed write_failed read_failed' write_failed' f g h i e of_f of_g in
-    (fault, lines, λ P st start ended. done P st start (λ m t acts. same_played U o.client.source o.client.tries P (push h.step h.steps) (push i.step i.steps) m t acts ended))
+    let (same, stages, faults) = meets o.client.spans p.client.spans h.holding i.holding G C (concat pieces ++ rest) (concat others ++ more) h.lines i.lines (h.left ++ rest) (i.left ++ more) h.stage i.stage h.steps i.steps h.text i.text (Some f) (Some g) e
+    (holds_all (concat pieces) rest h.lines h.left h.whole) (holds_all (concat others) more i.lines i.left i.whole) h.reaches h.has_text i.reaches i.has_text
+    (found_fate C f h.stage pieces h.left rest read_failed write_failed of_f h.found) (found_fate C g i.stage others i.left more read_failed' write_failed' of_g i.found) in
+    let (no_step, no_next) = quiet f o.client.spans h.holding h.stage h.left h.step (h.front ++ h.rest) of_f h.in_hand in
+    let (no_step', no_next') = quiet g p.client.spans i.holding i.stage i.left i.step (i.front ++ i.rest) of_g i.in_hand in
+    let steps : push h.step h.steps ≡ h.steps = ap (λ s. push s h.steps) no_step in
+    let steps' : push i.step i.steps ≡ i.steps = ap (λ s. push s i.steps) no_step' in
+    let text : h.text ++ h.front ≡ h.text = no_rest h.text h.front (front_nil h.front h.rest no_next) in
+    let text' : i.text ++ i.front ≡ i.text = no_rest i.text i.front (front_nil i.front i.rest no_next') in (
+      some_is f g faults,
+      same,
+      λ P st start ended.
+          let S : Stage → State → Type 0 = λ s c. HasText c.spans s i.steps i.text i.holding in
+          let A : Stage → Type 0 = λ s. S s p.client in
+          let B : State → Type 0 = λ c. S h.stage c in
+          let T : List Step → Type 0 = λ l. ArePlayed o.client.source o.client.tries P l in
+          let mine = h.made.plays P st in
+          let theirs = played_from o.client p.client P (push i.step i.steps) start (i.made.plays P (stands_from o.client p.client P start st)) in
+          let (done, wrote) = same_done U o.client.spans o.client.source o.client.tries P h.stage h.steps i.steps h.text i.text h.holding i.holding h.has_text (subst B start (subst A (sym stages) i.has_text))
+          (subst T steps mine) (subst T steps' theirs) (sym (ap all_outcomes steps) ∙ ended ∙ ap all_outcomes steps') in
+          (steps ∙ done ∙ sym steps', text ∙ wrote ∙ sym text'),
+    )
 
 -- a run to the end of the input
 end_fate : (C : Cutting) (L : List Meaning) → Fate (AfterReady L) (all_lines []) (left_over []) None
@@ -167,8 +160,9 @@ no_stop_and_end G C o p bytes more others now last read_failed write_failed e g 
   where
     clash : is_of_input g ≡ true → ⊥
     clash of_g =
-        let (ls, stages, faults) = meets G C bytes (concat others ++ more) h.lines i.lines [] (i.left ++ more) (AfterReady h.after_ready) i.stage h.steps i.steps (registration ++ h.results) i.text None (Some g) same
-        h.whole (holds_all (concat others) more i.lines i.left i.whole) h.ready (h.results, h.filters, refl) i.reaches i.has_text
+        let texted : HasText o.client.spans (AfterReady h.after_ready) h.steps (registration ++ h.results) h.holding = (h.results, h.filters, refl) in
+        let (ls, stages, faults) = meets o.client.spans p.client.spans h.holding i.holding G C bytes (concat others ++ more) h.lines i.lines [] (i.left ++ more) (AfterReady h.after_ready) i.stage h.steps i.steps (registration ++ h.results) i.text None (Some g) same
+        h.whole (holds_all (concat others) more i.lines i.left i.whole) h.ready texted i.reaches i.has_text
         (end_fate C h.after_ready) (found_fate C g i.stage others i.left more read_failed write_failed of_g i.found) in
         none_some g faults
 
@@ -182,37 +176,31 @@ same_ended e f a l =
     let B : ℕ → Ended = λ n. record { answers = f.answers; left = n } in
     ap A a ∙ ap B l
 
--- two runs to the end of the same input do the same, where what was played follows from the actions
-ends_from : (G : Grammar) (C : Cutting) (o p : Outside) (bytes : List ℕ) (now last : Outside) (e f : Ended) (P : List Step)
-    (h : EndsWith o bytes now e) (i : EndsWith p bytes last f)
-    → StandsAt o.client P → p.client ≡ o.client
-    → (ArePlayed o.client.source o.client.tries P (drained h.group h.steps) → ArePlayed o.client.source o.client.tries P (drained i.group i.steps)
-    → actions (drained h.group h.steps) ≡ actions (drained i.group i.steps) → drained h.group h.steps ≡ drained i.group i.steps)
-    → (h.steps ≡ i.steps) × (h.group ≡ i.group) × (h.results ≡ i.results) × (e ≡ f)
-ends_from G C o p bytes now last e f P h i st start alike =
-    let none = inl (is_line_none [] refl) in
-    let lines : h.lines ≡ i.lines = sym ((C.unique bytes h.lines [] h.whole none).0) ∙ (C.unique bytes i.lines [] i.whole none).0 in
-    let past : h.after_ready ≡ i.after_ready = same_lines G.unique h.lines i.lines h.after_ready i.after_ready lines h.ready i.ready in
-    let F : List Meaning → Type 0 = λ l. Filters l h.steps h.results in
-    let filters : Filters i.after_ready h.steps h.results = subst F past h.filters in
-    let mine : List Step = drained h.group h.steps in
-    let theirs : List Step = drained i.group i.steps in
-    let st' = stands_from o.client p.client P start st in
-    let acts : actions mine ≡ actions theirs = ap (λ l. Drain ∷ l) (same_actions i.after_ready h.steps i.steps h.results i.results filters i.filters) in
-    let all : mine ≡ theirs = alike (h.made.plays P st) (played_from o.client p.client P theirs start (i.made.plays P st')) acts in
-    let steps : h.steps ≡ i.steps = cons_tail _ _ h.steps i.steps all in
-    let group : h.group ≡ i.group = ap (λ (x : Step). x.group) (cons_head (record { action = Drain; group = h.group }) (record { action = Drain; group = i.group }) h.steps i.steps all) in
-    let source : now.client.source ≡ last.client.source = h.made.source ∙ sym (ap (λ (c : State). c.source) start) ∙ sym i.made.source in
-    let left : e.left ≡ f.left = h.left (mine ++ P) (h.made.stands P st)
-    ∙ ap (λ (s : Source). length (view s (mine ++ P)).waiting) source
-    ∙ ap (λ (l : List Step). length (view last.client.source (l ++ P)).waiting) all
-    ∙ sym (i.left (theirs ++ P) (i.made.stands P st')) in
-    (steps, group, same_texts i.after_ready h.steps i.steps h.results i.results steps filters i.filters, same_ended e f (h.answers ∙ ap answer_count past ∙ sym i.answers) left)
-
+-- two runs to the end of the same input, whose exchanges ended alike, do the same
 pub same_ends : OneReply → (G : Grammar) (C : Cutting) (o p : Outside) (bytes : List ℕ) (now last : Outside) (e f : Ended) (P : List Step)
     (h : EndsWith o bytes now e) (i : EndsWith p bytes last f)
     → StandsAt o.client P → p.client ≡ o.client → all_outcomes (drained h.group h.steps) ≡ all_outcomes (drained i.group i.steps)
     → (h.steps ≡ i.steps) × (h.group ≡ i.group) × (h.results ≡ i.results) × (e ≡ f)
 same_ends U G C o p bytes now last e f P h i st start ended =
-    ends_from G C o p bytes now last e f P h i st start
-    (λ m t acts. same_played U o.client.source o.client.tries P (drained h.group h.steps) (drained i.group i.steps) m t acts ended)
+    let none = inl (is_line_none [] refl) in
+    let lines : h.lines ≡ i.lines = sym ((C.unique bytes h.lines [] h.whole none).0) ∙ (C.unique bytes i.lines [] i.whole none).0 in
+    let past : h.after_ready ≡ i.after_ready = same_lines G.unique h.lines i.lines h.after_ready i.after_ready lines h.ready i.ready in
+    let c = o.client in
+    let F : List Meaning → Type 0 = λ l. Filters c.spans l h.steps h.results h.holding in
+    let filters : Filters c.spans i.after_ready h.steps h.results h.holding = subst F past h.filters in
+    let S : State → Type 0 = λ x. Filters x.spans i.after_ready i.steps i.results i.holding in
+    let mine : List Step = drained h.group h.steps in
+    let theirs : List Step = drained i.group i.steps in
+    let st' = stands_from o.client p.client P start st in
+    let played = h.made.plays P st in
+    let played' = played_from o.client p.client P theirs start (i.made.plays P st') in
+    let told = same_filters U c.spans c.source c.tries P i.after_ready h.steps i.steps h.results i.results h.holding i.holding (outcomes h.group) (outcomes i.group) filters (subst S start i.filters) played.1 played'.1 ended in
+    let steps : h.steps ≡ i.steps = told.steps in
+    let all : mine ≡ theirs = same_played U c.source c.tries P mine theirs played played' (ap (λ l. Drain ∷ actions l) steps) (ap (λ l. false ∷ quiets l) steps) ended in
+    let group : h.group ≡ i.group = ap (λ (x : Step). x.group) (cons_head (record { action = Drain; group = h.group; quiet = false }) (record { action = Drain; group = i.group; quiet = false }) h.steps i.steps all) in
+    let source : now.client.source ≡ last.client.source = h.made.source ∙ sym (ap (λ (c : State). c.source) start) ∙ sym i.made.source in
+    let left : e.left ≡ f.left = h.left (mine ++ P) (h.made.stands P st)
+    ∙ ap (λ (s : Source). length (view s (mine ++ P)).waiting) source
+    ∙ ap (λ (l : List Step). length (view last.client.source (l ++ P)).waiting) all
+    ∙ sym (i.left (theirs ++ P) (i.made.stands P st')) in
+    (steps, group, told.text_is, same_ended e f (h.answers ∙ ap answer_count past ∙ sym i.answers) left)

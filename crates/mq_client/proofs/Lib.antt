@@ -16,3 +16,4 @@ pub mod Placing
 pub mod Ending
 pub mod Numbering
 pub mod Returning
+pub mod HoldingNone

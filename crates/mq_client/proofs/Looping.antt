@@ -1,5 +1,5 @@
 -- Lines handled one after another.
-use Rattle.std.proofs.Common.{◌≡◌, ℕ, ◌+◌, Bool, true, false, List, [], ◌∷◌, ◌++◌, length, refl, sym, ap, ◌∙◌, subst, append_assoc, append-nil, arith, rules, cond, inl, inr, ◌⊎◌, Option, None, Some}
+use Rattle.std.proofs.Common.{◌≡◌, ℕ, ◌+◌, Bool, true, false, List, [], ◌∷◌, ◌++◌, length, refl, sym, ap, ◌∙◌, subst, append_assoc, append-nil, arith, rules, cond, inl, inr, ◌⊎◌, Option, None, Some, is_some}
 use Rattle.std.specs.Prelude.{Result, Ok, Err, IfSome, IsOk}
 use Rattle.std.specs.Borrow.{Bor}
 use Rattle.std.specs.List.{AllByRecursion, concat}
@@ -17,7 +17,9 @@ use Rattle.mq_track.specs.declared.fault.TrackFault.{TrackFault}
 use Rattle.mq_link.specs.Link.{Tells}
 use Rattle.mq_client.specs.Exchanges.{Exchange, told_all}
 use Rattle.mq_client.specs.Past.{Source, Drain, Step, State, StandsAt, view, Plays, Makes, MakesAll, told_steps}
-use Rattle.mq_client.specs.Filter.{Takes, Closes, push, is_filter, answer_count}
+use Rattle.mq_client.specs.Holding.{Holding, nothing_held, still}
+use Rattle.mq_client.specs.declared.spans.Spans.{Spans}
+use Rattle.mq_client.specs.Filter.{Takes, at_line, after_line, Closes, push, is_filter, answer_count}
 use Rattle.mq_client.specs.Run.{IsEarly, is_early, IsReady, Stage, BeforeReady, AfterReady, Outside, around, StandsFirst, EndsWith, IsAtWork, IsFound, MayGo, IsInHand, StopsAt}
 use Rattle.mq_client.specs.Loop.{Does, MakesOne, told_one, IsAt, SoFar, Carries, IsCut, IsRefused, Replies, StopsWithin}
 use Rattle.mq_client.specs.declared.fault.FilterFault.{FilterFault}
@@ -133,6 +135,7 @@ carries_early m f now h e = λ o bytes line rest one reads s.
       whole = holds_taken bytes s.lines line rest one s.whole;
       reaches = rw is (early_more s.lines line (rw is at s.reaches) (m, reads, e));
       is_at = s.is_at;
+      spans = s.spans;
       has_text = s.has_text;
       written = s.written;
       exchanged = s.exchanged;
@@ -141,11 +144,11 @@ carries_early m f now h e = λ o bytes line rest one reads s.
 
 -- `config|ready` is answered by the registration
 pub carries_ready : (m : Meaning) (f f' : Filter) (sink sink' : Option (List ℕ)) (told : Option (List Told)) (client : State) → f.is_ready ≡ false → m ≡ ReadyLine → Appends sink sink' registration
-    → f'.is_ready ≡ true → f'.tracker ≡ f.tracker → f'.answers ≡ f.answers → Carries m f f' (around sink told client) (around sink' told client)
-carries_ready m f f' sink sink' told client h e app now tracker answers = λ o bytes line rest one reads s.
+    → f'.is_ready ≡ true → f'.tracker ≡ f.tracker → f'.answers ≡ f.answers → f'.holdup ≡ f.holdup → Carries m f f' (around sink told client) (around sink' told client)
+carries_ready m f f' sink sink' told client h e app now tracker answers holdup = λ o bytes line rest one reads s.
     let is = at_before f s.stage h s.is_at in
     let (never, tracks, none) = rw is at s.is_at in
-    let (no_step, no_text) = rw is at s.has_text in
+    let (no_step, no_text, none_held) = rw is at s.has_text in
     record {
       lines = s.lines ++ line ∷ [];
       stage = AfterReady [];
@@ -154,7 +157,8 @@ carries_ready m f f' sink sink' told client h e app now tracker answers = λ o b
       whole = holds_taken bytes s.lines line rest one s.whole;
       reaches = ready_new s.lines line (rw is at s.reaches) (rw e at reads);
       is_at = (now, rw tracker tracks, answers ∙ none);
-      has_text = ([], (no_step, refl), ap (λ t. t ++ registration) no_text ∙ sym (append-nil registration));
+      spans = ap (λ x. x.0) holdup ∙ s.spans;
+      has_text = ([], (no_step, refl, ap (λ x. x.1) holdup ∙ none_held), ap (λ t. t ++ registration) no_text ∙ sym (append-nil registration));
       written = Appends-trans o.sink sink sink' s.text registration s.written app;
       exchanged = s.exchanged;
       made = s.made;
@@ -163,13 +167,15 @@ carries_ready m f f' sink sink' told client h e app now tracker answers = λ o b
 -- a line after `config|ready`
 pub carries_take : (m : Meaning) (f f' : Filter) (old new : Outside) (step : Option Step) (text : List ℕ)
     → f.is_ready ≡ true → Does old new step text
-    → ((L : List Meaning) → TracksAt f.tracker L → Takes L m step text × TracksAt f'.tracker (m ∷ L))
-    → f'.is_ready ≡ true → ((L : List Meaning) → f.answers ≡ answer_count L → f'.answers ≡ answer_count (m ∷ L))
+    → ((L : List Meaning) → TracksAt f.tracker L → Takes (at_line f.holdup.0 m f.holdup.1) L m step text × TracksAt f'.tracker (m ∷ L))
+    → f'.holdup ≡ (f.holdup.0, after_line f.holdup.0 m step (at_line f.holdup.0 m f.holdup.1)) → f'.is_ready ≡ true → ((L : List Meaning) → f.answers ≡ answer_count L → f'.answers ≡ answer_count (m ∷ L))
     → Carries m f f' old new
-carries_take m f f' old new step text h does takes now count = λ o bytes line rest one reads s.
+carries_take m f f' old new step text h does takes holdup now count = λ o bytes line rest one reads s.
     let (L, is, tracks, counted) = at_after f s.stage h s.is_at in
     let (taken, tracks') = takes L tracks in
     let (results, filters, whole) = rw is at s.has_text in
+    let T : Spans → Type 0 = λ p. Takes (at_line p m f.holdup.1) L m step text in
+    let N : Spans → Type 0 = λ p. f'.holdup.1 ≡ after_line p m step (at_line p m f.holdup.1) in
     record {
       lines = s.lines ++ line ∷ [];
       stage = AfterReady (m ∷ L);
@@ -178,7 +184,8 @@ carries_take m f f' old new step text h does takes now count = λ o bytes line r
       whole = holds_taken bytes s.lines line rest one s.whole;
       reaches = ready_more s.lines line L m (rw is at s.reaches) reads;
       is_at = (now, tracks', count L counted);
-      has_text = (results ++ text, (step, s.steps, results, text, filters, taken, refl, refl), ap (λ t. t ++ text) whole ∙ append_assoc registration results text);
+      spans = ap (λ x. x.0) holdup ∙ s.spans;
+      has_text = (results ++ text, (step, s.steps, results, text, f.holdup.1, filters, subst T s.spans taken, refl, refl, subst N s.spans (ap (λ x. x.1) holdup)), ap (λ t. t ++ text) whole ∙ append_assoc registration results text);
       written = Appends-trans o.sink old.sink new.sink s.text text s.written does.written;
       exchanged = told_push o.told old.told new.told s.steps step s.exchanged does.exchanged;
       made = makes_push o.client old.client new.client s.steps step s.made does.made;
@@ -192,7 +199,7 @@ Does-still now = record { written = Appends-none now.sink; exchanged = Tells-non
 pub stops : (o : Outside) (pieces : List (List ℕ)) (left : List ℕ) (f : Filter) (source : Option (List ℕ)) (old new : Outside) (read_failed write_failed : Bool) (fault : FilterFault) (step : Option Step) (front rest : List ℕ)
     → SoFar o (concat pieces) left f old → Does old new step front
     → ((stage : Stage) → IsAt f stage → IsFound fault stage pieces left source read_failed write_failed)
-    → ((stage : Stage) → IsAt f stage → IsInHand fault stage left step (front ++ rest))
+    → ((stage : Stage) → IsAt f stage → IsInHand fault f.holdup.0 f.holdup.1 stage left step (front ++ rest))
     → StopsAt o pieces source new read_failed write_failed fault
 stops o pieces left f source old new read_failed write_failed fault step front rest s does found in_hand = record {
   lines = s.lines;
@@ -200,6 +207,7 @@ stops o pieces left f source old new read_failed write_failed fault step front r
   stage = s.stage;
   steps = s.steps;
   text = s.text;
+  holding = f.holdup.1;
   whole = s.whole;
   reaches = s.reaches;
   has_text = s.has_text;
@@ -207,7 +215,7 @@ stops o pieces left f source old new read_failed write_failed fault step front r
   step = step;
   front = front;
   rest = rest;
-  in_hand = in_hand s.stage s.is_at;
+  in_hand = (let H : Spans → Type 0 = λ p. IsInHand fault p f.holdup.1 s.stage left step (front ++ rest) in subst H s.spans (in_hand s.stage s.is_at));
   written = Appends-trans o.sink old.sink new.sink s.text front s.written does.written;
   exchanged = told_push o.told old.told new.told s.steps step s.exchanged does.exchanged;
   made = makes_push o.client old.client new.client s.steps step s.made does.made;
@@ -217,7 +225,7 @@ stops o pieces left f source old new read_failed write_failed fault step front r
 pub stops_within : (o : Outside) (pieces : List (List ℕ)) (left : List ℕ) (f : Filter) (source : Option (List ℕ)) (old new : Outside) (read_failed write_failed : Bool) (fault : FilterFault) (step : Option Step) (front rest : List ℕ)
     → SoFar o (concat pieces) left f old → Does old new step front
     → ((stage : Stage) → IsAt f stage → IsFound fault stage pieces left source read_failed write_failed)
-    → ((stage : Stage) → IsAt f stage → IsInHand fault stage left step (front ++ rest))
+    → ((stage : Stage) → IsAt f stage → IsInHand fault f.holdup.0 f.holdup.1 stage left step (front ++ rest))
     → ((stage : Stage) → IsAt f stage → fault ≡ faults.Memory → IsAtWork stage left)
     → StopsWithin o pieces source new read_failed write_failed fault
 unfolding stops
@@ -236,16 +244,16 @@ cut_found faults.CutLine stage pieces left source read_failed write_failed c w =
 cut_found faults.TooLong stage pieces left source read_failed write_failed c w = absurd c
 cut_found faults.Read stage pieces left source read_failed write_failed c w = absurd c
 
-pub cut_in_hand : (fault : FilterFault) (stage : Stage) (left : List ℕ) (write_failed : Bool) (step : Option Step) (next : List ℕ) → IsCut fault write_failed → MayGo stage left step next → IsInHand fault stage left step next
-cut_in_hand faults.Write stage left write_failed step next c h = h
-cut_in_hand faults.Memory stage left write_failed step next c h = h
-cut_in_hand (faults.Line f) stage left write_failed step next c h = absurd c
-cut_in_hand (faults.Track f) stage left write_failed step next c h = absurd c
-cut_in_hand faults.NotReady stage left write_failed step next c h = absurd c
-cut_in_hand faults.EndedEarly stage left write_failed step next c h = absurd c
-cut_in_hand faults.CutLine stage left write_failed step next c h = absurd c
-cut_in_hand faults.TooLong stage left write_failed step next c h = absurd c
-cut_in_hand faults.Read stage left write_failed step next c h = absurd c
+pub cut_in_hand : (fault : FilterFault) (spans : Spans) (k : Holding) (stage : Stage) (left : List ℕ) (write_failed : Bool) (step : Option Step) (next : List ℕ) → IsCut fault write_failed → MayGo spans k stage left step next → IsInHand fault spans k stage left step next
+cut_in_hand faults.Write spans k stage left write_failed step next c h = h
+cut_in_hand faults.Memory spans k stage left write_failed step next c h = h
+cut_in_hand (faults.Line f) spans k stage left write_failed step next c h = absurd c
+cut_in_hand (faults.Track f) spans k stage left write_failed step next c h = absurd c
+cut_in_hand faults.NotReady spans k stage left write_failed step next c h = absurd c
+cut_in_hand faults.EndedEarly spans k stage left write_failed step next c h = absurd c
+cut_in_hand faults.CutLine spans k stage left write_failed step next c h = absurd c
+cut_in_hand faults.TooLong spans k stage left write_failed step next c h = absurd c
+cut_in_hand faults.Read spans k stage left write_failed step next c h = absurd c
 
 pub first_of : (line rest : List ℕ) → IsLine line → StandsFirst line (line ++ 10 ∷ rest)
 first_of line rest one = record { is_line = one; rest = rest; whole = refl }
@@ -253,12 +261,12 @@ first_of line rest one = record { is_line = one; rest = rest; whole = refl }
 -- ---- lines as the code has them
 
 -- a line that is no request makes the step of its closing, and nothing is written for it
-pub takes_noted : (L : List Meaning) (l : Line) (step : Option Step) → ((seconds : ℕ) (subsystem phase session token rest : Bor (List ℕ)) → l ≡ line.Filter seconds subsystem phase session token rest → ⊥) → fault L (meaning l) ≡ None → Closes (closing L (meaning l)) step → Takes L (meaning l) step []
-takes_noted L (line.Config key value) step apart none c = (none, c, refl)
-takes_noted L line.Ready step apart none c = (none, c, refl)
-takes_noted L (line.Report seconds subsystem event session params) step apart none c = (none, c, refl)
-takes_noted L (line.Filter seconds subsystem phase session token rest) step apart none c = absurd (apart seconds subsystem phase session token rest refl)
-takes_noted L line.Other step apart none c = (none, c, refl)
+pub takes_noted : (k : Holding) (L : List Meaning) (l : Line) (step : Option Step) → ((seconds : ℕ) (subsystem phase session token rest : Bor (List ℕ)) → l ≡ line.Filter seconds subsystem phase session token rest → ⊥) → fault L (meaning l) ≡ None → Closes (is_some k.paused) (closing L (meaning l)) step → Takes k L (meaning l) step []
+takes_noted k L (line.Config key value) step apart none c = (none, c, refl)
+takes_noted k L line.Ready step apart none c = (none, c, refl)
+takes_noted k L (line.Report seconds subsystem event session params) step apart none c = (none, c, refl)
+takes_noted k L (line.Filter seconds subsystem phase session token rest) step apart none c = absurd (apart seconds subsystem phase session token rest refl)
+takes_noted k L line.Other step apart none c = (none, c, refl)
 
 pub count_noted : (L : List Meaning) (l : Line) → ((seconds : ℕ) (subsystem phase session token rest : Bor (List ℕ)) → l ≡ line.Filter seconds subsystem phase session token rest → ⊥) → answer_count (meaning l ∷ L) ≡ answer_count L
 count_noted L (line.Config key value) apart = refl
@@ -278,8 +286,8 @@ answer_counted L seconds subsystem phase session token rest n e = omega (arith, 
 -- a request whose work was cut short
 pub may_go : (f : Filter) (stage : Stage) (line rest : List ℕ) (seconds : ℕ) (subsystem phase session token more : List ℕ) (step : Option Step) (next : List ℕ) → f.is_ready ≡ true → IsAt f stage → IsLine line
     → Reads line (FilterLine seconds subsystem phase session token more)
-    → ((step ≡ None) × (next ≡ [])) ⊎ ((L : List Meaning) → TracksAt f.tracker L → Replies L subsystem phase session token step next)
-    → MayGo stage (line ++ 10 ∷ rest) step next
+    → ((step ≡ None) × (next ≡ [])) ⊎ ((L : List Meaning) → TracksAt f.tracker L → Replies (still f.holdup.0 seconds f.holdup.1) L subsystem phase session token step next)
+    → MayGo f.holdup.0 f.holdup.1 stage (line ++ 10 ∷ rest) step next
 may_go f stage line rest seconds subsystem phase session token more step next h a one reads (inl quiet) = inl quiet
 may_go f stage line rest seconds subsystem phase session token more step next h a one reads (inr replies) =
     let (L, is, tracks, counted) = at_after f stage h a in
@@ -298,7 +306,7 @@ track_apart h = cc (h)
 -- a line that wasn't noted
 pub refused_stops : (fault : FilterFault) (f : Filter) (stage : Stage) (pieces : List (List ℕ)) (line rest : List ℕ) (m : Meaning) (source : Option (List ℕ)) (read_failed write_failed : Bool) → f.is_ready ≡ true → IsAt f stage → IsLine line → Reads line m
     → ((L : List Meaning) → TracksAt f.tracker L → IsRefused fault L m)
-    → IsFound fault stage pieces (line ++ 10 ∷ rest) source read_failed write_failed × IsInHand fault stage (line ++ 10 ∷ rest) None [] × (fault ≡ faults.Memory → IsAtWork stage (line ++ 10 ∷ rest))
+    → IsFound fault stage pieces (line ++ 10 ∷ rest) source read_failed write_failed × IsInHand fault f.holdup.0 f.holdup.1 stage (line ++ 10 ∷ rest) None [] × (fault ≡ faults.Memory → IsAtWork stage (line ++ 10 ∷ rest))
 refused_stops (faults.Track e) f stage pieces line rest m source read_failed write_failed h a one reads refused =
     let (L, is, tracks, counted) = at_after f stage h a in
     ((L, m, line, is, first_of line rest one, reads, refused L tracks), (refl, refl), λ e. absurd (track_apart e))
@@ -320,7 +328,7 @@ refused_stops faults.Write f stage pieces line rest m source read_failed write_f
 -- what waits is sent once more
 pub ends : (o : Outside) (bytes held : List ℕ) (f : Filter) (sink : Option (List ℕ)) (told told' : Option (List Told)) (client client' : State) (group : List Exchange) (e : Ended)
     → SoFar o bytes held f (around sink told client) → f.is_ready ≡ true → held ≡ []
-    → Tells told told' (told_all group) → Makes client client' (record { action = Drain; group = group })
+    → Tells told told' (told_all group) → Makes client client' (record { action = Drain; group = group; quiet = false })
     → e.answers ≡ f.answers → ((P : List Step) → StandsAt client' P → e.left ≡ length (view client'.source P).waiting)
     → EndsWith o bytes (around sink told' client') e
 ends o bytes held f sink told told' client client' group e s h none tells makes answers left =
@@ -333,13 +341,14 @@ ends o bytes held f sink told told' client client' group e s h none tells makes 
       after_ready = L;
       steps = s.steps;
       results = results;
+      holding = f.holdup.1;
       group = group;
       whole = subst H none s.whole;
       ready = rw is at s.reaches;
       filters = filters;
       written = subst A whole s.written;
-      exchanged = told_push o.told told told' s.steps (Some (record { action = Drain; group = group })) s.exchanged tells;
-      made = makes_push o.client client client' s.steps (Some (record { action = Drain; group = group })) s.made makes;
+      exchanged = told_push o.told told told' s.steps (Some (record { action = Drain; group = group; quiet = false })) s.exchanged tells;
+      made = makes_push o.client client client' s.steps (Some (record { action = Drain; group = group; quiet = false })) s.made makes;
       answers = answers ∙ counted;
       left = left;
     }
@@ -350,9 +359,9 @@ no_line : IsLine []
 no_line = record { one = search rules; short = omega arith }
 
 -- nothing was read yet
-pub so_far_start : (sink : Option (List ℕ)) (told : Option (List Told)) (client : State) (f : Filter) (held : List ℕ) → held ≡ [] → f.is_ready ≡ false → TracksAt f.tracker [] → f.answers ≡ 0
+pub so_far_start : (sink : Option (List ℕ)) (told : Option (List Told)) (client : State) (f : Filter) (held : List ℕ) → held ≡ [] → f.is_ready ≡ false → TracksAt f.tracker [] → f.answers ≡ 0 → f.holdup ≡ (client.spans, nothing_held)
     → SoFar (around sink told client) [] held f (around sink told client)
-so_far_start sink told client f held none h tracks zero = record {
+so_far_start sink told client f held none h tracks zero holdup = record {
   lines = [];
   stage = BeforeReady;
   steps = [];
@@ -360,7 +369,8 @@ so_far_start sink told client f held none h tracks zero = record {
   whole = rw none (record { whole = refl; each = tt });
   reaches = tt;
   is_at = (h, tracks, zero);
-  has_text = (refl, refl);
+  spans = ap (λ x. x.0) holdup;
+  has_text = (refl, refl, ap (λ x. x.1) holdup);
   written = Appends-none sink;
   exchanged = Tells-none told;
   made = makes_none client;
@@ -377,6 +387,7 @@ so_far_fed o pieces held held' piece f now e s = record {
   whole = rw e (record { whole = concat_push pieces piece ∙ ap (λ (l : List ℕ). l ++ piece) s.whole.whole ∙ append_assoc (text_of s.lines) held piece; each = s.whole.each });
   reaches = s.reaches;
   is_at = s.is_at;
+  spans = s.spans;
   has_text = s.has_text;
   written = s.written;
   exchanged = s.exchanged;

@@ -5,7 +5,7 @@ use Rattle.std.proofs.lemmas.List.{drop-drop}
 use Rattle.mq_request.specs.declared.message.Request.{Request}
 use Rattle.mq_request.specs.declared.message.Reply.{Reply}
 use Rattle.mq_client.specs.Exchanges.{Exchange, AreFailed, AreTries, IsUndecided, SendsSome, NoneYet, OneMore, Sends, SendsAll, SendsUpTo, decisions}
-use Rattle.mq_client.specs.Past.{Source, Action, Ask, Close, Drain, Standing, Live, Closed, View, view, held_by, opened, let_through, answer_of, answer_by, reserve_of, closing_of, with_asked, refuses, PlaysFrom, State, find, Makes}
+use Rattle.mq_client.specs.Past.{Source, Action, Ask, Close, Drain, Standing, Live, Closed, View, view, held_by, opened, let_through, answer_of, answer_by, reserve_of, closing_of, with_asked, refuses, PlaysFrom, tries_in, State, find, Makes}
 use Rattle.mq_track.specs.declared.closing.CloseEnd.{CloseEnd}
 use Rattle.mq_client.specs.declared.held.Asked.{Asked}
 use Rattle.mq_client.specs.declared.held.Held.{Held}
@@ -42,11 +42,25 @@ match_false false A B e a = a
 -- ---- asks
 
 -- an ask that is refused changes nothing
-pub refused : (c : State) (txn moment : ℕ) (login : List ℕ) → refuses (find c.held txn) (length c.held) c.numbers (length c.waiting) moment login ≡ true → Makes c c (record { action = Ask txn moment login; group = [] })
+pub refused : (c : State) (txn moment : ℕ) (login : List ℕ) → refuses (find c.held txn) (length c.held) c.numbers (length c.waiting) moment login ≡ true → Makes c c (record { action = Ask txn moment login; group = []; quiet = false })
 refused c txn moment login h = record {
   source = refl;
   tries = refl;
   plays = λ P st. plays_alike c.source c.tries (Ask txn moment login) [] _ _ _ _ _ _ _ _ (st.held txn) st.live st.numbers st.waiting (match_true _ _ _ h refl);
+  stands = λ P st. record { held = st.held; live = st.live; numbers = st.numbers; waiting = st.waiting };
+}
+
+either : (b : Bool) (q : Request) → MatchBool b (◌≡◌ {A = List Exchange} [] []) ((decided : Option Reply) × AreTries 0 q [] decided)
+either true q = refl
+either false q = (None, (tt, refl))
+
+-- an ask that is held back changes nothing
+pub held_back : (c : State) (txn moment : ℕ) (login : List ℕ) → Makes c c (record { action = Ask txn moment login; group = []; quiet = true })
+held_back c txn moment login = record {
+  source = refl;
+  tries = refl;
+  plays = λ P st. let v = view c.source P in
+      either (refuses (held_by (v.standing txn)) (length v.live) v.numbers (length v.waiting) moment login) (reserve_of c.source (v.numbers + 1) txn moment login);
   stands = λ P st. record { held = st.held; live = st.live; numbers = st.numbers; waiting = st.waiting };
 }
 
@@ -67,7 +81,7 @@ pub asked : (c d : State) (txn moment : ℕ) (login : List ℕ) (group : List Ex
     → AreTries c.tries (reserve_of c.source (c.numbers + 1) txn moment login) group decided
     → ((t : ℕ) → find d.held t ≡ (if txn == t then Some (let_through (answer_by decided) (opened moment login (find c.held txn))) else find c.held t))
     → length d.held ≡ (if is_some (find c.held txn) then length c.held else length c.held + 1) → d.numbers ≡ c.numbers + 1 → d.waiting ≡ c.waiting
-    → Makes c d (record { action = Ask txn moment login; group = group })
+    → Makes c d (record { action = Ask txn moment login; group = group; quiet = false })
 asked c d txn moment login [] decided pos source same free tries held len numbers waiting = absurd (not_empty c.tries (reserve_of c.source (c.numbers + 1) txn moment login) decided pos tries)
 asked c d txn moment login (x ∷ group) decided pos source same free tries held len numbers waiting = record {
   source = source;
@@ -132,13 +146,13 @@ sends_left n queue group left (SendsUpTo q more done tries s t) =
     rw count (some_left n queue done (q ∷ more) s)
 
 -- a close of a transaction that isn't held
-pub closed_nothing : (c : State) (txn : ℕ) (end : CloseEnd) → find c.held txn ≡ None → Makes c c (record { action = Close txn end; group = [] })
-closed_nothing c txn end e =
-    let F : Option Held → Type 0 = λ o. PlaysFrom c.source c.tries o (length c.held) c.numbers c.waiting (Close txn end) [] in
+pub closed_nothing : (c : State) (txn : ℕ) (end : CloseEnd) (quiet : Bool) → find c.held txn ≡ None → Makes c c (record { action = Close txn end; group = []; quiet = quiet })
+closed_nothing c txn end quiet e =
+    let F : Option Held → Type 0 = λ o. PlaysFrom c.source (tries_in c.tries quiet) o (length c.held) c.numbers c.waiting (Close txn end) [] in
     record {
       source = refl;
       tries = refl;
-      plays = λ P st. plays_alike c.source c.tries (Close txn end) [] _ _ _ _ _ _ _ _ (st.held txn) st.live st.numbers st.waiting (subst F (sym e) refl);
+      plays = λ P st. plays_alike c.source (tries_in c.tries quiet) (Close txn end) [] _ _ _ _ _ _ _ _ (st.held txn) st.live st.numbers st.waiting (subst F (sym e) refl);
       stands = λ P st. let gone : held_by ((view c.source P).standing txn) ≡ None = sym (st.held txn) ∙ e in
           record { held = rw gone st.held; live = rw gone st.live; numbers = rw gone st.numbers; waiting = rw gone st.waiting };
     }
@@ -148,16 +162,16 @@ gone_at : (v : View) (txn : ℕ) (st : Standing) (held new : List (ℕ × Held))
 gone_at v txn st held new t true e n h = n ∙ sym e
 gone_at v txn st held new t false e n h = n ∙ h t
 
-pub closed : (c d : State) (txn : ℕ) (end : CloseEnd) (h : Held) (group : List Exchange) → d.source ≡ c.source → d.tries ≡ c.tries → find c.held txn ≡ Some h
-    → Sends c.tries (c.waiting ++ closing_of c.source (c.numbers + 1) txn end h ∷ []) group d.waiting
+pub closed : (c d : State) (txn : ℕ) (end : CloseEnd) (quiet : Bool) (h : Held) (group : List Exchange) → d.source ≡ c.source → d.tries ≡ c.tries → find c.held txn ≡ Some h
+    → Sends (tries_in c.tries quiet) (c.waiting ++ closing_of c.source (c.numbers + 1) txn end h ∷ []) group d.waiting
     → ((t : ℕ) → find d.held t ≡ (if txn == t then None else find c.held t)) → length d.held + 1 ≡ length c.held → d.numbers ≡ c.numbers + 1
-    → Makes c d (record { action = Close txn end; group = group })
-closed c d txn end h group source same e sends held len numbers =
-    let F : Option Held → Type 0 = λ o. PlaysFrom c.source c.tries o (length c.held) c.numbers c.waiting (Close txn end) group in
+    → Makes c d (record { action = Close txn end; group = group; quiet = quiet })
+closed c d txn end quiet h group source same e sends held len numbers =
+    let F : Option Held → Type 0 = λ o. PlaysFrom c.source (tries_in c.tries quiet) o (length c.held) c.numbers c.waiting (Close txn end) group in
     record {
       source = source;
       tries = same;
-      plays = λ P st. plays_alike c.source c.tries (Close txn end) group _ _ _ _ _ _ _ _ (st.held txn) st.live st.numbers st.waiting (subst F (sym e) (d.waiting, sends));
+      plays = λ P st. plays_alike c.source (tries_in c.tries quiet) (Close txn end) group _ _ _ _ _ _ _ _ (st.held txn) st.live st.numbers st.waiting (subst F (sym e) (d.waiting, sends));
       stands = λ P st. rw source (
           let v : View = view c.source P in
           let was : held_by (v.standing txn) ≡ Some h = sym (st.held txn) ∙ e in
@@ -167,11 +181,11 @@ closed c d txn end h group source same e sends held len numbers =
             held = rw was (λ t. gone_at v txn (Closed end (v.numbers + 1) h) c.held d.held t (txn == t) refl (held t) st.held);
             live = rw was (omega (arith, len, st.live, length_closed v txn (counted c.source P) (ap is_some was)));
             numbers = rw was (numbers ∙ ap (λ i. i + 1) st.numbers);
-            waiting = rw was (sends_left c.tries _ group d.waiting sends ∙ ap (drop (decisions group)) queue);
+            waiting = rw was (sends_left (tries_in c.tries quiet) _ group d.waiting sends ∙ ap (drop (decisions group)) queue);
           });
     }
 
-pub drained : (c d : State) (group : List Exchange) → d.source ≡ c.source → d.tries ≡ c.tries → d.held ≡ c.held → d.numbers ≡ c.numbers → Sends c.tries c.waiting group d.waiting → Makes c d (record { action = Drain; group = group })
+pub drained : (c d : State) (group : List Exchange) → d.source ≡ c.source → d.tries ≡ c.tries → d.held ≡ c.held → d.numbers ≡ c.numbers → Sends c.tries c.waiting group d.waiting → Makes c d (record { action = Drain; group = group; quiet = false })
 drained c d group source same held numbers sends = record {
   source = source;
   tries = same;

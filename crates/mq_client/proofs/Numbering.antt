@@ -10,7 +10,7 @@ use Rattle.mq_request.specs.declared.message.Id.{Id}
 use Rattle.mq_request.specs.declared.message.Request.{Request}
 use Rattle.mq_request.specs.declared.message.Request.TheVariants.{Reserve, Settle, Release, Limit, Usage, List as ListRequest, Retire}
 use Rattle.mq_client.specs.Exchanges.{Exchange, decisions}
-use Rattle.mq_client.specs.Past.{Source, Action, Ask, Close, Drain, Step, Standing, Never, Live, Closed, View, view, after, after_close, held_by, held_for, opened, let_through, answer_of, id_of, reserve_of, is_commit, closing_of, is_other, refuses}
+use Rattle.mq_client.specs.Past.{tries_in, Source, Action, Ask, Close, Drain, Step, Standing, Never, Live, Closed, View, view, after, after_close, held_by, held_for, opened, let_through, answer_of, id_of, reserve_of, is_commit, closing_of, is_other, refuses}
 use Rattle.mq_client.specs.Reading.{live_in, numbers_in, takes_number}
 use Rattle.mq_client.specs.Turns.{queue_of, ComeInTurn, AreUnderway}
 use Rattle.mq_client.specs.Numbered.{id_in, txn_in, exchanges_in, request_by, request_under, IsNumbered, WasCommitted, SettlesWhatWasLet, is_closed, AsksForNoClosed, NoneReturns, Suits}
@@ -75,63 +75,63 @@ older s x P q i = record {
 
 -- ---- what is sent
 
-reserve_numbered : (b : Bool) (s : Source) (P : List Step) (txn moment : ℕ) (login : List ℕ) (y : Exchange) (group : List Exchange) (n : ℕ) → n ≡ numbers_in P
-    → AllByRecursion (IsNumbered s (record { action = Ask txn moment login; group = y ∷ group } ∷ P)) (if b then [] else reserve_of s (n + 1) txn moment login ∷ [])
-reserve_numbered true s P txn moment login y group n e = tt
-reserve_numbered false s P txn moment login y group n e = (newest s (record { action = Ask txn moment login; group = y ∷ group }) P (reserve_of s (n + 1) txn moment login) (ap (λ k. Some (reserve_of s (k + 1) txn moment login)) (sym e)), tt)
+reserve_numbered : (b : Bool) (s : Source) (P : List Step) (txn moment : ℕ) (login : List ℕ) (y : Exchange) (group : List Exchange) (k : Bool) (n : ℕ) → n ≡ numbers_in P
+    → AllByRecursion (IsNumbered s (record { action = Ask txn moment login; group = y ∷ group; quiet = k } ∷ P)) (if b then [] else reserve_of s (n + 1) txn moment login ∷ [])
+reserve_numbered true s P txn moment login y group k n e = tt
+reserve_numbered false s P txn moment login y group k n e = (newest s (record { action = Ask txn moment login; group = y ∷ group; quiet = k }) P (reserve_of s (n + 1) txn moment login) (ap (λ k. Some (reserve_of s (k + 1) txn moment login)) (sym e)), tt)
 
 all_older : (s : Source) (x : Step) (P : List Step) (qs : List Request) → AllByRecursion (IsNumbered s P) qs → AllByRecursion (IsNumbered s (x ∷ P)) qs
 all_older s x P qs all = all_weaker (IsNumbered s P) (IsNumbered s (x ∷ P)) qs (older s x P) all
 
-closing_numbered : (s : Source) (P : List Step) (v : View) (txn : ℕ) (end : CloseEnd) (group : List Exchange) (h : Held) → v.numbers ≡ numbers_in P → live_in P txn ≡ Some h → AllByRecursion (IsNumbered s P) v.waiting
-    → AllByRecursion (IsNumbered s (record { action = Close txn end; group = group } ∷ P)) (v.waiting ++ closing_of s (v.numbers + 1) txn end h ∷ [])
-closing_numbered s P v txn end group h n live w =
-    let x : Step = record { action = Close txn end; group = group } in
+closing_numbered : (s : Source) (P : List Step) (v : View) (txn : ℕ) (end : CloseEnd) (group : List Exchange) (k : Bool) (h : Held) → v.numbers ≡ numbers_in P → live_in P txn ≡ Some h → AllByRecursion (IsNumbered s P) v.waiting
+    → AllByRecursion (IsNumbered s (record { action = Close txn end; group = group; quiet = k } ∷ P)) (v.waiting ++ closing_of s (v.numbers + 1) txn end h ∷ [])
+closing_numbered s P v txn end group k h n live w =
+    let x : Step = record { action = Close txn end; group = group; quiet = k } in
     let q = closing_of s (v.numbers + 1) txn end h in
     all_push (IsNumbered s (x ∷ P)) v.waiting q (all_older s x P v.waiting w)
     (newest s x P q (ap (option_map (closing_of s (numbers_in P + 1) txn end)) live ∙ ap (λ k. Some (closing_of s (k + 1) txn end h)) (sym n)))
 
-queue_numbered : (s : Source) (P : List Step) (v : View) (a : Action) (group : List Exchange) (o : Option Held) (y : Exchange) → held_for v a ≡ o → v.numbers ≡ numbers_in P → ((t : ℕ) → held_by (v.standing t) ≡ live_in P t) → AllByRecursion (IsNumbered s P) v.waiting
-    → AllByRecursion (IsNumbered s (record { action = a; group = y ∷ group } ∷ P)) (queue_of s v o a)
-queue_numbered s P v (Ask txn moment login) group o y e n live w = reserve_numbered (refuses o (length v.live) v.numbers (length v.waiting) moment login) s P txn moment login y group v.numbers n
-queue_numbered s P v (Close txn end) group None y e n live w = tt
-queue_numbered s P v (Close txn end) group (Some h) y e n live w = closing_numbered s P v txn end (y ∷ group) h n (sym (live txn) ∙ e) w
-queue_numbered s P v Drain group o y e n live w = all_older s (record { action = Drain; group = y ∷ group }) P v.waiting w
+queue_numbered : (s : Source) (P : List Step) (v : View) (a : Action) (group : List Exchange) (k : Bool) (o : Option Held) (y : Exchange) → held_for v a ≡ o → v.numbers ≡ numbers_in P → ((t : ℕ) → held_by (v.standing t) ≡ live_in P t) → AllByRecursion (IsNumbered s P) v.waiting
+    → AllByRecursion (IsNumbered s (record { action = a; group = y ∷ group; quiet = k } ∷ P)) (queue_of s v o a)
+queue_numbered s P v (Ask txn moment login) group k o y e n live w = reserve_numbered (refuses o (length v.live) v.numbers (length v.waiting) moment login) s P txn moment login y group k v.numbers n
+queue_numbered s P v (Close txn end) group k None y e n live w = tt
+queue_numbered s P v (Close txn end) group k (Some h) y e n live w = closing_numbered s P v txn end (y ∷ group) k h n (sym (live txn) ∙ e) w
+queue_numbered s P v Drain group k o y e n live w = all_older s (record { action = Drain; group = y ∷ group; quiet = k }) P v.waiting w
 
 turns_numbered : (n : ℕ) (queue : List Request) (F : Request → Type 0) (group : List Exchange) → AllByRecursion F queue → ComeInTurn n queue group → AllByRecursion (λ x. F x.request) group
 turns_numbered n queue F [] all turns = tt
 turns_numbered n queue F (x ∷ group) all turns =
     (all_at F (decisions group) queue x.request all (next_in_queue n queue group x.request turns.0).1, turns_numbered n queue F group all turns.2)
 
-group_numbered : (s : Source) (n : ℕ) (P : List Step) (v : View) (a : Action) (group : List Exchange) → v.numbers ≡ numbers_in P → ((t : ℕ) → held_by (v.standing t) ≡ live_in P t) → AllByRecursion (IsNumbered s P) v.waiting
-    → ComeInTurn n (queue_of s v (held_for v a) a) group → AllByRecursion (λ x. IsNumbered s (record { action = a; group = group } ∷ P) x.request) group
-group_numbered s n P v a [] e live w turns = tt
-group_numbered s n P v a (y ∷ group) e live w turns = turns_numbered n (queue_of s v (held_for v a) a) (IsNumbered s (record { action = a; group = y ∷ group } ∷ P)) (y ∷ group) (queue_numbered s P v a group (held_for v a) y refl e live w) turns
+group_numbered : (s : Source) (n : ℕ) (P : List Step) (v : View) (a : Action) (group : List Exchange) (k : Bool) → v.numbers ≡ numbers_in P → ((t : ℕ) → held_by (v.standing t) ≡ live_in P t) → AllByRecursion (IsNumbered s P) v.waiting
+    → ComeInTurn n (queue_of s v (held_for v a) a) group → AllByRecursion (λ x. IsNumbered s (record { action = a; group = group; quiet = k } ∷ P) x.request) group
+group_numbered s n P v a [] k e live w turns = tt
+group_numbered s n P v a (y ∷ group) k e live w turns = turns_numbered n (queue_of s v (held_for v a) a) (IsNumbered s (record { action = a; group = y ∷ group; quiet = k } ∷ P)) (y ∷ group) (queue_numbered s P v a group k (held_for v a) y refl e live w) turns
 
-closed_waiting : (s : Source) (P : List Step) (v : View) (txn : ℕ) (end : CloseEnd) (group : List Exchange) (o : Option Held) → v.numbers ≡ numbers_in P → live_in P txn ≡ o → AllByRecursion (IsNumbered s P) v.waiting
-    → AllByRecursion (IsNumbered s (record { action = Close txn end; group = group } ∷ P)) (after_close s txn end group v o).waiting
-closed_waiting s P v txn end group None n live w = all_older s (record { action = Close txn end; group = group }) P v.waiting w
-closed_waiting s P v txn end group (Some h) n live w =
-    all_drop (IsNumbered s (record { action = Close txn end; group = group } ∷ P)) (decisions group) (v.waiting ++ closing_of s (v.numbers + 1) txn end h ∷ []) (closing_numbered s P v txn end group h n live w)
+closed_waiting : (s : Source) (P : List Step) (v : View) (txn : ℕ) (end : CloseEnd) (group : List Exchange) (k : Bool) (o : Option Held) → v.numbers ≡ numbers_in P → live_in P txn ≡ o → AllByRecursion (IsNumbered s P) v.waiting
+    → AllByRecursion (IsNumbered s (record { action = Close txn end; group = group; quiet = k } ∷ P)) (after_close s txn end group v o).waiting
+closed_waiting s P v txn end group k None n live w = all_older s (record { action = Close txn end; group = group; quiet = k }) P v.waiting w
+closed_waiting s P v txn end group k (Some h) n live w =
+    all_drop (IsNumbered s (record { action = Close txn end; group = group; quiet = k } ∷ P)) (decisions group) (v.waiting ++ closing_of s (v.numbers + 1) txn end h ∷ []) (closing_numbered s P v txn end group k h n live w)
 
-waiting_step : (s : Source) (P : List Step) (v : View) (a : Action) (group : List Exchange) → v.numbers ≡ numbers_in P → ((t : ℕ) → held_by (v.standing t) ≡ live_in P t) → AllByRecursion (IsNumbered s P) v.waiting
-    → AllByRecursion (IsNumbered s (record { action = a; group = group } ∷ P)) (after s v a group).waiting
-waiting_step s P v (Ask txn moment login) [] n live w = all_older s (record { action = Ask txn moment login; group = [] }) P v.waiting w
-waiting_step s P v (Ask txn moment login) (x ∷ group) n live w = all_older s (record { action = Ask txn moment login; group = x ∷ group }) P v.waiting w
-waiting_step s P v (Close txn end) group n live w = closed_waiting s P v txn end group (held_by (v.standing txn)) n (sym (live txn)) w
-waiting_step s P v Drain group n live w = all_drop (IsNumbered s (record { action = Drain; group = group } ∷ P)) (decisions group) v.waiting (all_older s (record { action = Drain; group = group }) P v.waiting w)
+waiting_step : (s : Source) (P : List Step) (v : View) (a : Action) (group : List Exchange) (k : Bool) → v.numbers ≡ numbers_in P → ((t : ℕ) → held_by (v.standing t) ≡ live_in P t) → AllByRecursion (IsNumbered s P) v.waiting
+    → AllByRecursion (IsNumbered s (record { action = a; group = group; quiet = k } ∷ P)) (after s v a group).waiting
+waiting_step s P v (Ask txn moment login) [] k n live w = all_older s (record { action = Ask txn moment login; group = []; quiet = k }) P v.waiting w
+waiting_step s P v (Ask txn moment login) (x ∷ group) k n live w = all_older s (record { action = Ask txn moment login; group = x ∷ group; quiet = k }) P v.waiting w
+waiting_step s P v (Close txn end) group k n live w = closed_waiting s P v txn end group k (held_by (v.standing txn)) n (sym (live txn)) w
+waiting_step s P v Drain group k n live w = all_drop (IsNumbered s (record { action = Drain; group = group; quiet = k } ∷ P)) (decisions group) v.waiting (all_older s (record { action = Drain; group = group; quiet = k }) P v.waiting w)
 
 -- each request that waits has a number of its own
 pub waiting_numbered : (s : Source) (P : List Step) → AllByRecursion (IsNumbered s P) (view s P).waiting
 waiting_numbered s [] = tt
-waiting_numbered s (x ∷ P) = waiting_step s P (view s P) x.action x.group (numbers_read s P) (live_read s P) (waiting_numbered s P)
+waiting_numbered s (x ∷ P) = waiting_step s P (view s P) x.action x.group x.quiet (numbers_read s P) (live_read s P) (waiting_numbered s P)
 
 -- and so has each that was sent
 pub sent_numbered : (s : Source) (n : ℕ) (P : List Step) → AreUnderway s n P → AllByRecursion (λ x. IsNumbered s P x.request) (exchanges_in P)
 sent_numbered s n [] u = tt
 sent_numbered s n (x ∷ P) u =
     all_append (λ y. IsNumbered s (x ∷ P) y.request) x.group (exchanges_in P)
-    (group_numbered s n P (view s P) x.action x.group (numbers_read s P) (live_read s P) (waiting_numbered s P) u.0)
+    (group_numbered s (tries_in n x.quiet) P (view s P) x.action x.group x.quiet (numbers_read s P) (live_read s P) (waiting_numbered s P) u.0)
     (all_weaker (λ y. IsNumbered s P y.request) (λ y. IsNumbered s (x ∷ P) y.request) (exchanges_in P) (λ y. older s x P y.request) (sent_numbered s n P u.1))
 
 seq_is : (s : Source) (m n : ℕ) → Some (id_of s m) ≡ Some (id_of s n) → m ≡ n
@@ -168,6 +168,7 @@ later_committed : (x : Step) (P : List Step) (txn moment : ℕ) (login : List �
 later_committed x P txn moment login count w = record {
   later = x ∷ w.later;
   group = w.group;
+  quiet = w.quiet;
   before = w.before;
   held = w.held;
   whole = ap (λ l. x ∷ l) w.whole;
@@ -177,19 +178,20 @@ later_committed x P txn moment login count w = record {
   count_is = w.count_is;
 }
 
-committed_by : (s : Source) (P : List Step) (a : Action) (group : List Exchange) (id : Id) (txn moment count : ℕ) (login : List ℕ) → request_by s P a group ≡ Some (Settle id txn moment login count) → WasCommitted (record { action = a; group = group } ∷ P) txn moment login count
-committed_by s P (Ask t m l) [] id txn moment count login e = absurd (none_some _ e)
-committed_by s P (Ask t m l) (x ∷ group) id txn moment count login e = absurd (reserve_settle _ _ _ _ _ _ _ _ _ _ (some_is _ _ e))
-committed_by s P Drain group id txn moment count login e = absurd (none_some _ e)
-committed_by s P (Close t end) group id txn moment count login e =
+committed_by : (s : Source) (P : List Step) (a : Action) (group : List Exchange) (k : Bool) (id : Id) (txn moment count : ℕ) (login : List ℕ) → request_by s P a group ≡ Some (Settle id txn moment login count) → WasCommitted (record { action = a; group = group; quiet = k } ∷ P) txn moment login count
+committed_by s P (Ask t m l) [] k id txn moment count login e = absurd (none_some _ e)
+committed_by s P (Ask t m l) (x ∷ group) k id txn moment count login e = absurd (reserve_settle _ _ _ _ _ _ _ _ _ _ (some_is _ _ e))
+committed_by s P Drain group k id txn moment count login e = absurd (none_some _ e)
+committed_by s P (Close t end) group k id txn moment count login e =
     let (h, there, is) = mapped_some (closing_of s (numbers_in P + 1) t end) (live_in P t) (Settle id txn moment login count) e in
     let (same, by, moment_is, login_is, count_is) = closing_settle s (numbers_in P + 1) t end h id txn moment count login is in
     record {
       later = [];
       group = group;
+      quiet = k;
       before = P;
       held = h;
-      whole = ap (λ k. record { action = Close k end; group = group } ∷ P) same ∙ ap (λ k. record { action = Close txn k; group = group } ∷ P) by;
+      whole = ap (λ j. record { action = Close j end; group = group; quiet = k } ∷ P) same ∙ ap (λ j. record { action = Close txn j; group = group; quiet = k } ∷ P) by;
       live = ap (live_in P) (sym same) ∙ there;
       moment_is = moment_is;
       login_is = login_is;
@@ -203,7 +205,7 @@ committed s (x ∷ P) n id txn moment count login e = by_number (λ f. later_com
     by_number : (request_under s P n ≡ Some (Settle id txn moment login count) → WasCommitted (x ∷ P) txn moment login count) → (b : Bool) (o : Option Request) → request_by s P x.action x.group ≡ o
         → (if b then option_or o (request_under s P n) else request_under s P n) ≡ Some (Settle id txn moment login count) → WasCommitted (x ∷ P) txn moment login count
     by_number before true None f e = before e
-    by_number before true (Some q) f e = committed_by s P x.action x.group id txn moment count login (f ∙ e)
+    by_number before true (Some q) f e = committed_by s P x.action x.group x.quiet id txn moment count login (f ∙ e)
     by_number before false o f e = before e
 
 settles : (s : Source) (P : List Step) (q : Request) → IsNumbered s P q → SettlesWhatWasLet P q
@@ -332,5 +334,5 @@ all_suit s tries (x ∷ P) u fresh n t q e named =
     by_number : (request_under s P n ≡ Some q → Suits s n t ((view s (x ∷ P)).standing t) q) → (b : Bool) (o : Option Request) → (numbers_in P + 1 == n) ≡ b → request_by s P x.action x.group ≡ o
         → (if b then option_or o (request_under s P n) else request_under s P n) ≡ Some q → Suits s n t ((view s (x ∷ P)).standing t) q
     by_number before true None i f e = before e
-    by_number before true (Some r) i f e = suits_new s tries n t q P (view s P) x.action x.group (numbers_read s P) (live_read s P) u.0 (eqb-true (numbers_in P + 1) n i) (f ∙ e) named
+    by_number before true (Some r) i f e = suits_new s (tries_in tries x.quiet) n t q P (view s P) x.action x.group (numbers_read s P) (live_read s P) u.0 (eqb-true (numbers_in P + 1) n i) (f ∙ e) named
     by_number before false o i f e = before e

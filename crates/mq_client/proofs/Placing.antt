@@ -8,7 +8,9 @@ use Rattle.mq_line.specs.declared.fault.LineFault.{LineFault}
 use Rattle.mq_track.specs.Sessions.{fault as track_fault}
 use Rattle.mq_track.specs.declared.fault.TrackFault.{TrackFault}
 use Rattle.mq_client.specs.Past.{Step}
-use Rattle.mq_client.specs.Filter.{Takes, Filters}
+use Rattle.mq_client.specs.Holding.{Holding}
+use Rattle.mq_client.specs.declared.spans.Spans.{Spans}
+use Rattle.mq_client.specs.Filter.{Takes, at_line, Filters}
 use Rattle.mq_client.specs.Run.{is_early, is_stamped, IsEarly, AreRead, IsReady, Stage, BeforeReady, AfterReady, Reaches, HasText}
 use Rattle.mq_client.specs.declared.fault.FilterFault.{FilterFault}
 use Rattle.mq_client.specs.declared.fault.FilterFault.TheVariants as faults
@@ -130,12 +132,12 @@ early_plain (ReportLine seconds subsystem event session params) e = absurd (true
 early_plain (FilterLine seconds subsystem phase session token rest) e = absurd (true_false (sym e))
 early_plain OtherLine e = refl
 
-takes_sound : (L : List Meaning) (m : Meaning) (step : Option Step) (text : List ℕ) → Takes L m step text → track_fault L m ≡ None
-takes_sound L (ConfigLine key value) step text t = t.0
-takes_sound L ReadyLine step text t = t.0
-takes_sound L (ReportLine seconds subsystem event session params) step text t = t.0
-takes_sound L (FilterLine seconds subsystem phase session token rest) step text t = refl
-takes_sound L OtherLine step text t = t.0
+takes_sound : (h : Holding) (L : List Meaning) (m : Meaning) (step : Option Step) (text : List ℕ) → Takes h L m step text → track_fault L m ≡ None
+takes_sound k L (ConfigLine key value) step text t = t.0
+takes_sound k L ReadyLine step text t = t.0
+takes_sound k L (ReportLine seconds subsystem event session params) step text t = t.0
+takes_sound k L (FilterLine seconds subsystem phase session token rest) step text t = refl
+takes_sound k L OtherLine step text t = t.0
 
 all_at : (P : List ℕ → Type 0) (ls : List (List ℕ)) (y : List ℕ) (d : List (List ℕ)) → AllByRecursion P (ls ++ y ∷ d) → P y
 all_at P [] y d h = h.0
@@ -177,14 +179,14 @@ snoc (x ∷ d) = one_more (snoc d)
     one_more (Last front z e) = Last (x ∷ front) z (ap (λ l. x ∷ l) e)
 
 -- a line after others that were read was taken after what those say
-taken_at : (G : Grammar) (xs d : List (List ℕ)) (y : List ℕ) (L M : List Meaning) (steps : List Step) (text : List ℕ) → AreRead xs L → AreRead (xs ++ y ∷ d) M → Filters M steps text
+taken_at : (spans : Spans) (k : Holding) (G : Grammar) (xs d : List (List ℕ)) (y : List ℕ) (L M : List Meaning) (steps : List Step) (text : List ℕ) → AreRead xs L → AreRead (xs ++ y ∷ d) M → Filters spans M steps text k
     → (m : Meaning) × Reads y m × (track_fault L m ≡ None)
-taken_at G xs d y L [] steps text h i f = absurd (no_lines xs i)
+taken_at spans k G xs d y L [] steps text h i f = absurd (no_lines xs i)
   where
     no_lines : (l : List (List ℕ)) → l ++ y ∷ d ≡ [] → ⊥
     no_lines [] e = nil_cons y d (sym e)
     no_lines (x ∷ l) e = nil_cons x (l ++ y ∷ d) (sym e)
-taken_at G xs d y L (m ∷ M) steps text h (before, line, whole, reads, rest) (step, b, written, next, filters, takes, e, g) = by_end (snoc d) (λ front read. taken_at G xs front y L M b written h read filters)
+taken_at spans k G xs d y L (m ∷ M) steps text h (before, line, whole, reads, rest) (step, b, written, next, held, filters, takes, e, g, more) = by_end (snoc d) (λ front read. taken_at spans held G xs front y L M b written h read filters)
   where
     by_end : Snoc d → ((front : List (List ℕ)) → AreRead (xs ++ y ∷ front) M → (n : Meaning) × Reads y n × (track_fault L n ≡ None)) → (n : Meaning) × Reads y n × (track_fault L n ≡ None)
     by_end (Empty none) again =
@@ -192,24 +194,24 @@ taken_at G xs d y L (m ∷ M) steps text h (before, line, whole, reads, rest) (s
         let (same, same_line) = push_front xs before y line (subst F none whole) in
         let past : M ≡ L = same_read G.unique before xs M L (sym same) rest h in
         let R : List ℕ → Type 0 = λ l. Reads l m in
-        (m, subst R (sym same_line) reads, ap (λ l. track_fault l m) (sym past) ∙ takes_sound M m step next takes)
+        (m, subst R (sym same_line) reads, ap (λ l. track_fault l m) (sym past) ∙ takes_sound (at_line spans m held) M m step next takes)
     by_end (Last front z more) again =
         let F : List (List ℕ) → Type 0 = λ l. xs ++ y ∷ l ≡ before ++ line ∷ [] in
         let (same, same_line) = push_front (xs ++ y ∷ front) before z line (append_assoc xs (y ∷ front) (z ∷ []) ∙ subst F more whole) in
         let R : List (List ℕ) → Type 0 = λ l. AreRead l M in
         again front (subst R (sym same) rest)
 
-passes : (G : Grammar) (ls : List (List ℕ)) (y : List ℕ) (d : List (List ℕ)) (stage stage' : Stage) (steps : List Step) (text : List ℕ) → Reaches ls stage → Reaches (ls ++ y ∷ d) stage' → HasText stage' steps text → Passed stage y
-passes G ls y d BeforeReady BeforeReady steps text h i t =
+passes : (spans : Spans) (k : Holding) (G : Grammar) (ls : List (List ℕ)) (y : List ℕ) (d : List (List ℕ)) (stage stage' : Stage) (steps : List Step) (text : List ℕ) → Reaches ls stage → Reaches (ls ++ y ∷ d) stage' → HasText spans stage' steps text k → Passed stage y
+passes spans k G ls y d BeforeReady BeforeReady steps text h i t =
     let (m, reads, early) = all_at IsEarly ls y d i in
     Early m refl reads (early_plain m early)
-passes G ls y d BeforeReady (AfterReady M) steps text h i t = early_or_ready G i.before ls i.ready y i.after d i.early h i.reads_ready i.whole
-passes G ls y d (AfterReady L) BeforeReady steps text h i t = absurd (ready_not_early G ls L h (all_front IsEarly ls (y ∷ d) i))
-passes G ls y d (AfterReady L) (AfterReady M) steps text h i (results, filters, whole) =
+passes spans k G ls y d BeforeReady (AfterReady M) steps text h i t = early_or_ready G i.before ls i.ready y i.after d i.early h i.reads_ready i.whole
+passes spans k G ls y d (AfterReady L) BeforeReady steps text h i t = absurd (ready_not_early G ls L h (all_front IsEarly ls (y ∷ d) i))
+passes spans k G ls y d (AfterReady L) (AfterReady M) steps text h i (results, filters, whole) =
     let longer = ap (λ l. l ++ y ∷ d) h.whole ∙ append_assoc h.before (h.ready ∷ h.after) (y ∷ d) in
     let after : h.after ++ y ∷ d ≡ i.after = same_after G.unique h.before i.before h.ready i.ready (h.after ++ y ∷ d) i.after h.early i.early h.reads_ready i.reads_ready (sym longer ∙ i.whole) in
     let F : List (List ℕ) → Type 0 = λ l. AreRead l M in
-    let (m, reads, none) = taken_at G h.after d y L M steps results h.read (subst F (sym after) i.read) filters in
+    let (m, reads, none) = taken_at spans k G h.after d y L M steps results h.read (subst F (sym after) i.read) filters in
     Taken L m refl reads none
 
 -- ---- two runs
@@ -237,24 +239,24 @@ same_stage G ls (AfterReady L) BeforeReady h i = absurd (ready_not_early G ls L 
 same_stage G ls (AfterReady L) (AfterReady M) h i = ap AfterReady (same_lines G.unique ls ls L M refl h i)
 
 -- no run ends at a line that another one passed
-not_passed : (G : Grammar) (ls ms next more : List (List ℕ)) (y : List ℕ) (d : List (List ℕ)) (last : List ℕ) (stage stage' : Stage) (steps : List Step) (text : List ℕ) (o : Option FilterFault)
-    → Reaches ls stage → Reaches ms stage' → HasText stage' steps text → ms ≡ ls ++ y ∷ d → next ≡ y ∷ more → Fate stage next last o → ⊥
-not_passed G ls ms next more y d last stage stage' steps text o h i t e n (AtEnd none end) = nil_cons y more (sym none ∙ n)
-not_passed G ls ms next more y d last stage stage' steps text o h i t e n (AtLine line others same front) =
+not_passed : (spans : Spans) (k : Holding) (G : Grammar) (ls ms next more : List (List ℕ)) (y : List ℕ) (d : List (List ℕ)) (last : List ℕ) (stage stage' : Stage) (steps : List Step) (text : List ℕ) (o : Option FilterFault)
+    → Reaches ls stage → Reaches ms stage' → HasText spans stage' steps text k → ms ≡ ls ++ y ∷ d → next ≡ y ∷ more → Fate stage next last o → ⊥
+not_passed spans k G ls ms next more y d last stage stage' steps text o h i t e n (AtEnd none end) = nil_cons y more (sym none ∙ n)
+not_passed spans k G ls ms next more y d last stage stage' steps text o h i t e n (AtLine line others same front) =
     let F : List (List ℕ) → Type 0 = λ l. Reaches l stage' in
-    let passed : Passed stage y = passes G ls y d stage stage' steps text h (subst F e i) t in
+    let passed : Passed stage y = passes spans k G ls y d stage stage' steps text h (subst F e i) t in
     let A : List ℕ → Type 0 = λ l. Front stage l o in
     passed_on G stage y o (subst A (cons_head line y others more (sym same ∙ n)) front) passed
 
 -- two runs over the same lines come to the same place, and end there alike
-pub same_place : (G : Grammar) (ls ms next next' : List (List ℕ)) (last : List ℕ) (stage stage' : Stage) (steps steps' : List Step) (text text' : List ℕ) (a b : Option FilterFault)
-    → ls ++ next ≡ ms ++ next' → Reaches ls stage → HasText stage steps text → Reaches ms stage' → HasText stage' steps' text' → Fate stage next last a → Fate stage' next' last b
+pub same_place : (spans spans' : Spans) (k k' : Holding) (G : Grammar) (ls ms next next' : List (List ℕ)) (last : List ℕ) (stage stage' : Stage) (steps steps' : List Step) (text text' : List ℕ) (a b : Option FilterFault)
+    → ls ++ next ≡ ms ++ next' → Reaches ls stage → HasText spans stage steps text k → Reaches ms stage' → HasText spans' stage' steps' text' k' → Fate stage next last a → Fate stage' next' last b
     → (ls ≡ ms) × (stage ≡ stage') × (a ≡ b)
-same_place G ls ms next next' last stage stage' steps steps' text text' a b e h t i t' f g = by_place (compare ls next ms next' e)
+same_place spans spans' k k' G ls ms next next' last stage stage' steps steps' text text' a b e h t i t' f g = by_place (compare ls next ms next' e)
   where
     by_place : Compared ls next ms next' → (ls ≡ ms) × (stage ≡ stage') × (a ≡ b)
-    by_place (Further y d more rest) = absurd (not_passed G ls ms next (d ++ next') y d last stage stage' steps' text' a h i t' more rest f)
-    by_place (Shorter y d more rest) = absurd (not_passed G ms ls next' (d ++ next) y d last stage' stage steps text b i h t more rest g)
+    by_place (Further y d more rest) = absurd (not_passed spans' k' G ls ms next (d ++ next') y d last stage stage' steps' text' a h i t' more rest f)
+    by_place (Shorter y d more rest) = absurd (not_passed spans k G ms ls next' (d ++ next) y d last stage' stage steps text b i h t more rest g)
     by_place (Equal same rest) =
         let F : List (List ℕ) → Type 0 = λ l. Reaches l stage' in
         let stages : stage ≡ stage' = same_stage G ls stage stage' h (subst F (sym same) i) in

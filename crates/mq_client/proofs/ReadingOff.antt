@@ -52,22 +52,22 @@ ask_live t txn moment login answer v P false e all = all t
 abbrev asks_after : ℕ → Bool → Step → List Step → List Asking
 asks_after t b x P = filter_map (λ x. asking t x.action x.group) (if b then [] else x ∷ since_close t P)
 
-close_live : (s : Source) (t txn : ℕ) (end : CloseEnd) (group : List Exchange) (v : View) (P : List Step) (o : Option Held) (b : Bool) → held_by (v.standing txn) ≡ o → (txn == t) ≡ b → IsLiveRead v P
-    → held_by ((after_close s txn end group v o).standing t) ≡ live_by (asks_after t b (record { action = Close txn end; group = group }) P)
-close_live s t txn end group v P None true e f all = ap (λ k. held_by (v.standing k)) (sym (eqb-true txn t f)) ∙ e
-close_live s t txn end group v P None false e f all = all t
-close_live s t txn end group v P (Some h) true e f all = rw f refl
-close_live s t txn end group v P (Some h) false e f all = rw f (all t)
+close_live : (s : Source) (t txn : ℕ) (end : CloseEnd) (group : List Exchange) (k : Bool) (v : View) (P : List Step) (o : Option Held) (b : Bool) → held_by (v.standing txn) ≡ o → (txn == t) ≡ b → IsLiveRead v P
+    → held_by ((after_close s txn end group v o).standing t) ≡ live_by (asks_after t b (record { action = Close txn end; group = group; quiet = k }) P)
+close_live s t txn end group k v P None true e f all = ap (λ k. held_by (v.standing k)) (sym (eqb-true txn t f)) ∙ e
+close_live s t txn end group k v P None false e f all = all t
+close_live s t txn end group k v P (Some h) true e f all = rw f refl
+close_live s t txn end group k v P (Some h) false e f all = rw f (all t)
 
-live_step : (s : Source) (v : View) (P : List Step) (a : Action) (group : List Exchange) → IsLiveRead v P → IsLiveRead (after s v a group) (record { action = a; group = group } ∷ P)
-live_step s v P (Ask txn moment login) [] all = all
-live_step s v P (Ask txn moment login) (x ∷ group) all = λ t. ask_live t txn moment login (answer_of (x ∷ group)) v P (txn == t) refl all
-live_step s v P (Close txn end) group all = λ t. close_live s t txn end group v P (held_by (v.standing txn)) (txn == t) refl refl all
-live_step s v P Drain group all = all
+live_step : (s : Source) (v : View) (P : List Step) (a : Action) (group : List Exchange) (k : Bool) → IsLiveRead v P → IsLiveRead (after s v a group) (record { action = a; group = group; quiet = k } ∷ P)
+live_step s v P (Ask txn moment login) [] k all = all
+live_step s v P (Ask txn moment login) (x ∷ group) k all = λ t. ask_live t txn moment login (answer_of (x ∷ group)) v P (txn == t) refl all
+live_step s v P (Close txn end) group k all = λ t. close_live s t txn end group k v P (held_by (v.standing txn)) (txn == t) refl refl all
+live_step s v P Drain group k all = all
 
 pub live_read : (s : Source) (P : List Step) → IsLiveRead (view s P) P
 live_read s [] = λ t. refl
-live_read s (x ∷ P) = live_step s (view s P) P x.action x.group (live_read s P)
+live_read s (x ∷ P) = live_step s (view s P) P x.action x.group x.quiet (live_read s P)
 
 -- ---- numbers
 
@@ -75,15 +75,15 @@ close_numbers : (s : Source) (txn : ℕ) (end : CloseEnd) (group : List Exchange
 close_numbers s txn end group v n None e = e
 close_numbers s txn end group v n (Some h) e = ap (λ k. k + 1) e
 
-numbers_step : (s : Source) (v : View) (P : List Step) (a : Action) (group : List Exchange) → IsLiveRead v P → v.numbers ≡ numbers_in P → (after s v a group).numbers ≡ numbers_in (record { action = a; group = group } ∷ P)
-numbers_step s v P (Ask txn moment login) [] all e = e
-numbers_step s v P (Ask txn moment login) (x ∷ group) all e = ap (λ k. k + 1) e
-numbers_step s v P (Close txn end) group all e = close_numbers s txn end group v (numbers_in P) (held_by (v.standing txn)) e ∙ ap (λ o. if is_some o then numbers_in P + 1 else numbers_in P) (all txn)
-numbers_step s v P Drain group all e = e
+numbers_step : (s : Source) (v : View) (P : List Step) (a : Action) (group : List Exchange) (k : Bool) → IsLiveRead v P → v.numbers ≡ numbers_in P → (after s v a group).numbers ≡ numbers_in (record { action = a; group = group; quiet = k } ∷ P)
+numbers_step s v P (Ask txn moment login) [] k all e = e
+numbers_step s v P (Ask txn moment login) (x ∷ group) k all e = ap (λ k. k + 1) e
+numbers_step s v P (Close txn end) group k all e = close_numbers s txn end group v (numbers_in P) (held_by (v.standing txn)) e ∙ ap (λ o. if is_some o then numbers_in P + 1 else numbers_in P) (all txn)
+numbers_step s v P Drain group k all e = e
 
 pub numbers_read : (s : Source) (P : List Step) → (view s P).numbers ≡ numbers_in P
 numbers_read s [] = refl
-numbers_read s (x ∷ P) = numbers_step s (view s P) P x.action x.group (live_read s P) (numbers_read s P)
+numbers_read s (x ∷ P) = numbers_step s (view s P) P x.action x.group x.quiet (live_read s P) (numbers_read s P)
 
 -- ---- each transaction
 
@@ -96,35 +96,35 @@ ask_read : (t txn moment : ℕ) (login : List ℕ) (answer : Asked) (v : View) (
 ask_read t txn moment login answer v P true e all read = ap (λ o. live_or o (closed_in P t)) (ask_live t txn moment login answer v P true e all)
 ask_read t txn moment login answer v P false e all read = read t
 
-close_read : (s : Source) (t txn : ℕ) (end : CloseEnd) (group : List Exchange) (v : View) (P : List Step) (o : Option Held) (b : Bool) → held_by (v.standing txn) ≡ o → (txn == t) ≡ b → v.numbers ≡ numbers_in P → IsLiveRead v P → IsRead v P
-    → (after_close s txn end group v o).standing t ≡ live_or (live_by (asks_after t b (record { action = Close txn end; group = group }) P)) (standing_or (closed_by t (numbers_in P + 1) (Close txn end) (live_in P t)) (closed_in P t))
-close_read s t txn end group v P None true e f n all read =
+close_read : (s : Source) (t txn : ℕ) (end : CloseEnd) (group : List Exchange) (k : Bool) (v : View) (P : List Step) (o : Option Held) (b : Bool) → held_by (v.standing txn) ≡ o → (txn == t) ≡ b → v.numbers ≡ numbers_in P → IsLiveRead v P → IsRead v P
+    → (after_close s txn end group v o).standing t ≡ live_or (live_by (asks_after t b (record { action = Close txn end; group = group; quiet = k }) P)) (standing_or (closed_by t (numbers_in P + 1) (Close txn end) (live_in P t)) (closed_in P t))
+close_read s t txn end group k v P None true e f n all read =
     let absent : live_in P t ≡ None = sym (all t) ∙ ap (λ k. held_by (v.standing k)) (sym (eqb-true txn t f)) ∙ e in
     read t ∙ rw absent refl
-close_read s t txn end group v P None false e f n all read = read t ∙ ap (live_or (live_in P t)) (sym (other_ended t (numbers_in P + 1) txn end (live_in P t) (closed_in P t) f))
+close_read s t txn end group k v P None false e f n all read = read t ∙ ap (live_or (live_in P t)) (sym (other_ended t (numbers_in P + 1) txn end (live_in P t) (closed_in P t) f))
   where
     other_ended : (t number txn : ℕ) (end : CloseEnd) (o : Option Held) (before : Standing) → (txn == t) ≡ false → standing_or (closed_by t number (Close txn end) o) before ≡ before
     other_ended t number txn end None before f = refl
     other_ended t number txn end (Some h) before f = rw f refl
-close_read s t txn end group v P (Some h) true e f n all read =
+close_read s t txn end group k v P (Some h) true e f n all read =
     let there : live_in P t ≡ Some h = sym (all t) ∙ ap (λ k. held_by (v.standing k)) (sym (eqb-true txn t f)) ∙ e in
     rw (f, there, f) (ap (λ k. Closed end (k + 1) h) n)
-close_read s t txn end group v P (Some h) false e f n all read =
+close_read s t txn end group k v P (Some h) false e f n all read =
     rw f (read t ∙ ap (live_or (live_in P t)) (sym (other_too t (numbers_in P + 1) txn end (live_in P t) (closed_in P t) f)))
   where
     other_too : (t number txn : ℕ) (end : CloseEnd) (o : Option Held) (before : Standing) → (txn == t) ≡ false → standing_or (closed_by t number (Close txn end) o) before ≡ before
     other_too t number txn end None before f = refl
     other_too t number txn end (Some h) before f = rw f refl
 
-read_step : (s : Source) (v : View) (P : List Step) (a : Action) (group : List Exchange) → v.numbers ≡ numbers_in P → IsLiveRead v P → IsRead v P → IsRead (after s v a group) (record { action = a; group = group } ∷ P)
-read_step s v P (Ask txn moment login) [] n all read = read
-read_step s v P (Ask txn moment login) (x ∷ group) n all read = λ t. ask_read t txn moment login (answer_of (x ∷ group)) v P (txn == t) refl all read
-read_step s v P (Close txn end) group n all read = λ t. close_read s t txn end group v P (held_by (v.standing txn)) (txn == t) refl refl n all read
-read_step s v P Drain group n all read = read
+read_step : (s : Source) (v : View) (P : List Step) (a : Action) (group : List Exchange) (k : Bool) → v.numbers ≡ numbers_in P → IsLiveRead v P → IsRead v P → IsRead (after s v a group) (record { action = a; group = group; quiet = k } ∷ P)
+read_step s v P (Ask txn moment login) [] k n all read = read
+read_step s v P (Ask txn moment login) (x ∷ group) k n all read = λ t. ask_read t txn moment login (answer_of (x ∷ group)) v P (txn == t) refl all read
+read_step s v P (Close txn end) group k n all read = λ t. close_read s t txn end group k v P (held_by (v.standing txn)) (txn == t) refl refl n all read
+read_step s v P Drain group k n all read = read
 
 pub standing_read : (s : Source) (P : List Step) → IsRead (view s P) P
 standing_read s [] = λ t. refl
-standing_read s (x ∷ P) = read_step s (view s P) P x.action x.group (numbers_read s P) (live_read s P) (standing_read s P)
+standing_read s (x ∷ P) = read_step s (view s P) P x.action x.group x.quiet (numbers_read s P) (live_read s P) (standing_read s P)
 
 -- ---- the live transactions, each once
 

@@ -5,41 +5,26 @@ use Rattle.std.specs.Option.{option_map}
 use Rattle.std.specs.Str.{bytes_eq}
 use Rattle.std.proofs.lemmas.Bool.{eqb-true}
 use Rattle.mq_line.specs.Grammar.{Meaning, ConfigLine, ReadyLine, ReportLine, FilterLine, OtherLine}
-use Rattle.mq_line.specs.declared.results.Decision.{Decision}
 use Rattle.mq_track.specs.Laws.{StayClosed}
 use Rattle.mq_track.specs.Sessions.{Transaction, login, open_transaction, closing, position_of}
 use Rattle.mq_track.specs.declared.closing.Closing.{Closing}
 use Rattle.mq_track.specs.declared.closing.CloseEnd.{CloseEnd}
 use Rattle.mq_client.specs.Exchanges.{Exchange}
 use Rattle.mq_client.specs.Past.{Source, Action, Ask, Close, Drain, Step, Never, Live, Closed, View, view, after, after_close, held_by}
-use Rattle.mq_client.specs.Filter.{Query, Passes, Refuses, Asks, is_login, is_moment, query_at, query, Answers, Closes, Takes, push, Filters, actions, asking_of, close_of, action_of, actions_of}
+use Rattle.mq_client.specs.Holding.{Holding}
+use Rattle.mq_client.specs.declared.spans.Spans.{Spans}
+use Rattle.mq_client.specs.Filter.{Query, Passes, Refuses, Asks, is_login, is_moment, query_at, query, at_line, push, Filters, actions, asking_of, close_of, action_of, actions_of}
 use Rattle.mq_client.specs.Numbered.{is_closed, AsksForNoClosed, NoneReturns}
 use Rattle.mq_client.specs.declared.held.Held.{Held}
-use Rattle.mq_client.proofs.Sameness.{kind_of, actions_push}
+use Rattle.mq_client.proofs.Sameness.{taken_kind, actions_push}
 use Rattle.mq_client.proofs.Basics.{none_some, nil_cons, cons_head, cons_tail}
 
 -- ---- the actions of lines
 
-asked_kind : (q : Query) (step : Option Step) (d : Decision) → Answers q step d → kind_of step ≡ asking_of q
-asked_kind Passes step d h = ap kind_of h.0
-asked_kind Refuses step d h = ap kind_of h.0
-asked_kind (Asks txn moment login) step d (group, is, answer) = ap kind_of is
-
-closed_kind : (c : Option Closing) (step : Option Step) → Closes c step → kind_of step ≡ option_map close_of c
-closed_kind None step h = ap kind_of h
-closed_kind (Some c) step (group, is) = ap kind_of is
-
-taken_kind : (L : List Meaning) (m : Meaning) (step : Option Step) (text : List ℕ) → Takes L m step text → kind_of step ≡ action_of L m
-taken_kind L (FilterLine seconds subsystem phase session token rest) step text (d, h, e) = asked_kind (query L subsystem phase session) step d h
-taken_kind L (ConfigLine key value) step text h = closed_kind (closing L (ConfigLine key value)) step h.1
-taken_kind L ReadyLine step text h = closed_kind (closing L ReadyLine) step h.1
-taken_kind L (ReportLine seconds subsystem name session params) step text h = closed_kind (closing L (ReportLine seconds subsystem name session params)) step h.1
-taken_kind L OtherLine step text h = closed_kind (closing L OtherLine) step h.1
-
-pub actions_are : (L : List Meaning) (steps : List Step) (text : List ℕ) → Filters L steps text → actions steps ≡ actions_of L
-actions_are [] steps text h = ap actions h.0
-actions_are (m ∷ L) steps text (s, before, written, next, h, takes, e, f) =
-    ap actions e ∙ actions_push s before ∙ ap (λ k. push k (actions before)) (taken_kind L m s next takes) ∙ ap (push (action_of L m)) (actions_are L before written h)
+pub actions_are : (spans : Spans) (L : List Meaning) (steps : List Step) (text : List ℕ) (k : Holding) → Filters spans L steps text k → actions steps ≡ actions_of L
+actions_are spans [] steps text k h = ap actions h.0
+actions_are spans (m ∷ L) steps text k (s, before, written, next, held, h, takes, e, f, g) =
+    ap actions e ∙ actions_push s before ∙ ap (λ i. push i (actions before)) (taken_kind (at_line spans m held) L m s next takes) ∙ ap (push (action_of L m)) (actions_are spans L before written held h)
 
 -- ---- closings
 

@@ -1,5 +1,5 @@
 -- A run depends on the bytes that were read, on what stood before it, and on how its exchanges ended.
-use Rattle.std.proofs.Common.{◌≡◌, ℕ, true, List, [], ◌∷◌, ◌++◌, refl, sym, ap, ◌∙◌, subst, append_assoc, Option, None, Some}
+use Rattle.std.proofs.Common.{◌≡◌, ℕ, Bool, true, List, [], ◌∷◌, ◌++◌, refl, sym, ap, ◌∙◌, subst, append_assoc, Option, None, Some, is_some}
 use Rattle.std.proofs.lemmas.List.{append_cancel_right}
 use Rattle.std.specs.List.{AllByRecursion}
 use Rattle.std.specs.Option.{option_map}
@@ -10,9 +10,11 @@ use Rattle.mq_track.specs.Sessions.{closing}
 use Rattle.mq_track.specs.declared.closing.Closing.{Closing}
 use Rattle.mq_request.specs.declared.message.Request.{Request}
 use Rattle.mq_client.specs.Exchanges.{Exchange}
-use Rattle.mq_client.specs.Past.{Source, Action, Ask, Step, answer_of, view, held_for, ArePlayed}
-use Rattle.mq_client.specs.Turns.{outcomes, all_outcomes, queue_of, next_of, ComeInTurn}
-use Rattle.mq_client.specs.Filter.{Query, Passes, Refuses, Asks, query, decision_of, Answers, Closes, Takes, push, Filters, actions}
+use Rattle.mq_client.specs.Past.{Source, Action, Ask, Step, view, held_for, tries_in, Plays, ArePlayed}
+use Rattle.mq_client.specs.Holding.{Holding, held_back}
+use Rattle.mq_client.specs.declared.spans.Spans.{Spans}
+use Rattle.mq_client.specs.Turns.{outcomes, quiets, all_outcomes, queue_of, next_of, ComeInTurn}
+use Rattle.mq_client.specs.Filter.{Query, Passes, Refuses, Asks, query, decision_by, Answers, Closes, Takes, at_line, after_line, push, Filters, actions, asking_of, close_of, action_of}
 use Rattle.mq_client.specs.Run.{is_early, IsEarly, AreRead, IsReady}
 use Rattle.mq_link.specs.declared.link.Outcome.{Outcome}
 use Rattle.mq_client.proofs.Turning.{OneReply, turns, none_next, same_turns}
@@ -63,71 +65,58 @@ same_lines U ls ms L M e h i =
 abbrev pub kind_of : Option Step → Option Action
 kind_of step = option_map (λ x. x.action) step
 
+-- whether it is quiet
+abbrev pub quiet_of : Option Step → Option Bool
+quiet_of step = option_map (λ x. x.quiet) step
+
 -- a line makes one kind of step, and its text follows from the step
 record Alike (s t : Option Step) (text more : List ℕ) : Type 0 where
   kind : kind_of s ≡ kind_of t
+  quiet : quiet_of s ≡ quiet_of t
   text_is : s ≡ t → text ≡ more
 
 some_step : (x y : Step) → Some x ≡ Some y → x ≡ y
 some_step x y e = cc
 
-same_answers : (q : Query) (session token : List ℕ) (s t : Option Step) (d c : Decision) (text more : List ℕ) → Answers q s d → Answers q t c → text ≡ result_text session token d → more ≡ result_text session token c → Alike s t text more
-same_answers Passes session token s t d c text more h i e f = record { kind = ap kind_of (h.0 ∙ sym i.0); text_is = λ same. e ∙ ap (result_text session token) (h.1 ∙ sym i.1) ∙ sym f }
-same_answers Refuses session token s t d c text more h i e f = record { kind = ap kind_of (h.0 ∙ sym i.0); text_is = λ same. e ∙ ap (result_text session token) (h.1 ∙ sym i.1) ∙ sym f }
-same_answers (Asks txn moment login) session token s t d c text more (g, step, answer) (h, step', answer') e f = record {
+same_answers : (k : Holding) (q : Query) (session token : List ℕ) (s t : Option Step) (d c : Decision) (text more : List ℕ) → Answers k q s d → Answers k q t c → text ≡ result_text session token d → more ≡ result_text session token c → Alike s t text more
+same_answers k Passes session token s t d c text more h i e f = record { kind = ap kind_of (h.0 ∙ sym i.0); quiet = ap quiet_of (h.0 ∙ sym i.0); text_is = λ same. e ∙ ap (result_text session token) (h.1 ∙ sym i.1) ∙ sym f }
+same_answers k Refuses session token s t d c text more h i e f = record { kind = ap kind_of (h.0 ∙ sym i.0); quiet = ap quiet_of (h.0 ∙ sym i.0); text_is = λ same. e ∙ ap (result_text session token) (h.1 ∙ sym i.1) ∙ sym f }
+same_answers k (Asks txn moment login) session token s t d c text more (g, step, answer) (h, step', answer') e f = record {
   kind = ap kind_of step ∙ sym (ap kind_of step');
+  quiet = ap quiet_of step ∙ sym (ap quiet_of step');
   text_is = λ same.
-      let both = some_step (record { action = Ask txn moment login; group = g }) (record { action = Ask txn moment login; group = h }) (sym step ∙ same ∙ step') in
+      let q : Bool = is_some (held_back k login) in
+      let both = some_step (record { action = Ask txn moment login; group = g; quiet = q }) (record { action = Ask txn moment login; group = h; quiet = q }) (sym step ∙ same ∙ step') in
       let group : g ≡ h = ap (λ (x : Step). x.group) both in
-      e ∙ ap (result_text session token) (answer ∙ ap (λ l. decision_of (answer_of l)) group ∙ sym answer') ∙ sym f;
+      e ∙ ap (result_text session token) (answer ∙ ap (λ l. decision_by (held_back k login) l) group ∙ sym answer') ∙ sym f;
 }
 
-same_closes : (c : Option Closing) (s t : Option Step) (text more : List ℕ) → Closes c s → Closes c t → text ≡ [] → more ≡ [] → Alike s t text more
-same_closes None s t text more h i e f = record { kind = ap kind_of (h ∙ sym i); text_is = λ same. e ∙ sym f }
-same_closes (Some c) s t text more (g, step) (h, step') e f = record { kind = ap kind_of step ∙ sym (ap kind_of step'); text_is = λ same. e ∙ sym f }
+same_closes : (k : Bool) (c : Option Closing) (s t : Option Step) (text more : List ℕ) → Closes k c s → Closes k c t → text ≡ [] → more ≡ [] → Alike s t text more
+same_closes k None s t text more h i e f = record { kind = ap kind_of (h ∙ sym i); quiet = ap quiet_of (h ∙ sym i); text_is = λ same. e ∙ sym f }
+same_closes k (Some c) s t text more (g, step) (h, step') e f = record { kind = ap kind_of step ∙ sym (ap kind_of step'); quiet = ap quiet_of step ∙ sym (ap quiet_of step'); text_is = λ same. e ∙ sym f }
 
-same_takes : (L : List Meaning) (m : Meaning) (s t : Option Step) (text more : List ℕ) → Takes L m s text → Takes L m t more → Alike s t text more
-same_takes L (FilterLine seconds subsystem phase session token rest) s t text more (d, h, e) (c, i, f) = same_answers (query L subsystem phase session) session token s t d c text more h i e f
-same_takes L (ConfigLine key value) s t text more h i = same_closes (closing L (ConfigLine key value)) s t text more h.1 i.1 h.2 i.2
-same_takes L ReadyLine s t text more h i = same_closes (closing L ReadyLine) s t text more h.1 i.1 h.2 i.2
-same_takes L (ReportLine seconds subsystem event session params) s t text more h i = same_closes (closing L (ReportLine seconds subsystem event session params)) s t text more h.1 i.1 h.2 i.2
-same_takes L OtherLine s t text more h i = same_closes (closing L OtherLine) s t text more h.1 i.1 h.2 i.2
+same_takes : (k : Holding) (L : List Meaning) (m : Meaning) (s t : Option Step) (text more : List ℕ) → Takes k L m s text → Takes k L m t more → Alike s t text more
+same_takes k L (FilterLine seconds subsystem phase session token rest) s t text more (d, h, e) (c, i, f) = same_answers k (query L subsystem phase session) session token s t d c text more h i e f
+same_takes k L (ConfigLine key value) s t text more h i = same_closes (is_some k.paused) (closing L (ConfigLine key value)) s t text more h.1 i.1 h.2 i.2
+same_takes k L ReadyLine s t text more h i = same_closes (is_some k.paused) (closing L ReadyLine) s t text more h.1 i.1 h.2 i.2
+same_takes k L (ReportLine seconds subsystem event session params) s t text more h i = same_closes (is_some k.paused) (closing L (ReportLine seconds subsystem event session params)) s t text more h.1 i.1 h.2 i.2
+same_takes k L OtherLine s t text more h i = same_closes (is_some k.paused) (closing L OtherLine) s t text more h.1 i.1 h.2 i.2
 
 pub actions_push : (step : Option Step) (steps : List Step) → actions (push step steps) ≡ push (kind_of step) (actions steps)
 actions_push None steps = refl
 actions_push (Some x) steps = refl
 
-pub same_actions : (L : List Meaning) (steps others : List Step) (text more : List ℕ) → Filters L steps text → Filters L others more → actions steps ≡ actions others
-same_actions [] steps others text more h i = ap actions (h.0 ∙ sym i.0)
-same_actions (m ∷ L) steps others text more (s, before, written, next, h, takes, e, f) (t, before', written', next', i, takes', e', f') =
-    ap actions e ∙ actions_push s before ∙ ap (λ k. push k (actions before)) (same_takes L m s t next next' takes takes').kind
-    ∙ ap (push (kind_of t)) (same_actions L before before' written written' h i) ∙ sym (actions_push t before') ∙ sym (ap actions e')
-
 none_kind : (x : Step) → None ≡ kind_of (Some x) → ⊥
 none_kind x e = cc
 
-same_pushes : (s t : Option Step) (xs ys : List Step) → kind_of s ≡ kind_of t → push s xs ≡ push t ys → (s ≡ t) × (xs ≡ ys)
-same_pushes None None xs ys k e = (refl, e)
-same_pushes None (Some y) xs ys k e = absurd (none_kind y k)
-same_pushes (Some x) None xs ys k e = absurd (none_kind x (sym k))
-same_pushes (Some x) (Some y) xs ys k e = (ap Some (cons_head x y xs ys e), cons_tail x y xs ys e)
-
-pub same_texts : (L : List Meaning) (steps others : List Step) (text more : List ℕ) → steps ≡ others → Filters L steps text → Filters L others more → text ≡ more
-same_texts [] steps others text more e h i = h.1 ∙ sym i.1
-same_texts (m ∷ L) steps others text more e (s, before, written, next, h, takes, whole, f) (t, before', written', next', i, takes', whole', f') =
-    let alike = same_takes L m s t next next' takes takes' in
-    let (same, rest) = same_pushes s t before before' alike.kind (sym whole ∙ e ∙ whole') in
-    f ∙ ap (λ l. l ++ next) (same_texts L before before' written written' rest h i) ∙ ap (λ l. written' ++ l) (alike.text_is same) ∙ sym f'
-
 -- ---- the steps
 
-pub same_step : (x y : Step) → x.action ≡ y.action → x.group ≡ y.group → x ≡ y
-same_step x y e f =
-    let A : Action → Step = λ a. record { action = a; group = x.group } in
-    let B : List Exchange → Step = λ g. record { action = y.action; group = g } in
-    ap A e ∙ ap B f
-
--- steps of the same actions, whose exchanges ended alike one after another, are the same
+pub same_step : (x y : Step) → x.action ≡ y.action → x.quiet ≡ y.quiet → x.group ≡ y.group → x ≡ y
+same_step x y e q f =
+    let A : Action → Step = λ a. record { action = a; group = x.group; quiet = x.quiet } in
+    let B : List Exchange → Step = λ g. record { action = y.action; group = g; quiet = x.quiet } in
+    let C : Bool → Step = λ k. record { action = y.action; group = y.group; quiet = k } in
+    ap A e ∙ ap B f ∙ ap C q
 
 -- no exchange comes in turn after the last one
 no_more : OneReply → (n : ℕ) (queue : List Request) (g h : List Exchange) (b : Outcome) (D : List Outcome) → ComeInTurn n queue g → ComeInTurn n queue h → next_of n queue h ≡ None → outcomes g ≡ b ∷ (D ++ outcomes h) → ⊥
@@ -143,27 +132,110 @@ same_groups U n queue g h [] (b ∷ B) c d last last' e = absurd (no_more U n qu
 same_groups U n queue g h (a ∷ A) [] c d last last' e = absurd (no_more U n queue h g a A d c last (sym e))
 same_groups U n queue g h (a ∷ A) (b ∷ B) c d last last' e = same_groups U n queue g h A B c d last last' (cons_tail a b (A ++ outcomes g) (B ++ outcomes h) e)
 
-same_from : OneReply → (s : Source) (n : ℕ) (P steps others : List Step) (A B : List Outcome) → ArePlayed s n P steps → ArePlayed s n P others → actions steps ≡ actions others
+-- two steps that could come next after the same past, of the same action and both quiet or not, whose exchanges ended
+-- alike, before more that ended alike
+same_next : OneReply → (s : Source) (n : ℕ) (P : List Step) (x y : Step) (A B : List Outcome) → Plays s n P x → Plays s n P y → x.action ≡ y.action → x.quiet ≡ y.quiet
+    → A ++ outcomes x.group ≡ B ++ outcomes y.group → x ≡ y
+same_next U s n P x y A B h i action quiet ended =
+    let F : Action → Bool → Type 0 = λ a k. ComeInTurn (tries_in n k) (queue_of s (view s P) (held_for (view s P) a) a) x.group in
+    let G : Action → Type 0 = λ a. F a x.quiet in
+    let H : Bool → Type 0 = λ k. F y.action k in
+    let mine : F y.action y.quiet = subst H quiet (subst G action (turns s n P x h)) in
+    let L : Action → Bool → Type 0 = λ a k. next_of (tries_in n k) (queue_of s (view s P) (held_for (view s P) a) a) x.group ≡ None in
+    let M : Action → Type 0 = λ a. L a x.quiet in
+    let N : Bool → Type 0 = λ k. L y.action k in
+    let last : L y.action y.quiet = subst N quiet (subst M action (none_next s n P x h)) in
+    same_step x y action quiet (same_groups U (tries_in n y.quiet) _ x.group y.group A B mine (turns s n P y i) last (none_next s n P y i) ended)
+
+-- steps of the same actions, of which the same are quiet, whose exchanges ended alike one after another, are the same
+same_from : OneReply → (s : Source) (n : ℕ) (P steps others : List Step) (A B : List Outcome) → ArePlayed s n P steps → ArePlayed s n P others → actions steps ≡ actions others → quiets steps ≡ quiets others
     → A ++ all_outcomes steps ≡ B ++ all_outcomes others → steps ≡ others
-same_from U s n P [] [] A B h i e f = refl
-same_from U s n P [] (y ∷ others) A B h i e f = absurd (nil_cons y.action (actions others) e)
-same_from U s n P (x ∷ steps) [] A B h i e f = absurd (nil_cons x.action (actions steps) (sym e))
-same_from U s n P (x ∷ steps) (y ∷ others) A B h i e f =
+same_from U s n P [] [] A B h i e q f = refl
+same_from U s n P [] (y ∷ others) A B h i e q f = absurd (nil_cons y.action (actions others) e)
+same_from U s n P (x ∷ steps) [] A B h i e q f = absurd (nil_cons x.action (actions steps) (sym e))
+same_from U s n P (x ∷ steps) (y ∷ others) A B h i e q f =
     let ends = append_assoc A (outcomes x.group) (all_outcomes steps) ∙ f ∙ sym (append_assoc B (outcomes y.group) (all_outcomes others)) in
-    let rest : steps ≡ others = same_from U s n P steps others (A ++ outcomes x.group) (B ++ outcomes y.group) h.1 i.1 (cons_tail x.action y.action (actions steps) (actions others) e) ends in
-    let action = cons_head x.action y.action (actions steps) (actions others) e in
+    let rest : steps ≡ others = same_from U s n P steps others (A ++ outcomes x.group) (B ++ outcomes y.group) h.1 i.1 (cons_tail x.action y.action (actions steps) (actions others) e) (cons_tail x.quiet y.quiet (quiets steps) (quiets others) q) ends in
     let E : List Step → Type 0 = λ l. (A ++ outcomes x.group) ++ all_outcomes l ≡ (B ++ outcomes y.group) ++ all_outcomes others in
     let ended : A ++ outcomes x.group ≡ B ++ outcomes y.group = append_cancel_right (A ++ outcomes x.group) (B ++ outcomes y.group) (all_outcomes others) (subst E rest ends) in
-    let F : List Step → Action → Type 0 = λ l a. ComeInTurn n (queue_of s (view s (l ++ P)) (held_for (view s (l ++ P)) a) a) x.group in
-    let G : List Step → Type 0 = λ l. F l x.action in
-    let H : Action → Type 0 = λ a. F others a in
-    let mine : F others y.action = subst H action (subst G rest (turns s n (steps ++ P) x h.0)) in
-    let L : List Step → Action → Type 0 = λ l a. next_of n (queue_of s (view s (l ++ P)) (held_for (view s (l ++ P)) a) a) x.group ≡ None in
-    let M : List Step → Type 0 = λ l. L l x.action in
-    let N : Action → Type 0 = λ a. L others a in
-    let last : L others y.action = subst N action (subst M rest (none_next s n (steps ++ P) x h.0)) in
-    let group = same_groups U n _ x.group y.group A B mine (turns s n (others ++ P) y i.0) last (none_next s n (others ++ P) y i.0) ended in
-    ap (λ z. z ∷ steps) (same_step x y action group) ∙ ap (λ l. y ∷ l) rest
+    let F : List Step → Type 0 = λ l. Plays s n (l ++ P) x in
+    let next = same_next U s n (others ++ P) x y A B (subst F rest h.0) i.0 (cons_head x.action y.action (actions steps) (actions others) e) (cons_head x.quiet y.quiet (quiets steps) (quiets others) q) ended in
+    ap (λ z. z ∷ steps) next ∙ ap (λ l. y ∷ l) rest
 
-pub same_played : OneReply → (s : Source) (n : ℕ) (P steps others : List Step) → ArePlayed s n P steps → ArePlayed s n P others → actions steps ≡ actions others → all_outcomes steps ≡ all_outcomes others → steps ≡ others
-same_played U s n P steps others h i e f = same_from U s n P steps others [] [] h i e f
+pub same_played : OneReply → (s : Source) (n : ℕ) (P steps others : List Step) → ArePlayed s n P steps → ArePlayed s n P others → actions steps ≡ actions others → quiets steps ≡ quiets others → all_outcomes steps ≡ all_outcomes others → steps ≡ others
+same_played U s n P steps others h i e q f = same_from U s n P steps others [] [] h i e q f
+
+-- ---- what the lines have the client do
+
+-- the steps of some lines, their text and what is held back after them are the same
+pub record Told (xs ys : List Step) (text more : List ℕ) (k j : Holding) : Type 0 where
+  pub steps : xs ≡ ys
+  pub text_is : text ≡ more
+  pub held_is : k ≡ j
+
+-- and so is the step of one more line, with its text
+record One (a b : Option Step) (next next' : List ℕ) (xs ys : List Step) (text more : List ℕ) (k j : Holding) : Type 0 where
+  step : a ≡ b
+  next_is : next ≡ next'
+  before : Told xs ys text more k j
+
+asked_kind : (h : Holding) (q : Query) (step : Option Step) (d : Decision) → Answers h q step d → kind_of step ≡ asking_of q
+asked_kind k Passes step d h = ap kind_of h.0
+asked_kind k Refuses step d h = ap kind_of h.0
+asked_kind k (Asks txn moment login) step d (group, is, answer) = ap kind_of is
+
+closed_kind : (k : Bool) (c : Option Closing) (step : Option Step) → Closes k c step → kind_of step ≡ option_map close_of c
+closed_kind k None step h = ap kind_of h
+closed_kind k (Some c) step (group, is) = ap kind_of is
+
+pub taken_kind : (k : Holding) (L : List Meaning) (m : Meaning) (step : Option Step) (text : List ℕ) → Takes k L m step text → kind_of step ≡ action_of L m
+taken_kind k L (FilterLine seconds subsystem phase session token rest) step text (d, h, e) = asked_kind k (query L subsystem phase session) step d h
+taken_kind k L (ConfigLine key value) step text h = closed_kind (is_some k.paused) (closing L (ConfigLine key value)) step h.1
+taken_kind k L ReadyLine step text h = closed_kind (is_some k.paused) (closing L ReadyLine) step h.1
+taken_kind k L (ReportLine seconds subsystem name session params) step text h = closed_kind (is_some k.paused) (closing L (ReportLine seconds subsystem name session params)) step h.1
+taken_kind k L OtherLine step text h = closed_kind (is_some k.paused) (closing L OtherLine) step h.1
+
+one_quiet : (x y : Step) → quiet_of (Some x) ≡ quiet_of (Some y) → x.quiet ≡ y.quiet
+one_quiet x y e = cc
+
+one_action : (x y : Step) → kind_of (Some x) ≡ kind_of (Some y) → x.action ≡ y.action
+one_action x y e = cc
+
+-- one more line
+same_line : OneReply → (spans : Spans) (s : Source) (n : ℕ) (P : List Step) (L : List Meaning) (m : Meaning) (a b : Option Step) (next next' : List ℕ) (xs ys : List Step) (text more : List ℕ) (k j : Holding) (A B : List Outcome)
+    → ArePlayed s n P (push a xs) → ArePlayed s n P (push b ys) → kind_of a ≡ kind_of b → (k ≡ j → Alike a b next next')
+    → ((A B : List Outcome) → ArePlayed s n P xs → ArePlayed s n P ys → A ++ all_outcomes xs ≡ B ++ all_outcomes ys → Told xs ys text more k j)
+    → A ++ all_outcomes (push a xs) ≡ B ++ all_outcomes (push b ys) → One a b next next' xs ys text more k j
+same_line U spans s n P L m None None next next' xs ys text more k j A B h i e alike before f =
+    let told = before A B h i f in
+    record { step = refl; next_is = (alike told.held_is).text_is refl; before = told }
+same_line U spans s n P L m None (Some y) next next' xs ys text more k j A B h i e alike before f = absurd (none_kind y e)
+same_line U spans s n P L m (Some x) None next next' xs ys text more k j A B h i e alike before f = absurd (none_kind x (sym e))
+same_line U spans s n P L m (Some x) (Some y) next next' xs ys text more k j A B h i e alike before f =
+    let ends = append_assoc A (outcomes x.group) (all_outcomes xs) ∙ f ∙ sym (append_assoc B (outcomes y.group) (all_outcomes ys)) in
+    let told = before (A ++ outcomes x.group) (B ++ outcomes y.group) h.1 i.1 ends in
+    let E : List Step → Type 0 = λ l. (A ++ outcomes x.group) ++ all_outcomes l ≡ (B ++ outcomes y.group) ++ all_outcomes ys in
+    let ended : A ++ outcomes x.group ≡ B ++ outcomes y.group = append_cancel_right (A ++ outcomes x.group) (B ++ outcomes y.group) (all_outcomes ys) (subst E told.steps ends) in
+    let F : List Step → Type 0 = λ l. Plays s n (l ++ P) x in
+    let both = alike told.held_is in
+    let step : Some x ≡ Some y = ap Some (same_next U s n (ys ++ P) x y A B (subst F told.steps h.0) i.0 (one_action x y e) (one_quiet x y both.quiet) ended) in
+    record { step = step; next_is = both.text_is step; before = told }
+
+-- what lines have the client do, what is written for them and what is held back follows from how the exchanges ended
+pub same_filters : OneReply → (spans : Spans) (s : Source) (n : ℕ) (P : List Step) (L : List Meaning) (steps others : List Step) (text more : List ℕ) (k j : Holding) (A B : List Outcome)
+    → Filters spans L steps text k → Filters spans L others more j → ArePlayed s n P steps → ArePlayed s n P others → A ++ all_outcomes steps ≡ B ++ all_outcomes others → Told steps others text more k j
+same_filters U spans s n P [] steps others text more k j A B h i p q e = record { steps = h.0 ∙ sym i.0; text_is = h.1 ∙ sym i.1; held_is = h.2 ∙ sym i.2 }
+same_filters U spans s n P (m ∷ L) steps others text more k j A B (a, xs, written, next, held, h, takes, e, f, g) (b, ys, written', next', held', i, takes', e', f', g') p q ended =
+    let T : Holding → Type 0 = λ z. Takes (at_line spans m z) L m a next in
+    let O : List Step → Type 0 = λ l. A ++ all_outcomes l ≡ B ++ all_outcomes others in
+    let Q : List Step → Type 0 = λ l. A ++ all_outcomes (push a xs) ≡ B ++ all_outcomes l in
+    let one = same_line U spans s n P L m a b next next' xs ys written written' held held' A B (subst (ArePlayed s n P) e p) (subst (ArePlayed s n P) e' q)
+    (taken_kind (at_line spans m held) L m a next takes ∙ sym (taken_kind (at_line spans m held') L m b next' takes'))
+    (λ same. same_takes (at_line spans m held') L m a b next next' (subst T same takes) takes')
+    (λ C D r t. same_filters U spans s n P L xs ys written written' held held' C D h i r t) (subst Q e' (subst O e ended)) in
+    let told = one.before in
+    record {
+      steps = e ∙ ap (λ z. push z xs) one.step ∙ ap (push b) told.steps ∙ sym e';
+      text_is = f ∙ ap (λ l. l ++ next) told.text_is ∙ ap (λ l. written' ++ l) one.next_is ∙ sym f';
+      held_is = g ∙ ap (λ z. after_line spans m z (at_line spans m held)) one.step ∙ ap (λ z. after_line spans m b (at_line spans m z)) told.held_is ∙ sym g';
+    }

@@ -1,14 +1,18 @@
 -- What a link reports of several exchanges, and how tries add up.
-use Rattle.std.proofs.Common.{◌≡◌, ℕ, ◌<◌, Bool, true, false, List, [], ◌∷◌, ◌++◌, length, refl, sym, ap, ◌∙◌, subst, append_assoc, append-nil, Option, None, Some, if◌then◌else◌}
+use Rattle.std.proofs.Common.{◌≡◌, ℕ, ◌<◌, Bool, true, false, List, [], ◌∷◌, ◌++◌, length, ◌||◌, is_some, refl, sym, ap, ◌∙◌, subst, append_assoc, append-nil, Option, None, Some, if◌then◌else◌}
 use Rattle.mq_frame.specs.Spelling.{SpellsReply, request_frame}
 use Rattle.mq_request.specs.declared.message.Request.{Request}
 use Rattle.mq_request.specs.declared.message.Reply.{Reply}
 use Rattle.mq_link.specs.Link.{Tells}
-use Rattle.mq_client.specs.Exchanges.{Exchange, IsDecision, IsTry, AreFailed, AreTries, IsSent, decides, told_of, told_all}
+use Rattle.mq_client.specs.Exchanges.{Exchange, IsDecision, IsTry, AreFailed, AreTries, IsSent, decides, told_of, told_all, ran_out, has_timed_out}
 use Rattle.mq_client.specs.Verdict.{IsVerdict, deciding}
 use Rattle.mq_client.specs.declared.verdict.Verdict.{Verdict}
+use Rattle.mq_client.specs.declared.tries.Tried.{Tried}
+use Rattle.mq_client.specs.declared.tries.Tried.TheVariants as tried
+use Rattle.mq_client.specs.Tried.{ComesOf, verdict_of, is_decided, is_late}
 use Rattle.mq_link.specs.declared.link.Outcome.{Outcome}
-use Rattle.mq_link.specs.declared.link.Outcome.TheVariants.{Answered}
+use Rattle.mq_link.specs.declared.link.LinkFault.{LinkFault}
+use Rattle.mq_link.specs.declared.link.Outcome.TheVariants.{Answered, Faulted}
 use Rattle.mq_link.specs.declared.link.Told.{Told}
 
 pub Tells-none : (t : Option (List Told)) → Tells t t []
@@ -63,3 +67,49 @@ sent_decided n request group (Some reply) v t says = (reply, t)
 pub sent_undecided : (n : ℕ) (request : Request) (group : List Exchange) (decided : Option Reply) → AreTries n request group decided → IsVerdict decided None → IsSent n request group false
 sent_undecided n request group None t v = t
 sent_undecided n request group (Some reply) t v = absurd v
+
+-- ---- what comes of tries
+
+-- an exchange that brought a body didn't run out of time
+pub answered_in_time : (request : Request) (body : List ℕ) (decided : Option Reply) → has_timed_out (record { request = request; outcome = Answered body; decided = decided } ∷ []) ≡ false
+answered_in_time request body None = refl
+answered_in_time request body (Some reply) = refl
+
+pub no_verdict : (t : Tried) → ((v : Verdict) → t ≡ tried.Decided v → ⊥) → verdict_of t ≡ None
+no_verdict (tried.Decided v) not = absurd (not v refl)
+no_verdict tried.Undecided not = refl
+no_verdict tried.TimedOut not = refl
+
+or_false : (b : Bool) → (b || false) ≡ b
+or_false true = refl
+or_false false = refl
+
+-- one more try that decides nothing
+pub late_more : (x : Exchange) (done : List Exchange) (a b : Bool) → x.decided ≡ None → a ≡ has_timed_out (x ∷ []) → b ≡ has_timed_out done → (a || b) ≡ has_timed_out (x ∷ done)
+late_more x done a b none last before =
+    let F : Option Reply → Type 0 = λ d. a ≡ (if is_some d then false else (ran_out x.outcome || false)) in
+    let G : Option Reply → Type 0 = λ d. (a || b) ≡ (if is_some d then false else (ran_out x.outcome || has_timed_out done)) in
+    let one : a ≡ ran_out x.outcome = subst F none last ∙ or_false (ran_out x.outcome) in
+    subst G (sym none) (ap (λ k. k || b) one ∙ ap (λ k. ran_out x.outcome || k) before)
+
+-- one that decides ends them in time
+pub comes_decided : (request : Request) (x : Exchange) (done : List Exchange) (decided : Option Reply) (v : Verdict) → IsTry request x decided → IsVerdict decided (Some v) → ComesOf decided (x ∷ done) (tried.Decided v)
+comes_decided request x done None v try says = absurd says
+comes_decided request x done (Some reply) v try says = record {
+  verdict = says;
+  late = sym (ap (λ (d : Option Reply). if is_some d then false else (ran_out x.outcome || has_timed_out done)) try.decided_is);
+}
+
+-- one that brings no reply
+pub comes_faulted : (request : Request) (fault : LinkFault) (t : Tried) → verdict_of t ≡ None → is_late t ≡ ran_out (Faulted fault) → ComesOf None (record { request = request; outcome = Faulted fault; decided = None } ∷ []) t
+comes_faulted request fault t none is = record { verdict = subst (IsVerdict None) (sym none) tt; late = is ∙ sym (or_false (ran_out (Faulted fault))) }
+
+-- of tries that decide nothing
+pub comes_undecided : (done : List Exchange) (t : Tried) (late : Bool) → verdict_of t ≡ None → is_late t ≡ late → late ≡ has_timed_out done → ComesOf None done t
+comes_undecided done t late none is so = record { verdict = subst (IsVerdict None) (sym none) tt; late = is ∙ so }
+
+-- a closing is sent, whatever comes of it
+pub sent_as : (n : ℕ) (request : Request) (group : List Exchange) (decided : Option Reply) (t : Tried) → AreTries n request group decided → IsVerdict decided (verdict_of t) → IsSent n request group (is_decided t)
+sent_as n request group decided (tried.Decided v) tries says = sent_decided n request group decided v tries says
+sent_as n request group decided tried.Undecided tries says = sent_undecided n request group decided tries says
+sent_as n request group decided tried.TimedOut tries says = sent_undecided n request group decided tries says

@@ -7,8 +7,8 @@ use Rattle.mq_request.specs.declared.message.Reply.{Reply}
 use Rattle.mq_frame.specs.Spelling.{SpellsReply}
 use Rattle.mq_client.specs.Exchanges.{Exchange, IsTry, IsDecision, AreFailed, AreTries, SendsSome, NoneYet, OneMore, Sends, SendsAll, SendsUpTo, decisions}
 use Rattle.mq_link.specs.Link.{Brings}
-use Rattle.mq_client.specs.Past.{Source, Action, Ask, Close, Drain, Step, View, view, held_for, reserve_of, refuses, PlaysFrom, Plays, IsPlayed}
-use Rattle.mq_client.specs.Turns.{failures, queue_of, next_of, next, ComeInTurn, IsUnderway, AreUnderway, outcomes}
+use Rattle.mq_client.specs.Past.{tries_in, Source, Action, Ask, Close, Drain, Step, View, view, held_for, reserve_of, refuses, PlaysFrom, Plays, IsPlayed}
+use Rattle.mq_client.specs.Turns.{failures, queue_of, next_of, next_in, ComeInTurn, IsUnderway, AreUnderway, outcomes}
 use Rattle.mq_client.specs.declared.held.Held.{Held}
 use Rattle.mq_link.specs.declared.link.Outcome.{Outcome}
 use Rattle.mq_link.specs.declared.link.Outcome.TheVariants.{Answered, Faulted}
@@ -99,7 +99,7 @@ turns_from s n v o Drain group (left, sends) = sends_come n v.waiting group left
 
 -- each exchange of a step is the next one
 pub turns : (s : Source) (n : ℕ) (P : List Step) (x : Step) → Plays s n P x → IsUnderway s n P x
-turns s n P x plays = turns_from s n (view s P) (held_for (view s P) x.action) x.action x.group plays
+turns s n P x plays = turns_from s (tries_in n x.quiet) (view s P) (held_for (view s P) x.action) x.action x.group plays
 
 pub all_turns : (s : Source) (n : ℕ) (P : List Step) → IsPlayed s n P → AreUnderway s n P
 all_turns s n [] played = tt
@@ -161,8 +161,8 @@ end_from s n v (Some h) (Close txn end) group (left, sends) = sends_end n _ grou
 end_from s n v o Drain group (left, sends) = sends_end n v.waiting group left sends
 
 -- after the exchanges of a step none is the next one
-pub none_next : (s : Source) (n : ℕ) (P : List Step) (x : Step) → Plays s n P x → next s n (view s P) x.action x.group ≡ None
-none_next s n P x plays = end_from s n (view s P) (held_for (view s P) x.action) x.action x.group plays
+pub none_next : (s : Source) (n : ℕ) (P : List Step) (x : Step) → Plays s n P x → next_in s n P x ≡ None
+none_next s n P x plays = end_from s (tries_in n x.quiet) (view s P) (held_for (view s P) x.action) x.action x.group plays
 
 -- ---- what follows from how exchanges ended
 

@@ -12,7 +12,7 @@ use Rattle.mq_request.specs.declared.message.Request.{Request}
 use Rattle.mq_request.specs.declared.message.Request.TheVariants.{Reserve, Settle, Release, Limit, Usage, List as ListRequest, Retire}
 use Rattle.mq_client.specs.Exchanges.{Exchange, decisions}
 use Rattle.mq_client.specs.Turns.{queue_of, ComeInTurn, AreUnderway}
-use Rattle.mq_client.specs.Past.{Source, Action, Ask, Close, Drain, Step, View, view, after, after_close, held_by, held_for, reserve_of, closing_of}
+use Rattle.mq_client.specs.Past.{tries_in, Source, Action, Ask, Close, Drain, Step, View, view, after, after_close, held_by, held_for, reserve_of, closing_of}
 use Rattle.mq_client.specs.Reading.{live_in, numbers_in, closing_under, closings_in, is_decided_by, is_decided_in, waiting_in}
 use Rattle.mq_track.specs.declared.closing.CloseEnd.{CloseEnd}
 use Rattle.mq_client.specs.declared.held.Held.{Held}
@@ -321,18 +321,18 @@ close_waits s n v P txn end group (Some h) same live turns w =
     let queue_closing = (all_both IsClosing more.done (v.waiting ++ q ∷ []) (subst (AllByRecursion IsClosing) more.whole more.closing)).1 in
     rw (live, ← same) (waits_sent (is_decided_in P) (closings_in s P ++ q ∷ []) (v.waiting ++ q ∷ []) (drop (decisions group) (v.waiting ++ q ∷ [])) (v.numbers + 1) group more (splits n (v.waiting ++ q ∷ []) group queue_closing turns))
 
-waits_step : (s : Source) (n : ℕ) (v : View) (P : List Step) (a : Action) (group : List Exchange) → v.numbers ≡ numbers_in P → ((t : ℕ) → held_by (v.standing t) ≡ live_in P t)
-    → ComeInTurn n (queue_of s v (held_for v a) a) group → WaitsIn s v P → WaitsIn s (after s v a group) (record { action = a; group = group } ∷ P)
-waits_step s n v P (Ask txn moment login) [] same live turns w = ask_waits s n v P txn moment login [] true turns v.numbers (omega arith) w
-waits_step s n v P (Ask txn moment login) (x ∷ group) same live turns w = ask_waits s n v P txn moment login (x ∷ group) _ turns (v.numbers + 1) (omega arith) w
-waits_step s n v P (Close txn end) group same live turns w = close_waits s n v P txn end group (held_by (v.standing txn)) same (sym (live txn)) turns w
-waits_step s n v P Drain group same live turns w =
+waits_step : (s : Source) (n : ℕ) (v : View) (P : List Step) (a : Action) (group : List Exchange) (k : Bool) → v.numbers ≡ numbers_in P → ((t : ℕ) → held_by (v.standing t) ≡ live_in P t)
+    → ComeInTurn n (queue_of s v (held_for v a) a) group → WaitsIn s v P → WaitsIn s (after s v a group) (record { action = a; group = group; quiet = k } ∷ P)
+waits_step s n v P (Ask txn moment login) [] k same live turns w = ask_waits s n v P txn moment login [] true turns v.numbers (omega arith) w
+waits_step s n v P (Ask txn moment login) (x ∷ group) k same live turns w = ask_waits s n v P txn moment login (x ∷ group) _ turns (v.numbers + 1) (omega arith) w
+waits_step s n v P (Close txn end) group k same live turns w = close_waits s n v P txn end group (held_by (v.standing txn)) same (sym (live txn)) turns w
+waits_step s n v P Drain group k same live turns w =
     let queue_closing = (all_both IsClosing w.done v.waiting (subst (AllByRecursion IsClosing) w.whole w.closing)).1 in
     rw append-nil (waits_sent (is_decided_in P) (closings_in s P) v.waiting (drop (decisions group) v.waiting) v.numbers group w (splits n v.waiting group queue_closing turns))
 
 waits : (s : Source) (n : ℕ) (P : List Step) → AreUnderway s n P → WaitsIn s (view s P) P
 waits s n [] u = record { done = []; whole = refl; decided = tt; undecided = tt; closing = tt; ascends = tt; below = tt; beyond = λ q c h. refl }
-waits s n (x ∷ P) u = waits_step s n (view s P) P x.action x.group (numbers_read s P) (live_read s P) u.0 (waits s n P u.1)
+waits s n (x ∷ P) u = waits_step s (tries_in n x.quiet) (view s P) P x.action x.group x.quiet (numbers_read s P) (live_read s P) u.0 (waits s n P u.1)
 
 none_kept : (dec : Request → Bool) (qs : List Request) → AllByRecursion (λ q. dec q ≡ true) qs → filter (λ q. not (dec q)) qs ≡ []
 none_kept dec [] all = refl

@@ -1,6 +1,6 @@
 -- The exchanges of one request: what each brought, and which reply decides.
 use Rattle.std.specs.Prelude.{◌≡◌, ℕ, ◌<◌, List, [], ◌∷◌, ◌++◌, length, Bool, true, false, Option, None, Some, is_some}
-use Rattle.std.specs.Prelude.{if◌then◌else◌, ◌+◌}
+use Rattle.std.specs.Prelude.{if◌then◌else◌, ◌+◌, ◌||◌}
 use Rattle.mq_request.specs.Same.{same_id}
 use Rattle.mq_request.specs.declared.message.Id.{Id}
 use Rattle.mq_request.specs.declared.message.Request.{Request}
@@ -10,7 +10,9 @@ use Rattle.mq_request.specs.declared.message.Reply.TheVariants.{Granted, Full, S
 use Rattle.mq_request.specs.declared.message.Reply.TheVariants.{TooMany, Conflict, Old}
 use Rattle.mq_frame.specs.Spelling.{request_frame}
 use Rattle.mq_link.specs.Link.{Brings}
+use Rattle.mq_link.specs.declared.link.LinkFault.TheVariants.{TimedOut}
 use Rattle.mq_link.specs.declared.link.Outcome.{Outcome}
+use Rattle.mq_link.specs.declared.link.Outcome.TheVariants.{Faulted}
 use Rattle.mq_link.specs.declared.link.Told.{Told}
 
 -- an exchange of a request: how it ended, and the reply that decided the request, where one did
@@ -76,6 +78,16 @@ AreTries n request (x ∷ group) (Some reply) = IsTry request x (Some reply) × 
 abbrev pub decisions : List Exchange → ℕ
 decisions [] = 0
 decisions (x ∷ group) = if is_some (x.decided) then decisions group + 1 else decisions group
+
+-- an exchange that ended so ran out of time
+abbrev pub ran_out : Outcome → Bool
+ran_out (Faulted TimedOut) = true
+ran_out _ = false
+
+-- no exchange decided the last request, and one of its tries ran out of time
+abbrev pub has_timed_out : List Exchange → Bool
+has_timed_out [] = false
+has_timed_out (x ∷ group) = if is_some (x.decided) then false else (ran_out x.outcome || has_timed_out group)
 
 -- From the front of a queue, each request is tried, and the next one only where a reply decides. So far
 -- the exchanges are these, and these requests are left.

@@ -1,7 +1,7 @@
 -- What the filter asks for and writes, by the lines that it reads. Of the lines after `config|ready`, and of
 -- steps, the newest comes first.
 use Rattle.std.specs.Prelude.{◌≡◌, ℕ, List, [], ◌∷◌, ◌++◌, length, codes, Bool, true, false, ◌&&◌, nat_le}
-use Rattle.std.specs.Prelude.{if◌then◌else◌, Option, None, Some, count_by}
+use Rattle.std.specs.Prelude.{if◌then◌else◌, Option, None, Some, is_some, count_by}
 use Rattle.std.specs.Str.{bytes_eq}
 use Rattle.std.specs.Option.{option_map}
 use Rattle.mq_line.specs.Grammar.{Meaning, FilterLine}
@@ -12,6 +12,8 @@ use Rattle.mq_track.specs.Sessions.{Position, Unknown, LoggedIn, Sending, positi
 use Rattle.mq_track.specs.declared.closing.Closing.{Closing}
 use Rattle.mq_client.specs.Exchanges.{Exchange}
 use Rattle.mq_client.specs.Past.{Action, Ask, Close, Step, answer_of}
+use Rattle.mq_client.specs.Holding.{Holding, nothing_held, held_back, seconds_in, still_by, noted_by}
+use Rattle.mq_client.specs.declared.spans.Spans.{Spans}
 use Rattle.mq_client.specs.declared.held.Asked.{Asked}
 use Rattle.mq_client.specs.declared.held.Asked.TheVariants as asked
 
@@ -46,35 +48,50 @@ decision_of asked.Granted = Proceed
 decision_of asked.Full = RejectLimit
 decision_of asked.Unavailable = RejectService
 
--- the step that a query makes, where it makes one, and how it is answered
-abbrev pub Answers : Query → Option Step → Decision → Type 0
-Answers Passes step d = (step ≡ None) × (d ≡ Proceed)
-Answers Refuses step d = (step ≡ None) × (d ≡ RejectService)
-Answers (Asks txn moment login) step d = (group : List Exchange)
-    × (step ≡ Some (record { action = Ask txn moment login; group = group })) × (d ≡ decision_of (answer_of group))
+-- how an ask with these exchanges is answered, which may be held back
+abbrev pub decision_by : Option Decision → List Exchange → Decision
+decision_by (Some d) group = d
+decision_by None group = decision_of (answer_of group)
 
--- the step that a closing makes
-abbrev pub Closes : Option Closing → Option Step → Type 0
-Closes None step = step ≡ None
-Closes (Some c) step = (group : List Exchange) × (step ≡ Some (record { action = Close c.txn c.end; group = group }))
+-- The step that a query makes, where it makes one, and how it is answered. One that is held back asks quietly.
+abbrev pub Answers : Holding → Query → Option Step → Decision → Type 0
+Answers h Passes step d = (step ≡ None) × (d ≡ Proceed)
+Answers h Refuses step d = (step ≡ None) × (d ≡ RejectService)
+Answers h (Asks txn moment login) step d = (group : List Exchange)
+    × (step ≡ Some (record { action = Ask txn moment login; group = group; quiet = is_some (held_back h login) }))
+    × (d ≡ decision_by (held_back h login) group)
 
--- the step that a line makes, by the lines before it, and what is written for it: one that the tracker refuses makes
--- none
-abbrev pub Takes : List Meaning → Meaning → Option Step → List ℕ → Type 0
-Takes L (FilterLine seconds subsystem phase session token rest) step text = (d : Decision)
-    × Answers (query L subsystem phase session) step d × (text ≡ result_text session token d)
-Takes L line step text = (fault L line ≡ None) × Closes (closing L line) step × (text ≡ [])
+-- the step that a closing makes: in a pause it joins those that wait, and none is sent
+abbrev pub Closes : (paused : Bool) → Option Closing → Option Step → Type 0
+Closes paused None step = step ≡ None
+Closes paused (Some c) step = (group : List Exchange)
+    × (step ≡ Some (record { action = Close c.txn c.end; group = group; quiet = paused }))
+
+-- the step that a line makes, by what is held back at it and the lines before it, and what is written for it: one that
+-- the tracker refuses makes none
+abbrev pub Takes : Holding → List Meaning → Meaning → Option Step → List ℕ → Type 0
+Takes h L (FilterLine seconds subsystem phase session token rest) step text = (d : Decision)
+    × Answers h (query L subsystem phase session) step d × (text ≡ result_text session token d)
+Takes h L line step text = (fault L line ≡ None) × Closes (is_some h.paused) (closing L line) step × (text ≡ [])
+
+-- what is held back when a line comes, and after its step
+abbrev pub at_line : Spans → Meaning → Holding → Holding
+at_line spans line h = still_by spans (seconds_in line) h
+
+abbrev pub after_line : Spans → Meaning → Option Step → Holding → Holding
+after_line spans line step h = noted_by spans (seconds_in line) step h
 
 -- with one more at the front, where there is one
 abbrev pub push : {A : Type 0} → Option A → List A → List A
 push None xs = xs
 push (Some x) xs = x ∷ xs
 
--- the steps that the lines make, and the results that are written for them
-abbrev pub Filters : List Meaning → List Step → List ℕ → Type 0
-Filters [] steps text = (steps ≡ []) × (text ≡ [])
-Filters (line ∷ L) steps text = (step : Option Step) × (before : List Step) × (written next : List ℕ)
-    × Filters L before written × Takes L line step next × (steps ≡ push step before) × (text ≡ written ++ next)
+-- the steps that the lines make, the results that are written for them, and what is held back after them
+abbrev pub Filters : Spans → List Meaning → List Step → List ℕ → Holding → Type 0
+Filters spans [] steps text h = (steps ≡ []) × (text ≡ []) × (h ≡ nothing_held)
+Filters spans (line ∷ L) steps text h = (step : Option Step) × (before : List Step) × (written next : List ℕ)
+    × (held : Holding) × Filters spans L before written held × Takes (at_line spans line held) L line step next
+    × (steps ≡ push step before) × (text ≡ written ++ next) × (h ≡ after_line spans line step (at_line spans line held))
 
 -- a request of smtpd, which gets one result
 abbrev pub is_filter : Meaning → Bool

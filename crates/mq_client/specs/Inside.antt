@@ -12,6 +12,7 @@ abbrev pub state_of : Inside → State
 state_of c = record {
   source = record { host = c.host; run = c.run };
   tries = c.tries;
+  spans = c.spans;
   held = c.held;
   numbers = c.numbers;
   waiting = requests_of c.outbox.items;

@@ -10,6 +10,8 @@ pub mod Turns
 pub mod Reading
 -- which request a number was used for
 pub mod Numbered
+-- what the filter holds back
+pub mod Holding
 -- what each line has the client do, and what is written for it
 pub mod Filter
 -- a whole run of the filter: what it read, wrote and did, and how it ended
@@ -30,5 +32,7 @@ pub mod Causes
 pub mod Reached
 -- what a client keeps of a reply that decides
 pub mod Verdict
+-- what comes of a request's tries
+pub mod Tried
 -- the loop over lines: how far it has come, and what each of its parts adds
 pub mod Loop

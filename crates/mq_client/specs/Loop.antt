@@ -13,6 +13,7 @@ use Rattle.mq_track.specs.declared.fault.TrackFault.TheVariants as track
 use Rattle.mq_link.specs.Link.{Tells}
 use Rattle.mq_client.specs.Exchanges.{told_all}
 use Rattle.mq_client.specs.Past.{Step, State, Makes, MakesAll, told_steps}
+use Rattle.mq_client.specs.Holding.{Holding}
 use Rattle.mq_client.specs.Filter.{query, Answers, answer_count}
 use Rattle.mq_client.specs.Run.{Stage, BeforeReady, AfterReady, Reaches, HasText, Outside, may_ask_for_memory, IsAtWork}
 use Rattle.mq_client.specs.Run.{StopsAt, is_early, is_stamped}
@@ -53,7 +54,8 @@ pub record SoFar (o : Outside) (bytes left : List ℕ) (f : Filter) (now : Outsi
   pub whole : Holds bytes lines left
   pub reaches : Reaches lines stage
   pub is_at : IsAt f stage
-  pub has_text : HasText stage steps text
+  pub spans : f.holdup.0 ≡ o.client.spans
+  pub has_text : HasText o.client.spans stage steps text f.holdup.1
   pub written : Appends o.sink now.sink text
   pub exchanged : Tells o.told now.told (told_steps steps)
   pub made : MakesAll o.client now.client steps
@@ -63,9 +65,9 @@ abbrev pub SinkWorks : Filter → (write_failed : Bool) → Type 0
 SinkWorks f write_failed = f.is_ready ≡ true → write_failed ≡ false
 
 -- what a request of smtpd makes and is answered by
-abbrev pub Replies : List Meaning → (subsystem phase session token : List ℕ) → Option Step → List ℕ → Type 0
-Replies L subsystem phase session token step text = (d : Decision) × Answers (query L subsystem phase session) step d
-    × (text ≡ result_text session token d)
+abbrev pub Replies : Holding → List Meaning → (subsystem phase session token : List ℕ) → Option Step → List ℕ → Type 0
+Replies h L subsystem phase session token step text = (d : Decision)
+    × Answers h (query L subsystem phase session) step d × (text ≡ result_text session token d)
 
 -- the faults that may cut a line's work short
 abbrev pub IsCut : FilterFault → (write_failed : Bool) → Type 0

@@ -60,9 +60,10 @@ pub record IsNumbered (s : Source) (P : List Step) (q : Request) : Type 0 where
 pub record WasCommitted (P : List Step) (txn moment : ℕ) (login : List ℕ) (count : ℕ) : Type 0 where
   pub later : List Step
   pub group : List Exchange
+  pub quiet : Bool
   pub before : List Step
   pub held : Held
-  pub whole : P ≡ later ++ record { action = Close txn Commit; group = group } ∷ before
+  pub whole : P ≡ later ++ record { action = Close txn Commit; group = group; quiet = quiet } ∷ before
   pub live : live_in before txn ≡ Some held
   pub moment_is : held.moment ≡ moment
   pub login_is : held.login ≡ login

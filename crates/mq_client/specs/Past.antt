@@ -16,6 +16,7 @@ use Rattle.mq_track.specs.declared.closing.CloseEnd.TheVariants as ending
 use Rattle.mq_client.specs.declared.held.Asked.{Asked}
 use Rattle.mq_client.specs.declared.held.Asked.TheVariants as asked
 use Rattle.mq_client.specs.declared.held.Held.{Held}
+use Rattle.mq_client.specs.declared.spans.Spans.{Spans}
 use Rattle.mq_link.specs.declared.link.Told.{Told}
 
 -- who asks: a host, and a run of its filter
@@ -29,14 +30,16 @@ pub data Action : Type 0 where
   Close : (txn : ℕ) (end : CloseEnd) → Action
   Drain : Action
 
--- an action, with its exchanges, of which the newest comes first
+-- an action, with its exchanges, of which the newest comes first. A quiet one sends nothing: what it would send is held
+-- back
 pub record Step : Type 0 where
   pub action : Action
   pub group : List Exchange
+  pub quiet : Bool
 
 -- all steps of a run to the end of its input: the last one sends what waits
 abbrev pub drained : List Exchange → List Step → List Step
-drained group steps = record { action = Drain; group = group } ∷ steps
+drained group steps = record { action = Drain; group = group; quiet = false } ∷ steps
 
 -- the answer to an ask, by the reply that decided it
 abbrev pub answer_by : Option Reply → Asked
@@ -188,9 +191,14 @@ held_for v (Ask txn moment login) = held_by (v.standing txn)
 held_for v (Close txn end) = held_by (v.standing txn)
 held_for v Drain = None
 
+-- how often a step tries each request
+abbrev pub tries_in : (tries : ℕ) (quiet : Bool) → ℕ
+tries_in tries true = 0
+tries_in tries false = tries
+
 -- the step may come next
 abbrev pub Plays : Source → (tries : ℕ) → List Step → Step → Type 0
-Plays s tries P x = let v = view s P in PlaysFrom s tries (held_for v x.action)
+Plays s tries P x = let v = view s P in PlaysFrom s (tries_in tries x.quiet) (held_for v x.action)
     (length v.live) v.numbers v.waiting x.action x.group
 
 -- each step could come next when it came
@@ -200,10 +208,12 @@ IsPlayed s tries (x ∷ P) = Plays s tries P x × IsPlayed s tries P
 
 -- A client, at the pasts that it may have.
 
--- a client as its callers see it: the live transactions, how many numbers are used, and what waits
+-- a client as its callers see it: how often a request is tried, how long the filter holds back, the live transactions,
+-- how many numbers are used, and what waits
 pub record State : Type 0 where
   pub source : Source
   pub tries : ℕ
+  pub spans : Spans
   pub held : List (ℕ × Held)
   pub numbers : ℕ
   pub waiting : List Request

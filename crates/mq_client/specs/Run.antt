@@ -13,7 +13,9 @@ use Rattle.mq_track.specs.Steps.{needs_memory}
 use Rattle.mq_link.specs.Link.{Tells}
 use Rattle.mq_client.specs.Exchanges.{Exchange}
 use Rattle.mq_client.specs.Past.{Step, drained, State, StandsAt, view, MakesAll, told_steps}
-use Rattle.mq_client.specs.Filter.{Takes, push, Filters, is_filter, answer_count}
+use Rattle.mq_client.specs.Holding.{Holding, nothing_held}
+use Rattle.mq_client.specs.Filter.{Takes, at_line, push, Filters, is_filter, answer_count}
+use Rattle.mq_client.specs.declared.spans.Spans.{Spans}
 use Rattle.mq_client.specs.declared.fault.FilterFault.{FilterFault}
 use Rattle.mq_client.specs.declared.fault.FilterFault.TheVariants as faults
 use Rattle.mq_client.specs.declared.filter.Ended.{Ended}
@@ -85,10 +87,11 @@ Reaches lines (AfterReady L) = IsReady lines L
 
 -- ---- what was done for it
 
--- the filter's text: the registration, and then the results
-abbrev pub HasText : Stage → List Step → List ℕ → Type 0
-HasText BeforeReady steps text = (steps ≡ []) × (text ≡ [])
-HasText (AfterReady L) steps text = (results : List ℕ) × Filters L steps results × (text ≡ registration ++ results)
+-- the filter's text, the registration and then the results, and what it holds back
+abbrev pub HasText : Spans → Stage → List Step → List ℕ → Holding → Type 0
+HasText spans BeforeReady steps text h = (steps ≡ []) × (text ≡ []) × (h ≡ nothing_held)
+HasText spans (AfterReady L) steps text h = (results : List ℕ) × Filters spans L steps results h
+    × (text ≡ registration ++ results)
 
 -- what stands outside of the filter: what the sink holds, what the link told, and the client
 pub record Outside : Type 0 where
@@ -108,10 +111,11 @@ pub record EndsWith (o : Outside) (bytes : List ℕ) (now : Outside) (e : Ended)
   pub after_ready : List Meaning
   pub steps : List Step
   pub results : List ℕ
+  pub holding : Holding
   pub group : List Exchange
   pub whole : Holds bytes lines []
   pub ready : IsReady lines after_ready
-  pub filters : Filters after_ready steps results
+  pub filters : Filters o.client.spans after_ready steps results holding
   pub written : Appends o.sink now.sink (registration ++ results)
   pub exchanged : Tells o.told now.told (told_steps (drained group steps))
   pub made : MakesAll o.client now.client (drained group steps)
@@ -164,20 +168,20 @@ IsFound faults.Write stage pieces left source read_failed write_failed = write_f
 IsFound faults.Memory stage pieces left source read_failed write_failed = IsFed pieces left ⊎ IsAtWork stage left
 
 -- the step that the line in front makes, and what is written for it
-abbrev pub Goes : Stage → (line : List ℕ) → Option Step → List ℕ → Type 0
-Goes BeforeReady line step next = Reads line ReadyLine × (step ≡ None) × (next ≡ registration)
-Goes (AfterReady L) line step next = (m : Meaning) × Reads line m × Takes L m step next
+abbrev pub Goes : Spans → Holding → Stage → (line : List ℕ) → Option Step → List ℕ → Type 0
+Goes spans h BeforeReady line step next = Reads line ReadyLine × (step ≡ None) × (next ≡ registration)
+Goes spans h (AfterReady L) line step next = (m : Meaning) × Reads line m × Takes (at_line spans m h) L m step next
 
 -- at a failed write and where memory ran out the line in hand may have made its step
-abbrev pub MayGo : Stage → (left : List ℕ) → Option Step → List ℕ → Type 0
-MayGo stage left step next = ((step ≡ None) × (next ≡ []))
-    ⊎ ((line : List ℕ) × StandsFirst line left × Goes stage line step next)
+abbrev pub MayGo : Spans → Holding → Stage → (left : List ℕ) → Option Step → List ℕ → Type 0
+MayGo spans h stage left step next = ((step ≡ None) × (next ≡ []))
+    ⊎ ((line : List ℕ) × StandsFirst line left × Goes spans h stage line step next)
 
 -- the step and the text of the line in hand: at a fault other than these two it has made none
-abbrev pub IsInHand : FilterFault → Stage → (left : List ℕ) → Option Step → List ℕ → Type 0
-IsInHand faults.Write stage left step next = MayGo stage left step next
-IsInHand faults.Memory stage left step next = MayGo stage left step next
-IsInHand f stage left step next = (step ≡ None) × (next ≡ [])
+abbrev pub IsInHand : FilterFault → Spans → Holding → Stage → (left : List ℕ) → Option Step → List ℕ → Type 0
+IsInHand faults.Write spans h stage left step next = MayGo spans h stage left step next
+IsInHand faults.Memory spans h stage left step next = MayGo spans h stage left step next
+IsInHand f spans h stage left step next = (step ≡ None) × (next ≡ [])
 
 -- The lines before the place where a run stopped were handled, and the rest is left: steps and exchanges were made
 -- as the lines ask, and their text was written. The line in hand may have made its step, and a prefix of its text
@@ -189,14 +193,15 @@ pub record StopsAt (o : Outside) (pieces : List (List ℕ)) (source : Option (Li
   pub stage : Stage
   pub steps : List Step
   pub text : List ℕ
+  pub holding : Holding
   pub whole : Holds (concat pieces) lines left
   pub reaches : Reaches lines stage
-  pub has_text : HasText stage steps text
+  pub has_text : HasText o.client.spans stage steps text holding
   pub found : IsFound f stage pieces left source read_failed write_failed
   pub step : Option Step
   pub front : List ℕ
   pub rest : List ℕ
-  pub in_hand : IsInHand f stage left step (front ++ rest)
+  pub in_hand : IsInHand f o.client.spans holding stage left step (front ++ rest)
   pub written : Appends o.sink now.sink (text ++ front)
   pub exchanged : Tells o.told now.told (told_steps (push step steps))
   pub made : MakesAll o.client now.client (push step steps)

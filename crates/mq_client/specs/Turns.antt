@@ -1,10 +1,10 @@
 -- The next exchange of a step, and how exchanges ended.
-use Rattle.std.specs.Prelude.{◌≡◌, ℕ, ◌+◌, List, [], ◌∷◌, ◌++◌, length, nat_le, if◌then◌else◌, Option, None, Some}
+use Rattle.std.specs.Prelude.{◌≡◌, ℕ, ◌+◌, List, [], ◌∷◌, ◌++◌, length, nat_le, Bool, if◌then◌else◌, Option, None, Some}
 use Rattle.std.specs.Prelude.{is_some, slice_get}
 use Rattle.mq_request.specs.declared.message.Request.{Request}
 use Rattle.mq_client.specs.Exchanges.{Exchange, decisions, IsDecision}
 use Rattle.mq_client.specs.Past.{Source, Action, Ask, Close, Drain, Step, View, view, reserve_of, closing_of, refuses}
-use Rattle.mq_client.specs.Past.{held_for}
+use Rattle.mq_client.specs.Past.{held_for, tries_in}
 use Rattle.mq_client.specs.declared.held.Held.{Held}
 use Rattle.mq_link.specs.declared.link.Outcome.{Outcome}
 
@@ -29,6 +29,10 @@ next_of tries queue group = if nat_le tries (failures group) then None else slic
 abbrev pub next : Source → (tries : ℕ) → View → Action → List Exchange → Option Request
 next s tries v action group = next_of tries (queue_of s v (held_for v action) action) group
 
+-- the same of a step
+abbrev pub next_in : Source → (tries : ℕ) → List Step → Step → Option Request
+next_in s tries P x = next s (tries_in tries x.quiet) (view s P) x.action x.group
+
 -- each exchange was the next one when it came
 abbrev pub ComeInTurn : (tries : ℕ) → List Request → List Exchange → Type 0
 ComeInTurn tries queue [] = Unit {0}
@@ -37,12 +41,17 @@ ComeInTurn tries queue (x ∷ group) = (next_of tries queue group ≡ Some x.req
 
 -- a step so far: each of its exchanges was the next one, and more may be to come
 abbrev pub IsUnderway : Source → (tries : ℕ) → List Step → Step → Type 0
-IsUnderway s tries P x = let v = view s P in ComeInTurn tries (queue_of s v (held_for v x.action) x.action) x.group
+IsUnderway s tries P x = let v = view s P in ComeInTurn (tries_in tries x.quiet) (queue_of s v (held_for v x.action) x.action) x.group
 
 -- the same of each step of a past
 abbrev pub AreUnderway : Source → (tries : ℕ) → List Step → Type 0
 AreUnderway s tries [] = Unit {0}
 AreUnderway s tries (x ∷ P) = IsUnderway s tries P x × AreUnderway s tries P
+
+-- which of the steps are quiet
+abbrev pub quiets : List Step → List Bool
+quiets [] = []
+quiets (x ∷ steps) = x.quiet ∷ quiets steps
 
 -- how exchanges ended
 abbrev pub outcomes : List Exchange → List Outcome

@@ -1,5 +1,5 @@
 //! The answer to one request of smtpd.
-ghost use Rattle.std.specs.Prelude.{◌≡◌, ◌≢◌, ◌<◌, ◌++◌, ◌&&◌, ◌⊎◌, [], ℕ, List, Option, None, Err, false, codes, IfOk};
+ghost use Rattle.std.specs.Prelude.{◌≡◌, ◌≢◌, ◌<◌, ◌++◌, ◌&&◌, ◌⊎◌, [], ℕ, List, Option, None, Some, Err, false, codes, IfOk};
 ghost use Rattle.std.specs.Prelude.{OnOk, OnErr, IfErr};
 ghost use Rattle.std.specs.Str.{bytes_eq};
 ghost use Rattle.mq_stream.specs.Flow.{IsFlushed};
@@ -8,7 +8,9 @@ ghost use Rattle.mq_track.specs.State.{TracksAt};
 ghost use Rattle.mq_line.specs.Grammar.{Meaning};
 ghost use Rattle.mq_line.specs.Results.{result_text};
 ghost use Rattle.mq_link.specs.Link.{Tells};
-ghost use Rattle.mq_client.specs.Past.{Step};
+ghost use Rattle.std.specs.Option.{option_copied};
+ghost use Rattle.mq_client.specs.Past.{Step, Ask};
+ghost use Rattle.mq_client.specs.Holding.{times_out, full_by, full_in, noted_by};
 ghost use Rattle.mq_client.specs.Causes.{cause_of as cause_of_lem};
 ghost use Rattle.mq_client.specs.Filter.{is_login, is_moment, query_at, query, decision_of as decision_of_lem, Answers};
 ghost use Rattle.mq_client.specs.Run.{around};
@@ -17,6 +19,7 @@ ghost use Rattle.mq_client.specs.Loop.{MakesOne, told_one, Does, Replies, IsCut}
 use crate::client::Client;
 use crate::fault::FilterFault;
 use crate::held::Asked;
+use crate::holdup::Holdup;
 use crate::refusal::Cause;
 use log::Log;
 use mq_line::{Decision, write_result};
@@ -26,9 +29,10 @@ use mq_stream::{Failed, Sink, write_and_flush};
 use mq_track::{Standing, Tracker};
 use std::alloc::{AllocError, Global};
 
-/// A request of smtpd.
+/// A request of smtpd, with the second of its line.
 #[derive(Clone, Copy)]
 pub struct Inquiry<'a> {
+    pub seconds: u64,
     pub subsystem: &'a [u8],
     pub phase: &'a [u8],
     pub session: &'a [u8],
@@ -69,57 +73,117 @@ fn decision_of(answer: Asked) -> Decision
     }
 }
 
-/// Asks for a recipient of the transaction that is open in the client's session.
-fn ask<R: Log, K: Link>(
+/// How a request of smtpd is answered, and what came of it.
+#[derive(Clone, Copy)]
+struct Decided<'a> {
+    decision: Decision,
+    /// No try decided, and one ran out of time.
+    timed_out: bool,
+    /// The login that was answered by the limit.
+    full: Option<&'a [u8]>,
+}
+
+/// An answer that no request was made for.
+fn unasked<'a>(decision: Decision) -> Decided<'a>
+    ensures decision { result.decision ≡ decision }
+    ensures timed_out { result.timed_out ≡ false }
+    ensures full { option_copied result.full ≡ None }
+{
+    Decided {
+        decision,
+        timed_out: false,
+        full: None,
+    }
+}
+
+/// The login, where its limit is reached.
+fn full_login(answer: Asked, login: &[u8]) -> Option<&[u8]>
+    ensures { (txn moment : ℕ) → option_copied result ≡ full_by (Ask txn moment login.now) answer }
+{
+    match answer {
+        Asked::Full => Some(login),
+        _ => None,
+    }
+}
+
+/// Counts a recipient that is answered 451 in a pause, for the log.
+fn note_held_back(client: &mut Client, decision: Decision)
+    ensures { client.new ≡ client.old }
+{
+    if decision == Decision::RejectService {
+        client.count_held_back();
+    }
+}
+
+/// Asks for a recipient of the transaction that is open in the client's session, unless it is held back.
+fn ask<'a, R: Log, K: Link>(
     rt: &R,
-    login: &[u8],
+    login: &'a [u8],
     txn: u32,
     moment: u64,
+    holdup: &Holdup,
     link: &mut K,
     client: &mut Client,
-) -> Result<Decision, AllocError>
+) -> Result<Decided<'a>, AllocError>
     requires { 0 < txn }
     ensures ok { IfOk result (λ d. (step : Option Step) × Tells (K.told link.old) (K.told link.new) (told_one step)
-        × MakesOne client.old client.new step × Answers (query_at (Sending login.now txn moment)) step d) }
+        × MakesOne client.old client.new step
+        × Answers holdup.now.1 (query_at (Sending login.now txn moment)) step d.decision
+        × (d.timed_out ≡ times_out step) × (option_copied d.full ≡ full_in step)) }
     ensures client { OnErr result (client.new ≡ client.old) }
     ensures link { OnErr result (link.new ≡ link.old) }
 {
     if !may_ask(login, moment) {
         client.warn_refused(rt, login, cause_of(login));
-        return Ok(Decision::RejectService);
+        return Ok(unasked(Decision::RejectService));
+    }
+    match holdup.held_back(login) {
+        Some(decision) => {
+            note_held_back(client, decision);
+            return Ok(unasked(decision));
+        }
+        None => {}
     }
     match client.reserve(rt, link, txn, moment, login) {
-        Ok(answer) => Ok(decision_of(answer)),
+        Ok(asking) => Ok(Decided {
+            decision: decision_of(asking.asked),
+            timed_out: asking.timed_out,
+            full: full_login(asking.asked, login),
+        }),
         Err(refused) => Err(refused),
     }
 }
 
 /// Decides on a request of smtpd.
-fn decide<R: Log, K: Link>(
+fn decide<'a, R: Log, K: Link>(
     rt: &R,
-    tracker: &Tracker,
+    tracker: &'a Tracker,
     inquiry: Inquiry<'_>,
+    holdup: &Holdup,
     link: &mut K,
     client: &mut Client,
-) -> Result<Decision, AllocError>
+) -> Result<Decided<'a>, AllocError>
     ensures ok { IfOk result (λ d. (step : Option Step) × Tells (K.told link.old) (K.told link.new) (told_one step)
         × MakesOne client.old client.new step
-        × ((L : List Meaning) → TracksAt tracker.now L →
-        Answers (query L inquiry.entry.subsystem.now inquiry.entry.phase.now inquiry.entry.session.now) step d)) }
+        × ((L : List Meaning) → TracksAt tracker.now L → Answers holdup.now.1
+        (query L inquiry.entry.subsystem.now inquiry.entry.phase.now inquiry.entry.session.now) step d.decision)
+        × (d.timed_out ≡ times_out step) × (option_copied d.full ≡ full_in step)) }
     ensures client { OnErr result (client.new ≡ client.old) }
     ensures link { OnErr result (link.new ≡ link.old) }
 {
     if !is_recipient(inquiry.subsystem, inquiry.phase) {
-        return Ok(Decision::Proceed);
+        return Ok(unasked(Decision::Proceed));
     }
     client.set_session(inquiry.session);
     match tracker.standing(inquiry.session) {
-        Standing::Anonymous => Ok(Decision::Proceed),
+        Standing::Anonymous => Ok(unasked(Decision::Proceed)),
         Standing::Login { login, .. } => {
             client.warn_refused(rt, login, Cause::NoTransaction);
-            Ok(Decision::RejectService)
+            Ok(unasked(Decision::RejectService))
         }
-        Standing::Open { login, txn, moment } => ask(rt, login, txn, moment, link, client),
+        Standing::Open { login, txn, moment } => {
+            ask(rt, login, txn, moment, holdup, link, client)
+        }
     }
 }
 
@@ -139,6 +203,7 @@ pub fn answer<R: Log, W: Sink, K: Link>(
     alloc: Global,
     tracker: &Tracker,
     inquiry: Inquiry<'_>,
+    holdup: &mut Holdup,
     output: &mut W,
     link: &mut K,
     client: &mut Client,
@@ -147,8 +212,9 @@ pub fn answer<R: Log, W: Sink, K: Link>(
         × Does (around (W.contents output.old) (K.told link.old) client.old)
         (around (W.contents output.new) (K.told link.new) client.new) step text
         × ((L : List Meaning) → TracksAt tracker.now L →
-        Replies L inquiry.entry.subsystem.now inquiry.entry.phase.now inquiry.entry.session.now
-        inquiry.entry.token.now step text)) }
+        Replies holdup.old.1 L inquiry.entry.subsystem.now inquiry.entry.phase.now inquiry.entry.session.now
+        inquiry.entry.token.now step text)
+        × (holdup.new ≡ (holdup.old.0, noted_by holdup.old.0 (Some inquiry.entry.seconds) step holdup.old.1))) }
     ensures fault { IfErr result (λ f. IsCut f (W.has_failed output.new)) }
     ensures works { W.has_failed output.old ≡ false → result ≢ Err FilterFault.Write → W.has_failed output.new ≡ false }
     ensures flushed { IsFlushed (W.has_flushed output.old) → result ≢ Err FilterFault.Write →
@@ -157,14 +223,17 @@ pub fn answer<R: Log, W: Sink, K: Link>(
         × Does (around (W.contents output.old) (K.told link.old) client.old)
         (around (W.contents output.new) (K.told link.new) client.new) step front
         × (((step ≡ None) × (front ++ rest ≡ [])) ⊎ ((L : List Meaning) → TracksAt tracker.now L →
-        Replies L inquiry.entry.subsystem.now inquiry.entry.phase.now inquiry.entry.session.now
+        Replies holdup.old.1 L inquiry.entry.subsystem.now inquiry.entry.phase.now inquiry.entry.session.now
         inquiry.entry.token.now step (front ++ rest)))) }
 {
-    let decision = match decide(rt, tracker, inquiry, link, client) {
-        Ok(decision) => decision,
+    let decided = match decide(rt, tracker, inquiry, holdup, link, client) {
+        Ok(decided) => decided,
         Err(AllocError) => return Err(FilterFault::Memory),
     };
-    let Ok(text) = text_of(alloc, inquiry, decision) else {
+    let Ok(text) = text_of(alloc, inquiry, decided.decision) else {
+        return Err(FilterFault::Memory);
+    };
+    let Ok(()) = holdup.note_answer(inquiry.seconds, decided.timed_out, decided.full) else {
         return Err(FilterFault::Memory);
     };
     match write_and_flush(output, text.as_slice()) {

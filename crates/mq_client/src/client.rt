@@ -1,19 +1,21 @@
 //! Numbered requests, each sent again under its number until a reply decides it.
-ghost use Rattle.std.specs.Prelude.{◌≡◌, ◌≤◌, ◌<◌, ◌+◌, List, Option, [], length, None, true, IfOk, IsOk, OnOk, OnErr};
+ghost use Rattle.std.specs.Prelude.{◌≡◌, ◌≤◌, ◌<◌, ◌+◌, List, Option, [], length, None, true, false, IfOk, IsOk, OnOk, OnErr};
 ghost use Rattle.mq_request.specs.Range.{IsHost, IsRun, IsWithin, IsOrdinal, IsMoment, IsLogin};
 ghost use Rattle.mq_link.specs.Link.{Tells};
 ghost use Rattle.mq_client.specs.Exchanges.{Exchange, told_all};
 ghost use Rattle.mq_client.specs.Past.{Step, Ask, Close, Drain, StandsAt, Makes, view, answer_of, find};
 ghost use Rattle.mq_client.specs.Past.{refuses as refuses_lem, reserve_of, closing_of, answer_by};
-ghost use Rattle.mq_client.specs.Exchanges.{AreTries};
+ghost use Rattle.mq_client.specs.Past.{tries_in as tries_in_lem};
+ghost use Rattle.mq_client.specs.Exchanges.{AreTries, has_timed_out};
 ghost use Rattle.mq_client.specs.Held.{IsHeld};
 ghost use Rattle.mq_client.specs.Framed.{IsFramed};
 ghost use Rattle.mq_request.specs.declared.message.Reply.{Reply};
 
-use crate::held::{Asked, Held, answer_to, closing_request, reserve_request};
-use crate::reached::Reached;
+use crate::held::{Asked, Asking, Held, answer_to, closing_request, reserve_request};
+use crate::journal::Journal;
 use crate::refusal::{Cause, RefusedRecipient, Warned};
 use crate::session::Session;
+use crate::spans::Spans;
 use crate::transactions::Transactions;
 use crate::tries::{Framed, send_all, try_all};
 use log::{Log, warn};
@@ -34,11 +36,12 @@ pub struct Client {
     host: Host,
     run: u64,
     tries: u32,
+    spans: Spans,
     held: Transactions,
     numbers: u32,
     outbox: VecDeque<Framed>,
     warned: Warned,
-    reached: Reached,
+    journal: Journal,
     /// The session whose requests come next.
     session: Session,
 }
@@ -100,6 +103,13 @@ fn framed_closing(
     Framed::new(alloc, request)
 }
 
+/// How often each request is tried: in a pause none is.
+fn tries_in(tries: u32, paused: bool) -> u32
+    ensures { result ≡ tries_in_lem tries paused }
+{
+    if paused { 0 } else { tries }
+}
+
 /// Sends the request for a recipient, and answers whether it may go through.
 fn ask<R: Log, L: Link>(
     rt: &R,
@@ -107,16 +117,19 @@ fn ask<R: Log, L: Link>(
     link: &mut L,
     reserve: Framed,
     tries: u32,
-    reached: &mut Reached,
-) -> Asked
+    journal: &mut Journal,
+) -> Asking
     requires { IsFramed reserve }
     ensures { (group : List Exchange) × (decided : Option Reply)
         × Tells (L.told link.old) (L.told link.new) (told_all group)
-        × AreTries tries reserve.request group decided × (result ≡ answer_by decided) }
+        × AreTries tries reserve.request group decided × (result.asked ≡ answer_by decided)
+        × (result.timed_out ≡ has_timed_out group) }
 {
-    let verdict = try_all(rt, alloc, link, &reserve, tries);
-    reached.report(rt, &reserve, verdict);
-    answer_to(verdict)
+    let tried = try_all(rt, alloc, link, &reserve, tries, journal);
+    Asking {
+        asked: answer_to(tried.verdict()),
+        timed_out: tried.has_timed_out(),
+    }
 }
 
 impl Client {
@@ -130,19 +143,40 @@ impl Client {
         ensures past { IfOk result (λ client. StandsAt client []) }
         ensures source { IfOk result (λ client. client.source ≡ record { host = host.now; run = run }) }
         ensures tries { IfOk result (λ client. client.tries ≡ tries) }
+        ensures spans { IfOk result (λ client. client.spans ≡ record { pause = 0; hold = 0 }) }
     {
         Ok(Client {
             alloc,
             host: host.clone()?,
             run,
             tries,
+            spans: Spans { pause: 0, hold: 0 },
             held: Transactions::new(alloc),
             numbers: 0,
             outbox: VecDeque::new(alloc),
             warned: Warned::new(alloc),
-            reached: Reached::new(alloc),
+            journal: Journal::new(alloc),
             session: Session::none(),
         })
+    }
+
+    /// The same client, whose filter holds back for these spans.
+    pub fn with_spans(self, spans: Spans) -> Client
+        ensures past { (P : List Step) → StandsAt self P → StandsAt result P }
+        ensures source { result.source ≡ self.source }
+        ensures tries { result.tries ≡ self.tries }
+        ensures spans { result.spans ≡ spans }
+    {
+        let mut client = self;
+        client.spans = spans;
+        client
+    }
+
+    /// For how long its filter holds back.
+    pub fn spans(&self) -> Spans
+        ensures { result ≡ self.now.spans }
+    {
+        self.spans
     }
 
     /// How many transactions are live.
@@ -180,16 +214,17 @@ impl Client {
         txn: u32,
         moment: u64,
         login: &[u8],
-    ) -> Result<Asked, AllocError>
+    ) -> Result<Asking, AllocError>
         requires txn { IsOrdinal txn }
         requires moment { IsMoment moment }
         requires login { IsLogin login.now }
-        ensures ok { IfOk result (λ answer. (group : List Exchange)
+        ensures ok { IfOk result (λ asking. (group : List Exchange)
             × Tells (L.told link.old) (L.told link.new) (told_all group)
-            × (answer ≡ answer_of group) × Makes self.old self.new (record {
+            × (asking.asked ≡ answer_of group) × Makes self.old self.new (record {
               action = Ask txn moment login.now;
               group = group;
-            })) }
+              quiet = false;
+            }) × (asking.timed_out ≡ has_timed_out group)) }
         // Memory is asked for only where the server is.
         ensures refused { refuses_lem (find self.old.held txn)
             (length self.old.held) self.old.numbers (length self.old.waiting) moment login.now ≡ true → IsOk result }
@@ -202,7 +237,10 @@ impl Client {
             .refusal(self.numbers, closings, txn, moment, login)
         {
             self.warn_refused(rt, login, cause);
-            return Ok(Asked::Unavailable);
+            return Ok(Asking {
+                asked: Asked::Unavailable,
+                timed_out: false,
+            });
         }
         let number = self.numbers + 1;
         // All memory comes first: where there is none, no number is used and nothing was sent.
@@ -213,10 +251,12 @@ impl Client {
         self.held.hold(txn, moment, login)?;
         // The number is used from here on, whatever comes of it: the server may have seen it.
         self.numbers = number;
-        let reached = &mut self.reached;
-        let answer = ask(rt, self.alloc, link, reserve, self.tries, reached);
-        self.held.count(txn, answer);
-        Ok(answer)
+        let journal = &mut self.journal;
+        let asking = ask(rt, self.alloc, link, reserve, self.tries, journal);
+        self.journal
+            .note_pause(rt, asking.timed_out, self.spans.pause);
+        self.held.count(txn, asking.asked);
+        Ok(asking)
     }
 
     /// Warns that recipients of the session are refused without asking the server, once for each cause.
@@ -234,23 +274,36 @@ impl Client {
         }
     }
 
-    /// Closes a transaction and sends what waits; one that isn't held changes and sends nothing. After an
-    /// `Err` nothing has changed and no exchange was made.
+    /// A recipient of a login is answered 451 in a pause, which the log counts.
+    pub fn count_held_back(&mut self)
+        ensures { self.new ≡ self.old }
+    {
+        self.journal.count_held_back();
+    }
+
+    /// Closes a transaction and sends what waits, in a pause nothing; one that isn't held changes and sends nothing. It
+    /// answers whether a request was left undecided of which a try ran out of time. After an `Err` nothing has changed and
+    /// no exchange was made.
     pub fn close<R: Log, L: Link>(
         &mut self,
         rt: &R,
         link: &mut L,
         closing: Closing,
-    ) -> Result<(), AllocError>
-        ensures ok { OnOk result ((group : List Exchange) × Tells (L.told link.old) (L.told link.new) (told_all group)
-            × Makes self.old self.new (record { action = Close closing.txn closing.end; group = group })) }
+        paused: bool,
+    ) -> Result<bool, AllocError>
+        ensures ok { IfOk result (λ timed_out. (group : List Exchange)
+            × Tells (L.told link.old) (L.told link.new) (told_all group) × Makes self.old self.new (record {
+              action = Close closing.txn closing.end;
+              group = group;
+              quiet = paused;
+            }) × (timed_out ≡ has_timed_out group)) }
         // Memory is asked for only where there is something to close.
         ensures unheld { find self.old.held closing.txn ≡ None → IsOk result }
         ensures client { OnErr result (self.new ≡ self.old) }
         ensures link { OnErr result (link.new ≡ link.old) }
     {
         let Some(known) = self.held.get(closing.txn) else {
-            return Ok(());
+            return Ok(false);
         };
         let number = self.numbers + 1;
         let mut framed = framed_closing(self.alloc, &self.host, self.run, number, closing, known)?;
@@ -259,17 +312,21 @@ impl Client {
         self.outbox.push_back(framed)?;
         self.held.release(closing.txn);
         self.numbers = number;
-        send_all(rt, self.alloc, link, &mut self.outbox, self.tries);
-        Ok(())
+        let tries = tries_in(self.tries, paused);
+        let journal = &mut self.journal;
+        let timed_out = send_all(rt, self.alloc, link, &mut self.outbox, tries, journal);
+        self.journal.note_pause(rt, timed_out, self.spans.pause);
+        Ok(timed_out)
     }
 
     /// Sends the closings that wait, and answers how many are left.
     pub fn drain<R: Log, L: Link>(&mut self, rt: &R, link: &mut L) -> u32
         ensures step { (group : List Exchange) × Tells (L.told link.old) (L.told link.new) (told_all group)
-            × Makes self.old self.new (record { action = Drain; group = group }) }
+            × Makes self.old self.new (record { action = Drain; group = group; quiet = false }) }
         ensures left { (P : List Step) → StandsAt self.new P → result ≡ length (view self.new.source P).waiting }
     {
-        send_all(rt, self.alloc, link, &mut self.outbox, self.tries);
+        let (tries, journal) = (self.tries, &mut self.journal);
+        let _ = send_all(rt, self.alloc, link, &mut self.outbox, tries, journal);
         let left = self.outbox.len();
         left as u32
     }

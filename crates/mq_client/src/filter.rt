@@ -11,7 +11,8 @@ ghost use Rattle.mq_track.specs.Sessions.{closing as closing_lem, fault as fault
 ghost use Rattle.mq_track.specs.State.{TracksAt};
 ghost use Rattle.mq_link.specs.Link.{Tells};
 ghost use Rattle.mq_client.specs.Past.{Step, State};
-ghost use Rattle.mq_client.specs.Filter.{Closes};
+ghost use Rattle.mq_client.specs.Filter.{Closes, after_line};
+ghost use Rattle.mq_client.specs.Holding.{nothing_held, seconds_in, times_out, full_in};
 ghost use Rattle.mq_link.specs.declared.link.Told.{Told};
 ghost use Rattle.mq_client.specs.Run.{Outside, around, supply, Supplies, EndsWith, StopsAt};
 ghost use Rattle.mq_client.specs.Loop.{MakesOne, told_one, IsCut, IsSorted, IsRefused, filter_fault, Carries, Halts};
@@ -20,6 +21,7 @@ ghost use Rattle.mq_client.specs.Loop.{CarriesHeld, HaltsHeld, SinkWorks, SoFar}
 use crate::answer::{Inquiry, answer};
 use crate::client::Client;
 use crate::fault::FilterFault;
+use crate::holdup::Holdup;
 use log::{Log, warn};
 use mq_line::{Line, LineFeed, read_line, write_registration};
 use mq_link::Link;
@@ -49,6 +51,8 @@ struct Filter {
     /// `config|ready` came.
     is_ready: bool,
     answers: u64,
+    /// What is held back.
+    holdup: Holdup,
 }
 
 /// The text of the registration.
@@ -116,26 +120,40 @@ fn session_of<'a>(line: &Line<'a>) -> &'a [u8] {
     }
 }
 
-/// Passes a closing on that a line of this session brings.
+/// The second of a line that has one.
+fn seconds_of(line: &Line<'_>) -> Option<u64>
+    ensures { result ≡ seconds_in (meaning line.now) }
+{
+    match line {
+        Line::Report { seconds, .. } | Line::Filter { seconds, .. } => Some(*seconds),
+        _ => None,
+    }
+}
+
+/// Passes a closing on that a line of this session brings, and answers whether a request
+/// was left undecided of which a try ran out of time.
 fn close<R: Log, K: Link>(
     rt: &R,
     session: &[u8],
     closing: Option<Closing>,
+    paused: bool,
     link: &mut K,
     client: &mut Client,
-) -> Result<(), FilterFault>
-    ensures ok { OnOk result ((step : Option Step) × Tells (K.told link.old) (K.told link.new) (told_one step)
-        × MakesOne client.old client.new step × Closes closing step) }
+) -> Result<bool, FilterFault>
+    ensures ok { IfOk result (λ timed_out. (step : Option Step)
+        × Tells (K.told link.old) (K.told link.new) (told_one step)
+        × MakesOne client.old client.new step × Closes paused closing step × (timed_out ≡ times_out step)
+        × (full_in step ≡ None)) }
     ensures memory { OnErr result ((result ≡ Err FilterFault.Memory) × (is_some closing ≡ true)) }
     ensures client { OnErr result (client.new ≡ client.old) }
     ensures link { OnErr result (link.new ≡ link.old) }
 {
     match closing {
-        None => Ok(()),
+        None => Ok(false),
         Some(closing) => {
             client.set_session(session);
-            match client.close(rt, link, closing) {
-                Ok(()) => Ok(()),
+            match client.close(rt, link, closing, paused) {
+                Ok(timed_out) => Ok(timed_out),
                 Err(_) => Err(FilterFault::Memory),
             }
         }
@@ -147,19 +165,31 @@ fn note<R: Log, K: Link>(
     rt: &R,
     tracker: &mut Tracker,
     line: &Line<'_>,
+    holdup: &mut Holdup,
     link: &mut K,
     client: &mut Client,
 ) -> Result<(), FilterFault>
     ensures ok { OnOk result ((step : Option Step) × Tells (K.told link.old) (K.told link.new) (told_one step)
         × MakesOne client.old client.new step
         × ((L : List Meaning) → TracksAt tracker.old L → (fault_lem L (meaning line.now) ≡ None)
-        × Closes (closing_lem L (meaning line.now)) step × TracksAt tracker.new (meaning line.now ∷ L))) }
+        × Closes (is_some holdup.old.1.paused) (closing_lem L (meaning line.now)) step
+        × TracksAt tracker.new (meaning line.now ∷ L))
+        × (holdup.new ≡ (holdup.old.0, after_line holdup.old.0 (meaning line.now) step holdup.old.1))) }
     ensures fault { IfErr result (λ f. (L : List Meaning) → TracksAt tracker.old L → IsRefused f L (meaning line.now)) }
     ensures client { OnErr result (client.new ≡ client.old) }
     ensures link { OnErr result (link.new ≡ link.old) }
 {
     match tracker.apply(line) {
-        Ok(closing) => close(rt, session_of(line), closing, link, client),
+        Ok(closing) => {
+            let paused = holdup.is_paused();
+            match close(rt, session_of(line), closing, paused, link, client) {
+                Ok(timed_out) => {
+                    holdup.note(seconds_of(line), timed_out);
+                    Ok(())
+                }
+                Err(fault) => Err(fault),
+            }
+        }
         Err(fault) => Err(fault_of(fault)),
     }
 }
@@ -220,7 +250,9 @@ fn after_ready<R: Log, W: Sink, K: Link>(
         (around (W.contents output.old) (K.told link.old) client.old)
         (around (W.contents output.new) (K.told link.new) client.new) (W.has_failed output.new)) }
 {
+    filter.holdup.pass(seconds_of(line));
     if let Line::Filter {
+        seconds,
         subsystem,
         phase,
         session,
@@ -229,12 +261,23 @@ fn after_ready<R: Log, W: Sink, K: Link>(
     } = *line
     {
         let inquiry = Inquiry {
+            seconds,
             subsystem,
             phase,
             session,
             token,
         };
-        return match answer(rt, alloc, &filter.tracker, inquiry, output, link, client) {
+        let holdup = &mut filter.holdup;
+        return match answer(
+            rt,
+            alloc,
+            &filter.tracker,
+            inquiry,
+            holdup,
+            output,
+            link,
+            client,
+        ) {
             Ok(()) => {
                 filter.answers += 1;
                 Ok(())
@@ -242,7 +285,8 @@ fn after_ready<R: Log, W: Sink, K: Link>(
             Err(fault) => Err(fault),
         };
     }
-    match note(rt, &mut filter.tracker, line, link, client) {
+    let holdup = &mut filter.holdup;
+    match note(rt, &mut filter.tracker, line, holdup, link, client) {
         Ok(()) => Ok(()),
         Err(fault) => Err(fault),
     }
@@ -386,6 +430,7 @@ fn read_all<R: Log, S: Source, W: Sink, K: Link>(
     requires tracker { TracksAt filter.old.tracker [] }
     requires ready { filter.old.is_ready ≡ false }
     requires count { filter.old.answers ≡ 0 }
+    requires holdup { filter.old.holdup ≡ (client.old.spans, nothing_held) }
     ensures ok { IfOk result (λ e. (pieces : List (List ℕ))
         × Supplies (supply (S.remaining input.old) (S.reads input.old))
         (supply (S.remaining input.new) (S.reads input.new)) pieces
@@ -476,6 +521,7 @@ pub fn run_filter<R: Log, S: Source, W: Sink, K: Link>(
         tracker: Tracker::new(alloc),
         is_ready: false,
         answers: 0,
+        holdup: Holdup::new(alloc, client.spans()),
     };
     read_all(
         rt,

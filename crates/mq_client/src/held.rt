@@ -34,6 +34,14 @@ pub enum Asked {
     Unavailable,
 }
 
+/// What came of asking for a recipient, and whether it took too long.
+#[derive(Clone, Copy, Debug, PartialEq, Eq)]
+pub struct Asking {
+    pub asked: Asked,
+    /// The server was asked, no try decided, and one of them ran out of time.
+    pub timed_out: bool,
+}
+
 /// The answer to an ask, by what was decided about it.
 pub fn answer_to(verdict: Option<Verdict>) -> Asked
     ensures { (decided : Option Reply) → IsVerdict decided verdict → result ≡ answer_by decided }

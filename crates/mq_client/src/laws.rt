@@ -1,15 +1,19 @@
 //! Laws of a client's past. The functions compute nothing.
-ghost use Rattle.std.specs.Prelude.{◌≡◌, ◌==◌, ◌≤◌, ◌*◌, ◌++◌, ◌∷◌, ℕ, List, Bool, true, false, None, Some};
+ghost use Rattle.std.specs.Prelude.{◌≡◌, ◌==◌, ◌≤◌, ◌*◌, ◌++◌, ◌∷◌, [], ℕ, List, Bool, true, false, None, Some};
 ghost use Rattle.std.specs.Prelude.{length, count_by, is_some, if◌then◌else◌};
 ghost use Rattle.mq_request.specs.declared.message.Request.{Request};
-ghost use Rattle.mq_client.specs.Exchanges.{Exchange};
+ghost use Rattle.mq_request.specs.declared.message.Reply.{Reply};
+ghost use Rattle.std.specs.List.{list_any};
+ghost use Rattle.mq_client.specs.Exchanges.{Exchange, AreTries, IsUndecided, SendsSome, Sends, ran_out, has_timed_out};
 ghost use Rattle.mq_client.specs.Past.{Source, Step, drained, StandsAt, view, Plays, ArePlayed, IsPlayed};
 ghost use Rattle.mq_client.specs.Past.{IsBounded};
 ghost use Rattle.mq_client.specs.Reading.{live_in, standing_in, numbers_in, waiting_in};
-ghost use Rattle.mq_client.specs.Turns.{next, ComeInTurn, IsUnderway, AreUnderway, outcomes, all_outcomes};
+ghost use Rattle.mq_client.specs.Turns.{next_in, ComeInTurn, IsUnderway, AreUnderway, outcomes, quiets, all_outcomes};
 ghost use Rattle.mq_client.specs.Numbered.{id_in, txn_in, exchanges_in, request_under, IsNumbered, SettlesWhatWasLet};
 ghost use Rattle.mq_client.specs.Numbered.{NoneReturns, Suits};
+ghost use Rattle.mq_client.specs.Holding.{Holding, still};
 ghost use Rattle.mq_client.specs.Filter.{push, Filters, actions, actions_of};
+ghost use Rattle.mq_client.specs.declared.spans.Spans.{Spans};
 ghost use Rattle.mq_line.specs.Grammar.{Meaning};
 ghost use Rattle.std.specs.List.{AllByRecursion, concat};
 ghost use Rattle.mq_client.specs.Run.{Outside, EndsWith, StopsAt};
@@ -47,14 +51,14 @@ pub fn in_turn()
     ensures turns { (s : Source) (tries : ℕ) (P : List Step) (x : Step) → Plays s tries P x → IsUnderway s tries P x }
     ensures all_turns { (s : Source) (tries : ℕ) (P : List Step) → IsPlayed s tries P → AreUnderway s tries P }
     ensures last { (s : Source) (tries : ℕ) (P : List Step) (x : Step) → Plays s tries P x →
-        next s tries (view s P) x.action x.group ≡ None }
+        next_in s tries P x ≡ None }
     ensures same { (tries : ℕ) (queue : List Request) (g h : List Exchange) →
         ComeInTurn tries queue g → ComeInTurn tries queue h → outcomes g ≡ outcomes h → g ≡ h }
     // Steps of the same actions after the same past are the same where their exchanges ended alike,
     // one after another: which step made which exchange follows.
     ensures steps { (s : Source) (tries : ℕ) (P steps others : List Step) → ArePlayed s tries P steps →
         ArePlayed s tries P others →
-        actions steps ≡ actions others → all_outcomes steps ≡ all_outcomes others → steps ≡ others }
+        actions steps ≡ actions others → quiets steps ≡ quiets others → all_outcomes steps ≡ all_outcomes others → steps ≡ others }
 {
     // (a frame is that of one request)
     one_spelling();
@@ -85,14 +89,39 @@ pub fn settles_are_of_what_was_let()
 /// What the filter has its client do follows from the lines, and they never ask for a transaction
 /// that was closed.
 pub fn closed_is_not_asked_for()
-    ensures actions { (L : List Meaning) (steps : List Step) (text : List ℕ) → Filters L steps text →
-        actions steps ≡ actions_of L }
+    ensures actions { (spans : Spans) (L : List Meaning) (steps : List Step) (text : List ℕ) (h : Holding) →
+        Filters spans L steps text h → actions steps ≡ actions_of L }
     ensures none_returns { (s : Source) (L : List Meaning) (P : List Step) → actions P ≡ actions_of L →
         NoneReturns s P }
 {
     // (the tracker never gives the number of a closed transaction again)
     closed_stays_closed();
 }
+
+/// A request begins a pause exactly where no exchange decided it and one ran out of time; of a queue that is the one that
+/// stays undecided. So a connection that is refused, which runs out of no time, begins none.
+pub fn when_pauses_begin()
+    ensures decided { (n : ℕ) (request : Request) (group : List Exchange) (reply : Reply) →
+        AreTries n request group (Some reply) → has_timed_out group ≡ false }
+    ensures undecided { (n : ℕ) (request : Request) (group : List Exchange) → AreTries n request group None →
+        has_timed_out group ≡ list_any (λ x. ran_out x.outcome) group }
+    ensures sent { (n : ℕ) (queue : List Request) (group : List Exchange) → Sends n queue group [] →
+        has_timed_out group ≡ false }
+    ensures stopped { (n : ℕ) (queue left : List Request) (request : Request) (group tries : List Exchange) →
+        SendsSome n queue group (request ∷ left) → IsUndecided n request tries →
+        has_timed_out (tries ++ group) ≡ list_any (λ x. ran_out x.outcome) tries }
+{}
+
+/// Without a span nothing is held back at any line that has a second, and no step is quiet: each tries as often as the
+/// client does.
+pub fn without_spans()
+    ensures pause { (spans : Spans) (seconds : ℕ) (h : Holding) → spans.pause ≡ 0 →
+        (still spans seconds h).paused ≡ None }
+    ensures hold { (spans : Spans) (seconds : ℕ) (h : Holding) → spans.hold ≡ 0 → (still spans seconds h).full ≡ [] }
+    ensures none_quiet { (spans : Spans) (L : List Meaning) (steps : List Step) (text : List ℕ) (h : Holding) →
+        spans.pause ≡ 0 → spans.hold ≡ 0 → Filters spans L steps text h →
+        AllByRecursion (λ x. x.quiet ≡ false) steps }
+{}
 
 /// A run of the filter that neither a device nor a lack of memory ended follows from its whole input, from
 /// the client at its start and from how its exchanges ended, one after another. In which pieces the

@@ -18,11 +18,16 @@ mod client;
 mod fault;
 mod filter;
 mod held;
+mod holdup;
+mod journal;
 mod laws;
+mod moves;
 mod named;
+mod pauses;
 mod reached;
 mod refusal;
 mod session;
+mod spans;
 mod transactions;
 mod tries;
 mod verdict;
@@ -31,8 +36,9 @@ mod warnings;
 pub use client::Client;
 pub use fault::FilterFault;
 pub use filter::{Ended, run_filter};
-pub use held::{Asked, Held};
+pub use held::{Asked, Asking, Held};
 pub use laws::{
     closed_is_not_asked_for, few_at_a_time, in_turn, one_request_for_a_number, one_run, readings,
-    settles_are_of_what_was_let,
+    settles_are_of_what_was_let, when_pauses_begin, without_spans,
 };
+pub use spans::Spans;

@@ -90,8 +90,8 @@ impl Reached {
 
     /// Reports where the server refused a recipient by the limit: the first of a login on a day by a warning. The day is
     /// that of its transaction in UTC, since the server's isn't known here.
-    pub fn report<R: Log>(&mut self, rt: &R, reserve: &Framed, verdict: Option<Verdict>) {
-        if let Some(Verdict::Full { used, cap }) = verdict {
+    pub fn report<R: Log>(&mut self, rt: &R, reserve: &Framed, verdict: Verdict) {
+        if let Verdict::Full { used, cap } = verdict {
             let level = self.level(&reserve.request);
             report(rt, level, &LimitReached { reserve, used, cap });
         }

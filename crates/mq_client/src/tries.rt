@@ -1,21 +1,23 @@
 //! One request, sent up to so many times, and a queue of requests, sent from its front.
-ghost use Rattle.std.specs.Prelude.{◌≡◌, ◌<◌, ◌≤◌, ◌∷◌, [], List, Option, length, IfOk};
+ghost use Rattle.std.specs.Prelude.{◌≡◌, ◌<◌, ◌≤◌, ◌∷◌, ◌||◌, [], List, Option, None, false, length, IfOk};
 ghost use Rattle.mq_request.specs.Range.{IsRequest};
 ghost use Rattle.std.specs.List.{AllByRecursion};
 ghost use Rattle.mq_link.specs.Link.{Tells};
 ghost use Rattle.mq_client.specs.Exchanges.{Exchange, IsTry, AreTries, IsSent, Sends, told_of, told_all};
 ghost use Rattle.mq_frame.specs.Spelling.{request_frame};
-ghost use Rattle.mq_client.specs.Verdict.{IsVerdict};
+ghost use Rattle.mq_client.specs.Exchanges.{ran_out, has_timed_out as has_timed_out_lem};
+ghost use Rattle.mq_link.specs.declared.link.Outcome.TheVariants.{Faulted};
+ghost use Rattle.mq_client.specs.Tried.{ComesOf, verdict_of, is_decided as is_decided_lem, is_late};
 ghost use Rattle.mq_request.specs.declared.message.Reply.{Reply};
 ghost use Rattle.mq_client.specs.declared.tries.Framed.{Framed as AnyFramed};
 ghost use Rattle.mq_client.specs.Framed.{IsFramed, requests_of};
 
+use crate::journal::Journal;
 use crate::session::Session;
 use crate::verdict::{Verdict, is_other_reply, verdict_in};
-use crate::warnings::{Refused, Unanswered, is_refusal};
 use log::{Level, Log, log};
 use mq_frame::encode_request;
-use mq_link::Link;
+use mq_link::{Link, LinkFault};
 use mq_request::Request;
 use std::alloc::{AllocError, Global};
 use std::collections::VecDeque;
@@ -57,43 +59,99 @@ impl Framed {
     }
 }
 
-/// One exchange of a framed request, and what the reply decides.
-fn try_once<L: Link>(link: &mut L, framed: &Framed, body: &mut Vec<u8>) -> Option<Verdict>
-    requires { IsFramed framed.now }
-    ensures { (x : Exchange) × (decided : Option Reply) × Tells (L.told link.old) (L.told link.new) (told_of x ∷ [])
-        × IsTry framed.now.request x decided × IsVerdict decided result }
-{
-    match link.exchange(framed.frame.as_slice(), body) {
-        Ok(()) => verdict_in(&framed.request, body.as_slice()),
-        Err(_fault) => None,
-    }
-}
-
 /// Logs a text.
 pub fn report<R: Log, T: Display>(rt: &R, level: Level, text: &T) {
     log!(rt; level, "{text}");
 }
 
-/// Warns where the server refused a request for another cause than the limit.
-fn report_verdict<R: Log>(rt: &R, framed: &Framed, verdict: Verdict) {
-    if is_refusal(verdict) {
-        report(rt, Level::Warn, &Refused { framed, verdict });
+/// What came of a request's tries.
+#[derive(Clone, Copy)]
+pub enum Tried {
+    /// A reply decides it.
+    Decided(Verdict),
+    /// No reply decides it, and no try ran out of time.
+    Undecided,
+    /// No reply decides it, and a try ran out of time.
+    TimedOut,
+}
+
+impl Tried {
+    /// What the reply decides, where one does.
+    pub fn verdict(self) -> Option<Verdict>
+        ensures { result ≡ verdict_of self }
+    {
+        match self {
+            Tried::Decided(verdict) => Some(verdict),
+            _ => None,
+        }
+    }
+
+    /// Whether a reply decides the request.
+    fn is_decided(self) -> bool
+        ensures { result ≡ is_decided_lem self }
+    {
+        matches!(self, Tried::Decided(_))
+    }
+
+    /// Whether no reply decides it, and a try ran out of time.
+    pub fn has_timed_out(self) -> bool
+        ensures { result ≡ is_late self }
+    {
+        matches!(self, Tried::TimedOut)
     }
 }
 
-/// Reports a request that no reply decided: by a warning where the server answered, since the link logs it else.
-fn report_unanswered<R: Log>(rt: &R, framed: &Framed, tries: u32, is_answered: bool) {
-    let level = if is_answered {
-        Level::Warn
+/// What comes of tries that decide nothing.
+fn undecided(timed_out: bool) -> Tried
+    ensures verdict { verdict_of result ≡ None }
+    ensures late { is_late result ≡ timed_out }
+{
+    if timed_out {
+        Tried::TimedOut
     } else {
-        Level::Info
-    };
-    let unanswered = Unanswered {
-        framed,
-        tries,
-        is_answered,
-    };
-    report(rt, level, &unanswered);
+        Tried::Undecided
+    }
+}
+
+/// What comes of a reply that decides so, or of one that decides nothing.
+fn answered(verdict: Option<Verdict>) -> Tried
+    ensures verdict { verdict_of result ≡ verdict }
+    ensures late { is_late result ≡ false }
+{
+    match verdict {
+        Some(verdict) => Tried::Decided(verdict),
+        None => Tried::Undecided,
+    }
+}
+
+/// What comes of an exchange that brings no reply.
+fn faulted(fault: LinkFault) -> Tried
+    ensures verdict { verdict_of result ≡ None }
+    ensures late { is_late result ≡ ran_out (Faulted fault) }
+{
+    match fault {
+        LinkFault::TimedOut => Tried::TimedOut,
+        LinkFault::Down | LinkFault::Memory => Tried::Undecided,
+    }
+}
+
+/// One exchange of a framed request, and what comes of it.
+fn try_once<L: Link>(link: &mut L, framed: &Framed, body: &mut Vec<u8>) -> Tried
+    requires { IsFramed framed.now }
+    ensures { (x : Exchange) × (decided : Option Reply) × Tells (L.told link.old) (L.told link.new) (told_of x ∷ [])
+        × IsTry framed.now.request x decided × ComesOf decided (x ∷ []) result }
+{
+    match link.exchange(framed.frame.as_slice(), body) {
+        Ok(()) => answered(verdict_in(&framed.request, body.as_slice())),
+        Err(fault) => faulted(fault),
+    }
+}
+
+/// Whether a try ran out of time, with one more.
+fn with_try(timed_out: bool, tried: Tried) -> bool
+    ensures { result ≡ (is_late tried || timed_out) }
+{
+    matches!(tried, Tried::TimedOut) || timed_out
 }
 
 /// Exchanges a framed request until a reply decides it, up to so many times.
@@ -103,35 +161,44 @@ pub fn try_all<R: Log, L: Link>(
     link: &mut L,
     framed: &Framed,
     tries: u32,
-) -> Option<Verdict>
+    journal: &mut Journal,
+) -> Tried
     requires { IsFramed framed.now }
     ensures { (group : List Exchange) × (decided : Option Reply)
         × Tells (L.told link.old) (L.told link.new) (told_all group)
-        × AreTries tries framed.now.request group decided × IsVerdict decided result }
+        × AreTries tries framed.now.request group decided × ComesOf decided group result }
 {
     let mut body = Vec::new(alloc);
     let mut is_answered = false;
+    let mut timed_out = false;
     for _attempt in 0..tries {
-        if let Some(verdict) = try_once(link, framed, &mut body) {
-            report_verdict(rt, framed, verdict);
-            return Some(verdict);
+        let tried = try_once(link, framed, &mut body);
+        if let Tried::Decided(verdict) = tried {
+            journal.note_decided(rt, framed, verdict);
+            return tried;
         }
+        timed_out = with_try(timed_out, tried);
         is_answered = is_answered || is_other_reply(body.as_slice());
     }
-    report_unanswered(rt, framed, tries, is_answered);
-    None
+    journal.note_undecided(rt, framed, tries, is_answered);
+    undecided(timed_out)
 }
 
-/// Sends a closing up to so many times, and answers whether a reply decided it.
-fn send<R: Log, L: Link>(rt: &R, alloc: Global, link: &mut L, closing: &Framed, tries: u32) -> bool
+/// Sends a closing up to so many times, and answers what came of it.
+fn send<R: Log, L: Link>(
+    rt: &R,
+    alloc: Global,
+    link: &mut L,
+    closing: &Framed,
+    tries: u32,
+    journal: &mut Journal,
+) -> Tried
     requires { IsFramed closing.now }
     ensures { (group : List Exchange) × Tells (L.told link.old) (L.told link.new) (told_all group)
-        × IsSent tries closing.now.request group result }
+        × IsSent tries closing.now.request group (is_decided_lem result)
+        × (has_timed_out_lem group ≡ is_late result) }
 {
-    match try_all(rt, alloc, link, closing, tries) {
-        Some(_) => true,
-        None => false,
-    }
+    try_all(rt, alloc, link, closing, tries, journal)
 }
 
 /// Takes the first request away.
@@ -143,25 +210,29 @@ fn drop_front(outbox: &mut VecDeque<Framed>)
     let _ = outbox.pop_front();
 }
 
-/// Sends a queue from its front, until a request stays undecided.
+/// Sends a queue from its front, until a request stays undecided, and answers whether a try of that one ran out of time.
 pub fn send_all<R: Log, L: Link>(
     rt: &R,
     alloc: Global,
     link: &mut L,
     outbox: &mut VecDeque<Framed>,
     tries: u32,
-)
+    journal: &mut Journal,
+) -> bool
     requires { AllByRecursion IsFramed outbox.old.items }
     ensures step { (group : List Exchange) × Tells (L.told link.old) (L.told link.new) (told_all group)
-        × Sends tries (requests_of outbox.old.items) group (requests_of outbox.new.items) }
+        × Sends tries (requests_of outbox.old.items) group (requests_of outbox.new.items)
+        × (result ≡ has_timed_out_lem group) }
     ensures framed { AllByRecursion IsFramed outbox.new.items }
     ensures len { length outbox.new.items ≤ length outbox.old.items }
 {
     while let Some(closing) = outbox.front() {
         // What stands after an undecided closing waits with it, so that closings go out in order.
-        if !send(rt, alloc, link, closing, tries) {
-            return;
+        let sent = send(rt, alloc, link, closing, tries, journal);
+        if !sent.is_decided() {
+            return sent.has_timed_out();
         }
         drop_front(outbox);
     }
+    false
 }

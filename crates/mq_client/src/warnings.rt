@@ -71,7 +71,10 @@ fn write_too_many<W: fmt::Write>(
     held: u32,
 ) -> fmt::Result {
     let named = Named(framed);
-    write!(f, "{named}: the transaction holds {held} only")
+    write!(
+        f,
+        "{named}: the transaction holds {held} only, the server's address may have moved"
+    )
 }
 
 /// A request that the server refused for another cause than the limit.

@@ -4,8 +4,8 @@
 //! [`read_body`] is the one reader of a reply's body. From `mq_client/src/tries.rt`:
 //!
 //!     match link.exchange(framed.frame.as_slice(), body) {
-//!         Ok(()) => verdict_in(&framed.request, body.as_slice()),
-//!         Err(_fault) => None,
+//!         Ok(()) => answered(verdict_in(&framed.request, body.as_slice())),
+//!         Err(fault) => faulted(fault),
 //!     }
 //!
 //! It stands on `mq_request` and `mq_frame`, for the type of its bytes and for how a frame begins; it knows neither what a

@@ -7,7 +7,7 @@ use mq_request::Bytes;
 pub enum LinkFault {
     /// The server couldn't be reached, or its reply was cut off.
     Down,
-    /// No reply came in time.
+    /// Connecting, writing or reading took too long.
     TimedOut,
     /// The reply found no memory.
     Memory,

@@ -5,9 +5,9 @@
 //! back over all lines that it accepted. From `mq_client/src/filter.rt`:
 //!
 //!     match tracker.apply(line) {
-//!         Ok(closing) => close(rt, session_of(line), closing, link, client),
-//!         Err(fault) => Err(fault_of(fault)),
-//!     }
+//!         Ok(closing) => {
+//!             let paused = holdup.is_paused();
+//!             match close(rt, session_of(line), closing, paused, link, client) {
 //!
 //! It stands on `mq_line`, and knows what a line says; it knows nothing of recipients, requests and limits. Begin with
 //! `specs/Sessions.antt`, the login and the open transaction of a session, and `tracker.rt`.

@@ -6,6 +6,8 @@ mod faults;
 mod flushing;
 mod limits;
 mod long;
+mod moves;
+mod pauses;
 mod retires;
 mod rows;
 mod script;
@@ -15,7 +17,7 @@ mod stops;
 use crate::filter_end::asserts::{MEMORY, assert_bytes, assert_count, assert_that};
 use crate::filter_end::client::script::ScriptLink;
 use log::sink::Memory as Kept;
-use mq_client::{Client, Ended, FilterFault, run_filter};
+use mq_client::{Client, Ended, FilterFault, Spans, run_filter};
 use mq_link::{LinkFault, Outcome, Told};
 use mq_request::{Bytes, Host, is_host};
 use mq_stream::{FromRead, Sink, Source, ToWrite};
@@ -216,6 +218,16 @@ fn rig_of(rt: &impl Abort, alloc: Global, tries: u32, replies: &[Reply<'_>]) -> 
     }
 }
 
+/// The same for a row, whose filter holds back for its spans.
+fn rig_with(rt: &impl Abort, alloc: Global, row: &Row<'_>) -> Rig {
+    let Rig { client, link, log } = rig_of(rt, alloc, row.tries, row.replies);
+    Rig {
+        client: client.with_spans(row.spans),
+        link,
+        log,
+    }
+}
+
 /// How a run ends.
 type End = Result<Ended, FilterFault>;
 
@@ -252,6 +264,7 @@ fn run<S: Source, W: Sink>(alloc: Global, rig: &mut Rig, input: &mut S, output: 
 struct Row<'a> {
     name: &'a str,
     tries: u32,
+    spans: Spans,
     /// What the server answers; it is down afterwards.
     replies: &'a [Reply<'a>],
     /// What smtpd writes.
@@ -280,6 +293,7 @@ enum Sent<'a> {
 const PLAIN: Row<'static> = Row {
     name: "",
     tries: 3,
+    spans: Spans { pause: 0, hold: 0 },
     replies: &[],
     lines: &[],
     ended: ONE_ANSWER,
@@ -299,7 +313,7 @@ fn assert_row(rt: &impl Abort, alloc: Global, row: &Row<'_>) {
 
 /// The same of a run that reads and writes this.
 fn assert_run(rt: &impl Abort, alloc: Global, row: &Row<'_>, input: &str, output: &str) {
-    let mut rig = rig_of(rt, alloc, row.tries, row.replies);
+    let mut rig = rig_with(rt, alloc, row);
     let text = written(rt, alloc, &mut rig, input.as_bytes(), row);
     assert_bytes(rt, &text, output.as_bytes());
     assert_sent(rt, alloc, rig.link.kept(), row.sent);

@@ -1,10 +1,37 @@
-use Rattle.std.proofs.Common.{◌≡◌, ◌&&◌, true, refl, ap, ◌∙◌, subst, rules, Some}
-use Rattle.mq_client.specs.Past.{Ask, State, Makes}
-use Rattle.mq_client.specs.Filter.{is_login, is_moment, decision_of}
+use Rattle.std.proofs.Common.{◌≡◌, ◌&&◌, Bool, true, false, is_some, sym, ap, ◌∙◌, subst, rules, [], None, Some, Option}
+use Rattle.mq_line.specs.declared.results.Decision.{Decision}
+use Rattle.mq_client.specs.Past.{Ask, Step, State, Makes}
+use Rattle.mq_client.specs.Holding.{held_back as held_back_lem, full_by}
+use Rattle.mq_client.specs.Filter.{is_login, is_moment, decision_of, decision_by}
+use Rattle.mq_client.proofs.Making.{held_back}
+use Rattle.mq_client.proofs.Telling.{Tells-none}
 use Rattle.mq_client.proofs.answer.ask.Goals as goal
+
+pub returns-in-Some-clause-ok : goal.returns-in-Some-clause-ok
+returns-in-Some-clause-ok g c =
+    let h = c.args.holdup.now.1 in
+    let may : (is_login c.args.login.now && is_moment c.args.moment) ≡ true = search rules in
+    let is : held_back_lem h c.args.login.now ≡ Some c.in-Some.decision = sym c.held_back.ensures ∙ c.in-Some.is in
+    let S : Bool → Option Step = λ k. Some (record { action = Ask c.args.txn c.args.moment c.args.login.now; group = []; quiet = k }) in
+    let M : State → Type 0 = λ s. Makes c.args.client.now s (record { action = Ask c.args.txn c.args.moment c.args.login.now; group = []; quiet = true }) in (
+      S true,
+      Tells-none _,
+      subst M (sym c.note_held_back.ensures) (held_back c.args.client.now c.args.txn c.args.moment c.args.login.now),
+      rw may ([], ap S (sym (ap is_some is)), c.unasked-in-Some.ensures.decision ∙ sym (ap (λ (o : Option Decision). decision_by o []) is)),
+      c.unasked-in-Some.ensures.timed_out,
+      c.unasked-in-Some.ensures.full,
+    )
 
 pub returns-in-Ok-clause-ok : goal.returns-in-Ok-clause-ok
 returns-in-Ok-clause-ok g c =
-    let (group, told, answer, made) = c.in-Ok.ensures.ok in
+    let (group, told, answer, made, late) = c.in-Ok.ensures.ok in
     let may : (is_login c.args.login.now && is_moment c.args.moment) ≡ true = search rules in
-    (Some (record { action = Ask c.args.txn c.args.moment c.args.login.now; group = group }), told, made, rw may (group, refl, c.decision_of.ensures ∙ ap decision_of answer))
+    let is : held_back_lem c.args.holdup.now.1 c.args.login.now ≡ None = sym c.held_back.ensures ∙ c.in-None.is in
+    let S : Bool → Option Step = λ k. Some (record { action = Ask c.args.txn c.args.moment c.args.login.now; group = group; quiet = k }) in (
+      S false,
+      told,
+      made,
+      rw may (group, ap S (sym (ap is_some is)), c.decision_of.ensures ∙ ap decision_of answer ∙ sym (ap (λ (o : Option Decision). decision_by o group) is)),
+      late,
+      c.full_login.ensures c.args.txn c.args.moment ∙ ap (full_by (Ask c.args.txn c.args.moment c.args.login.now)) answer,
+    )

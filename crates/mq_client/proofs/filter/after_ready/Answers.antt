@@ -1,18 +1,26 @@
-use Rattle.std.proofs.Common.{◌+◌, ◌++◌, ◌∷◌, [], sym, ap, ◌∙◌, None, arith}
-use Rattle.mq_line.specs.Grammar.{FilterLine, meaning}
-use Rattle.mq_client.specs.Loop.{IsAt}
+use Rattle.std.proofs.Common.{◌≡◌, ◌⊎◌, List, is_some, subst, Some, ◌+◌, ◌++◌, ◌∷◌, [], sym, ap, ◌∙◌, None, arith}
+use Rattle.mq_line.specs.Grammar.{Meaning, FilterLine, meaning}
+use Rattle.mq_track.specs.Sessions.{closing}
+use Rattle.mq_track.specs.State.{TracksAt}
+use Rattle.mq_client.specs.Holding.{Holding, still, still_by, seconds_in, noted_by}
+use Rattle.mq_client.specs.declared.spans.Spans.{Spans}
+use Rattle.mq_client.specs.Filter.{Closes, at_line, after_line}
+use Rattle.mq_client.specs.Loop.{IsAt, Replies}
 use Rattle.mq_client.specs.Run.{Stage, IsAtWork}
 use Rattle.mq_client.proofs.Looping.{Appends-none, Does-nothing, carries_take, stops_within, cut_found, cut_in_hand, takes_noted, count_noted, tracks_filter, answer_counted, request_works, refused_stops, may_go}
 use Rattle.mq_client.proofs.filter.after_ready.Goals as goal
 
 pub returns-in-Ok-clause-ok : goal.returns-in-Ok-clause-ok
 returns-in-Ok-clause-ok g c =
-    let (step, text, does, replies) = c.in-Ok.ensures.ok in
+    let (step, text, does, replies, held) = c.in-Ok.ensures.ok in
     let q = c.in-Filter in
     let m = FilterLine q.seconds q.subsystem.now q.phase.now q.session.now q.token.now q.rest.now in
     let f = c.args.filter.now in
-    rw (ap meaning q.is) (carries_take m f (record { tracker = f.tracker; is_ready = f.is_ready; answers = f.answers + 1 }) _ _ step text c.requires.ready does
-    (λ L st. (replies L st, tracks_filter f.tracker L q.seconds _ _ _ _ _ st)) c.requires.ready (λ L e. answer_counted L q.seconds q.subsystem.now q.phase.now q.session.now q.token.now q.rest.now f.answers e))
+    let pass : c.pass.new.self ≡ (f.holdup.0, still f.holdup.0 q.seconds f.holdup.1) =
+    c.pass.ensures ∙ ap (λ s. (f.holdup.0, still_by f.holdup.0 s f.holdup.1)) (c.seconds_of.ensures ∙ ap (λ l. seconds_in (meaning l)) q.is) in
+    let R : List Meaning → Spans × Holding → Type 0 = λ L h. Replies h.1 L q.subsystem.now q.phase.now q.session.now q.token.now step text in
+    rw (ap meaning q.is) (carries_take m f (record { tracker = f.tracker; is_ready = f.is_ready; answers = f.answers + 1; holdup = c.answer.new.holdup }) _ _ step text c.requires.ready does
+    (λ L st. (subst (R L) pass (replies L st), tracks_filter f.tracker L q.seconds _ _ _ _ _ st)) (held ∙ ap (λ h. (h.0, noted_by h.0 (Some q.seconds) step h.1)) pass) c.requires.ready (λ L e. answer_counted L q.seconds q.subsystem.now q.phase.now q.session.now q.token.now q.rest.now f.answers e))
 
 pub returns-in-Err-clause-fault : goal.returns-in-Err-clause-fault
 returns-in-Err-clause-fault g c =
@@ -20,24 +28,30 @@ returns-in-Err-clause-fault g c =
     let q = c.in-Filter in
     let f = c.args.filter.now in
     let fault = c.in-Err.fault in
+    let pass : c.pass.new.self ≡ (f.holdup.0, still f.holdup.0 q.seconds f.holdup.1) =
+    c.pass.ensures ∙ ap (λ s. (f.holdup.0, still_by f.holdup.0 s f.holdup.1)) (c.seconds_of.ensures ∙ ap (λ l. seconds_in (meaning l)) q.is) in
+    let R : Spans × Holding → Type 0 = λ h. ((step ≡ None) × (front ++ more ≡ [])) ⊎ ((L : List Meaning) → TracksAt f.tracker L → Replies h.1 L q.subsystem.now q.phase.now q.session.now q.token.now step (front ++ more)) in
     λ o pieces line rest source read_failed one reads s.
     let work : (stage : Stage) → IsAt f stage → IsAtWork stage (line ++ 10 ∷ rest) = λ stage a. request_works f stage line rest q.seconds _ _ _ _ _ c.requires.ready a one (rw (ap meaning q.is) at reads) in
     stops_within o pieces (line ++ 10 ∷ rest) f source _ _ read_failed _ fault step front more s does
     (λ stage a. cut_found fault stage pieces _ source read_failed _ c.in-Err.ensures.fault (work stage a))
-    (λ stage a. cut_in_hand fault stage _ _ step _ c.in-Err.ensures.fault
-    (may_go f stage line rest q.seconds _ _ _ _ _ step _ c.requires.ready a one (rw (ap meaning q.is) at reads) acts))
+    (λ stage a. cut_in_hand fault _ _ stage _ _ step _ c.in-Err.ensures.fault
+    (may_go f stage line rest q.seconds _ _ _ _ _ step _ c.requires.ready a one (rw (ap meaning q.is) at reads) (subst R pass acts)))
     (λ stage a e. work stage a)
 
 pub returns-in-Ok-note : goal.returns-in-Ok-note
 returns-in-Ok-note g c =
-    let (step, told, made, notes) = c.in-Ok-note.ensures.ok in
+    let (step, told, made, notes, held) = c.in-Ok-note.ensures.ok in
     let l = c.args.line.now in
     let f = c.args.filter.now in
     let apart = c.in_default.not-Filter in
+    let pass : c.pass.new.self ≡ (f.holdup.0, at_line f.holdup.0 (meaning l) f.holdup.1) = c.pass.ensures ∙ ap (λ s. (f.holdup.0, still_by f.holdup.0 s f.holdup.1)) c.seconds_of.ensures in
+    let C : List Meaning → Spans × Holding → Type 0 = λ L h. Closes (is_some h.1.paused) (closing L (meaning l)) step in
+    let k = at_line f.holdup.0 (meaning l) f.holdup.1 in
     record {
-      ok = carries_take (meaning l) f (record { tracker = c.note.new.tracker; is_ready = f.is_ready; answers = f.answers }) _ _ step [] c.requires.ready
+      ok = carries_take (meaning l) f (record { tracker = c.note.new.tracker; is_ready = f.is_ready; answers = f.answers; holdup = c.note.new.holdup }) _ _ step [] c.requires.ready
           (record { written = Appends-none _; exchanged = told; made = made })
-          (λ L st. let n = notes L st in (takes_noted L l step apart n.0 n.1, n.2)) c.requires.ready (λ L e. e ∙ sym (count_noted L l apart));
+          (λ L st. let n = notes L st in (takes_noted k L l step apart n.0 (subst (C L) pass n.1), n.2)) (held ∙ ap (λ h. (h.0, after_line h.0 (meaning l) step h.1)) pass) c.requires.ready (λ L e. e ∙ sym (count_noted L l apart));
       count = omega arith;
       works = λ works differs. works;
       flushed = λ flushed differs. flushed;

@@ -11,7 +11,7 @@ pub returns-in-Passed-clause-ok : goal.returns-in-Passed-clause-ok
 returns-in-Passed-clause-ok g c = λ told client. carries_early (meaning c.args.line.now) c.args.filter.now _ c.requires c.in-Passed.ensures
 
 pub returns-in-Ok-clause-ok : goal.returns-in-Ok-clause-ok
-returns-in-Ok-clause-ok g c = λ told client. carries_ready (meaning c.args.line.now) c.args.filter.now _ _ _ told client c.requires c.in-Ready.ensures c.in-Ok.ensures.ok refl refl refl
+returns-in-Ok-clause-ok g c = λ told client. carries_ready (meaning c.args.line.now) c.args.filter.now _ _ _ told client c.requires c.in-Ready.ensures c.in-Ok.ensures.ok refl refl refl refl
 
 pub returns-in-TooEarly-clause-fault : goal.returns-in-TooEarly-clause-fault
 returns-in-TooEarly-clause-fault g c = λ told client o pieces line rest source read_failed one reads s.
@@ -28,5 +28,5 @@ returns-in-Err-clause-fault g c = λ told client o pieces line rest source read_
     stops_within o pieces (line ++ 10 ∷ rest) c.args.filter.now source _ _ read_failed _ f None front more s
     (record { written = written; exchanged = Tells-none told; made = refl })
     (λ stage a. cut_found f stage pieces _ source read_failed _ c.in-Err.ensures.fault (work stage a))
-    (λ stage a. rw (at_before c.args.filter.now stage c.requires a) (cut_in_hand f _ _ _ None _ c.in-Err.ensures.fault (inr (line, first_of line rest one, (rw c.in-Ready.ensures at reads, refl, sym whole)))))
+    (λ stage a. rw (at_before c.args.filter.now stage c.requires a) (cut_in_hand f _ _ _ _ _ None _ c.in-Err.ensures.fault (inr (line, first_of line rest one, (rw c.in-Ready.ensures at reads, refl, sym whole)))))
     (λ stage a e. work stage a)

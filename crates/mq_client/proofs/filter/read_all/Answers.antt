@@ -11,7 +11,7 @@ pub loop-read-init : goal.loop-read-init
 loop-read-init g c = record {
   pieces = [];
   supplied = supplied_start _;
-  so_far = so_far_start _ _ c.args.client.now _ c.args.feed.now.rest c.requires.empty c.requires.ready c.requires.tracker c.requires.count;
+  so_far = so_far_start _ _ c.args.client.now _ c.args.feed.now.rest c.requires.empty c.requires.ready c.requires.tracker c.requires.count c.requires.holdup;
   held = is_line_none _ c.requires.empty;
   written = λ ready. cc (ready, c.requires.ready);
   sink_works = λ works. works;

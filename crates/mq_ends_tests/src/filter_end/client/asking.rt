@@ -50,6 +50,7 @@ fn reserve(rt: &impl Abort, rig: &mut Rig, txn: u32, moment: u64, login: &[u8]) 
     rig.client
         .reserve(&rig.log, &mut rig.link, txn, moment, login)
         .expect(rt, MEMORY)
+        .asked
 }
 
 /// Asserts what comes of asking for a recipient.
@@ -77,7 +78,7 @@ fn begin(rt: &impl Abort, rig: &mut Rig, last: u32) {
 fn close(rt: &impl Abort, rig: &mut Rig, txn: u32, end: CloseEnd) {
     let closing = Closing { txn, end };
     rig.client
-        .close(&rig.log, &mut rig.link, closing)
+        .close(&rig.log, &mut rig.link, closing, false)
         .expect(rt, MEMORY);
 }
 
@@ -213,7 +214,8 @@ const SENT_IN_ORDER: Case<'static> = Case {
         "settle 3 of transaction 1 (host mx1, login u): \
             no answer in 3 tries, but a reply of another kind or number, it waits",
         "settle 3 of transaction 1 (host mx1, login u): the transaction was closed before",
-        "settle 4 of transaction 2 (host mx1, login u): the transaction holds 0 only",
+        "settle 4 of transaction 2 (host mx1, login u): \
+            the transaction holds 0 only, the server's address may have moved",
     ]),
 };
 
@@ -314,7 +316,10 @@ const DECIDING: &[Case<'static>] = &[
             GRANTED,
             Reply::Body("89 036d7831 0000000000000001 00000002 00000003"),
         ],
-        log: Some(&["settle 2 of transaction 7 (host mx1, login u): the transaction holds 3 only"]),
+        log: Some(&[
+            "settle 2 of transaction 7 (host mx1, login u): \
+                the transaction holds 3 only, the server's address may have moved",
+        ]),
         ..DECIDED
     },
     Case {

@@ -136,7 +136,8 @@ fn ask(rt: &impl Abort, rig: &mut Rig, login: u32, txn: u32) {
     let asked = rig
         .client
         .reserve(&rig.log, &mut rig.link, txn, 86_400, name.as_slice())
-        .expect(rt, MEMORY);
+        .expect(rt, MEMORY)
+        .asked;
     assert_that(rt, asked == mq_client::Asked::Full, "a full login");
 }
 

@@ -1,8 +1,8 @@
-use Rattle.std.proofs.Common.{◌≡◌, ◌+◌, List, [], ◌∷◌, ◌++◌, refl, sym, ap, ◌∙◌, subst, rules, arith, None, Some}
+use Rattle.std.proofs.Common.{◌≡◌, ℕ, ◌+◌, List, [], ◌∷◌, ◌++◌, refl, sym, ap, ◌∙◌, subst, rules, arith, None, Some}
 use Rattle.std.specs.List.{AllByRecursion}
 use Rattle.mq_client.specs.Framed.{IsFramed, requests_of}
 use Rattle.mq_request.specs.declared.message.Request.{Request}
-use Rattle.mq_client.specs.Past.{State, Close, Makes, find}
+use Rattle.mq_client.specs.Past.{State, Close, Makes, find, closing_of}
 use Rattle.mq_client.specs.Exchanges.{Sends}
 use Rattle.mq_client.specs.Inside.{state_of}
 use Rattle.std.proofs.lemmas.List.{map-append}
@@ -16,23 +16,23 @@ use Rattle.mq_client.proofs.Basics.{all_push}
 pub returns-in_default-clause-ok : goal.returns-in_default-clause-ok
 returns-in_default-clause-ok g c =
     let i = c.self.inside in
-    let F : State → Type 0 = λ s. Makes s s (record { action = Close c.args.closing.txn c.args.closing.end; group = [] }) in
+    let F : State → Type 0 = λ s. Makes s s (record { action = Close c.args.closing.txn c.args.closing.end; group = []; quiet = c.args.paused }) in
     let absent : find i.held c.args.closing.txn ≡ None = search rules in
-    ([], Tells-none _, subst F c.self.view_is (closed_nothing (state_of i) c.args.closing.txn c.args.closing.end absent))
+    ([], Tells-none _, subst F c.self.view_is (closed_nothing (state_of i) c.args.closing.txn c.args.closing.end c.args.paused absent), refl)
 
 pub framed_closing-requires-clause-held : goal.framed_closing-requires-clause-held
 framed_closing-requires-clause-held g c =
     let there : find c.self.inside.held c.args.closing.txn ≡ Some c.in-Some.known.now = search rules in
     c.self.invariant.held c.args.closing.txn c.in-Some.known.now there
 
-pub send_all-requires : goal.send_all-requires
-send_all-requires g c = subst (AllByRecursion IsFramed) (sym c.in_ok-push_back.ensures.items) (all_push IsFramed c.self.inside.outbox.items _ c.self.invariant.outbox (search rules))
+pub send_all-timed_out-requires : goal.send_all-timed_out-requires
+send_all-timed_out-requires g c = subst (AllByRecursion IsFramed) (sym c.in_ok-push_back.ensures.items) (all_push IsFramed c.self.inside.outbox.items _ c.self.invariant.outbox (search rules))
 
 pub invariant_of-self-2 : goal.invariant_of-self-2
 invariant_of-self-2 g c =
     let i = c.self.invariant in
     let len = c.release.ensures.len in
-    let left = c.send_all.ensures.len in
+    let left = c.send_all-timed_out.ensures.len in
     let pushed = c.in_ok-push_back.ensures.len in
     record {
       host = i.host;
@@ -41,16 +41,22 @@ invariant_of-self-2 g c =
       places = omega (arith, i.places, len, left, pushed);
       numbers = omega (arith, i.numbers, len);
       held = closed_in_range c.self.inside.held c.release.new.self c.args.closing.txn c.release.ensures.find i.held;
-      outbox = c.send_all.ensures.framed;
+      outbox = c.send_all-timed_out.ensures.framed;
     }
 
 pub returns-clause-ok : goal.returns-clause-ok
 returns-clause-ok g c =
-    let (group, told, sends) = c.send_all.ensures.step in
+    let (group, told, sends, late) = c.send_all-timed_out.ensures.step in
     let i = c.self.inside in
-    let d : State = record { source = record { host = i.host; run = i.run }; tries = i.tries; held = c.release.new.self; numbers = i.numbers + 1; waiting = requests_of c.send_all.new.outbox.items } in
-    let F : State → Type 0 = λ s. Makes s d (record { action = Close c.args.closing.txn c.args.closing.end; group = group }) in
+    let d : State = record { source = record { host = i.host; run = i.run }; tries = i.tries; spans = i.spans; held = c.release.new.self; numbers = i.numbers + 1; waiting = requests_of c.send_all-timed_out.new.outbox.items } in
+    let F : State → Type 0 = λ s. Makes s d (record { action = Close c.args.closing.txn c.args.closing.end; group = group; quiet = c.args.paused }) in
     let there : find i.held c.args.closing.txn ≡ Some c.in-Some.known.now = search rules in
-    let D : List Request → Type 0 = λ w. Sends i.tries w group (requests_of c.send_all.new.outbox.items) in
+    let D : List Request → Type 0 = λ w. Sends c.tries_in-tries.result w group (requests_of c.send_all-timed_out.new.outbox.items) in
     let pushed = ap requests_of c.in_ok-push_back.ensures.items ∙ map-append (λ (framed : Framed). framed.request) i.outbox.items _ ∙ ap (λ q. requests_of i.outbox.items ++ q ∷ []) (c.in_ok-framed.ensures.request) in
-    (group, told, subst F c.self.view_is (closed (state_of i) d c.args.closing.txn c.args.closing.end c.in-Some.known.now group refl refl there (subst D pushed sends) c.release.ensures.find c.release.ensures.len refl))
+    let q = closing_of (record { host = i.host; run = i.run }) (i.numbers + 1) c.args.closing.txn c.args.closing.end c.in-Some.known.now in
+    let S : ℕ → Type 0 = λ n. Sends n (requests_of i.outbox.items ++ q ∷ []) group (requests_of c.send_all-timed_out.new.outbox.items) in (
+      group,
+      told,
+      subst F c.self.view_is (closed (state_of i) d c.args.closing.txn c.args.closing.end c.args.paused c.in-Some.known.now group refl refl there (subst S c.tries_in-tries.ensures (subst D pushed sends)) c.release.ensures.find c.release.ensures.len refl),
+      late,
+    )

@@ -1,4 +1,4 @@
-use Rattle.std.proofs.Common.{refl, subst}
+use Rattle.std.proofs.Common.{false, refl, subst}
 use Rattle.mq_client.specs.Past.{State, Drain, Makes}
 use Rattle.mq_client.specs.Framed.{requests_of}
 use Rattle.mq_client.specs.Inside.{state_of}
@@ -7,8 +7,8 @@ use Rattle.mq_client.proofs.client.Client.drain.Goals as goal
 
 pub returns-clause-step : goal.returns-clause-step
 returns-clause-step g c =
-    let (group, told, sends) = c.send_all.ensures.step in
+    let (group, told, sends, late) = c.send_all.ensures.step in
     let i = c.self.inside in
-    let d : State = record { source = record { host = i.host; run = i.run }; tries = i.tries; held = i.held; numbers = i.numbers; waiting = requests_of c.send_all.new.outbox.items } in
-    let F : State → Type 0 = λ s. Makes s d (record { action = Drain; group = group }) in
+    let d : State = record { source = record { host = i.host; run = i.run }; tries = i.tries; spans = i.spans; held = i.held; numbers = i.numbers; waiting = requests_of c.send_all.new.outbox.items } in
+    let F : State → Type 0 = λ s. Makes s d (record { action = Drain; group = group; quiet = false }) in
     (group, told, subst F c.self.view_is (drained (state_of i) d group refl refl refl refl sends))

@@ -1,0 +1,30 @@
+-- What comes of a request's tries.
+use Rattle.std.specs.Prelude.{◌≡◌, List, Bool, true, false, Option, Some, None}
+use Rattle.mq_request.specs.declared.message.Reply.{Reply}
+use Rattle.mq_client.specs.Exchanges.{Exchange, has_timed_out}
+use Rattle.mq_client.specs.Verdict.{IsVerdict}
+use Rattle.mq_client.specs.declared.verdict.Verdict.{Verdict}
+use Rattle.mq_client.specs.declared.tries.Tried.{Tried}
+use Rattle.mq_client.specs.declared.tries.Tried.TheVariants as tried
+
+-- what a reply decided, where one did
+abbrev pub verdict_of : Tried → Option Verdict
+verdict_of (tried.Decided v) = Some v
+verdict_of tried.Undecided = None
+verdict_of tried.TimedOut = None
+
+abbrev pub is_decided : Tried → Bool
+is_decided (tried.Decided v) = true
+is_decided tried.Undecided = false
+is_decided tried.TimedOut = false
+
+-- none did, and a try ran out of time
+abbrev pub is_late : Tried → Bool
+is_late (tried.Decided v) = false
+is_late tried.Undecided = false
+is_late tried.TimedOut = true
+
+-- it came of these exchanges, of which this reply decided
+pub record ComesOf (decided : Option Reply) (group : List Exchange) (t : Tried) : Type 0 where
+  pub verdict : IsVerdict decided (verdict_of t)
+  pub late : is_late t ≡ has_timed_out group

@@ -1,0 +1,77 @@
+//! What the log says of a client's requests.
+
+use crate::moves::Moves;
+use crate::pauses::Pauses;
+use crate::reached::Reached;
+use crate::tries::{Framed, report};
+use crate::verdict::Verdict;
+use crate::warnings::{Refused, Unanswered, is_refusal};
+use log::{Level, Log};
+use std::alloc::Global;
+
+/// What the log has of a client's requests, so that what lasts or comes again is warned of once.
+#[derive(Drop)]
+pub struct Journal {
+    reached: Reached,
+    moves: Moves,
+    pauses: Pauses,
+}
+
+impl Journal {
+    /// The log has nothing so far.
+    pub fn new(alloc: Global) -> Journal {
+        Journal {
+            reached: Reached::new(alloc),
+            moves: Moves::new(),
+            pauses: Pauses::new(),
+        }
+    }
+
+    /// Reports what a reply decided about a request, where the log has a line for it.
+    pub fn note_decided<R: Log>(&mut self, rt: &R, framed: &Framed, verdict: Verdict) {
+        self.pauses.end(rt);
+        self.moves.see(&framed.request);
+        self.reached.report(rt, framed, verdict);
+        if is_refusal(verdict) {
+            let level = self.moves.level(&framed.request, verdict);
+            report(rt, level, &Refused { framed, verdict });
+        }
+    }
+
+    /// Reports a request that no reply decided in so many tries: by a warning where the server answered, since the link
+    /// logs it else. One that was tried no time is held back, and has no line.
+    pub fn note_undecided<R: Log>(
+        &mut self,
+        rt: &R,
+        framed: &Framed,
+        tries: u32,
+        is_answered: bool,
+    ) {
+        if tries == 0 {
+            return;
+        }
+        let level = if is_answered {
+            Level::Warn
+        } else {
+            Level::Info
+        };
+        let unanswered = Unanswered {
+            framed,
+            tries,
+            is_answered,
+        };
+        report(rt, level, &unanswered);
+    }
+
+    /// Reports that a pause of so many seconds begins, where a try ran out of time and there are pauses.
+    pub fn note_pause<R: Log>(&mut self, rt: &R, timed_out: bool, seconds: u64) {
+        if timed_out && seconds > 0 {
+            self.pauses.begin(rt, seconds);
+        }
+    }
+
+    /// A recipient was answered 451 in a pause.
+    pub fn count_held_back(&mut self) {
+        self.pauses.hold_back();
+    }
+}
