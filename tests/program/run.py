@@ -26,7 +26,7 @@ from ends import World
 
 # (those that take longest stand first)
 GATE_GROUPS = [
-    "many_answers", "many_numbers", "many_sessions", "forgetting", "causes", "edges", "full_pages", "lengths", "crowds", "bodies", "full_disks", "asking", "filters", "questions", "peers", "restarts", "filter_settings", "server_settings", "replays", "audits", "damage", "words", "links",
+    "many_answers", "many_numbers", "many_sessions", "forgetting", "causes", "edges", "full_pages", "lengths", "crowds", "bodies", "full_disks", "asking", "filters", "questions", "peers", "restarts", "filter_settings", "holding_back", "server_settings", "replays", "audits", "damage", "words", "links",
     "stores", "refusals", "recordings", "two_hosts", "signals", "as_used", "edges_of_clients",
     "oracles", "zones", "retiring", "stopping", "setting_up", "limits", "watching", "storms", "accepting", "contrib", "examples",
 ]

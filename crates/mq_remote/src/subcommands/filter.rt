@@ -5,9 +5,9 @@ ghost use Rattle.mq_process.specs.Settings.{CanAsk};
 
 use crate::fault::FilterEnd;
 use log::sink::Console;
-use log::{Log, Logged, error, info, warn};
+use log::{LevelFilter, Log, Logged, error, info, warn};
 use mq_arguments::FilterArguments;
-use mq_client::{Client, run_filter};
+use mq_client::{Client, Spans, run_filter};
 use mq_link::Link;
 use mq_process::{ProcessFault, Question, ask_once, filter_settings, run_number};
 use mq_request::Escaped;
@@ -32,10 +32,32 @@ pub fn filter<R: Files + Clock + Net + Input + Print + Eprint + AllocGlobal, E: 
     let settings = filter_settings(rt, given.config)?;
     if given.check {
         let timeout = u64::from(settings.timeout);
-        return Ok(ask_once(rt, settings.server, timeout, Question::Check, errors)?);
+        let status = ask_once(rt, settings.server, timeout, Question::Check, errors)?;
+        tell_spans(rt, &settings);
+        return Ok(status);
     }
     let run = run_number(rt, given.run)?;
     run_client(rt, &settings, run)
+}
+
+/// Whether there is a pause, and one that is over before the tries of one request may be.
+fn is_short(settings: &FilterSettings) -> bool {
+    let pause = 1_000 * u64::from(settings.pause);
+    0 < pause && pause < u64::from(settings.tries) * u64::from(settings.timeout)
+}
+
+/// Prints for how long the filter holds back, where it does, and warns of a pause that is too short.
+fn tell_spans<R: Print + Eprint>(rt: &R, settings: &FilterSettings) {
+    let (pause, hold) = (settings.pause, settings.hold);
+    if pause > 0 || hold > 0 {
+        // (what this line is about isn't what the status says)
+        let _ = println!(rt; "pause {pause} s, hold {hold} s");
+    }
+    if is_short(settings) {
+        let (tries, timeout) = (settings.tries, settings.timeout);
+        let logged = Logged::new(rt, LevelFilter::Warn, Console(rt));
+        warn!(logged; "a pause of {pause} s hardly helps: {tries} tries may take {timeout} ms each");
+    }
 }
 
 /// Runs the filter under this run number, over a link to the server of the settings.
@@ -48,7 +70,10 @@ fn run_client<R: Clock + Net + Input + Print + Eprint + AllocGlobal>(
     requires run { IsRun run }
 {
     let mut client = match Client::new(rt.alloc(), &settings.host, run, settings.tries) {
-        Ok(client) => client,
+        Ok(client) => client.with_spans(Spans {
+            pause: u64::from(settings.pause),
+            hold: u64::from(settings.hold),
+        }),
         Err(_) => return Err(FilterEnd::Process(ProcessFault::Memory)),
     };
     let logged = Logged::new(rt, settings.log, Console(rt));
