@@ -37,8 +37,11 @@ all as it is to be
 # what the program is in turn: a command that does nothing, with a status of its own
 OTHERWISE = {"report": "exit 0", "stop": "echo 'stopped: bob used 1 on day 1'", "filter": "exit 1", "server": "exit 1", "replay": "echo 00"}
 INSTALLED = {
+    "libexec/mailquota/await-server": 0o755,
+    "libexec/mailquota/keepalived-check": 0o755,
     "libexec/mailquota/one-spelling": 0o755,
     "sbin/mailquota": 0o755,
+    "sbin/mailquota-backup": 0o755,
     "sbin/mailquota-forget": 0o755,
     "share/doc/mailquota/CHANGELOG": 0o644,
     "share/doc/mailquota/INSTALL.md": 0o644,
@@ -46,6 +49,8 @@ INSTALLED = {
     "share/doc/mailquota/NOTICE": 0o644,
     "share/doc/mailquota/OPERATING.md": 0o644,
     "share/examples/mailquota/filter.toml": 0o644,
+    "share/examples/mailquota/keepalived-first.conf": 0o644,
+    "share/examples/mailquota/keepalived-second.conf": 0o644,
     "share/examples/mailquota/mailquota-forget.service": 0o644,
     "share/examples/mailquota/mailquota-forget.timer": 0o644,
     "share/examples/mailquota/mailquota.service": 0o644,
@@ -104,7 +109,7 @@ def installed(world, checks):
                 found[os.path.relpath(path, f"{tree}{prefix}")] = stat.S_IMODE(os.stat(path).st_mode)
         checks.equal(f"make install PREFIX={prefix}: files with their modes", dict(sorted(found.items())), INSTALLED)
         # (the manuals and documents name the folders of PREFIX=/usr/local)
-        own = [it for it in INSTALLED if it.startswith(("sbin/mailquota-", "share/examples/"))]
+        own = [it for it in INSTALLED if it.startswith(("sbin/mailquota-", "libexec/", "share/examples/"))]
         texts = {it: open(f"{tree}{prefix}/{it}", encoding="utf-8").read() for it in own if it in found}
         wrong = [it for it, text in texts.items() if prefix != "/usr/local" and re.search(r"/usr/local/(sbin|libexec)", text)]
         checks.equal(f"make install PREFIX={prefix}: files that name another folder's programs", wrong, [])
