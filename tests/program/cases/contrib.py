@@ -19,7 +19,7 @@ from smtpd import Smtpd, clock, result
 
 CONTRIB = f"{TOP}/contrib"
 # The settings of the example for a filter: a request that waits for longer is answered 451.
-EXAMPLE = {"tries": 3, "timeout": 1_000}
+EXAMPLE = {"tries": 3, "timeout": 1_000, "pause": 10, "hold": 5}
 ANSWERS = {"answers": "SELECT n, host, run, seq, request, reply FROM answer ORDER BY n"}
 # Lines that units and settings must have, and why it would be wrong without them.
 LINES = {
