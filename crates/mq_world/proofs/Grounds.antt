@@ -10,7 +10,7 @@ use Rattle.mq_request.specs.declared.message.Reply.TheVariants as reply
 use Rattle.mq_ledger.specs.declared.entry.Entry.{Entry}
 use Rattle.mq_ledger.specs.History.{Transaction, same_transaction, is_of, granted, granted_in}
 use Rattle.mq_client.specs.Exchanges.{Exchange}
-use Rattle.mq_client.specs.Past.{Source, Action, Ask, Close, Drain, Step, Standing, Never, Live, Closed, View, view, after, after_ask, after_close, held_by, opened, let_through, answer_of, reserve_of, is_other, refuses}
+use Rattle.mq_client.specs.Past.{tries_in, Source, Action, Ask, Close, Drain, Step, Standing, Never, Live, Closed, View, view, after, after_ask, after_close, held_by, opened, let_through, answer_of, reserve_of, is_other, refuses}
 use Rattle.mq_client.specs.Turns.{IsUnderway, AreUnderway}
 use Rattle.mq_track.specs.declared.closing.CloseEnd.{CloseEnd}
 use Rattle.mq_client.specs.declared.held.Asked.{Asked}
@@ -168,19 +168,19 @@ let_close day F s H v txn end g (Some h) e all = λ t. elim (either (txn == t)) 
       rw y (subst G same here))
 ]
 
-let_step : (day : ℕ → ℕ) (F : ℕ) → IsSameAsItself → (s : Source) (tries : ℕ) (H : List Entry) (P : List Step) (a : Action) (g : List Exchange) → IsUnderway s tries P (record { action = a; group = g }) → IsGround day F s H (view s P) a g → AllLet day F s H (view s P)
+let_step : (day : ℕ → ℕ) (F : ℕ) → IsSameAsItself → (s : Source) (tries : ℕ) (H : List Entry) (P : List Step) (a : Action) (g : List Exchange) (k : Bool) → IsUnderway s tries P (record { action = a; group = g; quiet = k }) → IsGround day F s H (view s P) a g → AllLet day F s H (view s P)
     → AllLet day F s H (after s (view s P) a g)
-let_step day F I s tries H P (Ask txn moment login) [] u ok all = all
-let_step day F I s tries H P (Ask txn moment login) (x ∷ g) u ok all =
+let_step day F I s tries H P (Ask txn moment login) [] k u ok all = all
+let_step day F I s tries H P (Ask txn moment login) (x ∷ g) k u ok all =
     let v = view s P in
-    let free = (free_ask (refuses (held_by (v.standing txn)) (length v.live) v.numbers (length v.waiting) moment login) (reserve_of s (v.numbers + 1) txn moment login) x.request (next_among tries _ g x.request u.0)).0 in
+    let free = (free_ask (refuses (held_by (v.standing txn)) (length v.live) v.numbers (length v.waiting) moment login) (reserve_of s (v.numbers + 1) txn moment login) x.request (next_among (tries_in tries k) _ g x.request u.0)).0 in
     let_ask day F I s H v txn moment login x g (opened_at moment login (held_by (v.standing txn)) (length v.live) v.numbers (length v.waiting) free) ok all
-let_step day F I s tries H P (Close txn end) g u ok all = let_close day F s H (view s P) txn end g (held_by ((view s P).standing txn)) refl all
-let_step day F I s tries H P Drain g u ok all = all
+let_step day F I s tries H P (Close txn end) g k u ok all = let_close day F s H (view s P) txn end g (held_by ((view s P).standing txn)) refl all
+let_step day F I s tries H P Drain g k u ok all = all
 
 all_let : (day : ℕ → ℕ) (F : ℕ) → IsSameAsItself → (s : Source) (tries : ℕ) (H : List Entry) (P : List Step) → AreUnderway s tries P → IsGrounded day F s H P → AllLet day F s H (view s P)
 all_let day F I s tries H [] u ground = λ t f. omega arith
-all_let day F I s tries H (x ∷ P) u ground = let_step day F I s tries H P x.action x.group u.0 ground.0 (all_let day F I s tries H P u.1 ground.1)
+all_let day F I s tries H (x ∷ P) u ground = let_step day F I s tries H P x.action x.group x.quiet u.0 ground.0 (all_let day F I s tries H P u.1 ground.1)
 
 -- what was let through was granted
 pub was_granted : (day : ℕ → ℕ) (F : ℕ) → IsSameAsItself → (s : Source) (tries : ℕ) (H : List Entry) (P : List Step) → AreUnderway s tries P → IsGrounded day F s H P → (t : ℕ) → F ≤ day (at_of ((view s P).standing t)) → let_at ((view s P).standing t) ≤ granted_in H (of_source s t)

@@ -72,6 +72,6 @@ line_asks N L OtherLine a le e = closed_by (closing L OtherLine) a e
 
 -- ---- the steps' actions
 
-pub push_actions : (o : Option Action) (P : List Step) → actions (push (option_map begun o) P) ≡ push o (actions P)
-push_actions None P = refl
-push_actions (Some a) P = refl
+pub push_actions : (quiet : Bool) (o : Option Action) (P : List Step) → actions (push (option_map (begun quiet) o) P) ≡ push o (actions P)
+push_actions quiet None P = refl
+push_actions quiet (Some a) P = refl

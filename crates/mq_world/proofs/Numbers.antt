@@ -36,8 +36,8 @@ more_numbers n true = omega arith
 more_numbers n false = omega arith
 
 -- a step begins
-pub begun_numbered : (s : Source) (a : Action) (P : List Step) (q : Request) → IsNumbered s P q → IsNumbered s (begun a ∷ P) q
-begun_numbered s a P q i = record {
+pub begun_numbered : (s : Source) (k : Bool) (a : Action) (P : List Step) (q : Request) → IsNumbered s P q → IsNumbered s (begun k a ∷ P) q
+begun_numbered s k a P q i = record {
   number = i.number;
   used = (let m = more_numbers (numbers_in P) (takes_number P a []) in let u = i.used in omega (arith, u, m));
   id = i.id;
@@ -45,8 +45,8 @@ begun_numbered s a P q i = record {
 }
 
 -- an exchange more
-pub more_numbered : (s : Source) (a : Action) (x : Exchange) (g : List Exchange) (P : List Step) (q : Request) → IsNumbered s (record { action = a; group = g } ∷ P) q → IsNumbered s (record { action = a; group = x ∷ g } ∷ P) q
-more_numbered s (Ask txn moment login) x [] P q i = record {
+pub more_numbered : (s : Source) (a : Action) (x : Exchange) (g : List Exchange) (k : Bool) (P : List Step) (q : Request) → IsNumbered s (record { action = a; group = g; quiet = k } ∷ P) q → IsNumbered s (record { action = a; group = x ∷ g; quiet = k } ∷ P) q
+more_numbered s (Ask txn moment login) x [] k P q i = record {
   number = i.number;
   used = (let u : i.number ≤ numbers_in P = i.used in omega (arith, u));
   id = i.id;
@@ -55,12 +55,12 @@ more_numbered s (Ask txn moment login) x [] P q i = record {
       let old : request_under s P i.number ≡ Some q = rw other at i.under in
       rw other old);
 }
-more_numbered s (Ask txn moment login) x (y ∷ g) P q i = record { number = i.number; used = i.used; id = i.id; under = i.under }
-more_numbered s (Close txn end) x g P q i = record { number = i.number; used = i.used; id = i.id; under = i.under }
-more_numbered s Drain x g P q i = record { number = i.number; used = i.used; id = i.id; under = i.under }
+more_numbered s (Ask txn moment login) x (y ∷ g) k P q i = record { number = i.number; used = i.used; id = i.id; under = i.under }
+more_numbered s (Close txn end) x g k P q i = record { number = i.number; used = i.used; id = i.id; under = i.under }
+more_numbered s Drain x g k P q i = record { number = i.number; used = i.used; id = i.id; under = i.under }
 
 -- an exchange ends otherwise
-pub ended_numbered : (s : Source) (a : Action) (x y : Exchange) (g : List Exchange) (P : List Step) (q : Request) → IsNumbered s (record { action = a; group = x ∷ g } ∷ P) q → IsNumbered s (record { action = a; group = y ∷ g } ∷ P) q
-ended_numbered s (Ask txn moment login) x y g P q i = record { number = i.number; used = i.used; id = i.id; under = i.under }
-ended_numbered s (Close txn end) x y g P q i = record { number = i.number; used = i.used; id = i.id; under = i.under }
-ended_numbered s Drain x y g P q i = record { number = i.number; used = i.used; id = i.id; under = i.under }
+pub ended_numbered : (s : Source) (a : Action) (x y : Exchange) (g : List Exchange) (k : Bool) (P : List Step) (q : Request) → IsNumbered s (record { action = a; group = x ∷ g; quiet = k } ∷ P) q → IsNumbered s (record { action = a; group = y ∷ g; quiet = k } ∷ P) q
+ended_numbered s (Ask txn moment login) x y g k P q i = record { number = i.number; used = i.used; id = i.id; under = i.under }
+ended_numbered s (Close txn end) x y g k P q i = record { number = i.number; used = i.used; id = i.id; under = i.under }
+ended_numbered s Drain x y g k P q i = record { number = i.number; used = i.used; id = i.id; under = i.under }

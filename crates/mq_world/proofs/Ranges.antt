@@ -7,7 +7,7 @@ use Rattle.mq_request.specs.Range.{IsHost, IsRun, IsOrdinal, IsMoment, IsLogin, 
 use Rattle.mq_request.specs.declared.message.Request.{Request}
 use Rattle.mq_request.specs.declared.message.Request.TheVariants.{Settle, Release}
 use Rattle.mq_client.specs.Exchanges.{Exchange, decisions}
-use Rattle.mq_client.specs.Past.{Source, Action, Ask, Close, Drain, Step, Standing, Never, Live, Closed, View, view, after, after_ask, after_close, held_by, held_for, opened, let_through, answer_of, id_of, reserve_of, closing_of, is_commit, is_other, lacks_numbers, refuses, IsBounded}
+use Rattle.mq_client.specs.Past.{tries_in, Source, Action, Ask, Close, Drain, Step, Standing, Never, Live, Closed, View, view, after, after_ask, after_close, held_by, held_for, opened, let_through, answer_of, id_of, reserve_of, closing_of, is_commit, is_other, lacks_numbers, refuses, IsBounded}
 use Rattle.mq_client.specs.Held.{IsHeld}
 use Rattle.mq_client.specs.Turns.{failures, queue_of, next_of, next, ComeInTurn, AreUnderway}
 use Rattle.mq_track.specs.declared.closing.CloseEnd.{CloseEnd}
@@ -133,19 +133,19 @@ close_number s txn end v (Some k) b h e = let n = b.numbers in omega (arith, n)
 abbrev pub AreBounded : Type 0
 AreBounded = (s : Source) (tries : ℕ) (P : List Step) → AreUnderway s tries P → IsBounded (view s P)
 
-ranged_step : AreBounded → (s : Source) (tries : ℕ) (a : Action) (g : List Exchange) (P : List Step) → IsHost s.host → IsRun s.run → IsAsked a → AreUnderway s tries (record { action = a; group = g } ∷ P) → IsRanged (view s P) → IsRanged (after s (view s P) a g)
-ranged_step B s tries (Ask txn moment login) [] P host run i u r = r
-ranged_step B s tries (Ask txn moment login) (x ∷ g) P host run i u r = ranged_ask s tries txn moment login x g (view s P) i u.0 r
-ranged_step B s tries (Close txn end) g P host run i u r =
-    ranged_close s txn end g (view s P) (held_by ((view s P).standing txn)) refl host run (close_number s txn end (view s P) (held_by ((view s P).standing txn)) (B s tries (begun (Close txn end) ∷ P) (tt, u.1))) r
-ranged_step B s tries Drain g P host run i u r = record { held = r.held; waiting = all_drop IsRequest (decisions g) _ r.waiting }
+ranged_step : AreBounded → (s : Source) (tries : ℕ) (a : Action) (g : List Exchange) (k : Bool) (P : List Step) → IsHost s.host → IsRun s.run → IsAsked a → AreUnderway s tries (record { action = a; group = g; quiet = k } ∷ P) → IsRanged (view s P) → IsRanged (after s (view s P) a g)
+ranged_step B s tries (Ask txn moment login) [] k P host run i u r = r
+ranged_step B s tries (Ask txn moment login) (x ∷ g) k P host run i u r = ranged_ask s (tries_in tries k) txn moment login x g (view s P) i u.0 r
+ranged_step B s tries (Close txn end) g k P host run i u r =
+    ranged_close s txn end g (view s P) (held_by ((view s P).standing txn)) refl host run (close_number s txn end (view s P) (held_by ((view s P).standing txn)) (B s tries (begun k (Close txn end) ∷ P) (tt, u.1))) r
+ranged_step B s tries Drain g k P host run i u r = record { held = r.held; waiting = all_drop IsRequest (decisions g) _ r.waiting }
 
 pub ranged : AreBounded → (s : Source) (tries : ℕ) (P : List Step) → IsHost s.host → IsRun s.run → AreAsked P → AreUnderway s tries P → IsRanged (view s P)
 ranged B s tries [] host run asked u = record { held = λ t h e. absurd (never_live h e); waiting = tt }
   where
     never_live : (h : Held) → Never ≡ Live h → ⊥
     never_live h e = cc
-ranged B s tries (x ∷ P) host run asked u = ranged_step B s tries x.action x.group P host run asked.0 u (ranged B s tries P host run asked.1 u.1)
+ranged B s tries (x ∷ P) host run asked u = ranged_step B s tries x.action x.group x.quiet P host run asked.0 u (ranged B s tries P host run asked.1 u.1)
 
 -- ---- the next request is in range
 
@@ -167,10 +167,10 @@ ask_number : (s : Source) (txn moment : ℕ) (login : List ℕ) (x : Exchange) (
 ask_number s txn moment login x g v b = let n = b.numbers in omega (arith, n)
 
 -- x is the exchange of the next request
-pub next_in_range : AreBounded → (s : Source) (tries : ℕ) (a : Action) (g : List Exchange) (x : Exchange) (P : List Step) → IsHost s.host → IsRun s.run → AreAsked (record { action = a; group = g } ∷ P) → AreUnderway s tries (record { action = a; group = x ∷ g } ∷ P) → IsRequest x.request
-next_in_range B s tries (Ask txn moment login) g x P host run asked u =
-    next_ask s tries txn moment login g (view s P) x.request host run asked.0 (ask_number s txn moment login x g (view s P) (B s tries (record { action = Ask txn moment login; group = x ∷ g } ∷ P) u)) u.0.0
-next_in_range B s tries (Close txn end) g x P host run asked u =
-    next_close s tries txn end g (view s P) (held_by ((view s P).standing txn)) x.request refl host run (close_number s txn end (view s P) (held_by ((view s P).standing txn)) (B s tries (begun (Close txn end) ∷ P) (tt, u.1))) (ranged B s tries P host run asked.1 u.1) u.0.0
-next_in_range B s tries Drain g x P host run asked u =
-    all_at IsRequest (view s P).waiting x.request (ranged B s tries P host run asked.1 u.1).waiting (next_among tries (view s P).waiting g x.request u.0.0)
+pub next_in_range : AreBounded → (s : Source) (tries : ℕ) (a : Action) (g : List Exchange) (k : Bool) (x : Exchange) (P : List Step) → IsHost s.host → IsRun s.run → AreAsked (record { action = a; group = g; quiet = k } ∷ P) → AreUnderway s tries (record { action = a; group = x ∷ g; quiet = k } ∷ P) → IsRequest x.request
+next_in_range B s tries (Ask txn moment login) g k x P host run asked u =
+    next_ask s (tries_in tries k) txn moment login g (view s P) x.request host run asked.0 (ask_number s txn moment login x g (view s P) (B s tries (record { action = Ask txn moment login; group = x ∷ g; quiet = k } ∷ P) u)) u.0.0
+next_in_range B s tries (Close txn end) g k x P host run asked u =
+    next_close s (tries_in tries k) txn end g (view s P) (held_by ((view s P).standing txn)) x.request refl host run (close_number s txn end (view s P) (held_by ((view s P).standing txn)) (B s tries (begun k (Close txn end) ∷ P) (tt, u.1))) (ranged B s tries P host run asked.1 u.1) u.0.0
+next_in_range B s tries Drain g k x P host run asked u =
+    all_at IsRequest (view s P).waiting x.request (ranged B s tries P host run asked.1 u.1).waiting (next_among (tries_in tries k) (view s P).waiting g x.request u.0.0)

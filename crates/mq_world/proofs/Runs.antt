@@ -13,7 +13,7 @@ use Rattle.mq_ledger.specs.Suits.{Suits as RepliesSuit}
 use Rattle.mq_forget.specs.Remembered.{moment_of}
 use Rattle.mq_client.specs.Exchanges.{Exchange, answers_reserve, answers_closing, decides, IsDecision}
 use Rattle.mq_link.specs.Link.{Brings}
-use Rattle.mq_client.specs.Past.{Source, Action, Ask, Close, Drain, Step, View, view, answer_of, answer_by, held_by, id_of, reserve_of, refuses}
+use Rattle.mq_client.specs.Past.{tries_in, Source, Action, Ask, Close, Drain, Step, View, view, answer_of, answer_by, held_by, id_of, reserve_of, refuses}
 use Rattle.mq_client.specs.Turns.{next, AreUnderway}
 use Rattle.mq_client.specs.Numbered.{id_in, IsNumbered, NoneReturns}
 use Rattle.mq_client.specs.declared.held.Asked.TheVariants as asked
@@ -72,8 +72,8 @@ abbrev pub so_far : Option Request → List Step → List Step
 so_far None P = P
 so_far (Some q) P = with_exchange (failing q) P
 
-abbrev pub step : Action → List Exchange → Step
-step a g = record { action = a; group = g }
+abbrev pub step : Action → (quiet : Bool) → List Exchange → Step
+step a quiet g = record { action = a; group = g; quiet = quiet }
 
 -- ---- numbers of replies
 
@@ -170,16 +170,16 @@ wrote_on : {day : ℕ → ℕ} {F : ℕ} → (s : Source) (P Q : List Step) (H :
 wrote_on s P Q H a q more (inl w) = inl w
 wrote_on s P Q H a q more (inr f) = inr (record { request = f.request; numbered = more f.request f.numbered; same = f.same; earlier = f.earlier })
 
-pub begins : {day : ℕ → ℕ} {F : ℕ} → (s : Source) (tries : ℕ) (P : List Step) (H : List Entry) (sent written : List (List ℕ)) (a : Action) → NoneReturns s (begun a ∷ P) → IsAsked a → Holds day F s tries P H sent written → Holds day F s tries (begun a ∷ P) H sent written
-begins {day = day} {F = since} s tries P H sent written a fresh i h = record {
+pub begins : {day : ℕ → ℕ} {F : ℕ} → (s : Source) (tries : ℕ) (P : List Step) (H : List Entry) (sent written : List (List ℕ)) (a : Action) (quiet : Bool) → NoneReturns s (begun quiet a ∷ P) → IsAsked a → Holds day F s tries P H sent written → Holds day F s tries (begun quiet a ∷ P) H sent written
+begins {day = day} {F = since} s tries P H sent written a quiet fresh i h = record {
   host = h.host;
   run = h.run;
   underway = (tt, h.underway);
   returns = fresh;
   asks = (i, h.asks);
-  sends = λ q j r own. begun_numbered s a P q (h.sends q j r own);
-  taken = λ e j own. begun_numbered s a P e.request (h.taken e j own);
-  wrote = λ b q j r own d g. wrote_on s P (begun a ∷ P) H b q (begun_numbered s a P) (h.wrote b q j r own d g);
+  sends = λ q j r own. begun_numbered s quiet a P q (h.sends q j r own);
+  taken = λ e j own. begun_numbered s quiet a P e.request (h.taken e j own);
+  wrote = λ b q j r own d g. wrote_on s P (begun quiet a ∷ P) H b q (begun_numbered s quiet a P) (h.wrote b q j r own d g);
   ground = (no_ground day since s H (view s P) a [] refl, h.ground);
 }
 
@@ -188,12 +188,12 @@ begins {day = day} {F = since} s tries P H sent written a fresh i h = record {
 none_brought : (q : Request) → IsDecision q (Faulted Down) None
 none_brought q = λ a b. absurd b
 
-pub sends_on : {day : ℕ → ℕ} {F : ℕ} → OfFrames → OfClients → (s : Source) (tries : ℕ) (P : List Step) (H : List Entry) (sent written : List (List ℕ)) (a : Action) (g : List Exchange) (q : Request) → next s tries (view s P) a g ≡ Some q
-    → Holds day F s tries (step a g ∷ P) H sent written → Holds day F s tries (step a (failing q ∷ g) ∷ P) H (request_frame q ∷ sent) written
-sends_on {day = day} {F = since} F C s tries P H sent written a g q e h =
-    let u : AreUnderway s tries (step a (failing q ∷ g) ∷ P) = ((e, none_brought q, h.underway.0), h.underway.1) in
-    let range : IsRequest q = next_in_range C.bounded s tries a g (failing q) P h.host h.run h.asks u in
-    let new : IsNumbered s (step a (failing q ∷ g) ∷ P) q = (C.sent s tries (step a (failing q ∷ g) ∷ P) u).0 in
+pub sends_on : {day : ℕ → ℕ} {F : ℕ} → OfFrames → OfClients → (s : Source) (tries : ℕ) (P : List Step) (H : List Entry) (sent written : List (List ℕ)) (a : Action) (g : List Exchange) (quiet : Bool) (q : Request) → next s (tries_in tries quiet) (view s P) a g ≡ Some q
+    → Holds day F s tries (step a quiet g ∷ P) H sent written → Holds day F s tries (step a quiet (failing q ∷ g) ∷ P) H (request_frame q ∷ sent) written
+sends_on {day = day} {F = since} F C s tries P H sent written a g quiet q e h =
+    let u : AreUnderway s tries (step a quiet (failing q ∷ g) ∷ P) = ((e, none_brought q, h.underway.0), h.underway.1) in
+    let range : IsRequest q = next_in_range C.bounded s tries a g quiet (failing q) P h.host h.run h.asks u in
+    let new : IsNumbered s (step a quiet (failing q ∷ g) ∷ P) q = (C.sent s tries (step a quiet (failing q ∷ g) ∷ P) u).0 in
     record {
       host = h.host;
       run = h.run;
@@ -201,19 +201,19 @@ sends_on {day = day} {F = since} F C s tries P H sent written a g q e h =
       returns = h.returns;
       asks = h.asks;
       sends = λ r i k own. elim i [
-        | inl same ↦ subst (IsNumbered s (step a (failing q ∷ g) ∷ P)) (F.one_request q r range k same) new
-        | inr j ↦ more_numbered s a (failing q) g P r (h.sends r j k own)
+        | inl same ↦ subst (IsNumbered s (step a quiet (failing q ∷ g) ∷ P)) (F.one_request q r range k same) new
+        | inr j ↦ more_numbered s a (failing q) g quiet P r (h.sends r j k own)
       ];
-      taken = λ x i own. more_numbered s a (failing q) g P x.request (h.taken x i own);
-      wrote = λ b r i k own d z. wrote_on s (step a g ∷ P) (step a (failing q ∷ g) ∷ P) H b r (more_numbered s a (failing q) g P) (h.wrote b r i k own d z);
+      taken = λ x i own. more_numbered s a (failing q) g quiet P x.request (h.taken x i own);
+      wrote = λ b r i k own d z. wrote_on s (step a quiet g ∷ P) (step a quiet (failing q ∷ g) ∷ P) H b r (more_numbered s a (failing q) g quiet P) (h.wrote b r i k own d z);
       ground = (no_ground day since s H (view s P) a (failing q ∷ g) refl, h.ground.1);
     }
 
 -- what is sent has a number of the run
-pub sends_own : {day : ℕ → ℕ} {F : ℕ} → OfClients → (s : Source) (tries : ℕ) (P : List Step) (H : List Entry) (sent written : List (List ℕ)) (a : Action) (g : List Exchange) (q : Request) → next s tries (view s P) a g ≡ Some q → Holds day F s tries (step a g ∷ P) H sent written → IsRequest q × IsOwn s q
-sends_own C s tries P H sent written a g q e h =
-    let u : AreUnderway s tries (step a (failing q ∷ g) ∷ P) = ((e, none_brought q, h.underway.0), h.underway.1) in
-    (next_in_range C.bounded s tries a g (failing q) P h.host h.run h.asks u, numbered_own s (step a (failing q ∷ g) ∷ P) q (C.sent s tries (step a (failing q ∷ g) ∷ P) u).0)
+pub sends_own : {day : ℕ → ℕ} {F : ℕ} → OfClients → (s : Source) (tries : ℕ) (P : List Step) (H : List Entry) (sent written : List (List ℕ)) (a : Action) (g : List Exchange) (quiet : Bool) (q : Request) → next s (tries_in tries quiet) (view s P) a g ≡ Some q → Holds day F s tries (step a quiet g ∷ P) H sent written → IsRequest q × IsOwn s q
+sends_own C s tries P H sent written a g quiet q e h =
+    let u : AreUnderway s tries (step a quiet (failing q ∷ g) ∷ P) = ((e, none_brought q, h.underway.0), h.underway.1) in
+    (next_in_range C.bounded s tries a g quiet (failing q) P h.host h.run h.asks u, numbered_own s (step a quiet (failing q ∷ g) ∷ P) q (C.sent s tries (step a quiet (failing q ∷ g) ∷ P) u).0)
 
 -- ---- an exchange ends
 
@@ -233,18 +233,18 @@ granted_by o e = absurd (unavailable_not e)
 grant_of : (q : Request) (o : Outcome) (d : Option Reply) (a : Reply) → IsDecision q o d → d ≡ Some a → Brings o a × (decides q a ≡ true)
 grant_of q o d a dec e = let D : Option Reply → Type 0 = λ x. IsDecision q o x in subst D e dec
 
-heard : {day : ℕ → ℕ} {F : ℕ} → OfFrames → OfClients → (s : Source) (tries : ℕ) (P : List Step) (H : List Entry) (sent written : List (List ℕ)) (txn moment : ℕ) (login : List ℕ) (g : List Exchange) (x : Exchange)
-    → AllSuit H → Holds day F s tries (step (Ask txn moment login) (failing x.request ∷ g) ∷ P) H sent written → Comes written x.request x.outcome → IsDecision x.request x.outcome x.decided
+heard : {day : ℕ → ℕ} {F : ℕ} → OfFrames → OfClients → (s : Source) (tries : ℕ) (P : List Step) (H : List Entry) (sent written : List (List ℕ)) (txn moment : ℕ) (login : List ℕ) (g : List Exchange) (quiet : Bool) (x : Exchange)
+    → AllSuit H → Holds day F s tries (step (Ask txn moment login) quiet (failing x.request ∷ g) ∷ P) H sent written → Comes written x.request x.outcome → IsDecision x.request x.outcome x.decided
     → answer_by x.decided ≡ asked.Granted → F ≤ day moment → GrantedIn s H (view s P).numbers txn moment login
-heard {day = day} {F = since} F C s tries P H sent written txn moment login g x suits h may dec e on =
+heard {day = day} {F = since} F C s tries P H sent written txn moment login g quiet x suits h may dec e on =
     let v = view s P in
-    let Q : List Step = step (Ask txn moment login) (failing x.request ∷ g) ∷ P in
+    let Q : List Step = step (Ask txn moment login) quiet (failing x.request ∷ g) ∷ P in
     let k = granted_by x.decided e in
     let d = grant_of x.request x.outcome x.decided k.0 dec k.1 in
     let came = may k.0 d.0 d.1 in
     let number : IsNumbered s Q x.request = (C.sent s tries Q h.underway).0 in
     let own : IsOwn s x.request = numbered_own s Q x.request number in
-    let free = free_ask (refuses (held_by (v.standing txn)) (length v.live) v.numbers (length v.waiting) moment login) (reserve_of s (v.numbers + 1) txn moment login) x.request (next_among tries _ g x.request h.underway.0.0) in
+    let free = free_ask (refuses (held_by (v.standing txn)) (length v.live) v.numbers (length v.waiting) moment login) (reserve_of s (v.numbers + 1) txn moment login) x.request (next_among (tries_in tries quiet) _ g x.request h.underway.0.0) in
     elim (h.wrote k.0 x.request came.0 came.1 own d.1 k.2) [
       | inl w ↦ (let R : Reply → Type 0 = λ a. RepliesSuit w.entry.request a in
           let fits : RepliesSuit w.entry.request k.0 = subst R w.is (suits w.entry w.among) in
@@ -263,24 +263,24 @@ heard {day = day} {F = since} F C s tries P H sent written txn moment login g x 
           absurd (omega (arith, less, on)))
     ]
 
-heard_ground : {day : ℕ → ℕ} {F : ℕ} → OfFrames → OfClients → (s : Source) (tries : ℕ) (P : List Step) (H : List Entry) (sent written : List (List ℕ)) (a : Action) (g : List Exchange) (x : Exchange)
-    → AllSuit H → Holds day F s tries (step a (failing x.request ∷ g) ∷ P) H sent written → Comes written x.request x.outcome → IsDecision x.request x.outcome x.decided → IsGround day F s H (view s P) a (x ∷ g)
-heard_ground F C s tries P H sent written (Ask txn moment login) g x suits h may dec = λ e on. heard F C s tries P H sent written txn moment login g x suits h may dec e on
-heard_ground F C s tries P H sent written (Close txn end) g x suits h may dec = tt
-heard_ground F C s tries P H sent written Drain g x suits h may dec = tt
+heard_ground : {day : ℕ → ℕ} {F : ℕ} → OfFrames → OfClients → (s : Source) (tries : ℕ) (P : List Step) (H : List Entry) (sent written : List (List ℕ)) (a : Action) (g : List Exchange) (quiet : Bool) (x : Exchange)
+    → AllSuit H → Holds day F s tries (step a quiet (failing x.request ∷ g) ∷ P) H sent written → Comes written x.request x.outcome → IsDecision x.request x.outcome x.decided → IsGround day F s H (view s P) a (x ∷ g)
+heard_ground F C s tries P H sent written (Ask txn moment login) g quiet x suits h may dec = λ e on. heard F C s tries P H sent written txn moment login g quiet x suits h may dec e on
+heard_ground F C s tries P H sent written (Close txn end) g quiet x suits h may dec = tt
+heard_ground F C s tries P H sent written Drain g quiet x suits h may dec = tt
 
-pub ends_on : {day : ℕ → ℕ} {F : ℕ} → OfFrames → OfClients → (s : Source) (tries : ℕ) (P : List Step) (H : List Entry) (sent written : List (List ℕ)) (a : Action) (g : List Exchange) (x : Exchange)
-    → AllSuit H → Holds day F s tries (step a (failing x.request ∷ g) ∷ P) H sent written → Comes written x.request x.outcome → IsDecision x.request x.outcome x.decided → Holds day F s tries (step a (x ∷ g) ∷ P) H sent written
-ends_on F C s tries P H sent written a g x suits h may dec = record {
+pub ends_on : {day : ℕ → ℕ} {F : ℕ} → OfFrames → OfClients → (s : Source) (tries : ℕ) (P : List Step) (H : List Entry) (sent written : List (List ℕ)) (a : Action) (g : List Exchange) (quiet : Bool) (x : Exchange)
+    → AllSuit H → Holds day F s tries (step a quiet (failing x.request ∷ g) ∷ P) H sent written → Comes written x.request x.outcome → IsDecision x.request x.outcome x.decided → Holds day F s tries (step a quiet (x ∷ g) ∷ P) H sent written
+ends_on F C s tries P H sent written a g quiet x suits h may dec = record {
   host = h.host;
   run = h.run;
   underway = ((h.underway.0.0, dec, h.underway.0.2), h.underway.1);
   returns = h.returns;
   asks = h.asks;
-  sends = λ q i r own. ended_numbered s a (failing x.request) x g P q (h.sends q i r own);
-  taken = λ e i own. ended_numbered s a (failing x.request) x g P e.request (h.taken e i own);
-  wrote = λ b q i r own d z. wrote_on s (step a (failing x.request ∷ g) ∷ P) (step a (x ∷ g) ∷ P) H b q (ended_numbered s a (failing x.request) x g P) (h.wrote b q i r own d z);
-  ground = (heard_ground F C s tries P H sent written a g x suits h may dec, h.ground.1);
+  sends = λ q i r own. ended_numbered s a (failing x.request) x g quiet P q (h.sends q i r own);
+  taken = λ e i own. ended_numbered s a (failing x.request) x g quiet P e.request (h.taken e i own);
+  wrote = λ b q i r own d z. wrote_on s (step a quiet (failing x.request ∷ g) ∷ P) (step a quiet (x ∷ g) ∷ P) H b q (ended_numbered s a (failing x.request) x g quiet P) (h.wrote b q i r own d z);
+  ground = (heard_ground F C s tries P H sent written a g quiet x suits h may dec, h.ground.1);
 }
 
 -- ---- others send, and the ledger writes what it wrote

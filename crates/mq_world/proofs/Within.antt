@@ -15,7 +15,7 @@ use Rattle.mq_ledger.specs.History.{Transaction, is_of, closes, granted, counted
 use Rattle.mq_ledger.specs.Legal.{Book, IsLegalBook}
 use Rattle.mq_ledger.specs.Sums.{is_for, names_for, held_on, settled_on, AreDistinct}
 use Rattle.mq_client.specs.Exchanges.{Exchange, decisions}
-use Rattle.mq_client.specs.Past.{Source, Action, Ask, Close, Drain, Step, Standing, Never, Live, Closed, View, view, after, after_ask, after_close, answer_of, answer_by, let_through, opened, held_by, id_of, reserve_of, closing_of, refuses}
+use Rattle.mq_client.specs.Past.{tries_in, Source, Action, Ask, Close, Drain, Step, Standing, Never, Live, Closed, View, view, after, after_ask, after_close, answer_of, answer_by, let_through, opened, held_by, id_of, reserve_of, closing_of, refuses}
 use Rattle.mq_client.specs.Turns.{failures, next_of, AreUnderway}
 use Rattle.mq_client.specs.Numbered.{is_closed, NoneReturns, Suits}
 use Rattle.mq_track.specs.declared.closing.CloseEnd.{CloseEnd}
@@ -80,16 +80,16 @@ counts_close : (s : Source) (txn : ℕ) (end : CloseEnd) (g : List Exchange) (q 
 counts_close s txn end g q v None t = inr refl
 counts_close s txn end g q v (Some h) t = inr refl
 
-counts_step : (s : Source) (tries : ℕ) (a : Action) (g : List Exchange) (q : Request) (P : List Step) → AreUnderway s tries (step a (failing q ∷ g) ∷ P) → NoneReturns s (step a (failing q ∷ g) ∷ P) → (t : ℕ)
+counts_step : (s : Source) (tries : ℕ) (a : Action) (g : List Exchange) (quiet : Bool) (q : Request) (P : List Step) → AreUnderway s tries (step a quiet (failing q ∷ g) ∷ P) → NoneReturns s (step a quiet (failing q ∷ g) ∷ P) → (t : ℕ)
     → Counts ((after s (view s P) a g).standing t) ((after s (view s P) a (failing q ∷ g)).standing t)
-counts_step s tries (Ask txn moment login) g q P u back t =
-    counts_ask tries txn moment login (reserve_of s ((view s P).numbers + 1) txn moment login) q (refuses (held_by ((view s P).standing txn)) (length (view s P).live) (view s P).numbers (length (view s P).waiting) moment login) g (view s P) back.0 u.0.0 t
-counts_step s tries (Close txn end) g q P u back t = counts_close s txn end g q (view s P) (held_by ((view s P).standing txn)) t
-counts_step s tries Drain g q P u back t = inr refl
+counts_step s tries (Ask txn moment login) g quiet q P u back t =
+    counts_ask (tries_in tries quiet) txn moment login (reserve_of s ((view s P).numbers + 1) txn moment login) q (refuses (held_by ((view s P).standing txn)) (length (view s P).live) (view s P).numbers (length (view s P).waiting) moment login) g (view s P) back.0 u.0.0 t
+counts_step s tries (Close txn end) g quiet q P u back t = counts_close s txn end g q (view s P) (held_by ((view s P).standing txn)) t
+counts_step s tries Drain g quiet q P u back t = inr refl
 
 counts_past : (s : Source) (tries : ℕ) (q : Request) (P : List Step) → AreUnderway s tries (with_exchange (failing q) P) → NoneReturns s (with_exchange (failing q) P) → (t : ℕ) → Counts ((view s P).standing t) ((view s (with_exchange (failing q) P)).standing t)
 counts_past s tries q [] u back t = inr refl
-counts_past s tries q (x ∷ P) u back t = counts_step s tries x.action x.group q P u back t
+counts_past s tries q (x ∷ P) u back t = counts_step s tries x.action x.group x.quiet q P u back t
 
 pub counts_so_far : (s : Source) (tries : ℕ) (o : Option Request) (P : List Step) → AreUnderway s tries (so_far o P) → NoneReturns s (so_far o P) → (t : ℕ) → Counts ((view s P).standing t) ((view s (so_far o P)).standing t)
 counts_so_far s tries None P u back t = inr refl

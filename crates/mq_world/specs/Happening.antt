@@ -137,6 +137,22 @@ pub record WasRetired (site : Site) (start w : World) : Type 0 where
   pub none_waits : (view (run_of transaction) (w.runs (run_of transaction)).past).waiting ≡ []
   pub is_one : let_by (standing_of w transaction) ≡ 1
 
+-- A run held back at the line that closed a transaction: its input ended before the closing was sent, which waited.
+-- Then it was sent, the ledger settled it, and none waits.
+pub record WasHeldBack (site : Site) (start w : World) : Type 0 where
+  pub transaction : Transaction
+  pub is_run : site.is_run (run_of transaction) ≡ true
+  pub closing : Request
+  pub before : World
+  pub reached : Reaches site start before
+  pub is_at_end : (before.runs (run_of transaction)).is_at_end ≡ true
+  pub unsent : times_sent closing before ≡ 0
+  pub waits : (view (run_of transaction) (before.runs (run_of transaction)).past).waiting ≡ closing ∷ []
+  pub later : Reaches site before w
+  pub none_waits : (view (run_of transaction) (w.runs (run_of transaction)).past).waiting ≡ []
+  pub settled : settled_in w.ledger.history transaction ≡ 1
+  pub is_one : let_by (standing_of w transaction) ≡ 1
+
 -- A transaction of a run let one recipient through, and the ledger forgot its day: it held one of it, and then it had
 -- neither held nor settled any. The run went on, and let one through in a transaction of the first day that isn't
 -- forgotten. Then the ledger took a frame of the forgotten reserve again, and applied it once more.

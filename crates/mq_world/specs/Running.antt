@@ -20,16 +20,16 @@ ran lines steps is_at_end = record {
 }
 
 -- an action with these exchanges
-abbrev pub step_of : Action → List Exchange → Step
-step_of action group = record { action = action; group = group }
+abbrev pub step_of : Action → (quiet : Bool) → List Exchange → Step
+step_of action quiet group = record { action = action; group = group; quiet = quiet }
 
 -- a step of which no exchange has been made yet
 abbrev pub unsent : Step → Step
-unsent x = begun x.action
+unsent x = begun x.quiet x.action
 
 -- a run that reads on or has read all, and whose last step has these exchanges so far
-abbrev pub amid : List Meaning → Action → List Exchange → List Step → Bool → Run
-amid lines action group steps is_at_end = ran lines (step_of action group ∷ steps) is_at_end
+abbrev pub amid : List Meaning → Action → (quiet : Bool) → List Exchange → List Step → Bool → Run
+amid lines action quiet group steps is_at_end = ran lines (step_of action quiet group ∷ steps) is_at_end
 
 -- the exchanges of a step, where one is made
 abbrev pub exchanges_of : Option Step → List Exchange

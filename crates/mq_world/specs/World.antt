@@ -17,8 +17,8 @@ use Rattle.mq_ledger.specs.Day.{day_of}
 use Rattle.mq_ledger.specs.History.{requests}
 use Rattle.mq_ledger.specs.Legal.{Book, IsLegalBook}
 use Rattle.mq_client.specs.Exchanges.{Exchange, IsDecision, decides}
-use Rattle.mq_client.specs.Past.{Source, Action, Drain, Step, view, IsPlayed}
-use Rattle.mq_client.specs.Turns.{next}
+use Rattle.mq_client.specs.Past.{Source, Action, Drain, Step, IsPlayed}
+use Rattle.mq_client.specs.Turns.{next_in}
 use Rattle.mq_client.specs.Numbered.{id_in}
 use Rattle.mq_client.specs.Filter.{push, action_of}
 use Rattle.mq_link.specs.declared.link.Outcome.{Outcome}
@@ -92,15 +92,15 @@ pub record ReadsOn (site : Site) (w : World) (s : Source) : Type 0 where
   pub none_on_way : (w.runs s).on_way ≡ None
   pub played : IsPlayed s (site.tries s) (w.runs s).past
 
--- a step that has no exchange yet
-abbrev pub begun : Action → Step
-begun action = record { action = action; group = [] }
+-- a step that has no exchange yet, and may be quiet
+abbrev pub begun : (quiet : Bool) → Action → Step
+begun quiet action = record { action = action; group = []; quiet = quiet }
 
--- after a line: the step that the line asks for has begun, where it asks for one
-abbrev pub after_line : Meaning → Run → Run
-after_line line r = record {
+-- after a line: the step that the line asks for has begun, where it asks for one; at any line a run may hold back
+abbrev pub after_line : (quiet : Bool) → Meaning → Run → Run
+after_line quiet line r = record {
   lines = line ∷ r.lines;
-  past = push (option_map begun (action_of r.lines line)) r.past;
+  past = push (option_map (begun quiet) (action_of r.lines line)) r.past;
   on_way = r.on_way;
   is_at_end = r.is_at_end;
   is_stopped = r.is_stopped;
@@ -110,7 +110,7 @@ after_line line r = record {
 abbrev pub after_end : Run → Run
 after_end r = record {
   lines = r.lines;
-  past = begun Drain ∷ r.past;
+  past = begun false Drain ∷ r.past;
   on_way = r.on_way;
   is_at_end = true;
   is_stopped = r.is_stopped;
@@ -119,7 +119,7 @@ after_end r = record {
 -- the request of the next exchange of the last step
 abbrev pub next_request : Source → (tries : ℕ) → List Step → Option Request
 next_request s tries [] = None
-next_request s tries (x ∷ P) = next s tries (view s P) x.action x.group
+next_request s tries (x ∷ P) = next_in s tries P x
 
 -- with the exchange of this request on its way, or with none
 abbrev pub with_on_way : Option Request → Run → Run
@@ -134,7 +134,7 @@ with_on_way o r = record {
 -- the last step has one more exchange
 abbrev pub with_exchange : Exchange → List Step → List Step
 with_exchange x [] = []
-with_exchange x (y ∷ P) = record { action = y.action; group = x ∷ y.group } ∷ P
+with_exchange x (y ∷ P) = record { action = y.action; group = x ∷ y.group; quiet = y.quiet } ∷ P
 
 -- after the end of the exchange that was on its way
 abbrev pub after_exchange : Exchange → Run → Run
@@ -202,9 +202,9 @@ after_arrival w q = record {
 
 -- What may happen. A loss is a step that never comes.
 pub data Next (site : Site) (w : World) : World → Type 0 where
-  -- a run reads a line that its tracker doesn't refuse
-  Reads : (s : Source) (line : Meaning) → ReadsOn site w s → fault (w.runs s).lines line ≡ None
-      → Next site w (with_run w s (after_line line (w.runs s)))
+  -- a run reads a line that its tracker doesn't refuse, and may hold back what that asks for
+  Reads : (s : Source) (line : Meaning) (quiet : Bool) → ReadsOn site w s → fault (w.runs s).lines line ≡ None
+      → Next site w (with_run w s (after_line quiet line (w.runs s)))
   -- its input ends
   ReadsEnd : (s : Source) → ReadsOn site w s → Next site w (with_run w s (after_end (w.runs s)))
   -- a run sends the frame of its next exchange

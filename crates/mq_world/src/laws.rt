@@ -16,6 +16,7 @@ ghost use Rattle.mq_ledger.specs.Sums.{AreDistinct};
 ghost use Rattle.mq_client.specs.Exchanges.{Exchange};
 ghost use Rattle.mq_client.specs.Past.{Source, Action, Step, drained, view, Plays, IsPlayed, IsBounded};
 ghost use Rattle.mq_client.specs.Numbered.{exchanges_in};
+ghost use Rattle.mq_client.specs.Holding.{Holding};
 ghost use Rattle.mq_client.specs.Filter.{Takes, push};
 ghost use Rattle.mq_client.specs.Run.{Outside, EndsWith, StopsAt};
 ghost use Rattle.mq_client.specs.declared.held.Held.{Held};
@@ -26,7 +27,7 @@ ghost use Rattle.mq_world.specs.World.{MayCome};
 ghost use Rattle.mq_world.specs.Forgetting.{forgotten, ReachesForgetting};
 ghost use Rattle.mq_world.specs.Together.{Together, ledgers, IsStartTogether, ReachesTogether, kept_of, used_of, cap_of};
 ghost use Rattle.mq_world.specs.Happening.{unused, IsReachable, HasLetOneThrough, WasAnsweredAgain, WasTakenTwice};
-ghost use Rattle.mq_world.specs.Happening.{CameLate, HasStopped, WasRetired, WentOnThoughForgotten};
+ghost use Rattle.mq_world.specs.Happening.{CameLate, HasStopped, WasRetired, WasHeldBack, WentOnThoughForgotten};
 ghost use Rattle.mq_world.specs.Happening.{PassedOnAForgottenDay, IsReachableTogether};
 ghost use Rattle.mq_world.specs.Happening.{WasGrantedByEach, WasSplit, PassedEachLimit};
 ghost use Rattle.mq_world.specs.Running.{ran, step_of, unsent, amid, frames_of, AllMayCome, GoesOn, IsNew, lines_at, IsOrOneMore};
@@ -164,22 +165,22 @@ pub fn never_past_the_limits_together()
 pub fn each_run_is_of_a_world()
     // A line that the run takes begins the step that it makes.
     ensures lines { (site : Site) (w : World) (s : Source) (L : List Meaning) (P : List Step) (m : Meaning)
-        (step : Option Step) (text : List ℕ) → site.is_run s ≡ true → w.runs s ≡ ran L P false →
-        IsPlayed s (site.tries s) P → Takes L m step text →
+        (step : Option Step) (text : List ℕ) (h : Holding) → site.is_run s ≡ true → w.runs s ≡ ran L P false →
+        IsPlayed s (site.tries s) P → Takes h L m step text →
         Next site w (with_run w s (ran (m ∷ L) (push (option_map unsent step) P) false)) }
     // Each exchange of a step is sent once those before it have ended, whatever others did since then.
     ensures sends { (site : Site) (w : World) (s : Source) (L : List Meaning) (P : List Step) (is_at_end : Bool)
-        (action : Action) (later earlier : List Exchange) (x : Exchange) → site.is_run s ≡ true →
-        Plays s (site.tries s) P (step_of action (later ++ x ∷ earlier)) →
-        w.runs s ≡ amid L action earlier P is_at_end →
-        Next site w (with_sent (with_run w s (with_on_way (Some x.request) (amid L action earlier P is_at_end)))
+        (action : Action) (quiet : Bool) (later earlier : List Exchange) (x : Exchange) → site.is_run s ≡ true →
+        Plays s (site.tries s) P (step_of action quiet (later ++ x ∷ earlier)) →
+        w.runs s ≡ amid L action quiet earlier P is_at_end →
+        Next site w (with_sent (with_run w s (with_on_way (Some x.request) (amid L action quiet earlier P is_at_end)))
         (request_frame x.request)) }
     // It ends with what may come by then, and comes to what the step says.
     ensures ends { (site : Site) (w : World) (s : Source) (L : List Meaning) (P : List Step) (is_at_end : Bool)
-        (action : Action) (later earlier : List Exchange) (x : Exchange) → site.is_run s ≡ true →
-        Plays s (site.tries s) P (step_of action (later ++ x ∷ earlier)) →
-        w.runs s ≡ with_on_way (Some x.request) (amid L action earlier P is_at_end) → MayCome w.written x.outcome →
-        Next site w (with_run w s (amid L action (x ∷ earlier) P is_at_end)) }
+        (action : Action) (quiet : Bool) (later earlier : List Exchange) (x : Exchange) → site.is_run s ≡ true →
+        Plays s (site.tries s) P (step_of action quiet (later ++ x ∷ earlier)) →
+        w.runs s ≡ with_on_way (Some x.request) (amid L action quiet earlier P is_at_end) → MayCome w.written x.outcome →
+        Next site w (with_run w s (amid L action quiet (x ∷ earlier) P is_at_end)) }
     // What may come is a fault of the link, Retry, Bad, and any reply that was ever written.
     ensures faults { (written : List (List ℕ)) (fault : LinkFault) → MayCome written (Faulted fault) }
     ensures retry { (written : List (List ℕ)) → MayCome written (Answered (reply_body Retry)) }
@@ -215,6 +216,7 @@ pub fn what_may_happen()
     ensures late { (b : Book) → IsLegalBook (unused b) → 1 ≤ b.default → IsReachable b CameLate }
     ensures stopped { (b : Book) → IsLegalBook (unused b) → IsReachable b HasStopped }
     ensures retired { (b : Book) → IsLegalBook (unused b) → 1 ≤ b.default → IsReachable b WasRetired }
+    ensures held_back { (b : Book) → IsLegalBook (unused b) → 1 ≤ b.default → IsReachable b WasHeldBack }
     ensures forgotten { (b : Book) (minutes : ℤ) → b.zone ≡ ByOffset minutes → IsLegalBook (unused b) →
         1 ≤ b.default → IsReachable b WentOnThoughForgotten }
     // Of forgotten days no law speaks, since there the limit may be passed.

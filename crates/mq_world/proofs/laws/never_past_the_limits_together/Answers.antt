@@ -1,5 +1,5 @@
 -- Every state of the world, step by step, and what follows in each.
-use Rattle.std.proofs.Common.{◌≡◌, ℕ, ◌≤◌, List, [], ◌∷◌, ◌++◌, true, false, refl, ◌∙◌, ap, sym, subst, inl, inr, arith, Option, None, Some}
+use Rattle.std.proofs.Common.{◌≡◌, ℕ, ◌≤◌, List, [], ◌∷◌, ◌++◌, Bool, true, false, refl, ◌∙◌, ap, sym, subst, inl, inr, arith, Option, None, Some}
 use Rattle.std.specs.Prelude.{slice_get, sum_by}
 use Rattle.std.specs.List.{AllByRecursion}
 use Rattle.std.specs.Option.{option_map}
@@ -114,10 +114,10 @@ brought F written (Answered body) q (inr (inr w)) = λ a b d.
 -- ---- steps of a run
 
 -- the step that a line asks for begins
-begins_if : {day : ℕ → ℕ} {F : ℕ} → Known → (site : Site) (s : Source) (L : List Meaning) (line : Meaning) (P : List Step) (H : List Entry) (sent written : List (List ℕ)) (o : Option Action) → action_of L line ≡ o → begin_count L ≤ 4294967295 → NoneReturns s (push (option_map begun o) P)
-    → Holds day F s (site.tries s) P H sent written → Holds day F s (site.tries s) (push (option_map begun o) P) H sent written
-begins_if K site s L line P H sent written None e le none_back h = h
-begins_if K site s L line P H sent written (Some a) e le none_back h = begins s (site.tries s) P H sent written a none_back (line_asks K.tracks L line a le e) h
+begins_if : {day : ℕ → ℕ} {F : ℕ} → Known → (site : Site) (s : Source) (quiet : Bool) (L : List Meaning) (line : Meaning) (P : List Step) (H : List Entry) (sent written : List (List ℕ)) (o : Option Action) → action_of L line ≡ o → begin_count L ≤ 4294967295 → NoneReturns s (push (option_map (begun quiet) o) P)
+    → Holds day F s (site.tries s) P H sent written → Holds day F s (site.tries s) (push (option_map (begun quiet) o) P) H sent written
+begins_if K site s quiet L line P H sent written None e le none_back h = h
+begins_if K site s quiet L line P H sent written (Some a) e le none_back h = begins s (site.tries s) P H sent written a quiet none_back (line_asks K.tracks L line a le e) h
 
 on_way_none : {day : ℕ → ℕ} {F : ℕ} → (s : Source) (tries : ℕ) (o : Option Request) (P : List Step) (H : List Entry) (sent written : List (List ℕ)) → o ≡ None → Holds day F s tries (so_far o P) H sent written → Holds day F s tries P H sent written
 on_way_none {day = day} {F = F} s tries o P H sent written e h = let G : Option Request → Type 0 = λ x. Holds day F s tries (so_far x P) H sent written in subst G e h
@@ -131,23 +131,23 @@ played_push s tries (Some x) P h = h
 played_push s tries None [] h = h
 played_push s tries None (y ∷ P) h = h.1
 
-reads_sound : {F : ℕ} {G : List Entry} → Known → (site : Site) (w : World) (s : Source) (line : Meaning) → IsSound site F G w → ReadsOn site w s → fault (w.runs s).lines line ≡ None → IsSound site F G (with_run w s (after_line line (w.runs s)))
-reads_sound {G = G} K site w s line h on e =
+reads_sound : {F : ℕ} {G : List Entry} → Known → (site : Site) (w : World) (s : Source) (line : Meaning) (quiet : Bool) → IsSound site F G w → ReadsOn site w s → fault (w.runs s).lines line ≡ None → IsSound site F G (with_run w s (after_line quiet line (w.runs s)))
+reads_sound {G = G} K site w s line quiet h on e =
     let y = on.up.is_run in
     let r : Run = w.runs s in
     let read = h.reading s y in
-    let acts : actions (push (option_map begun (action_of r.lines line)) r.past) ≡ actions_of (line ∷ r.lines) = push_actions (action_of r.lines line) r.past ∙ ap (push (action_of r.lines line)) (read.acts on.before_end) in
-    let none_back = K.clients.none_returns s (line ∷ r.lines) (push (option_map begun (action_of r.lines line)) r.past) acts in
+    let acts : actions (push (option_map (begun quiet) (action_of r.lines line)) r.past) ≡ actions_of (line ∷ r.lines) = push_actions quiet (action_of r.lines line) r.past ∙ ap (push (action_of r.lines line)) (read.acts on.before_end) in
+    let none_back = K.clients.none_returns s (line ∷ r.lines) (push (option_map (begun quiet) (action_of r.lines line)) r.past) acts in
     let old = on_way_none s (site.tries s) r.on_way r.past (w.ledger.history ++ G) w.sent w.written on.none_on_way (h.runs s y) in
-    put_sound site w s (after_line line r) w.sent h y
+    put_sound site w s (after_line quiet line r) w.sent h y
     (record {
       counted = counted r.lines line e read.counted;
       acts = λ f. acts;
       ended = λ t. absurd (clash r.is_at_end t on.before_end);
-      played = played_push s (site.tries s) (option_map begun (action_of r.lines line)) r.past on.played;
+      played = played_push s (site.tries s) (option_map (begun quiet) (action_of r.lines line)) r.past on.played;
     })
-    (none_on_way s (site.tries s) r.on_way (push (option_map begun (action_of r.lines line)) r.past) (w.ledger.history ++ G) w.sent w.written on.none_on_way
-    (begins_if K site s r.lines line r.past (w.ledger.history ++ G) w.sent w.written (action_of r.lines line) refl read.counted none_back old))
+    (none_on_way s (site.tries s) r.on_way (push (option_map (begun quiet) (action_of r.lines line)) r.past) (w.ledger.history ++ G) w.sent w.written on.none_on_way
+    (begins_if K site s quiet r.lines line r.past (w.ledger.history ++ G) w.sent w.written (action_of r.lines line) refl read.counted none_back old))
     (λ u d yu. h.runs u yu)
 
 ends_reading : {F : ℕ} {G : List Entry} → (site : Site) (w : World) (s : Source) → IsSound site F G w → ReadsOn site w s → IsSound site F G (with_run w s (after_end (w.runs s)))
@@ -163,8 +163,8 @@ ends_reading {G = G} site w s h on =
       ended = λ t. ap (λ xs. Drain ∷ xs) (read.acts on.before_end);
       played = on.played;
     })
-    (none_on_way s (site.tries s) r.on_way (begun Drain ∷ r.past) (w.ledger.history ++ G) w.sent w.written on.none_on_way
-    (begins s (site.tries s) r.past (w.ledger.history ++ G) w.sent w.written Drain (tt, old.returns) tt old))
+    (none_on_way s (site.tries s) r.on_way (begun false Drain ∷ r.past) (w.ledger.history ++ G) w.sent w.written on.none_on_way
+    (begins s (site.tries s) r.past (w.ledger.history ++ G) w.sent w.written Drain false (tt, old.returns) tt old))
     (λ u d yu. h.runs u yu)
 
 pub record Sent (day : ℕ → ℕ) (F : ℕ) (s : Source) (tries : ℕ) (P : List Step) (H : List Entry) (sent written : List (List ℕ)) (q : Request) : Type 0 where
@@ -175,8 +175,8 @@ pub record Sent (day : ℕ → ℕ) (F : ℕ) (s : Source) (tries : ℕ) (P : Li
 sends_past : {day : ℕ → ℕ} {F : ℕ} → Known → (s : Source) (tries : ℕ) (P : List Step) (H : List Entry) (sent written : List (List ℕ)) (q : Request) → next_request s tries P ≡ Some q → Holds day F s tries P H sent written → Sent day F s tries P H sent written q
 sends_past K s tries [] H sent written q e h = absurd (none_some q e)
 sends_past K s tries (x ∷ P) H sent written q e h =
-    let o = sends_own K.clients s tries P H sent written x.action x.group q e h in
-    record { holds = sends_on K.frames K.clients s tries P H sent written x.action x.group q e h; range = o.0; own = o.1 }
+    let o = sends_own K.clients s tries P H sent written x.action x.group x.quiet q e h in
+    record { holds = sends_on K.frames K.clients s tries P H sent written x.action x.group x.quiet q e h; range = o.0; own = o.1 }
 
 sends_sound : {F : ℕ} {G : List Entry} → Known → (site : Site) (w : World) (s : Source) (q : Request) → IsSound site F G w → IsUp site w s → (w.runs s).on_way ≡ None → next_request s (site.tries s) (w.runs s).past ≡ Some q
     → IsSound site F G (with_sent (with_run w s (with_on_way (Some q) (w.runs s))) (request_frame q))
@@ -199,7 +199,7 @@ sends_sound {G = G} K site w s q h up none e =
 ends_past : {day : ℕ → ℕ} {F : ℕ} → Known → (s : Source) (tries : ℕ) (P : List Step) (H : List Entry) (sent written : List (List ℕ)) (x : Exchange) → AllSuit H → MayCome written x.outcome → IsDecision x.request x.outcome x.decided
     → Holds day F s tries (with_exchange (failing x.request) P) H sent written → Holds day F s tries (with_exchange x P) H sent written
 ends_past K s tries [] H sent written x suits may dec h = h
-ends_past K s tries (z ∷ P) H sent written x suits may dec h = ends_on K.frames K.clients s tries P H sent written z.action z.group x suits h (brought K.frames written x.outcome x.request may) dec
+ends_past K s tries (z ∷ P) H sent written x suits may dec h = ends_on K.frames K.clients s tries P H sent written z.action z.group z.quiet x suits h (brought K.frames written x.outcome x.request may) dec
 
 same_actions : (x : Exchange) (P : List Step) → actions (with_exchange x P) ≡ actions P
 same_actions x [] = refl
@@ -270,7 +270,7 @@ takes_sound {F = F} {G = G} K site w which body q h e spells =
 -- ---- all steps of a world
 
 next_sound : {F : ℕ} {G : List Entry} → Known → (site : Site) (w v : World) → IsSound site F G w → Next site w v → IsSound site F G v
-next_sound K site w v h (Reads s line on e) = reads_sound K site w s line h on e
+next_sound K site w v h (Reads s line quiet on e) = reads_sound K site w s line quiet h on e
 next_sound K site w v h (ReadsEnd s on) = ends_reading site w s h on
 next_sound K site w v h (Sends s q up none e) = sends_sound K site w s q h up none e
 next_sound K site w v h (Ends s x up on may dec) = ends_sound K site w s x h up on may dec
@@ -279,7 +279,7 @@ next_sound K site w v h (OthersSend bytes others) = others_sound site w bytes h 
 next_sound K site w v h (Stops s up) = stops_sound site w s h up
 
 zone_stays : (site : Site) (w v : World) → Next site w v → v.ledger.zone ≡ w.ledger.zone
-zone_stays site w v (Reads s line on e) = refl
+zone_stays site w v (Reads s line quiet on e) = refl
 zone_stays site w v (ReadsEnd s on) = refl
 zone_stays site w v (Sends s q up none e) = refl
 zone_stays site w v (Ends s x up on may dec) = refl

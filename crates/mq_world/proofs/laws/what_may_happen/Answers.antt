@@ -12,19 +12,20 @@ use Rattle.mq_request.specs.declared.message.Id.{Id}
 use Rattle.mq_request.specs.declared.message.Request.{Request}
 use Rattle.mq_request.specs.declared.message.Request.TheVariants.{Settle, Retire}
 use Rattle.mq_request.specs.declared.message.Reply.{Reply}
-use Rattle.mq_request.specs.declared.message.Reply.TheVariants.{Granted, Full, Old, Retired, TooMany}
+use Rattle.mq_request.specs.declared.message.Reply.TheVariants.{Granted, Full, Old, Retired, Settled, TooMany}
 use Rattle.mq_ledger.specs.Arrivals.{floor}
 use Rattle.mq_ledger.specs.declared.entry.Entry.{Entry}
 use Rattle.mq_ledger.specs.Answer.{reply as ledger_reply}
 use Rattle.mq_ledger.specs.Day.{IsZone, IsOffset, ByOffset, clock, day_of}
 use Rattle.mq_ledger.specs.History.{Transaction, requests, held, settled_in}
 use Rattle.mq_ledger.specs.Legal.{Book, IsLegalBook}
-use Rattle.mq_client.specs.Exchanges.{Exchange, IsTry, decides}
-use Rattle.mq_client.specs.Past.{Source, Ask, IsPlayed, id_of, reserve_of}
+use Rattle.mq_client.specs.Exchanges.{Exchange, IsTry, decides, NoneYet, SendsUpTo}
+use Rattle.mq_client.specs.Past.{Source, Ask, Close, IsPlayed, id_of, reserve_of}
 use Rattle.mq_client.specs.Numbered.{id_in}
+use Rattle.mq_track.specs.declared.closing.CloseEnd.TheVariants as ending
 use Rattle.mq_link.specs.declared.link.LinkFault.TheVariants.{TimedOut}
-use Rattle.mq_world.specs.World.{Site, World, fresh, IsStart, after_line, with_on_way, after_exchange, after_stop, same_source, with_run, with_sent, after_arrival, reply_from, Next, Reads, Sends, Ends, Takes, OthersSend, Stops, Reaches, AtOnce, Later, IsOfOthers, IsFrameOfOthers, source_of}
-use Rattle.mq_world.specs.Happening.{unused, times_written, IsReachable, failed, brought, HasLetOneThrough, WasAnsweredAgain, WasTakenTwice, CameLate, HasStopped, WasRetired, WentOnThoughForgotten, PassedOnAForgottenDay, IsReachableTogether, WasGrantedByEach, WasSplit, PassedEachLimit}
+use Rattle.mq_world.specs.World.{Site, World, fresh, IsStart, after_line, after_end, with_on_way, after_exchange, after_stop, same_source, with_run, with_sent, after_arrival, reply_from, Next, Reads, ReadsEnd, Sends, Ends, Takes, OthersSend, Stops, Reaches, AtOnce, Later, IsOfOthers, IsFrameOfOthers, source_of}
+use Rattle.mq_world.specs.Happening.{unused, times_written, IsReachable, failed, brought, HasLetOneThrough, WasAnsweredAgain, WasTakenTwice, CameLate, HasStopped, WasRetired, WasHeldBack, WentOnThoughForgotten, PassedOnAForgottenDay, IsReachableTogether, WasGrantedByEach, WasSplit, PassedEachLimit}
 use Rattle.mq_ledger.specs.Limits.{cap}
 use Rattle.mq_world.specs.Law.{let_together}
 use Rattle.mq_world.specs.Forgetting.{forgotten, FromStart, Forgets}
@@ -97,7 +98,7 @@ refused = brought closing old (Some old)
 -- ---- the worlds
 
 abbrev pub reads : World → Source → Meaning → World
-reads w s line = with_run w s (after_line line (w.runs s))
+reads w s line = with_run w s (after_line false line (w.runs s))
 
 abbrev pub asks : World → Source → World
 asks w s = reads (reads (reads w s login_line) s begin_line) s recipient_line
@@ -220,9 +221,9 @@ to_asked b =
     let w1 = reads w0 here login_line in
     let w2 = reads w1 here begin_line in
     let w3 = reads w2 here recipient_line in
-    let r1 : Reaches site w0 w1 = Later w0 w1 AtOnce (Reads here login_line (record { up = record { is_run = refl; is_up = refl }; before_end = refl; none_on_way = refl; played = tt }) refl) in
-    let r2 : Reaches site w0 w2 = Later w1 w2 r1 (Reads here begin_line (record { up = record { is_run = refl; is_up = refl }; before_end = refl; none_on_way = refl; played = tt }) refl) in
-    let r3 : Reaches site w0 w3 = Later w2 w3 r2 (Reads here recipient_line (record { up = record { is_run = refl; is_up = refl }; before_end = refl; none_on_way = refl; played = tt }) refl) in
+    let r1 : Reaches site w0 w1 = Later w0 w1 AtOnce (Reads here login_line false (record { up = record { is_run = refl; is_up = refl }; before_end = refl; none_on_way = refl; played = tt }) refl) in
+    let r2 : Reaches site w0 w2 = Later w1 w2 r1 (Reads here begin_line false (record { up = record { is_run = refl; is_up = refl }; before_end = refl; none_on_way = refl; played = tt }) refl) in
+    let r3 : Reaches site w0 w3 = Later w2 w3 r2 (Reads here recipient_line false (record { up = record { is_run = refl; is_up = refl }; before_end = refl; none_on_way = refl; played = tt }) refl) in
     Later w3 (asked b) r3 (Sends here (request here) (record { is_run = refl; is_up = refl }) refl refl)
 
 to_taken : (b : Book) → Reaches site (start b) (taken b)
@@ -258,9 +259,9 @@ to_asked_there b le =
     let w1 = reads w0 there login_line in
     let w2 = reads w1 there begin_line in
     let w3 = reads w2 there recipient_line in
-    let r1 : Reaches site (start b) w1 = Later w0 w1 (to_granted b le) (Reads there login_line (record { up = record { is_run = refl; is_up = refl }; before_end = refl; none_on_way = refl; played = tt }) refl) in
-    let r2 : Reaches site (start b) w2 = Later w1 w2 r1 (Reads there begin_line (record { up = record { is_run = refl; is_up = refl }; before_end = refl; none_on_way = refl; played = tt }) refl) in
-    let r3 : Reaches site (start b) w3 = Later w2 w3 r2 (Reads there recipient_line (record { up = record { is_run = refl; is_up = refl }; before_end = refl; none_on_way = refl; played = tt }) refl) in
+    let r1 : Reaches site (start b) w1 = Later w0 w1 (to_granted b le) (Reads there login_line false (record { up = record { is_run = refl; is_up = refl }; before_end = refl; none_on_way = refl; played = tt }) refl) in
+    let r2 : Reaches site (start b) w2 = Later w1 w2 r1 (Reads there begin_line false (record { up = record { is_run = refl; is_up = refl }; before_end = refl; none_on_way = refl; played = tt }) refl) in
+    let r3 : Reaches site (start b) w3 = Later w2 w3 r2 (Reads there recipient_line false (record { up = record { is_run = refl; is_up = refl }; before_end = refl; none_on_way = refl; played = tt }) refl) in
     Later w3 (asked_there b) r3 (Sends there (request there) (record { is_run = refl; is_up = refl }) refl refl)
 
 to_late : OneReply → (b : Book) → 1 ≤ b.default → Reaches site (start b) (came_late b)
@@ -287,7 +288,7 @@ frame_of_others one = λ body q e spells.
     subst (IsOfOthers site) is retire_of_others
 
 -- the step of the recipient came to its end: its first exchange failed, and the second one decided
-asked_once : IsPlayed here 3 (step (Ask 1 noon (codes "u")) (answered ∷ lost ∷ []) ∷ [])
+asked_once : IsPlayed here 3 (step (Ask 1 noon (codes "u")) false (answered ∷ lost ∷ []) ∷ [])
 asked_once =
     let first : IsTry (request here) lost None = record { request_is = refl; decision = λ a brings. absurd brings; decided_is = refl } in
     let second : IsTry (request here) answered (Some reply) = record { request_is = refl; decision = (record { bytes = refl; in_range = reply_range }, refl); decided_is = refl } in
@@ -300,7 +301,7 @@ to_retired one b le =
 
 to_closed : (b : Book) → Reaches site (retired b) (closed b)
 to_closed b =
-    let read : Reaches site (retired b) (closes b) = Later (retired b) (closes b) AtOnce (Reads here commit_line (record { up = record { is_run = refl; is_up = refl }; before_end = refl; none_on_way = refl; played = asked_once }) refl) in
+    let read : Reaches site (retired b) (closes b) = Later (retired b) (closes b) AtOnce (Reads here commit_line false (record { up = record { is_run = refl; is_up = refl }; before_end = refl; none_on_way = refl; played = asked_once }) refl) in
     Later (closes b) (closed b) read (Sends here closing (record { is_run = refl; is_up = refl }) refl refl)
 
 -- the ledger knows its run no longer
@@ -480,8 +481,8 @@ sent_on moment b moment_is le r =
 
 to_begun_at : (moment : ℕ) (b : Book) → Reaches site (cleared b) (begun_at moment b)
 to_begun_at moment b =
-    let r1 : Reaches site (cleared b) (logged_in_at moment b) = Later (cleared b) (logged_in_at moment b) AtOnce (Reads here (login_at moment) (record { up = record { is_run = refl; is_up = refl }; before_end = refl; none_on_way = refl; played = asked_once }) refl) in
-    Later (logged_in_at moment b) (begun_at moment b) r1 (Reads here (begin_at moment) (record { up = record { is_run = refl; is_up = refl }; before_end = refl; none_on_way = refl; played = asked_once }) refl)
+    let r1 : Reaches site (cleared b) (logged_in_at moment b) = Later (cleared b) (logged_in_at moment b) AtOnce (Reads here (login_at moment) false (record { up = record { is_run = refl; is_up = refl }; before_end = refl; none_on_way = refl; played = asked_once }) refl) in
+    Later (logged_in_at moment b) (begun_at moment b) r1 (Reads here (begin_at moment) false (record { up = record { is_run = refl; is_up = refl }; before_end = refl; none_on_way = refl; played = asked_once }) refl)
 
 moment_then : IsMoment afterwards
 moment_then = record { from = omega arith; to = omega arith }
@@ -491,12 +492,12 @@ moment_now = record { from = omega arith; to = omega arith }
 
 to_granted_later : (b : Book) → 1 ≤ b.default → Reaches site (cleared b) (granted_at afterwards b)
 to_granted_later b le =
-    let asked : Reaches site (cleared b) (asked_at afterwards b) = Later (begun_at afterwards b) (asked_at afterwards b) (to_begun_at afterwards b) (Reads here (recipient_at afterwards) (record { up = record { is_run = refl; is_up = refl }; before_end = refl; none_on_way = refl; played = asked_once }) refl) in
+    let asked : Reaches site (cleared b) (asked_at afterwards b) = Later (begun_at afterwards b) (asked_at afterwards b) (to_begun_at afterwards b) (Reads here (recipient_at afterwards) false (record { up = record { is_run = refl; is_up = refl }; before_end = refl; none_on_way = refl; played = asked_once }) refl) in
     sent_on afterwards b moment_then le (Later (asked_at afterwards b) (sent_at afterwards b) asked (Sends here (request_at afterwards) (record { is_run = refl; is_up = refl }) refl refl))
 
 to_granted_again : (b : Book) → 1 ≤ b.default → Reaches site (cleared b) (granted_at noon b)
 to_granted_again b le =
-    let asked : Reaches site (cleared b) (asked_at noon b) = Later (begun_at noon b) (asked_at noon b) (to_begun_at noon b) (Reads here (recipient_at noon) (record { up = record { is_run = refl; is_up = refl }; before_end = refl; none_on_way = refl; played = asked_once }) refl) in
+    let asked : Reaches site (cleared b) (asked_at noon b) = Later (begun_at noon b) (asked_at noon b) (to_begun_at noon b) (Reads here (recipient_at noon) false (record { up = record { is_run = refl; is_up = refl }; before_end = refl; none_on_way = refl; played = asked_once }) refl) in
     sent_on noon b moment_now le (Later (asked_at noon b) (sent_at noon b) asked (Sends here (request_at noon) (record { is_run = refl; is_up = refl }) refl refl))
 
 to_taken_later : (b : Book) → 1 ≤ b.default → Reaches site (cleared b) (taken_later b)
@@ -597,6 +598,72 @@ passes_limit b legal one =
       passes = (let a = together_twice b in let c = cap_again b in omega (arith, a, c, one));
     })
 
+-- ---- the run holds back at the commit, and sends the closing at the end of its input
+
+abbrev pub settled_reply : Reply
+settled_reply = Settled (id_of here 2) 1
+
+abbrev pub settles : Exchange
+settles = brought closing settled_reply (Some settled_reply)
+
+abbrev pub held_back : Book → World
+held_back b = with_run (granted b) here (after_line true commit_line ((granted b).runs here))
+
+abbrev pub at_end : Book → World
+at_end b = with_run (held_back b) here (after_end ((held_back b).runs here))
+
+abbrev pub sent_at_end : Book → World
+sent_at_end b = with_sent (with_run (at_end b) here (with_on_way (Some closing) ((at_end b).runs here))) (request_frame closing)
+
+abbrev pub taken_at_end : Book → World
+taken_at_end b = after_arrival (sent_at_end b) closing
+
+abbrev pub settled_at_end : Book → World
+settled_at_end b = ends (taken_at_end b) here settles
+
+-- a quiet step sends nothing, and its closing waits
+closed_quietly : IsPlayed here 3 (step (Close 1 ending.Commit) true [] ∷ step (Ask 1 noon (codes "u")) false (answered ∷ lost ∷ []) ∷ [])
+closed_quietly = ((closing ∷ [], SendsUpTo closing [] [] [] NoneYet (tt, refl)), asked_once)
+
+settled_then : (b : Book) → 1 ≤ b.default → reply_from (sent_at_end b).ledger closing ≡ settled_reply
+unfolding floor
+settled_then b le = subst (λ x. ledger_reply (day_of b.zone) b.default (record { request = request here; reply = x } ∷ []) closing ≡ settled_reply) (sym (first_reply b le)) refl
+
+to_at_end : (b : Book) → 1 ≤ b.default → Reaches site (start b) (at_end b)
+to_at_end b le =
+    let read : Reaches site (start b) (held_back b) = Later (granted b) (held_back b) (to_granted b le) (Reads here commit_line true (record { up = record { is_run = refl; is_up = refl }; before_end = refl; none_on_way = refl; played = asked_once }) refl) in
+    Later (held_back b) (at_end b) read (ReadsEnd here (record { up = record { is_run = refl; is_up = refl }; before_end = refl; none_on_way = refl; played = closed_quietly }))
+
+to_settled_at_end : (b : Book) → 1 ≤ b.default → Reaches site (at_end b) (settled_at_end b)
+to_settled_at_end b le =
+    let sent : Reaches site (at_end b) (sent_at_end b) = Later (at_end b) (sent_at_end b) AtOnce (Sends here closing (record { is_run = refl; is_up = refl }) refl refl) in
+    let taken : Reaches site (at_end b) (taken_at_end b) = Later (sent_at_end b) (taken_at_end b) sent (Takes 0 (request_body closing) closing refl (record { bytes = refl; in_range = closing_range })) in
+    Later (taken_at_end b) (settled_at_end b) taken (Ends here settles (record { is_run = refl; is_up = refl }) refl
+    (inr (inr (0, ap (λ x. Some (frame (reply_body x))) (settled_then b le))))
+    (record { bytes = refl; in_range = (second_range, record { from = omega arith; to = omega arith }) }, refl))
+
+settled_all : (b : Book) → 1 ≤ b.default → settled_in (settled_at_end b).ledger.history (record { host = codes "a"; run = 1; txn = 1 }) ≡ 1
+unfolding floor
+settled_all b le =
+    subst (λ x. settled_in (record { request = request here; reply = reply_from (unused b) (request here) } ∷ record { request = closing; reply = x } ∷ []) (record { host = codes "a"; run = 1; txn = 1 }) ≡ 1) (sym (settled_then b le))
+    (subst (λ x. settled_in (record { request = request here; reply = x } ∷ record { request = closing; reply = settled_reply } ∷ []) (record { host = codes "a"; run = 1; txn = 1 }) ≡ 1) (sym (first_reply b le)) refl)
+
+holds_back : (b : Book) → IsLegalBook (unused b) → 1 ≤ b.default → IsReachable b WasHeldBack
+holds_back b legal le = reachable b legal WasHeldBack (settled_at_end b) (joined (start b) (at_end b) (settled_at_end b) (to_at_end b le) (to_settled_at_end b le)) (record {
+  transaction = record { host = codes "a"; run = 1; txn = 1 };
+  is_run = refl;
+  closing = closing;
+  before = at_end b;
+  reached = to_at_end b le;
+  is_at_end = refl;
+  unsent = refl;
+  waits = refl;
+  later = to_settled_at_end b le;
+  none_waits = refl;
+  settled = settled_all b le;
+  is_one = refl;
+})
+
 -- ---- the address moves to a second server while the run goes on
 
 abbrev pub moved : Book → Book → World
@@ -660,14 +727,14 @@ reply_two : (a b : Book) → 1 ≤ b.default → reply_from (sent_two a b).ledge
 unfolding floor
 reply_two a b le = subst (λ x. ledger_reply (day_of b.zone) b.default (record { request = request_more; reply = x } ∷ []) settle_two ≡ too_many) (sym (reply_more a b le)) refl
 
-asked_twice : IsPlayed here 3 (step (Ask 1 noon (codes "u")) (answered_more ∷ []) ∷ step (Ask 1 noon (codes "u")) (answered ∷ lost ∷ []) ∷ [])
+asked_twice : IsPlayed here 3 (step (Ask 1 noon (codes "u")) false (answered_more ∷ []) ∷ step (Ask 1 noon (codes "u")) false (answered ∷ lost ∷ []) ∷ [])
 asked_twice =
     let only : IsTry request_more answered_more (Some second_reply) = record { request_is = refl; decision = (record { bytes = refl; in_range = (second_range, record { from = omega arith; to = omega arith }) }, refl); decided_is = refl } in
     ((Some second_reply, (only, tt, omega arith)), asked_once)
 
 to_granted_more : (a b : Book) → 1 ≤ b.default → Reaches site (moved a b) (granted_more a b)
 to_granted_more a b le =
-    let asked : Reaches site (moved a b) (asked_more a b) = Later (moved a b) (asked_more a b) AtOnce (Reads here recipient_line (record { up = record { is_run = refl; is_up = refl }; before_end = refl; none_on_way = refl; played = asked_once }) refl) in
+    let asked : Reaches site (moved a b) (asked_more a b) = Later (moved a b) (asked_more a b) AtOnce (Reads here recipient_line false (record { up = record { is_run = refl; is_up = refl }; before_end = refl; none_on_way = refl; played = asked_once }) refl) in
     let sent : Reaches site (moved a b) (sent_more a b) = Later (asked_more a b) (sent_more a b) asked (Sends here request_more (record { is_run = refl; is_up = refl }) refl refl) in
     let taken : Reaches site (moved a b) (taken_more a b) = Later (sent_more a b) (taken_more a b) sent (Takes 0 (request_body request_more) request_more refl (record { bytes = refl; in_range = more_range })) in
     Later (taken_more a b) (granted_more a b) taken (Ends here answered_more (record { is_run = refl; is_up = refl }) refl
@@ -676,7 +743,7 @@ to_granted_more a b le =
 
 to_split : (a b : Book) → 1 ≤ b.default → Reaches site (moved a b) (split a b)
 to_split a b le =
-    let read : Reaches site (moved a b) (commits a b) = Later (granted_more a b) (commits a b) (to_granted_more a b le) (Reads here commit_line (record { up = record { is_run = refl; is_up = refl }; before_end = refl; none_on_way = refl; played = asked_twice }) refl) in
+    let read : Reaches site (moved a b) (commits a b) = Later (granted_more a b) (commits a b) (to_granted_more a b le) (Reads here commit_line false (record { up = record { is_run = refl; is_up = refl }; before_end = refl; none_on_way = refl; played = asked_twice }) refl) in
     let sent : Reaches site (moved a b) (sent_two a b) = Later (commits a b) (sent_two a b) read (Sends here settle_two (record { is_run = refl; is_up = refl }) refl refl) in
     let taken : Reaches site (moved a b) (taken_two a b) = Later (sent_two a b) (taken_two a b) sent (Takes 0 (request_body settle_two) settle_two refl (record { bytes = refl; in_range = two_range })) in
     Later (taken_two a b) (split a b) taken (Ends here refused_two (record { is_run = refl; is_up = refl }) refl
@@ -842,6 +909,7 @@ returns c = record {
   late = comes_late c.one_spelling.ensures.one_reply;
   stopped = stops;
   retired = retires_it c.one_spelling.ensures.one_request_frame;
+  held_back = holds_back;
   forgotten = goes_on_at c.day_is_the_floor.ensures;
   passed = passes_limit;
   granted_by_each = grants_by_each;
