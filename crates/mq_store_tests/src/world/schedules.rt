@@ -80,7 +80,7 @@ fn reserve<L: Ledger + Drop>(
         return Some(false);
     }
     match client.reserve(&Discard, link, open.txn, moment, login) {
-        Ok(asked) => Some(asked == Asked::Granted),
+        Ok(asking) => Some(asking.asked == Asked::Granted),
         Err(_) => None,
     }
 }
@@ -91,7 +91,10 @@ fn close<L: Ledger + Drop>(
     client: &mut Client,
     closing: Closing,
 ) -> Option<()> {
-    client.close(&Discard, link, closing).ok()
+    match client.close(&Discard, link, closing, false) {
+        Ok(_) => Some(()),
+        Err(_) => None,
+    }
 }
 
 /// Sends what waits. Without clauses, as `close`.
