@@ -34,7 +34,7 @@ class {name}:
         return "well"
 """
 FILES = {
-    "crates.txt": "low:\nhigh: low\nmailquota: low\n",
+    "crates.txt": "low:\nhigh: low\nmailquota: low\nmq_store_tests: low\n",
     "HANDLES": "Handles allowed: none.\n",
     "crates/low/src/lib.rt": SOURCE.format(name="low"),
     "crates/low/specs/Lib.antt": "is_one\n",
@@ -44,6 +44,8 @@ FILES = {
     "crates/high/must-fail/high.edit": "case: peers: one\n" + EDIT.format(name="high"),
     "crates/high/must-fail/witness.edit": EDIT.format(name="high_witness"),
     "crates/mailquota/src/main.rt": "main\n",
+    "crates/mq_store_tests/src/lib.rt": "test\n",
+    "scripts/tests.py": CASES.format(name="tests"),
     "contrib/smtpd.conf": "listen\n",
     "docs/GATE.md": "The gate.\n",
     "tests/program/run.py": CASES.format(name="cases"),
@@ -98,27 +100,28 @@ sys.exit(1 if wrong and wrong != [missed] else 0)
 '''}
 
 EDITS = ["high", "high_witness"]
-OTHERS = ["near the end", "cases", "cases"]
+OTHERS = ["near the end", "tests", "cases", "cases"]
 OWN = ["OwnTest", "KeepingTest"]
 ALL = ["low", *EDITS, *OTHERS, *OWN]
-OF_KIT = ["low", *EDITS, "near the end", *OWN]
+OF_KIT = ["low", *EDITS, "near the end", "tests", *OWN]
 # What is changed, the file, its old and its new text, and what is to be tried again.
 CHANGES = [
     ("a source", "crates/high/src/lib.rt", "pub fn high_w", "pub  fn high_w", EDITS),
-    ("a comment of a library", "crates/low/src/lib.rt", "", "// as it is\n", ["low", "near the end"]),
+    ("a comment of a library", "crates/low/src/lib.rt", "", "// as it is\n", ["low", "near the end", "tests"]),
     ("a library", "crates/low/src/lib.rt", "pub fn low_w", "pub  fn low_w", ["low", *EDITS, *OTHERS]),
     ("a spec", "crates/low/specs/Lib.antt", "is_one", "is_two", ["low", *EDITS, *OTHERS]),
     ("a proof", "crates/high/proofs/high.antt", "by one", "by two", EDITS),
     ("an edit", "crates/low/must-fail/low.edit", "{ 2 }", "{ 3 }", ["low"]),
     ("an edit's case", "crates/high/must-fail/high.edit", "peers: one", "peers: two", ["high"]),
-    ("a row of crates.txt", "crates.txt", "low:\n", "low: hex\n", ["low", "near the end"]),
-    ("the handles", "HANDLES", "none", "Net", ["low", *EDITS, "near the end"]),
+    ("a row of crates.txt", "crates.txt", "low:\n", "low: hex\n", ["low", "near the end", "tests"]),
+    ("the handles", "HANDLES", "none", "Net", ["low", *EDITS, "near the end", "tests"]),
     ("a script of the gate", "gate/source.py", "", "# as it is\n", ALL),
     ("a test of the gate", "gate/own_test.py", "", "# as it is\n", OWN),
     ("a script that it uses", "scripts/kit.py", "", "# as it is\n", ALL),
     ("a case", "tests/program/cases/peers.py", "peers", "peer", ["cases", "cases"]),
     ("what a case reads", "contrib/smtpd.conf", "listen", "accept", ["cases", "cases"]),
     ("a test near the end", "tests/near_the_end/low/low.rt.in", "near", "nearer", ["near the end"]),
+    ("a test in Rattle", "crates/mq_store_tests/src/lib.rt", "test", "tests", ["tests"]),
     ("the program", "crates/mailquota/src/main.rt", "main", "main()", ["cases", "cases"]),
     ("the kit's name", "kit/KIT-ID", "1", "2", OF_KIT),
     ("the prover", "kit/bin/rattle", "import os", "import  os", OF_KIT),
@@ -188,7 +191,7 @@ class KeepingTest:
     def tries(self, of, wanted, *words, **environment):
         """Looks whether the gate tries this alone, and counts all the same."""
         tried, said = self.gate(*words, **environment)
-        self.look(of, (tried, re.search(r"\d+ passed, \d+ failed\n\Z", said) and said.split("\n")[-2]), (sorted(wanted), "15 passed, 0 failed"), said)
+        self.look(of, (tried, re.search(r"\d+ passed, \d+ failed\n\Z", said) and said.split("\n")[-2]), (sorted(wanted), "17 passed, 0 failed"), said)
 
     def look(self, of, found, wanted, said=""):
         is_well = found == wanted
@@ -227,7 +230,7 @@ class KeepingTest:
         self.change("crates/low/must-fail/low.edit", "{ 3 }", "{ 4 }")
         for of in ("an edit that isn't refused", "an edit that isn't refused, once more"):
             tried, said = self.gate(MISSED="low")
-            self.look(of, ({*tried}, said.split("\n")[-2]), ({"low"}, "14 passed, 1 failed"), said)
+            self.look(of, ({*tried}, said.split("\n")[-2]), ({"low"}, "16 passed, 1 failed"), said)
         self.tries("an edit that is refused now", ["low"])
 
     def ended(self):

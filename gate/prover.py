@@ -157,6 +157,11 @@ class Crate:
                     shutil.copytree(f"{self.folder}/{part}", f"{room}/{part}")
             return run([RATTLE, "check", *self.words(), "--jobs", "1"], room, LONGEST)
 
+    def check_tests(self, modules):
+        """Checks these modules of a crate of tests."""
+        words = [RATTLE, "check", *self.words(), "--test", "--jobs", "1"]
+        return run(words + [word for it in modules for word in ("--only", it)], self.folder, LONGEST)
+
     def leave_open(self, function, room):
         """Has the function's proof rest on a hole."""
         place = f"{room}/proofs/{function.replace('::', '/')}"

@@ -48,9 +48,18 @@ MOST_OF_A_CHECK = 5e9
 SIGNALS = (signal.SIGTERM, signal.SIGINT, signal.SIGHUP)
 COUNTS = re.compile(r"(\d+) passed, (\d+) failed\Z")
 REFUSED = re.compile(r"rt: (\w+)(: its tests are)? NOT PROVED")
+# The last line of a check of some functions: how many they are, and how many are proved.
+ONLY = re.compile(r"only=(\d+) proved=(\d+)\Z")
 # What no case of tests/program reads: the cases run where there is none of it.
 READ_BY_NO_CASE = re.compile(r"crates/|crates\.txt\Z|HANDLES\Z|bench/|gate/.*\.py\Z|tests/(edits|near_the_end|prose|smtpd|refusals|takeover|bodies)/"
                              r"|docs/(?!INSTALL\.md\Z|OPERATING\.md\Z)|\.ci/|\.git(/|\Z|ignore\Z)|README\.md\Z|CONTRIBUTING\.md\Z")
+# The crates of tests, which are run without their proofs, and what of each is proved all the same: that there are sources, sinks, links, ledgers and
+# networks of which contracts say all that they carried, and that a caller may know nothing but the trait.
+TESTS = {
+    "mq_ends_tests": ["filter_end::client::devices", "filter_end::client::script", "server_end::ledger::callers::apply_all", "server_end::room::network",
+                      "server_end::server::devices"],
+    "mq_store_tests": [],
+}
 # So many lines of what rt ci says of a crate that it refuses are told again, and of the cases that failed.
 SAID = 12
 
@@ -211,7 +220,7 @@ def gate(names, sum_, takes):
     with tempfile.TemporaryDirectory(prefix="gate-") as room:
         tree, edits = f"{room}/tree", f"{room}/edits"
         os.makedirs(edits)
-        copy_tree(wanted, tree, edits)
+        copy_tree(wanted - {*TESTS}, tree, edits)
         for it in {*os.listdir(edits)} - {*rows}:
             sum_.fail(it, "it has must-fail edits, and is no crate of crates.txt")
         sums = Sums(tree)
@@ -232,6 +241,7 @@ def gate(names, sum_, takes):
         if "mailquota" in rows_of(tree):
             run_cases(tree, f"{room}/cases", kept, sum_)
         run_near_the_end(tree, sums, kept, sum_)
+        run_tests([it for it in TESTS if it in wanted], tree, kept, sum_)
     kept.shrink()
     whole = resource.getrusage(resource.RUSAGE_CHILDREN)
     print("\n".join(minutes.table(sum_.seconds, whole.ru_utime + whole.ru_stime)), flush=True)
@@ -281,6 +291,44 @@ def run_near_the_end(tree, sums, kept, sum_):
         read = [sums.of_crate(crate) for it in names for crate in (*below(it, sums.rows), it)]
         made = [sum_of("near the end", of_gate(), sys.version, names, read, sum_of_files(tree, ["tests/near_the_end"]))]
         taken_or_run("tests/near_the_end", made, [sys.executable, f"{place}/run.py", *names], tree, kept, sum_)
+
+
+def run_tests(names, tree, kept, sum_):
+    """Runs the tests of these crates, which are built without proofs, and proves the modules of them that are to be proved."""
+    for it in names:
+        shutil.copytree(f"{TOP}/crates/{it}", f"{tree}/crates/{it}", ignore=shutil.ignore_patterns("out", "must-fail"))
+    shutil.copy2(f"{TOP}/crates.txt", f"{tree}/crates.txt")
+    sums = Sums(tree)
+    for it in names:
+        made = [sum_of("tests", of_gate(), sys.version, it, [sums.of_crate(crate) for crate in (*below(it, sums.rows), it)], sum_of_files(tree, ["scripts"]))]
+        taken_or_run(it, made, [sys.executable, f"{tree}/scripts/tests.py", it], tree, kept, sum_)
+        prove_of_tests(Crate(tree, it), sums, kept, sum_)
+
+
+def prove_of_tests(crate, sums, kept, sum_):
+    """Proves the modules of a crate of tests that are to be proved, over the libraries that rt ci built."""
+    modules, name = TESTS[crate.name], f"{crate.name}, what is proved of it"
+    missing = [it for it in crate.below if not os.path.isdir(crate.rlib(it))]
+    if not modules:
+        return
+    if missing:
+        sum_.fail(name, f"its library {missing[0]} is not proved")
+        return
+    made = sums.names("proved of tests", crate.name, of_gate(), modules)
+    number = kept.take(made)
+    if number:
+        sum_.take(name, number)
+        return
+    ran = crate.check_tests(modules)
+    sum_.seconds[crate.name, "prove"] += ran.seconds
+    count = ONLY.match(ran.said.rstrip("\n").split("\n")[-1])
+    if ran.status == 0 and count and count[1] == count[2] != "0":
+        print(f"== {name}: {count[1]} functions, {ran.seconds:.0f} s", flush=True)
+        sum_.passed += int(count[1])
+        kept.keep(made, int(count[1]))
+    else:
+        print(*ran.said.split("\n")[-SAID:], sep="\n", flush=True)
+        sum_.fail(name, f"the check ended with status {ran.status}")
 
 
 def taken_or_run(name, made, words, folder, kept, sum_):

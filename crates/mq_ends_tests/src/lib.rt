@@ -1,8 +1,8 @@
 //! Tests of both ends of the link, without the tables: worked examples, what a real smtpd wrote, printed text, and what
 //! fails once, which no contract says.
 //!
-//! A test is proved like any other code. What it compares stands in tables, and what takes their rows has no clauses
-//! and ends the test where something is wrong, so that it is cheap to prove. From
+//! What a test compares stands in tables, and what takes their rows has no clauses and ends the test where something is
+//! wrong, so that it is cheap to prove. The gate runs the tests without their proofs. From
 //! `mq_ends_tests/src/server_end/serving.rt`:
 //!
 //!     let ended = run(
