@@ -31,7 +31,7 @@ GATE_GROUPS = [
     "oracles", "zones", "retiring", "stopping", "setting_up", "limits", "watching", "storms", "accepting", "contrib", "examples",
 ]
 # what these do to a server, its files and the machine takes longer, and some of it wants root
-OTHER_GROUPS = ["kills", "failures", "many_limits"]
+OTHER_GROUPS = ["kills", "failures", "many_limits", "memory_limits"]
 # these run only where they are named
 LONG_GROUPS = ["many_pages"]
 # texts that groups share

@@ -1,6 +1,7 @@
 pub mod Auditing
 pub mod Faults
 pub mod Making
+pub mod Memory
 pub mod Opened
 pub mod Forgetting
 pub mod Describing

@@ -16,6 +16,7 @@ mod fault;
 mod forgetting;
 mod listing;
 mod making;
+mod memory;
 mod probing;
 mod progress;
 mod refusal;

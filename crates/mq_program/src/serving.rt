@@ -13,6 +13,7 @@ ghost use Rattle.mq_program.specs.declared.fault.ProgramFault.TheVariants.{Serve
 ghost use Rattle.mq_process.specs.Settings.{AreInRange};
 
 use crate::fault::ProgramFault;
+use crate::memory::warn_of_memory;
 use crate::refusal::days_by;
 use crate::store::{ledger_of_settings, log_cause, memory_ledger};
 use log::sink::Console;
@@ -58,7 +59,8 @@ fn serve<S: Start>(
     let logged = Logged::new(rt, settings.log, Console(rt));
     match &settings.store {
         Place::Memory => listen_in_memory(rt, &logged, settings, connections),
-        Place::File(_) => {
+        Place::File(path) => {
+            warn_of_memory(rt, &logged, path.as_str());
             let Served { ledger: _, outcome } = listen_over_file(
                 rt,
                 &logged,
