@@ -13,9 +13,9 @@ PACE, AFTER_451, AFTER_FULL = 0.2, 0.5, 1.0
 class Sender(threading.Thread):
     """A session of a login at a mail host: messages of one to five recipients, of which some are reset, and some cut off."""
 
-    def __init__(self, address, login, seed):
+    def __init__(self, address, login, seed, pace=PACE):
         super().__init__(daemon=True)
-        self.address, self.login, self.dice = address, login, random.Random(seed)
+        self.address, self.login, self.dice, self.pace = address, login, random.Random(seed), pace
         self.is_over = False
         # when a recipient was sent and answered, and the answer's code
         self.answers = []
@@ -42,7 +42,7 @@ class Sender(threading.Thread):
         self.answered(smtp.mail("a@quota.test")[0], 250)
         granted = 0
         for number in range(self.dice.randint(1, 5)):
-            time.sleep(PACE)
+            time.sleep(self.pace)
             start = time.monotonic()
             code, _ = smtp.rcpt(f"r{number}@example.test")
             self.answers.append((start, time.monotonic(), code))
@@ -70,19 +70,27 @@ class Sender(threading.Thread):
 
 
 def outages(senders):
-    """Of the senders at one mail host whose logins have room: from the last recipient let through before a 451 to the next one, when it began and how long it was."""
-    found, last, since = [], None, None
+    """Of the senders at one mail host whose logins have room: when a first 451 came, and for how long nothing was let through, from the last recipient before it
+    to the next one."""
+    found, last, since, first = [], None, None, None
     for _, at, code in sorted((answer for sender in senders for answer in sender.answers), key=lambda answer: answer[1]):
-        if code == 451 and since is None:
-            since = last if last is not None else at
+        if code == 451 and first is None:
+            first, since = at, last if last is not None else at
         elif code == 250:
-            if since is not None:
-                found.append((since, at - since))
-            last, since = at, None
-    if since is not None:
-        found.append((since, float("inf")))
+            if first is not None:
+                found.append((first, at - since))
+            last, first = at, None
+    if first is not None:
+        found.append((first, float("inf")))
     return found
 
 
 def longest_wait(senders):
     return max(end - start for sender in senders for start, end, _ in sender.answers)
+
+
+def end_all(senders):
+    for sender in senders:
+        sender.is_over = True
+    for sender in senders:
+        sender.join(timeout=60)

@@ -15,12 +15,12 @@ import sys
 import time
 
 from machines import CONTRIB, PROGRAM, MailHost, QuotaServer, call, contrib, make_switch, wait_until
-from senders import Sender, longest_wait, outages
+from senders import Sender, end_all, longest_wait, outages
 
 # How long the first server answers before the address goes back to it: a minute in contrib.
 DELAY = 5
 # For how many seconds recipients may be answered 451, without `pause` in the filter's settings and with contrib's.
-LONGEST = {"kill": (5, 5), "cut": (5, 15), "forget": (2, 2), "restart": (3, 3), "return": (2, 2)}
+LONGEST = {"kill": (5, 5), "cut": (5, 15), "forget": (2, 2), "restart": (5, 5), "return": (2, 2)}
 FIRST_DEFAULT, SECOND_DEFAULT, OWN_LIMIT, WIDE = 1_000, 100, 300, 1_000_000
 # Logins with room, at both servers; with the defaults; and with a limit of its own at the first server alone.
 WITH_ROOM, WITH_DEFAULT, WITH_OWN = ["u01", "u02", "u03", "u04"], ["u05", "u06"], ["u07"]
@@ -90,10 +90,7 @@ class Scene:
             start = time.monotonic()
             event()
             print(f"    {number} of {len(order)}: {event.__name__}, {time.monotonic() - start:.0f} s", flush=True)
-        for sender in self.all_senders():
-            sender.is_over = True
-        for sender in self.all_senders():
-            sender.join(timeout=60)
+        end_all(self.all_senders())
 
     def all_senders(self):
         return [sender for senders in self.senders.values() for sender in senders]
@@ -168,7 +165,7 @@ def tell_outages(scene):
         found = outages([sender for sender in scene.senders[host] if sender.login in WITH_ROOM])
         for what, longest in LONGEST.items():
             windows = [(start, end) for it, start, end in scene.events if it == what]
-            lasted = [max([took for since, took in found if since < end and since + took > start], default=0) for start, end in windows]
+            lasted = [max([took for first, took in found if start <= first < end], default=0) for start, end in windows]
             if lasted:
                 came = f"{max(lasted):.1f} s at most, {statistics.median(lasted):.1f} s in the middle, of {len(lasted)}"
                 has_pause = place == 0 and "\npause" in (CONTRIB / "filter.toml").read_text()
