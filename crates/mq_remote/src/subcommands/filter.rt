@@ -42,8 +42,9 @@ pub fn filter<R: Files + Clock + Net + Input + Print + Eprint + AllocGlobal, E: 
 
 /// Whether there is a pause, and one that is over before the tries of one request may be.
 fn is_short(settings: &FilterSettings) -> bool {
-    let pause = 1_000 * u64::from(settings.pause);
-    0 < pause && pause < u64::from(settings.tries) * u64::from(settings.timeout)
+    let pause = u64::from(settings.pause) * 1_000;
+    let tries = u64::from(settings.tries);
+    0 < pause && pause < tries.saturating_mul(u64::from(settings.timeout))
 }
 
 /// Prints for how long the filter holds back, where it does, and warns of a pause that is too short.
