@@ -100,7 +100,7 @@ def closings(world, checks):
     output, heard, log, _ = scripted(world, text, [GRANTED, SILENCE, numbered(SETTLED, 3)], tries=1, timeout=300, pause=30)
     checks.equal("a commit in a pause: the lines", output, answer(PROCEED) + answer(SERVICE, session=BOB))
     checks.equal("a commit in a pause: how many frames, the kind of the last", (len(heard), heard[-1][2]), (3, 2))
-    output, heard, log, _ = scripted(world, INPUT + COMMIT + bob + at(of_session(RCPT, BOB), 1_576_146_011), [GRANTED, SILENCE, SETTLED], tries=1, timeout=300, pause=30)
+    output, heard, log, _ = scripted(world, INPUT + bob + COMMIT + at(of_session(RCPT, BOB), 1_576_146_011), [GRANTED, SILENCE, SETTLED], tries=1, timeout=300, pause=30)
     checks.equal("a commit without an answer in time: the lines", output, answer(PROCEED) + answer(SERVICE, session=BOB))
     checks.equal("a commit without an answer in time: the frames", [it[2] for it in heard], [1, 2, 2])
 
@@ -109,7 +109,7 @@ def full_logins(world, checks):
     """A login whose limit is reached is asked for once in so many seconds."""
     first = 1_576_146_010
     bob = of_session(AUTH.replace(b"alice", b"bob") + BEGIN, BOB)
-    text = INPUT + bob + RCPT * 4 + of_session(RCPT, BOB) + at(RCPT, first + 4) + at(RCPT, first + 5) + at(RCPT, first + 9)
+    text = CONFIG + AUTH + BEGIN + bob + RCPT * 5 + of_session(RCPT, BOB) + at(RCPT, first + 4) + at(RCPT, first + 5) + at(RCPT, first + 9)
     second = granted(2, 1, **MX1)
     output, heard, log, _ = scripted(world, text, [FULL, second, numbered(FULL, 3)], hold=5)
     wanted = answer(LIMIT) * 5 + answer(PROCEED, session=BOB) + answer(LIMIT) * 3
@@ -132,4 +132,4 @@ def what_check_says(world, checks):
             file = world.filter_file(address, timeout=2_000, **settings)
             status, output, errors = world.run("filter", "--config", file, "--check")
         checks.equal(f"filter --check, {what}: the status and the lines", (status, output.decode()), (1, "settings are right\n" + told))
-        checks.holds(f"filter --check, {what}: the warning", errors.endswith(warned) and errors.count("hardly helps") == (1 if warned else 0), warned or "none", errors)
+        checks.holds(f"filter --check, {what}: the warning", errors.endswith(warned) and errors.count("hardly helps") == (1 if warned else 0), warned.strip() or "none", errors)
