@@ -39,8 +39,10 @@ from edit import BadEdit, Edit, edits_in
 PROGRAM, TESTS = "mailquota", ("mq_ends_tests", "mq_store_tests")
 # So many seconds a run has: one that waits for what doesn't come takes minutes.
 LONGEST = 10 * 60
-# What a run comes to that doesn't end, or ends in an exception.
+# What a run has come to that ends in an exception, or not at all.
 END = "it comes to its end"
+# A line that says what a case or a test came to.
+CASE, TEST = re.compile(r"(ok  |NOT )(.*)\n?"), re.compile(r"test (?=.* \.\.\. (\w+))(\S+) \.\.\. .*\n?")
 # The crate that says which body runs.
 SWITCH = "planted"
 SWITCH_TEXT = """//! Which planted body runs.
@@ -198,7 +200,7 @@ def built(target, planted):
                 return kept
             with contextlib.suppress(FileNotFoundError):
                 os.remove(f"{kept}.sum")
-            said = unproved.build(target, root, kept, [switch])
+            said = unproved.build(target, root, kept, [switch], optimizes=True)
         if said is None:
             write(f"{kept}.sum", total)
             return kept
@@ -220,7 +222,7 @@ def built_alone(target, body, root):
     copy_sources(root)
     for path, old, new in body.pairs:
         write(f"{root}/crates/{body.crate}/{path}", text_of(f"{root}/crates/{body.crate}/{path}").replace(old, new))
-    body.why = unproved.build(target, root, f"{root}/{target}")
+    body.why = unproved.build(target, root, f"{root}/{target}", optimizes=True)
     return f"{root}/{target}"
 
 
@@ -234,9 +236,12 @@ def end(process):
         os.killpg(process.pid, signal.SIGKILL)
 
 
-def outcomes(words, number, is_enough=lambda failed: False):
-    """What the cases or tests of a run came to with the body of this number, passed or failed, until those that failed are enough."""
-    passed, failed, late = [], [], threading.Event()
+Outcome = collections.namedtuple("Outcome", "name is_good function")
+
+
+def outcomes(words, number, is_enough=lambda found: False):
+    """What the cases or tests of a run come to with the body of this number, each with the function of its group, until they are enough."""
+    found, function, late = [], None, threading.Event()
     environment = {**os.environ, "PLANTED": str(number), "PYTHONUNBUFFERED": "1"}
     with subprocess.Popen(words, env=environment, stdin=subprocess.DEVNULL, stdout=subprocess.PIPE, stderr=subprocess.STDOUT, text=True,
                           errors="replace", start_new_session=True) as process:
@@ -244,46 +249,47 @@ def outcomes(words, number, is_enough=lambda failed: False):
         timer.start()
         try:
             for line in process.stdout:
-                is_good, name = outcome(line.rstrip("\n"))
-                if name:
-                    (passed if is_good else failed).append(name)
-                    if not is_good and is_enough(failed):
+                begun, told = re.fullmatch(r"-- \w+: (\w+)\n", line), CASE.fullmatch(line) or TEST.fullmatch(line)
+                function = begun[1] if begun else function
+                if told:
+                    name = END if f": {END}: " in line else told[2].rpartition("::")[2] if line.startswith("test ") else told[2]
+                    found.append(Outcome(name, told[1] in ("ok  ", "ok"), function))
+                    if is_enough(found):
                         break
         finally:
             timer.cancel()
             end(process)
-    return passed, failed + [END] * late.is_set()
+    return found + [Outcome(END, False, None)] * late.is_set()
 
 
-def outcome(line):
-    """Whether the case or test of a line passed, and its name, which is empty where the line has none."""
-    if line.startswith(("ok  ", "NOT ")):
-        name = line[4:]
-        return line.startswith("ok"), END if f": {END}: " in name else name
-    test = re.fullmatch(r"test (\S+) \.\.\. (\w+).*", line)
-    return (test[2] == "ok", test[1].rpartition("::")[2]) if test else (False, "")
-
-
-def words_of(group, program, name=None):
-    """The words that run a group of cases, or a crate's tests with a name."""
+def words_of(group, program, name, function=None):
+    """The words that run a group of cases, or of it one function, or a crate's tests with a name."""
     if target_of(group) == PROGRAM:
-        return [sys.executable, f"{TOP}/tests/program/run.py", "--group", group, program]
-    return [f"{KIT}/bin/rattle-test", "--seconds", str(LONGEST), *(["--filter", name] if name else []), program]
+        return [sys.executable, f"{TOP}/tests/program/run.py", "--group", group, program, *([function] if function else [])]
+    return [f"{KIT}/bin/rattle-test", "--seconds", str(LONGEST), "--filter", name, program]
+
+
+def is_failing(name, found):
+    """Whether a case fails of this name, or the run ends before it."""
+    named = [it.is_good for it in found if it.name.startswith(name)]
+    return not all(named) or not named and any(it.name == END for it in found)
 
 
 def unseen(body, programs, without):
     """Of what is to fail over a body, what doesn't."""
-    found = []
+    missed = []
     for group, name in body.cases:
-        good, bad = without[group, name]
-        if bad or not good and name != END:
-            found.append(f"{group}: {name} (without the body: {'it fails' if bad else 'there is no such case'})")
+        named = [it for it in without[group, name].result() if it.name.startswith(name)]
+        if not named or not all(it.is_good for it in named):
+            missed.append(f"{group}: {name} (without the body {'it fails' if named else 'there is no such case'})")
             continue
-        begins = lambda failed: any(it.startswith(name) for it in failed)
-        failed = outcomes(words_of(group, programs[target_of(group)], name), body.number, begins)[1]
-        if not begins(failed):
-            found.append(f"{group}: {name}" + (f" (others fail: {'; '.join(it[:100] for it in failed[:3])})" if failed else ""))
-    return found
+        functions = {it.function for it in named}
+        words = words_of(group, programs[target_of(group)], name, functions.pop() if len(functions) == 1 else None)
+        found = outcomes(words, body.number, lambda found: is_failing(name, found))
+        if not is_failing(name, found):
+            others = [it.name[:100] for it in found if not it.is_good][:3]
+            missed.append(f"{group}: {name}" + f" (others fail: {'; '.join(others)})" * bool(others))
+    return missed
 
 
 def tell(body, missed):
@@ -309,15 +315,11 @@ def tried_alone(body, without):
         return unseen(body, programs, without)
 
 
-def results_without(bodies, programs, pool):
-    """Of each case that is to fail, how many so named pass, and how many fail, without a body."""
-    wanted = {(group, name if target_of(group) != PROGRAM else None) for body in bodies for group, name in body.cases}
-    runs = {it: pool.submit(outcomes, words_of(it[0], programs[target_of(it[0])], it[1]), 0) for it in wanted}
-    found = {}
-    for group, name in {it for body in bodies for it in body.cases}:
-        passed, failed = runs[group, name if target_of(group) != PROGRAM else None].result()
-        found[group, name] = [sum(it.startswith(name) for it in its) for its in (passed, failed)]
-    return found
+def runs_without(bodies, programs, pool):
+    """Of each case that is to fail the run of its group, or of its tests, without a body."""
+    wanted = {it: (it[0], it[1] if target_of(it[0]) != PROGRAM else None) for body in bodies for it in body.cases}
+    runs = {it: pool.submit(outcomes, words_of(it[0], programs[target_of(it[0])], it[1]), 0) for it in dict.fromkeys(wanted.values())}
+    return {case: runs[it] for case, it in wanted.items()}
 
 
 def main(words):
@@ -331,9 +333,9 @@ def main(words):
         targets = sorted({it for body in asked for it in body.targets()})
         # (all stand in the builds, so that these serve the next run too)
         shared = [it for it in everything if it.functions is not None]
-        building = {it: pool.submit(built, it, [body for body in shared if it in body.targets()]) for it in targets}
+        building = {it: pool.submit(built, it, shared) for it in targets}
         programs = {target: it.result() for target, it in building.items()}
-        without = results_without(asked, programs, pool)
+        without = runs_without(asked, programs, pool)
         running = []
         for body in asked:
             if body.why:

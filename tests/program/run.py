@@ -3,10 +3,12 @@
 
 usage: run.py PROGRAM [WORD..]     with words: the groups of cases whose names have one of them
        run.py --gate PROGRAM       the groups that the gate runs
+       run.py --group GROUP PROGRAM [FUNCTION]     one group in this process, or what one function of it has of it
 
 Groups run side by side, each in a process of its own. The last line is 'N passed, M failed', and the status 1 where any failed.
 """
 import importlib
+import inspect
 import os
 import re
 import signal
@@ -52,7 +54,7 @@ def main():
         print(__doc__, end="", file=sys.stderr)
         return 2
     if words[0] == "--group":
-        return run_group(words[1], words[2])
+        return run_group(*words[1:])
     if words[0] == "--gate":
         return run_groups(words[1], GATE_GROUPS)
     return run_groups(words[0], groups_of(words[1:]))
@@ -115,14 +117,40 @@ def told_by(group, program, running):
     return told.decode(errors="replace"), process.returncode
 
 
-def run_group(group, program):
+def watched(group, only):
+    """The group, whose functions say that they begin where `run` calls them; all but one do nothing, where that is named."""
+    module, inside = importlib.import_module(f"cases.{group}"), []
+
+    def watch(name, function):
+        def call(*words, **named):
+            if inside:
+                return function(*words, **named)
+            if only and name != only:
+                return None
+            print(f"-- {group}: {name}", flush=True)
+            inside.append(name)
+            try:
+                return function(*words, **named)
+            finally:
+                inside.pop()
+
+        return call
+
+    for name, function in list(vars(module).items()):
+        if inspect.isfunction(function) and function.__module__ == module.__name__ and list(inspect.signature(function).parameters)[:2] == ["world", "checks"]:
+            if name != "run":
+                setattr(module, name, watch(name, function))
+    return module
+
+
+def run_group(group, program, only=None):
     """Runs the cases of a group. The program is called by its name, which it shows in its help."""
     print(f"-- {group}", flush=True)
     checks, start = Checks(), time.monotonic()
     with tempfile.TemporaryDirectory() as folder:
         os.symlink(os.path.abspath(program), f"{folder}/mailquota")
         try:
-            importlib.import_module(f"cases.{group}").run(World(f"{folder}/mailquota", folder), checks)
+            watched(group, only).run(World(f"{folder}/mailquota", folder), checks)
         except Exception:
             checks.tell(f"{group}: it comes to its end", False, "no exception", traceback.format_exc())
             traceback.print_exc()

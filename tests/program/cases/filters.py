@@ -298,6 +298,7 @@ def without_a_question(world, checks):
         ("a transaction that ended", CONFIG + AUTH + BEGIN + RESET_LINE + RCPT, SERVICE),
         ("a transaction before the first day", CONFIG + AUTH + BEGIN.replace(b"1576146009", b"0000086399") + RCPT, SERVICE),
         ("a transaction after the year 3000", CONFIG + AUTH + BEGIN.replace(b"1576146009", b"32503680001") + RCPT, SERVICE),
+        ("a config line once it is ready", CONFIG + b"config|subsystem|smtp-in\n" + BEGIN + RCPT, PROCEED),
         ("another phase", INPUT.replace(b"rcpt-to", b"mail-from"), PROCEED),
         ("another subsystem", INPUT.replace(b"filter|0.7|1576146010.006099|smtp-in", b"filter|0.7|1576146010.006099|smtp-out"), PROCEED),
         ("a session that went", CONFIG + AUTH + BEGIN + b"report|0.7|1576146009.1|smtp-in|link-disconnect|7641df9771b4ed00\n" + RCPT, PROCEED),
