@@ -100,6 +100,8 @@ def closings(world, checks):
     output, heard, log, _ = scripted(world, text, [GRANTED, SILENCE, numbered(SETTLED, 3)], tries=1, timeout=300, pause=30)
     checks.equal("a commit in a pause: the lines", output, answer(PROCEED) + answer(SERVICE, session=BOB))
     checks.equal("a commit in a pause: how many frames, the kind of the last", (len(heard), heard[-1][2]), (3, 2))
+    output, heard, log, _ = scripted(world, text, [GRANTED, SILENCE, b"", b""], tries=1, timeout=300, pause=30)
+    checks.equal("a commit in a pause is sent at the end alone: the kinds of the frames", [it[2] for it in heard], [1, 1, 2])
     output, heard, log, _ = scripted(world, INPUT + bob + COMMIT + at(of_session(RCPT, BOB), 1_576_146_011), [GRANTED, SILENCE, SETTLED], tries=1, timeout=300, pause=30)
     checks.equal("a commit without an answer in time: the lines", output, answer(PROCEED) + answer(SERVICE, session=BOB))
     checks.equal("a commit without an answer in time: the frames", [it[2] for it in heard], [1, 2, 2])
