@@ -56,10 +56,10 @@ smtpd:
 	@test -x $(PROGRAM) || { echo "run 'make build' first" >&2; exit 1; }
 	@bash tests/smtpd/run.sh $(PROGRAM)
 
-# Two quota servers and two mail hosts in namespaces, with real smtpds and keepalived: wants what smtpd wants, and takes twenty minutes.
+# Two quota servers and two mail hosts in namespaces, with real smtpds and keepalived: wants what smtpd wants; ROUNDS=N of each event.
 takeover:
 	@test -x $(PROGRAM) || { echo "run 'make build' first" >&2; exit 1; }
-	@bash tests/takeover/run.sh $(PROGRAM)
+	@bash tests/takeover/run.sh $(PROGRAM) $(ROUNDS)
 
 install:
 	@test -x $(PROGRAM) || { echo "run 'make build' first" >&2; exit 1; }
