@@ -9,6 +9,7 @@ import sys
 import threading
 import time
 
+import storms
 from host import PROGRAM, ROOT, command, log_of, session, session_at, start_server, start_smtpd, stop
 
 ROWS = []
@@ -302,6 +303,11 @@ def a_restart_retires(smtpd, address, host):
     return smtpd
 
 
+def in_a_storm():
+    for row in storms.rows(day()):
+        note(*row)
+
+
 def over(store):
     """All cases over one kind of store, which is new."""
     settings = f"/etc/mailquota/server-{store}.toml"
@@ -338,6 +344,7 @@ def main():
         ("over a ledger in memory", lambda: over("memory")),
         ("over a ledger in a file", lambda: over("file")),
         ("with the files of contrib", as_in_contrib),
+        ("in a storm, with the files of contrib", in_a_storm),
     ]:
         part()
         print(f"-- {title}")
