@@ -140,7 +140,7 @@ def play(day, frame):
     day.start()
     shown("it is started again, with the same counts", "\n" + day.ask("report", "--day", today), "\n" + lines)
     shown("mx2, bob to the same recipient", two.recipient("b1", "r2@example.net"), PROCEED)
-    shown("bob's password is stolen", day.ask("stop", *order, "bob", "--day", today), f"stopped: bob used 2 on day {today}")
+    shown("bob's password is stolen", day.ask("stop", *order, "bob", "--day", today), f"stopped: bob used 2 on day {today}\nlimit before: 1000")
     shown("mx2, bob to one more, in the same message", two.recipient("b1", "r3@example.net"), LIMIT)
     shown("both filters end, with status", " ".join(str(it.end()) for it in day.filters), "0 0")
     with open(frame, encoding="ascii") as file:

@@ -5,7 +5,7 @@ ghost use Rattle.mailquota.specs.Refusals.{Refuses};
 use mq_arguments::Arguments;
 use mq_process::{day, end_process};
 use mq_program::{audit, end_program, forget, init, limits, replay, server, status};
-use mq_remote::{end_filter, filter, limit, report, resume, retire, stop};
+use mq_remote::{end_filter, filter, limit, probe_servers, report, resume, retire, stop};
 use sqlite::Start;
 use std::io;
 use std::io::Write;
@@ -32,6 +32,7 @@ pub fn run_subcommand<E: Write, S: Start, N: Start>(
         }
         Arguments::Filter(given) => end_filter(filter(rt, given, errors), errors),
         Arguments::Status(given) => end_program(status(rt, given, start, errors), errors),
+        Arguments::Probe(given) => end_process(probe_servers(rt, given, errors), errors),
         Arguments::Server(given) => end_program(server(rt, given, start), errors),
         Arguments::Limit(given) => end_process(limit(rt, given, errors), errors),
         Arguments::Stop(given) => end_process(stop(rt, given, errors), errors),

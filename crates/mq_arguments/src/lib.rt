@@ -6,9 +6,13 @@
 //!     let settings = server_settings(rt, given.config)?;
 //!     serve(rt, &settings, given.create, given.connections, start)
 //!
-//! It stands on `mq_request`, for the ranges of a request's numbers, and knows nothing else. It is this one file;
+//! It stands on `mq_request`, for the ranges of a request's numbers, and knows nothing else. Begin with this file;
 //! `specs/Arguments.antt` has the ranges that `mq_words` proves.
 #![tactic(auto)]
+
+mod servers;
+
+pub use servers::Servers;
 
 /// What `replay` is given.
 #[derive(Clone, Copy, Debug, PartialEq)]
@@ -63,6 +67,13 @@ pub enum ServerArgument<'a> {
     Config(&'a str),
 }
 
+/// What `status` is given where it asks servers by their addresses.
+#[derive(Debug, Drop)]
+pub struct ProbeArguments<'a> {
+    /// The servers that are asked.
+    pub servers: Servers<'a>,
+}
+
 /// What `status` is given.
 #[derive(Clone, Copy, Debug, PartialEq)]
 pub struct StatusArguments<'a> {
@@ -105,10 +116,10 @@ pub enum LoginArgument<'a> {
 }
 
 /// What `limit` is given.
-#[derive(Clone, Copy, Debug, PartialEq)]
+#[derive(Debug, Drop)]
 pub struct LimitArguments<'a> {
-    /// The server's numeric address and port.
-    pub server: &'a str,
+    /// The servers that are asked.
+    pub servers: Servers<'a>,
     /// The name under which the limit is asked for, as a host.
     pub host: &'a str,
     /// The login whose limit is set.
@@ -122,31 +133,35 @@ pub struct LimitArguments<'a> {
 }
 
 /// What `stop` is given.
-#[derive(Clone, Copy, Debug, PartialEq)]
+#[derive(Debug, Drop)]
 pub struct StopArguments<'a> {
-    /// The server's numeric address and port.
-    pub server: &'a str,
+    /// The servers that are asked.
+    pub servers: Servers<'a>,
     /// The name under which the limits are asked for, as a host.
     pub host: &'a str,
     /// The login that is stopped.
     pub login: LoginArgument<'a>,
-    /// The day number from which on the login has nothing more, 0 to 376,199.
-    pub day: u32,
+    /// The day number from which on the login has nothing more, 0 to 376,199, or that of today.
+    pub day: Option<u32>,
+    /// The file of the server's settings, by whose zone today is told.
+    pub config: Option<&'a str>,
+    /// Whether it is stopped also on a day that isn't today, or where it sent nothing lately.
+    pub is_forced: bool,
 }
 
 /// What `resume` is given.
-#[derive(Clone, Copy, Debug, PartialEq)]
+#[derive(Debug, Drop)]
 pub struct ResumeArguments<'a> {
-    /// The server's numeric address and port.
-    pub server: &'a str,
+    /// The servers that are asked.
+    pub servers: Servers<'a>,
     /// The name under which the limits are asked for, as a host.
     pub host: &'a str,
     /// The login that has more again.
     pub login: LoginArgument<'a>,
     /// The day number from which on the login has more again, 0 to 376,199.
     pub day: u32,
-    /// How many recipients more it has on that day, and on each later day, 0 to 1,000,000.
-    pub cap: u32,
+    /// How many recipients more it has on that day, and on each later day, 0 to 1,000,000, or the limit that it had.
+    pub cap: Option<u32>,
 }
 
 /// What `day` is given.
@@ -170,10 +185,10 @@ pub struct RetireArguments<'a> {
 }
 
 /// What `report` is given.
-#[derive(Clone, Copy, Debug, PartialEq)]
+#[derive(Debug, Drop)]
 pub struct ReportArguments<'a> {
-    /// The server's numeric address and port.
-    pub server: &'a str,
+    /// The servers that are asked.
+    pub servers: Servers<'a>,
     /// The day number that is reported, 0 to 376,200.
     pub day: u32,
     /// The one login that is reported, or all.
@@ -181,10 +196,11 @@ pub struct ReportArguments<'a> {
 }
 
 /// What the words ask for.
-#[derive(Clone, Copy, Debug, PartialEq)]
+#[derive(Debug, Drop)]
 pub enum Arguments<'a> {
     Init(InitArguments<'a>),
     Status(StatusArguments<'a>),
+    Probe(ProbeArguments<'a>),
     Replay(ReplayArguments<'a>),
     Filter(FilterArguments<'a>),
     Server(ServerArguments<'a>),

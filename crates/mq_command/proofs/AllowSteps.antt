@@ -2,11 +2,13 @@
 use Rattle.std.proofs.Common.{◌≡◌, ◌+◌, ◌*◌, ℕ, suc, List, [], Option, None, Some, Result, Ok, Err, min, refl, sym, ap, subst, inr, ◌∙◌, append-nil, arith}
 use Rattle.std.specs.Prelude.{IfOk, MatchResult}
 use Rattle.std.specs.Io.KnownBytes.{Appends, Keeps}
-use Rattle.mq_command.specs.Allowing.{Allows, AsksUsed, SetsBoth, room}
+use Rattle.mq_command.specs.Allowing.{SetsBoth, room}
 use Rattle.mq_command.specs.Orders.{PrintsLine}
-use Rattle.mq_command.specs.declared.allow.DayUsage.{DayUsage}
+use Rattle.mq_command.specs.Stopping.{GivesLimit, at_least}
+use Rattle.mq_command.specs.Usage.{AsksUsed}
 use Rattle.mq_command.specs.declared.allow.Setter.{Setter}
 use Rattle.mq_command.specs.declared.order.OrderFault.{OrderFault}
+use Rattle.mq_command.specs.declared.usage.DayUsage.{DayUsage}
 use Rattle.mq_link.specs.declared.link.Told.{Told}
 
 pub room_more : (refused grown : ℕ) → grown ≡ room refused → min (grown * 2 + 8) 1000000 ≡ room (refused + 1)
@@ -26,7 +28,10 @@ line_told bytes_of (Ok line) text old new status is printed = subst (λ t. Print
 line_told bytes_of (Err error) text old new status is (same, kept) = inr (same, ([], text, refl, nothing_more old new kept))
 
 -- what is used was answered, and then both limits were sent
-pub both_sent : (setter : Setter) (day : ℕ) (most : ℕ → ℕ) (more : ℕ) (usage : DayUsage) (old asked new : Option (List Told)) (ended : Result ℕ OrderFault)
-    → AsksUsed setter.login day old asked (Ok usage) → SetsBoth setter day (most usage.cap) more usage.used asked new ended → Allows setter day most more old new ended
-both_sent setter day most more usage old asked new (Ok cap) answered sent = (usage, asked, answered, sent)
-both_sent setter day most more usage old asked new (Err fault) answered sent = inr (usage, asked, answered, sent)
+pub limit_given : (setter : Setter) (day limit most : ℕ) (usage : DayUsage) (old asked new : Option (List Told)) (ended : Result ℕ OrderFault)
+    → AsksUsed setter.login day old asked (Ok usage) → most ≡ at_least limit usage.used → SetsBoth setter day most limit usage.used asked new ended
+    → GivesLimit setter day limit old new ended
+limit_given setter day limit most usage old asked new (Ok cap) answered is sent =
+    (usage, asked, answered, subst (λ m. SetsBoth setter day m limit usage.used asked new (Ok cap)) is sent)
+limit_given setter day limit most usage old asked new (Err fault) answered is sent =
+    inr (usage, asked, answered, subst (λ m. SetsBoth setter day m limit usage.used asked new (Err fault)) is sent)

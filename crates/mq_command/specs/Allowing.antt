@@ -1,4 +1,4 @@
--- What stopping a login and letting it go again leads to.
+-- What setting the limits of a day and of each later day leads to, by what is used on the day.
 use Rattle.std.specs.Prelude.{◌≡◌, ◌⊎◌, ◌<◌, ◌+◌, ◌*◌, ◌++◌, ℕ, zero, suc, List, [], ◌∷◌, Option}
 use Rattle.std.specs.Prelude.{Result, Ok, Err, min, codes}
 use Rattle.std.specs.Fmt.{decimal}
@@ -10,7 +10,6 @@ use Rattle.mq_request.specs.declared.message.Reply.{Reply}
 use Rattle.mq_request.specs.declared.message.Reply.TheVariants as says
 use Rattle.mq_command.specs.Asking.{Asks, IsAnswered}
 use Rattle.mq_command.specs.Orders.{OrdersFresh}
-use Rattle.mq_command.specs.declared.allow.DayUsage.{DayUsage}
 use Rattle.mq_command.specs.declared.allow.Setter.{Setter}
 use Rattle.mq_command.specs.declared.ask.AskFault.{AskFault}
 use Rattle.mq_command.specs.declared.order.OrderFault.{OrderFault}
@@ -36,18 +35,6 @@ room (suc refused) = min (room refused * 2 + 8) 1000000
 -- the limit of a day: what is used and so many more, with room, and never above the most
 abbrev pub allowed : ℕ → ℕ → ℕ → ℕ → ℕ
 allowed most used more room = min (used + more + room) most
-
--- the reply says that so much is used, settled and reserved, under this limit
-abbrev pub IsUsed : Reply → DayUsage → Type 0
-IsUsed reply usage =
-    (login : List ℕ) × (day settled reserved : ℕ) × (reply ≡ says.Usage login day settled reserved usage.cap)
-    × (usage.used ≡ settled + reserved)
-
--- What asking for what a login used on a day leads to.
-abbrev pub AsksUsed : List ℕ → ℕ → Option (List Told) → Option (List Told) → Result DayUsage AskFault → Type 0
-AsksUsed login day old new (Ok usage) =
-    (reply : Reply) × IsAnswered (asks.Usage login day) reply old new × IsUsed reply usage
-AsksUsed login day old new (Err fault) = Asks (asks.Usage login day) old new (Err fault)
 
 -- so many limits of a day were sent, each of what was used then, and refused since more is used on that day by now
 pub data AreRefused (setter : Setter) (day most more first : ℕ) (start : Option (List Told))
@@ -77,11 +64,6 @@ SetsAbove setter day most more first old new ended =
     × SetsTo setter (refused + 1) day (allowed most used more (room refused)) mid new ended
     × (IsOver day ended → refused ≡ 17)
 
--- what the login used wasn't answered
-abbrev pub FailsToAsk : Setter → ℕ → Option (List Told) → Option (List Told) → OrderFault → Type 0
-FailsToAsk setter day old new fault =
-    (cause : AskFault) × AsksUsed setter.login day old new (Err cause) × (fault ≡ Unanswered cause)
-
 -- What setting the limits of a day and of each later day leads to: the limit of the day, where both are set.
 abbrev pub SetsBoth : Setter → ℕ → ℕ → ℕ → ℕ → Option (List Told) → Option (List Told) → Result ℕ OrderFault → Type 0
 SetsBoth setter day most more used old new (Ok cap) =
@@ -92,32 +74,10 @@ SetsBoth setter day most more used old new (Err fault) =
     ⊎ ((cap : ℕ) × (set : Option (List Told)) × SetsAbove setter day most more used old set (Ok cap)
     × OrdersFresh (limit_of setter 19 (day + 1) more) set new (Err fault))
 
--- What letting a login have so many more leads to, with the most that the day's limit may be by the limit that it had.
-abbrev pub Allows : Setter → ℕ → (ℕ → ℕ) → ℕ → Option (List Told) → Option (List Told) → Result ℕ OrderFault → Type 0
-Allows setter day most more old new (Ok cap) =
-    (usage : DayUsage) × (asked : Option (List Told)) × AsksUsed setter.login day old asked (Ok usage)
-    × SetsBoth setter day (most usage.cap) more usage.used asked new (Ok cap)
-Allows setter day most more old new (Err fault) =
-    FailsToAsk setter day old new fault
-    ⊎ ((usage : DayUsage) × (asked : Option (List Told)) × AsksUsed setter.login day old asked (Ok usage)
-    × SetsBoth setter day (most usage.cap) more usage.used asked new (Err fault))
-
--- What stopping a login leads to: nothing more, and no limit above the one that it had.
-abbrev pub Stops : Setter → ℕ → Option (List Told) → Option (List Told) → Result ℕ OrderFault → Type 0
-Stops setter day old new ended = Allows setter day (λ cap. cap) 0 old new ended
-
--- What letting a login go again leads to: so many more, up to the most that a limit may be.
-abbrev pub Resumes : Setter → ℕ → ℕ → Option (List Told) → Option (List Told) → Result ℕ OrderFault → Type 0
-Resumes setter day more old new ended = Allows setter day (λ cap. 1000000) more old new ended
-
 -- a line of how much a login used, or may use, on a day
 abbrev pub day_line : List ℕ → List ℕ → List ℕ → ℕ → ℕ → List ℕ
 day_line begin login middle amount day =
     begin ++ escaped login ++ middle ++ decimal amount ++ codes " on day " ++ decimal day ++ 10 ∷ []
-
--- what `stop` prints where it is done
-abbrev pub stopped_line : List ℕ → ℕ → ℕ → List ℕ
-stopped_line login used day = day_line (codes "stopped: ") login (codes " used ") used day
 
 -- what `resume` prints where it is done
 abbrev pub resumed_line : List ℕ → ℕ → ℕ → List ℕ

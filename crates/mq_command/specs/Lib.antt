@@ -4,3 +4,6 @@ pub mod Orders
 pub mod Printed
 pub mod Probing
 pub mod Report
+pub mod Stopping
+pub mod Usage
+pub mod Vis

@@ -115,6 +115,6 @@ abbrev pub PrintsLine : List ℕ → Option (List ℕ) → Option (List ℕ) →
 PrintsLine line old new status = ((status ≡ 0) × Appends old new line) ⊎ ((status ≡ 1) × AppendsFront old new line)
 
 -- What telling it prints: a line where all is done, and nothing where it isn't; then the status is 1.
-abbrev pub Prints : {X : Type 0} → (X → List ℕ) → Option (List ℕ) → Option (List ℕ) → Result X OrderFault → ℕ → Type 0
+abbrev pub Prints : {X Fault : Type 0} → (X → List ℕ) → Option (List ℕ) → Option (List ℕ) → Result X Fault → ℕ → Type 0
 Prints line old new (Ok done) status = PrintsLine (line done) old new status
 Prints line old new (Err fault) status = (status ≡ 1) × Keeps old new

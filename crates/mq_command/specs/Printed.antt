@@ -1,5 +1,5 @@
--- Which texts are printed logins.
-use Rattle.std.specs.Prelude.{◌≡◌, ◌<◌, ℕ, List}
+-- Which texts are printed logins, and what is printed of a server.
+use Rattle.std.specs.Prelude.{◌≡◌, ◌<◌, ◌++◌, ℕ, List, codes}
 use Rattle.std.specs.List.{All}
 use Rattle.mq_request.specs.Escaped.{escaped}
 use Rattle.mq_request.specs.Range.{IsLogin}
@@ -21,3 +21,7 @@ pub record IsTextOf (text bytes : List ℕ) : Type 0 where
 -- a login is printed so
 abbrev pub IsLoginText : List ℕ → Type 0
 IsLoginText text = (login : List ℕ) × IsLogin login × ArePrinted login text
+
+-- the line above what is printed of a server, where more than one is asked
+abbrev pub heading_line : List ℕ → List ℕ
+heading_line server = codes "server " ++ server ++ codes ":\n"

@@ -1,25 +1,62 @@
-//! `stop` and `resume`: how many recipients more a login may have, today and on each later day.
+//! `stop` and `resume`: how many recipients a login may have, today and on each later day.
 ghost use Rattle.std.specs.Prelude.{◌≡◌, ◌+◌, ℕ, IfOk, string_bytes, Result as AnyResult};
-ghost use Rattle.mq_request.specs.Range.{IsAmount, IsDay, IsLogin, IsReply, IsWithin};
-ghost use Rattle.mq_command.specs.Allowing.{AsksUsed, IsSetter, IsUsed, Resumes, SetsAbove, SetsBoth, Stops, allowed};
-ghost use Rattle.mq_command.specs.Allowing.{day_line, limit_of, resumed_line, stopped_line};
+ghost use Rattle.mq_request.specs.Range.{IsAmount, IsDay, IsLogin, IsWithin};
+ghost use Rattle.mq_command.specs.Allowing.{IsSetter, SetsAbove, SetsBoth, allowed, day_line, limit_of, resumed_line};
+ghost use Rattle.mq_command.specs.Stopping.{ChecksUse, FindsFormer, GivesLimit, GivesMore, Restores, Stops};
+ghost use Rattle.mq_command.specs.Stopping.{restored_lines, stopped_lines};
 ghost use Rattle.mq_command.specs.Orders.{OrdersFresh, Prints};
-ghost use Rattle.mq_command.specs.Report.{AnswersUsage};
+ghost use Rattle.mq_command.specs.declared.allow.AllowFault.{AllowFault as AnyAllowFault};
+ghost use Rattle.mq_command.specs.declared.allow.Restored.{Restored as AnyRestored};
+ghost use Rattle.mq_command.specs.declared.allow.Stopped.{Stopped as AnyStopped};
 ghost use Rattle.mq_command.specs.declared.order.OrderFault.{OrderFault as AnyOrderFault};
 
-use crate::ask::{AskFault, ask};
+use crate::ask::AskFault;
+use crate::look_back::{Sought, look_back};
 use crate::order::{OrderFault, order_fresh};
 use crate::printed::login_text;
 use crate::telling::{say, tell_line};
+use crate::usage::ask_used;
 use mq_link::Link;
 use mq_request::bounds::AMOUNT_LIMIT;
-use mq_request::{Host, Id, Login, Reply, Request};
+use mq_request::{Host, Id, Login, Request};
 use std::alloc::{AllocError, Global};
 use std::io::Write;
+use thiserror::Error;
 
 /// How often the limit of a day is sent where the login uses more meanwhile. The last is the most that a limit may be, or
 /// the one that the login had, if it is to have nothing more; no login uses more than its limit.
 const LIMITS: u32 = 18;
+
+/// On how many days, that of a `stop` and those before, a login used nothing that isn't stopped unless it is meant.
+const IDLE_DAYS: u32 = 3;
+
+/// How many days back a limit is sought that the login had before it was stopped.
+const FORMER_DAYS: u32 = 400;
+
+/// Why a login isn't known to be stopped, or to have more again.
+#[derive(Clone, Copy, Debug, PartialEq, Error)]
+pub enum AllowFault {
+    #[error("{0}")]
+    Order(OrderFault),
+    /// It sent nothing on this day, nor on the two before.
+    #[error("nothing sent on day {0} or the two before; check the login, or use --force")]
+    Idle(u32),
+    /// The limit of the day after this one isn't 0.
+    #[error("not stopped after day {0}; use --cap")]
+    NotStopped(u32),
+    /// No limit is found that it had before it was stopped.
+    #[error("no earlier limit found; use --cap")]
+    NoFormer,
+}
+
+/// What stopping a login came to.
+#[derive(Clone, Copy, Debug)]
+struct Stopped {
+    /// The limit of the day.
+    cap: u32,
+    /// The limit of the day before it was stopped.
+    former: u32,
+}
 
 /// A login whose limits are set, and the run of the host that sets them.
 #[derive(Debug, Drop, PartialEq)]
@@ -30,13 +67,6 @@ pub struct Setter {
     pub run: u64,
     /// 1 to 255 bytes.
     pub login: Login,
-}
-
-/// What a login used on a day, settled and reserved, and its limit.
-#[derive(Clone, Copy)]
-struct DayUsage {
-    used: u32,
-    cap: u32,
 }
 
 /// A limit, under a number of the run.
@@ -79,49 +109,6 @@ fn set_limit<L: Link>(
     match limit_of(alloc, setter, number, day, cap) {
         Ok(mut request) => order_fresh(alloc, link, &mut request),
         Err(_) => Err(OrderFault::Unanswered(AskFault::Memory)),
-    }
-}
-
-/// What a reply says that a login used on a day.
-fn usage_of(reply: &Reply) -> DayUsage
-    requires answers { AnswersUsage reply.now }
-    requires in_range { IsReply reply.now }
-    ensures used { IsUsed reply.now result }
-    ensures in_range { IsAmount result.cap }
-{
-    match reply {
-        Reply::Usage {
-            settled,
-            reserved,
-            cap,
-            ..
-        } => DayUsage {
-            used: *settled + *reserved,
-            cap: *cap,
-        },
-        _ => unreachable!(),
-    }
-}
-
-/// Asks what a login used on a day.
-fn ask_used<L: Link>(
-    alloc: Global,
-    link: &mut L,
-    login: &Login,
-    day: u32,
-) -> Result<DayUsage, AskFault>
-    requires login { IsLogin login.now }
-    requires day { IsDay day }
-    ensures asked { AsksUsed login.now day (L.told link.old) (L.told link.new) result }
-    ensures in_range { IfOk result (λ usage. IsAmount usage.cap) }
-{
-    let login = match login.clone() {
-        Ok(login) => login,
-        Err(_) => return Err(AskFault::Memory),
-    };
-    match ask(alloc, link, &Request::Usage { login, day }) {
-        Ok(reply) => Ok(usage_of(&reply)),
-        Err(fault) => Err(fault),
     }
 }
 
@@ -200,21 +187,97 @@ fn set_both<L: Link>(
     }
 }
 
-/// Lets a login have nothing more on a day and on each later day. The result is the day's limit, which is never above the
-/// one that it had.
-fn stop<L: Link>(alloc: Global, link: &mut L, setter: &Setter, day: u32) -> Result<u32, OrderFault>
+/// Refuses to stop a login that used nothing on a day, nor on the two before, unless it is clear that it is meant: its name
+/// may be misspelled.
+fn check_use<L: Link>(
+    alloc: Global,
+    link: &mut L,
+    login: &Login,
+    day: u32,
+    is_clear: bool,
+) -> Result<(), AllowFault>
+    requires login { IsLogin login.now }
+    requires day { IsDay day }
+    ensures { ChecksUse login.now day is_clear (L.told link.old) (L.told link.new) result }
+{
+    if is_clear {
+        return Ok(());
+    }
+    match look_back(alloc, link, Sought::Use, login, day, IDLE_DAYS) {
+        Ok(Some(_day)) => Ok(()),
+        Ok(None) => Err(AllowFault::Idle(day)),
+        Err(fault) => Err(AllowFault::Order(OrderFault::Unanswered(fault))),
+    }
+}
+
+/// Lets a login have nothing more on a day and on each later day, where it sent something lately or is meant. The limit of
+/// the day is never above the one that it had.
+fn stop<L: Link>(
+    alloc: Global,
+    link: &mut L,
+    setter: &Setter,
+    day: u32,
+    is_meant: bool,
+) -> Result<Stopped, AllowFault>
     requires setter { IsSetter setter.now }
     requires day { IsDay (day + 1) }
-    ensures { Stops setter.now day (L.told link.old) (L.told link.new) result }
+    ensures { Stops setter.now day is_meant (L.told link.old) (L.told link.new) result }
 {
-    match ask_used(alloc, link, &setter.login, day) {
-        Ok(usage) => set_both(alloc, link, setter, day, usage.cap, 0, usage.used),
-        Err(fault) => Err(OrderFault::Unanswered(fault)),
+    let usage = match ask_used(alloc, link, &setter.login, day) {
+        Ok(usage) => usage,
+        Err(fault) => return Err(AllowFault::Order(OrderFault::Unanswered(fault))),
+    };
+    let is_clear = is_meant || usage.used != 0;
+    match check_use(alloc, link, &setter.login, day, is_clear) {
+        Ok(()) => {}
+        Err(fault) => return Err(fault),
+    }
+    match set_both(alloc, link, setter, day, usage.cap, 0, usage.used) {
+        Ok(cap) => Ok(Stopped {
+            cap,
+            former: usage.cap,
+        }),
+        Err(fault) => Err(AllowFault::Order(fault)),
+    }
+}
+
+/// The limit that a login had before it was stopped: that of the day before the latest one, from this day back, whose limit
+/// isn't 0. A login isn't stopped where the limit of the next day isn't 0.
+fn former<L: Link>(alloc: Global, link: &mut L, login: &Login, day: u32) -> Result<u32, AllowFault>
+    requires login { IsLogin login.now }
+    requires day { IsDay (day + 1) }
+    ensures former { FindsFormer login.now day (L.told link.old) (L.told link.new) result }
+    ensures in_range { IfOk result IsAmount }
+{
+    match ask_used(alloc, link, login, day + 1) {
+        Ok(next) => {
+            if next.cap != 0 {
+                return Err(AllowFault::NotStopped(day));
+            }
+        }
+        Err(fault) => return Err(AllowFault::Order(OrderFault::Unanswered(fault))),
+    }
+    let latest = match look_back(alloc, link, Sought::Limit, login, day, FORMER_DAYS) {
+        Ok(Some(latest)) => latest,
+        Ok(None) => return Err(AllowFault::NoFormer),
+        Err(fault) => return Err(AllowFault::Order(OrderFault::Unanswered(fault))),
+    };
+    if latest == 0 {
+        return Err(AllowFault::NoFormer);
+    }
+    match ask_used(alloc, link, login, latest - 1) {
+        Ok(before) => {
+            if before.cap == 0 {
+                return Err(AllowFault::NoFormer);
+            }
+            Ok(before.cap)
+        }
+        Err(fault) => Err(AllowFault::Order(OrderFault::Unanswered(fault))),
     }
 }
 
 /// Lets a login have so many recipients more on a day, and so many on each later day. The result is the day's limit.
-fn resume<L: Link>(
+fn give_more<L: Link>(
     alloc: Global,
     link: &mut L,
     setter: &Setter,
@@ -224,10 +287,32 @@ fn resume<L: Link>(
     requires setter { IsSetter setter.now }
     requires day { IsDay (day + 1) }
     requires more { IsAmount more }
-    ensures { Resumes setter.now day more (L.told link.old) (L.told link.new) result }
+    ensures { GivesMore setter.now day more (L.told link.old) (L.told link.new) result }
 {
     match ask_used(alloc, link, &setter.login, day) {
         Ok(usage) => set_both(alloc, link, setter, day, AMOUNT_LIMIT, more, usage.used),
+        Err(fault) => Err(OrderFault::Unanswered(fault)),
+    }
+}
+
+/// Gives a login a limit on a day and on each later day, and on the day at least what it used. The result is the day's limit.
+fn give_limit<L: Link>(
+    alloc: Global,
+    link: &mut L,
+    setter: &Setter,
+    day: u32,
+    limit: u32,
+) -> Result<u32, OrderFault>
+    requires setter { IsSetter setter.now }
+    requires day { IsDay (day + 1) }
+    requires limit { IsAmount limit }
+    ensures { GivesLimit setter.now day limit (L.told link.old) (L.told link.new) result }
+{
+    match ask_used(alloc, link, &setter.login, day) {
+        Ok(usage) => {
+            let most = limit.max(usage.used).min(AMOUNT_LIMIT);
+            set_both(alloc, link, setter, day, most, limit, usage.used)
+        }
         Err(fault) => Err(OrderFault::Unanswered(fault)),
     }
 }
@@ -253,31 +338,49 @@ fn line_of(
     Ok(line)
 }
 
-/// Lets a login have nothing more on a day and on each later day, and prints on `output` the day's limit, or says on
-/// `errors` why not both limits are set. The result is the exit status, 0 or 1.
+/// The lines that say that a login is stopped: how much it used on the day, and which limit it had there.
+fn stopped_text(
+    alloc: Global,
+    login: &Login,
+    stopped: Stopped,
+    day: u32,
+) -> Result<String, AllocError>
+    ensures { IfOk result (λ lines. string_bytes lines ≡ stopped_lines login.now stopped day) }
+{
+    let mut lines = line_of(alloc, "stopped: ", login, " used ", stopped.cap, day)?;
+    lines.push_str("limit before: ")?;
+    lines.push_str(stopped.former.to_string(alloc)?.as_str())?;
+    lines.push('\n')?;
+    Ok(lines)
+}
+
+/// Lets a login have nothing more on a day and on each later day, and prints on `output` the day's limit and the one that it
+/// had there, or says on `errors` why not both limits are set. The result is the exit status, 0 or 1.
 ///
-/// No limit that it sets is above the one that the login had on that day. A limit that was set from a day after the next
-/// stays in force, and governs from that day on. `day` is a day number, 0 to 376,199.
+/// A login that sent nothing on that day and the two before isn't stopped, unless `is_meant`. No limit that it sets is above
+/// the one that the login had on that day. A limit that was set from a day after the next stays in force, and governs from
+/// that day on. `day` is a day number, 0 to 376,199.
 pub fn run_stop<L: Link, W: Write, E: Write>(
     alloc: Global,
     link: &mut L,
     setter: &Setter,
     day: u32,
+    is_meant: bool,
     output: &mut W,
     errors: &mut E,
 ) -> u8
     requires setter { IsSetter setter.now }
     requires day { IsDay (day + 1) }
-    ensures stops { (ended : AnyResult ℕ AnyOrderFault)
-        × Stops setter.now day (L.told link.old) (L.told link.new) ended
-        × Prints (λ used. stopped_line setter.now.login used day) (W.contents output.old) (W.contents output.new) ended
-        result }
+    ensures stops { (ended : AnyResult AnyStopped AnyAllowFault)
+        × Stops setter.now day is_meant (L.told link.old) (L.told link.new) ended
+        × Prints (λ stopped. stopped_lines setter.now.login stopped day) (W.contents output.old) (W.contents output.new)
+        ended result }
     ensures quiet { result ≡ 0 → errors.new ≡ errors.old }
 {
-    match stop(alloc, link, setter, day) {
-        Ok(used) => {
-            let line = line_of(alloc, "stopped: ", &setter.login, " used ", used, day);
-            tell_line(line, output, errors)
+    match stop(alloc, link, setter, day, is_meant) {
+        Ok(stopped) => {
+            let lines = stopped_text(alloc, &setter.login, stopped, day);
+            tell_line(lines, output, errors)
         }
         Err(fault) => say(errors, &fault),
     }
@@ -300,15 +403,92 @@ pub fn run_resume<L: Link, W: Write, E: Write>(
     requires day { IsDay (day + 1) }
     requires more { IsAmount more }
     ensures resumes { (ended : AnyResult ℕ AnyOrderFault)
-        × Resumes setter.now day more (L.told link.old) (L.told link.new) ended
+        × GivesMore setter.now day more (L.told link.old) (L.told link.new) ended
         × Prints (λ cap. resumed_line setter.now.login cap day) (W.contents output.old) (W.contents output.new) ended
         result }
     ensures quiet { result ≡ 0 → errors.new ≡ errors.old }
 {
-    match resume(alloc, link, setter, day, more) {
+    match give_more(alloc, link, setter, day, more) {
         Ok(cap) => {
             let line = line_of(alloc, "resumed: ", &setter.login, " may use ", cap, day);
             tell_line(line, output, errors)
+        }
+        Err(fault) => say(errors, &fault),
+    }
+}
+
+/// What giving a login its limit back came to.
+#[derive(Clone, Copy, Debug)]
+struct Restored {
+    /// The limit of the day.
+    cap: u32,
+    /// The limit of each later day.
+    limit: u32,
+}
+
+/// Gives a login the limit back that it had before it was stopped.
+fn restore<L: Link>(
+    alloc: Global,
+    link: &mut L,
+    setter: &Setter,
+    day: u32,
+) -> Result<Restored, AllowFault>
+    requires setter { IsSetter setter.now }
+    requires day { IsDay (day + 1) }
+    ensures { Restores setter.now day (L.told link.old) (L.told link.new) result }
+{
+    let limit = match former(alloc, link, &setter.login, day) {
+        Ok(limit) => limit,
+        Err(fault) => return Err(fault),
+    };
+    match give_limit(alloc, link, setter, day, limit) {
+        Ok(cap) => Ok(Restored { cap, limit }),
+        Err(fault) => Err(AllowFault::Order(fault)),
+    }
+}
+
+/// The lines that say that a login has its limit back: how much it may use on the day, and its limit from then on.
+fn restored_text(
+    alloc: Global,
+    login: &Login,
+    restored: Restored,
+    day: u32,
+) -> Result<String, AllocError>
+    ensures { IfOk result (λ lines. string_bytes lines ≡ restored_lines login.now restored day) }
+{
+    let mut lines = line_of(alloc, "resumed: ", login, " may use ", restored.cap, day)?;
+    lines.push_str("limit after: ")?;
+    lines.push_str(restored.limit.to_string(alloc)?.as_str())?;
+    lines.push('\n')?;
+    Ok(lines)
+}
+
+/// Gives a login the limit back, on a day and each later day, that it had before it was stopped, and prints on `output` how
+/// many recipients it may have on that day and which limit it has then, or says on `errors` why not both limits are set. The
+/// result is the exit status, 0 or 1.
+///
+/// The limit is that of the day before the latest one, of the given day and the 399 before, whose limit isn't 0. `day` is a
+/// day number, 0 to 376,199.
+pub fn run_restore<L: Link, W: Write, E: Write>(
+    alloc: Global,
+    link: &mut L,
+    setter: &Setter,
+    day: u32,
+    output: &mut W,
+    errors: &mut E,
+) -> u8
+    requires setter { IsSetter setter.now }
+    requires day { IsDay (day + 1) }
+    ensures restores { (ended : AnyResult AnyRestored AnyAllowFault)
+        × Restores setter.now day (L.told link.old) (L.told link.new) ended
+        × Prints (λ restored. restored_lines setter.now.login restored day) (W.contents output.old)
+        (W.contents output.new) ended result }
+    ensures quiet { result ≡ 0 → errors.new ≡ errors.old }
+{
+    match restore(alloc, link, setter, day) {
+        Ok(restored) => {
+            let lines = restored_text(alloc, &setter.login, restored, day);
+            tell_line(lines, output, errors)
         }
         Err(fault) => say(errors, &fault),
     }

@@ -14,16 +14,22 @@
 mod allow;
 mod ask;
 mod day;
+mod heading;
+mod look_back;
+mod note;
 mod order;
 mod output;
 mod printed;
 mod probe;
 mod report;
 mod telling;
+mod usage;
 
-pub use allow::{Setter, run_resume, run_stop};
+pub use allow::{AllowFault, Setter, run_restore, run_resume, run_stop};
 pub use ask::{AskFault, TRIES};
 pub use day::run_day;
+pub use heading::{print_heading, say_undone};
+pub use note::note_of;
 pub use order::{NUMBERS, OrderFault, run_fresh, run_limit, run_retire};
 pub use output::{OutputFault, write_whole};
 pub use printed::{is_login_text, login_of_text, login_text};

@@ -1,3 +1,5 @@
 pub mod Faults
-pub mod Settings
 pub mod Refusals
+pub mod Servers
+pub mod Settings
+pub mod Today

@@ -1,5 +1,5 @@
 -- How a subcommand that asks a server ends where a word of it is at fault.
-use Rattle.std.specs.Prelude.{◌≡◌, ℕ, List, Option, None, Some, IfSome, IsSomeAnd, ⊤}
+use Rattle.std.specs.Prelude.{◌≡◌, ◌⊎◌, ℕ, List, [], ◌∷◌, Option, None, Some, IfSome, IsSomeAnd, ⊤}
 use Rattle.std.specs.Net.Grammar.{IsSocketText}
 use Rattle.std.specs.declared.net.SocketAddr.{SocketAddr}
 use Rattle.mq_request.specs.Range.{IsHost, IsLogin}
@@ -17,6 +17,11 @@ use Rattle.mq_process.specs.declared.fault.ProcessFault.TheVariants.{Host, Login
 abbrev pub IsNoAddress : List ℕ → Type 0
 IsNoAddress text = (address : SocketAddr) → ¬ IsSocketText text address
 
+-- one of these texts spells no numeric address and port
+abbrev pub HasNoAddress : List (List ℕ) → Type 0
+HasNoAddress [] = ⊥
+HasNoAddress (text ∷ texts) = IsNoAddress text ⊎ HasNoAddress texts
+
 -- the words name this login
 abbrev pub Names : LoginArgument → List ℕ → Type 0
 Names (Reported text) login = login ≡ text.now
@@ -32,12 +37,12 @@ abbrev pub NamesOneOrAll : Option LoginArgument → Option (List ℕ) → Type 0
 NamesOneOrAll None found = found ≡ None
 NamesOneOrAll (Some given) found = IsSomeAnd found (Names given)
 
--- how an order about a login ends where a word of it is at fault: the host goes first, then the login, then the address
-pub record OrderRefuses (host : List ℕ) (login : LoginArgument) (server : List ℕ) (EndsBy : ProcessFault → Type 0)
+-- how an order about a login ends where a word of it is at fault: the host goes first, then the login, then the addresses
+pub record OrderRefuses (host : List ℕ) (login : LoginArgument) (servers : List (List ℕ)) (EndsBy : ProcessFault → Type 0)
     : Type 0 where
   pub bad_host : ¬ IsHost host → EndsBy Host
   pub bad_login : IsHost host → ¬ NamesLogin login → EndsBy Login
-  pub bad_address : IsHost host → NamesLogin login → IsNoAddress server → EndsBy Address
+  pub bad_address : IsHost host → NamesLogin login → HasNoAddress servers → EndsBy Address
 
 -- how `status` ends where a word of it is at fault
 abbrev pub StatusRefuses : ServerArgument → (ProcessFault → Type 0) → Type 0
@@ -49,7 +54,7 @@ pub record RetireRefuses (given : RetireArguments) (EndsBy : ProcessFault → Ty
   pub host : ¬ IsHost given.host.now → EndsBy Host
   pub address : IsHost given.host.now → IsNoAddress given.server.now → EndsBy Address
 
--- how `report` ends where a word of it is at fault: the login goes before the address
+-- how `report` ends where a word of it is at fault: the login goes before the addresses
 pub record ReportRefuses (given : ReportArguments) (EndsBy : ProcessFault → Type 0) : Type 0 where
   pub login : IfSome given.login (λ login. ¬ NamesLogin login → EndsBy Login)
-  pub address : IfSome given.login NamesLogin → IsNoAddress given.server.now → EndsBy Address
+  pub address : IfSome given.login NamesLogin → HasNoAddress given.servers → EndsBy Address

@@ -1,18 +1,21 @@
 //! What the subcommands that ask a server have in common: their words checked, the link, and the first number of a run.
-ghost use Rattle.std.specs.Prelude.{◌≡◌, Err, IfErr, IfOk, MatchBool, MatchResult};
+ghost use Rattle.std.specs.Prelude.{◌≡◌, Err, IfErr, IfOk, MatchBool, MatchResult, None, map};
+ghost use Rattle.mq_command.specs.Vis.{note_of};
 ghost use Rattle.std.specs.Net.Grammar.{IsSocketText};
 ghost use Rattle.mq_request.specs.Range.{IsHost, IsLogin};
-ghost use Rattle.mq_process.specs.Refusals.{IsNoAddress, Names, NamesLogin, OrderRefuses};
+ghost use Rattle.mq_process.specs.Refusals.{HasNoAddress, IsNoAddress, Names, NamesLogin, OrderRefuses};
 
 use crate::fault::ProcessFault;
+use crate::servers::check_addresses;
 use log::sink::Console;
 use log::{LevelFilter, Log, Logged, error};
 use mq_arguments::LoginArgument;
-use mq_command::{TRIES, is_login_text, login_of_text};
+use mq_command::{TRIES, is_login_text, login_of_text, note_of};
 use mq_request::{Escaped, Host, Id, Login, is_host, is_login};
 use mq_settings::address_flaw;
 use mq_tcp::{Connector, LoggedLink, TcpLink};
 use std::alloc::{AllocError, Global};
+use std::io::Write;
 use std::net::{Net, SocketAddr};
 use std::rt::Clock;
 use std::time::Duration;
@@ -68,16 +71,17 @@ pub fn login_of(alloc: Global, given: LoginArgument<'_>) -> Result<Login, Proces
     }
 }
 
-/// The address of the server, where host, login and address are what they should be.
+/// Refuses a host, a login and addresses of servers that aren't what they should be.
 pub fn checked<R: Eprint>(
     rt: &R,
     host: &str,
     login: LoginArgument<'_>,
-    server: &str,
-) -> Result<SocketAddr, ProcessFault>
-    ensures refuses { OrderRefuses host.now login.entry server.now (λ fault. result ≡ Err fault) }
+    servers: &[&str],
+) -> Result<(), ProcessFault>
+    ensures refuses { OrderRefuses host.now login.entry (map (λ s. s.now) servers.now) (λ fault. result ≡ Err fault) }
     ensures host { IfOk result (λ _. IsHost host.now) }
     ensures login { IfOk result (λ _. NamesLogin login.entry) }
+    ensures addresses { IfOk result (λ _. ¬ HasNoAddress (map (λ s. s.now) servers.now)) }
 {
     if !is_host(host.as_bytes()) {
         return Err(ProcessFault::Host);
@@ -85,7 +89,17 @@ pub fn checked<R: Eprint>(
     if !names_login(login) {
         return Err(ProcessFault::Login);
     }
-    address_of(rt, server)
+    check_addresses(rt, servers)
+}
+
+/// Says on `errors` what is to be noted of a login that smtpd doesn't report so, if anything is.
+pub fn tell_note<E: Write>(alloc: Global, login: &Login, errors: &mut E) -> Result<(), ProcessFault>
+    ensures { note_of login.now ≡ None → errors.new ≡ errors.old }
+{
+    if let Some(note) = note_of(alloc, login.as_slice())? {
+        let _ = writeln!(errors, "mailquota: note: {note}");
+    }
+    Ok(())
 }
 
 /// A link to the server at this address, with a log of its troubles.

@@ -26,6 +26,9 @@ pub enum ProcessFault {
     /// The clock can't be read, or what it shows is before 1970-01-02 or after 3000-01-01T00:00:00Z.
     #[error("day unavailable")]
     NoMoment,
+    /// The day that is given isn't today, which is the second one: by the zone of the settings, or in UTC where none are given.
+    #[error("day {0} is not today, which is day {1}; use --force")]
+    NotToday(u32, u32),
 }
 
 impl ProcessFault {
@@ -36,7 +39,10 @@ impl ProcessFault {
         ensures { result ≡ process_status self.now }
     {
         match self {
-            ProcessFault::Host | ProcessFault::Login | ProcessFault::Address => 2,
+            ProcessFault::Host
+            | ProcessFault::Login
+            | ProcessFault::Address
+            | ProcessFault::NotToday(_, _) => 2,
             _ => 1,
         }
     }

@@ -3,10 +3,10 @@
 //!
 //! Each fault of these is a [`ProcessFault`], which has its exit status. From `mq_remote/src/subcommands/limit.rt`:
 //!
-//!     let address = checked(rt, given.host, given.login, given.server)?;
-//!     let run = run_number(rt, given.run)?;
+//!     let servers = given.servers.as_slice();
+//!     checked(rt, given.host, given.login, servers)?;
 //!
-//! It stands on `mq_arguments`, `mq_request`, `mq_settings`, `mq_tcp` and `mq_command`. Begin with `settings.rt` and
+//! It stands on `mq_arguments`, `mq_request`, `mq_ledger`, `mq_settings`, `mq_tcp` and `mq_command`. Begin with `settings.rt` and
 //! `asking.rt`; `specs/Refusals.antt` says which words are refused, and in which order.
 #![tactic(auto)]
 
@@ -16,12 +16,16 @@ mod fault;
 mod moment;
 mod probing;
 mod refusing;
+mod servers;
 mod settings;
+mod today;
 
-pub use asking::{address_of, checked, first_id, link_to, login_of, names_login};
+pub use asking::{address_of, checked, first_id, link_to, login_of, names_login, tell_note};
 pub use clock::{elapsed, run_number};
 pub use fault::ProcessFault;
 pub use moment::{day, moment_or_now};
 pub use probing::{Question, ask_once, probe, probe_text};
 pub use refusing::{end_process, refuse};
+pub use servers::{ask_each, check_addresses};
 pub use settings::{filter_settings, server_settings};
+pub use today::day_to_stop;

@@ -1,6 +1,6 @@
 //! The settings of the filter and of the server, read from their files.
-ghost use Rattle.std.specs.Prelude.{◌≡◌, IfOk};
-ghost use Rattle.mq_process.specs.Settings.{AreInRange, CanAsk};
+ghost use Rattle.std.specs.Prelude.{◌≡◌, IfErr, IfOk, List, ℕ};
+ghost use Rattle.mq_process.specs.Settings.{AreInRange, CanAsk, RefusesServer, SpellsFilter, SpellsServer};
 
 use crate::fault::ProcessFault;
 use log::sink::Console;
@@ -36,7 +36,8 @@ pub fn filter_settings<R: Files + Eprint + AllocGlobal>(
     rt: &R,
     file: &str,
 ) -> Result<FilterSettings, ProcessFault>
-    ensures { IfOk result CanAsk }
+    ensures settings { IfOk result (λ settings. (text : List ℕ) × SpellsFilter text settings) }
+    ensures in_range { IfOk result CanAsk }
 {
     let text = read_file(rt, file).map_err(|fault| logged_of(rt, file, ProcessFault::File(fault)))?;
     read_filter_settings(rt.alloc(), text.as_slice()).map_err(|fault| logged_of(
@@ -46,14 +47,30 @@ pub fn filter_settings<R: Files + Eprint + AllocGlobal>(
     ))
 }
 
+/// The server's settings that a text spells, which a file of this name has. Why they can't be used is logged.
+fn server_settings_of<R: Eprint + AllocGlobal>(
+    rt: &R,
+    file: &str,
+    text: &[u8],
+) -> Result<ServerSettings, ProcessFault>
+    ensures settings { IfOk result (SpellsServer text.now) }
+    ensures in_range { IfOk result AreInRange }
+    ensures refusal { IfErr result (RefusesServer text.now) }
+{
+    match read_server_settings(rt.alloc(), text) {
+        Ok(settings) => Ok(settings),
+        Err(fault) => Err(logged_of(rt, file, ProcessFault::Settings(fault))),
+    }
+}
+
 /// The server's settings in a file. Why they can't be used is logged.
-pub fn server_settings(rt: &HostRuntime, file: &str) -> Result<ServerSettings, ProcessFault>
-    ensures { IfOk result AreInRange }
+pub fn server_settings<R: Files + Eprint + AllocGlobal>(
+    rt: &R,
+    file: &str,
+) -> Result<ServerSettings, ProcessFault>
+    ensures settings { IfOk result (λ settings. (text : List ℕ) × SpellsServer text settings) }
+    ensures in_range { IfOk result AreInRange }
 {
     let text = read_file(rt, file).map_err(|fault| logged_of(rt, file, ProcessFault::File(fault)))?;
-    read_server_settings(rt.alloc(), text.as_slice()).map_err(|fault| logged_of(
-        rt,
-        file,
-        ProcessFault::Settings(fault),
-    ))
+    server_settings_of(rt, file, text.as_slice())
 }

@@ -1,4 +1,5 @@
-//! The subcommands that ask a quota server: the filter, and `limit`, `stop`, `resume`, `retire` and `report`.
+//! The subcommands that ask quota servers: the filter, and `limit`, `stop`, `resume`, `retire`, `report` and
+//! `status --server`.
 //!
 //! Each checks its words, makes the link to the server, and hands it with its streams to `mq_client` or `mq_command`, which
 //! decide. From `mailquota/src/subcommand.rt`:
@@ -16,6 +17,7 @@ mod subcommands;
 pub use fault::{FilterEnd, end_filter};
 pub use subcommands::filter::filter;
 pub use subcommands::limit::limit;
+pub use subcommands::probe::probe_servers;
 pub use subcommands::report::report;
 pub use subcommands::retire::retire;
 pub use subcommands::stop::{resume, stop};

@@ -2,6 +2,7 @@
 
 pub mod filter;
 pub mod limit;
+pub mod probe;
 pub mod report;
 pub mod retire;
 pub mod stop;

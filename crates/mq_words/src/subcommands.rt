@@ -61,6 +61,8 @@ pub const MOMENTS: Range<u64> = Range {
 pub enum Takes {
     Nothing,
     Text,
+    /// One text each time that it is given, of any number of times.
+    Texts,
     Number(Range<u32>),
     LongNumber(Range<u64>),
 }
@@ -70,6 +72,8 @@ pub enum Takes {
 pub enum Need {
     Optional,
     Required,
+    /// It has to be given where the option of this name isn't.
+    Unless(&'static str),
     /// It is one of the options of this group, of which at most one is given.
     OneOf(&'static str),
 }
@@ -121,11 +125,11 @@ const CHECK: CommandOption = CommandOption {
     default: None,
 };
 
-const ONE_SERVER: CommandOption = CommandOption {
+const ANY_SERVER: CommandOption = CommandOption {
     name: "server",
     value: "ADDRESS",
-    help: "Numeric address and port of the quota server",
-    takes: Takes::Text,
+    help: "Numeric address and port of the quota server; each is asked where it is given more than once",
+    takes: Takes::Texts,
     need: Need::OneOf(ASKED),
     default: None,
 };
@@ -171,6 +175,15 @@ const SERVER: CommandOption = CommandOption {
     value: "ADDRESS",
     help: "Numeric address and port of the quota server",
     takes: Takes::Text,
+    need: Need::Required,
+    default: None,
+};
+
+const SERVERS: CommandOption = CommandOption {
+    name: "server",
+    value: "ADDRESS",
+    help: "Numeric address and port of the quota server; each is asked where it is given more than once",
+    takes: Takes::Texts,
     need: Need::Required,
     default: None,
 };
@@ -250,6 +263,33 @@ const DAY: CommandOption = CommandOption {
 const STOP_DAY: CommandOption = CommandOption {
     name: "day",
     value: "DAY",
+    help: "Day number of today; by --config where it isn't given",
+    takes: Takes::Number(EARLIER_DAYS),
+    need: Need::Unless("config"),
+    default: None,
+};
+
+const ZONE_SETTINGS: CommandOption = CommandOption {
+    name: "config",
+    value: "FILE",
+    help: "Settings of the quota server, whose offset or rule says which day is today",
+    takes: Takes::Text,
+    need: Need::Optional,
+    default: None,
+};
+
+const FORCE: CommandOption = CommandOption {
+    name: "force",
+    value: "",
+    help: "Stop it also if the day isn't today, or if it has sent nothing lately",
+    takes: Takes::Nothing,
+    need: Need::Optional,
+    default: None,
+};
+
+const RESUME_DAY: CommandOption = CommandOption {
+    name: "day",
+    value: "DAY",
     help: "Day number of today",
     takes: Takes::Number(EARLIER_DAYS),
     need: Need::Required,
@@ -259,9 +299,9 @@ const STOP_DAY: CommandOption = CommandOption {
 const MORE: CommandOption = CommandOption {
     name: "cap",
     value: "N",
-    help: "Recipients that it may have more today, and on each later day",
+    help: "Recipients that it may have more today, and on each later day; the limit that it had where it isn't given",
     takes: Takes::Number(AMOUNTS),
-    need: Need::Required,
+    need: Need::Optional,
     default: None,
 };
 
@@ -369,25 +409,33 @@ pub const SUBCOMMANDS: [Subcommand; 14] = [
     Subcommand {
         name: "status",
         about: "Say whether the quota server answers; with --config also what its ledger's file holds if it doesn't",
-        options: &[ONE_SERVER, ITS_SETTINGS],
+        options: &[ANY_SERVER, ITS_SETTINGS],
         one_of: Some(ASKED),
     },
     Subcommand {
         name: "limit",
         about: "Set the limit of a login from a day on",
-        options: &[SERVER, HOST, LOGIN, LOGIN_TEXT, FROM, CAP, RUN],
+        options: &[SERVERS, HOST, LOGIN, LOGIN_TEXT, FROM, CAP, RUN],
         one_of: Some(NAMED),
     },
     Subcommand {
         name: "stop",
         about: "Let a login have nothing more, today and on each later day",
-        options: &[SERVER, HOST, LOGIN, LOGIN_TEXT, STOP_DAY],
+        options: &[
+            SERVERS,
+            HOST,
+            LOGIN,
+            LOGIN_TEXT,
+            STOP_DAY,
+            ZONE_SETTINGS,
+            FORCE,
+        ],
         one_of: Some(NAMED),
     },
     Subcommand {
         name: "resume",
         about: "Let a login have more again, today and on each later day",
-        options: &[SERVER, HOST, LOGIN, LOGIN_TEXT, STOP_DAY, MORE],
+        options: &[SERVERS, HOST, LOGIN, LOGIN_TEXT, RESUME_DAY, MORE],
         one_of: Some(NAMED),
     },
     Subcommand {
@@ -405,7 +453,7 @@ pub const SUBCOMMANDS: [Subcommand; 14] = [
     Subcommand {
         name: "report",
         about: "Print what logins used on a day",
-        options: &[SERVER, DAY, ONE_LOGIN, LOGIN_TEXT],
+        options: &[SERVERS, DAY, ONE_LOGIN, LOGIN_TEXT],
         one_of: None,
     },
     Subcommand {

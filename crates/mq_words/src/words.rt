@@ -2,6 +2,7 @@
 ghost use Rattle.std.specs.Prelude.{◌≡◌, ◌≤◌, IfOk, IfSome};
 ghost use Rattle.mq_request.specs.Range.{IsAmount, IsMoment, IsRun, IsWithin};
 ghost use Rattle.mq_arguments.specs.Arguments.{IsArguments, IsLimitArguments, IsReplayArguments, IsResumeArguments};
+ghost use Rattle.mq_arguments.specs.Arguments.{IsStopArguments};
 
 use crate::subcommands::{
     AMOUNTS, CROWDS, CommandOption, DAYS, EARLIER_DAYS, MINUTES, MOMENTS, Need, RUNS, Range,
@@ -11,9 +12,9 @@ use clap::error::ErrorKind;
 use clap::{Arg, ArgAction, ArgGroup, ArgMatches, Command, Error, value_parser};
 use mq_arguments::{
     Arguments, AuditArguments, DayArguments, FilterArguments, ForgetArguments, InitArguments,
-    LimitArguments, LimitsArguments, LoginArgument, ReplayArguments, ReportArguments,
-    ResumeArguments, RetireArguments, ServerArgument, ServerArguments, StatusArguments,
-    StopArguments,
+    LimitArguments, LimitsArguments, LoginArgument, ProbeArguments, ReplayArguments,
+    ReportArguments, ResumeArguments, RetireArguments, ServerArgument, ServerArguments, Servers,
+    StatusArguments, StopArguments,
 };
 use std::alloc::{AllocError, Global};
 
@@ -51,7 +52,7 @@ pub fn read_arguments<'a>(alloc: Global, words: &'a [String]) -> Result<Argument
     let mut program = program(alloc)?;
     let matches = program.try_get_matches_from_mut(words)?;
     match matches.subcommand() {
-        Some((name, found)) => Ok(arguments_of(name, found)),
+        Some((name, found)) => Ok(arguments_of(alloc, name, found)?),
         None => Err(WordsFault::Words(program.error(
             ErrorKind::MissingSubcommand,
             "a subcommand is required",
@@ -60,10 +61,14 @@ pub fn read_arguments<'a>(alloc: Global, words: &'a [String]) -> Result<Argument
 }
 
 /// What the options of a subcommand ask for.
-fn arguments_of<'a>(name: &str, found: &ArgMatches<'a>) -> Arguments<'a>
-    ensures { IsArguments result }
+fn arguments_of<'a>(
+    alloc: Global,
+    name: &str,
+    found: &ArgMatches<'a>,
+) -> Result<Arguments<'a>, AllocError>
+    ensures { IfOk result IsArguments }
 {
-    match name {
+    Ok(match name {
         "filter" => Arguments::Filter(FilterArguments {
             config: text_of(found, "config"),
             run: run_of(found),
@@ -72,17 +77,15 @@ fn arguments_of<'a>(name: &str, found: &ArgMatches<'a>) -> Arguments<'a>
         "init" => Arguments::Init(InitArguments {
             config: text_of(found, "config"),
         }),
-        "status" => Arguments::Status(StatusArguments {
-            server: server_of(found),
-        }),
+        "status" => status_of(alloc, found)?,
         "server" => Arguments::Server(ServerArguments {
             config: text_of(found, "config"),
             create: found.get_flag("create"),
             connections: number_of(found, "connections", CROWDS),
         }),
-        "limit" => Arguments::Limit(limit_of(found)),
-        "stop" => Arguments::Stop(stop_of(found)),
-        "resume" => Arguments::Resume(resume_of(found)),
+        "limit" => Arguments::Limit(limit_of(alloc, found)?),
+        "stop" => Arguments::Stop(stop_of(alloc, found)?),
+        "resume" => Arguments::Resume(resume_of(alloc, found)?),
         "day" => Arguments::Day(DayArguments {
             config: text_of(found, "config"),
             moment: moment_of(found),
@@ -93,7 +96,7 @@ fn arguments_of<'a>(name: &str, found: &ArgMatches<'a>) -> Arguments<'a>
             run: run_of(found),
         }),
         "report" => Arguments::Report(ReportArguments {
-            server: text_of(found, "server"),
+            servers: servers_of(alloc, found)?,
             day: number_of(found, "day", DAYS),
             login: one_login_of(found),
         }),
@@ -109,7 +112,7 @@ fn arguments_of<'a>(name: &str, found: &ArgMatches<'a>) -> Arguments<'a>
             into: text_of(found, "into"),
         }),
         _ => Arguments::Replay(replay_of(found)),
-    }
+    })
 }
 
 /// What the program takes.
@@ -145,11 +148,13 @@ fn argument_of<'a>(alloc: Global, option: &CommandOption) -> Result<Arg<'a>, All
     let argument = match option.need {
         Need::Optional => argument,
         Need::Required => argument.required(true),
+        Need::Unless(other) => argument.required_unless_present(other)?,
         Need::OneOf(group) => argument.group(group)?,
     };
     let argument = match option.takes {
         Takes::Nothing => return Ok(argument.action(ArgAction::SetTrue)),
         Takes::Text => argument,
+        Takes::Texts => argument.action(ArgAction::Append),
         Takes::Number(range) => argument.value_parser(value_parser!(u64).range(
             i64::from(range.least)..=i64::from(range.most),
         )),
@@ -196,6 +201,17 @@ fn number_if_given(found: &ArgMatches<'_>, name: &str, range: Range<u64>) -> Opt
     }
 }
 
+/// The number of an option, if it is given. clap refused one out of its range.
+fn short_number_if_given(found: &ArgMatches<'_>, name: &str, range: Range<u32>) -> Option<u32>
+    requires { range.least ≤ range.most }
+    ensures { IfSome result (IsWithin range.least range.most) }
+{
+    match found.get_one::<u32>(name) {
+        Some(short) => Some(short.clamp(range.least, range.most)),
+        None => None,
+    }
+}
+
 /// The number of the run, if it is given.
 fn run_of(found: &ArgMatches<'_>) -> Option<u64>
     ensures { IfSome result IsRun }
@@ -226,12 +242,27 @@ fn one_login_of<'a>(found: &ArgMatches<'a>) -> Option<LoginArgument<'a>> {
     }
 }
 
-/// The server, which has to be given by its address or its settings.
-fn server_of<'a>(found: &ArgMatches<'a>) -> ServerArgument<'a> {
-    match found.get_str("config") {
-        Some(file) => ServerArgument::Config(file),
-        None => ServerArgument::Address(text_of(found, "server")),
-    }
+/// The servers, of which at least one has to be given.
+fn servers_of<'a>(alloc: Global, found: &ArgMatches<'a>) -> Result<Servers<'a>, AllocError> {
+    let addresses = match found.get_strs("server") {
+        Some(addresses) => Vec::from_slice(alloc, addresses)?,
+        None => Vec::new(alloc),
+    };
+    Ok(Servers::new(addresses))
+}
+
+/// What `status` is asked: the server of these settings, or the servers at these addresses.
+fn status_of<'a>(alloc: Global, found: &ArgMatches<'a>) -> Result<Arguments<'a>, AllocError>
+    ensures { IfOk result IsArguments }
+{
+    Ok(match found.get_str("config") {
+        Some(file) => Arguments::Status(StatusArguments {
+            server: ServerArgument::Config(file),
+        }),
+        None => Arguments::Probe(ProbeArguments {
+            servers: servers_of(alloc, found)?,
+        }),
+    })
 }
 
 /// The login, which has to be given.
@@ -239,40 +270,42 @@ fn login_of<'a>(found: &ArgMatches<'a>) -> LoginArgument<'a> {
     one_login_of(found).unwrap_or(LoginArgument::Reported(""))
 }
 
-fn limit_of<'a>(found: &ArgMatches<'a>) -> LimitArguments<'a>
-    ensures { IsLimitArguments result }
+fn limit_of<'a>(alloc: Global, found: &ArgMatches<'a>) -> Result<LimitArguments<'a>, AllocError>
+    ensures { IfOk result IsLimitArguments }
 {
-    LimitArguments {
-        server: text_of(found, "server"),
+    Ok(LimitArguments {
+        servers: servers_of(alloc, found)?,
         host: text_of(found, "host"),
         login: login_of(found),
         from: number_of(found, "from", DAYS),
         cap: cap_of(found),
         run: run_of(found),
-    }
+    })
 }
 
-fn stop_of<'a>(found: &ArgMatches<'a>) -> StopArguments<'a>
-    ensures { IsWithin 0 376199 result.day }
+fn stop_of<'a>(alloc: Global, found: &ArgMatches<'a>) -> Result<StopArguments<'a>, AllocError>
+    ensures { IfOk result IsStopArguments }
 {
-    StopArguments {
-        server: text_of(found, "server"),
+    Ok(StopArguments {
+        servers: servers_of(alloc, found)?,
+        host: text_of(found, "host"),
+        login: login_of(found),
+        day: short_number_if_given(found, "day", EARLIER_DAYS),
+        config: found.get_str("config"),
+        is_forced: found.get_flag("force"),
+    })
+}
+
+fn resume_of<'a>(alloc: Global, found: &ArgMatches<'a>) -> Result<ResumeArguments<'a>, AllocError>
+    ensures { IfOk result IsResumeArguments }
+{
+    Ok(ResumeArguments {
+        servers: servers_of(alloc, found)?,
         host: text_of(found, "host"),
         login: login_of(found),
         day: number_of(found, "day", EARLIER_DAYS),
-    }
-}
-
-fn resume_of<'a>(found: &ArgMatches<'a>) -> ResumeArguments<'a>
-    ensures { IsResumeArguments result }
-{
-    ResumeArguments {
-        server: text_of(found, "server"),
-        host: text_of(found, "host"),
-        login: login_of(found),
-        day: number_of(found, "day", EARLIER_DAYS),
-        cap: cap_of(found),
-    }
+        cap: short_number_if_given(found, "cap", AMOUNTS),
+    })
 }
 
 fn replay_of<'a>(found: &ArgMatches<'a>) -> ReplayArguments<'a>

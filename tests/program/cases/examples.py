@@ -28,6 +28,7 @@ it is started again, with the same counts:
       0       1    1000 carol
 mx2, bob to the same recipient: proceed
 bob's password is stolen: stopped: bob used 2 on day TODAY
+limit before: 1000
 mx2, bob to one more, in the same message: reject|550 daily recipient limit reached
 both filters end, with status: 0 0
 one request as it goes over the network: 0021010161000000000000000100000001000000010000000000015180017500000001

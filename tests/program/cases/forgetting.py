@@ -461,7 +461,7 @@ class Play:
         self.note("today, not yet sent", self.recipients(1, b"c1", b"alice", 0, 2))
         for login, back, cap in (("alice", 0, 5), ("carol", 5, 1), ("erin", 5, 9), ("erin", 1, 2)):
             self.command("limit", "--host", "admin", "--login", login, "--from", str(self.today - back), "--cap", str(cap))
-        self.command("stop", "--host", "admin", "--login", "dave", "--day", str(self.today))
+        self.command("stop", "--host", "admin", "--login", "dave", "--day", str(self.today), "--force")
         self.reports("before")
 
     def meanwhile(self):

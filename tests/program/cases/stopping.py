@@ -6,7 +6,7 @@ import time
 from cases.filters import LIMIT, PROCEED
 from cases.rules import CENTRAL_EUROPE
 from cases.zones import WORKED_DAYS
-from ends import NO_NUMERIC_ADDRESS, NO_PORT, SECONDS, Relay, Script, Server, bad_address, fault, ledger_settings, toml, wait_until, without_log
+from ends import NO_NUMERIC_ADDRESS, NO_PORT, SECONDS, Relay, Script, Server, bad_address, fault, ledger_settings, shown, toml, wait_until, without_log
 from smtpd import Smtpd, clock, result
 from wire import BAD, RETRY, frame, full, granted, identity, limit, number, reserve, retire, retired, settle, text
 
@@ -26,7 +26,11 @@ def run(world, checks):
     room_by_script(world, checks)
     used_numbers(world, checks)
     login_texts(world, checks)
+    notes(world, checks)
     bad_words(world, checks)
+    today_alone(world, checks)
+    logins_that_sent_nothing(world, checks)
+    limits_given_back(world, checks)
     days(world, checks)
     a_device_that_is_full(world, checks)
     loops(world, checks, "limits in a loop", 1, 100)
@@ -40,19 +44,20 @@ def words_of(address, login, day, host="admin"):
 
 
 def stop(world, address, login="u", day=1, **more):
-    return world.run("stop", *words_of(address, login, day), **more)
+    """Stops a login on a day that needn't be today, and also where it sent nothing."""
+    return world.run("stop", *words_of(address, login, day), "--force", **more)
 
 
 def resume(world, address, cap, login="u", day=1, **more):
     return world.run("resume", *words_of(address, login, day), "--cap", str(cap), **more)
 
 
-def stopped(used, login="u", day=1):
-    return 0, f"stopped: {login} used {used} on day {day}\n".encode(), ""
+def stopped(used, before, login="u", day=1, note=""):
+    return 0, f"stopped: {login} used {used} on day {day}\nlimit before: {before}\n".encode(), note
 
 
-def resumed(cap, login="u", day=1):
-    return 0, f"resumed: {login} may use {cap} on day {day}\n".encode(), ""
+def resumed(cap, login="u", day=1, note=""):
+    return 0, f"resumed: {login} may use {cap} on day {day}\n".encode(), note
 
 
 def caps(server, login=b"u", *asked):
@@ -65,27 +70,27 @@ def caps(server, login=b"u", *asked):
 def of_the_real_server(world, checks):
     with Server(world) as server:
         address = server.address
-        checks.equal("stop of a login that never wrote", stop(world, address), stopped(0))
+        checks.equal("stop of a login that never wrote", stop(world, address), stopped(0, 3))
         checks.equal("its limits on that day, the next and the last", caps(server, b"u", 0, 1, 2, LAST_DAY), [3, 0, 0, 0])
         checks.equal("its next recipient", server.ask(reserve(1)), full(1, 0, 0))
-        checks.equal("stop of a stopped login", stop(world, address), stopped(0))
+        checks.equal("stop of a stopped login", stop(world, address), stopped(0, 0))
         checks.equal("resume", resume(world, address, 2), resumed(2))
         checks.equal("its limits then", caps(server, b"u", 0, 1, 2, LAST_DAY), [3, 2, 2, 2])
         checks.equal("two recipients, one of them settled, and a third", server.ask(reserve(2) + settle(3) + reserve(4, txn=2) + reserve(5, txn=3)), granted(2, 1) + frame(b"\x83" + identity(3) + number(1)) + granted(4, 2) + full(5, 2, 2))
-        checks.equal("stop of a login that used two", stop(world, address), stopped(2))
+        checks.equal("stop of a login that used two", stop(world, address), stopped(2, 2))
         checks.equal("its limits after it", caps(server, b"u", 1, 2), [2, 0])
         checks.equal("resume: as many more on that day, and as many on each later one", resume(world, address, 5), resumed(7))
         checks.equal("its limits after the resume", caps(server, b"u", 1, 2), [7, 5])
         checks.equal("a recipient on the next day", server.ask(reserve(6, txn=9, at=172_800)), granted(6, 1))
         checks.equal("stop where more is used on the next day", stop(world, address), fault("over day 2 used 1"))
         checks.equal("then the limit of the day alone is set", caps(server, b"u", 1, 2), [2, 5])
-        checks.equal("stop from that next day on", stop(world, address, day=2), stopped(1, day=2))
+        checks.equal("stop from that next day on", stop(world, address, day=2), stopped(1, 5, day=2))
         checks.equal("resume with nothing more", resume(world, address, 0, day=2), resumed(1, day=2))
         checks.equal("resume with the most", resume(world, address, MOST, day=2), resumed(MOST, day=2))
-        checks.equal("stop on the last day but one", stop(world, address, login="v", day=LAST_DAY - 1), stopped(0, "v", LAST_DAY - 1))
+        checks.equal("stop on the last day but one", stop(world, address, login="v", day=LAST_DAY - 1), stopped(0, 3, "v", LAST_DAY - 1))
         checks.equal("its limits there", caps(server, b"v", LAST_DAY - 2, LAST_DAY - 1, LAST_DAY), [3, 0, 0])
         checks.equal("a limit of a later day", world.run("limit", "--server", address, "--host", "admin", "--login", "w", "--from", "9", "--cap", "4"), (0, b"set\n", ""))
-        checks.equal("a stop before that day", stop(world, address, login="w"), stopped(0, "w"))
+        checks.equal("a stop before that day", stop(world, address, login="w"), stopped(0, 3, "w"))
         checks.equal("the later limit still governs from its day on", caps(server, b"w", 1, 8, 9), [0, 0, 4])
         checks.equal("the server's log", server.log_lines(), [])
         world.run("retire", "--server", address, "--host", "admin", "--run", str(clock() + 3_600_000))
@@ -136,19 +141,19 @@ def stop_by_script(world, checks):
     unavailable = fault("quota service unavailable")
     asked = frame(b"\x05" + text(b"u") + number(1))
     for what, script, limits, wanted in [
-        ("all answered at once", [usage_reply(2, 3), is_set, is_set], [(1, 0, 1, 5), (19, 0, 2, 0)], stopped(5)),
-        ("more is used meanwhile", [usage_reply(2, 3, cap=200), over(6), over(9), is_set, is_set], [(1, 0, 1, 5), (2, 0, 1, 14), (3, 0, 1, 33), (19, 0, 2, 0)], stopped(33)),
-        ("199 of 200 used, and one more meanwhile", [usage_reply(190, 9, cap=200), over(200), is_set, is_set], [(1, 0, 1, 199), (2, 0, 1, 200), (19, 0, 2, 0)], stopped(200)),
-        ("room up to the limit that it had", [usage_reply(2, 3), over(6), over(9), is_set, is_set], [(1, 0, 1, 5), (2, 0, 1, 9), (3, 0, 1, 9), (19, 0, 2, 0)], stopped(9)),
-        ("all used", [usage_reply(9, 0), is_set, is_set], [(1, 0, 1, 9), (19, 0, 2, 0)], stopped(9)),
+        ("all answered at once", [usage_reply(2, 3), is_set, is_set], [(1, 0, 1, 5), (19, 0, 2, 0)], stopped(5, 9)),
+        ("more is used meanwhile", [usage_reply(2, 3, cap=200), over(6), over(9), is_set, is_set], [(1, 0, 1, 5), (2, 0, 1, 14), (3, 0, 1, 33), (19, 0, 2, 0)], stopped(33, 200)),
+        ("199 of 200 used, and one more meanwhile", [usage_reply(190, 9, cap=200), over(200), is_set, is_set], [(1, 0, 1, 199), (2, 0, 1, 200), (19, 0, 2, 0)], stopped(200, 200)),
+        ("room up to the limit that it had", [usage_reply(2, 3), over(6), over(9), is_set, is_set], [(1, 0, 1, 5), (2, 0, 1, 9), (3, 0, 1, 9), (19, 0, 2, 0)], stopped(9, 9)),
+        ("all used", [usage_reply(9, 0), is_set, is_set], [(1, 0, 1, 9), (19, 0, 2, 0)], stopped(9, 9)),
         ("a greater limit is set meanwhile, and used", [usage_reply(2, 3), over(6)] + [over(12)] * 17, [(1, 0, 1, 5)] + [(place, 0, 1, 9) for place in range(2, 19)], fault("over day 1 used 12")),
         ("more is used on a later day", [usage_reply(2, 3), over(6, day=4)], [(1, 0, 1, 5)], fault("over day 4 used 6")),
         ("more is used meanwhile, and then on a later day", [usage_reply(2, 3), over(6), over(20, day=2)], [(1, 0, 1, 5), (2, 0, 1, 9)], fault("over day 2 used 20")),
         ("more is used on the next day", [usage_reply(0, 0), is_set, over(1, day=2)], [(1, 0, 1, 0), (19, 0, 2, 0)], fault("over day 2 used 1")),
-        ("a used number", [usage_reply(0, 1), is_taken, is_set, is_taken, is_taken, is_set], [(1, 0, 1, 1), (1, 1, 1, 1), (19, 0, 2, 0), (19, 1, 2, 0), (19, 3, 2, 0)], stopped(1)),
+        ("a used number", [usage_reply(0, 1), is_taken, is_set, is_taken, is_taken, is_set], [(1, 0, 1, 1), (1, 1, 1, 1), (19, 0, 2, 0), (19, 1, 2, 0), (19, 3, 2, 0)], stopped(1, 9)),
         ("a run that is retired", [usage_reply(0, 1), lambda heard: said(heard, OLD)], [(1, 0, 1, 1)], fault("run is retired")),
         ("the next day's run is retired", [usage_reply(0, 1), is_set, lambda heard: said(heard, OLD)], [(1, 0, 1, 1), (19, 0, 2, 0)], fault("run is retired")),
-        ("lost replies", [usage_reply(0, 1), b"", RETRY, is_set, BAD, is_set], [(1, 0, 1, 1)] * 3 + [(19, 0, 2, 0)] * 2, stopped(1)),
+        ("lost replies", [usage_reply(0, 1), b"", RETRY, is_set, BAD, is_set], [(1, 0, 1, 1)] * 3 + [(19, 0, 2, 0)] * 2, stopped(1, 9)),
         ("no answer to the second limit", [usage_reply(0, 1), is_set, b"", b"", b""], [(1, 0, 1, 1)] + [(19, 0, 2, 0)] * 3, unavailable),
         ("no answer to the first limit", [usage_reply(0, 1), b"", b"", b""], [(1, 0, 1, 1)] * 3, unavailable),
     ]:
@@ -218,24 +223,75 @@ def used_numbers(world, checks):
         checks.equal("limit where the clock's next 200 numbers are used", (came, caps(server, b"u", 1)), ((0, b"set\n", ""), [5]))
 
 
+def vis(login):
+    """A login as smtpd reports it, by vis(3): VIS_WHITE encodes space, tab and line feed, VIS_SAFE leaves bell, backspace and carriage return."""
+    text = ""
+    for byte in login:
+        if byte == 0x5c:
+            text += "\\\\"
+        elif 0x21 <= byte <= 0x7e or byte in (7, 8, 13):
+            text += chr(byte)
+        elif byte in (0x20, 0xa0):
+            text += f"\\{byte:03o}"
+        else:
+            low = byte & 0x7f
+            text += "\\" + ("M" if byte & 0x80 else "") + ("^?" if low == 0x7f else f"^{chr(low + 0x40)}" if low < 0x20 else f"-{chr(low)}")
+    return text.encode()
+
+
+def note_of(login):
+    """What is noted of a login that smtpd doesn't report so."""
+    if any(byte not in (7, 8, 13) and not 0x21 <= byte <= 0x7e for byte in login):
+        return f"mailquota: note: smtpd reports this login, in the form of --login-text, as {shown(vis(login))}\n"
+    if any(0x41 <= byte <= 0x5a for byte in login):
+        return f"mailquota: note: the filter one-spelling refuses capitals, and lets only {shown(login.lower())} send\n"
+    return ""
+
+
+def notes(world, checks):
+    """What smtpd reports of a login that it encodes; the first four were recorded, or stand in vis(3)."""
+    for login, reported in [
+        (b"\xff\xfe", rb"\M^?\M-~"), ("j\u00fcrgen".encode(), rb"j\M-C\M-<rgen"), (b"alice ", rb"alice\040"), (b"a\tb", rb"a\^Ib"), (b"\x7f", rb"\^?"),
+        (b"\xa0\\", rb"\240\\"), (b"\x80\x9f\xdc", rb"\M^@\M^_\M-\ "[:-1]), (b"\x01\x1f", rb"\^A\^_"),
+        *((bytes(range(low, high)), None) for low, high in [(1, 33), (127, 180), (180, 232), (232, 256)]),
+    ]:
+        reported = vis(login) if reported is None else reported
+        checks.equal(f"vis of {shown(login)[:40]}", vis(login), reported)
+        with Server(world) as server:
+            words = ["--server", server.address, "--host", "admin", "--login-text", shown(login)]
+            note = f"mailquota: note: smtpd reports this login, in the form of --login-text, as {shown(reported)}\n"
+            came = world.run("limit", *words, "--from", "1", "--cap", "7")
+            checks.equal(f"limit of {shown(login)[:40]}", (came, caps(server, login, 1)), ((0, b"set\n", note), [7]))
+            words[-1] = shown(reported)
+            came = world.run("limit", *words, "--from", "1", "--cap", "8")
+            checks.equal(f"limit of what is noted of {shown(login)[:40]}", (came, caps(server, reported, 1)), ((0, b"set\n", note_of(reported)), [8]))
+    with Server(world) as server:
+        for login, lowered in [("Alice", "alice"), ("A\\x", "a\\x5cx"), ("ZaZ@B.org", "zaz@b.org")]:
+            note = f"mailquota: note: the filter one-spelling refuses capitals, and lets only {lowered} send\n"
+            checks.equal(f"stop of {login}", stop(world, server.address, login), stopped(0, 3, shown(login.encode()), note=note))
+        for login in ("alice", "a@[`{", "\\M-~"[1:] + "m", "a\\b", "0_z-9"):
+            wanted = note_of(login.encode())
+            checks.equal(f"resume of {login}", resume(world, server.address, 2, login), resumed(2, shown(login.encode()), note=wanted))
+
+
 def login_texts(world, checks):
     """What a report prints can be given as it is, also bytes that are no UTF-8."""
     logins = [b"alice", b"a b\\", b"\xff\xfe", b"\x1b[2J", b"\xc3\xa9", b"\\x41", b"~", b"\x7f", b"a" * 255, b"\x00" * 255]
     with Server(world) as server:
         server.ask(b"".join(reserve(n, txn=n, login=login) for n, login in enumerate(logins, start=1)))
-        shown = world.run("report", "--server", server.address, "--day", "1")[1].decode().splitlines()
-        texts = [line.split(" ")[-1] for line in shown]
+        lines = world.run("report", "--server", server.address, "--day", "1")[1].decode().splitlines()
+        texts = [line.split(" ")[-1] for line in lines]
         checks.equal("a report of all", len(texts), len(logins))
-        for line, printed, login in zip(shown, texts, sorted(logins)):
+        for line, printed, login in zip(lines, texts, sorted(logins)):
             words = ["--login-text", printed]
             what = printed if len(printed) < 20 else f"{printed[:8]}.. of {len(login)} bytes"
             came = world.run("report", "--server", server.address, "--day", "1", *words)
             checks.equal(f"report --login-text {what}", came, (0, f"{line}\n".encode(), ""))
             came = world.run("limit", "--server", server.address, "--host", "admin", *words, "--from", "1", "--cap", "7")
-            checks.equal(f"limit --login-text {what}", (came, caps(server, login, 1)), ((0, b"set\n", ""), [7]))
-            checks.equal(f"stop --login-text {what}", (stop(world, server.address, words), caps(server, login, 1, 2)), (stopped(1, printed), [1, 0]))
-            checks.equal(f"resume --login-text {what}", (resume(world, server.address, 4, words), caps(server, login, 1, 2)), (resumed(5, printed), [5, 4]))
-        checks.equal("stop --login prints it as a report does", stop(world, server.address, "a b\\"), stopped(1, r"a\x20b\x5c"))
+            checks.equal(f"limit --login-text {what}", (came, caps(server, login, 1)), ((0, b"set\n", note_of(login)), [7]))
+            checks.equal(f"stop --login-text {what}", (stop(world, server.address, words), caps(server, login, 1, 2)), (stopped(1, 7, printed, note=note_of(login)), [1, 0]))
+            checks.equal(f"resume --login-text {what}", (resume(world, server.address, 4, words), caps(server, login, 1, 2)), (resumed(5, printed, note=note_of(login)), [5, 4]))
+        checks.equal("stop --login prints it as a report does", stop(world, server.address, "a b\\"), stopped(1, 5, r"a\x20b\x5c", note=note_of(b"a b\\")))
 
 
 def bad_words(world, checks):
@@ -258,6 +314,144 @@ def bad_words(world, checks):
             checks.equal(f"{name} --login-text={shown}", came, bad("login"))
         came = world.run("report", "--server", "127.0.0.1:1", "--day", "1", f"--login-text={given}")
         checks.equal(f"report --login-text={shown}", came, bad("login"))
+
+
+def today_alone(world, checks):
+    """`stop` takes today alone, unless it is forced: by the settings' zone, or without them a day that is today in some zone."""
+    wait_past_midnight()
+    now = int(time.time())
+    today = now // 86_400
+    with Server(world, default=9) as server:
+        words = ["--server", server.address, "--host", "admin", "--login", "u"]
+        server.ask(b"".join(reserve(n, txn=n, at=day * 86_400) for n, day in enumerate(range(today - 3, today + 4), start=1)))
+
+        def refused(day, is_today):
+            return 2, b"", f"mailquota: day {day} is not today, which is day {is_today}; use --force\n"
+
+        for day in (0, 1, today - 2, today + 2, LAST_DAY - 1):
+            checks.equal(f"stop, day {day - today} from UTC's", world.run("stop", *words, "--day", str(day)), refused(day, today))
+        checks.equal("the limits are as before", caps(server, b"u", today - 2, today, today + 2), [9, 9, 9])
+        for minutes in (0, 720, -720, 1_439, -1_439):
+            config = ledger_settings(world, f"{world.folder}/nowhere/ledger", offset=minutes)
+            theirs = (now + 60 * minutes) // 86_400
+            for day in range(today - 2, today + 3):
+                if day != theirs:
+                    checks.equal(f"stop, day {day - today} from UTC's, {minutes} minutes east", world.run("stop", *words, "--config", config, "--day", str(day)), refused(day, theirs))
+        rule = ledger_settings(world, "memory", offset=None, rule="<+12>-12")
+        theirs = (now + 43_200) // 86_400
+        checks.equal("stop by a rule, on the day before", world.run("stop", *words, "--config", rule, "--day", str(theirs - 1)), refused(theirs - 1, theirs))
+        checks.equal("the limits are still as before", caps(server, b"u", today - 2, today, today + 2), [9, 9, 9])
+    for what, more, day in [
+        ("a day before UTC's", ["--day", str(today - 1)], today - 1), ("UTC's day", ["--day", str(today)], today), ("a day after UTC's", ["--day", str(today + 1)], today + 1),
+        ("another day by force", ["--day", str(today - 3), "--force"], today - 3), ("another day by force and by settings", ["--day", str(today + 3), "--config", rule, "--force"], today + 3),
+        ("today by a rule", ["--config", rule], theirs), ("today by a rule, and given", ["--config", rule, "--day", str(theirs)], theirs), ("today by a rule and force", ["--config", rule, "--force"], theirs),
+    ]:
+        with Script([usage_reply(1, 0, day=day), is_set, is_set]) as server:
+            came = world.run("stop", "--server", server.address, "--host", "admin", "--login", "u", *more)
+        checks.equal(f"stop, {what}", (came, orders_of(server)), (stopped(1, 9, day=day), [(1, 0, day, 1), (19, 0, day + 1, 0)]))
+    came = world.run("stop", "--server", "127.0.0.1:1", "--host", "admin", "--login", "u", "--config", f"{world.folder}/nothing")
+    checks.equal("stop by settings that aren't there", without_log(came), fault("settings can't be read"))
+    came = world.run("stop", "--server", "127.0.0.1:1", "--host", "admin", "--login", "u")
+    checks.holds("stop with neither a day nor settings", came[0] == 2 and "--day <DAY>" in came[2], "status 2, and what is missing", came)
+
+
+def wait_past_midnight():
+    """Waits, where UTC's day ends within a minute, until the next one has begun."""
+    while time.time() % 86_400 > 86_340:
+        time.sleep(1)
+
+
+def logins_that_sent_nothing(world, checks):
+    """A login that used nothing on the day and the two before isn't stopped."""
+    wait_past_midnight()
+    today = int(time.time()) // 86_400
+
+    def idle(day):
+        return fault(f"nothing sent on day {day} or the two before; check the login, or use --force")
+
+    with Server(world, default=9) as server:
+        words = ["--server", server.address, "--host", "admin", "--day", str(today), "--login"]
+        for back in range(4):
+            server.ask(reserve(back + 1, txn=back + 1, login=b"u%d" % back, at=(today - back) * 86_400))
+        for login, wanted in [("u0", stopped(1, 9, "u0", today)), ("u1", stopped(0, 9, "u1", today)), ("u2", stopped(0, 9, "u2", today)), ("u3", idle(today)), ("other", idle(today))]:
+            checks.equal(f"stop of {login}", world.run("stop", *words, login), wanted)
+            checks.equal(f"limits of {login}", caps(server, login.encode(), today, today + 1), [9, 9] if wanted[0] else [wanted[1] == stopped(1, 9, "u0", today)[1] and 1 or 0, 0])
+        server.ask(reserve(9, txn=9, login=b"back", at=today * 86_400) + frame(b"\x03" + identity(10) + number(9) + number(today * 86_400, 8) + text(b"back")))
+        checks.equal("stop of a login whose message was dropped", world.run("stop", *words, "back"), idle(today))
+        checks.equal("the same by force", world.run("stop", *words, "other", "--force"), stopped(0, 9, "other", today))
+    nothing = [usage_reply(0, 0, day=day) for day in (today, today, today - 1, today - 2)]
+    asked = [frame(b"\x05" + text(b"u") + number(day)) for day in (today, today, today - 1, today - 2)]
+    with Script(nothing) as server:
+        came = without_log(stop_unforced(world, server.address, today))
+    checks.equal("what is asked of a login that sent nothing", (came, server.heard), (idle(today), asked))
+    with Script(nothing[:3] + [usage_reply(0, 2, day=today - 2), is_set, is_set]) as server:
+        came = without_log(stop_unforced(world, server.address, today))
+    checks.equal("of one that sent two days ago", (came, server.heard[:4], orders_of_last(server, 2)), (stopped(0, 9, day=today), asked, [(1, today, 0), (19, today + 1, 0)]))
+    with Script(nothing[:2] + [b""] * 3) as server:
+        came = without_log(stop_unforced(world, server.address, today))
+    checks.equal("no answer about the day before", (came, server.heard), (fault("quota service unavailable"), asked[:2] + [asked[2]] * 3))
+    for day in (0, 1):
+        with Script([usage_reply(0, 0, day=it) for it in (day, *range(day, -1, -1))]) as server:
+            came = without_log(world.run("stop", *words_of(server.address, "u", day)))
+        checks.equal(f"day {day} isn't today, and so nothing is asked", (came[0], server.heard), (2, []))
+
+
+def stop_unforced(world, address, day):
+    return world.run("stop", *words_of(address, "u", day))
+
+
+def orders_of_last(script, count):
+    """The place, day and cap of the last limits that a server heard."""
+    found = []
+    for heard in script.heard[-count:]:
+        place = 4 + heard[3] + 8
+        found.append(tuple(int.from_bytes(heard[at:at + 4], "big") for at in range(place, place + 12, 4)))
+    return found
+
+
+def limits_given_back(world, checks):
+    """`resume` without a number: the limit of the day before the last one with any, where the login is stopped."""
+    def given_back(server, login, day):
+        return world.run("resume", *words_of(server.address, login, day))
+
+    def restored(cap, limit_after, login, day):
+        return 0, f"resumed: {login} may use {cap} on day {day}\nlimit after: {limit_after}\n".encode(), ""
+
+    with Server(world, default=10) as server:
+        for used, day in [(used, day) for used in (5, 0) for day in (110, 111, 112, 150)]:
+            login = f"used{used}-{day}"
+            sender = {"login": login.encode(), "host": login.encode()}
+            server.ask(limit(1, 100, 40, **sender) + limit(2, 3, 12, **sender))
+            if used:
+                server.ask(reserve(3, count=used, at=110 * 86_400, **sender))
+            checks.equal(f"stop of {login}", stop(world, server.address, login, 110), stopped(used, 40, login, 110))
+            checks.equal("its limits", caps(server, login.encode(), 109, 110, 111, 151), [40, used, 0, 0])
+            checks.equal(f"its limit given back from day {day}", given_back(server, login, day), restored(40, 40, login, day))
+            wanted = [40, 40 if day == 110 else used, 40, 40, 40]
+            checks.equal("its limits then", caps(server, login.encode(), 109, 110, day, day + 1, LAST_DAY), wanted)
+            checks.equal("given back again", given_back(server, login, day), fault(f"not stopped after day {day}; use --cap"))
+        checks.equal("a stop on the first day", stop(world, server.address, "first", 0), stopped(0, 10, "first", 0))
+        checks.equal("there is no day before", given_back(server, "first", 0), fault("no earlier limit found; use --cap"))
+        checks.equal("nor from a later day", given_back(server, "first", 5), fault("no earlier limit found; use --cap"))
+        server.ask(reserve(1, login=b"long", count=2, at=1_000 * 86_400, host=b"long"))
+        checks.equal("a stop long ago", stop(world, server.address, "long", 1_000), stopped(2, 10, "long", 1_000))
+        checks.equal("given back 400 days later", given_back(server, "long", 1_400), fault("no earlier limit found; use --cap"))
+        checks.equal("nothing is set", caps(server, b"long", 999, 1_000, 1_001, 1_400, 1_401), [10, 2, 0, 0, 0])
+        checks.equal("given back 399 days later", given_back(server, "long", 1_399), restored(10, 10, "long", 1_399))
+    day = 20
+    for what, replies, wanted, asked in [
+        ("no answer about the next day", [b""] * 3, fault("quota service unavailable"), [21] * 3),
+        ("no answer about the day", [usage_reply(0, 0, day=21, cap=0)] + [b""] * 3, fault("quota service unavailable"), [21] + [20] * 3),
+        ("no answer about the day before", [usage_reply(0, 0, day=21, cap=0), usage_reply(4, 0, day=20, cap=4)] + [b""] * 3, fault("quota service unavailable"), [21, 20] + [19] * 3),
+        ("a limit of 0 on the day before", [usage_reply(0, 0, day=21, cap=0), usage_reply(4, 0, day=20, cap=4), usage_reply(0, 0, day=19, cap=0)], fault("no earlier limit found; use --cap"), [21, 20, 19]),
+    ]:
+        with Script(replies) as server:
+            came = without_log(world.run("resume", *words_of(server.address, "u", day)))
+        checks.equal(f"resume without a number, {what}", (came, server.heard), (wanted, [frame(b"\x05" + text(b"u") + number(it)) for it in asked]))
+    replies = [usage_reply(0, 0, day=21, cap=0), usage_reply(4, 3, day=20, cap=7), usage_reply(0, 0, day=19, cap=30), usage_reply(4, 3, day=20, cap=7)]
+    with Script(replies + [over(8, day=20), is_set, is_set]) as server:
+        came = without_log(world.run("resume", *words_of(server.address, "u", day)))
+    checks.equal("resume without a number, more is used meanwhile", (came, orders_of_last(server, 3)), (restored(30, 30, "u", 20), [(1, 20, 30), (2, 20, 30), (19, 21, 30)]))
 
 
 def days(world, checks):
@@ -354,8 +548,8 @@ def sessions_that_send(world, checks):
         status, output, errors = stop(world, relay.address, "alice", day=DAY)
         end = time.monotonic()
         words = output.decode().split()
-        good = (status, errors) == (0, "") and len(words) == 7 and output.decode() == f"stopped: alice used {words[3]} on day {DAY}\n"
-        checks.holds("stop of a login that sends in four sessions", good, "status 0, and one line", (status, output, errors))
+        good = (status, errors) == (0, "") and len(words) == 10 and output.decode() == f"stopped: alice used {words[3]} on day {DAY}\nlimit before: {MOST}\n"
+        checks.holds("stop of a login that sends in four sessions", good, "status 0, and two lines", (status, output, errors))
         refused = [reply for _, reply in relay.told if reply[2:3] == OVER]
         checks.holds("how often the limit was refused", len(refused) <= 2, "twice at most", len(refused))
         most = int(words[3]) if good else 0

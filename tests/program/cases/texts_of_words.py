@@ -71,7 +71,7 @@ Options:
 Usage: mailquota status <--server <ADDRESS>|--config <FILE>>
 
 Options:
-      --server <ADDRESS>  Numeric address and port of the quota server
+      --server <ADDRESS>  Numeric address and port of the quota server; each is asked where it is given more than once
       --config <FILE>     Settings of the quota server: its address is asked, and its ledger's file is read if it doesn't answer
   -h, --help              Print help
 """),
@@ -98,7 +98,7 @@ Options:
 Usage: mailquota limit [OPTIONS] --server <ADDRESS> --host <HOST> --from <DAY> --cap <N> <--login <LOGIN>|--login-text <TEXT>>
 
 Options:
-      --server <ADDRESS>   Numeric address and port of the quota server
+      --server <ADDRESS>   Numeric address and port of the quota server; each is asked where it is given more than once
       --host <HOST>        Name under which this command asks, such as admin
       --login <LOGIN>      Login, as smtpd reports it
       --login-text <TEXT>  Login, as a report prints it
@@ -109,27 +109,29 @@ Options:
 """),
     (["stop", "--help"], """Let a login have nothing more, today and on each later day
 
-Usage: mailquota stop --server <ADDRESS> --host <HOST> --day <DAY> <--login <LOGIN>|--login-text <TEXT>>
+Usage: mailquota stop [OPTIONS] --server <ADDRESS> --host <HOST> <--login <LOGIN>|--login-text <TEXT>>
 
 Options:
-      --server <ADDRESS>   Numeric address and port of the quota server
+      --server <ADDRESS>   Numeric address and port of the quota server; each is asked where it is given more than once
       --host <HOST>        Name under which this command asks, such as admin
       --login <LOGIN>      Login, as smtpd reports it
       --login-text <TEXT>  Login, as a report prints it
-      --day <DAY>          Day number of today
+      --day <DAY>          Day number of today; by --config where it isn't given
+      --config <FILE>      Settings of the quota server, whose offset or rule says which day is today
+      --force              Stop it also if the day isn't today, or if it has sent nothing lately
   -h, --help               Print help
 """),
     (["resume", "--help"], """Let a login have more again, today and on each later day
 
-Usage: mailquota resume --server <ADDRESS> --host <HOST> --day <DAY> --cap <N> <--login <LOGIN>|--login-text <TEXT>>
+Usage: mailquota resume [OPTIONS] --server <ADDRESS> --host <HOST> --day <DAY> <--login <LOGIN>|--login-text <TEXT>>
 
 Options:
-      --server <ADDRESS>   Numeric address and port of the quota server
+      --server <ADDRESS>   Numeric address and port of the quota server; each is asked where it is given more than once
       --host <HOST>        Name under which this command asks, such as admin
       --login <LOGIN>      Login, as smtpd reports it
       --login-text <TEXT>  Login, as a report prints it
       --day <DAY>          Day number of today
-      --cap <N>            Recipients that it may have more today, and on each later day
+      --cap <N>            Recipients that it may have more today, and on each later day; the limit that it had where it isn't given
   -h, --help               Print help
 """),
     (["day", "--help"], """Print today's day number by a server's settings
@@ -156,7 +158,7 @@ Options:
 Usage: mailquota report [OPTIONS] --server <ADDRESS> --day <DAY>
 
 Options:
-      --server <ADDRESS>   Numeric address and port of the quota server
+      --server <ADDRESS>   Numeric address and port of the quota server; each is asked where it is given more than once
       --day <DAY>          Day number, counted from 1970-01-01
       --login <LOGIN>      One login, as smtpd reports it; all where it isn't given
       --login-text <TEXT>  Login, as a report prints it

@@ -209,7 +209,8 @@ def words_of_questions(world, checks):
     with Script([lambda heard: frame(b"\x85" + identity(1, host=b"mx1", run=run_in(heard, 3)))], host=loopback_of_6()) as script:
         words = [f"--server={script.address}", "--host=mx1", "--login=u v", "--from=2", "--cap=3"]
         came = world.run("limit", *words)
-    checks.equal("limit without a run: what it prints", came, (0, b"set\n", ""))
+    note = "mailquota: note: smtpd reports this login, in the form of --login-text, as u\\x5c040v\n"
+    checks.equal("limit without a run: what it prints", came, (0, b"set\n", note))
     run = asked_of_the_clock(checks, "limit without a run", start, script.heard[0])
     checks.equal("limit without a run: its frame", script.heard, [limit(1, 2, 3, login=b"u v", host=b"mx1", run=run)])
     with Script([page_reply([], day=2)]) as script:

@@ -10,7 +10,10 @@ use log::sink::Console;
 use log::{LevelFilter, Logged};
 use mq_arguments::LimitArguments;
 use mq_command::{run_fresh, run_limit};
-use mq_process::{ProcessFault, checked, first_id, link_to, login_of, run_number};
+use mq_process::{
+    ProcessFault, ask_each, checked, end_process, first_id, link_to, login_of, run_number,
+    tell_note,
+};
 use mq_request::Request;
 use std::alloc::Global;
 use std::io;
@@ -21,15 +24,15 @@ use std::rt::Clock;
 /// The request that sets a limit, the first of its run.
 fn limit_request(
     alloc: Global,
-    given: LimitArguments<'_>,
+    given: &LimitArguments<'_>,
     run: u64,
 ) -> Result<Request, ProcessFault>
-    requires given { IsLimitArguments given }
-    requires host { IsHost given.host.now }
-    requires login { NamesLogin given.login }
+    requires given { IsLimitArguments given.now }
+    requires host { IsHost given.now.host.now }
+    requires login { NamesLogin given.now.login }
     requires run { IsRun run }
-    ensures request { IfOk result (λ request. (login : List ℕ) × Names given.entry.login login × (request
-        ≡ Limit (record { host = given.entry.host.now; run = run; number = 1 }) given.entry.from given.entry.cap login)) }
+    ensures request { IfOk result (λ request. (login : List ℕ) × Names given.now.login login × (request
+        ≡ Limit (record { host = given.now.host.now; run = run; number = 1 }) given.now.from given.now.cap login)) }
     ensures in_range { IfOk result IsLimit }
 {
     Ok(Request::Limit {
@@ -40,17 +43,38 @@ fn limit_request(
     })
 }
 
-/// `limit`: sets the limit of a login from a day on.
+/// `limit`: sets the limit of a login from a day on, at each server under the same number.
 pub fn limit<R: Clock + Net + Print + Eprint + AllocGlobal, E: Write>(
     rt: &R,
     given: LimitArguments<'_>,
     errors: &mut E,
 ) -> Result<u8, ProcessFault>
     requires { IsLimitArguments given }
-    ensures { OrderRefuses given.entry.host.now given.entry.login given.entry.server.now (λ fault. result ≡ Err fault) }
+    ensures { OrderRefuses given.entry.host.now given.entry.login given.entry.servers (λ fault. result ≡ Err fault) }
 {
-    let address = checked(rt, given.host, given.login, given.server)?;
+    let servers = given.servers.as_slice();
+    checked(rt, given.host, given.login, servers)?;
+    tell_note(rt.alloc(), &login_of(rt.alloc(), given.login)?, errors)?;
     let run = run_number(rt, given.run)?;
+    let order = &given;
+    Ok(ask_each(rt, servers, errors, |address, errors| {
+        end_process(limit_at(rt, address, order, run, errors), errors)
+    }))
+}
+
+/// Sets the limit at the server at this address.
+fn limit_at<R: Clock + Net + Print + Eprint + AllocGlobal, E: Write>(
+    rt: &R,
+    address: SocketAddr,
+    given: &LimitArguments<'_>,
+    run: u64,
+    errors: &mut E,
+) -> Result<u8, ProcessFault>
+    requires given { IsLimitArguments given.now }
+    requires host { IsHost given.now.host.now }
+    requires login { NamesLogin given.now.login }
+    requires run { IsRun run }
+{
     let request = limit_request(rt.alloc(), given, run)?;
     Ok(ask_limit(rt, address, request, given.run.is_some(), errors))
 }

@@ -7,7 +7,9 @@ use log::sink::Console;
 use log::{LevelFilter, Logged};
 use mq_arguments::{LoginArgument, ReportArguments};
 use mq_command::run_report;
-use mq_process::{ProcessFault, address_of, link_to, login_of, names_login};
+use mq_process::{
+    ProcessFault, ask_each, check_addresses, end_process, link_to, login_of, names_login,
+};
 use mq_request::Login;
 use std::alloc::Global;
 use std::io;
@@ -42,9 +44,13 @@ pub fn report<R: Clock + Net + Print + Eprint + AllocGlobal, E: Write>(
     if !given.login.is_none_or(|login| names_login(login)) {
         return Err(ProcessFault::Login);
     }
-    let address = address_of(rt, given.server)?;
+    let servers = given.servers.as_slice();
+    check_addresses(rt, servers)?;
     let login = one_login_of(rt.alloc(), given.login)?;
-    ask_report(rt, address, given.day, login.as_ref(), errors)
+    let day = given.day;
+    Ok(ask_each(rt, servers, errors, |address, errors| {
+        end_process(ask_report(rt, address, day, &login, errors), errors)
+    }))
 }
 
 /// Asks the server at this address what one login, or all, used on a day, and prints it.
@@ -52,14 +58,15 @@ fn ask_report<R: Clock + Net + Print + Eprint + AllocGlobal, E: Write>(
     rt: &R,
     address: SocketAddr,
     day: u32,
-    login: Option<&Login>,
+    login: &Option<Login>,
     errors: &mut E,
 ) -> Result<u8, ProcessFault>
     requires day { IsDay day }
-    requires login { IfSome login (λ login. IsLogin login.now) }
+    requires login { IfSome login.now IsLogin }
 {
     let mut output = BufWriter::new(rt.alloc(), io::writer(rt)).map_err(|_| ProcessFault::Memory)?;
     let logged = Logged::new(rt, LevelFilter::Error, Console(rt));
     let mut link = link_to(rt, address, &logged);
+    let login = login.as_ref();
     Ok(run_report(rt.alloc(), &mut link, day, login, &mut output, errors))
 }

@@ -1,21 +1,23 @@
 //! `stop` and `resume`: how many recipients more a login may have.
-ghost use Rattle.std.specs.Prelude.{◌≡◌, Err, IfOk};
+ghost use Rattle.std.specs.Prelude.{◌≡◌, Err, IfOk, IfSome};
 ghost use Rattle.mq_request.specs.Range.{IsAmount, IsHost, IsRun, IsWithin};
 ghost use Rattle.mq_command.specs.Allowing.{IsSetter};
-ghost use Rattle.mq_arguments.specs.Arguments.{IsResumeArguments};
-ghost use Rattle.mq_process.specs.Refusals.{NamesLogin, OrderRefuses};
+ghost use Rattle.mq_arguments.specs.Arguments.{IsResumeArguments, IsStopArguments};
+ghost use Rattle.mq_process.specs.Refusals.{Names, NamesLogin, OrderRefuses};
 
 use log::sink::Console;
 use log::{LevelFilter, Logged};
 use mq_arguments::{LoginArgument, ResumeArguments, StopArguments};
-use mq_command::{Setter, run_resume, run_stop};
-use mq_process::{ProcessFault, checked, link_to, login_of, run_number};
+use mq_command::{Setter, run_restore, run_resume, run_stop};
+use mq_process::{
+    ProcessFault, ask_each, checked, day_to_stop, link_to, login_of, run_number, tell_note,
+};
 use mq_request::Host;
 use std::alloc::Global;
 use std::io;
 use std::io::Write;
 use std::net::{Net, SocketAddr};
-use std::rt::Clock;
+use std::rt::{Clock, Files};
 
 /// The login whose limits are set, and the run of the host that sets them.
 fn setter_of(
@@ -27,7 +29,9 @@ fn setter_of(
     requires host { IsHost host.now }
     requires run { IsRun run }
     requires login { NamesLogin login }
-    ensures { IfOk result IsSetter }
+    ensures setter { IfOk result (λ setter. (setter.host ≡ host.now) × (setter.run ≡ run)
+        × Names login.entry setter.login) }
+    ensures in_range { IfOk result IsSetter }
 {
     Ok(Setter {
         host: Host::from_slice(alloc, host.as_bytes())?,
@@ -37,18 +41,27 @@ fn setter_of(
 }
 
 /// `stop`: lets a login have nothing more.
-pub fn stop<R: Clock + Net + Print + Eprint + AllocGlobal, E: Write>(
+pub fn stop<R: Files + Clock + Net + Print + Eprint + AllocGlobal, E: Write>(
     rt: &R,
     given: StopArguments<'_>,
     errors: &mut E,
 ) -> Result<u8, ProcessFault>
-    requires { IsWithin 0 376199 given.day }
-    ensures { OrderRefuses given.entry.host.now given.entry.login given.entry.server.now (λ fault. result ≡ Err fault) }
+    requires { IsStopArguments given }
+    ensures { OrderRefuses given.entry.host.now given.entry.login given.entry.servers (λ fault. result ≡ Err fault) }
 {
-    let address = checked(rt, given.host, given.login, given.server)?;
+    let servers = given.servers.as_slice();
+    checked(rt, given.host, given.login, servers)?;
+    let day = day_to_stop(rt, given.day, given.config, given.is_forced)?;
     let run = run_number(rt, None)?;
     let setter = setter_of(rt.alloc(), given.host, run, given.login)?;
-    Ok(ask_stop(rt, address, &setter, given.day, errors))
+    tell_note(rt.alloc(), &setter.login, errors)?;
+    let is_meant = given.is_forced;
+    Ok(ask_each(
+        rt,
+        servers,
+        errors,
+        |address, errors| ask_stop(rt, address, &setter, day, is_meant, errors),
+    ))
 }
 
 /// Asks the server at this address to stop a login, and prints what comes of it.
@@ -57,6 +70,7 @@ fn ask_stop<R: Clock + Net + Print + Eprint + AllocGlobal, E: Write>(
     address: SocketAddr,
     setter: &Setter,
     day: u32,
+    is_meant: bool,
     errors: &mut E,
 ) -> u8
     requires setter { IsSetter setter.now }
@@ -64,12 +78,14 @@ fn ask_stop<R: Clock + Net + Print + Eprint + AllocGlobal, E: Write>(
 {
     let logged = Logged::new(rt, LevelFilter::Error, Console(rt));
     let mut link = link_to(rt, address, &logged);
+    let mut output = io::writer(rt);
     run_stop(
         rt.alloc(),
         &mut link,
         setter,
         day,
-        &mut io::writer(rt),
+        is_meant,
+        &mut output,
         errors,
     )
 }
@@ -81,37 +97,49 @@ pub fn resume<R: Clock + Net + Print + Eprint + AllocGlobal, E: Write>(
     errors: &mut E,
 ) -> Result<u8, ProcessFault>
     requires { IsResumeArguments given }
-    ensures { OrderRefuses given.entry.host.now given.entry.login given.entry.server.now (λ fault. result ≡ Err fault) }
+    ensures { OrderRefuses given.entry.host.now given.entry.login given.entry.servers (λ fault. result ≡ Err fault) }
 {
-    let address = checked(rt, given.host, given.login, given.server)?;
+    let servers = given.servers.as_slice();
+    checked(rt, given.host, given.login, servers)?;
     let run = run_number(rt, None)?;
     let setter = setter_of(rt.alloc(), given.host, run, given.login)?;
-    Ok(ask_resume(rt, address, &setter, given.day, given.cap, errors))
+    tell_note(rt.alloc(), &setter.login, errors)?;
+    let day = given.day;
+    let more = given.cap;
+    Ok(ask_each(
+        rt,
+        servers,
+        errors,
+        |address, errors| ask_resume(rt, address, &setter, day, more, errors),
+    ))
 }
 
-/// Asks the server at this address to let a login have more again, and prints what comes of it.
+/// Asks the server at this address to let a login have more again, or the limit that it had, and prints what comes of it.
 fn ask_resume<R: Clock + Net + Print + Eprint + AllocGlobal, E: Write>(
     rt: &R,
     address: SocketAddr,
     setter: &Setter,
     day: u32,
-    more: u32,
+    more: Option<u32>,
     errors: &mut E,
 ) -> u8
     requires setter { IsSetter setter.now }
     requires day { IsWithin 0 376199 day }
-    requires more { IsAmount more }
+    requires more { IfSome more IsAmount }
 {
     let logged = Logged::new(rt, LevelFilter::Error, Console(rt));
     let mut link = link_to(rt, address, &logged);
     let mut output = io::writer(rt);
-    run_resume(
-        rt.alloc(),
-        &mut link,
-        setter,
-        day,
-        more,
-        &mut output,
-        errors,
-    )
+    match more {
+        Some(more) => run_resume(
+            rt.alloc(),
+            &mut link,
+            setter,
+            day,
+            more,
+            &mut output,
+            errors,
+        ),
+        None => run_restore(rt.alloc(), &mut link, setter, day, &mut output, errors),
+    }
 }

@@ -1,0 +1,45 @@
+-- What asking for what a login used on a day leads to, and on the days before it.
+use Rattle.std.specs.Prelude.{◌≡◌, ◌<◌, ◌≤◌, ◌+◌, ◌-◌, ◌==◌, ℕ, List, Bool, true, false, not, Option, None, Some, Result, Ok, Err, min}
+use Rattle.mq_request.specs.declared.message.Request.TheVariants as asks
+use Rattle.mq_request.specs.declared.message.Reply.{Reply}
+use Rattle.mq_request.specs.declared.message.Reply.TheVariants as says
+use Rattle.mq_command.specs.Asking.{Asks, IsAnswered}
+use Rattle.mq_command.specs.declared.usage.DayUsage.{DayUsage}
+use Rattle.mq_command.specs.declared.look_back.Sought.{Sought}
+use Rattle.mq_command.specs.declared.look_back.Sought.TheVariants.{Use, Limit}
+use Rattle.mq_command.specs.declared.ask.AskFault.{AskFault}
+use Rattle.mq_link.specs.declared.link.Told.{Told}
+
+-- the reply says that so much is used, settled and reserved, under this limit
+abbrev pub IsUsed : Reply → DayUsage → Type 0
+IsUsed reply usage =
+    (login : List ℕ) × (day settled reserved : ℕ) × (reply ≡ says.Usage login day settled reserved usage.cap)
+    × (usage.used ≡ settled + reserved)
+
+-- What asking for what a login used on a day leads to.
+abbrev pub AsksUsed : List ℕ → ℕ → Option (List Told) → Option (List Told) → Result DayUsage AskFault → Type 0
+AsksUsed login day old new (Ok usage) =
+    (reply : Reply) × IsAnswered (asks.Usage login day) reply old new × IsUsed reply usage
+AsksUsed login day old new (Err fault) = Asks (asks.Usage login day) old new (Err fault)
+
+-- whether a day is one that is sought: one on which something is used, or one whose limit isn't 0
+abbrev pub is_sought : Sought → DayUsage → Bool
+is_sought Use usage = not (usage.used == 0)
+is_sought Limit usage = not (usage.cap == 0)
+
+-- so many days were asked for in turn, from this one back, and none is one that is sought
+pub data AreOthers (sought : Sought) (login : List ℕ) (day : ℕ) (start : Option (List Told)) : ℕ → Option (List Told) → Type 0 where
+  no_day : AreOthers sought login day start 0 start
+  other_day : (count : ℕ) (mid new : Option (List Told)) (usage : DayUsage) → AreOthers sought login day start count mid
+      → AsksUsed login (day - count) mid new (Ok usage) → is_sought sought usage ≡ false
+      → AreOthers sought login day start (count + 1) new
+
+-- What looking back from a day leads to, over so many days: the latest that is sought, if one is.
+abbrev pub LooksBack : Sought → List ℕ → ℕ → ℕ → Option (List Told) → Option (List Told) → Result (Option ℕ) AskFault → Type 0
+LooksBack sought login day days old new (Ok (Some found)) =
+    (count : ℕ) × (mid : Option (List Told)) × (usage : DayUsage) × (count < days) × (found + count ≡ day)
+    × AreOthers sought login day old count mid × AsksUsed login found mid new (Ok usage) × (is_sought sought usage ≡ true)
+LooksBack sought login day days old new (Ok None) = AreOthers sought login day old (min days (day + 1)) new
+LooksBack sought login day days old new (Err fault) =
+    (count : ℕ) × (mid : Option (List Told)) × (count < min days (day + 1)) × AreOthers sought login day old count mid
+    × AsksUsed login (day - count) mid new (Err fault)

@@ -1,0 +1,156 @@
+"""Commands that ask several servers in turn: what each prints and is asked, and one that is away, at a wrong address or without answers."""
+from cases.stopping import SET, caps, orders_of, run_of, said, usage_reply
+from ends import NO_PORT, Script, Server, bad_address, fault, nobody_there, without_log
+from smtpd import clock
+from wire import frame, limit, number, page_reply, reserve, row, text, usage
+
+PROBE = usage(b"-", 0)
+UNAVAILABLE = "mailquota: quota service unavailable\n"
+
+
+def run(world, checks):
+    each_is_asked(world, checks)
+    one_that_is_away(world, checks)
+    one_number_for_all(world, checks)
+    in_the_order_given(world, checks)
+    wrong_words(world, checks)
+    a_device_that_is_full(world, checks)
+
+
+def at(*addresses):
+    return [word for address in addresses for word in ("--server", address)]
+
+
+def heading(address):
+    return f"server {address}:\n".encode()
+
+
+def undone(address):
+    return f"mailquota: not done by server {address}\n"
+
+
+def each_is_asked(world, checks):
+    with Server(world, default=3) as first, Server(world, default=5) as second:
+        both = at(first.address, second.address)
+        first.ask(reserve(1) + reserve(2, txn=2, login=b"v"))
+        second.ask(reserve(1, count=4))
+        headings = heading(first.address), heading(second.address)
+
+        def told(one, other):
+            return 0, headings[0] + one + headings[1] + other, ""
+
+        checks.equal("status of two", world.run("status", *both), told(f"quota server {first.address} answers\n".encode(), f"quota server {second.address} answers\n".encode()))
+        checks.equal("a report of two", world.run("report", *both, "--day", "1"), told(b"      0       1       3 u\n      0       1       3 v\n", b"      0       4       5 u\n"))
+        checks.equal("a report of one login of two", world.run("report", *both, "--day", "1", "--login", "v"), told(b"      0       1       3 v\n", b"      0       0       5 v\n"))
+        words = [*both, "--host", "admin", "--login", "u"]
+        checks.equal("stop at two", world.run("stop", *words, "--day", "1", "--force"), told(b"stopped: u used 1 on day 1\nlimit before: 3\n", b"stopped: u used 4 on day 1\nlimit before: 5\n"))
+        checks.equal("the limits then", (caps(first, b"u", 1, 2), caps(second, b"u", 1, 2)), ([1, 0], [4, 0]))
+        checks.equal("resume at two", world.run("resume", *words, "--day", "1", "--cap", "2"), told(b"resumed: u may use 3 on day 1\n", b"resumed: u may use 6 on day 1\n"))
+        checks.equal("limit at two", world.run("limit", *words, "--from", "1", "--cap", "4"), told(b"set\n", b"set\n"))
+        checks.equal("the limits after it", (caps(first, b"u", 1, 2), caps(second, b"u", 1, 2)), ([4, 2], [4, 2]))
+        came = world.run("limit", *words, "--from", "1", "--cap", "1")
+        wanted = 1, headings[0] + b"set\n" + headings[1], f"mailquota: over day 1 used 4\n{undone(second.address)}"
+        checks.equal("a limit that the second server refuses", came, wanted)
+        came = world.run("limit", *at(second.address, first.address), "--host", "admin", "--login", "u", "--from", "1", "--cap", "1")
+        wanted = 1, headings[1] + headings[0] + b"set\n", f"mailquota: over day 1 used 4\n{undone(second.address)}"
+        checks.equal("one that the first refuses", came, wanted)
+
+
+def one_that_is_away(world, checks):
+    """It doesn't keep the others from being asked, wherever it stands."""
+    with Server(world) as server, nobody_there() as away:
+        for addresses in ([away, server.address], [server.address, away], [away, server.address, away]):
+            places = "".join("-" if address == away else "+" for address in addresses)
+            count = addresses.count(away)
+            for name, more, done in [
+                ("status", [], f"quota server {server.address} answers\n"), ("report", ["--day", "1", "--login", "u"], "      0       0       3 u\n"),
+                ("limit", ["--host", "admin", "--login", "u", "--from", "1", "--cap", "3"], "set\n"),
+                ("stop", ["--host", "admin", "--login", "w", "--day", "1", "--force"], None),
+                ("resume", ["--host", "admin", "--login", "x", "--day", "1", "--cap", "3"], "resumed: x may use 3 on day 1\n"),
+            ]:
+                if done is None:
+                    before = caps(server, b"w", 1)[0]
+                    done = f"stopped: w used 0 on day 1\nlimit before: {before}\n"
+                printed = b"".join(heading(it) + (b"" if it == away else done.encode()) for it in addresses)
+                came = without_log(world.run(name, *at(*addresses), *more))
+                checks.equal(f"{name} at {places}, of which - is away", came, (1, printed, (UNAVAILABLE + undone(away)) * count))
+        checks.equal("what was set at the one that answers", (caps(server, b"u", 1), caps(server, b"w", 1, 2), caps(server, b"x", 1, 2)), ([3], [0, 0], [3, 3]))
+        checks.equal("one server alone that is away", without_log(world.run("status", *at(away))), fault("quota service unavailable"))
+
+
+def is_set(heard):
+    return said(heard, SET)
+
+
+def one_number_for_all(world, checks):
+    """Each server has a ledger of its own, and gets the same request under the same number."""
+    limiting = ["limit", "--host", "admin", "--login", "u", "--from", "1", "--cap", "5"]
+    with Script([is_set]) as first, Script([is_set]) as second:
+        before = clock()
+        came = world.run(*limiting, *at(first.address, second.address))
+    checks.equal("limit at two that say it is set", came, (0, heading(first.address) + b"set\n" + heading(second.address) + b"set\n", ""))
+    checks.equal("what each heard", second.heard, first.heard)
+    checks.holds("its run is the clock's", before <= run_of(first.heard[0]) <= clock(), f"from {before} on, and not later", first.heard)
+    with Script([is_set]) as first, Script([is_set]) as second:
+        world.run(*limiting, "--run", "7", *at(first.address, second.address))
+    checks.equal("limit --run at two", (first.heard, second.heard), ([limit(1, 1, 5, host=b"admin", run=7)],) * 2)
+    with Script([lambda heard: said(heard, b"\x8a"), is_set]) as first, Script([is_set]) as second:
+        world.run(*limiting, *at(first.address, second.address))
+    runs = [run_of(heard) for heard in first.heard + second.heard]
+    checks.equal("a number that the first has already: the runs", [it - runs[0] for it in runs], [0, 1, 0])
+    with Script([usage_reply(2, 3), is_set, is_set]) as first, Script([usage_reply(1, 0), is_set, is_set]) as second:
+        world.run("stop", *at(first.address, second.address), "--host", "admin", "--login", "u", "--day", "1", "--force")
+    checks.equal("stop at two: the limits", (orders_of(first), orders_of(second)), ([(1, 0, 1, 5), (19, 0, 2, 0)], [(1, 0, 1, 1), (19, 0, 2, 0)]))
+    checks.equal("stop at two: one run", run_of(first.heard[1]), run_of(second.heard[1]))
+    with Server(world, default=3) as server:
+        came = world.run(*limiting, *at(server.address, server.address))
+        checks.equal("one server twice", came, (0, (heading(server.address) + b"set\n") * 2, ""))
+        checks.equal("its limit", caps(server, b"u", 1), [5])
+
+
+def in_the_order_given(world, checks):
+    order = []
+
+    def answers(name, reply):
+        def answer(_heard):
+            order.append(name)
+            return reply
+        return [answer]
+
+    probed = frame(b"\x8b" + text(b"-") + number(0) * 4)
+    listed = page_reply([row(b"u", 1, 0, 3)])
+    for what, words, reply in [("status", ["status"], probed), ("report", ["report", "--day", "1"], listed)]:
+        for names in ("abc", "cab"):
+            order.clear()
+            with Script(answers("a", reply)) as a, Script(answers("b", reply)) as b, Script(answers("c", reply)) as c:
+                addresses = {"a": a.address, "b": b.address, "c": c.address}
+                status, output, errors = world.run(*words, *at(*(addresses[name] for name in names)))
+            checks.equal(f"{what} at {names}: who is asked, and when", (status, "".join(order), errors), (0, names, ""))
+            said_of = [line for line in output.decode().splitlines() if line.startswith("server ")]
+            checks.equal(f"{what} at {names}: the headings", said_of, [f"server {addresses[name]}:" for name in names])
+
+
+def wrong_words(world, checks):
+    """A wrong address, wherever it stands, keeps each from being asked."""
+    with Script([b""]) as server:
+        for addresses in ([server.address, "127.0.0.1"], ["127.0.0.1", server.address], [server.address, "127.0.0.1", "localhost"]):
+            for name, more in [
+                ("status", []), ("report", ["--day", "1"]), ("limit", ["--host", "a", "--login", "u", "--from", "1", "--cap", "1"]),
+                ("stop", ["--host", "a", "--login", "u", "--day", "1", "--force"]), ("resume", ["--host", "a", "--login", "u", "--day", "1", "--cap", "1"]),
+            ]:
+                checks.equal(f"{name}, {len(addresses)} addresses, one of them wrong", world.run(name, *at(*addresses), *more), bad_address("127.0.0.1", NO_PORT))
+        checks.equal("what was sent", server.heard, [])
+        came = world.run("status", *at(server.address), "--config", world.new_file(""))
+        checks.holds("status of an address and of settings", came[0] == 2 and came[2].startswith("error: "), "status 2, and a line that begins with `error: `", came)
+        came = world.run("retire", *at(server.address, server.address), "--host", "a")
+        checks.holds("retire at two", came[0] == 2 and came[2].startswith("error: "), "status 2, and a line that begins with `error: `", came)
+
+
+def a_device_that_is_full(world, checks):
+    """What can't be printed is done all the same."""
+    with Server(world) as first, Server(world) as second, open("/dev/full", "wb") as device:
+        words = [*at(first.address, second.address), "--host", "admin", "--login", "u", "--from", "1", "--cap", "2"]
+        status, _, errors = world.run("limit", *words, output=device)
+        failed = "mailquota: write failed\n" * 2
+        checks.equal("limit at two to a full device", (status, errors), (1, failed + undone(first.address) + failed + undone(second.address)))
+        checks.equal("both have it", (caps(first, b"u", 1), caps(second, b"u", 1)), ([2], [2]))
