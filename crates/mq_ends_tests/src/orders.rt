@@ -6,8 +6,8 @@ ghost use Rattle.std.specs.Prelude.{IfOk};
 ghost use Rattle.mq_command.specs.Allowing.{IsSetter};
 
 use mq_command::{
-    Setter, is_login_text, login_of_text, login_text, run_day, run_fresh, run_limit, run_resume,
-    run_retire, run_stop,
+    Setter, is_login_text, login_of_text, login_text, run_day, run_fresh, run_limit, run_restore,
+    run_resume, run_retire, run_stop,
 };
 use mq_frame::{decode_request, encode_request};
 use mq_ledger::{PlainLedger, Zone};
@@ -58,8 +58,10 @@ enum Act {
     Send(&'static str),
     /// This limit is sent under the first number that isn't used.
     SendFresh(&'static str),
-    /// Login `u` is stopped on this day.
-    Stop(u32),
+    /// Login `u` is stopped on this day, and whether it is meant is said.
+    Stop(u32, bool),
+    /// Login `u` has on this day, and on each later one, the limit that it had.
+    Restore(u32),
     /// Login `u` may have so many more on this day and on each later one.
     Resume(u32, u32),
     /// The day of a moment is told.
@@ -129,6 +131,7 @@ fn stopped(
     alloc: Global,
     link: &mut Near,
     day: u32,
+    is_meant: bool,
     output: &mut Vec<u8>,
     errors: &mut Vec<u8>,
 ) -> Result<u8, Fail> {
@@ -136,7 +139,22 @@ fn stopped(
         return Err("a day out of range".into());
     }
     let whose = setter(alloc)?;
-    Ok(run_stop(alloc, link, &whose, day, output, errors))
+    Ok(run_stop(alloc, link, &whose, day, is_meant, output, errors))
+}
+
+/// The status of a limit that is given back on this day.
+fn restored(
+    alloc: Global,
+    link: &mut Near,
+    day: u32,
+    output: &mut Vec<u8>,
+    errors: &mut Vec<u8>,
+) -> Result<u8, Fail> {
+    if day > 376_199 {
+        return Err("a day out of range".into());
+    }
+    let whose = setter(alloc)?;
+    Ok(run_restore(alloc, link, &whose, day, output, errors))
 }
 
 /// The status of a resume on this day, with so many recipients more.
@@ -182,7 +200,8 @@ fn done(
     match act {
         Act::Send(digits) => sent(alloc, link, digits, output, errors),
         Act::SendFresh(digits) => sent_fresh(alloc, link, digits, output, errors),
-        Act::Stop(day) => stopped(alloc, link, day, output, errors),
+        Act::Stop(day, is_meant) => stopped(alloc, link, day, is_meant, output, errors),
+        Act::Restore(day) => restored(alloc, link, day, output, errors),
         Act::Resume(day, more) => resumed(alloc, link, day, more, output, errors),
         Act::Day(moment) => printed_day(alloc, moment, output, errors),
     }
@@ -210,7 +229,7 @@ fn assert_told(
 const RULE: &str = "CET-1CEST,M3.5.0,M10.5.0/3";
 
 /// What is done in turn, and what is told of it.
-const ACTS: [(Act, &str); 19] = [
+const ACTS: [(Act, &str); 22] = [
     // Reserves of 1 and of 2 recipients for login `u` on day 1, under numbers 1 and 2 of run 1 of host `a`.
     (
         Act::Send("010161000000000000000100000001000000010000000000015180017500000001"),
@@ -264,10 +283,30 @@ const ACTS: [(Act, &str); 19] = [
         Act::Send("010161000000000000000200000002000000010000000000015180017500000001"),
         "||0",
     ),
-    (Act::Stop(1), "stopped: u used 4 on day 1\n||0"),
-    (Act::Stop(2), "stopped: u used 0 on day 2\n||0"),
+    (
+        Act::Stop(1, false),
+        "stopped: u used 4 on day 1\nlimit before: 4\n||0",
+    ),
+    // It sent something on the day before.
+    (
+        Act::Stop(2, false),
+        "stopped: u used 0 on day 2\nlimit before: 0\n||0",
+    ),
+    (
+        Act::Stop(0, false),
+        "|mailquota: nothing sent on day 0 or the two before; check the login, or use --force\n|1",
+    ),
     // What is used on the next day is above the limit of nothing.
-    (Act::Stop(0), "|mailquota: over day 1 used 4\n|1"),
+    (Act::Stop(0, true), "|mailquota: over day 1 used 4\n|1"),
+    // On day 0 it had the default, which is less than is used on day 1.
+    (
+        Act::Restore(1),
+        "resumed: u may use 4 on day 1\nlimit after: 3\n||0",
+    ),
+    (
+        Act::Restore(1),
+        "|mailquota: not stopped after day 1; use --cap\n|1",
+    ),
     // The last second of a day of winter, and the first of the next.
     (Act::Day(1576105199), "18241\n||0"),
     (Act::Day(1576105200), "18242\n||0"),
