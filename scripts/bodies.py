@@ -39,7 +39,7 @@ from edit import BadEdit, Edit, edits_in
 PROGRAM, TESTS = "mailquota", ("mq_ends_tests", "mq_store_tests")
 # So many seconds a run has: one that waits for what doesn't come takes minutes.
 LONGEST = 10 * 60
-# What a run has come to that ends in an exception, or not at all.
+# What a run has come to that ends in an exception.
 END = "it comes to its end"
 # A line that says what a case or a test came to.
 CASE, TEST = re.compile(r"(ok  |NOT )(.*)\n?"), re.compile(r"test (?=.* \.\.\. (\w+))(\S+) \.\.\. .*\n?")
@@ -259,7 +259,8 @@ def outcomes(words, number, is_enough=lambda found: False):
         finally:
             timer.cancel()
             end(process)
-    return found + [Outcome(END, False, None)] * late.is_set()
+    # (that says nothing of a case: the machine may be slow)
+    return found + [Outcome(f"it takes more than {LONGEST} s", False, None)] * late.is_set()
 
 
 def words_of(group, program, name, function=None):
