@@ -4,7 +4,7 @@
 use mq_frame::{decode_request, encode_reply};
 use mq_ledger::{Ledger, LedgerFault, PlainLedger, Zone};
 use mq_request::{Reply, Request, is_reply, is_request};
-use mq_store::SqlLedger;
+use mq_store::{Audit, SqlLedger};
 use sqlite::MemStore;
 use std::alloc::Global;
 use std::fmt::Debug;
@@ -114,6 +114,12 @@ pub fn ask_in_turn<L: Ledger>(alloc: Global, ledger: &mut L, asked: &[(&str, &st
         reply_of(alloc, ledger, request)?;
     }
     Some(())
+}
+
+/// An audit of a ledger in tables finds each pair right.
+pub fn check_audit(ledger: &mut SqlLedger<MemStore>) -> Verdict {
+    let right = matches!(ledger.audit(), Ok(Audit::Sound { .. }));
+    wanted(right, "not right by an audit")
 }
 
 /// The zone that is so many minutes ahead of UTC, less than a day.

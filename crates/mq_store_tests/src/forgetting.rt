@@ -1,9 +1,9 @@
 //! A ledger that forgot the days that are over, alongside the one that it was made from: random histories over
 //! tables, from fixed seeds. What stays is told by a list of what was asked.
 
-use crate::asks::{Verdict, ask, tables, told, wanted};
+use crate::asks::{Verdict, ask, check_audit, tables, told, wanted};
 use mq_request::{Host, Id, Login, Reply, Request};
-use mq_store::{Audit, SqlLedger};
+use mq_store::SqlLedger;
 use rand_core::utils::NextWord;
 use rand_pcg::Pcg32;
 use sqlite::{Connection, MemStore, Row};
@@ -451,12 +451,6 @@ fn forget(
         Ok(new) => Ok(new),
         Err(_) => Err("not carried over"),
     }
-}
-
-/// Each pair is right.
-fn check_audit(ledger: &mut SqlLedger<MemStore>) -> Verdict {
-    let right = matches!(ledger.audit(), Ok(Audit::Sound { .. }));
-    wanted(right, "not right by an audit")
 }
 
 /// All of both ledgers, which are then asked the same.

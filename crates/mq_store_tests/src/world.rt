@@ -5,4 +5,5 @@ mod rows;
 mod schedules;
 mod scripted;
 mod scripts;
+mod senders;
 mod usage;

@@ -1,7 +1,7 @@
-//! A link that loses, repeats, delays and mixes up, by a pseudo-random generator.
+//! A link that loses, repeats, delays and mixes up, and whose address may move, by a pseudo-random generator.
 
 use super::scripted::{answer, copied, keep};
-use super::usage::{deliver_frame, is_covered};
+use super::usage::{deliver_frame, taken_of};
 use mq_frame::encode_request;
 use mq_ledger::Ledger;
 use mq_link::{Link, LinkFault};
@@ -60,20 +60,39 @@ pub const DAYS: [u32; 2] = [1, 2];
 /// How the body of the reply to a request of a retired run begins.
 const OLD: u8 = 0x90;
 
-/// A link to a ledger, with every frame that was ever sent and every reply body that was ever written.
+/// How what was let through of a login on a day is settled or reserved, if no ledger is above its limit.
+#[derive(Clone, Copy, PartialEq)]
+enum Cover {
+    /// One ledger has all of it.
+    ByOne,
+    /// Two ledgers have it together, and neither has all of it.
+    Together,
+    /// It isn't, or a ledger is above its limit, or there is a fault.
+    Missing,
+}
+
+/// A link to the ledger of the server that has an address, with every frame that was ever sent and every reply
+/// body that was ever written.
 #[derive(Drop)]
 pub struct Lossy<L> {
     alloc: Global,
+    /// The ledger at the address.
     pub ledger: L,
+    /// The ledger of a second server, if there is one: the address moves between them.
+    pub standby: Option<L>,
     pub dice: Dice,
     sent: Vec<Vec<u8>>,
     written: Vec<Vec<u8>>,
     /// How many recipients of live and committed transactions were let through, for each login and day.
     pub let_through: [u32; 4],
-    /// How many frames came to the ledger.
+    /// How many frames came to a ledger.
     pub arrivals: u64,
     /// How many of them were of a retired run.
     pub retired: u64,
+    /// How many times the address moved.
+    pub moves: u64,
+    /// How often what was let through of a login on a day was found in both ledgers together alone.
+    pub together: u64,
     /// At some moment more was let through than was settled and reserved, or this was above a limit.
     passed: bool,
     /// A frame had no reply, a request was out of range, or there was no memory.
@@ -81,29 +100,50 @@ pub struct Lossy<L> {
 }
 
 impl<L: Ledger + Drop> Lossy<L> {
-    pub fn new(alloc: Global, ledger: L, seed: u64) -> Lossy<L> {
+    pub fn new(alloc: Global, ledger: L, standby: Option<L>, seed: u64) -> Lossy<L> {
         Lossy {
             alloc,
             ledger,
+            standby,
             dice: Dice::new(seed),
             sent: Vec::new(alloc),
             written: Vec::new(alloc),
             let_through: [0; 4],
             arrivals: 0,
             retired: 0,
+            moves: 0,
+            together: 0,
             passed: false,
             failed: false,
         }
     }
 
-    /// Whether what was let through is settled or reserved, and this is within the limit, for each login
-    /// and day.
+    /// What the second server's ledger has settled or reserved, as `taken_of`.
+    fn taken_there(&mut self, login: &[u8], day: u32) -> Option<u64> {
+        match &mut self.standby {
+            Some(ledger) => taken_of(self.alloc, ledger, login, day),
+            None => Some(0),
+        }
+    }
+
+    /// How what was let through of a login on a day is settled or reserved.
+    fn cover_of(&mut self, login: &[u8], day: u32, let_through: u32) -> Cover {
+        let here = taken_of(self.alloc, &mut self.ledger, login, day);
+        match (here, self.taken_there(login, day)) {
+            (Some(here), Some(there)) => cover_by(here, there, let_through as u64),
+            _ => Cover::Missing,
+        }
+    }
+
+    /// Whether what was let through is settled or reserved, and each ledger is within its limit, for each
+    /// login and day.
     fn is_covered(&mut self) -> bool {
-        for (place, let_through) in self.let_through.iter().enumerate() {
-            let login = LOGINS[place / 2 % 2];
-            let day = DAYS[place % 2];
-            if !is_covered(self.alloc, &mut self.ledger, login, day, *let_through) {
-                return false;
+        for place in 0..4usize {
+            let let_through = self.let_through.get(place).copied().unwrap_or(0);
+            match self.cover_of(LOGINS[place / 2 % 2], DAYS[place % 2], let_through) {
+                Cover::ByOne => {}
+                Cover::Together => self.together = self.together.saturating_add(1),
+                Cover::Missing => return false,
             }
         }
         true
@@ -123,8 +163,20 @@ impl<L: Ledger + Drop> Lossy<L> {
         self.failed |= keep(self.alloc, &mut self.written, body).is_none();
     }
 
-    /// A frame comes to the ledger, and its reply is written.
+    /// The address moves to the second server, if there is one, once in six times.
+    fn move_address(&mut self) {
+        let Some(other) = &mut self.standby else {
+            return;
+        };
+        if self.dice.below(6) == 0 {
+            std::mem::swap(&mut self.ledger, other);
+            self.moves = self.moves.saturating_add(1);
+        }
+    }
+
+    /// A frame comes to the ledger that has the address by then, and its reply is written.
     fn take(&mut self, frame: &[u8]) -> Result<Vec<u8>, LinkFault> {
+        self.move_address();
         self.arrivals = self.arrivals.saturating_add(1);
         match deliver_frame(self.alloc, &mut self.ledger, frame) {
             Some(body) => {
@@ -162,7 +214,7 @@ impl<L: Ledger + Drop> Lossy<L> {
         }
     }
 
-    /// A frame that was sent some time comes to the ledger.
+    /// A frame that was sent some time comes to a ledger.
     pub fn take_one(&mut self) {
         if let Some(frame) = self.old_frame() {
             let _ = self.take(frame.as_slice());
@@ -197,6 +249,17 @@ impl<L: Ledger + Drop> Lossy<L> {
             9..=11 => self.old_reply(),
             _ => self.take(frame),
         }
+    }
+}
+
+/// How so many are settled or reserved by two ledgers that have so many.
+fn cover_by(here: u64, there: u64, let_through: u64) -> Cover {
+    if let_through <= here || let_through <= there {
+        Cover::ByOne
+    } else if let_through <= here.saturating_add(there) {
+        Cover::Together
+    } else {
+        Cover::Missing
     }
 }
 

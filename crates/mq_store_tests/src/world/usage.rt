@@ -19,10 +19,14 @@ pub struct Used {
 }
 
 impl Used {
-    /// Whether what was let through is settled or reserved, and this is within the limit.
-    pub fn covers(self, let_through: u32) -> bool {
+    /// How many recipients are settled or reserved; nothing where these are above the limit.
+    fn within_limit(self) -> Option<u64> {
         let taken = self.settled as u64 + self.reserved as u64;
-        let_through as u64 <= taken && taken <= self.cap as u64
+        if taken <= self.cap as u64 {
+            Some(taken)
+        } else {
+            None
+        }
     }
 }
 
@@ -60,6 +64,15 @@ pub fn usage_of<L: Ledger>(alloc: Global, ledger: &mut L, login: &[u8], day: u32
     }
 }
 
+/// How many recipients of a login a ledger says to have settled or reserved on a day; nothing where these
+/// are above its limit, or there is a fault.
+pub fn taken_of<L: Ledger>(alloc: Global, ledger: &mut L, login: &[u8], day: u32) -> Option<u64> {
+    match usage_of(alloc, ledger, login, day) {
+        Some(used) => used.within_limit(),
+        None => None,
+    }
+}
+
 /// Whether a ledger says that what was let through of a login on a day is settled or reserved, and that this
 /// is within the limit.
 pub fn is_covered<L: Ledger>(
@@ -69,8 +82,8 @@ pub fn is_covered<L: Ledger>(
     day: u32,
     let_through: u32,
 ) -> bool {
-    match usage_of(alloc, ledger, login, day) {
-        Some(used) => used.covers(let_through),
+    match taken_of(alloc, ledger, login, day) {
+        Some(taken) => let_through as u64 <= taken,
         None => false,
     }
 }
