@@ -5,7 +5,8 @@ import socket
 import time
 
 import wire
-from ends import Server, but_of_requests, fault, read_all, send_no_more
+from cases.watching import Watched
+from ends import but_of_requests, fault, read_all, send_no_more
 
 DAY = 86_400
 HOUR = 3_600_000
@@ -25,19 +26,11 @@ def clock():
     return int(time.time() * 1_000)
 
 
-class Storm:
+class Storm(Watched):
     """A server that knows so many recipients a login, asked from addresses of the loopback, and what it logs of requests."""
 
     def __init__(self, world, **settings):
-        self.server = Server(world, **{"default": 5, **settings})
-        self.seen = 0
-
-    def __enter__(self):
-        self.server.__enter__()
-        return self
-
-    def __exit__(self, *_):
-        self.server.__exit__()
+        super().__init__(world, **{"default": 5, **settings})
 
     def ask(self, *frames, source="127.0.0.1"):
         """What comes back for these frames from this address, and the lines that came of them: level, address and text."""
