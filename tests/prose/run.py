@@ -1,60 +1,31 @@
 #!/usr/bin/env python3
-"""Whether the words of the repository agree with each other and with the tree.
+"""Whether the documents agree with the tree.
 
 usage: run.py [TREE]
 
-- Words that were given up stand nowhere in the documents, the manual, the examples, the help, the texts of logs and faults, and the comments.
 - Each crate has a front page at the head of its root: its example stands in the file that it names, and it names the crates of ours that it
   stands on as crates.txt has them. Each other file of its source begins with a line of what it is.
 - docs/ARCHITECTURE.md lists each crate of crates.txt once, and no other.
 - Each place that CONTRIBUTING.md sends a reader to is there, with the words that it says of it.
+- What docs/PROOFS.md names under a crate stands in that crate, and the clauses in brackets after a function stand in a contract of such a function.
+- Each crate that has a contract with clauses is one of docs/PROOFS.md's.
+- The lines of prose of the pages below have at most 100 columns.
 - Names of code that were given up stand in no source, definition or proof.
 
 A test of these checks comes first: over small trees with one thing wrong, each has to find it. The last line is 'N passed, M failed', and the status
 1 where anything failed.
 """
-import ast
 import glob
-import io
 import os
 import re
 import sys
 import tempfile
-import tokenize
 
 sys.dont_write_bytecode = True
 TOP = os.path.dirname(os.path.dirname(os.path.dirname(os.path.realpath(__file__))))
 
-# What was given up, with what is said instead.
-WORDS = {
-    "behind": "after",
-    "beside": "alongside, with, at",
-    "anew": "again, from nothing",
-    # (`told` is what links, ledgers and sources report, as their contracts call it, and so it stands in comments)
-    "tells": "says, reports",
-    "want of memory": "where memory runs out",
-    # (the front of a queue or of bytes is a place; what is the first part of something is its prefix)
-    "(?:a|any|each|every|another) front of": "prefix",
-    "fronts": "prefixes",
-    "ceilings?": "limit",
-}
-# A line may end within them, with a comment's signs before the rest.
-GIVEN_UP = re.compile(r"\b(?:%s)\b" % "|".join(WORDS).replace(" ", r"\s+(?:(?://[/!]?|--|\#)\s+)?"), re.IGNORECASE)
-
-# Where words stand for people: documents whole, but for what is code in them; of sources the comments, and of programs the texts too.
-DOCUMENTS = ["*.md", "CHANGELOG", "docs/*.md", "bench/*.md", "man/*", "contrib/*", "examples/*"]
 SOURCES = ["crates/*/src/**/*.rt"]
 DEFINITIONS = ["crates/*/specs/**/*.antt", "crates/*/proofs/**/*.antt"]
-SCRIPTS = ["gate/*.py", "scripts/*.py", "tests/**/*.py", "bench/**/*.py"]
-
-# What is excepted: in which files which words, each with its reason.
-EXCEPTED = [
-    # This file has the words themselves.
-    (r"tests/prose/run\.py", r".*"),
-    # The table of limits has this name in each ledger's file, and so in SQL.
-    (r"crates/mq_tables/src/.*\.rt", r"ceiling"),
-]
-
 # The roots of tests say which libraries they call, and crates.txt has them.
 OF_TESTS = ("mq_ends_tests", "mq_store_tests")
 
@@ -71,6 +42,10 @@ NAMES = {
     r"(\w+) as An?\1": "Any..",
 }
 
+# The pages whose prose is wrapped, and how far.
+WRAPPED = [f"docs/{it}.md" for it in ("DECISIONS", "GATE", "PROOFS")]
+COLUMNS = 100
+
 TOKEN = re.compile(r"""//[^\n]* | "(?:\\.|[^"\\])*" | '(?:\\.[^']*|[^'\\])' | [^/"']+ | .""", re.VERBOSE | re.DOTALL)
 PLACE = re.compile(r"`([a-z_]+/src/[a-z_/]+\.rt)`")
 
@@ -83,61 +58,6 @@ def read(tree, file):
 def files(tree, patterns):
     found = {os.path.relpath(it, tree) for pattern in patterns for it in glob.glob(f"{tree}/{pattern}", recursive=True)}
     return sorted(it for it in found if os.path.isfile(f"{tree}/{it}") and "/out/" not in it and "__pycache__" not in it)
-
-
-def blank(text):
-    """As many lines of nothing."""
-    return "\n" * text.count("\n")
-
-
-def of_document(text, _file):
-    """A document without what is code in it."""
-    text = re.sub(r"^```.*?^```$", lambda it: blank(it[0]), text, flags=re.MULTILINE | re.DOTALL)
-    text = re.sub(r"^(?: {4}|\t).*$", "", text, flags=re.MULTILINE)
-    return re.sub(r"`[^`\n]*(?:\n[^`\n]+)?`", lambda it: blank(it[0]), text)
-
-
-def of_source(text, file):
-    """The comments of a source, and its texts between quotes, but for those of tests: they name cases."""
-    with_texts = file.split("/")[1] not in OF_TESTS
-    keep = lambda it: it.startswith("//") or with_texts and it.startswith('"')
-    return "".join(without_code(it) if keep(it) else blank(it) for it in TOKEN.findall(text))
-
-
-def of_definitions(text, _file):
-    return "\n".join(without_code(line[line.find("-- "):]) if re.search(r"(^|\s)-- ", line) else "" for line in text.split("\n"))
-
-
-def of_script(text, _file):
-    """The comments of a script, and the texts that say what it, a class or a function is for."""
-    lines = [""] * (text.count("\n") + 2)
-    found = [(it.start[0], it.string) for it in tokenize.generate_tokens(io.StringIO(text).readline) if it.type == tokenize.COMMENT]
-    for node in ast.walk(ast.parse(text)):
-        if isinstance(node, (ast.Module, ast.ClassDef, ast.FunctionDef)) and ast.get_docstring(node):
-            found.append((node.body[0].lineno, ast.get_docstring(node, clean=False)))
-    for first, said in found:
-        for place, line in enumerate(said.split("\n")):
-            lines[first - 1 + place] += without_code(line)
-    return "\n".join(lines)
-
-
-def without_code(text):
-    return re.sub(r"`[^`\n]*`", "", text)
-
-
-def words(tree):
-    """Yields of each folder that has words for people what is wrong with them."""
-    kinds = [(DOCUMENTS, of_document), (SOURCES, of_source), (DEFINITIONS, of_definitions), (SCRIPTS, of_script)]
-    folders = {}
-    for patterns, read_as in kinds:
-        for file in files(tree, patterns):
-            folder = "/".join(file.split("/")[:2 if file.startswith("crates/") else 1])
-            wrong = folders.setdefault(folder if "/" in file else "the documents at the top", [])
-            text = read_as(read(tree, file), file)
-            excepted = [word for place, word in EXCEPTED if re.fullmatch(place, file)]
-            wrong += [f"{file}:{text.count(chr(10), 0, it.start()) + 1}: '{' '.join(it[0].split())}' was given up"
-                      for it in GIVEN_UP.finditer(text) if not any(re.fullmatch(word, it[0], re.DOTALL) for word in excepted)]
-    yield from folders.items()
 
 
 def crates_of(tree):
@@ -220,6 +140,61 @@ def sent_to(tree):
         yield f"CONTRIBUTING.md, {what.replace('*', '')}", wrong
 
 
+def contracts(tree, crate):
+    """Returns the names that stand in a crate's source and definitions, and of each function the clauses of its contracts."""
+    known, clauses = set(), {}
+    for file in files(tree, [f"crates/{crate}/src/**/*.rt", f"crates/{crate}/specs/**/*.antt"]):
+        text = without_texts(read(tree, file), file)
+        known.update(re.findall(r"\w+", text))
+        parts = re.split(r"\bfn (\w+)", text)
+        for name, contract in zip(parts[1::2], parts[2::2]):
+            clauses.setdefault(name, set()).update(re.findall(r"\bensures (\w+) \{", contract))
+    return known, clauses
+
+
+def carriers(tree):
+    """Yields of each section on crates in docs/PROOFS.md which of the names and clauses there don't stand in them."""
+    crates = {it: contracts(tree, it) for it in crates_of(tree)}
+    # (a trait's clauses stand in the crate that has the trait)
+    of_all = {}
+    for _, clauses in crates.values():
+        for name, its in clauses.items():
+            of_all.setdefault(name, set()).update(its)
+    head, _, tested = read(tree, "docs/PROOFS.md").partition("\n## What is only tested\n")
+    parts = re.split(r"^### (.*)$", head, flags=re.MULTILINE)
+    for title, text in zip(parts[1::2], parts[2::2]):
+        wrong, named = [], re.findall(r"\w+", title)
+        for name, of in re.findall(r"`([^`]+)`(?:\s+of\s+`(\w+)`)?", text):
+            known = set().union(*(crates[it][0] for it in ([of] if of else named) if it in crates))
+            if "/" in name:
+                found = any(os.path.isfile(f"{tree}/crates/{it}/{name}") for it in named)
+            elif name.endswith("*"):
+                found = any(it.startswith(name[:-1]) for it in known)
+            else:
+                found = all(it in known or it in crates for it in re.findall(r"\w+", name))
+            if not found:
+                wrong.append(f"{title} has no {name}")
+        for name, listed_ in re.findall(r"`(?:\w+::)?(\w+)`\s+\((`\w+`(?:,\s+`\w+`)*)\)", text):
+            wrong += [f"no contract of {name} has a clause {it}" for it in re.findall(r"\w+", listed_) if it not in of_all.get(name, ())]
+        yield f"docs/PROOFS.md, {title}", wrong
+    missing = [it for it, (_, clauses) in crates.items() if it not in OF_TESTS and any(clauses.values())
+               and not any(it in re.findall(r"\w+", title) for title in parts[1::2])]
+    yield "docs/PROOFS.md", [f"it has nothing of {it}" for it in missing]
+
+
+def columns(tree):
+    """Yields of each page which of its lines of prose are too long."""
+    for file in files(tree, WRAPPED):
+        prose = re.sub(r"^```.*?^```$", lambda it: blank(it[0]), read(tree, file), flags=re.MULTILINE | re.DOTALL)
+        yield file, [f"its line {number} has more than {COLUMNS} columns" for number, line in enumerate(prose.split("\n"), 1)
+                     if len(line) > COLUMNS and not line.startswith(("|", "    ", "#", "!["))]
+
+
+def blank(text):
+    """As many lines of nothing."""
+    return "\n" * text.count("\n")
+
+
 def without_texts(text, file):
     """The code of a source or of definitions, without comments and texts."""
     if file.endswith(".rt"):
@@ -236,34 +211,24 @@ def names(tree):
         yield f"the name {name}", found
 
 
-CHECKS = [words, pages, listed, sent_to, names]
+CHECKS = [pages, listed, sent_to, carriers, columns, names]
 
 # A tree with nothing wrong, and what each of these changes makes of it: the file, the text there, what takes its place, and the check that finds it.
 TREE = {
     "crates.txt": "# crates\nmq_low: thiserror\nmq_high: mq_low\n",
-    "README.md": "A front page, in front of all. `behind` is code.\n\n    behind\n\n```\nbeside\n```\n",
+    "docs/GATE.md": f"A gate.\n\n    {'code ' * 30}\n\n```\n{'code ' * 30}\n```\n\n| {'row ' * 30}|\n",
     "docs/ARCHITECTURE.md": "| `mq_low` | words |\n| `mq_high` | words |\n",
     "CONTRIBUTING.md": "| a call | `mq_high/src/lib.rt`: `call` | `done`: so it is (`IsDone`, `specs/Done.antt`) |\n",
-    "man/program.8": ".Sh NAME\nafter it\n",
+    "docs/PROOFS.md": "# Proved\n\n### mq_low\n\n- Low: `low`, `Far` of `mq_high`.\n\n### mq_high\n\n- What is done (`specs/Done.antt`): `call` (`done`).\n\n"
+                      "## What is only tested\n\n`nowhere`\n",
     "crates/mq_low/src/lib.rt": "//! Low. From `mq_high/src/lib.rt`:\n//!\n//!     low(1)\n//!\n//! It stands on no crate of ours. Begin with `low.rt`.\n"
                                 "pub fn low(at: u8) -> &'static str {\n    let bar = b'\"'; // after it\n    \"after\"\n}\n",
     "crates/mq_high/src/lib.rt": "//! High. From `mq_high/src/lib.rt`:\n//!\n//!     low(1)\n//!\n//! It stands on `mq_low`. Begin with `high.rt`.\n"
-                                 "pub fn call(behind: u8) -> u8\n    ensures done { IsDone result }\n{\n    low(1)\n}\n",
+                                 "pub fn call(byte: u8) -> u8\n    ensures done { IsDone result }\n{\n    low(1)\n}\n\nstruct Far;\n",
     "crates/mq_high/src/high.rt": "//! What is high.\n",
-    "crates/mq_high/specs/Done.antt": "-- done\nIsDone n = n ≡ behind\n",
-    "tests/test.py": '"""A test."""\nbehind = 1  # after it\n',
+    "crates/mq_high/specs/Done.antt": "-- done\nIsDone n = n ≡ 1\n",
 }
 WRONG = [
-    ("README.md", "in front", "behind", words),
-    ("README.md", "in front of all", "a front of all", words),
-    ("docs/ARCHITECTURE.md", "| `mq_low` | words |", "| `mq_low` | words, with a ceiling |", words),
-    ("man/program.8", "after it", "beside it", words),
-    ("crates/mq_low/src/lib.rt", "// after it", "// it tells", words),
-    ("crates/mq_low/src/lib.rt", '"after"', '"for want of memory"', words),
-    ("crates/mq_low/src/lib.rt", "//! Low.", "//! Low, for want\n//! of memory.", words),
-    ("crates/mq_high/specs/Done.antt", "-- done", "-- done anew", words),
-    ("tests/test.py", "A test.", "Behind it.", words),
-    ("tests/test.py", "# after", "# behind", words),
     ("crates/mq_low/src/lib.rt", "//!     low(1)", "//!     low(2)", pages),
     ("crates/mq_low/src/lib.rt", "on no crate of ours", "on `mq_high`", pages),
     ("crates/mq_high/src/lib.rt", "on `mq_low`", "on no crate of ours", pages),
@@ -276,14 +241,19 @@ WRONG = [
     ("CONTRIBUTING.md", "`call`", "`calls`", sent_to),
     ("CONTRIBUTING.md", "`done`", "`well`", sent_to),
     ("CONTRIBUTING.md", "specs/Done", "specs/Gone", sent_to),
-    ("crates/mq_high/src/lib.rt", "pub fn call(", "pub fn cell(", sent_to),
+    ("docs/PROOFS.md", "`low`", "`lower`", carriers),
+    ("docs/PROOFS.md", "`low`", "`call`", carriers),
+    ("docs/PROOFS.md", "`done`", "`well`", carriers),
+    ("docs/PROOFS.md", "specs/Done", "specs/Gone", carriers),
+    ("docs/PROOFS.md", "### mq_high", "### mq_higher", carriers),
+    ("docs/GATE.md", "A gate.", "A gate, " + "and more " * 12, columns),
     ("crates/mq_low/src/lib.rt", "pub fn low(at: u8)", "pub fn low(seq: u8)", names),
     ("crates/mq_low/src/lib.rt", "pub fn low(at: u8)", "pub fn low(at: u64)", names),
     ("crates/mq_high/specs/Done.antt", "IsDone n = n", "IsDone txn at login = txn", names),
     ("crates/mq_high/specs/Done.antt", "IsDone n = n", "IsDone seq' = seq'", names),
     ("crates/mq_high/src/lib.rt", "    low(1)\n}", "    low(1);\n    low(CloseEnd::Drop)\n}", names),
     ("crates/mq_high/src/lib.rt", "    low(1)\n}", "    low(1);\n    low(Standing::Login { name })\n}", names),
-    ("crates/mq_high/specs/Done.antt", "n ≡ behind", "n.ceilings ≡ behind", names),
+    ("crates/mq_high/specs/Done.antt", "n ≡ 1", "n.ceilings ≡ 1", names),
     ("crates/mq_high/src/lib.rt", "pub fn call(", "use crate::faults;\npub fn call(", names),
     ("crates/mq_high/specs/Done.antt", "IsDone n", "use Low.{Done as ADone}\nIsDone n", names),
 ]
@@ -291,7 +261,7 @@ WRONG = [
 
 def own_test():
     """Yields of each wrong thing whether its check, and no other, finds it."""
-    for file, old, new, check in [("README.md", "A front page", "A front page", None), *WRONG]:
+    for file, old, new, check in [("docs/GATE.md", "A gate", "A gate", None), *WRONG]:
         with tempfile.TemporaryDirectory(prefix="prose-") as tree:
             for name, text in TREE.items():
                 os.makedirs(os.path.dirname(f"{tree}/{name}"), exist_ok=True)
