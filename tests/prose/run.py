@@ -43,7 +43,7 @@ NAMES = {
 }
 
 # The pages whose prose is wrapped, and how far.
-WRAPPED = ["README.md", "CONTRIBUTING.md"] + [f"docs/{it}.md" for it in ("ARCHITECTURE", "CLIENT", "DECISIONS", "FRAMES", "GATE", "LEDGER", "LINES", "PROOFS")]
+WRAPPED = ["README.md", "CONTRIBUTING.md"] + [f"docs/{it}.md" for it in ("ARCHITECTURE", "CLIENT", "DECISIONS", "FRAMES", "GATE", "LEDGER", "LINES", "PROOFS", "STORE")]
 COLUMNS = 100
 
 TOKEN = re.compile(r"""//[^\n]* | "(?:\\.|[^"\\])*" | '(?:\\.[^']*|[^'\\])' | [^/"']+ | .""", re.VERBOSE | re.DOTALL)
