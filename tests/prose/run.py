@@ -5,7 +5,7 @@ usage: run.py [TREE]
 
 - Each crate has a front page at the head of its root: its example stands in the file that it names, and it names the crates of ours that it
   stands on as crates.txt has them. Each other file of its source begins with a line of what it is.
-- docs/ARCHITECTURE.md lists each crate of crates.txt once, and no other.
+- docs/ARCHITECTURE.md lists each crate of crates.txt once, and no other, and docs/crates.svg draws them as they stand there.
 - Each place that CONTRIBUTING.md sends a reader to is there, with the words that it says of it.
 - What docs/PROOFS.md names under a crate stands in that crate, and the clauses in brackets after a function stand in a contract of such a function.
 - Each crate that has a contract with clauses is one of docs/PROOFS.md's.
@@ -22,6 +22,9 @@ import sys
 import tempfile
 
 sys.dont_write_bytecode = True
+
+import drawing
+
 TOP = os.path.dirname(os.path.dirname(os.path.dirname(os.path.realpath(__file__))))
 
 SOURCES = ["crates/*/src/**/*.rt"]
@@ -112,6 +115,12 @@ def listed(tree):
     wrong += [f"it has {it}, which is no crate" for it in rows if it not in crates]
     wrong += [f"it has {it} more than once" for it in sorted({*rows}) if rows.count(it) > 1]
     yield "docs/ARCHITECTURE.md", wrong
+
+
+def drawn(tree):
+    """Yields whether the drawing of the crates is that of crates.txt."""
+    is_right = read(tree, "docs/crates.svg") == drawing.drawn(crates_of(tree))
+    yield "docs/crates.svg", [] if is_right else ["it isn't of these crates: run tests/prose/drawing.py"]
 
 
 def sent_to(tree):
@@ -211,12 +220,13 @@ def names(tree):
         yield f"the name {name}", found
 
 
-CHECKS = [pages, listed, sent_to, carriers, columns, names]
+CHECKS = [pages, listed, drawn, sent_to, carriers, columns, names]
 
 # A tree with nothing wrong, and what each of these changes makes of it: the file, the text there, what takes its place, and the check that finds it.
 TREE = {
     "crates.txt": "# crates\nmq_low: thiserror\nmq_high: mq_low\n",
     "docs/GATE.md": f"A gate.\n\n    {'code ' * 30}\n\n```\n{'code ' * 30}\n```\n\n| {'row ' * 30}|\n",
+    "docs/crates.svg": drawing.drawn({"mq_low": [], "mq_high": ["mq_low"]}),
     "docs/ARCHITECTURE.md": "| `mq_low` | words |\n| `mq_high` | words |\n",
     "CONTRIBUTING.md": "| a call | `mq_high/src/lib.rt`: `call` | `done`: so it is (`IsDone`, `specs/Done.antt`) |\n",
     "docs/PROOFS.md": "# Proved\n\n### mq_low\n\n- Low: `low`, `Far` of `mq_high`.\n\n### mq_high\n\n- What is done (`specs/Done.antt`): `call` (`done`).\n\n"
@@ -234,7 +244,8 @@ WRONG = [
     ("crates/mq_high/src/lib.rt", "on `mq_low`", "on no crate of ours", pages),
     ("crates/mq_high/src/lib.rt", "Begin with", "Look at", pages),
     ("crates/mq_high/src/high.rt", "//! What is high.", "", pages),
-    ("crates.txt", "mq_high: mq_low", "mq_high:", pages),
+    ("crates/mq_high/src/lib.rt", "on `mq_low`", "on `thiserror`", pages),
+    ("docs/crates.svg", ">mq_low<", ">mq_lower<", drawn),
     ("docs/ARCHITECTURE.md", "| `mq_low` | words |\n", "", listed),
     ("docs/ARCHITECTURE.md", "| `mq_low` |", "| `mq_lower` |", listed),
     ("docs/ARCHITECTURE.md", "| `mq_high` | words |", "| `mq_low` | words |\n| `mq_high` | words |", listed),
