@@ -123,6 +123,12 @@ def wait_until(holds):
     return True
 
 
+def wait_past_midnight(offset=0):
+    """Waits, where the day at an offset ends within a minute, until the next one has begun."""
+    while (time.time() + 60 * offset) % 86_400 > 86_340:
+        time.sleep(1)
+
+
 def soon(what, enough):
     """What one of several goes brings, and how long it took: the first that takes less than so many seconds, or the tenth.
 

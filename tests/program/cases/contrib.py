@@ -1,4 +1,4 @@
-"""The scripts of contrib but the one of a night, over a real server, and what its units and settings have to say.
+"""The scripts of contrib but the one of a night, over a real server.
 
 A backup is made while filters send. What takes the place of systemctl says which process the server is.
 """
@@ -11,81 +11,31 @@ import subprocess
 import threading
 import time
 
+import wire
+from books import Books
 from cases.as_used import quiet_port
 from cases.filters import PROCEED
 from ends import SECONDS, TOP, Server, nobody_there, state_of, toml, wait_until
-from rows import answers_of
+from rows import answers_of, rows_in
 from smtpd import Smtpd, clock, result
 
 CONTRIB = f"{TOP}/contrib"
 # The settings of the example for a filter: a request that waits for longer is answered 451.
 EXAMPLE = {"tries": 3, "timeout": 1_000, "pause": 10, "hold": 5}
 ANSWERS = {"answers": "SELECT n, host, run, seq, request, reply FROM answer ORDER BY n"}
-# Lines that units and settings must have, and why it would be wrong without them.
-LINES = {
-    "mailquota.service": [
-        # started once it answers, and never killed while it reads its ledger
-        "ExecStart=/usr/local/sbin/mailquota server --config /etc/mailquota.toml",
-        "ExecStartPost=/usr/local/libexec/mailquota/await-server /etc/mailquota.toml", "TimeoutStartSec=infinity",
-        # it ends with status 0 after its connections
-        "Restart=always", "RestartSec=1", "StartLimitIntervalSec=0",
-        "User=mailquota", "StateDirectory=mailquota", "IPAddressDeny=any",
-    ],
-    # smtpd ends with status 0 where its filter ends, and starts also where a retire fails
-    "smtpd-restart.conf": ["ExecStartPre=-/usr/local/sbin/mailquota retire --server 192.0.2.7:7025 --host mx1.example.org", "Restart=always", "StartLimitIntervalSec=0"],
-    "mailquota-forget.service": ["Type=oneshot", "ExecStart=/usr/local/sbin/mailquota-forget /etc/mailquota.toml /var/lib/mailquota/ledger 2"],
-    "mailquota-forget.timer": ["Persistent=yes"],
-    "keepalived-first.conf": ["fall 3", "interval 1", "timeout 1", "init_fail", "state BACKUP", "priority 150", "preempt_delay 60", "enable_script_security"],
-    "keepalived-second.conf": ["fall 3", "interval 1", "timeout 1", "init_fail", "state BACKUP", "priority 100", "enable_script_security"],
-}
 
 
 def run(world, checks):
-    lines_of_units(checks)
-    verified(world, checks)
-    both_of_keepalived(checks)
     awaited(world, checks)
     checked(world, checks)
     a_backup(world, checks)
+    a_backup_by_its_recipe(world, checks)
     backups_that_fail(world, checks)
 
 
 def text_of(name):
     with open(f"{CONTRIB}/{name}", encoding="ascii") as file:
         return file.read()
-
-
-def lines_of_units(checks):
-    for name, wanted in LINES.items():
-        found = [line.strip() for line in text_of(name).splitlines()]
-        checks.equal(f"contrib/{name}: lines that it lacks", [line for line in wanted if line not in found], [])
-    # (each of these is a key that the program takes only once)
-    twice = [line.partition("=")[0] for line in re.findall(r"^Exec\w+=.*", text_of("mailquota.service"), re.MULTILINE)]
-    checks.equal("contrib/mailquota.service: what it runs", twice, ["ExecStart", "ExecStartPost"])
-
-
-def verified(world, checks):
-    """systemd's own check, where it is there; the programs that units name are made to be there."""
-    if not shutil.which("systemd-analyze"):
-        checks.skip("units by systemd-analyze verify", "it isn't there")
-        return
-    folder = f"{world.folder}/units"
-    os.makedirs(folder)
-    for name in ("mailquota.service", "mailquota-forget.service", "mailquota-forget.timer"):
-        with open(f"{folder}/{name}", "w", encoding="ascii") as file:
-            file.write(re.sub(r"/usr/local/(?:sbin|libexec/mailquota)/[\w-]+", "/bin/true", text_of(name)))
-    run = subprocess.run(["systemd-analyze", "verify", "--man=no", *sorted(f"{folder}/{it}" for it in os.listdir(folder))], capture_output=True, text=True)
-    ours = [line for line in run.stderr.splitlines() if "mailquota" in line]
-    checks.equal("units by systemd-analyze verify: what it says of them", ours, [])
-
-
-def both_of_keepalived(checks):
-    """The two servers agree on all but who is preferred, and who is who."""
-    first, second = (text_of(f"keepalived-{it}.conf").splitlines() for it in ("first", "second"))
-    differ = {line.split()[0] for line in set(first) ^ set(second) if line.strip() and not line.strip().startswith("#")}
-    checks.equal("the settings of keepalived: what differs", differ, {"priority", "preempt_delay", "unicast_src_ip", "192.0.2.5", "192.0.2.6"})
-    rules = text_of("nftables.conf")
-    checks.equal("the packet filter: both servers' own addresses", re.findall(r"elements = \{ (192\.0\.2\.5, 192\.0\.2\.6) \}", rules), ["192.0.2.5, 192.0.2.6"])
 
 
 def script(world, name, changes=()):
@@ -209,6 +159,95 @@ def a_backup(world, checks):
     checks.holds("a backup under load: answers from before it that the copy lacks", len(copied) >= 2 * before - 2 and len(copied) < len(there), "none", (before, len(copied), len(there)))
     printed = re.search(r"^answers=(\d+) ", output, re.MULTILINE)
     checks.equal("a backup under load: the answers that it prints", printed and int(printed[1]), len(copied))
+
+
+# The programs that the recipe calls: they change the server as systemd would, and note how they were called.
+SYSTEMCTL = """#!/bin/sh
+echo "systemctl $*" >>{folder}/calls
+case "$*" in
+"show --property=MainPID --value mailquota") echo {pid} ;;
+"stop "*) kill {pid}; while kill -0 {pid} 2>/dev/null && ! grep -q '^State:.Z' /proc/{pid}/status; do sleep 0.01; done ;;
+esac
+"""
+BACKED_UP = 400
+
+
+def recipe_of(page, heading):
+    """The blocks of a section of a page of docs, each as its lines."""
+    with open(f"{TOP}/docs/{page}", encoding="utf-8") as file:
+        section = file.read().partition(f"\n## {heading}\n")[2].partition("\n## ")[0]
+    return [re.sub(r"^    ", "", block, flags=re.MULTILINE).splitlines() for block in re.findall(r"(?:^    .*\n)+", section, re.MULTILINE)]
+
+
+def a_backup_by_its_recipe(world, checks):
+    """The recipe of OPERATING, as it stands there but for the folders: what it prints, and, once the copy is put back, all answers that it has."""
+    folder = f"{world.folder}/recipe"
+    for it in ("bin", "root", "lib", "etc"):
+        os.makedirs(f"{folder}/{it}")
+    ledger, settings = f"{folder}/lib/ledger", {"default": 1_000, "offset": 0}
+    [copy, *shown], moves, puts_back, *_ = recipe_of("OPERATING.md", "Backups")
+    books, frames = Books(0, 1_000), list(of_some_days(BACKED_UP))
+    with Server(world, words=["--create"], store=ledger, **settings) as server:
+        with open(f"{folder}/etc/mailquota.toml", "w", encoding="ascii") as file:
+            file.write(toml({"listen": server.address, "store": ledger, **settings}))
+        texts = {"systemctl": SYSTEMCTL.format(folder=folder, pid=server.process.pid), "mailquota-backup": text_of("mailquota-backup")}
+        for name, text in texts.items():
+            with open(f"{folder}/bin/{name}", "w", encoding="ascii") as file:
+                file.write(in_folder(world, folder, text))
+            os.chmod(f"{folder}/bin/{name}", 0o755)
+        checks.equal("a backup by its recipe: the answers before it", server.ask(b"".join(frames)), books.serve(b"".join(frames)))
+        came = by_shell(world, folder, [copy])
+        counted = f"answers={BACKED_UP} days={len(books.usage)} transactions={len(books.transactions)} limits={sum(map(len, books.limits.values()))}"
+        size = os.path.getsize(f"{folder}/root/backup/ledger")
+        lines = [
+            f"sound days={len(books.usage)} transactions={len(books.transactions)}", f"ledger {folder}/root/backup.part/ledger: version 3, {size} bytes",
+            "default 1000, offset 0", counted, "a start takes up to about 1 s and 14 MB",
+        ]
+        checks.equal("a backup by its recipe: status, what it prints and says", came, (0, "".join(f"{it}\n" for it in lines), ""))
+        figures = [re.sub(r"\d+", "N", in_folder(world, folder, line)) for line in shown]
+        checks.equal("a backup by its recipe: the page shows these lines", figures, [re.sub(r"\d+", "N", line) for line in lines])
+        checks.equal("a backup by its recipe: what is there", sorted(os.listdir(f"{folder}/root/backup")), ["ledger", "ledger-wal", "mailquota.toml"])
+        kept, rows = [books.serve(it) for it in frames], books.rows()
+        server.ask(b"".join(wire.reserve(n, txn=n, login=b"later", host=b"later") for n in range(1, 20)))
+        checks.equal("a backup put back by its recipe: status, what it prints and says", by_shell(world, folder, puts_back), (0, "", ""))
+        checks.equal("a backup put back by its recipe: the server that was stopped", server.status(), -signal.SIGTERM)
+    with open(f"{folder}/calls", encoding="ascii") as file:
+        called = file.read().splitlines()
+    wanted = ["show --property=MainPID --value mailquota", "daemon-reload", "stop mailquota mailquota-forget.timer", "enable --now mailquota mailquota-forget.timer"]
+    checks.equal("a backup by its recipe, and put back: what is asked of systemd", called, [f"systemctl {it}" for it in wanted])
+    checks.equal("a backup put back by its recipe: its rows", rows_in(ledger, rows), rows)
+    with Server(world, store=ledger, **settings) as server:
+        checks.equal(f"a backup put back by its recipe: each of {BACKED_UP} answers again", server.ask(b"".join(frames)), b"".join(kept))
+    # (it is for a machine on which systemd has made no folder yet)
+    checks.equal("a backup put back: how the folder is made", moves, ["systemd-run --quiet --wait -p DynamicUser=yes -p User=mailquota -p StateDirectory=mailquota /bin/true"])
+
+
+def in_folder(world, folder, text):
+    """A text with the folders of the test in place of the machine's, and the program under test."""
+    for old, new in (("/usr/local/sbin/mailquota", world.program), ("/etc/mailquota.toml", f"{folder}/etc/mailquota.toml"), ("/var/lib/mailquota/", f"{folder}/lib/"), ("/root/", f"{folder}/root/")):
+        text = re.sub(rf"(?<![\w/]){re.escape(old)}", lambda _, new=new: new, text)
+    return text
+
+
+def by_shell(world, folder, lines):
+    """What these lines of a page come to, in the folders of the test: the status, what is printed, and what is said."""
+    path = f"{folder}/bin{os.pathsep}{os.environ['PATH']}"
+    text = "".join(f"{in_folder(world, folder, line)}\n" for line in lines)
+    run = subprocess.run(["sh", "-e"], input=text, env={**os.environ, "PATH": path}, capture_output=True, text=True, timeout=SECONDS)
+    return run.returncode, run.stdout, run.stderr
+
+
+def of_some_days(count):
+    """So many requests of all kinds, of three days."""
+    for n in range(1, count + 1):
+        mail, part = divmod(n, 4)
+        its = {"txn": mail + 1, "login": b"%02d" % (mail % 20), "at": 86_400 * (1 + mail % 3)}
+        if part == 3 and mail % 5 == 0:
+            yield wire.limit(n, 2, 500 + mail, login=its["login"])
+        elif part == 3:
+            yield wire.settle(n, count=2, **its) if mail % 2 else wire.release(n, **its)
+        else:
+            yield wire.reserve(n, count=part + 1, **its)
 
 
 def backups_that_fail(world, checks):

@@ -18,7 +18,7 @@ from cases.audits import audit, edited
 from cases.damage import sound
 from cases.filters import PROCEED, REGISTRATION, SERVICE
 from cases.filters import LIMIT as REFUSED
-from ends import SECONDS, TOP, Server, apart, copied, fault, ledger_settings, wait_until, without_log
+from ends import SECONDS, TOP, Server, apart, copied, fault, ledger_settings, wait_past_midnight, wait_until, without_log
 from ledger import decode
 from random_inputs import Times, TimesOfRule, connections_of
 from rows import answers_of, rows_in, same_rows
@@ -47,6 +47,7 @@ def run(world, checks):
     files_of_many(world, checks)
     filters_go_on(world, checks)
     a_night(world, checks)
+    days_of_a_night(world, checks)
 
 
 def forget(world, path, day, into, config=None, **more):
@@ -227,7 +228,9 @@ def refused(world, checks):
         if log is not None:
             checks.equal(f"forget, {what}: the log", apart(came[2])[0], log)
 
+    wait_past_midnight()
     today = int(world.run("day", "--config", ledger_settings(world, path))[1])
+    refuses("of tomorrow", forget(world, path, today + 1, into), "day is after today", log=[])
     refuses("of a day after today", forget(world, path, today + 2, into), "day is after today", log=[])
     refuses("of the last day", forget(world, path, 376_200, into), "day is after today", log=[])
     came = world.run("forget", "--config", ledger_settings(world, path), "--before", "376201", "--into", into)
@@ -549,7 +552,7 @@ def filters_go_on(world, checks):
 # them the script is killed.
 STUB = """#!/bin/sh
 name=${{0##*/}}
-echo "$name $*" >>{folder}/calls
+echo "$name${{*:+ $*}}" >>{folder}/calls
 PATH={path}
 export PATH
 {does}
@@ -580,24 +583,43 @@ DOES = {
     "sleep": """sleep 0.05""",
     "sync": ":",
 }
-# The calls of a whole run, by their first words.
-CALLS = [
-    "flock", "systemctl stop mailquota-forgetting.service", "systemctl show", "systemctl stop mailquota", "rm", "systemd-run", "rm", "sync", "mv", "mv", "mv", "sync",
-    "systemctl stop mailquota-forgetting.service", "systemctl show", "rm", "systemctl start mailquota", "rm",
-]
+# The calls of a whole run over a ledger, with the folder, the program, the settings and the day in their places.
+CALLS = """flock --wait 2 9
+systemctl stop mailquota-forgetting.service
+systemctl show --property=LoadState --value mailquota-forgetting.service
+systemctl stop mailquota
+rm -f FOLDER/ledger.new FOLDER/ledger.new-wal
+systemd-run --quiet --collect --pipe --wait --unit=mailquota-forgetting.service --property=DynamicUser=yes --property=User=mailquota \
+--property=StateDirectory=mailquota --property=UMask=0077 PROGRAM forget --config CONFIG --before DAY --into FOLDER/ledger.new
+rm -f FOLDER/ledger.new-wal FOLDER/ledger.old FOLDER/ledger.old-wal
+sync
+mv FOLDER/ledger FOLDER/ledger.old
+mv FOLDER/ledger-wal FOLDER/ledger.old-wal
+mv FOLDER/ledger.new FOLDER/ledger
+sync
+systemctl stop mailquota-forgetting.service
+systemctl show --property=LoadState --value mailquota-forgetting.service
+rm -f FOLDER/ledger.new FOLDER/ledger.new-wal
+systemctl start mailquota
+rm -f FOLDER/away"""
 
 
 class Night:
     """The script of contrib in a folder of its own, over a ledger there."""
 
-    def __init__(self, world, name, source):
+    def __init__(self, world, name, source, **settings):
         self.folder = f"{world.folder}/{name}"
         os.makedirs(f"{self.folder}/bin")
         self.ledger = copied(source, f"{self.folder}/ledger")
-        self.words = [ledger_settings(world, self.ledger, default=50), self.ledger, "2"]
+        self.config = ledger_settings(world, self.ledger, default=50, **settings)
+        self.words = [self.config, self.ledger, "2"]
         with open(SCRIPT, encoding="ascii") as file:
             text = file.read()
-        for path, its in (("/usr/local/sbin/mailquota\n", f"{world.program}\n"), ("/run/mailquota-away\n", f"{self.folder}/away\n")):
+        # (what it takes where it is given no words)
+        for path, its in (
+            ("/usr/local/sbin/mailquota\n", f"{world.program}\n"), ("/run/mailquota-away\n", f"{self.folder}/away\n"),
+            (":-/etc/mailquota.toml}", f":-{self.config}}}"), (":-/var/lib/mailquota/ledger}", f":-{self.ledger}}}"),
+        ):
             assert text.count(path) == 1
             text = text.replace(path, its)
         with open(f"{self.folder}/script", "w", encoding="ascii") as file:
@@ -634,9 +656,50 @@ class Night:
     def run(self, stop_at=0):
         return self.end(self.start(stop_at))
 
+    def calls(self, world, day):
+        """What a whole run calls that forgets the days before this one."""
+        text = CALLS
+        for name, its in (("FOLDER", self.folder), ("PROGRAM", world.program), ("CONFIG", self.config), ("DAY", str(day))):
+            text = text.replace(name, its)
+        return text.splitlines()
+
+
+def days_of_a_night(world, checks):
+    """Today is kept and so many days before it, by the ledger's offset, and with them a message that is open since the first of them."""
+    # (at one of these offsets the day is another than at offset 0)
+    for offset, words, kept_days in [(0, [], 2), (0, ["1"], 1), (720, ["2"], 2), (-720, ["0"], 0)]:
+        wait_past_midnight(offset)
+        today = (int(time.time()) + 60 * offset) // DAY
+        # of each day a message that is open and one that is settled, by its login
+        of_days = {b"u%d" % back: {"login": b"u%d" % back, "at": (today - back) * DAY - 60 * offset + 5} for back in range(5)}
+        frames = []
+        for n, its in enumerate(of_days.values()):
+            frames += [wire.reserve(10 * n + 1, txn=10 * n + 1, count=2, **its), wire.reserve(10 * n + 2, txn=10 * n + 2, **its)]
+            frames += [wire.settle(10 * n + 3, txn=10 * n + 2, **its)]
+        name, settings = f"night-{offset}-{kept_days}-days", {"default": 50, "offset": offset}
+        source, books = left_by_a_server(world, f"{name}-source", b"".join(frames), **settings)
+        night = Night(world, name, source, offset=offset)
+        night.words = [*night.words[:2], *words] if words else []
+        what = f"a night at offset {offset} that keeps {kept_days} days{'' if words else ', as it does by itself'}"
+        status, calls, errors = night.run()
+        checks.equal(f"{what}: status, and what it says", (status, errors), (0, ""))
+        checks.equal(f"{what}: what it calls", calls, night.calls(world, today - kept_days))
+        again = books.remembered(today - kept_days)
+        found = rows_in(night.ledger, again.rows())
+        checks.equal(f"{what}: the ledger", found, again.rows())
+        wanted = sorted((login, today - back, 1, 2) for back, login in enumerate(of_days) if back <= kept_days)
+        checks.equal(f"{what}: logins and days, with what is settled and what is open", found["usage"], wanted)
+        if not words:
+            its = of_days[b"u2"]
+            with Server(world, store=night.ledger, **settings) as server:
+                came = server.ask(wire.settle(24, txn=21, count=2, **its) + wire.usage(b"u2", today - 2))
+            wanted = wire.settled(24, 2) + wire.frame(b"\x8b" + wire.text(b"u2") + b"".join(map(wire.number, (today - 2, 3, 0, 50))))
+            checks.equal(f"{what}: the message that is open since two days ends after it", came, wanted)
+
 
 def a_night(world, checks):
     """The script, at once; stopped after each command and run again; and where `forget` fails."""
+    wait_past_midnight()
     now = this_day()
     source, books = left_by_a_server(world, "night", b"".join(of_a_week(now)), default=50)
     again = books.remembered(now - 2)
@@ -660,7 +723,7 @@ def a_night(world, checks):
     checks.equal("the script of a night: the old one", rows_of(f"{night.ledger}.old"), books.rows())
     left = sorted(it for it in os.listdir(night.folder) if it.startswith("ledger") and not it.endswith(("read", "read-wal")))
     checks.equal("the script of a night: what is there", left, ["ledger", "ledger.old", "ledger.old-wal"])
-    checks.equal("the script of a night: what it calls", [line for line, call in zip(calls, CALLS) if not line.startswith(call)] + [len(calls)], [len(CALLS)])
+    checks.equal("the script of a night: what it calls", calls, night.calls(world, now - 2))
     wrong = []
     for stop_at in range(1, len(calls) + 1):
         night = Night(world, f"night{stop_at}", source)

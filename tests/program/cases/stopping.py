@@ -6,7 +6,7 @@ import time
 from cases.filters import LIMIT, PROCEED
 from cases.rules import CENTRAL_EUROPE
 from cases.zones import WORKED_DAYS
-from ends import NO_NUMERIC_ADDRESS, NO_PORT, SECONDS, Relay, Script, Server, bad_address, fault, ledger_settings, shown, toml, wait_until, without_log
+from ends import NO_NUMERIC_ADDRESS, NO_PORT, SECONDS, Relay, Script, Server, bad_address, fault, ledger_settings, shown, toml, wait_past_midnight, wait_until, without_log
 from smtpd import Smtpd, clock, result
 from wire import BAD, RETRY, frame, full, granted, identity, limit, number, reserve, retire, retired, settle, text
 
@@ -353,12 +353,6 @@ def today_alone(world, checks):
     checks.equal("stop by settings that aren't there", without_log(came), fault("settings can't be read"))
     came = world.run("stop", "--server", "127.0.0.1:1", "--host", "admin", "--login", "u")
     checks.holds("stop with neither a day nor settings", came[0] == 2 and "--day <DAY>" in came[2], "status 2, and what is missing", came)
-
-
-def wait_past_midnight():
-    """Waits, where UTC's day ends within a minute, until the next one has begun."""
-    while time.time() % 86_400 > 86_340:
-        time.sleep(1)
 
 
 def logins_that_sent_nothing(world, checks):

@@ -1,0 +1,185 @@
+"""What the units, the drop-in and the settings of contrib have to say, and what systemd says of them where it is there."""
+import os
+import re
+import shutil
+import subprocess
+
+from ends import TOP
+
+CONTRIB = f"{TOP}/contrib"
+# The values of a key, in their order: a later one would count in place of an earlier one, or in addition.
+SERVER = {
+    "Unit": {
+        "Wants": ["network-online.target"], "After": ["network-online.target"],
+        # it is restarted however often it ends
+        "StartLimitIntervalSec": ["0"],
+    },
+    "Service": {
+        # started once it answers, and never killed while it reads its ledger
+        "ExecStart": ["/usr/local/sbin/mailquota server --config /etc/mailquota.toml"],
+        "ExecStartPost": ["/usr/local/libexec/mailquota/await-server /etc/mailquota.toml"], "TimeoutStartSec": ["infinity"],
+        # it ends with status 0 after its connections
+        "Restart": ["always"], "RestartSec": ["1"],
+        # only these reach it, whatever the packet filter lets through
+        "IPAddressDeny": ["any"], "IPAddressAllow": ["localhost 192.0.2.0/24"],
+        # the ledger belongs to it alone
+        "DynamicUser": ["yes"], "User": ["mailquota"], "StateDirectory": ["mailquota"], "StateDirectoryMode": ["0700"], "UMask": ["0077"],
+        # what it may take of the machine
+        "MemoryMax": ["1G"], "TasksMax": ["8"],
+        # what it may do there
+        "CapabilityBoundingSet": [""], "NoNewPrivileges": ["yes"], "LockPersonality": ["yes"], "MemoryDenyWriteExecute": ["yes"],
+        "PrivateDevices": ["yes"], "PrivateTmp": ["yes"], "PrivateUsers": ["yes"], "ProcSubset": ["pid"], "ProtectProc": ["invisible"],
+        "ProtectClock": ["yes"], "ProtectControlGroups": ["yes"], "ProtectHome": ["yes"], "ProtectHostname": ["yes"], "ProtectKernelLogs": ["yes"],
+        "ProtectKernelModules": ["yes"], "ProtectKernelTunables": ["yes"], "ProtectSystem": ["strict"],
+        "RestrictAddressFamilies": ["AF_INET AF_INET6"], "RestrictNamespaces": ["yes"], "RestrictRealtime": ["yes"], "RestrictSUIDSGID": ["yes"],
+        # (a new log gets the owner of its database file)
+        "SystemCallArchitectures": ["native"], "SystemCallFilter": ["@system-service", "~@privileged @resources", "@chown"],
+    },
+    "Install": {"WantedBy": ["multi-user.target"]},
+}
+# smtpd ends with status 0 where its filter ends, and starts also where a retire fails
+RESTARTS = {
+    "Unit": {"Wants": ["network-online.target"], "After": ["network-online.target"], "StartLimitIntervalSec": ["0"]},
+    "Service": {
+        "ExecStartPre": ["-/usr/local/sbin/mailquota retire --server 192.0.2.7:7025 --host mx1.example.org"], "Restart": ["always"], "RestartSec": ["1"],
+    },
+}
+UNITS = {
+    "mailquota.service": SERVER,
+    "smtpd-restart.conf": RESTARTS,
+    "mailquota-forget.service": {
+        "Service": {"Type": ["oneshot"], "ExecStart": ["/usr/local/sbin/mailquota-forget /etc/mailquota.toml /var/lib/mailquota/ledger 2"]},
+    },
+    "mailquota-forget.timer": {
+        # (a night that was missed is made up for)
+        "Timer": {"OnCalendar": ["*-*-* 03:30"], "Persistent": ["yes"]}, "Install": {"WantedBy": ["timers.target"]},
+    },
+}
+OF_KEEPALIVED = [
+    "enable_script_security", "script_user nobody nogroup", 'script "/usr/local/libexec/mailquota/keepalived-check"', "interval 1", "timeout 1", "fall 3",
+    "rise 2", "init_fail", "state BACKUP", "virtual_router_id 70", "advert_int 1", "garp_master_refresh 1", "192.0.2.7/24", "answers",
+]
+LINES = {
+    "keepalived-first.conf": [*OF_KEEPALIVED, "priority 150", "preempt_delay 60", "unicast_src_ip 192.0.2.5", "192.0.2.6"],
+    "keepalived-second.conf": [*OF_KEEPALIVED, "priority 100", "unicast_src_ip 192.0.2.6", "192.0.2.5"],
+}
+# The first that fits counts.
+RULES = [
+    "type filter hook input priority filter; policy accept;", 'iif "lo" accept', "tcp dport 7025 ip saddr @servers accept",
+    "tcp dport 7025 ip saddr != @mailhosts drop", "ip protocol 112 ip saddr != @servers drop", "tcp dport 7025 meta nfproto ipv6 drop",
+]
+SETS = {"mailhosts": "192.0.2.1, 192.0.2.2, 192.0.2.9", "servers": "192.0.2.5, 192.0.2.6"}
+# How far the server's service may be open by systemd, in tenths: it is 1.3 by systemd 252.
+MOST_EXPOSED = 14
+SMTPD = "[Unit]\nDescription=OpenSMTPD SMTP server\n[Service]\nType=forking\nExecStart=/bin/true\n[Install]\nWantedBy=multi-user.target\n"
+
+
+def run(world, checks):
+    values_of_units(checks)
+    both_retires(checks)
+    settings_of_others(checks)
+    verified(world, checks)
+    exposed(world, checks)
+
+
+def text_of(name):
+    with open(f"{CONTRIB}/{name}", encoding="ascii") as file:
+        return file.read()
+
+
+def assignments(text):
+    """The values of each key of each section, in their order, as systemd reads them."""
+    found, section = {}, None
+    for line in text.replace("\\\n", " ").splitlines():
+        if head := re.fullmatch(r"\[(\w+)\]", line):
+            section = found.setdefault(head[1], {})
+        elif line and line[0] not in "#;":
+            key, _, value = line.partition("=")
+            section.setdefault(key.strip(), []).append(value.strip())
+    return found
+
+
+def values_of_units(checks):
+    for name, wanted in UNITS.items():
+        found = assignments(text_of(name))
+        for section, keys in wanted.items():
+            its = found.get(section, {})
+            other = {key: its.get(key) for key, values in keys.items() if its.get(key) != values}
+            checks.equal(f"contrib/{name}, {section}: keys of {len(keys)} that have other values", other, {})
+
+
+def both_retires(checks):
+    """The lines for two servers, which are to be uncommented in place of the one, retire the same host at both."""
+    text = re.sub(r"^ExecStartPre=.*\n", "", text_of("smtpd-restart.conf"), flags=re.MULTILINE)
+    found = assignments(re.sub(r"^#(?=ExecStartPre)", "", text, flags=re.MULTILINE))["Service"]["ExecStartPre"]
+    wanted = [f"-/usr/local/sbin/mailquota retire --server 192.0.2.{it}:7025 --host mx1.example.org" for it in (5, 6)]
+    checks.equal("contrib/smtpd-restart.conf: the lines for two servers", found, wanted)
+
+
+def settings_of_others(checks):
+    for name, wanted in LINES.items():
+        found = [line.strip() for line in text_of(name).splitlines()]
+        checks.equal(f"contrib/{name}: lines of {len(wanted)} that it lacks", [line for line in wanted if line not in found], [])
+    first, second = (text_of(f"keepalived-{it}.conf").splitlines() for it in ("first", "second"))
+    differ = {line.split()[0] for line in set(first) ^ set(second) if line.strip() and not line.strip().startswith("#")}
+    checks.equal("the settings of keepalived: what differs", differ, {"priority", "preempt_delay", "unicast_src_ip", "192.0.2.5", "192.0.2.6"})
+    rules = text_of("nftables.conf")
+    chain = re.search(r"chain input \{\n(.*?)\n\t\}", rules, re.DOTALL)[1]
+    checks.equal("the packet filter: its rules, in their order", [line.strip() for line in chain.splitlines()], RULES)
+    sets = dict(re.findall(r"set (\w+) \{\n\s*type ipv4_addr\n\s*elements = \{ (.*) \}", rules))
+    checks.equal("the packet filter: its addresses", sets, SETS)
+    loads = [line for line in rules.splitlines() if line and line[0] not in "#\t}"]
+    checks.equal("the packet filter: what a repeated load does first", loads, ["table inet mailquota", "delete table inet mailquota", "table inet mailquota {"])
+
+
+def of_systemd(checks, what):
+    """Whether systemd's own check is there; says so where it isn't."""
+    if shutil.which("systemd-analyze"):
+        return True
+    checks.skip(what, "there is no systemd-analyze")
+    return False
+
+
+def units_in(folder, changed=lambda name, text: text):
+    """All units in a folder, with programs that are there, and a unit of smtpd as Debian has one, with the drop-in."""
+    os.makedirs(f"{folder}/opensmtpd.service.d")
+    texts = {name: text_of(name) for name in UNITS}
+    texts["opensmtpd.service.d/smtpd-restart.conf"] = texts.pop("smtpd-restart.conf")
+    for name, text in {**texts, "opensmtpd.service": SMTPD}.items():
+        with open(f"{folder}/{name}", "w", encoding="ascii") as file:
+            file.write(changed(name, re.sub(r"/usr/local/(?:sbin|libexec/mailquota)/[\w-]+", "/bin/true", text)))
+    return [f"{folder}/{name}" for name in (*texts, "opensmtpd.service") if "/" not in name]
+
+
+def said_of(folder, units):
+    """What systemd says of these units, without what it says of the machine's own."""
+    run = subprocess.run(["systemd-analyze", "verify", "--man=no", *units], capture_output=True, text=True)
+    return [line for line in (run.stdout + run.stderr).splitlines() if folder in line or re.search(r"mailquota|opensmtpd", line)]
+
+
+def verified(world, checks):
+    if not of_systemd(checks, "units by systemd-analyze verify"):
+        return
+    folder = f"{world.folder}/units"
+    checks.equal("units by systemd-analyze verify: what it says of them", said_of(folder, units_in(folder)), [])
+    # (it looks into each of them: a key that isn't one is told)
+    folder = f"{world.folder}/units-with-a-fault"
+    units = units_in(folder, lambda name, text: text.replace("[Service]\n", "[Service]\nRestrat=no\n").replace("[Timer]\n", "[Timer]\nRestrat=no\n"))
+    told = " ".join(said_of(folder, units))
+    names = ["mailquota.service", "mailquota-forget.service", "mailquota-forget.timer", "opensmtpd.service", "smtpd-restart.conf"]
+    checks.equal("units with a fault each: those of which it says nothing", [it for it in names if f"/{it}:" not in told], [])
+
+
+def exposed(world, checks):
+    what = "the server's unit by systemd-analyze security"
+    if not of_systemd(checks, what):
+        return
+    path = f"{world.folder}/mailquota.service"
+    with open(path, "w", encoding="ascii") as file:
+        file.write(text_of("mailquota.service"))
+    run = subprocess.run(["systemd-analyze", "security", "--offline=yes", f"--threshold={MOST_EXPOSED}", path], capture_output=True, text=True)
+    if "unrecognized option" in run.stderr:
+        checks.skip(what, "this systemd takes no unit's file")
+        return
+    told = re.search(r"exposure level for mailquota\.service: (\d+\.\d+)", run.stdout)
+    checks.holds(what, run.returncode == 0 and told is not None, f"at most {MOST_EXPOSED / 10}", told and told[1] or run.stderr)
