@@ -235,6 +235,12 @@ def processor_time(process):
     return (int(user) + int(system)) / os.sysconf("SC_CLK_TCK")
 
 
+def greatest_memory(process):
+    """The most memory that a process has had at once, in bytes."""
+    with open(f"/proc/{process.pid}/status", encoding="ascii") as lines:
+        return next(1_024 * int(line.split()[1]) for line in lines if line.startswith("VmHWM:"))
+
+
 # What stands in a line of what a server logs of requests.
 OF_REQUESTS = " mq_watch::watched] "
 

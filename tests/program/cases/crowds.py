@@ -5,7 +5,7 @@ import time
 
 from cases.filters import INPUT, PROCEED, REGISTRATION, answer
 from cases.peers import NOTHING_USED, goes_on, name_of
-from ends import LONG, Server, read_all, send_no_more, wait_until
+from ends import LONG, Server, greatest_memory, read_all, send_no_more, wait_until
 from wire import granted, number, page, page_reply, reserve, row, usage
 
 
@@ -36,7 +36,7 @@ def a_peer_that_reads_nothing(world, checks):
         logins = long_logins(10)
         checks.equal("ten logins", server.ask(reserved_by(logins)), b"".join(granted(n + 1, 1) for n in range(10)))
         checks.equal("a page of ten long logins", server.ask(page()), page_reply([row(login, 0, 1, 3) for login in logins]))
-        before = len(server.log_lines())
+        before, memory = len(server.log_lines()), greatest_memory(server.process)
         peer = server.connect(room=4_096)
         peer.sendall(page() * 10_000)
         came, slowest = [], 0
@@ -47,6 +47,8 @@ def a_peer_that_reads_nothing(world, checks):
         checks.equal("beside a peer that reads nothing: a hundred connections", came, [NOTHING_USED] * 100)
         checks.holds("beside a peer that reads nothing: how long the slowest took", slowest < 2, "below 2 s, half the timeout", f"{slowest:.2f} s")
         wait_until(lambda: len(server.log_lines()) > before)
+        took = greatest_memory(server.process) - memory
+        checks.holds("a peer that reads nothing: the memory of its 27 MB", took < 3_000_000, "less than 3 MB: twice eight pages of 2,686 bytes, and what else there is", f"{took:,} bytes")
         goes_on(server, checks, "a peer that reads nothing", before, word=(name_of(peer), "write failed"))
         peer.close()
 

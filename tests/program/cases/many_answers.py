@@ -6,10 +6,11 @@ import time
 
 import wire
 from books import Books
+from cases.accepting import waits
 from cases.forgetting import forget, kept
 from cases.limits import limits, printed
 from cases.setting_up import of_file
-from ends import SECONDS, Server, begun, ledger_settings, nobody_there, read_to_end, send_no_more, time_of_start, without_log, without_time
+from ends import SECONDS, Server, begun, ledger_settings, nobody_there, processor_time, read_to_end, send_no_more, time_of_start, without_log, without_time
 from rows import same_rows
 
 MANY = 70_000
@@ -164,11 +165,19 @@ def many_days(world, checks):
 def many_connections(world, checks):
     """70,000 connections of one server, one after the other."""
     with Server(world) as server:
-        wanted, good = Books().serve(wire.usage()), 0
+        wanted, good, worked = Books().serve(wire.usage()), 0, [processor_time(server.process)]
         # (an address has some 28,000 ports, each of which rests for a minute)
         while good < MANY and asked_from(f"127.0.1.{1 + good // 10_000}", server.port) == wanted:
             good += 1
+            if good % PORTION == 0:
+                worked.append(processor_time(server.process))
         checks.equal("connections of a server that are answered", good, MANY)
+        took = [after - before for before, after in zip(worked, worked[1:])]
+        for place in (20_000, MANY - PORTION):
+            came = took[place // PORTION:place // PORTION + 1]
+            is_steady = bool(came) and came[0] < 2 * took[0] + 0.3
+            checks.holds(f"a processor's time of {PORTION:,} connections after {place:,} others", is_steady, "hardly more than of the first ones", (took[0], came))
+        waits(checks, f"a server that had {MANY:,} connections", server.process)
     print(f"    {MANY:,} connections of a server", flush=True)
 
 

@@ -148,17 +148,18 @@ def written(world, name, *statements):
 
 
 def of_version(version, books):
-    """What writes the rows of these books, without retires, as tables of version 1, by an offset, or of version 2, by a rule."""
+    """What writes the rows of these books as tables of version 1, which is by an offset and has no retires, of version 2, by a rule, or of version 3."""
     rows = books.rows()
     [(_, minutes, cap, arrivals)] = rows["setting"]
     yield from FIVE_TABLES
     yield "INSERT INTO setting VALUES (1, ?, ?, ?, ?)", (version, minutes, cap, arrivals)
-    for table in ("answer", "trans", "usage", "ceiling"):
+    if version > 1:
+        yield RULE_TABLE
+    if version > 2:
+        yield RETIRED_TABLE
+    for table in ["answer", "trans", "usage", "ceiling", "rule", "retired"][:3 + version]:
         for row in rows[table]:
             yield f"INSERT INTO {table} VALUES ({', '.join('?' * len(row))})", row
-    if version == 2:
-        yield RULE_TABLE
-        yield "INSERT INTO rule VALUES (1, ?)", (books.zone.encode(),)
 
 
 def version_of(path):
