@@ -13,6 +13,6 @@ shift
 . "$here/../smtpd/root.sh"
 make_root "$here/../.." "$program"
 make_logins u01 u02 u03 u04 u05 u06 u07 u08
-work=$(mktemp -d /var/tmp/mailquota-takeover.XXXXXX)
+work=$(mktemp -d "${TMPDIR:-/var/tmp}/mailquota-takeover.XXXXXX")
 trap 'rm -rf "$work"' EXIT
 WORK=$work unshare --mount --net --pid --fork --kill-child --mount-proc python3 "$here/takeover.py" "$@"
