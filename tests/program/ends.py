@@ -150,15 +150,35 @@ def apart(errors):
     return log, "".join(line for line in lines if not line.startswith("["))
 
 
-def without_log(came):
-    """What a run ended with, printed and said, without the log's lines."""
-    status, output, errors = came
-    return status, output, apart(errors)[1]
+def fault(text, output=b"", log=""):
+    """What a run ends with, has printed and says where it isn't done, after these lines of its log."""
+    return 1, output, f"{log}mailquota: {text}\n"
 
 
-def fault(text, output=b""):
-    """What a run ends with, has printed and says where it isn't done."""
-    return 1, output, f"mailquota: {text}\n"
+# What the system says.
+NOBODY_LISTENS, NO_FILE = "Connection refused (os error 111)", "No such file or directory (os error 2)"
+# What the store says of a file that another process has open, and of one that is no database.
+LOCKED, NO_DATABASE = "database is locked", "file is not a database that obeys its schema"
+
+
+def unreached(address, cause=NOBODY_LISTENS):
+    """The line of a log that says why the last try of a request got no answer of this server."""
+    return f"[ERROR mq_tcp::logged] quota server {address}: {cause}\n"
+
+
+def unavailable(address, cause=NOBODY_LISTENS, output=b""):
+    """What a command ends with that gets no answer of this server."""
+    return fault("quota service unavailable", output, unreached(address, cause))
+
+
+def of_store(path, cause):
+    """The line of a log that says why the file at this path can't be opened, read or written."""
+    return f"[ERROR mq_program::store] {path}: {cause}\n"
+
+
+def of_settings(path, said):
+    """The line of a log that says why a file of settings can't be used."""
+    return f"[ERROR mq_process::settings] {path}: {said}\n"
 
 
 # What an address lacks.

@@ -37,7 +37,7 @@ OTHER_GROUPS = ["kills", "failures", "many_limits", "memory_limits"]
 # these run only where they are named
 LONG_GROUPS = ["many_pages"]
 # texts that groups share
-NO_GROUPS = ["__init__", "rules", "texts_of_words"]
+NO_GROUPS = ["__init__", "rules", "texts_of_settings", "texts_of_words"]
 # So many groups at once: they mostly wait.
 AT_ONCE = 4
 # A group that takes so many seconds hangs, but for the long ones.

@@ -1,5 +1,5 @@
 """`limit` and `report`, asked of the real server and of one that answers by a script."""
-from ends import DRIP, RESET, SILENCE, Script, Server, apart, fault, nobody_there, soon, without_log
+from ends import DRIP, RESET, SILENCE, Script, Server, fault, nobody_there, soon, unavailable
 from wire import BAD, RETRY, frame, full, granted, identity, limit, number, page, page_reply, release, reserve, row, settle, text, usage
 
 ADMIN = {"host": b"admin", "run": 7}
@@ -20,13 +20,6 @@ def set_limit(world, address, *, cap, start=1, login="u", run=7, **more):
 
 def report(world, address, *, day=1, login=None, **more):
     return world.run("report", "--server", address, "--day", str(day), *(["--login", login] if login is not None else []), **more)
-
-
-def causes(checks, what, came, address, cause):
-    """Before the text there is one line of log: the server's address, and why no answer came."""
-    log = apart(came[2])[0]
-    good = log == [f"[ERROR mq_tcp::logged] quota server {address}: {cause}\n"]
-    checks.holds(f"{what}: the log", good, f"one line with {address} and '{cause}'", log)
 
 
 def of_the_real_server(world, checks):
@@ -65,34 +58,26 @@ def of_the_real_server(world, checks):
 def limit_by_script(world, checks):
     asked = limit(1, 1, 5, **ADMIN)
     good = frame(b"\x85" + identity(1, **ADMIN))
-    unavailable = fault("quota service unavailable")
+    # (what came is a reply, if not to this request: the log has nothing of it)
+    other = fault("quota service unavailable")
     cases = [
         ("set at once", [good], 1, (0, b"set\n", "")),
         ("set at the third try", [b"", RETRY, good], 3, (0, b"set\n", "")),
         ("over", [frame(b"\x86" + identity(1, **ADMIN) + number(4) + number(9))], 1, fault("over day 4 used 9")),
         ("conflict", [frame(b"\x8a" + identity(1, **ADMIN))], 1, fault("number used with another limit")),
-        ("a reply of another number, thrice", [frame(b"\x85" + identity(2, **ADMIN))] * 3, 3, unavailable),
-        ("a reply of another run, thrice", [frame(b"\x85" + identity(1, host=b"admin", run=8))] * 3, 3, unavailable),
-        ("another host's over, thrice", [frame(b"\x86" + identity(1) + number(4) + number(9))] * 3, 3, unavailable),
-        ("a reply of another kind, thrice", [granted(1, 1, **ADMIN)] * 3, 3, unavailable),
-        ("closed, thrice", [frame(b"\x87" + identity(1, **ADMIN))] * 3, 3, unavailable),
-        ("bad, thrice", [BAD] * 3, 3, unavailable),
-        ("garbage, a reset and a cut", [b"HTTP/1.1 400", RESET, good[:-1]], 3, unavailable),
-        ("a length of 0 and no more", [b"\x00\x00"], 1, unavailable),
+        ("a reply of another number, thrice", [frame(b"\x85" + identity(2, **ADMIN))] * 3, 3, other),
+        ("a reply of another run, thrice", [frame(b"\x85" + identity(1, host=b"admin", run=8))] * 3, 3, other),
+        ("another host's over, thrice", [frame(b"\x86" + identity(1) + number(4) + number(9))] * 3, 3, other),
+        ("a reply of another kind, thrice", [granted(1, 1, **ADMIN)] * 3, 3, other),
+        ("closed, thrice", [frame(b"\x87" + identity(1, **ADMIN))] * 3, 3, other),
     ]
     for what, script, times, wanted in cases:
         with Script(script) as server:
-            if len(script) < 3 and wanted == unavailable:
-                server.answers += [b""] * 2
-                times = 3
             came = set_limit(world, server.address, cap=5)
-        # (of a limit that is set nothing is logged, however many tries it took)
-        said = without_log(came) if wanted[0] else came
-        checks.equal(f"limit, {what}", (said, server.heard), (wanted, [asked] * times))
+        checks.equal(f"limit, {what}", (came, server.heard), (wanted, [asked] * times))
     with nobody_there() as address:
-        came = set_limit(world, address, cap=5)
-    checks.equal("limit without a server", without_log(came), unavailable)
-    causes(checks, "limit without a server", came, address, "Connection refused (os error 111)")
+        checks.equal("limit without a server", set_limit(world, address, cap=5), unavailable(address))
+    # (the log says why the last try got no answer)
     for what, script, cause in [
         ("closed at once", [b""] * 3, "closed before its reply was whole"),
         ("a reply cut short", [good[:-1]] * 3, "closed before its reply was whole"),
@@ -100,18 +85,20 @@ def limit_by_script(world, checks):
         ("words of another protocol", [frame(b"HTTP/1.1 400 Bad Request")] * 3, "24 bytes that are no reply"),
         ("a reset", [RESET] * 3, "Connection reset by peer (os error 104)"),
         ("bad", [BAD] * 3, "it takes the request for none"),
+        ("bad, and then a reply of another number", [BAD, BAD, frame(b"\x85" + identity(2, **ADMIN))], None),
         ("no memory", [RETRY] * 3, "it has no memory for the request"),
+        ("garbage, a reset and a cut", [b"HTTP/1.1 400", RESET, good[:-1]], "closed before its reply was whole"),
+        ("a length of 0 and no more", [b"\x00\x00", b"", b""], "closed before its reply was whole"),
     ]:
         with Script(script) as server:
             came = set_limit(world, server.address, cap=5)
-        causes(checks, f"limit, {what}", came, server.address, cause)
+        wanted = unavailable(server.address, cause) if cause else other
+        checks.equal(f"limit, {what}: what it says", (came, server.heard), (wanted, [asked] * 3))
     (came, server), took = soon(lambda: asked_of([SILENCE] * 3, lambda address: set_limit(world, address, cap=5)), 8)
-    checks.equal("limit of a silent server", (without_log(came), server.heard), (unavailable, [asked] * 3))
-    causes(checks, "limit of a silent server", came, server.address, "no answer in time")
+    checks.equal("limit of a silent server", (came, server.heard), (unavailable(server.address, "no answer in time"), [asked] * 3))
     checks.holds("limit of a silent server: three tries of 2,000 ms", 5.99 < took < 8, "6 s", f"{took:.1f} s")
     (came, server), took = soon(lambda: asked_of([DRIP] * 3, lambda address: report(world, address)), 8)
-    checks.equal("report of a server that drips", without_log(came), unavailable)
-    causes(checks, "report of a server that drips", came, server.address, "no answer in time")
+    checks.equal("report of a server that drips", came, unavailable(server.address, "no answer in time"))
     checks.holds("report of a server that drips: three tries of 2,000 ms", 5.99 < took < 8, "6 s", f"{took:.1f} s")
 
 
@@ -127,21 +114,23 @@ def usage_reply(login=b"u", day=1):
 
 def usage_by_script(world, checks):
     line = b"      1      20     300 u\n"
-    unavailable = fault("quota service unavailable")
-    for what, script, times, wanted in [
-        ("at once", [usage_reply()], 1, (0, line, "")),
-        ("at the third try", [BAD, b"", usage_reply()], 3, (0, line, "")),
-        ("of another login, then its own", [usage_reply(b"v"), usage_reply()], 2, (0, line, "")),
-        ("of another day, thrice", [usage_reply(day=2)] * 3, 3, unavailable),
-        ("a page, thrice", [page_reply([])] * 3, 3, unavailable),
-        ("greatest numbers", [frame(b"\x8b" + text(b"u") + number(1) + number(1_000_000) * 3)], 1, (0, b"1000000 1000000 1000000 u\n", "")),
-        ("a number of 1,000,001, thrice", [frame(b"\x8b" + text(b"u") + number(1) + number(1_000_001) * 3)] * 3, 3, unavailable),
+    other = fault("quota service unavailable")
+    # (what isn't a reply at all has its line in the log)
+    for what, script, times, wanted, cause in [
+        ("at once", [usage_reply()], 1, (0, line, ""), None),
+        ("at the third try", [BAD, b"", usage_reply()], 3, (0, line, ""), None),
+        ("of another login, then its own", [usage_reply(b"v"), usage_reply()], 2, (0, line, ""), None),
+        ("of another day, thrice", [usage_reply(day=2)] * 3, 3, other, None),
+        ("a page, thrice", [page_reply([])] * 3, 3, other, None),
+        ("greatest numbers", [frame(b"\x8b" + text(b"u") + number(1) + number(1_000_000) * 3)], 1, (0, b"1000000 1000000 1000000 u\n", ""), None),
+        ("a number of 1,000,001, thrice", [frame(b"\x8b" + text(b"u") + number(1) + number(1_000_001) * 3)] * 3, 3, other, "19 bytes that are no reply"),
     ]:
         with Script(script) as server:
-            came = without_log(report(world, server.address, login="u"))
+            came = report(world, server.address, login="u")
+        wanted = unavailable(server.address, cause) if cause else wanted
         checks.equal(f"report of a login, {what}", (came, server.heard), (wanted, [usage()] * times))
     with nobody_there() as address:
-        checks.equal("report without a server", without_log(report(world, address)), unavailable)
+        checks.equal("report without a server", report(world, address), unavailable(address))
 
 
 def rows_of(names):
@@ -154,7 +143,7 @@ def lines_of(names):
 
 def pages_by_script(world, checks):
     first = [b"a%02d" % n for n in range(100)]
-    behind = [page(), page(after=first[-1])]
+    behind, too_many = [page(), page(after=first[-1])], page_reply(rows_of(first + [b"b"]))
     bad = fault("bad page")
     for what, script, asked, wanted in [
         ("an empty page", [page_reply([])], [page()], (0, b"", "")),
@@ -169,12 +158,12 @@ def pages_by_script(world, checks):
         ("an empty page of another day", [page_reply([], day=2)], [page()], bad),
         ("a second page that begins with the last login", [page_reply(rows_of(first)), page_reply(rows_of(first[-1:]))], behind, fault("bad page", lines_of(first))),
         ("the same full page again", [page_reply(rows_of(first))] * 2, behind, fault("bad page", lines_of(first))),
-        ("no second page", [page_reply(rows_of(first)), b"", b"", b""], behind + behind[1:] * 2, fault("quota service unavailable", lines_of(first))),
-        ("a page of 101 rows, thrice", [page_reply(rows_of(first + [b"b"]))] * 3, [page()] * 3, fault("quota service unavailable")),
+        ("no second page", [page_reply(rows_of(first)), b"", b"", b""], behind + behind[1:] * 2, lambda address: unavailable(address, "closed before its reply was whole", lines_of(first))),
+        ("a page of 101 rows, thrice", [too_many] * 3, [page()] * 3, lambda address: unavailable(address, f"{len(too_many) - 2} bytes that are no reply")),
     ]:
         with Script(script) as server:
-            came = without_log(report(world, server.address))
-        checks.equal(f"report, {what}", (came, server.heard), (wanted, asked))
+            came = report(world, server.address)
+        checks.equal(f"report, {what}", (came, server.heard), (wanted(server.address) if callable(wanted) else wanted, asked))
 
 
 def device_that_is_full(world, checks):

@@ -3,7 +3,7 @@ import os
 import signal
 import sqlite3
 
-from ends import Server, apart, copied, fault, ledger_settings, without_log
+from ends import LOCKED, NO_FILE, Server, copied, fault, ledger_settings, of_settings, of_store, refusal
 from sums import renew
 from wire import granted, limit, release, reserve, settle, usage
 
@@ -85,11 +85,11 @@ def edited(world, source, name, *statements):
     return path
 
 
-def by_both(world, checks, what, path, wanted, **more):
+def by_both(world, checks, what, path, wanted, log="", **more):
     """`audit` and `server` refuse the file in the same words."""
     for subcommand in ("audit", "server"):
         came = world.run(subcommand, "--config", ledger_settings(world, path, **more))
-        checks.equal(f"{what}: {subcommand}", without_log(came), fault(wanted))
+        checks.equal(f"{what}: {subcommand}", came, fault(wanted, log=log))
 
 
 def wrong_books(world, checks):
@@ -153,27 +153,29 @@ def refused(world, checks):
     path = left_by_a_server(world, "audit-refused", TWO_AND_A_SETTLE)
     wrong = edited(world, path, "audit-refused-wrong", "UPDATE usage SET reserved = 9")
     later = edited(world, path, "audit-version", "UPDATE setting SET version = 2")
-    for what, place, more, wanted in [
-        ("another offset", path, {"offset": 60}, "store has another zone"),
-        ("another default", path, {"default": 4}, "store has another default"),
-        ("another offset and default, wrong books", wrong, {"offset": 60, "default": 4}, "store has another zone"),
-        ("another default, wrong books", wrong, {"default": 4}, "store has another default"),
-        ("tables of a later version", later, {}, "store is not this ledger"),
-        ("no file", f"{world.folder}/none", {}, "store can't be opened"),
-        ("a folder", world.folder, {}, "store can't be opened"),
+    zone, default = "made with offset 0, the settings have offset 60", "made with default 3, the settings have default 4"
+    none = f"{world.folder}/none"
+    for what, place, more, wanted, log in [
+        ("another offset", path, {"offset": 60}, "store has another zone", refusal(path, zone)),
+        ("another default", path, {"default": 4}, "store has another default", refusal(path, default)),
+        ("another offset and default, wrong books", wrong, {"offset": 60, "default": 4}, "store has another zone", refusal(wrong, zone)),
+        ("another default, wrong books", wrong, {"default": 4}, "store has another default", refusal(wrong, default)),
+        ("tables of a later version", later, {}, "store is not this ledger", refusal(later, "tables of version 2, but one is missing or there is one too many")),
+        ("no file", none, {}, "store can't be opened", of_store(none, NO_FILE)),
+        ("a folder", world.folder, {}, "store can't be opened", of_store(world.folder, "unable to open database file")),
     ]:
-        by_both(world, checks, what, place, wanted, **more)
+        by_both(world, checks, what, place, wanted, log, **more)
     checks.equal("audit makes no file", os.path.exists(f"{world.folder}/none"), False)
     damaged = left_by_a_server(world, "audit-day", reserve(1, login=b"a b\\"))
     damaged = edited(world, damaged, "audit-day-before", "UPDATE usage SET day = -3")
     by_both(world, checks, "a day before 1970", damaged, r"store is damaged: login a\x20b\x5c day -3")
     checks.equal("audit of a ledger in memory", audit(world, "memory"), fault("store is memory"))
-    for what, file, wanted in [
-        ("no settings", f"{world.folder}/none", "settings can't be read"),
-        ("a key that isn't known", ledger_settings(world, "memory", hots=1), "setting hots: unknown"),
-        ("no store", world.new_file('listen = "127.0.0.1:1"\ndefault = 3\noffset = 0\n'), "setting store: missing"),
+    for what, file, wanted, log in [
+        ("no settings", none, "settings can't be read", NO_FILE),
+        ("a key that isn't known", ledger_settings(world, "memory", hots=1), "setting hots: unknown", "setting hots: unknown"),
+        ("no store", world.new_file('listen = "127.0.0.1:1"\ndefault = 3\noffset = 0\n'), "setting store: missing", "setting store: missing"),
     ]:
-        checks.equal(f"audit by {what}", without_log(world.run("audit", "--config", file)), fault(wanted))
+        checks.equal(f"audit by {what}", world.run("audit", "--config", file), fault(wanted, log=of_settings(file, log)))
 
 
 def outputs(world, checks):
@@ -193,10 +195,6 @@ def beside_a_server(world, checks):
     path = f"{world.folder}/audit-beside"
     with Server(world, words=["--create"], store=path) as server:
         server.ask(TWO_AND_A_SETTLE)
-        came = audit(world, path)
-        log = apart(came[2])[0]
-        checks.equal("audit beside a server", without_log(came), fault("store can't be opened"))
-        good = len(log) == 1 and f"{path}: database is locked" in log[0]
-        checks.holds("audit beside a server: the log", good, "one line with the path and the cause", log)
+        checks.equal("audit beside a server", audit(world, path), fault("store can't be opened", log=of_store(path, LOCKED)))
         checks.equal("audit beside a server: it goes on", server.ask(reserve(1)), granted(1, 1))
     checks.equal("audit once the server has ended", audit(world, path), SOUND)

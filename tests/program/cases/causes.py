@@ -12,7 +12,7 @@ from cases.audits import edited
 from cases.forgetting import left_by_a_server
 from cases.rules import CENTRAL_EUROPE
 from ends import (
-    IS_THERE, NO_NUMERIC_ADDRESS, NO_PORT, PORT_TOO_LARGE, SECONDS, Server, apart, ledger_settings, nobody_there, refusal, toml, without_log,
+    IS_THERE, NO_NUMERIC_ADDRESS, NO_PORT, PORT_TOO_LARGE, SECONDS, Server, fault, ledger_settings, nobody_there, of_settings, of_store, refusal, toml, unreached,
 )
 
 BY_RULE = {"offset": None, "rule": CENTRAL_EUROPE}
@@ -41,11 +41,8 @@ def refuses(world, checks, what, path, said, cause, **settings):
     file, into = ledger_settings(world, path, **settings), f"{path}.new"
     for words in (["server"], ["audit"], ["limits"], ["status"], ["forget", "--before", "2", "--into", into]):
         status, output, errors = world.run(words[0], "--config", file, *words[1:])
-        log, text = apart(errors)
-        unavailable = "mailquota: quota service unavailable\n" if words[0] == "status" else ""
-        wanted = 1, b"", f"{unavailable}mailquota: {said}\n", [refusal(path, cause)]
-        checks.equal(f"{what}: {words[0]}", (status, output, text, log[-1:]), wanted)
-        checks.equal(f"{what}: {words[0]}, lines of the log", len(log), 1 + bool(unavailable))
+        asked = f"{unreached('127.0.0.1:1')}mailquota: quota service unavailable\n" if words[0] == "status" else ""
+        checks.equal(f"{what}: {words[0]}", (status, output, errors), (1, b"", f"{asked}{refusal(path, cause)}mailquota: {said}\n"))
     checks.equal(f"{what}: forget makes no file", os.path.exists(into), False)
 
 
@@ -130,9 +127,8 @@ def addresses_of_settings(world, checks):
 def refuses_setting(world, checks, subcommand, others, key, value, said):
     """The value of a setting is bad, and the log says why."""
     file = world.new_file(toml({**others, key: value}))
-    log = f"[ERROR mq_process::settings] {file}: setting {key}: {said}\n"
     came = world.run(subcommand, "--config", file)
-    checks.equal(f"{subcommand} with {key} = {value!r}", came, (1, b"", f"{log}mailquota: setting {key}: bad value\n"))
+    checks.equal(f"{subcommand} with {key} = {value!r}", came, fault(f"setting {key}: bad value", log=of_settings(file, f"setting {key}: {said}")))
 
 
 def values_of_settings(world, checks):
@@ -158,7 +154,7 @@ def files_of_settings(world, checks):
         ("setting port: unknown", toml({**filters, "port": 1})), ("setting server: missing", toml({"host": "mx1"})), ("settings too large", "#" * 65_537),
     ]:
         file = world.new_file(text)
-        checks.equal(f"filter: {said}", world.run("filter", "--config", file), (1, b"", f"[ERROR mq_process::settings] {file}: {said}\nmailquota: {said}\n"))
+        checks.equal(f"filter: {said}", world.run("filter", "--config", file), fault(said, log=of_settings(file, said)))
 
 
 def rows_of_no_ledger(world, checks):
@@ -168,10 +164,9 @@ def rows_of_no_ledger(world, checks):
     with Server(world, store=path) as server:
         checks.equal("a row that spells nothing: what is right", server.ask(wire.reserve(1)), wire.granted(1, 1))
         checks.equal("a row that spells nothing: the reply", server.ask(wire.reserve(2)), b"")
-        log, text = apart("".join(f"{line}\n" for line in (server.status(), server.log_lines())[1]))
-        checks.equal("a row that spells nothing: the end", (server.status(), text), (1, "mailquota: store failed\n"))
-        checks.equal("a row that spells nothing: the cause", log[-1:], [f"[ERROR mq_program::store] {path}: rows are none of a ledger's\n"])
-        checks.holds("a row that spells nothing: lines of the log", len(log) == 2 and "store failed" in log[0], "one of the connection and the cause", log)
+        status, lines = server.status(), [re.sub(r"127\.0\.0\.1:\d+", "PEER", line) for line in server.log_lines()]
+        wanted = "[ERROR mq_connections::room] connection of PEER: store failed", of_store(path, "rows are none of a ledger's")[:-1], "mailquota: store failed"
+        checks.equal("a row that spells nothing: the end, and what is logged of it", (status, lines), (1, [*wanted]))
 
 
 def forgets_no_such_rows(world, checks):
@@ -191,8 +186,9 @@ def memory(world, checks):
     """A ledger in memory can be asked of its server alone."""
     with nobody_there() as address:
         file = world.new_file(toml({"listen": address, "store": "memory", "default": 3, "offset": 0}))
-        came = without_log(world.run("status", "--config", file))
-    checks.equal("status of a ledger in memory, nobody there", came, (1, b"", "mailquota: quota service unavailable\nmailquota: store is memory\n"))
+        came = world.run("status", "--config", file)
+    wanted = 1, b"", f"{unreached(address)}mailquota: quota service unavailable\nmailquota: store is memory\n"
+    checks.equal("status of a ledger in memory, nobody there", came, wanted)
 
 
 def on_a_terminal(world, *words):

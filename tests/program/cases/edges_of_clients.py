@@ -4,7 +4,7 @@ import wire
 from books import Books
 from cases.edges import EVERY_BYTE, FIRST_SECOND, GREATEST_RUN, LAST_DAY, LAST_SECOND, LONGEST_HOST, MOST, VALUES, shown
 from cases.filters import CONFIG, INPUT, LIMIT, PROCEED, REGISTRATION, RESERVE, answer
-from ends import LONG, Script, toml, without_log
+from ends import LONG, Script, toml
 
 SESSION, MESSAGE, TOKEN = b"7641df9771b4ed00", b"4c56d3a1", b"1ef1c203cc576e5d"
 DAYS = [0, 1, 24_855, 24_856, 49_710, 65_536, LAST_DAY - 1, LAST_DAY]
@@ -70,7 +70,7 @@ def of_replies(world, checks):
         for day in (0, 1, LAST_DAY):
             with Script([wire.frame(b"\x86" + wire.identity(1) + wire.number(day) + wire.number(used))]) as server:
                 words = ["--server", server.address, "--host", "a", "--login", "u", "--from", "0", "--cap", "0", "--run", "1"]
-                came = without_log(world.run("limit", *words))
+                came = world.run("limit", *words)
             checks.equal(f"limit, over on day {day:,} with {used:,}", came, (1, b"", f"mailquota: over day {day} used {used}\n"))
     print(f"    {len(NUMBERS)} numbers of replies", flush=True)
 

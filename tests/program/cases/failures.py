@@ -16,8 +16,9 @@ import subprocess
 import time
 
 import wire
+from cases.damage import WRONG_PAGES
 from cases.filters import INPUT, PROCEED, REGISTRATION, SERVICE, answer
-from ends import LONG, SECONDS, Server, apart, copied, fault, read_all, without_log
+from ends import LONG, SECONDS, Server, apart, copied, fault, of_store, read_all
 from wire import BAD, RETRY, granted, page, reserve, usage
 
 DEFAULT = 1_000_000
@@ -228,8 +229,8 @@ def a_file_that_becomes_read_only(world, checks):
             asked.ask_on(server, 60)
             checks.equal("a file that becomes read-only: status and text", how_it_ended(server), (1, "mailquota: store failed\n"))
             came = world.run("server", "--config", world.new_file(settings_of(path)))
-            ended = came[0], apart(came[2])[1]
-            checks.equal("a file that is read-only: status and text", ended, (1, "mailquota: store can't be opened\n"))
+            wanted = fault("store can't be opened", log=of_store(path, "unable to open database file"))
+            checks.equal("a file that is read-only: status and text", came, wanted)
         finally:
             subprocess.run(["chattr", "-i", *files], check=True)
     checks.equal("a file that becomes read-only: replies before", len(asked.replies), 50)
@@ -361,7 +362,8 @@ def other_databases(world, checks):
     with open(path, "wb") as file:
         file.write(b"SQLite format 3\0" + random.Random(3).randbytes(20_000))
     came = world.run("server", "--config", world.new_file(settings_of(path)))
-    checks.equal("noise behind a database's first bytes", without_log(came), fault("store can't be opened"))
+    wanted = [fault("store can't be opened", log=of_store(path, cause)) for cause in WRONG_PAGES]
+    checks.holds("noise behind a database's first bytes", came in wanted, "refused, with the path and what is wrong with it", came)
 
 
 def refused_memory(world, checks):

@@ -1,8 +1,18 @@
 """Settings of the filter: accepted ones end in the refusal of an empty input, so that nothing is asked."""
-from ends import apart, fault, without_log
+from cases.texts_of_settings import NOT_TOML, is_no_toml, log_of
+from ends import NO_FILE, NO_NUMERIC_ADDRESS, NO_PORT, PORT_TOO_LARGE, apart, fault, of_settings
 
 ACCEPTED = "input ended before config ready"
+# how a filter ends whose input is empty
+ENDED = f"[ERROR mq_remote::subcommands::filter] the filter ends: {ACCEPTED}\n"
 GOOD = {"host": '"mx1"', "server": '"127.0.0.1:7025"'}
+
+
+# addresses that none can be asked at, and what each lacks
+ADDRESSES = {
+    '"localhost:7025"': NO_NUMERIC_ADDRESS, '"127.0.0.1"': NO_PORT, '"127.0.0.1:65536"': PORT_TOO_LARGE, '"127.0.0.1:x"': NO_PORT,
+    '"127.0.1:1"': NO_NUMERIC_ADDRESS, '":7025"': NO_NUMERIC_ADDRESS, '""': NO_PORT, "7025": None,
+}
 
 
 def text_of(**settings):
@@ -15,22 +25,26 @@ def run(world, checks):
     values(world, checks)
 
 
-def expect(world, checks, what, content, wanted):
-    came = world.run("filter", "--config", world.new_file(content), "--run", "1")
-    checks.equal(f"filter settings, {what}", without_log(came), fault(wanted))
+def expect(world, checks, what, content, wanted, lacks=None, log=None):
+    """What a filter comes to by this file of settings, and what its log says before: of an address its fault, where it is a text, or this log."""
+    path = world.new_file(content)
+    came = world.run("filter", "--config", path, "--run", "1")
+    if wanted == NOT_TOML:
+        checks.holds(f"filter settings, {what}", is_no_toml(path, came), "refused, with the place", came)
+        return
+    if log is None:
+        log = ENDED if wanted == ACCEPTED else log_of(path, wanted, lacks)
+    checks.equal(f"filter settings, {what}", came, fault(wanted, log=log))
 
 
 def files(world, checks):
-    missing, folder = "No such file or directory (os error 2)", "Is a directory (os error 21)"
-    for what, path, cause in [("no file", f"{world.folder}/none", missing), ("a folder", world.folder, folder), ("an empty path", "", missing)]:
-        came = world.run("filter", "--config", path)
-        log = f"[ERROR mq_process::settings] {path}: {cause}\n"
-        checks.equal(f"filter settings, {what}", came, (1, b"", log + "mailquota: settings can't be read\n"))
+    for what, path, cause in [("no file", f"{world.folder}/none", NO_FILE), ("a folder", world.folder, "Is a directory (os error 21)"), ("an empty path", "", NO_FILE)]:
+        checks.equal(f"filter settings, {what}", world.run("filter", "--config", path), fault("settings can't be read", log=of_settings(path, cause)))
     text = text_of()
     expect(world, checks, "65,536 bytes", text + "#" * (65_536 - len(text)), ACCEPTED)
     expect(world, checks, "65,537 bytes", text + "#" * (65_537 - len(text)), "settings too large")
     came = world.run("filter", "--config", "/dev/zero")
-    checks.equal("filter settings, a file without end", without_log(came), fault("settings too large"))
+    checks.equal("filter settings, a file without end", came, fault("settings too large", log=of_settings("/dev/zero", "settings too large")))
     for what, content in [
         ("no TOML", "host"),
         ("bytes that are no text", b'host = "\xff\xfe"\n'),
@@ -38,7 +52,7 @@ def files(world, checks):
         ("random bytes", bytes(range(256))),
         ("an open string", 'host = "mx1\n'),
     ]:
-        expect(world, checks, what, content, "settings are not TOML")
+        expect(world, checks, what, content, NOT_TOML)
     for what, content, place in [
         ("no TOML in line 3", "# first\n\n= 1\n", "line 3, column 1: "),
         ("a string that is open behind two characters of two bytes", 'host = "\u00e9\u00e9\n', "line 1, column 11: "),
@@ -58,7 +72,7 @@ def order(world, checks):
     strange = b'"a b\\u001b[2J\xc3\xa9" = 1\n'
     expect(world, checks, "an unknown key of any characters", strange, "setting a\\x20b\\x1b[2J\\xc3\\xa9: unknown")
     expect(world, checks, "an unknown key before what is missing", "hots = 1\n", "setting hots: unknown")
-    expect(world, checks, "no TOML before an unknown key", "hots = 1\nhots = 2\n", "settings are not TOML")
+    expect(world, checks, "no TOML before an unknown key", "hots = 1\nhots = 2\n", NOT_TOML)
     expect(world, checks, "a key of the server", text_of(listen='"127.0.0.1:1"'), "setting listen: unknown")
     expect(world, checks, "a subtable", text_of() + "[more]\na = 1\n", "setting more: unknown")
     expect(world, checks, "a subtable under a key", text_of(tries=None) + "[tries]\na = 1\n", "setting tries: bad value")
@@ -85,16 +99,19 @@ def values(world, checks):
     ]
     refused = [
         ("host", ['""', host_65, '"a_b"', '"mx1 "', '"m\u00fc"', "1", "true", '["mx1"]', "{}"]),
-        ("server", ['"localhost:7025"', '"127.0.0.1"', '"127.0.0.1:65536"', '"127.0.0.1:x"', '"127.0.1:1"', '":7025"', '""', "7025"]),
+        ("server", ADDRESSES),
         ("tries", ["0", "11", "-1", '"3"', "3.0", "true", "[3]", "9223372036854775807"]),
         ("timeout", ["0", "60001", "-1", '"2000"', "2000.0", "1979-05-27"]),
         ("pause", ["3601", "-1", '"10"', "10.0", "true"]),
         ("hold", ["61", "-1", '"5"', "5.0", "[5]"]),
         ("log", ['"debug"', '"trace"', '"WARN"', '"warning"', '""', "1", "true"]),
     ]
+    # (with "info" its run is logged too, and with "off" nothing)
+    begins = "[INFO  mq_remote::subcommands::filter] the filter of host mx1 begins its run 1, with the server 127.0.0.1:7025\n"
+    logs = {'"off"': "", '"info"': begins + ENDED}
     for key, spellings in accepted:
         for value in spellings:
-            expect(world, checks, f"{key} = {value[:30]}", text_of(**{key: value}), ACCEPTED)
+            expect(world, checks, f"{key} = {value[:30]}", text_of(**{key: value}), ACCEPTED, log=logs.get(value))
     for key, spellings in refused:
         for value in spellings:
-            expect(world, checks, f"{key} = {value[:30]}", text_of(**{key: value}), f"setting {key}: bad value")
+            expect(world, checks, f"{key} = {value[:30]}", text_of(**{key: value}), f"setting {key}: bad value", lacks=ADDRESSES.get(value) if key == "server" else None)

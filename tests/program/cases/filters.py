@@ -4,7 +4,7 @@ import select
 import socket
 import subprocess
 
-from ends import DRIP, LONG, RESET, SECONDS, SILENCE, Script, apart, crowded_port, nobody_there, soon
+from ends import DRIP, LONG, RESET, SECONDS, SILENCE, Script, crowded_port, nobody_there, soon, unreached
 from wire import BAD, RETRY, frame, granted, identity, number, reserve, settled
 
 REGISTRATION = b"".join(
@@ -341,7 +341,7 @@ def faults(world, checks):
     with open("/dev/full", "wb") as device:
         file = world.filter_file("127.0.0.1:1")
         status, _, errors = world.run("filter", "--config", file, text=CONFIG, output=device)
-    checks.equal("an output that takes nothing", (status, apart(errors)[1]), (1, "mailquota: write failed\n"))
+    checks.equal("an output that takes nothing", (status, errors), (1, f"{ended_by('write failed')}mailquota: write failed\n"))
     with Script([GRANTED]) as server:
         status, output, errors = world.filter(server.address, INPUT + b"report|0.6|")
     error = "input ends inside a line"
@@ -349,8 +349,8 @@ def faults(world, checks):
     checks.equal("an end inside a line after an answer", (status, output, errors), (1, REGISTRATION + answer(PROCEED), wanted))
     with nobody_there() as address:
         came = world.filter(address, INPUT + COMMIT + b"report|0.6|", tries=1)
-    lines = came[2].splitlines(keepends=True)
-    checks.equal("an end inside a line with a closing that waits", (came[0], lines[-2:]), (1, [left_by(closings=1, transactions=0), f"mailquota: {error}\n"]))
+    wanted = f"{unreached(address)}{ended_by(error)}{left_by(closings=1, transactions=0)}mailquota: {error}\n"
+    checks.equal("an end inside a line with a closing that waits", (came[0], came[2]), (1, wanted))
 
 
 def ended_by(error):
@@ -373,8 +373,8 @@ def a_socket_that_breaks(world, checks):
     select.select([ours], [], [], SECONDS)
     ours.close()
     _, errors = process.communicate(timeout=SECONDS)
-    came = (process.returncode, apart(errors.decode())[1])
-    checks.equal("a socket pair whose other end went", came, (1, "mailquota: read failed\n"))
+    came = process.returncode, errors.decode()
+    checks.equal("a socket pair whose other end went", came, (1, f"{ended_by('read failed')}mailquota: read failed\n"))
 
 
 def a_thousand_recipients(world, checks):

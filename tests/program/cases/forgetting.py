@@ -18,7 +18,9 @@ from cases.audits import audit, edited
 from cases.damage import sound
 from cases.filters import PROCEED, REGISTRATION, SERVICE
 from cases.filters import LIMIT as REFUSED
-from ends import SECONDS, TOP, Server, apart, copied, fault, ledger_settings, wait_past_midnight, wait_until, without_log
+from ends import (
+    LOCKED, NO_FILE, SECONDS, TOP, Server, apart, copied, fault, ledger_settings, of_settings, of_store, refusal, wait_past_midnight, wait_until,
+)
 from ledger import decode
 from random_inputs import Times, TimesOfRule, connections_of
 from rows import answers_of, rows_in, same_rows
@@ -223,42 +225,37 @@ def refused(world, checks):
     path, books = left_by_a_server(world, "refused", b"".join(frame for frame, *_ in EXAMPLE))
     into, before = f"{world.folder}/refused.new", both(path)
 
-    def refuses(what, came, wanted, there=False, log=None):
-        checks.equal(f"forget, {what}", (without_log(came), os.path.exists(into)), (fault(wanted), there))
-        if log is not None:
-            checks.equal(f"forget, {what}: the log", apart(came[2])[0], log)
+    def refuses(what, came, wanted, log=""):
+        checks.equal(f"forget, {what}", (came, os.path.exists(into)), (fault(wanted, log=log), False))
 
     wait_past_midnight()
     today = int(world.run("day", "--config", ledger_settings(world, path))[1])
-    refuses("of tomorrow", forget(world, path, today + 1, into), "day is after today", log=[])
-    refuses("of a day after today", forget(world, path, today + 2, into), "day is after today", log=[])
-    refuses("of the last day", forget(world, path, 376_200, into), "day is after today", log=[])
+    refuses("of tomorrow", forget(world, path, today + 1, into), "day is after today")
+    refuses("of a day after today", forget(world, path, today + 2, into), "day is after today")
+    refuses("of the last day", forget(world, path, 376_200, into), "day is after today")
     came = world.run("forget", "--config", ledger_settings(world, path), "--before", "376201", "--into", into)
     checks.equal("forget, of a day after the last: status", (came[0], came[1], os.path.exists(into)), (2, b"", False))
-    for what, more, wanted in [
-        ("with another offset", {"offset": 60}, "store has another zone"), ("with a rule", {"offset": None, "rule": "UTC0"}, "store has another zone"),
-        ("with another default", {"default": 4}, "store has another default"),
+    for what, more, wanted, cause in [
+        ("with another offset", {"offset": 60}, "store has another zone", "made with offset 0, the settings have offset 60"),
+        ("with a rule", {"offset": None, "rule": "UTC0"}, "store has another zone", "made with offset 0, the settings have rule UTC0"),
+        ("with another default", {"default": 4}, "store has another default", "made with default 3, the settings have default 4"),
     ]:
-        refuses(what, forget(world, path, 2, into, **more), wanted)
+        refuses(what, forget(world, path, 2, into, **more), wanted, refusal(path, cause))
     refuses("of a ledger in memory", forget(world, "memory", 2, into), "store is memory")
-    refuses("of a file that isn't there", forget(world, f"{world.folder}/nothing", 2, into), NOT_OPENED)
-    refuses("without settings", forget(world, path, 2, into, config=f"{world.folder}/nothing"), "settings can't be read")
+    nothing = f"{world.folder}/nothing"
+    refuses("of a file that isn't there", forget(world, nothing, 2, into), NOT_OPENED, of_store(nothing, NO_FILE))
+    refuses("without settings", forget(world, path, 2, into, config=nothing), "settings can't be read", of_settings(nothing, NO_FILE))
     empty = f"{world.folder}/refused.empty"
     open(empty, "wb").close()
-    refuses("of an empty file", forget(world, empty, 2, into), "store is not this ledger")
+    refuses("of an empty file", forget(world, empty, 2, into), "store is not this ledger", refusal(empty, "no ledger: no such table"))
     damaged = edited(world, path, "refused.damaged", "UPDATE usage SET reserved = 9 WHERE day = 1")
     refuses("of a damaged ledger", forget(world, damaged, 2, into), "store is damaged: login u day 1")
     with Server(world, store=path) as server:
-        came = forget(world, path, 2, into)
-        refuses("of a ledger that a server has open", came, NOT_OPENED)
-        checks.equal("forget, of a ledger that a server has open: the log", apart(came[2])[0], [f"[ERROR mq_program::store] {path}: database is locked\n"])
+        refuses("of a ledger that a server has open", forget(world, path, 2, into), NOT_OPENED, of_store(path, LOCKED))
         checks.equal("the server goes on", server.ask(EXAMPLE[0][0]), EXAMPLE[0][1])
     nowhere = f"{world.folder}/nowhere/new"
-    came = forget(world, path, 2, nowhere)
-    checks.equal("forget, into a folder that isn't there", without_log(came), fault(NOT_OPENED))
-    log = apart(came[2])[0]
-    checks.equal("forget, into a folder that isn't there: the log", log[:1], [f"[ERROR mq_program::store] {nowhere}: No such file or directory (os error 2)\n"])
-    checks.equal("forget, into the old file itself", (without_log(forget(world, path, 2, path)), both(path)), (fault("file exists"), before))
+    checks.equal("forget, into a folder that isn't there", forget(world, path, 2, nowhere), fault(NOT_OPENED, log=of_store(nowhere, NO_FILE)))
+    checks.equal("forget, into the old file itself", (forget(world, path, 2, path), both(path)), (fault("file exists"), before))
     os.symlink(f"{world.folder}/dangling", f"{world.folder}/link")
     os.mkdir(f"{world.folder}/folder")
     with open(f"{world.folder}/taken", "wb") as file:
@@ -266,12 +263,14 @@ def refused(world, checks):
     empty = f"{world.folder}/refused.empty-too"
     open(empty, "wb").close()
     for what, name in [("an empty file", empty), ("a file with bytes", f"{world.folder}/taken"), ("a folder", f"{world.folder}/folder"), ("a link to nowhere", f"{world.folder}/link")]:
-        checks.equal(f"forget, into {what}", without_log(forget(world, path, 2, name)), fault("file exists"))
+        checks.equal(f"forget, into {what}", forget(world, path, 2, name), fault("file exists"))
     checks.equal("what was there is as it was", (content_of(empty), content_of(f"{world.folder}/taken"), os.path.exists(f"{world.folder}/dangling")), (b"", b"text", False))
     same_rows(checks, "forget, refused: the old file", path, books)
     with open("/dev/full", "wb") as device:
         came = forget(world, path, 2, into, output=device)
-        checks.equal("forget to a full device", (came[0], came[2].splitlines()[-1:]), (1, ["mailquota: write failed"]))
+        # (the new file is there)
+        log = f"[ERROR mq_program::forgetting] remove {into} and {into}-wal\n"
+        checks.equal("forget to a full device", (came[0], came[2]), (1, f"{log}mailquota: write failed\n"))
     os.remove(into)
     checks.equal("forget before today", forget(world, path, today, into)[0], 0)
     same_rows(checks, "forget before today", into, books.remembered(today))

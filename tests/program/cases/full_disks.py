@@ -2,14 +2,13 @@
 server ends with a text, and with room again every reply that was read is given again and counts. A retire, which writes many rows, is stored
 whole or not at all."""
 import os
-import re
 import resource
 
 import wire
 from books import Books
 from cases.failures import how_it_ended, is_refusal, replies_of
 from cases.filters import INPUT, REGISTRATION, SERVICE, answer
-from ends import Server, apart, copied, ledger_settings, without_log
+from ends import Server, apart, copied, fault, ledger_settings, of_store
 from rows import same_rows
 
 DEFAULT = 1_000_000
@@ -18,6 +17,8 @@ ROOMS = [0, 1, 4_095, 4_096, 20_000, 100_000, 300_000]
 # bytes in which the tables can't be made
 TOO_SMALL = [0, 1, 4_096, 40_960, 100_000]
 MANY = 400
+# what the store or the system says where there is no room
+FULL = ["database or disk is full", "disk I/O error"]
 # a retire of so many open messages has no room in files of these bytes, which end before what it writes, within it and at its end; and it has in those
 OPEN, TOO_LITTLE, ENOUGH = 1_500, [4_096, 30_000, 100_000, 300_000, 500_000], 4_000_000
 
@@ -70,8 +71,7 @@ def grows_no_further(world, checks, room):
 def says_why(checks, what, server, path):
     """After the line of the connection the log says which file it is, and what the system or the disk said."""
     log = apart("".join(f"{line}\n" for line in server.log_lines()))[0]
-    cause = re.escape(f"[ERROR mq_program::store] {path}: ") + "(database or disk is full|disk I/O error)\n"
-    good = len(log) == 2 and log[0].startswith("[ERROR mq_connections::") and log[0].endswith(": store failed\n") and re.fullmatch(cause, log[1])
+    good = len(log) == 2 and log[0].startswith("[ERROR mq_connections::") and log[0].endswith(": store failed\n") and log[1] in [of_store(path, it) for it in FULL]
     checks.holds(f"{what}: the log", good, "the connection, and the path with the cause", log)
 
 
@@ -106,8 +106,11 @@ def too_small(world, checks, size):
     what, path = f"files of {size:,} bytes at most", f"{world.folder}/small{size}"
     settings = ledger_settings(world, path)
     came = world.run("server", "--config", settings, "--create", limit=("RLIMIT_FSIZE", size))
-    checks.equal(f"{what}: --create", without_log(came), (1, b"", "mailquota: store can't be opened\n"))
-    status, output, errors = without_log(world.run("server", "--config", settings))
-    checks.holds(f"{what}: opened then", (status, output) == (1, b"") and is_refusal(errors), "status 1 and a text", errors)
+    wanted = [fault("store can't be opened", log=of_store(path, cause)) for cause in FULL]
+    checks.holds(f"{what}: --create", came in wanted, "refused, with the path and that there is no room", came)
+    status, output, errors = world.run("server", "--config", settings)
+    log, text = apart(errors)
+    good = (status, output, len(log)) == (1, b"", 1) and is_refusal(text) and log[0].startswith("[ERROR mq_program::") and f" {path}: " in log[0]
+    checks.holds(f"{what}: opened then", good, "status 1, a text, and one line with the path", (status, output, errors))
     with Server(world, words=["--create"], store=path) as server:
         checks.equal(f"{what}, and room again: --create", server.ask(wire.reserve(1)), wire.granted(1, 1))

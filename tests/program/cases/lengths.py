@@ -15,7 +15,7 @@ from cases.crowds import long_logins
 from cases.edges import answers
 from cases.filters import AUTH, BEGIN, COMMIT, CONFIG, GRANTED, PROCEED, RCPT, REGISTRATION, RESERVE, SETTLE, SETTLED, answer
 from cases.many_numbers import ALICE, Filter
-from ends import LONG, Script, Server, fault, read_to_end, send_no_more, toml, without_log
+from ends import LONG, Script, Server, fault, of_settings, read_to_end, send_no_more, toml
 
 LONGEST_LINE = 65_536
 LONGEST_SETTINGS = 65_536
@@ -111,14 +111,19 @@ def settings(world, checks):
     text = CONFIG + AUTH
     for length in [*lengths, LONGEST_SETTINGS + 1, LONGEST_SETTINGS + 4_096]:
         is_read = length <= LONGEST_SETTINGS
-        came = world.run("filter", "--config", world.new_file(filled(short, length)), "--run", "1", text=text)
-        checks.equal(f"a filter's settings of {length:,} bytes", without_log(came), (0, REGISTRATION, "") if is_read else fault("settings too large"))
-        came = world.run("server", "--config", world.new_file(filled(of_server, length)))
-        checks.equal(f"a server's settings of {length:,} bytes", without_log(came), fault("store can't be opened" if is_read else "settings too large"))
+        path = world.new_file(filled(short, length))
+        came = world.run("filter", "--config", path, "--run", "1", text=text)
+        too_large = fault("settings too large", log=of_settings(path, "settings too large"))
+        checks.equal(f"a filter's settings of {length:,} bytes", came, (0, REGISTRATION, "") if is_read else too_large)
+        path = world.new_file(filled(of_server, length))
+        too_large = fault("settings too large", log=of_settings(path, "settings too large"))
+        # (with log = "off" the last line alone, but for what is wrong with the settings)
+        checks.equal(f"a server's settings of {length:,} bytes", world.run("server", "--config", path), fault("store can't be opened") if is_read else too_large)
     for length in [it for it in about(LONGEST_SETTINGS - 300) if it >= 8]:
         key = "k" * length
-        came = world.run("filter", "--config", world.new_file(f"{short}{key} = 1\n"), "--run", "1")
-        checks.equal(f"an unknown key of {length:,} bytes", without_log(came), fault(f"setting {key}: unknown"))
+        path, unknown = world.new_file(f"{short}{key} = 1\n"), f"setting {key}: unknown"
+        came = world.run("filter", "--config", path, "--run", "1")
+        checks.equal(f"an unknown key of {length:,} bytes", came, fault(unknown, log=of_settings(path, unknown)))
     print(f"    settings of {len(lengths)} lengths up to {LONGEST_SETTINGS:,} bytes", flush=True)
 
 

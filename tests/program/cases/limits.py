@@ -5,7 +5,7 @@ import re
 import wire
 from cases.audits import audit, edited
 from cases.forgetting import both, left_by_a_server
-from ends import Server, apart, fault, ledger_settings, shown, without_log
+from ends import LOCKED, NO_FILE, Server, fault, ledger_settings, of_settings, of_store, refusal, shown
 from rows import rows_in
 from zones import random_rule
 
@@ -99,18 +99,21 @@ def set_again(world, checks):
 
 def refused(world, checks):
     path, books = left_by_a_server(world, "limits-refused", wire.reserve(1) + wire.limit(2, 1, 9))
-    for what, name, settings, wanted in [
-        ("of a ledger in memory", "memory", {}, "store is memory"), ("of a file that isn't there", f"{world.folder}/nothing", {}, "store can't be opened"),
-        ("with another zone", path, {"offset": 60}, "store has another zone"), ("with another default", path, {"default": 4}, "store has another default"),
-        ("of wrong books", edited(world, path, "limits-damaged", "UPDATE usage SET reserved = 9"), {}, "store is damaged: login u day 1"),
+    nothing = f"{world.folder}/nothing"
+    for what, name, settings, wanted, log in [
+        ("of a ledger in memory", "memory", {}, "store is memory", ""),
+        ("of a file that isn't there", nothing, {}, "store can't be opened", of_store(nothing, NO_FILE)),
+        ("with another zone", path, {"offset": 60}, "store has another zone", refusal(path, "made with offset 0, the settings have offset 60")),
+        ("with another default", path, {"default": 4}, "store has another default", refusal(path, "made with default 3, the settings have default 4")),
+        # (of these the last line says all)
+        ("of wrong books", edited(world, path, "limits-damaged", "UPDATE usage SET reserved = 9"), {}, "store is damaged: login u day 1", ""),
     ]:
-        checks.equal(f"limits {what}", without_log(limits(world, name, **settings)), fault(wanted))
-    came = world.run("limits", "--config", f"{world.folder}/nothing")
-    checks.equal("limits without settings", without_log(came), fault("settings can't be read"))
+        checks.equal(f"limits {what}", limits(world, name, **settings), fault(wanted, log=log))
+    came = world.run("limits", "--config", nothing)
+    checks.equal("limits without settings", came, fault("settings can't be read", log=of_settings(nothing, NO_FILE)))
     with Server(world, store=path) as server:
         came = limits(world, path)
-        checks.equal("limits of a ledger that a server has open", without_log(came), fault("store can't be opened"))
-        checks.equal("limits of a ledger that a server has open: the log", apart(came[2])[0], [f"[ERROR mq_program::store] {path}: database is locked\n"])
+        checks.equal("limits of a ledger that a server has open", came, fault("store can't be opened", log=of_store(path, LOCKED)))
         checks.equal("the server goes on", server.ask(wire.usage()), books.serve(wire.usage()))
     with open("/dev/full", "wb") as device:
         came = limits(world, path, output=device)

@@ -10,7 +10,7 @@ from cases.accepting import waits
 from cases.forgetting import forget, kept
 from cases.limits import limits, printed
 from cases.setting_up import of_file
-from ends import SECONDS, Server, begun, ledger_settings, nobody_there, processor_time, read_to_end, send_no_more, time_of_start, without_log, without_time
+from ends import SECONDS, Server, begun, ledger_settings, nobody_there, processor_time, read_to_end, send_no_more, time_of_start, without_time
 from rows import same_rows
 
 MANY = 70_000
@@ -93,8 +93,8 @@ def read_by_commands(world, checks, what, path, books):
     settings, answers = {"default": books.default}, len(books.answers)
     counted = f"answers={answers} days={len(books.usage)} transactions={len(books.transactions)} limits={sum(map(len, books.limits.values()))}"
     with nobody_there() as address:
-        came = without_log(world.run("status", "--config", ledger_settings(world, path, listen=address, **settings)))
-    checks.equal(f"{what}: status", came, of_file(path, f"default {books.default}, offset 0", counted, answers))
+        came = world.run("status", "--config", ledger_settings(world, path, listen=address, **settings))
+    checks.equal(f"{what}: status", came, of_file(path, address, f"default {books.default}, offset 0", counted, answers))
     checks.equal(f"{what}: limits", limits(world, path, **settings), printed(books))
     came = forget(world, path, 2, f"{path}.new", **settings)
     checks.equal(f"{what}: forget", came, kept(books, books.remembered(2)))

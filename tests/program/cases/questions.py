@@ -5,7 +5,7 @@ A limit of the program is the first of its run, so limits differ by their runs.
 from concurrent.futures import ThreadPoolExecutor
 from contextlib import nullcontext
 
-from ends import SILENCE, Script, Server, without_log
+from ends import SILENCE, Script, Server, unreached
 from wire import frame, page
 
 # two reserves of login u on day 1 by one transaction, of which a settle keeps one
@@ -44,7 +44,8 @@ ASK_V_W = ["report", "--day=1", "--login=v w"]
 ASK_A_B = ["report", "--day=1", "--login=a b\\"]
 
 LINE = "      1       0       3 u\n"
-UNAVAILABLE = (1, "", "mailquota: quota service unavailable\n")
+# what the log has of a question without an answer stands in place of LOG
+UNAVAILABLE = (1, "", "LOGmailquota: quota service unavailable\n")
 BAD_PAGE = (1, "", "mailquota: bad page\n")
 DONE = (0, "", "")
 
@@ -59,15 +60,17 @@ def run(world, checks):
     # (some wait until a timeout is over)
     with ThreadPoolExecutor(4) as pool:
         came = list(pool.map(lambda row: exchanged(world, *row[1:4]), rows))
-    for (what, _, _, _, told, sent), (came_told, came_sent) in zip(rows, came):
-        checks.equal(f"{what}: what is told", came_told, told)
+    for (what, _, _, _, told, sent, *cause), (came_told, came_sent, address) in zip(rows, came):
+        log = unreached(address, cause[0]) if cause and cause[0] else ""
+        wanted = [(status, printed, errors.replace("LOG", log)) for status, printed, errors in told]
+        checks.equal(f"{what}: what is told", came_told, wanted)
         checks.equal(f"{what}: what is sent", came_sent, sent)
     printed_logins(world, checks)
     outputs(world, checks)
 
 
 def exchanged(world, before, answers, asks):
-    """What is told of each question, asked one after the other of a server with these answers, and the frames that it heard.
+    """What is told of each question, asked one after the other of a server with these answers, the frames that it heard, and its address.
 
     SERVED and LOST are answers of the real server, which got some frames before.
     """
@@ -77,7 +80,7 @@ def exchanged(world, before, answers, asks):
         answering = {SERVED: lambda heard: server.ask(heard), LOST: lambda heard: (server.ask(heard), SILENCE)[1]}
         with Script([answering.get(answer, answer) for answer in answers]) as script:
             told = [told_by(world, script, words) for words in asks]
-        return told, script.heard
+        return told, script.heard, script.address
 
 
 # answers of the real server: its reply, and its reply that is lost
@@ -99,7 +102,7 @@ def of_logins(first, last):
 
 def told_by(world, script, words):
     """What the program ends with, prints and says, as texts, where this is asked of a server by a script."""
-    status, output, errors = without_log(world.run(*words, f"--server={script.address}"))
+    status, output, errors = world.run(*words, f"--server={script.address}")
     return status, output.decode(), errors
 
 
@@ -110,7 +113,10 @@ def lines_of(logins):
 
 FULL_PAGE = of_logins(1, 100)
 
-# what the server got before, its answers, what is asked, what is told of it, and the frames that are sent
+# why a last try got no answer
+CUT, LATE = "closed before its reply was whole", "no answer in time"
+
+# what the server got before, its answers, what is asked, what is told of it, the frames that are sent, and why there was no answer at last
 EXCHANGES = [
     (
         "limits behind three reserves, one twice and another under its number", THREE_RESERVES,
@@ -122,10 +128,10 @@ EXCHANGES = [
         [LIMIT_OF_2, LIMIT_OF_3, LIMIT_OF_3, LIMIT_OF_4],
     ),
     ("two lost replies", b"", [LOST, LOST, SERVED], [ASK_3], [done("set\n")], [LIMIT_OF_3] * 3),
-    ("three lost replies to a limit that is set", LIMIT_OF_3, [LOST] * 3 + [SERVED], [ASK_3], [UNAVAILABLE], [LIMIT_OF_3] * 3),
+    ("three lost replies to a limit that is set", LIMIT_OF_3, [LOST] * 3 + [SERVED], [ASK_3], [UNAVAILABLE], [LIMIT_OF_3] * 3, LATE),
     (
         "three faults; the fourth answer comes to the next question", b"",
-        [DOWN, SILENCE, DOWN, SET], [ASK_2, ASK_2], [UNAVAILABLE, done("set\n")], [LIMIT_OF_2] * 4,
+        [DOWN, SILENCE, DOWN, SET], [ASK_2, ASK_2], [UNAVAILABLE, done("set\n")], [LIMIT_OF_2] * 4, CUT,
     ),
     (
         "a login with a settle, all, and one that has used nothing, which has a line where it is asked for", SETTLED,
@@ -138,10 +144,10 @@ EXCHANGES = [
         [done("1000000  100000 1000000 a\\x20b\\x5c\n")], [ESCAPED_USAGE],
     ),
     ("two lost replies to a report", SETTLED, [LOST, LOST, SERVED], [ASK_U], [done(LINE)], [USAGE] * 3),
-    ("three lost replies to a report", SETTLED, [LOST] * 3 + [SERVED], [ASK_U], [UNAVAILABLE], [USAGE] * 3),
+    ("three lost replies to a report", SETTLED, [LOST] * 3 + [SERVED], [ASK_U], [UNAVAILABLE], [USAGE] * 3, LATE),
     (
         "a second page that stays away", b"", [DOWN, FULL_PAGE] + [DOWN] * 4, [ASK_ALL],
-        [(1, lines_of(100), "mailquota: quota service unavailable\n")], [FIRST_PAGE] * 2 + [BEHIND_100] * 3,
+        [(1, lines_of(100), UNAVAILABLE[2])], [FIRST_PAGE] * 2 + [BEHIND_100] * 3, CUT,
     ),
 ]
 
@@ -188,45 +194,46 @@ BAD_PAGES = [
     ("another day on the second page", *bad_second("8c 00000002 01 057530313031 00000000 00000001 00000003")),
 ]
 
-# what is asked, the frame that is sent, and the bodies that do not answer it
+# what is asked, the frame that is sent, and the bodies that do not answer it, with what the log has of them: a reply to something else it has not
+NO_MEMORY, NONE = "it has no memory for the request", "it takes the request for none"
 UNANSWERED = [
     (ASK_2, LIMIT_OF_2, [
         # of another number, another run, another host
-        "85 0161 0000000000000004 00000003",
-        "85 0161 0000000000000002 00000001",
-        "85 0162 0000000000000004 00000001",
-        "86 0161 0000000000000004 00000003 00000001 00000003",
-        "8a 0161 0000000000000004 00000003",
+        ("85 0161 0000000000000004 00000003", None),
+        ("85 0161 0000000000000002 00000001", None),
+        ("85 0162 0000000000000004 00000001", None),
+        ("86 0161 0000000000000004 00000003 00000001 00000003", None),
+        ("8a 0161 0000000000000004 00000003", None),
         # of another kind
-        "81 0161 0000000000000004 00000001 00000001",
-        "87 0161 0000000000000004 00000001",
-        "8b 0175 00000001 00000001 00000000 00000003",
-        "8c 00000001 00",
-        "8d",
-        "8e",
+        ("81 0161 0000000000000004 00000001 00000001", None),
+        ("87 0161 0000000000000004 00000001", None),
+        ("8b 0175 00000001 00000001 00000000 00000003", None),
+        ("8c 00000001 00", None),
+        ("8d", NO_MEMORY),
+        ("8e", NONE),
         # outside the grammar
-        "",
-        "85 0161 0000000000000004 00000001 00",
-        "85 0161 0000000000000004 00000000",
-        "04 0161 0000000000000004 00000001 00000001 00000002 0175",
+        ("", "a reply of no bytes"),
+        ("85 0161 0000000000000004 00000001 00", "16 bytes that are no reply"),
+        ("85 0161 0000000000000004 00000000", "15 bytes that are no reply"),
+        ("04 0161 0000000000000004 00000001 00000001 00000002 0175", "25 bytes that are no reply"),
     ]),
     (ASK_U, USAGE, [
         # of another login, of another day, of another kind
-        "8b 0176 00000001 00000001 00000000 00000003",
-        "8b 0175 00000002 00000001 00000000 00000003",
-        "8c 00000001 01 0175 00000001 00000000 00000003",
-        "8d",
+        ("8b 0176 00000001 00000001 00000000 00000003", None),
+        ("8b 0175 00000002 00000001 00000000 00000003", None),
+        ("8c 00000001 01 0175 00000001 00000000 00000003", None),
+        ("8d", NO_MEMORY),
     ]),
     (ASK_ALL, FIRST_PAGE, [
-        "8b 0175 00000001 00000001 00000000 00000003",
-        "8e",
+        ("8b 0175 00000001 00000001 00000000 00000003", None),
+        ("8e", NONE),
         # a row without a login is outside the grammar
-        "8c 00000001 01 00 00000000 00000001 00000003",
+        ("8c 00000001 01 00 00000000 00000001 00000003", "19 bytes that are no reply"),
     ]),
 ]
 NO_ANSWERS = [
-    (f"{asked[0]}, the body '{body}' four times", b"", [hexadecimal(body)] * 4, [asked], [UNAVAILABLE], [sent] * 3)
-    for asked, sent, bodies in UNANSWERED for body in bodies
+    (f"{asked[0]}, the body '{body}' four times", b"", [hexadecimal(body)] * 4, [asked], [UNAVAILABLE], [sent] * 3, cause)
+    for asked, sent, bodies in UNANSWERED for body, cause in bodies
 ]
 
 # logins in a page, and how they are printed

@@ -13,7 +13,7 @@ from cases.audits import SOUND, audit, edited
 from cases.edges import answers
 from cases.filters import COMMIT, INPUT, LIMIT, MX1, PROCEED, RELEASE, RESERVE, SERVICE, answer, scripted, told
 from cases.rules import CENTRAL_EUROPE
-from ends import SILENCE, Script, Server, copied, fault, ledger_settings, without_log
+from ends import IS_THERE, SILENCE, Script, Server, copied, fault, ledger_settings, refusal, unavailable
 from rows import answers_of, rows_in, same_rows
 from smtpd import Smtpd, result
 
@@ -184,11 +184,13 @@ def older_files(world, checks):
         what, books = f"a file of version {version}", Books(zone)
         replies = [books.serve(frame) for frame in FOUR]
         path = written(world, f"version-{version}", *of_version(version, books))
-        for how, other, wanted in [
-            ("with another offset", {"offset": 60}, ANOTHER_ZONE), ("with another default", {**settings, "default": 4}, "store has another default"),
+        made = f"rule {zone}" if zone else "offset 0"
+        for how, other, wanted, cause in [
+            ("with another offset", {"offset": 60}, ANOTHER_ZONE, f"made with {made}, the settings have offset 60"),
+            ("with another default", {**settings, "default": 4}, "store has another default", "made with default 3, the settings have default 4"),
         ]:
             came = audit(world, path, **other)
-            checks.equal(f"{what}, opened {how}", (without_log(came), version_of(path)), (fault(wanted), older))
+            checks.equal(f"{what}, opened {how}", (came, version_of(path)), (fault(wanted, log=refusal(path, cause)), older))
         with Server(world, store=path, **settings) as server:
             checks.equal(f"{what}: its replies again", [server.ask(frame) for frame in FOUR], replies)
             new = wire.reserve(9, txn=8) + wire.retire(1, run=2) + wire.reserve(9, txn=8) + wire.reserve(2, run=2, txn=9) + wire.usage()
@@ -200,7 +202,7 @@ def older_files(world, checks):
     checks.equal("a file of version 1: audit", audit(world, path), SOUND)
     checks.equal("a file of version 1, audited: its version and tables", version_of(path), OF_VERSION_3)
     path = written(world, "version-1-damaged", *of_version(1, of_the_four()), "UPDATE usage SET reserved = 9")
-    came = without_log(audit(world, path)), version_of(path)
+    came = audit(world, path), version_of(path)
     checks.equal("a file of version 1 with wrong books stays as it is", came, (fault("store is damaged: login u day 1"), OF_VERSION_1))
 
 
@@ -273,24 +275,27 @@ def refused(world, checks):
     for name in NAMES:
         path = written(world, f"only-{name}", f"CREATE TABLE {name} (a INTEGER) STRICT")
         for zone in ({}, BY_RULE):
-            came = without_log(world.run("server", "--config", ledger_settings(world, path, **zone), "--create"))
-            checks.equal(f"--create beside a table {name}, {'a rule' if zone else 'an offset'}", came, fault(NOT_OURS))
+            came = world.run("server", "--config", ledger_settings(world, path, **zone), "--create")
+            checks.equal(f"--create beside a table {name}, {'a rule' if zone else 'an offset'}", came, fault(NOT_OURS, log=refusal(path, IS_THERE)))
     first, second = list(of_version(1, of_the_four())), list(of_version(2, of_the_four(CENTRAL_EUROPE)))
     with Server(world, words=["--create"], store=f"{world.folder}/third") as server:
         server.ask(wire.reserve(1) + wire.retire(1, run=2))
-    for place, (what, path, zone) in enumerate([
-        ("version 1 with a table rule", written(world, "first-rule", *first, RULE_TABLE), {}),
-        ("version 1 with a table retired", written(world, "first-retired", *first, RETIRED_TABLE), {}),
-        ("version 2 with a table retired", written(world, "second-retired", *second, RETIRED_TABLE), BY_RULE),
-        ("version 2 without a table rule", written(world, "second-rule", *second, "DROP TABLE rule"), BY_RULE),
-        ("version 3 without a table rule", edited(world, f"{world.folder}/third", "third-rule", "DROP TABLE rule"), {}),
-        ("version 3 without a table retired", edited(world, f"{world.folder}/third", "third-retired", "DROP TABLE retired"), {}),
-        ("version 3 with texts for floors", edited(world, f"{world.folder}/third", "third-texts", *TEXTS_FOR_FLOORS), {}),
-        ("version 4", edited(world, f"{world.folder}/third", "third-version", "UPDATE setting SET version = 4"), {}),
+    def missing(version):
+        return f"tables of version {version}, but one is missing or there is one too many"
+
+    for place, (what, path, zone, cause) in enumerate([
+        ("version 1 with a table rule", written(world, "first-rule", *first, RULE_TABLE), {}, missing(1)),
+        ("version 1 with a table retired", written(world, "first-retired", *first, RETIRED_TABLE), {}, missing(1)),
+        ("version 2 with a table retired", written(world, "second-retired", *second, RETIRED_TABLE), BY_RULE, missing(2)),
+        ("version 2 without a table rule", written(world, "second-rule", *second, "DROP TABLE rule"), BY_RULE, missing(2)),
+        ("version 3 without a table rule", edited(world, f"{world.folder}/third", "third-rule", "DROP TABLE rule"), {}, missing(3)),
+        ("version 3 without a table retired", edited(world, f"{world.folder}/third", "third-retired", "DROP TABLE retired"), {}, missing(3)),
+        ("version 3 with texts for floors", edited(world, f"{world.folder}/third", "third-texts", *TEXTS_FOR_FLOORS), {}, missing(3)),
+        ("version 4", edited(world, f"{world.folder}/third", "third-version", "UPDATE setting SET version = 4"), {}, "tables of version 4, this program knows 1 to 3"),
     ]):
         before = version_of(path)
-        came = without_log(audit(world, path, **zone)), version_of(path)
-        checks.equal(f"{place}, {what}: refused, and as it was", came, (fault(NOT_OURS), before))
+        came = audit(world, path, **zone), version_of(path)
+        checks.equal(f"{place}, {what}: refused, and as it was", came, (fault(NOT_OURS, log=refusal(path, cause)), before))
 
 
 def a_retired_filter(world, checks):
@@ -374,10 +379,11 @@ def commands(world, checks):
         ("two lost replies", [b"", SILENCE, wire.retired(1, run=2)], (0, b"retired\n", "")),
         ("a reply to another host's", [wire.retired(1, run=2, host=b"b")] * 3, fault("quota service unavailable")),
         ("a reply to a limit", [wire.frame(b"\x85" + wire.identity(1, run=2))] * 3, fault("quota service unavailable")),
-        ("no reply", [b""] * 3, fault("quota service unavailable")),
+        ("no reply", [b""] * 3, None),
     ]:
         with Script(script) as server:
-            came = without_log(retire(server))
+            came = retire(server)
+        wanted = wanted or unavailable(server.address, "closed before its reply was whole")
         checks.equal(f"retire, {what}", (came, server.heard), (wanted, [wire.retire(1, run=2)] * 3))
     for words, said in [
         (["--server", "nowhere", "--host", "a_b"], "bad host"), (["--server", "nowhere", "--host", ""], "bad host"),
@@ -385,4 +391,4 @@ def commands(world, checks):
         checks.equal(f"retire {' '.join(words)}", world.run("retire", *words), (2, b"", f"mailquota: {said}\n"))
     with open("/dev/full", "wb") as full, Script([wire.retired(1, run=2)]) as server:
         came = world.run("retire", "--server", server.address, "--host", "a", "--run", "2", output=full)
-        checks.equal("retire to a full device", without_log(came), fault("write failed", came[1]))
+        checks.equal("retire to a full device", (came[0], came[2]), (1, "mailquota: write failed\n"))

@@ -2,9 +2,15 @@
 import socket
 
 from cases.rules import CENTRAL_EUROPE, NO_RULES, RULES
-from ends import fault, without_log
+from cases.texts_of_settings import NOT_TOML, is_no_toml, log_of
+from ends import NO_FILE, NO_NUMERIC_ADDRESS, NO_PORT, PORT_TOO_LARGE, begun, fault, of_settings, without_time
 
 ACCEPTED = "listen failed"
+# addresses that none can listen at, and what each lacks
+ADDRESSES = {
+    '"localhost:7025"': NO_NUMERIC_ADDRESS, '"127.0.0.1"': NO_PORT, '"*:7025"': NO_NUMERIC_ADDRESS, '"127.0.0.1:65536"': PORT_TOO_LARGE, "7025": None,
+    '""': NO_PORT,
+}
 
 
 def run(world, checks):
@@ -19,27 +25,38 @@ class Cases:
     def __init__(self, world, checks, port):
         self.world = world
         self.checks = checks
-        self.good = {"listen": f'"127.0.0.1:{port}"', "store": '"memory"', "default": "3", "offset": "0"}
+        self.address = f"127.0.0.1:{port}"
+        self.good = {"listen": f'"{self.address}"', "store": '"memory"', "default": "3", "offset": "0"}
 
     def text_of(self, **settings):
         return "".join(f"{key} = {value}\n" for key, value in {**self.good, **settings}.items() if value is not None)
 
-    def expect(self, what, content, wanted, *words):
-        came = self.world.run("server", "--config", self.world.new_file(content), *words)
-        self.checks.equal(f"server settings, {what}", without_log(came), fault(wanted))
+    def expect(self, what, content, wanted, *words, lacks=None, log=None):
+        """What a server comes to by this file of settings, and what its log says before: of an address its fault, where it is a text, or this log."""
+        path = self.world.new_file(content)
+        came = self.world.run("server", "--config", path, *words)
+        if wanted == NOT_TOML:
+            self.checks.holds(f"server settings, {what}", is_no_toml(path, came), "refused, with the place", came)
+            return
+        came = *came[:2], "".join(f"{line}\n" for line in without_time(came[2].splitlines()))
+        if log is None:
+            log = self.in_use() if wanted == ACCEPTED else log_of(path, wanted, lacks)
+        self.checks.equal(f"server settings, {what}", came, fault(wanted, log=log))
+
+    def in_use(self, address=None, cause="Address already in use (os error 98)"):
+        return f"[ERROR mq_program::serving] listening on {address or self.address}: {cause}\n"
 
     def files(self):
         for what, path, cause in [
-            ("no file", f"{self.world.folder}/none", "No such file or directory (os error 2)"),
+            ("no file", f"{self.world.folder}/none", NO_FILE),
             ("a folder", self.world.folder, "Is a directory (os error 21)"),
         ]:
             came = self.world.run("server", "--config", path)
-            log = f"[ERROR mq_process::settings] {path}: {cause}\n"
-            self.checks.equal(f"server settings, {what}", came, (1, b"", log + "mailquota: settings can't be read\n"))
+            self.checks.equal(f"server settings, {what}", came, fault("settings can't be read", log=of_settings(path, cause)))
         text = self.text_of()
         self.expect("65,536 bytes", text + "#" * (65_536 - len(text)), ACCEPTED)
         self.expect("65,537 bytes", text + "#" * (65_537 - len(text)), "settings too large")
-        self.expect("no TOML", "listen\n", "settings are not TOML")
+        self.expect("no TOML", "listen\n", NOT_TOML)
 
     def order(self):
         keys = ["listen", "store", "default", "offset"]
@@ -72,21 +89,24 @@ class Cases:
             ("log", ['"off"', '"error"', '"warn"', '"info"']),
         ]
         refused = [
-            ("listen", ['"localhost:7025"', '"127.0.0.1"', '"*:7025"', '"127.0.0.1:65536"', "7025", '""']),
+            ("listen", ADDRESSES),
             ("store", ['""', "1", "true"]),
             ("default", ["-1", "1000001", '"3"', "3.5", "true"]),
             ("offset", ["-1440", "1440", '"0"', "0.0", "true"]),
             ("timeout", ["0", "60001", '"300"', "300.0"]),
             ("log", ['"debug"', '"Info"', "1"]),
         ]
+        # (with "info" it says first what it has opened, and with "off" nothing)
+        logs = {'"off"': "", '"info"': f"{begun('memory')}\n{self.in_use()}"}
         for key, spellings in accepted:
             for value in spellings:
-                self.expect(f"{key} = {value}", self.text_of(**{key: value}), ACCEPTED)
+                self.expect(f"{key} = {value}", self.text_of(**{key: value}), ACCEPTED, log=logs.get(value))
         for key, spellings in refused:
             for value in spellings:
-                self.expect(f"{key} = {value}", self.text_of(**{key: value}), f"setting {key}: bad value")
+                self.expect(f"{key} = {value}", self.text_of(**{key: value}), f"setting {key}: bad value", lacks=ADDRESSES.get(value) if key == "listen" else None)
         for value in RULES:
             self.expect(f"rule = {value}", self.text_of(offset=None, rule=f'"{value}"'), ACCEPTED)
         for value in [f'"{it}"' for it in NO_RULES] + ["60", "true", "{}"]:
             self.expect(f"rule = {value}", self.text_of(offset=None, rule=value), "setting rule: bad value")
-        self.expect("an address of another machine", self.text_of(listen='"192.0.2.1:7025"'), ACCEPTED)
+        log = self.in_use("192.0.2.1:7025", "Cannot assign requested address (os error 99)")
+        self.expect("an address of another machine", self.text_of(listen='"192.0.2.1:7025"'), ACCEPTED, log=log)

@@ -1,11 +1,10 @@
 """Commands that ask several servers in turn: what each prints and is asked, and one that is away, at a wrong address or without answers."""
 from cases.stopping import SET, caps, orders_of, run_of, said, usage_reply
-from ends import NO_PORT, Script, Server, bad_address, fault, nobody_there, without_log
+from ends import NO_PORT, Script, Server, bad_address, nobody_there, unavailable
 from smtpd import clock
 from wire import frame, limit, number, page_reply, reserve, row, text, usage
 
 PROBE = usage(b"-", 0)
-UNAVAILABLE = "mailquota: quota service unavailable\n"
 
 
 def run(world, checks):
@@ -72,10 +71,10 @@ def one_that_is_away(world, checks):
                     before = caps(server, b"w", 1)[0]
                     done = f"stopped: w used 0 on day 1\nlimit before: {before}\n"
                 printed = b"".join(heading(it) + (b"" if it == away else done.encode()) for it in addresses)
-                came = without_log(world.run(name, *at(*addresses), *more))
-                checks.equal(f"{name} at {places}, of which - is away", came, (1, printed, (UNAVAILABLE + undone(away)) * count))
+                came = world.run(name, *at(*addresses), *more)
+                checks.equal(f"{name} at {places}, of which - is away", came, (1, printed, (unavailable(away)[2] + undone(away)) * count))
         checks.equal("what was set at the one that answers", (caps(server, b"u", 1), caps(server, b"w", 1, 2), caps(server, b"x", 1, 2)), ([3], [0, 0], [3, 3]))
-        checks.equal("one server alone that is away", without_log(world.run("status", *at(away))), fault("quota service unavailable"))
+        checks.equal("one server alone that is away", world.run("status", *at(away)), unavailable(away))
 
 
 def is_set(heard):

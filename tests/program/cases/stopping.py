@@ -6,7 +6,10 @@ import time
 from cases.filters import LIMIT, PROCEED
 from cases.rules import CENTRAL_EUROPE
 from cases.zones import WORKED_DAYS
-from ends import NO_NUMERIC_ADDRESS, NO_PORT, SECONDS, Relay, Script, Server, bad_address, fault, ledger_settings, shown, toml, wait_past_midnight, wait_until, without_log
+from ends import (
+    NO_FILE, NO_NUMERIC_ADDRESS, NO_PORT, SECONDS, Relay, Script, Server, bad_address, fault, ledger_settings, of_settings, shown, toml, unavailable,
+    wait_past_midnight, wait_until,
+)
 from smtpd import Smtpd, clock, result
 from wire import BAD, RETRY, frame, full, granted, identity, limit, number, reserve, retire, retired, settle, text
 
@@ -18,6 +21,8 @@ AHEAD = [2**times - 1 for times in range(16)]
 DAY = 20_780
 NOON = DAY * 86_400 + 43_200
 MOST = 1_000_000
+# why there is no answer where a server closes a connection at once
+CUT = "closed before its reply was whole"
 
 
 def run(world, checks):
@@ -137,8 +142,7 @@ def orders_of(script, login=b"u"):
 
 
 def stop_by_script(world, checks):
-    """What is asked and ordered, in turn; (place, runs after the first, day, cap) of each limit."""
-    unavailable = fault("quota service unavailable")
+    """What is asked and ordered, in turn; (place, runs after the first, day, cap) of each limit. No answer is None."""
     asked = frame(b"\x05" + text(b"u") + number(1))
     for what, script, limits, wanted in [
         ("all answered at once", [usage_reply(2, 3), is_set, is_set], [(1, 0, 1, 5), (19, 0, 2, 0)], stopped(5, 9)),
@@ -154,21 +158,21 @@ def stop_by_script(world, checks):
         ("a run that is retired", [usage_reply(0, 1), lambda heard: said(heard, OLD)], [(1, 0, 1, 1)], fault("run is retired")),
         ("the next day's run is retired", [usage_reply(0, 1), is_set, lambda heard: said(heard, OLD)], [(1, 0, 1, 1), (19, 0, 2, 0)], fault("run is retired")),
         ("lost replies", [usage_reply(0, 1), b"", RETRY, is_set, BAD, is_set], [(1, 0, 1, 1)] * 3 + [(19, 0, 2, 0)] * 2, stopped(1, 9)),
-        ("no answer to the second limit", [usage_reply(0, 1), is_set, b"", b"", b""], [(1, 0, 1, 1)] + [(19, 0, 2, 0)] * 3, unavailable),
-        ("no answer to the first limit", [usage_reply(0, 1), b"", b"", b""], [(1, 0, 1, 1)] * 3, unavailable),
+        ("no answer to the second limit", [usage_reply(0, 1), is_set, b"", b"", b""], [(1, 0, 1, 1)] + [(19, 0, 2, 0)] * 3, None),
+        ("no answer to the first limit", [usage_reply(0, 1), b"", b"", b""], [(1, 0, 1, 1)] * 3, None),
     ]:
         with Script(script) as server:
-            came = without_log(stop(world, server.address))
-        checks.equal(f"stop, {what}", (came, server.heard[0]), (wanted, asked))
+            came = stop(world, server.address)
+        checks.equal(f"stop, {what}", (came, server.heard[0]), (wanted or unavailable(server.address, CUT), asked))
         checks.equal(f"stop, {what}: the limits", orders_of(server), limits)
     with Script([b""] * 3) as server:
-        came = without_log(stop(world, server.address))
-    checks.equal("stop, no answer to what is used", (came, server.heard), (unavailable, [asked] * 3))
+        came = stop(world, server.address)
+    checks.equal("stop, no answer to what is used", (came, server.heard), (unavailable(server.address, CUT), [asked] * 3))
     with Script([usage_reply(2, 3), over(6), is_set, is_set]) as server:
-        came = without_log(resume(world, server.address, 50))
+        came = resume(world, server.address, 50)
     checks.equal("resume where more is used meanwhile", (came, orders_of(server)), (resumed(64), [(1, 0, 1, 55), (2, 0, 1, 64), (19, 0, 2, 50)]))
     with Script([usage_reply(2, 3), over(60, day=3)]) as server:
-        came = without_log(resume(world, server.address, 50))
+        came = resume(world, server.address, 50)
     checks.equal("resume where more is used on a later day", (came, orders_of(server)), (fault("over day 3 used 60"), [(1, 0, 1, 55)]))
 
 
@@ -181,7 +185,7 @@ def room_by_script(world, checks):
         room = min(room * 2 + 8, MOST)
     for what, used in [("nothing", 0), ("five", 5), ("all but three", MOST - 3)]:
         with Script([usage_reply(used, 0, cap=MOST)] + [over(used)] * 18) as server:
-            came = without_log(stop(world, server.address))
+            came = stop(world, server.address)
         wanted = [(place, 0, 1, min(used + room, MOST)) for place, room in enumerate(rooms, start=1)]
         checks.equal(f"stop gives up after 18 limits: {what} used", came, fault(f"over day 1 used {used}"))
         checks.equal(f"the 18 limits: {what} used", orders_of(server), wanted)
@@ -196,7 +200,7 @@ def used_numbers(world, checks):
     def ordered(script, words):
         """What an order comes to over a server that answers by a script, and the runs under which it was sent."""
         with Script(script) as server:
-            came = without_log(world.run(*words, "--server", server.address))
+            came = world.run(*words, "--server", server.address)
         return came, [run_of(heard) for heard in server.heard]
 
     def ahead(runs):
@@ -349,8 +353,9 @@ def today_alone(world, checks):
         with Script([usage_reply(1, 0, day=day), is_set, is_set]) as server:
             came = world.run("stop", "--server", server.address, "--host", "admin", "--login", "u", *more)
         checks.equal(f"stop, {what}", (came, orders_of(server)), (stopped(1, 9, day=day), [(1, 0, day, 1), (19, 0, day + 1, 0)]))
-    came = world.run("stop", "--server", "127.0.0.1:1", "--host", "admin", "--login", "u", "--config", f"{world.folder}/nothing")
-    checks.equal("stop by settings that aren't there", without_log(came), fault("settings can't be read"))
+    nothing = f"{world.folder}/nothing"
+    came = world.run("stop", "--server", "127.0.0.1:1", "--host", "admin", "--login", "u", "--config", nothing)
+    checks.equal("stop by settings that aren't there", came, fault("settings can't be read", log=of_settings(nothing, NO_FILE)))
     came = world.run("stop", "--server", "127.0.0.1:1", "--host", "admin", "--login", "u")
     checks.holds("stop with neither a day nor settings", came[0] == 2 and "--day <DAY>" in came[2], "status 2, and what is missing", came)
 
@@ -376,18 +381,20 @@ def logins_that_sent_nothing(world, checks):
     nothing = [usage_reply(0, 0, day=day) for day in (today, today, today - 1, today - 2)]
     asked = [frame(b"\x05" + text(b"u") + number(day)) for day in (today, today, today - 1, today - 2)]
     with Script(nothing) as server:
-        came = without_log(stop_unforced(world, server.address, today))
+        came = stop_unforced(world, server.address, today)
     checks.equal("what is asked of a login that sent nothing", (came, server.heard), (idle(today), asked))
     with Script(nothing[:3] + [usage_reply(0, 2, day=today - 2), is_set, is_set]) as server:
-        came = without_log(stop_unforced(world, server.address, today))
+        came = stop_unforced(world, server.address, today)
     checks.equal("of one that sent two days ago", (came, server.heard[:4], orders_of_last(server, 2)), (stopped(0, 9, day=today), asked, [(1, today, 0), (19, today + 1, 0)]))
     with Script(nothing[:2] + [b""] * 3) as server:
-        came = without_log(stop_unforced(world, server.address, today))
-    checks.equal("no answer about the day before", (came, server.heard), (fault("quota service unavailable"), asked[:2] + [asked[2]] * 3))
+        came = stop_unforced(world, server.address, today)
+    checks.equal("no answer about the day before", (came, server.heard), (unavailable(server.address, CUT), asked[:2] + [asked[2]] * 3))
     for day in (0, 1):
         with Script([usage_reply(0, 0, day=it) for it in (day, *range(day, -1, -1))]) as server:
-            came = without_log(world.run("stop", *words_of(server.address, "u", day)))
-        checks.equal(f"day {day} isn't today, and so nothing is asked", (came[0], server.heard), (2, []))
+            came = world.run("stop", *words_of(server.address, "u", day))
+        # (UTC's day, since no zone is given)
+        wanted = 2, b"", f"mailquota: day {day} is not today, which is day {today}; use --force\n"
+        checks.equal(f"day {day} isn't today, and so nothing is asked", (came, server.heard), (wanted, []))
 
 
 def stop_unforced(world, address, day):
@@ -434,17 +441,17 @@ def limits_given_back(world, checks):
         checks.equal("given back 399 days later", given_back(server, "long", 1_399), restored(10, 10, "long", 1_399))
     day = 20
     for what, replies, wanted, asked in [
-        ("no answer about the next day", [b""] * 3, fault("quota service unavailable"), [21] * 3),
-        ("no answer about the day", [usage_reply(0, 0, day=21, cap=0)] + [b""] * 3, fault("quota service unavailable"), [21] + [20] * 3),
-        ("no answer about the day before", [usage_reply(0, 0, day=21, cap=0), usage_reply(4, 0, day=20, cap=4)] + [b""] * 3, fault("quota service unavailable"), [21, 20] + [19] * 3),
+        ("no answer about the next day", [b""] * 3, None, [21] * 3),
+        ("no answer about the day", [usage_reply(0, 0, day=21, cap=0)] + [b""] * 3, None, [21] + [20] * 3),
+        ("no answer about the day before", [usage_reply(0, 0, day=21, cap=0), usage_reply(4, 0, day=20, cap=4)] + [b""] * 3, None, [21, 20] + [19] * 3),
         ("a limit of 0 on the day before", [usage_reply(0, 0, day=21, cap=0), usage_reply(4, 0, day=20, cap=4), usage_reply(0, 0, day=19, cap=0)], fault("no earlier limit found; use --cap"), [21, 20, 19]),
     ]:
         with Script(replies) as server:
-            came = without_log(world.run("resume", *words_of(server.address, "u", day)))
-        checks.equal(f"resume without a number, {what}", (came, server.heard), (wanted, [frame(b"\x05" + text(b"u") + number(it)) for it in asked]))
+            came = world.run("resume", *words_of(server.address, "u", day))
+        checks.equal(f"resume without a number, {what}", (came, server.heard), (wanted or unavailable(server.address, CUT), [frame(b"\x05" + text(b"u") + number(it)) for it in asked]))
     replies = [usage_reply(0, 0, day=21, cap=0), usage_reply(4, 3, day=20, cap=7), usage_reply(0, 0, day=19, cap=30), usage_reply(4, 3, day=20, cap=7)]
     with Script(replies + [over(8, day=20), is_set, is_set]) as server:
-        came = without_log(world.run("resume", *words_of(server.address, "u", day)))
+        came = world.run("resume", *words_of(server.address, "u", day))
     checks.equal("resume without a number, more is used meanwhile", (came, orders_of_last(server, 3)), (restored(30, 30, "u", 20), [(1, 20, 30), (2, 20, 30), (19, 21, 30)]))
 
 
@@ -470,9 +477,10 @@ def days(world, checks):
     with open("/dev/full", "wb") as device:
         came = world.run("day", "--config", files[0], "--at", "86400", output=device)
     checks.equal("day to a full device", (came[0], came[2]), (1, "mailquota: write failed\n"))
-    came = day(world.new_file(toml({"listen": "127.0.0.1:1"})))
-    checks.equal("day of settings that lack one", without_log(came), fault("setting store: missing"))
-    checks.equal("day of settings that aren't there", without_log(day(f"{world.folder}/nothing")), fault("settings can't be read"))
+    lacking, nothing = world.new_file(toml({"listen": "127.0.0.1:1"})), f"{world.folder}/nothing"
+    missing = "setting store: missing"
+    checks.equal("day of settings that lack one", day(lacking), fault(missing, log=of_settings(lacking, missing)))
+    checks.equal("day of settings that aren't there", day(nothing), fault("settings can't be read", log=of_settings(nothing, NO_FILE)))
     with Server(world, offset=60) as server:
         server.ask(reserve(1, at=1_576_105_200))
         today = day(files[60], "--at", "1576105200")[1].decode().strip()

@@ -5,7 +5,7 @@ import socket
 import sqlite3
 import stat
 
-from ends import IS_THERE, Server, apart, fault, ledger_settings, without_log
+from ends import IS_THERE, LOCKED, NO_DATABASE, NO_FILE, Server, fault, ledger_settings, of_store, refusal
 from sums import renew
 from wire import full, granted, page, page_reply, reserve, row, settle, settled
 
@@ -37,7 +37,7 @@ def made_and_opened(world, checks):
     with Server(world, store=path) as server:
         checks.equal("the file opened again, behind SIGKILL", server.ask(settle(4, count=2) + page()), settled(4, 2) + used(2, 0))
         second = world.run("server", "--config", ledger_settings(world, path))
-        checks.equal("a second server over the file", without_log(second), fault("store can't be opened"))
+        checks.equal("a second server over the file", second, fault("store can't be opened", log=of_store(path, LOCKED)))
         checks.equal("the first one goes on", server.ask(page()), used(2, 0))
     with Server(world, words=["--create"]) as server:
         checks.equal("--create in memory", server.ask(reserve(1)), granted(1, 1))
@@ -53,11 +53,11 @@ def refused(world, checks):
         pass
     opened = "store can't be opened"
     for what, place, words, more, wanted, cause in [
-        ("no file", f"{world.folder}/none", [], {}, opened, "No such file or directory (os error 2)"),
-        ("no folder", f"{world.folder}/none/ledger", ["--create"], {}, opened, "No such file or directory (os error 2)"),
-        ("a folder", world.folder, [], {}, opened, ""),
-        ("a file that is no database", text, [], {}, opened, ""),
-        ("a file that is no database, with --create", text, ["--create"], {}, opened, ""),
+        ("no file", f"{world.folder}/none", [], {}, opened, NO_FILE),
+        ("no folder", f"{world.folder}/none/ledger", ["--create"], {}, opened, NO_FILE),
+        ("a folder", world.folder, [], {}, opened, "unable to open database file"),
+        ("a file that is no database", text, [], {}, opened, NO_DATABASE),
+        ("a file that is no database, with --create", text, ["--create"], {}, opened, NO_DATABASE),
         ("an empty file", empty, [], {}, "store is not this ledger", "no ledger: no such table"),
         ("a ledger, with --create", path, ["--create"], {}, "store is not this ledger", IS_THERE),
         ("another offset", path, [], {"offset": 60}, "store has another zone", "made with offset 0, the settings have offset 60"),
@@ -65,9 +65,8 @@ def refused(world, checks):
         ("another offset and default", path, [], {"offset": 60, "default": 4}, "store has another zone", "made with offset 0, the settings have offset 60"),
     ]:
         came = world.run("server", "--config", ledger_settings(world, place, **more), *words)
-        log = apart(came[2])[0]
-        checks.equal(f"{what}: status, output, text", without_log(came), fault(wanted))
-        checks.holds(f"{what}: the log", len(log) == 1 and f"{place}: {cause}" in log[0], f"one line with {place} and '{cause}'", log)
+        log = of_store(place, cause) if wanted == opened else refusal(place, cause)
+        checks.equal(f"{what}: status, output, text", came, fault(wanted, log=log))
     checks.holds("no file is made without --create", not os.path.exists(f"{world.folder}/none"), "none is there", os.listdir(world.folder))
 
 
@@ -77,46 +76,52 @@ class AtATakenPort:
     def __init__(self, world, checks, path, port):
         self.world, self.checks, self.path = world, checks, path
         self.file = ledger_settings(world, path, listen=f"127.0.0.1:{port}")
+        self.in_use = f"[ERROR mq_program::serving] listening on 127.0.0.1:{port}: Address already in use (os error 98)\n"
 
-    def server(self, what, said, *words):
+    def server(self, what, *words):
+        """It comes as far as its port."""
+        self.server_in_vain(what, "listen failed", self.in_use, *words)
+
+    def server_in_vain(self, what, said, log, *words):
         came = self.world.run("server", "--config", self.file, "--connections", "1", *words)
-        self.checks.equal(f"{what}: a server", without_log(came), fault(said))
+        self.checks.equal(f"{what}: a server", came, fault(said, log=log))
 
     def audit(self, what, printed):
         self.checks.equal(f"{what}: audit", self.world.run("audit", "--config", self.file), (0, printed, ""))
 
-    def audit_in_vain(self, what, said):
-        self.checks.equal(f"{what}: audit", without_log(self.world.run("audit", "--config", self.file)), fault(said))
+    def audit_in_vain(self, what, said, log):
+        self.checks.equal(f"{what}: audit", self.world.run("audit", "--config", self.file), fault(said, log=log))
 
 
 def a_ledger_in_a_file(world, checks, port):
     """It is made for its owner alone, opened, and audited; one whose books are wrong isn't."""
     path = f"{world.folder}/steps"
     it = AtATakenPort(world, checks, path, port)
-    it.server("a new ledger", "listen failed", "--create")
+    it.server("a new ledger", "--create")
     checks.equal("a new ledger: its mode", f"{stat.S_IMODE(os.stat(path).st_mode):o}", "600")
     it.audit("a new ledger", b"sound days=0 transactions=0\n")
     with Server(world, store=path) as server:
         server.ask(reserve(1) + reserve(2) + settle(3))
-    it.server("a ledger of a message", "listen failed")
+    it.server("a ledger of a message")
     it.audit("a ledger of a message", b"sound days=1 transactions=1\n")
-    it.server("a ledger that is to be made once more", "store is not this ledger", "--create")
+    it.server_in_vain("a ledger that is to be made once more", "store is not this ledger", refusal(path, IS_THERE), "--create")
     database = sqlite3.connect(path)
     database.execute("UPDATE usage SET reserved = 9")
     database.commit()
     database.close()
-    it.server("a ledger that SQLite wrote without sums", "store can't be opened")
+    it.server_in_vain("a ledger that SQLite wrote without sums", "store can't be opened", of_store(path, NO_DATABASE))
     renew(path)
-    it.server("a ledger with another count", "store is damaged: login u day 1")
-    it.audit_in_vain("a ledger with another count", "store is damaged: login u day 1")
+    it.server_in_vain("a ledger with another count", "store is damaged: login u day 1", "")
+    it.audit_in_vain("a ledger with another count", "store is damaged: login u day 1", "")
 
 
 def files_without_a_ledger(world, checks, port):
     path = f"{world.folder}/no-steps"
     it = AtATakenPort(world, checks, path, port)
-    it.server("a file that isn't there", "store can't be opened")
-    it.audit_in_vain("a file that isn't there", "store can't be opened")
+    it.server_in_vain("a file that isn't there", "store can't be opened", of_store(path, NO_FILE))
+    it.audit_in_vain("a file that isn't there", "store can't be opened", of_store(path, NO_FILE))
     with open(path, "wb"):
         pass
-    it.server("a file without tables", "store is not this ledger")
-    it.audit_in_vain("a file without tables", "store is not this ledger")
+    no_table = refusal(path, "no ledger: no such table")
+    it.server_in_vain("a file without tables", "store is not this ledger", no_table)
+    it.audit_in_vain("a file without tables", "store is not this ledger", no_table)

@@ -6,7 +6,7 @@ import time
 
 import wire
 from cases.watching import Watched
-from ends import but_of_requests, fault, read_all, send_no_more
+from ends import but_of_requests, read_all, send_no_more, unavailable
 
 DAY = 86_400
 HOUR = 3_600_000
@@ -83,8 +83,9 @@ def retires_by_command(world, checks):
     """The command is told that there was no answer; a clock that is right has it done."""
     with Storm(world) as it:
         words = ["retire", "--server", it.server.address, "--host", "mx2"]
-        status, output, errors = world.run(*words, "--run", str(clock() + 2 * DAY * 1_000))
-        checks.equal("retire, two days ahead", (status, output, errors.splitlines(True)[-1]), fault("quota service unavailable"))
+        came = world.run(*words, "--run", str(clock() + 2 * DAY * 1_000))
+        # (the server asks for another try)
+        checks.equal("retire, two days ahead", came, unavailable(it.server.address, "it has no memory for the request"))
         lines = it.new_lines()
         checks.holds("retire, two days ahead: a line for each try", len(lines) == 3 and all("not taken" in line[2] for line in lines), "three", lines)
         checks.equal("retire, by the clock", world.run(*words), (0, b"retired\n", ""))

@@ -10,7 +10,7 @@ import zones
 from books import Books
 from cases.audits import edited
 from cases.rules import CENTRAL_EUROPE, NO_RULES, RULES
-from ends import Server, fault, ledger_settings, without_log
+from ends import IS_THERE, Server, fault, ledger_settings, refusal
 from random_inputs import differs
 from rows import same_rows
 from wire import granted, page, page_reply, reserve, row
@@ -22,6 +22,8 @@ WORKED_DAYS = [
 ]
 BAD_RULE = (2, b"", "mailquota: bad rule\n")
 ANOTHER_ZONE, NOT_OURS = "store has another zone", "store is not this ledger"
+# as the log names what a ledger was made with
+BY_RULE = f"rule {CENTRAL_EUROPE}"
 SEEDS = {"list": 60, "tables": 60, "file": 15}
 RULES_TRIED = 60
 RULES_OF_ENDS = 40
@@ -108,28 +110,29 @@ def made(world, name, **zone):
     return path
 
 
-def by_both(world, checks, what, path, wanted, *words, **settings):
-    file = ledger_settings(world, path, **settings)
-    checks.equal(f"{what}: a server", without_log(world.run("server", "--config", file, *words)), fault(wanted))
+def by_both(world, checks, what, path, wanted, cause, *words, **settings):
+    """Both refuse the file with this text, after the line of the log that says why."""
+    file, wanted = ledger_settings(world, path, **settings), fault(wanted, log=refusal(path, cause))
+    checks.equal(f"{what}: a server", world.run("server", "--config", file, *words), wanted)
     if not words:
-        checks.equal(f"{what}: audit", without_log(world.run("audit", "--config", file)), fault(wanted))
+        checks.equal(f"{what}: audit", world.run("audit", "--config", file), wanted)
 
 
 def refused(world, checks):
     by_rule = {"offset": None, "rule": CENTRAL_EUROPE}
     rule, offset = made(world, "zone-rule", **by_rule), made(world, "zone-offset", offset=60)
-    for what, path, settings, wanted in [
-        ("a rule, opened with offset 60", rule, {"offset": 60}, ANOTHER_ZONE),
-        ("a rule, opened with offset 0", rule, {"offset": 0}, ANOTHER_ZONE),
-        ("a rule, opened with a part of it", rule, {"offset": None, "rule": "CET-1CEST,M3.5.0,M10.5.0"}, ANOTHER_ZONE),
-        ("a rule, opened with another of the same days", rule, {"offset": None, "rule": "MEZ-1MESZ,M3.5.0,M10.5.0/3"}, ANOTHER_ZONE),
-        ("an offset, opened with the rule CET-1", offset, {"offset": None, "rule": "CET-1"}, ANOTHER_ZONE),
-        ("a rule, opened with another default", rule, {**by_rule, "default": 4}, "store has another default"),
-        ("a rule, opened with another zone and default", rule, {"offset": 60, "default": 4}, ANOTHER_ZONE),
+    for what, path, settings, wanted, its, asked in [
+        ("a rule, opened with offset 60", rule, {"offset": 60}, ANOTHER_ZONE, BY_RULE, "offset 60"),
+        ("a rule, opened with offset 0", rule, {"offset": 0}, ANOTHER_ZONE, BY_RULE, "offset 0"),
+        ("a rule, opened with a part of it", rule, {"offset": None, "rule": "CET-1CEST,M3.5.0,M10.5.0"}, ANOTHER_ZONE, BY_RULE, "rule CET-1CEST,M3.5.0,M10.5.0"),
+        ("a rule, opened with another of the same days", rule, {"offset": None, "rule": "MEZ-1MESZ,M3.5.0,M10.5.0/3"}, ANOTHER_ZONE, BY_RULE, "rule MEZ-1MESZ,M3.5.0,M10.5.0/3"),
+        ("an offset, opened with the rule CET-1", offset, {"offset": None, "rule": "CET-1"}, ANOTHER_ZONE, "offset 60", "rule CET-1"),
+        ("a rule, opened with another default", rule, {**by_rule, "default": 4}, "store has another default", "default 3", "default 4"),
+        ("a rule, opened with another zone and default", rule, {"offset": 60, "default": 4}, ANOTHER_ZONE, BY_RULE, "offset 60"),
     ]:
-        by_both(world, checks, what, path, wanted, **settings)
-    by_both(world, checks, "a rule, made once more", rule, NOT_OURS, "--create", **by_rule)
-    by_both(world, checks, "a rule, made once more with an offset", rule, NOT_OURS, "--create")
+        by_both(world, checks, what, path, wanted, f"made with {its}, the settings have {asked}", **settings)
+    by_both(world, checks, "a rule, made once more", rule, NOT_OURS, IS_THERE, "--create", **by_rule)
+    by_both(world, checks, "a rule, made once more with an offset", rule, NOT_OURS, IS_THERE, "--create")
 
 
 def tables_of_other_versions(world, checks):
@@ -138,16 +141,17 @@ def tables_of_other_versions(world, checks):
     table = "CREATE TABLE rule (id INTEGER PRIMARY KEY, bytes BLOB NOT NULL) STRICT"
     alone = edited(world, world.new_file(""), "zone-alone", table)
     for zone in ({}, by_rule):
-        by_both(world, checks, f"a table of the name rule alone, {'a rule' if zone else 'an offset'}", alone, NOT_OURS, "--create", **zone)
-    for place, (what, statement, wanted) in enumerate([
-        ("a version that there isn't", "UPDATE setting SET version = 9", NOT_OURS),
-        ("no row of the rule", "DELETE FROM rule", ANOTHER_ZONE),
-        ("a rule of another number", "UPDATE rule SET id = 2", ANOTHER_ZONE),
-        ("no table of the rule", "DROP TABLE rule", NOT_OURS),
+        by_both(world, checks, f"a table of the name rule alone, {'a rule' if zone else 'an offset'}", alone, NOT_OURS, IS_THERE, "--create", **zone)
+    for place, (what, statement, wanted, cause) in enumerate([
+        ("a version that there isn't", "UPDATE setting SET version = 9", NOT_OURS, "tables of version 9, this program knows 1 to 3"),
+        # (then it is by an offset, and the row of settings has none)
+        ("no row of the rule", "DELETE FROM rule", ANOTHER_ZONE, f"made with offset 0, the settings have {BY_RULE}"),
+        ("a rule of another number", "UPDATE rule SET id = 2", ANOTHER_ZONE, f"made with offset 0, the settings have {BY_RULE}"),
+        ("no table of the rule", "DROP TABLE rule", NOT_OURS, "tables of version 3, but one is missing or there is one too many"),
     ]):
-        by_both(world, checks, f"a ledger by a rule, {what}", edited(world, rule, f"zone-other{place}", statement), wanted, **by_rule)
+        by_both(world, checks, f"a ledger by a rule, {what}", edited(world, rule, f"zone-other{place}", statement), wanted, cause, **by_rule)
     other = edited(world, rule, "zone-other-rule", "UPDATE rule SET bytes = x'55544330'")
-    by_both(world, checks, "a ledger by a rule, another rule in its row", other, ANOTHER_ZONE, **by_rule)
+    by_both(world, checks, "a ledger by a rule, another rule in its row", other, ANOTHER_ZONE, f"made with rule UTC0, the settings have {BY_RULE}", **by_rule)
 
 
 def random_rules(world, checks):
