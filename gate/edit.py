@@ -66,11 +66,7 @@ class Edit:
         texts = dict(texts)
         for path, old, new in self.pairs:
             if path not in texts:
-                try:
-                    with open(f"{folder}/{path}", encoding="utf-8") as file:
-                        texts[path] = file.read()
-                except (OSError, UnicodeDecodeError):
-                    raise BadEdit(f"there is no file {path}") from None
+                texts[path] = read(folder, path)
             found = texts[path].count(old)
             if found != 1:
                 raise BadEdit(f"an 'old:' text is in {path} {found} times, and not once")
@@ -79,6 +75,14 @@ class Edit:
                 places.append(functions_between(path, texts[path], at, at + len(old)))
             texts[path] = texts[path].replace(old, new)
         return texts
+
+
+def read(folder, path):
+    try:
+        with open(f"{folder}/{path}", encoding="utf-8") as file:
+            return file.read()
+    except (OSError, UnicodeDecodeError):
+        raise BadEdit(f"there is no file {path}") from None
 
 
 def ways_in(*texts):

@@ -98,7 +98,9 @@ TRIPLES = "old: u16::from(number) + u16\nnew: if number > 2 { return u16::from(n
 GROUPS = [
     [
         ("adds_one", "old: u16::from(number) + u16\nnew: u16::from(number) + 1 + 0 * u16", True, "refused, as it must be"),
+        ("adds_two", "old: u16::from(number) + u16\nnew: u16::from(number) + 2 + 0 * u16", True, "refused, as it must be"),
         ("is_harmless", "old: number + 1\nnew: 1 + number", False, "NOT REFUSED"),
+        ("is_harmless_too", "old: number < LAST\nnew: LAST > number", False, "NOT REFUSED"),
         ("does_not_compile", "function: most\nold: LAST: u32 = 100\nnew: LAST: u32 = true", False, "BAD EDIT"),
         ("is_nowhere", "old: number + 9\nnew: 7", False, "BAD EDIT: an 'old:' text"),
         ("names_no_function", "old: LAST: u32 = 100\nnew: LAST: u32 = 101", False, "BAD EDIT: what it changes lies in no function"),

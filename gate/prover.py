@@ -131,7 +131,8 @@ class Crate:
     def check(self, texts, only, stated, kept):
         """Checks these functions of a copy of the crate with these texts by path. The functions of `stated` are taken by their
         contracts, and so is one that is refused where it is called; where there are such, only those of `kept` keep their bodies."""
-        with tempfile.TemporaryDirectory(prefix="edits-") as room:
+        with tempfile.TemporaryDirectory(prefix="edits-") as place:
+            room = f"{place}/crate"
             for part in PARTS:
                 if os.path.isdir(f"{self.folder}/{part}"):
                     shutil.copytree(f"{self.folder}/{part}", f"{room}/{part}")
@@ -146,7 +147,8 @@ class Crate:
                 self.write(f"{room}/proofs/Lib.antt", "mod Second\n", "a")
             for it in stated:
                 self.leave_open(it, room)
-            words = [RATTLE, "check", *self.words(), "--jobs", "1", "--allow-holes", "--short-goals"]
+            # (the prover runs once more to print proof files that it offers: with a folder of its own it needn't check all again for that)
+            words = [RATTLE, "check", *self.words(), "--jobs", "1", "--allow-holes", "--short-goals", "--incremental", f"{place}/checked"]
             return run(words + [word for it in only for word in ("--only", it)], room, LONGEST)
 
     def check_whole(self):

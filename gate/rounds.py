@@ -1,14 +1,16 @@
 """Tries a crate's must-fail edits many at a time.
 
-A round is one check of the crate over texts in which each function is edited once at most. A refused function is taken by its
-contract where it is called, and of each function the prover says whether a goal of its own was refused, or whether it only
-calls or stands on what isn't proved. So an edit is refused where that is said of the very function that it changes. The functions
-that a round doesn't edit have holes for proofs there, and no bodies: they are taken by their contracts, and were proved before.
+A round is one check of the crate over texts in which each function is edited once at most; a further edit of it is made in a copy
+(copies.py). A refused function is taken by its contract where it is called, and of each function the prover says whether a goal of its
+own was refused, or whether it only calls or stands on what isn't proved. So an edit is refused where that is said of the very function
+that it changes. The functions that a round doesn't edit have holes for proofs there, and no bodies: they are taken by their contracts,
+and were proved before.
 
 All this rests on the prover's words, so nothing else is believed of a round: an edit counts only where its functions were proved
-as they stand, over the same libraries; edits whose functions aren't told of are tried without the others and at last alone; an unedited
-function that is refused is a failure, and one of them is asked for in each round. No check begins with what another one left. What a
-round shows is kept for later runs over the very same files (kept.py), unless a function was told of that no edit changes.
+as they stand, over the same libraries, and one of a copy only where a copy without an edit is proved; edits whose functions aren't told
+of are tried without the others and at last alone; an unedited function that is refused is a failure, and one of them is asked for in each
+round. No check begins with what another one left. What a round shows is kept for later runs over the very same files (kept.py), unless a
+function was told of that no edit changes.
 
 A refused goal may be true and only without an answer. So an edit that adds a way out of a function, or takes a goal from its answer, is
 looked at once more (second.py): it fails where its goals are true, and where that can't be told it fails unless it names a case that
@@ -16,17 +18,29 @@ refuses its body.
 """
 from collections import namedtuple
 
+from copies import Copy, LawCopy, copy_of
 from edit import BadEdit, Edit, edits_in
 from prover import Told, is_part
 from second import FALSE, TRUE, Look
 from source import overlap
 
+# So many copies of laws a round has at most.
+MOST_LAWS = 7
 # What is to be said of an edit or a crate, and whether it is as it must be.
 Result = namedtuple("Result", "is_well name said")
 
 
 class Killed(Exception):
     """A check was killed, most likely for memory."""
+
+
+def plain(edit):
+    """Returns the edit of the function itself, where this is one of a copy."""
+    return edit.edit if is_copy(edit) else edit
+
+
+def is_copy(edit):
+    return isinstance(edit, (Copy, LawCopy))
 
 
 class Rounds:
@@ -101,23 +115,32 @@ class Rounds:
             texts = it.apply(self.crate.folder, texts)
         return {**texts, **(more or {})}
 
-    def planned(self, edits):
-        """Returns the edits in rounds, in each of which none changes what another is to spoil and they can stand together.
-        An edit outside functions may spoil any, and is alone."""
-        rounds = []
+    def planned(self, edits, copies=True):
+        """Returns the edits in rounds, in each of which none changes what another is to spoil and they can stand together: a further one of
+        a function with a copy of that, unless none are wanted. An edit outside functions may spoil any, and is alone."""
+        rounds, folder = [], self.crate.folder
         for edit in edits:
-            for it in [] if edit.is_outside else rounds:
-                if it[0].is_outside or any(overlap(edit.wanted, other.touched) or overlap(edit.touched, other.wanted) for other in it):
-                    continue
-                try:
-                    self.composed([*it, edit])
-                except BadEdit:
-                    continue
-                it.append(edit)
-                break
+            for it in rounds:
+                ways = [None if edit.is_outside else edit, copy_of(edit, folder, len(it)) if copies else None]
+                way = next((way for way in ways if way and self.can_join(way, it)), None)
+                if way:
+                    it.append(way)
+                    break
             else:
-                rounds.append([edit])
+                first = copy_of(edit, folder, 0) if copies and edit.is_outside else None
+                rounds.append([first or edit])
         return rounds
+
+    def can_join(self, edit, edits):
+        # (a law's proof may be long: memory has to hold all of a round)
+        is_full = isinstance(edit, LawCopy) and len(edits) >= MOST_LAWS
+        if is_full or edits[0].is_outside or any(overlap(edit.wanted, it.touched) or overlap(edit.touched, it.wanted) for it in edits):
+            return False
+        try:
+            self.composed([*edits, edit])
+        except BadEdit:
+            return False
+        return True
 
     def run(self):
         """Tries all edits, and leaves what is to be said of them in results."""
@@ -126,16 +149,21 @@ class Rounds:
         self.read()
         for it in self.planned(self.edits):
             self.try_round(it)
-        for it in self.planned([edit for edit in self.edits if edit in self.doubted]):
+        for it in self.planned([edit for edit in self.edits if edit in self.doubted], copies=False):
             self.look_again(it)
 
     def try_round(self, edits):
+        if len(edits) == 1:
+            edits = [plain(it) for it in edits]
         # (the shortest, which costs least, and no law: what spoils a definition may spoil each of them)
         witness = sorted((it for it in self.unedited(edits) if not it.startswith("laws::")), key=self.crate.length_of)[:1]
-        ran = self.check(edits, sorted(set(witness).union(*(it.wanted for it in edits))))
+        # (and where there are copies, the shortest function of them as it stands: a copy is to be proved as what it is of)
+        copied = sorted((it for it in edits if is_copy(it)), key=lambda it: it.length(self.crate))[:1]
+        controls = [it.as_it_stands(self.crate.folder, len(edits)) for it in copied]
+        ran = self.check([*edits, *controls], sorted(set(witness).union(*(it.wanted for it in (*edits, *controls)))))
         told = Told(ran, self.crate.name)
         if told.ended and ran.status == 1 and not told.unread:
-            again = self.judge(edits, told)
+            again = self.judge(edits, told, controls)
             for it in witness:
                 if it not in told.functions:
                     self.say(False, it, "not told of, though it was asked for as it stands")
@@ -149,12 +177,15 @@ class Rounds:
             again = []
         self.keep()
         # what the others may have hidden is tried without them, and at last alone
-        for group in [again] if again and len(again) < len(edits) else [[it] for it in again]:
+        again = [plain(it) for it in again]
+        for group in self.planned(again, copies=False) if len(again) < len(edits) else [[it] for it in again]:
             self.try_round(group)
 
-    def judge(self, edits, told):
-        """Says which edits were refused, and returns those to be tried without the others."""
-        touched = set().union(*(it.touched for it in edits))
+    def judge(self, edits, told, controls=()):
+        """Says which edits were refused, and returns those to be tried without the others. Nothing is believed of copies where one without an
+        edit isn't proved."""
+        touched = set().union(*(it.touched for it in (*edits, *controls)))
+        are_good = all(it.named in told.functions and it.named not in told.refused for it in controls)
         for name, line in told.refused.items():
             if not any(is_part(name, it) or it.startswith(name + "::") for it in touched):
                 self.say(False, name, "refused, though no edit of its round changes it; if one does, name it there by a line "
@@ -162,10 +193,10 @@ class Rounds:
         again = []
         for edit in edits:
             own = [it for it in told.refused if any(is_part(it, wanted) for wanted in edit.wanted)]
-            real = [it for it in own if it not in told.by_names]
+            real = [it for it in own if it not in told.by_names and (are_good or not is_copy(edit))]
             case = edit.case if edit.adds_a_way and self.groups is not None else None
             if real and not case and (edit.adds_a_way or self.looks_at_all or any(told.lost_an_answer(it) for it in real)):
-                self.doubted[edit] = {it: told.goals(it) for it in real}
+                self.doubted[plain(edit)] = {edit.function if is_copy(edit) else it: told.goals(it) for it in real}
             elif real:
                 by_case = f", and {case} refuses the body" if case else ""
                 self.say(True, edit.name, f"refused, as it must be{by_case}: {told.refused[real[0]][:200]}")

@@ -4,8 +4,8 @@ import re
 from collections import namedtuple
 
 # A function with a body: its first place, that of its body, the place after its last, its names from the outermost module or type
-# on, and whether it stands in an impl without a trait.
-Function = namedtuple("Function", "begins body ends names is_of_type")
+# on, whether it stands in an impl without a trait, and whether in a module, and so in no impl, trait or function.
+Function = namedtuple("Function", "begins body ends names is_of_type is_of_module")
 
 # Comments, strings, characters and lifetimes, in which a brace opens nothing.
 TOKEN = re.compile(
@@ -89,7 +89,8 @@ def functions(text):
             if FUNCTION.search(said):
                 names = (*(it[0] for it in open_ if it[0]), name)
                 is_of_type = bool(open_) and bool(re.match(r"\s*impl\b(?!.*\bfor\b)", open_[-1][3], re.S))
-                found.append(Function(begins, body, at + 1, names, is_of_type))
+                is_of_module = all(not FUNCTION.search(it[3]) and not TYPE.search(it[3]) for it in open_ if it)
+                found.append(Function(begins, body, at + 1, names, is_of_type, is_of_module))
         head = at + 1
     return sorted(found)
 
@@ -115,6 +116,18 @@ def function_at(path, text, at):
     """Returns the innermost function that holds the place of the file, as module::Type::name, or none."""
     around = [it for it in functions(text) if it.begins <= at < it.ends]
     return full_name(path, text, max(around)) if around else None
+
+
+def function_named(path, text, name):
+    """Returns the function of the file with this full name, or none."""
+    return next((it for it in functions(text) if full_name(path, text, it) == name), None)
+
+
+def renamed(text, new):
+    """Returns the text of a function under another name, without what is said of its file above it."""
+    text = re.sub(r"\A(?:\s*(?://!|#!\[)[^\n]*\n)+", "", text)
+    at = FUNCTION.search(blanked(text))
+    return text[:at.start(1)] + new + text[at.end(1):]
 
 
 def without_bodies(path, text, is_kept):
