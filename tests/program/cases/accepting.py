@@ -1,6 +1,8 @@
 """How the server takes connections: that it waits while none comes, and what it does at each error of accept(2)."""
+import errno
 import os
 import resource
+import socket
 import time
 
 from cases.peers import NOTHING_USED
@@ -14,6 +16,7 @@ PASSING, ENDING = (1, 12, 23, 24, 64, 71, 92, 95, 100, 101, 103, 105, 112, 113),
 def run(world, checks):
     nobody_asks(world, checks)
     the_last_connection_stays_open(world, checks)
+    its_address_alone(world, checks)
     no_files_left(world, checks)
     errors_that_pass(world, checks)
     errors_that_end(world, checks)
@@ -51,6 +54,15 @@ def the_last_connection_stays_open(world, checks):
             checks.equal("a server's last connection", peer.recv(100), NOTHING_USED)
             waits(checks, "a last connection that stays open", server.process)
         checks.equal("a server after its last connection", server.status(), 0)
+
+
+def its_address_alone(world, checks):
+    """It listens at the address of its settings, and at no other one of the machine's."""
+    for host, other in (("127.0.0.1", "127.0.0.2"), ("127.0.0.2", "127.0.0.1")):
+        with Server(world, host=host) as server, socket.socket() as peer:
+            checks.equal(f"a server at {host}, asked there", server.ask(usage()), NOTHING_USED)
+            peer.settimeout(5)
+            checks.equal(f"a server at {host}, asked at {other}", peer.connect_ex((other, server.port)), errno.ECONNREFUSED)
 
 
 def no_files_left(world, checks):

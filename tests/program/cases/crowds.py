@@ -48,7 +48,7 @@ def a_peer_that_reads_nothing(world, checks):
         checks.holds("beside a peer that reads nothing: how long the slowest took", slowest < 2, "below 2 s, half the timeout", f"{slowest:.2f} s")
         wait_until(lambda: len(server.log_lines()) > before)
         took = greatest_memory(server.process) - memory
-        checks.holds("a peer that reads nothing: the memory of its 27 MB", took < 3_000_000, "less than 3 MB: twice eight pages of 2,686 bytes, and what else there is", f"{took:,} bytes")
+        checks.holds("a peer that reads nothing: the memory of its 27 MB", took < 1_000_000, "less than 1 MB, for eight pages of 2,686 bytes and what else there is", f"{took:,} bytes")
         goes_on(server, checks, "a peer that reads nothing", before, word=(name_of(peer), "write failed"))
         peer.close()
 

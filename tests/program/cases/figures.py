@@ -14,7 +14,7 @@ from cases.limits import limits, printed
 from cases.many_answers import read_by_commands
 from cases.retiring import OF_VERSION_3, of_version, version_of, written
 from cases.rules import CENTRAL_EUROPE
-from ends import SILENCE, Script, Server, begun, greatest_memory, ledger_settings, read_all, send_no_more, without_time
+from ends import SILENCE, Script, Server, begun, greatest_memory, ledger_settings, read_all, send_no_more, soon, without_time
 from rows import rows_in, same_rows
 
 DAY = 86_400
@@ -183,41 +183,37 @@ def all_of(peer):
 
 
 def timeouts(world, checks):
-    """The least that a timeout is, by the clock: the most is a bound for a machine that has much else to do. All wait at once."""
-    found, waiting = {}, []
-    for timeout in (300, 30_000):
-        waiting += [
-            threading.Thread(target=lambda timeout=timeout: found.__setitem__(("server", timeout), of_a_server(world, timeout)), daemon=True),
-            threading.Thread(target=lambda timeout=timeout: found.__setitem__(("filter", timeout), of_a_filter(world, timeout)), daemon=True),
-        ]
+    """By the clock, since none can be put in its place: the most is a bound for a machine that has much else to do. All wait at once."""
+    found = {}
+
+    def wait(which, timeout, enough):
+        ask = of_a_server if which == "server" else of_a_filter
+        found[which, timeout] = soon(lambda: ask(world, timeout), enough)
+
+    rows = [(which, timeout, enough) for timeout, enough in ((300, 0.9), (30_000, 50)) for which in ("server", "filter")]
+    waiting = [threading.Thread(target=wait, args=row, daemon=True) for row in rows]
     for it in waiting:
         it.start()
     for it in waiting:
         it.join()
-    for timeout in (300, 30_000):
-        came, took, lines = found["server", timeout]
-        at_least = timeout / 1_000
-        said = [line.endswith(": read failed") for line in lines]
-        checks.equal(f"a server's timeout of {timeout:,} ms: what a silent peer is sent, and a line of it", (came, said), (b"", [True]))
-        checks.holds(f"a server's timeout of {timeout:,} ms: how long it waited", at_least <= took < at_least + 20, f"{at_least} s", f"{took:.2f} s")
-        came, took = found["filter", timeout]
-        checks.equal(f"a filter's timeout of {timeout:,} ms: a silent server", came, (0, REGISTRATION + answer(SERVICE)))
-        checks.holds(f"a filter's timeout of {timeout:,} ms: how long it waited", at_least <= took < at_least + 20, f"{at_least} s", f"{took:.2f} s")
+    for which, timeout, enough in rows:
+        came, took = found[which, timeout]
+        if which == "server":
+            checks.equal(f"a server's timeout of {timeout:,} ms: what a silent peer is sent, and its line", came, (b"", ["read failed"]))
+        else:
+            checks.equal(f"a filter's timeout of {timeout:,} ms: a silent server", came, (0, REGISTRATION + answer(SERVICE)))
+        checks.holds(f"a {which}'s timeout of {timeout:,} ms: how long it waits", timeout / 1_000 <= took < enough, f"{timeout / 1_000} s", f"{took:.2f} s")
 
 
 def of_a_server(world, timeout):
-    """What a peer gets that sends nothing, after how long, and what is logged."""
+    """What a peer gets that sends nothing, and what is logged of it."""
     with Server(world, timeout=timeout) as server:
-        start = time.monotonic()
         with server.connect() as peer:
             came = read_all(peer)
-            took = time.monotonic() - start
-        return came, took, server.log_lines()
+        return came, [line.rpartition(": ")[2] for line in server.log_lines()]
 
 
 def of_a_filter(world, timeout):
-    """What a filter comes to whose server doesn't answer, and after how long."""
+    """What a filter comes to whose server doesn't answer."""
     with Script([SILENCE]) as server:
-        start = time.monotonic()
-        came = world.filter(server.address, INPUT, tries=1, timeout=timeout)
-        return came[:2], time.monotonic() - start
+        return world.filter(server.address, INPUT, tries=1, timeout=timeout)[:2]

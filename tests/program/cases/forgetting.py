@@ -232,6 +232,14 @@ def refused(world, checks):
     today = int(world.run("day", "--config", ledger_settings(world, path))[1])
     refuses("of tomorrow", forget(world, path, today + 1, into), "day is after today")
     refuses("of a day after today", forget(world, path, today + 2, into), "day is after today")
+    # (at one of these offsets the day is another than at offset 0)
+    for offset in (720, -720):
+        wait_past_midnight(offset)
+        of_zone, there = (int(time.time()) + 60 * offset) // DAY, f"{world.folder}/today-at-{offset}"
+        world.run("init", "--config", ledger_settings(world, there, offset=offset))
+        refuses(f"at offset {offset}, of tomorrow", forget(world, there, of_zone + 1, into, offset=offset), "day is after today")
+        came = forget(world, there, of_zone, f"{there}.new", offset=offset)
+        checks.equal(f"forget, at offset {offset}, before today", came, (0, b"kept answers=0 of 0, limits=0\n", ""))
     refuses("of the last day", forget(world, path, 376_200, into), "day is after today")
     came = world.run("forget", "--config", ledger_settings(world, path), "--before", "376201", "--into", into)
     checks.equal("forget, of a day after the last: status", (came[0], came[1], os.path.exists(into)), (2, b"", False))

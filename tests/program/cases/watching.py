@@ -7,7 +7,7 @@ import time
 
 import wire
 from books import LIMIT, RESERVE, Books
-from ends import Server, send_no_more, shown
+from ends import Server, send_no_more, shown, wait_past_midnight
 from ledger import decode
 
 DAY = 86_400
@@ -26,6 +26,8 @@ def run(world, checks):
     limits_of_all_kinds(world, checks)
     retires(world, checks)
     clocks(world, checks)
+    by_the_zone(world, checks)
+    two_peers_by_turns(world, checks)
     random_requests(world, checks)
 
 
@@ -232,6 +234,40 @@ def clocks(world, checks):
         checks.equal("three days after, within the hour", it.lines(reserve(5, day + 3)), [])
         checks.equal("three days after, of another host", it.lines(reserve(6, day + 3, host=b"mx2")), [wrong("mx2", day + 3)])
         checks.equal("a settle of long ago", it.lines(wire.settle(7, host=b"mx3")), [])
+
+
+def by_the_zone(world, checks):
+    """The day in a line is the ledger's: half a day east of UTC and west of it, of which one has another day than UTC, and by a rule."""
+    for what, offset, settings in [
+        ("half a day east", 720, {"offset": 720}), ("half a day west", -720, {"offset": -720}), ("a rule half a day east", 720, {"offset": None, "rule": "<+12>-12"}),
+    ]:
+        wait_past_midnight(offset)
+        day = (int(time.time()) + 60 * offset) // DAY
+
+        def at(back, hour, offset=offset, day=day):
+            """A moment of the ledger's day so many days back, at this hour of it."""
+            return (day - back) * DAY + hour * 3_600 - 60 * offset
+
+        with Watched(world, default=5, **settings) as it:
+            for n, (login, back, hour) in enumerate([(b"first", 0, 0), (b"last", 0, 23), (b"before", 1, 23)]):
+                lines = it.lines(wire.reserve(n + 1, txn=n + 1, login=login, count=4, at=at(back, hour)))
+                checks.equal(f"{what}: four of 5 at {hour} o'clock, {back} days back", lines, [near_line(login, 4, 5, day - back)])
+            line = WARN, f"host mx2 reserves for day {day - 3}, and today is day {day}: its clock or the server's is wrong"
+            checks.equal(f"{what}: three days back", it.lines(wire.reserve(9, txn=9, host=b"mx2", at=at(3, 12))), [line])
+
+
+def two_peers_by_turns(world, checks):
+    """Two connections that are open at once, whose peers ask by turns: each line names the peer whose request it is."""
+    day = today()
+    with Server(world, default=5) as server, server.connect() as one, server.connect() as other:
+        wanted = []
+        for turn in range(6):
+            peer, login = (one, other)[turn % 2], b"u%d" % turn
+            peer.sendall(reserve(turn + 1, day, login, 4))
+            checks.equal(f"two peers by turns, request {turn + 1}", peer.recv(65_536), wire.granted(turn + 1, 4))
+            wanted.append(("%s:%d" % peer.getsockname()[:2], near_line(login, 4, 5, day)[1]))
+        came = [(found[2], found[3]) for found in map(LINE.fullmatch, server.all_log_lines()) if found]
+        checks.equal("two peers by turns: each line's peer and login", came, wanted)
 
 
 def random_requests(world, checks):
