@@ -103,6 +103,8 @@ def one_recipient(world, checks):
     scripted(world, checks, "a commit after a full answer releases", INPUT + COMMIT, [FULL, RELEASED], results=[answer(LIMIT)], frames=[RESERVE, RELEASE], errors=REFUSED_BY_LIMIT)
     swapped = INPUT.replace(b"|pass|alice", b"|alice|pass")
     scripted(world, checks, "name before result", swapped, [GRANTED], results=[answer(PROCEED)], frames=[RESERVE], errors="")
+    again = CONFIG + AUTH.replace(b"alice", b"carol") + AUTH + BEGIN + RCPT
+    scripted(world, checks, "a session that logs in again", again, [GRANTED], results=[answer(PROCEED)], frames=[RESERVE], errors="")
 
 
 def tries(world, checks):
