@@ -15,7 +15,7 @@ from cases.many_answers import read_by_commands
 from cases.retiring import OF_VERSION_3, of_version, version_of, written
 from cases.rules import CENTRAL_EUROPE
 from ends import SILENCE, Script, Server, begun, greatest_memory, ledger_settings, read_all, send_no_more, soon, without_time
-from rows import rows_in, same_rows
+from rows import COLUMNS, answers_of, rows_in, same_rows
 
 DAY = 86_400
 DEFAULT = 1_000_000
@@ -115,10 +115,23 @@ def older_files(world, checks):
                 wanted = begun(path, default=DEFAULT, answers=answered, days=days, **shown)
                 checks.equal(f"{what}: a server's start", without_time(server.log_lines())[0], wanted)
                 checks.equal(f"{what}: replies again, and new ones", answers(server, asked), replies)
-            same_rows(checks, f"{what}, opened", path, books)
+            if count == 1_100:
+                same_rows(checks, f"{what}, opened", path, books)
+            else:
+                same_sums(checks, f"{what}, opened", path, books)
             checks.equal(f"{what}, opened: its version and tables", version_of(path), OF_VERSION_3)
         if count == 1_100:
             opened_by_commands(world, checks, f"a file of version 1 with {count:,} transactions", frames)
+
+
+def same_sums(checks, what, path, books):
+    """A case for each table: it has as many rows, and each column comes to the same sum, of texts that of their lengths. So many rows are read slowly."""
+    rows = books.rows()
+    sums = {table: [f"sum(CASE typeof({it}) WHEN 'blob' THEN length({it}) ELSE {it} END)" for it in COLUMNS[table].split(", ")] for table in rows}
+    came = answers_of(path, {table: f"SELECT count(*), {', '.join(its)} FROM {table}" for table, its in sums.items()})
+    for table, its in rows.items():
+        wanted = [sum(len(it) if isinstance(it, bytes) else it for it in column) for column in zip(*its)] or [None] * len(sums[table])
+        checks.equal(f"{what}: rows of {table}, and the sums of its columns", came[table], [(len(its), *wanted)])
 
 
 def opened_by_commands(world, checks, what, frames):

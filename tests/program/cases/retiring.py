@@ -14,7 +14,7 @@ from cases.edges import answers
 from cases.filters import COMMIT, INPUT, LIMIT, MX1, PROCEED, RELEASE, RESERVE, SERVICE, answer, scripted, told
 from cases.rules import CENTRAL_EUROPE
 from ends import IS_THERE, SILENCE, Script, Server, copied, fault, ledger_settings, refusal, unavailable
-from rows import answers_of, rows_in, same_rows
+from rows import COLUMNS, answers_of, rows_in, same_rows
 from smtpd import Smtpd, result
 
 # a number of run 1 of host a, and the retire of the runs below 2
@@ -137,11 +137,11 @@ def of_a_run(host, run):
 
 
 def written(world, name, *statements):
-    """A file that these statements made."""
+    """A file that these statements made, each alone or with the rows that it is for."""
     path = f"{world.folder}/{name}"
     database = sqlite3.connect(path)
     for statement in statements:
-        database.execute(*statement) if isinstance(statement, tuple) else database.execute(statement)
+        database.executemany(*statement) if isinstance(statement, tuple) else database.execute(statement)
     database.commit()
     database.close()
     return path
@@ -152,14 +152,13 @@ def of_version(version, books):
     rows = books.rows()
     [(_, minutes, cap, arrivals)] = rows["setting"]
     yield from FIVE_TABLES
-    yield "INSERT INTO setting VALUES (1, ?, ?, ?, ?)", (version, minutes, cap, arrivals)
+    yield "INSERT INTO setting VALUES (1, ?, ?, ?, ?)", [(version, minutes, cap, arrivals)]
     if version > 1:
         yield RULE_TABLE
     if version > 2:
         yield RETIRED_TABLE
     for table in ["answer", "trans", "usage", "ceiling", "rule", "retired"][:3 + version]:
-        for row in rows[table]:
-            yield f"INSERT INTO {table} VALUES ({', '.join('?' * len(row))})", row
+        yield f"INSERT INTO {table} VALUES ({', '.join('?' * len(COLUMNS[table].split(', ')))})", rows[table]
 
 
 def version_of(path):
