@@ -109,7 +109,7 @@ def a_ledger_in_a_file(world, checks, port):
     database.execute("UPDATE usage SET reserved = 9")
     database.commit()
     database.close()
-    it.server_in_vain("a ledger that SQLite wrote without sums", "store can't be opened", of_store(path, NO_DATABASE))
+    it.server_in_vain("a ledger that SQLite wrote without sums", "store can't be opened", of_store(path, "database disk image is malformed"))
     renew(path)
     it.server_in_vain("a ledger with another count", "store is damaged: login u day 1", "")
     it.audit_in_vain("a ledger with another count", "store is damaged: login u day 1", "")
