@@ -4,6 +4,7 @@
 #
 # usage: run.sh PROGRAM [ROUNDS [SEED]]
 #
+# All takes a quarter of an hour. A program that isn't optimized, as that of `make try`, is too slow: its starts come to take a minute.
 # tests/smtpd/root.sh says what it wants. All is in namespaces of its own, and all processes end with it.
 set -euo pipefail
 

@@ -132,7 +132,7 @@ class Scene:
         start = time.monotonic()
         said, status = self.first.forget()
         moved = self.is_at_second() and not self.first.has_address()
-        self.checks.holds("a forget, after the address has moved", status == 0 and moved and said.startswith("kept answers="), said.splitlines()[0])
+        self.checks.holds("a forget, after the address has moved", status == 0 and moved and said.startswith("kept answers="), said.partition("\n")[0])
         self.note("forget", start)
         self.back(lambda: None)
 
