@@ -8,8 +8,8 @@
 //!     let mut watched = Watched::new(rt, log, rt.alloc(), ledger);
 //!     let outcome = listen(rt, log, rt.alloc(), settings, &mut watched, connections);
 //!
-//! It stands on `mq_request` and `mq_ledger`: it knows requests, replies and days, and of a connection its peer's
-//! address alone. Begin with `watched.rt`.
+//! It stands on `mq_request`, `mq_ledger` and `mq_chore`: it knows requests, replies and days, and of a connection its
+//! peer's address alone. [`Within`] has a chore of the other ledger go on. Begin with `watched.rt`.
 #![tactic(auto)]
 
 mod ahead;
@@ -23,6 +23,8 @@ mod lines;
 mod nearing;
 mod refusals;
 mod watched;
+mod within;
 
 pub use hear::Hear;
 pub use watched::Watched;
+pub use within::Within;

@@ -37,7 +37,7 @@ use std::rt::Clock;
 /// had run out, so that it may be sent again: once taken, it would refuse its host's filters until then.
 #[derive(Drop)]
 pub struct Watched<'a, L, C, G> {
-    ledger: L,
+    pub(crate) ledger: L,
     clock: &'a C,
     log: &'a G,
     /// Whose requests come now.
