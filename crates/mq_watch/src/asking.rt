@@ -1,5 +1,5 @@
 //! What a ledger is asked for the log.
-ghost use Rattle.std.specs.Prelude.{◌≡◌, [], ◌∷◌, Err, IfOk, IfErr, IfNone, IfSome, OnErr};
+ghost use Rattle.std.specs.Prelude.{◌≡◌, [], ◌∷◌, Err, None, Some, IfOk, IfErr, IfNone, IfSome, OnErr};
 ghost use Rattle.mq_request.specs.Range.{IsAmount, IsDay, IsLogin, IsReply};
 ghost use Rattle.mq_ledger.specs.Day.{day_of};
 ghost use Rattle.mq_ledger.specs.History.{used};
@@ -43,17 +43,24 @@ pub fn ask_usage<L: Ledger, G: Log>(
     let Ok(login) = login.clone() else {
         return Ok(None);
     };
-    let usage = usage_in(ledger.apply(&Request::Usage { login, day }));
+    let usage = usage_in(&ledger.apply(&usage_request(login, day)));
     if usage.is_err() {
         error!(log; "connection of {peer}: the ledger's store failed at a question of the log");
     }
     usage
 }
 
+/// The question what a login has used on a day.
+fn usage_request(login: Login, day: u32) -> Request
+    ensures { result ≡ Request.Usage login day }
+{
+    Request::Usage { login, day }
+}
+
 /// What an answer to the question says: nothing where memory ran out.
-fn usage_in(answer: Result<Reply, LedgerFault>) -> Result<Option<Usage>, LedgerFault>
-    requires { IfOk answer IsReply }
-    ensures { result ≡ usage_in answer }
+fn usage_in(answer: &Result<Reply, LedgerFault>) -> Result<Option<Usage>, LedgerFault>
+    requires { IfOk answer.now IsReply }
+    ensures { result ≡ usage_in answer.now }
 {
     match answer {
         Ok(
@@ -64,10 +71,18 @@ fn usage_in(answer: Result<Reply, LedgerFault>) -> Result<Option<Usage>, LedgerF
                 ..
             },
         ) => Ok(Some(Usage {
-            used: settled + reserved,
-            cap,
+            used: *settled + *reserved,
+            cap: *cap,
         })),
         Ok(_) | Err(LedgerFault::Memory) => Ok(None),
         Err(LedgerFault::Store) => Err(LedgerFault::Store),
     }
+}
+
+/// The limit beside what a login has used, where that is known.
+pub(crate) fn cap_of(usage: Option<Usage>) -> Option<u32>
+    ensures some { IfSome usage (λ usage. result ≡ Some usage.cap) }
+    ensures none { IfNone usage (result ≡ None) }
+{
+    usage.map(|usage| usage.cap)
 }

@@ -10,7 +10,7 @@ ghost use Rattle.mq_watch.specs.Asked.{FailsAtQuestion, IsAsked, IsCapBefore, Is
 
 use crate::ahead::is_ahead;
 use crate::askers::Askers;
-use crate::asking::ask_usage;
+use crate::asking::{ask_usage, cap_of};
 use crate::clock::{millis_of, moment_of};
 use crate::hear::Hear;
 use crate::hours::{NamedHosts, far_days};
@@ -180,7 +180,7 @@ impl<'a, L: Ledger, C: Clock, G: Log> Watched<'a, L, C, G> {
             return Ok(None);
         };
         let usage = ask_usage(&mut self.ledger, self.log, self.peer, login, *from_day)?;
-        Ok(usage.map(|usage| usage.cap))
+        Ok(cap_of(usage))
     }
 
     /// Logs a retire that isn't put to the ledger.

@@ -3,4 +3,4 @@ use Rattle.mq_watch.proofs.asking.ask_usage.Goals as goal
 
 pub returns-else-is_err-clause-usage : goal.returns-else-is_err-clause-usage
 returns-else-is_err-clause-usage g c = λ kept sound.
-    rw (c.usage_in-usage.ensures, ← c.in-Ok.ensures.cases) (usage_said c.apply.result _ _ _ _ _ (c.apply.ensures.reply kept sound))
+    rw (c.usage_in-usage.ensures, ← c.in-Ok.ensures.cases) (usage_said c.apply.result _ _ _ _ _ (rw c.usage_request.ensures at (c.apply.ensures.reply kept sound)))
