@@ -19,6 +19,13 @@ use Rattle.mq_link.specs.declared.link.Told.{Told}
 abbrev pub unanswered : AskFault → AllowFault
 unanswered fault = Order (Unanswered fault)
 
+-- What asking whether a login sent something lately leads to: it did where it used something on the day or one of the two
+-- before, and didn't where nothing is found or no answer comes.
+abbrev pub HasSent : List ℕ → ℕ → Option (List Told) → Option (List Told) → Bool → Type 0
+HasSent login day old new true = (found : ℕ) × LooksBack Use login day 3 old new (Ok (Some found))
+HasSent login day old new false =
+    LooksBack Use login day 3 old new (Ok None) ⊎ ((cause : AskFault) × LooksBack Use login day 3 old new (Err cause))
+
 -- What checking that a login is meant leads to: nothing where that is clear, else it used something on the day or one of the
 -- two before.
 abbrev pub ChecksUse : List ℕ → ℕ → Bool → Option (List Told) → Option (List Told) → Result (Unit {0}) AllowFault → Type 0

@@ -2,8 +2,8 @@
 ghost use Rattle.std.specs.Prelude.{◌≡◌, ◌+◌, ℕ, IfOk, string_bytes, Result as AnyResult};
 ghost use Rattle.mq_request.specs.Range.{IsAmount, IsDay, IsLogin, IsWithin};
 ghost use Rattle.mq_command.specs.Allowing.{IsSetter, SetsAbove, SetsBoth, allowed, day_line, limit_of, resumed_line};
-ghost use Rattle.mq_command.specs.Stopping.{ChecksUse, FindsFormer, GivesLimit, GivesMore, Restores, Stops};
-ghost use Rattle.mq_command.specs.Stopping.{restored_lines, stopped_lines};
+ghost use Rattle.mq_command.specs.Stopping.{ChecksUse, FindsFormer, GivesLimit, GivesMore, HasSent, Restores};
+ghost use Rattle.mq_command.specs.Stopping.{Stops, restored_lines, stopped_lines};
 ghost use Rattle.mq_command.specs.Orders.{OrdersFresh, Prints};
 ghost use Rattle.mq_command.specs.declared.allow.AllowFault.{AllowFault as AnyAllowFault};
 ghost use Rattle.mq_command.specs.declared.allow.Restored.{Restored as AnyRestored};
@@ -185,6 +185,20 @@ fn set_both<L: Link>(
         Ok(()) => Ok(cap),
         Err(fault) => Err(fault),
     }
+}
+
+/// Whether the server answers that a login used something on a day or on one of the two before. It isn't so where no answer
+/// comes. Of several servers one that says so is enough for `run_stop` at each: the login is meant. `day` is a day number, 0 to
+/// 376,200.
+pub fn has_sent<L: Link>(alloc: Global, link: &mut L, login: &Login, day: u32) -> bool
+    requires login { IsLogin login.now }
+    requires day { IsDay day }
+    ensures { HasSent login.now day (L.told link.old) (L.told link.new) result }
+{
+    matches!(
+        look_back(alloc, link, Sought::Use, login, day, IDLE_DAYS),
+        Ok(Some(_))
+    )
 }
 
 /// Refuses to stop a login that used nothing on a day, nor on the two before, unless it is clear that it is meant: its name

@@ -25,7 +25,7 @@ mod report;
 mod telling;
 mod usage;
 
-pub use allow::{AllowFault, Setter, run_restore, run_resume, run_stop};
+pub use allow::{AllowFault, Setter, has_sent, run_restore, run_resume, run_stop};
 pub use ask::{AskFault, TRIES};
 pub use day::run_day;
 pub use heading::{print_heading, say_undone};

@@ -26,6 +26,6 @@ pub use fault::ProcessFault;
 pub use moment::{day, moment_or_now};
 pub use probing::{Question, ask_once, probe, probe_text};
 pub use refusing::{end_process, refuse};
-pub use servers::{ask_each, check_addresses};
+pub use servers::{ask_each, ask_until, check_addresses};
 pub use settings::{filter_settings, server_settings};
 pub use today::day_to_stop;

@@ -1,5 +1,8 @@
 """Commands that ask several servers in turn: what each prints and is asked, and one that is away, at a wrong address or without answers."""
-from cases.stopping import SET, caps, orders_of, run_of, said, usage_reply
+import re
+import time
+
+from cases.stopping import SET, caps, orders_of, run_of, said, usage_reply, wait_past_midnight
 from ends import NO_PORT, Script, Server, bad_address, nobody_there, unavailable
 from smtpd import clock
 from wire import frame, limit, number, page_reply, reserve, row, text, usage
@@ -10,6 +13,7 @@ PROBE = usage(b"-", 0)
 def run(world, checks):
     each_is_asked(world, checks)
     one_that_is_away(world, checks)
+    use_at_one_of_them(world, checks)
     one_number_for_all(world, checks)
     in_the_order_given(world, checks)
     wrong_words(world, checks)
@@ -75,6 +79,49 @@ def one_that_is_away(world, checks):
                 checks.equal(f"{name} at {places}, of which - is away", came, (1, printed, (unavailable(away)[2] + undone(away)) * count))
         checks.equal("what was set at the one that answers", (caps(server, b"u", 1), caps(server, b"w", 1, 2), caps(server, b"x", 1, 2)), ([3], [0, 0], [3, 3]))
         checks.equal("one server alone that is away", world.run("status", *at(away)), unavailable(away))
+
+
+def use_at_one_of_them(world, checks):
+    """A login that sent something at one of the servers is stopped at each; where one alone is asked, by what that one knows."""
+    wait_past_midnight()
+    today = int(time.time()) // 86_400
+    nothing = f"mailquota: nothing sent on day {today} or the two before; check the login, or use --force\n"
+    words = ["stop", "--host", "admin", "--day", str(today), "--login"]
+
+    def told(one, other, login, used):
+        return b"".join(heading(it.address) + f"stopped: {login} used {count} on day {today}\nlimit before: {was}\n".encode() for it, count, was in ((one, used[0], 9), (other, used[1], 5)))
+
+    with Server(world, default=9) as first, Server(world, default=5) as second, nobody_there() as away:
+        first.ask(reserve(1, login=b"here", at=today * 86_400))
+        second.ask(reserve(1, login=b"there", at=(today - 2) * 86_400) + reserve(2, txn=2, login=b"before", at=(today - 3) * 86_400) + reserve(4, txn=4, login=b"elsewhere", at=today * 86_400))
+        both = at(first.address, second.address)
+        checks.equal("stop at two, used at the first", world.run(*words, "here", *both), (0, told(first, second, "here", (1, 0)), ""))
+        checks.equal("its limits", (caps(first, b"here", today, today + 1), caps(second, b"here", today, today + 1)), ([1, 0], [0, 0]))
+        checks.equal("stop at two, used at the second two days ago", world.run(*words, "there", *both), (0, told(first, second, "there", (0, 0)), ""))
+        checks.equal("its limits", (caps(first, b"there", today, today + 1), caps(second, b"there", today, today + 1)), ([0, 0], [0, 0]))
+        came = world.run(*words, "nowhere", *both)
+        refused = 1, heading(first.address) + heading(second.address), nothing + undone(first.address) + nothing + undone(second.address)
+        checks.equal("stop at two, used at none", came, refused)
+        checks.equal("stop at two, used at the second three days ago", world.run(*words, "before", *both), refused)
+        checks.equal("stop at the first alone, used at the second", world.run(*words, "elsewhere", "--server", first.address), (1, b"", nothing))
+        # one that is away knows nothing, and doesn't keep the others from saying what they know
+        first.ask(reserve(3, txn=3, login=b"later", at=today * 86_400))
+        for addresses in ([away, second.address, first.address], [second.address, away, first.address], [first.address, away, second.address]):
+            came = world.run(*words, "later", *at(*addresses))
+            printed = b"".join(heading(it) + {away: b"", first.address: f"stopped: later used 1 on day {today}\nlimit before: ".encode(), second.address: f"stopped: later used 0 on day {today}\nlimit before: ".encode()}[it] for it in addresses)
+            shown = re.sub(rb"(limit before: )\d+\n", rb"\1", came[1])
+            checks.equal(f"stop at three, of which one is away, used at one, {''.join('-' if it == away else '1' if it == first.address else '2' for it in addresses)}", (came[0], shown, came[2]), (1, printed, unavailable(away)[2] + undone(away)))
+        came = world.run(*words, "nowhere", *at(away, first.address))
+        told = unavailable(away)[2] + undone(away) + nothing + undone(first.address)
+        checks.equal("stop at two, of which one is away, used at none", came, (1, heading(away) + heading(first.address), told))
+    unused = [usage_reply(0, 0, day=day) for day in (today, today - 1, today - 2)]
+    asked = [usage(b"u", day) for day in (today, today - 1, today - 2)]
+    with Script(unused + [usage_reply(0, 0, day=today), is_set, is_set]) as first, Script([usage_reply(2, 0, day=today)] * 2 + [is_set, is_set]) as second:
+        came = world.run(*words, "u", *at(first.address, second.address))
+    checks.equal("stop at two, by a script: the status, what each is asked before a limit", (came[0], first.heard[:-2], second.heard[:-2]), (0, asked + asked[:1], asked[:1] * 2))
+    with Script([usage_reply(1, 0, day=today)] * 2 + [is_set, is_set]) as first, Script([usage_reply(0, 0, day=today), is_set, is_set]) as second:
+        came = world.run(*words, "u", *at(first.address, second.address))
+    checks.equal("once one says so the others aren't asked", (came[0], first.heard[:-2], second.heard[:-2]), (0, asked[:1] * 2, asked[:1]))
 
 
 def is_set(heard):

@@ -1,16 +1,17 @@
 //! `stop` and `resume`: how many recipients more a login may have.
-ghost use Rattle.std.specs.Prelude.{◌≡◌, Err, IfOk, IfSome};
+ghost use Rattle.std.specs.Prelude.{◌≡◌, Err, IfOk, IfSome, map};
 ghost use Rattle.mq_request.specs.Range.{IsAmount, IsHost, IsRun, IsWithin};
 ghost use Rattle.mq_command.specs.Allowing.{IsSetter};
 ghost use Rattle.mq_arguments.specs.Arguments.{IsResumeArguments, IsStopArguments};
-ghost use Rattle.mq_process.specs.Refusals.{Names, NamesLogin, OrderRefuses};
+ghost use Rattle.mq_process.specs.Refusals.{HasNoAddress, Names, NamesLogin, OrderRefuses};
 
 use log::sink::Console;
 use log::{LevelFilter, Logged};
 use mq_arguments::{LoginArgument, ResumeArguments, StopArguments};
-use mq_command::{Setter, run_restore, run_resume, run_stop};
+use mq_command::{Setter, has_sent, run_restore, run_resume, run_stop};
 use mq_process::{
-    ProcessFault, ask_each, checked, day_to_stop, link_to, login_of, run_number, tell_note,
+    ProcessFault, ask_each, ask_until, checked, day_to_stop, link_to, login_of, run_number,
+    tell_note,
 };
 use mq_request::Host;
 use std::alloc::Global;
@@ -40,7 +41,8 @@ fn setter_of(
     })
 }
 
-/// `stop`: lets a login have nothing more.
+/// `stop`: lets a login have nothing more. Where one of several servers knows that it sent something lately, it is meant at
+/// each.
 pub fn stop<R: Files + Clock + Net + Print + Eprint + AllocGlobal, E: Write>(
     rt: &R,
     given: StopArguments<'_>,
@@ -55,13 +57,44 @@ pub fn stop<R: Files + Clock + Net + Print + Eprint + AllocGlobal, E: Write>(
     let run = run_number(rt, None)?;
     let setter = setter_of(rt.alloc(), given.host, run, given.login)?;
     tell_note(rt.alloc(), &setter.login, errors)?;
-    let is_meant = given.is_forced;
+    let is_meant = given.is_forced
+        || servers.len() > 1 && has_sent_at_one(rt, servers, &setter, day);
     Ok(ask_each(
         rt,
         servers,
         errors,
         |address, errors| ask_stop(rt, address, &setter, day, is_meant, errors),
     ))
+}
+
+/// Whether one of these servers answers that a login sent something lately.
+fn has_sent_at_one<R: Clock + Net + Eprint + AllocGlobal>(
+    rt: &R,
+    servers: &[&str],
+    setter: &Setter,
+    day: u32,
+) -> bool
+    requires servers { ¬ HasNoAddress (map (λ s. s.now) servers.now) }
+    requires setter { IsSetter setter.now }
+    requires day { IsWithin 0 376199 day }
+{
+    ask_until(rt, servers, |address| ask_use(rt, address, setter, day))
+}
+
+/// Asks the server at this address whether a login sent something lately. One that doesn't answer is logged where it is asked
+/// to stop it.
+fn ask_use<R: Clock + Net + Eprint + AllocGlobal>(
+    rt: &R,
+    address: SocketAddr,
+    setter: &Setter,
+    day: u32,
+) -> bool
+    requires setter { IsSetter setter.now }
+    requires day { IsWithin 0 376199 day }
+{
+    let logged = Logged::new(rt, LevelFilter::Off, Console(rt));
+    let mut link = link_to(rt, address, &logged);
+    has_sent(rt.alloc(), &mut link, &setter.login, day)
 }
 
 /// Asks the server at this address to stop a login, and prints what comes of it.
