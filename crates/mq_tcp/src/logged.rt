@@ -52,7 +52,7 @@ impl fmt::Display for Unanswered<'_> {
             return trouble.fmt(f);
         }
         match read_reply(self.body) {
-            Some(ReplyParts::Retry) => f.write_str("it has no memory for the request"),
+            Some(ReplyParts::Retry) => f.write_str("it can't take the request now"),
             Some(_) => f.write_str("it takes the request for none"),
             None => write!(f, "{} bytes that are no reply", self.body.len()),
         }

@@ -86,7 +86,7 @@ def limit_by_script(world, checks):
         ("a reset", [RESET] * 3, "Connection reset by peer (os error 104)"),
         ("bad", [BAD] * 3, "it takes the request for none"),
         ("bad, and then a reply of another number", [BAD, BAD, frame(b"\x85" + identity(2, **ADMIN))], None),
-        ("no memory", [RETRY] * 3, "it has no memory for the request"),
+        ("no memory", [RETRY] * 3, "it can't take the request now"),
         ("garbage, a reset and a cut", [b"HTTP/1.1 400", RESET, good[:-1]], "closed before its reply was whole"),
         ("a length of 0 and no more", [b"\x00\x00", b"", b""], "closed before its reply was whole"),
     ]:

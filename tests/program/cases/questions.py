@@ -195,7 +195,7 @@ BAD_PAGES = [
 ]
 
 # what is asked, the frame that is sent, and the bodies that do not answer it, with what the log has of them: a reply to something else it has not
-NO_MEMORY, NONE = "it has no memory for the request", "it takes the request for none"
+NO_MEMORY, NONE = "it can't take the request now", "it takes the request for none"
 UNANSWERED = [
     (ASK_2, LIMIT_OF_2, [
         # of another number, another run, another host

@@ -104,7 +104,7 @@ def statuses_by_script(world, checks):
     cut, other = "closed before its reply was whole", fault("quota service unavailable")
     for what, answer, wanted in [
         ("an answer", ANSWER, answers),
-        ("no memory for it", RETRY, lambda address: unavailable(address, "it has no memory for the request")),
+        ("no memory for it", RETRY, lambda address: unavailable(address, "it can't take the request now")),
         ("a request that is taken for none", BAD, lambda address: unavailable(address, "it takes the request for none")),
         # (what came is a reply, if not to this request: the log has nothing of it)
         ("another login's", frame(b"\x8b" + text(b"u") + number(0) + number(0) * 2 + number(3)), lambda _: other),

@@ -155,7 +155,7 @@ const ONE_OUTAGE: &[Case<'static>] = &[
             (2_001, 1, Brings::Closed),
         ],
         log: &[
-            "[ERROR mq_tcp::logged] quota server 127.0.0.1:7025: it has no memory for the request",
+            "[ERROR mq_tcp::logged] quota server 127.0.0.1:7025: it can't take the request now",
             AFTER_1,
             "[ERROR mq_tcp::logged] quota server 127.0.0.1:7025: 1 bytes that are no reply",
             AFTER_1,

@@ -36,7 +36,7 @@ fn the_last_trouble_is_logged(rt: HostRuntime) -> Result<(), Fail> {
     let mut lines = lines.as_slice().iter();
     let line = lines.next().expect(&rt, "a line");
     let wanted =
-        "[ERROR mq_tcp::logged] quota server 127.0.0.1:7025: it has no memory for the request";
+        "[ERROR mq_tcp::logged] quota server 127.0.0.1:7025: it can't take the request now";
     assert_text(&rt, line.as_str(), wanted);
     assert_that(&rt, lines.next().is_none(), "no further line");
     Ok(())
