@@ -1,16 +1,17 @@
--- The exit status of a report or a replay of which a word is at fault.
+-- The exit status of a status, a report or a replay of which a word is at fault.
 use Rattle.std.proofs.Common.{◌≡◌, ℕ, List, Option, None, Some, Result, Ok, Err, sym, subst}
 use Rattle.std.specs.Prelude.{IfSome, MatchResult}
 use Rattle.std.specs.Borrow.{Bor}
 use Rattle.mq_arguments.specs.declared.LoginArgument.{LoginArgument}
+use Rattle.mq_arguments.specs.declared.ProbeArguments.{ProbeArguments}
 use Rattle.mq_arguments.specs.declared.ReportArguments.{ReportArguments}
 use Rattle.mq_arguments.specs.declared.ReplayArguments.{ReplayArguments}
 use Rattle.mq_arguments.specs.declared.Arguments.{Arguments}
-use Rattle.mq_arguments.specs.declared.Arguments.TheVariants.{Replay, Report}
+use Rattle.mq_arguments.specs.declared.Arguments.TheVariants.{Probe, Replay, Report}
 use Rattle.mq_process.specs.Faults.{process_status}
-use Rattle.mq_process.specs.Refusals.{NamesLogin, ReportRefuses}
+use Rattle.mq_process.specs.Refusals.{NamesLogin, ProbeRefuses, ReportRefuses}
 use Rattle.mq_process.specs.declared.fault.ProcessFault.{ProcessFault}
-use Rattle.mq_process.specs.declared.fault.ProcessFault.TheVariants.{Login, Address}
+use Rattle.mq_process.specs.declared.fault.ProcessFault.TheVariants.{Host, Login, Address}
 use Rattle.mq_program.specs.Faults.{fault_status}
 use Rattle.mq_program.specs.Refusals.{IsRuleAlone, ReplayRefuses}
 use Rattle.mq_program.specs.declared.fault.ProgramFault.{ProgramFault}
@@ -30,6 +31,18 @@ for_report given A B step refuses = record {
   address = λ login no. step Address (refuses.address login no);
 }
 
+-- what follows for a text, where one is given
+for_text : (text : Option (Bor (List ℕ))) (P Q : Bor (List ℕ) → Type 0) → IfSome text P → ((t : Bor (List ℕ)) → P t → Q t) → IfSome text Q
+for_text None P Q given step = given
+for_text (Some text) P Q given step = step text given
+
+-- another way to say how a status ends
+for_probe : (given : ProbeArguments) (A B : ProcessFault → Type 0) → ((fault : ProcessFault) → A fault → B fault) → ProbeRefuses given A → ProbeRefuses given B
+for_probe given A B step refuses = record {
+  bad_host = for_text given.host _ _ refuses.bad_host (λ text ends no. step Host (ends no));
+  bad_address = λ host no. step Address (refuses.bad_address host no);
+}
+
 -- what follows for a rule that is at fault
 for_rule : (rule : Option (Bor (List ℕ))) (east west : ℕ) (A B : Type 0) → (A → B) → IfSome rule (λ text. ¬ IsRuleAlone east west text.now → A)
     → IfSome rule (λ text. ¬ IsRuleAlone east west text.now → B)
@@ -41,6 +54,12 @@ status_of : {F : Type 0} (status_by : F → ℕ) (asked : Result ℕ F) (status 
     → (fault : F) → asked ≡ Err fault → status ≡ status_by fault
 status_of status_by (Ok s) status ends fault is = absurd (let e = is in cc)
 status_of status_by (Err other) status ends fault is = let e = is in cc
+
+pub probe_ends : (all : Arguments) (given : ProbeArguments) (asked : Result ℕ ProcessFault) (status : ℕ) → all ≡ Probe given
+    → MatchResult asked (λ s. status ≡ s) (λ f. status ≡ process_status f) → ProbeRefuses given (λ f. asked ≡ Err f) → Refuses all status
+probe_ends all given asked status is ends refuses =
+    subst (λ words. Refuses words status) (sym is)
+    (for_probe given (λ f. asked ≡ Err f) (λ f. status ≡ process_status f) (status_of process_status asked status ends) refuses)
 
 pub report_ends : (all : Arguments) (given : ReportArguments) (asked : Result ℕ ProcessFault) (status : ℕ) → all ≡ Report given
     → MatchResult asked (λ s. status ≡ s) (λ f. status ≡ process_status f) → ReportRefuses given (λ f. asked ≡ Err f) → Refuses all status

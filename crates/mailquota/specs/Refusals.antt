@@ -1,10 +1,9 @@
 -- How the program ends where a word of its command line is at fault.
 use Rattle.std.specs.Prelude.{◌≡◌, ℕ, ⊤}
 use Rattle.mq_arguments.specs.declared.Arguments.{Arguments}
-use Rattle.mq_arguments.specs.declared.Arguments.TheVariants.{Replay, Status, Probe, Limit, Stop, Resume, Retire, Report}
+use Rattle.mq_arguments.specs.declared.Arguments.TheVariants.{Replay, Probe, Limit, Stop, Resume, Retire, Report}
 use Rattle.mq_process.specs.Faults.{process_status}
-use Rattle.mq_process.specs.declared.fault.ProcessFault.TheVariants.{Address}
-use Rattle.mq_process.specs.Refusals.{HasNoAddress, OrderRefuses, ReportRefuses, RetireRefuses, StatusRefuses}
+use Rattle.mq_process.specs.Refusals.{OrderRefuses, ProbeRefuses, ReportRefuses, RetireRefuses}
 use Rattle.mq_program.specs.Faults.{fault_status}
 use Rattle.mq_program.specs.Refusals.{ReplayRefuses}
 
@@ -14,8 +13,7 @@ Refuses (Replay given) status = ReplayRefuses given (λ fault. status ≡ fault_
 Refuses (Limit given) status = OrderRefuses given.host.now given.login given.servers (λ fault. status ≡ process_status fault)
 Refuses (Stop given) status = OrderRefuses given.host.now given.login given.servers (λ fault. status ≡ process_status fault)
 Refuses (Resume given) status = OrderRefuses given.host.now given.login given.servers (λ fault. status ≡ process_status fault)
-Refuses (Status given) status = StatusRefuses given.server (λ fault. status ≡ process_status fault)
-Refuses (Probe given) status = HasNoAddress given.servers → status ≡ process_status Address
+Refuses (Probe given) status = ProbeRefuses given (λ fault. status ≡ process_status fault)
 Refuses (Retire given) status = RetireRefuses given (λ fault. status ≡ process_status fault)
 Refuses (Report given) status = ReportRefuses given (λ fault. status ≡ process_status fault)
 Refuses _ status = ⊤

@@ -58,27 +58,20 @@ pub struct ServerArguments<'a> {
     pub connections: u32,
 }
 
-/// How the server is named that is asked whether it answers.
-#[derive(Clone, Copy, Debug, PartialEq)]
-pub enum ServerArgument<'a> {
-    /// Its numeric address and port.
-    Address(&'a str),
-    /// The file of its settings.
-    Config(&'a str),
-}
-
 /// What `status` is given where it asks servers by their addresses.
 #[derive(Debug, Drop)]
 pub struct ProbeArguments<'a> {
     /// The servers that are asked.
     pub servers: Servers<'a>,
+    /// The mail host of which it asks whether its requests are taken, or none.
+    pub host: Option<&'a str>,
 }
 
-/// What `status` is given.
+/// What `status` is given where it asks the server of a file of settings.
 #[derive(Clone, Copy, Debug, PartialEq)]
 pub struct StatusArguments<'a> {
-    /// The server that is asked.
-    pub server: ServerArgument<'a>,
+    /// The file of the server's settings.
+    pub config: &'a str,
 }
 
 /// What `audit` is given.

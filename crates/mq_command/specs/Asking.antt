@@ -13,8 +13,13 @@ use Rattle.mq_command.specs.declared.ask.AskFault.TheVariants.{Unavailable, Memo
 use Rattle.mq_link.specs.Link.{Brings, Tells}
 use Rattle.mq_link.specs.declared.link.Told.{Told}
 
--- whether a reply answers a limit, a retire, a usage or a list
+-- whether a reply answers a release, a limit, a retire, a usage or a list
 abbrev pub fits : Request → Reply → Bool
+fits (asks.Release id txn moment login) (says.Released other held) = same_id id other
+fits (asks.Release id txn moment login) (says.Closed other) = same_id id other
+fits (asks.Release id txn moment login) (says.Mismatch other) = same_id id other
+fits (asks.Release id txn moment login) (says.Conflict other) = same_id id other
+fits (asks.Release id txn moment login) (says.Old other) = same_id id other
 fits (asks.Limit id from_day cap login) (says.LimitSet other) = same_id id other
 fits (asks.Limit id from_day cap login) (says.Over other day used) = same_id id other
 fits (asks.Limit id from_day cap login) (says.Conflict other) = same_id id other

@@ -5,5 +5,6 @@ pub mod Printed
 pub mod Probing
 pub mod Report
 pub mod Stopping
+pub mod Unchanged
 pub mod Usage
 pub mod Vis

@@ -1,34 +1,68 @@
--- What asking once whether the quota server answers leads to.
-use Rattle.std.specs.Prelude.{◌≡◌, ◌⊎◌, ◌++◌, ◌∷◌, [], ℕ, List, true, Option, Result, Ok, Err, codes}
+-- What asking once whether the quota server answers leads to, and whether it takes a host's requests.
+use Rattle.std.specs.Prelude.{◌≡◌, ◌⊎◌, ◌+◌, ◌*◌, ◌/◌, ◌++◌, ◌∷◌, [], ℕ, List, true, Option, Result, Ok, Err, codes, min}
 use Rattle.std.specs.Io.KnownBytes.{Appends, Keeps}
+use Rattle.mq_request.specs.Escaped.{escaped}
+use Rattle.mq_request.specs.declared.bounds.TheConstants.{LAST_RUN, LAST_ORDINAL, FIRST_MOMENT}
 use Rattle.mq_request.specs.declared.message.Request.{Request}
 use Rattle.mq_request.specs.declared.message.Request.TheVariants as asks
 use Rattle.mq_request.specs.declared.message.Reply.{Reply}
+use Rattle.mq_request.specs.declared.message.Reply.TheVariants as says
 use Rattle.mq_command.specs.Asking.{IsMissed, Sends, fits}
 use Rattle.mq_link.specs.Link.{Brings, Tells}
-use Rattle.mq_command.specs.Orders.{PrintsLine}
+use Rattle.mq_command.specs.Orders.{Prints, PrintsLine}
 use Rattle.mq_stream.specs.Flow.{AppendsFront}
 use Rattle.mq_command.specs.declared.ask.AskFault.{AskFault}
 use Rattle.mq_command.specs.declared.ask.AskFault.TheVariants.{Unavailable, Memory}
+use Rattle.mq_command.specs.declared.probe.HostFault.{HostFault}
+use Rattle.mq_command.specs.declared.probe.HostFault.TheVariants.{Retired, Unanswered}
 use Rattle.mq_link.specs.declared.link.Told.{Told}
+
+-- What asking once leads to: a reply that answers came, or none did. Memory may be refused before the exchange, or for
+-- the reply that came.
+abbrev pub AsksOnce : Request → Option (List Told) → Option (List Told) → Result Reply AskFault → Type 0
+AsksOnce request old new (Ok reply) =
+    (one : Told) × Tells old new (one ∷ []) × Sends request one × Brings one.outcome reply × (fits request reply ≡ true)
+AsksOnce request old new (Err Unavailable) = (one : Told) × Tells old new (one ∷ []) × Sends request one × IsMissed request one
+AsksOnce request old new (Err Memory) =
+    (new ≡ old) ⊎ ((one : Told) × (reply : Reply) × Tells old new (one ∷ []) × Sends request one × Brings one.outcome reply)
 
 -- what is asked: what login `-` used on day 0, which is nothing
 abbrev pub probed : Request
 probed = asks.Usage (45 ∷ []) 0
 
--- What asking once leads to: a reply that answers came, or none did. Memory may be refused before the exchange, or for
--- the reply that came.
+-- What asking whether the server answers leads to: it does where a reply to the question comes.
 abbrev pub Probes : Option (List Told) → Option (List Told) → Result (Unit {0}) AskFault → Type 0
-Probes old new (Ok _) =
-    (one : Told) × (reply : Reply) × Tells old new (one ∷ []) × Sends probed one × Brings one.outcome reply
-    × (fits probed reply ≡ true)
-Probes old new (Err Unavailable) = (one : Told) × Tells old new (one ∷ []) × Sends probed one × IsMissed probed one
-Probes old new (Err Memory) =
-    (new ≡ old) ⊎ ((one : Told) × (reply : Reply) × Tells old new (one ∷ []) × Sends probed one × Brings one.outcome reply)
+Probes old new (Ok _) = (reply : Reply) × AsksOnce probed old new (Ok reply)
+Probes old new (Err fault) = AsksOnce probed old new (Err fault)
+
+-- the run of the next full ten minutes, in milliseconds, or the last one
+abbrev pub next_run : ℕ → ℕ
+next_run now = min ((now + 599999) / 600000 * 600000) LAST_RUN
+
+-- what a host is asked about at a time: the release of the last transaction of that run, of login `-` and the first moment,
+-- under the last number
+abbrev pub host_question : List ℕ → ℕ → Request
+host_question host now =
+    asks.Release (record { host = host; run = next_run now; number = LAST_ORDINAL }) LAST_ORDINAL FIRST_MOMENT (45 ∷ [])
+
+-- what a reply says of the host: its requests are taken, unless the run is retired
+abbrev pub host_verdict : Reply → Result (Unit {0}) HostFault
+host_verdict (says.Old id) = Err (Retired id.run)
+host_verdict _ = Ok tt
+
+-- What asking about a host leads to: what the reply says that answers, or why there is none.
+abbrev pub AsksHost : List ℕ → ℕ → Option (List Told) → Option (List Told) → Result (Unit {0}) HostFault → Type 0
+AsksHost host now old new ended =
+    ((reply : Reply) × AsksOnce (host_question host now) old new (Ok reply) × (ended ≡ host_verdict reply))
+    ⊎ ((fault : AskFault) × AsksOnce (host_question host now) old new (Err fault) × (ended ≡ Err (Unanswered fault)))
 
 -- the line of a server that answers
 abbrev pub answers_line : List ℕ → List ℕ
 answers_line server = codes "quota server " ++ server ++ codes " answers\n"
+
+-- the lines of a server that takes a host's requests
+abbrev pub taken_lines : List ℕ → List ℕ → List ℕ
+taken_lines server host = answers_line server ++ codes "requests of host " ++ escaped host ++ codes " are taken\n"
 
 -- the line of settings that are right
 abbrev pub settings_line : List ℕ
@@ -39,10 +73,10 @@ abbrev pub PrintsAnswer : List ℕ → Option (List ℕ) → Option (List ℕ) �
 PrintsAnswer server old new (Ok _) status = PrintsLine (answers_line server) old new status
 PrintsAnswer server old new (Err fault) status = (status ≡ 1) × Keeps old new
 
--- What a check of settings that are right leads to: their line, then whether the server answers; where the line can't be
--- printed the server isn't asked.
-abbrev pub Checks : List ℕ → Option (List Told) → Option (List Told) → Option (List ℕ) → Option (List ℕ) → ℕ → Type 0
-Checks server told told' old new status =
+-- What a check of settings that are right leads to: their line, then whether the server takes their host's requests; where
+-- the line can't be printed the server isn't asked.
+abbrev pub Checks : List ℕ → List ℕ → ℕ → Option (List Told) → Option (List Told) → Option (List ℕ) → Option (List ℕ) → ℕ → Type 0
+Checks server host now told told' old new status =
     ((status ≡ 1) × (told' ≡ told) × AppendsFront old new settings_line)
-    ⊎ ((mid : Option (List ℕ)) × (ended : Result (Unit {0}) AskFault) × Appends old mid settings_line
-    × Probes told told' ended × PrintsAnswer server mid new ended status)
+    ⊎ ((mid : Option (List ℕ)) × (ended : Result (Unit {0}) HostFault) × Appends old mid settings_line
+    × AsksHost host now told told' ended × Prints (λ _. taken_lines server host) mid new ended status)

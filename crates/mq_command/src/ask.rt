@@ -37,11 +37,16 @@ impl From<AllocError> for AskFault {
     }
 }
 
-/// Whether a reply answers a limit, a retire, a usage or a list.
+/// Whether a reply answers a release, a limit, a retire, a usage or a list.
 fn fits(request: &Request, reply: &Reply) -> bool
     ensures { result ≡ fits request.now reply.now }
 {
     match (request, reply) {
+        (Request::Release { id, .. }, Reply::Released { id: other, .. }) => id.is_same(other),
+        (Request::Release { id, .. }, Reply::Closed { id: other }) => id.is_same(other),
+        (Request::Release { id, .. }, Reply::Mismatch { id: other }) => id.is_same(other),
+        (Request::Release { id, .. }, Reply::Conflict { id: other }) => id.is_same(other),
+        (Request::Release { id, .. }, Reply::Old { id: other }) => id.is_same(other),
         (Request::Limit { id, .. }, Reply::LimitSet { id: other }) => id.is_same(other),
         (Request::Limit { id, .. }, Reply::Over { id: other, .. }) => id.is_same(other),
         (Request::Limit { id, .. }, Reply::Conflict { id: other }) => id.is_same(other),

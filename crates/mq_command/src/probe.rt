@@ -1,15 +1,49 @@
-//! `status` and `filter --check`: whether the quota server answers.
+//! `status` and `filter --check`: whether the quota server answers, and whether it takes a host's requests.
 ghost use Rattle.std.specs.Prelude.{◌≡◌, IfOk, Result as AnyResult, string_bytes};
-ghost use Rattle.mq_command.specs.Probing.{Checks, PrintsAnswer, Probes, answers_line};
+ghost use Rattle.mq_request.specs.Range.{IsHost, IsRequest, IsRun};
+ghost use Rattle.mq_command.specs.Orders.{Prints};
+ghost use Rattle.mq_command.specs.Probing.{AsksHost, AsksOnce, Checks, PrintsAnswer, Probes, answers_line, next_run};
+ghost use Rattle.mq_command.specs.Probing.{host_question, host_verdict, taken_lines};
 ghost use Rattle.mq_command.specs.declared.ask.AskFault.{AskFault as AnyAskFault};
+ghost use Rattle.mq_command.specs.declared.probe.HostFault.{HostFault as AnyHostFault};
 
 use crate::ask::{AskFault, try_once};
+use crate::printed::login_text;
 use crate::telling::{say, tell, tell_line};
 use mq_frame::encode_request;
 use mq_link::Link;
-use mq_request::{Login, Request};
+use mq_request::bounds::{FIRST_MOMENT, LAST_ORDINAL, LAST_RUN};
+use mq_request::{Host, Id, Login, Reply, Request};
 use std::alloc::{AllocError, Global};
 use std::io::Write;
+use thiserror::Error;
+
+/// How far apart the runs are under which a host is asked about: ten minutes, in milliseconds.
+const STEP: u64 = 600_000;
+
+/// Why it isn't known that a server takes a host's requests.
+#[derive(Clone, Copy, Debug, PartialEq, Error)]
+pub enum HostFault {
+    /// This run of the host is retired, and so is each earlier one.
+    #[error("requests of this host are refused, run {0} is retired: correct its clock, or give it a new name")]
+    Retired(u64),
+    #[error("{0}")]
+    Unanswered(AskFault),
+}
+
+/// Sends a request once, and gives the reply that answers it.
+fn ask_once<L: Link>(alloc: Global, link: &mut L, request: &Request) -> Result<Reply, AskFault>
+    requires { IsRequest request.now }
+    ensures { AsksOnce request.now (L.told link.old) (L.told link.new) result }
+{
+    let mut frame = Vec::new(alloc);
+    encode_request(request, &mut frame)?;
+    let mut body = Vec::new(alloc);
+    match try_once(alloc, link, request, frame.as_slice(), &mut body)? {
+        Some(reply) => Ok(reply),
+        None => Err(AskFault::Unavailable),
+    }
+}
 
 /// Asks the server once what login `-` used on day 0. It is a few rows to look for, and changes nothing.
 fn probe<L: Link>(alloc: Global, link: &mut L) -> Result<(), AskFault>
@@ -20,12 +54,65 @@ fn probe<L: Link>(alloc: Global, link: &mut L) -> Result<(), AskFault>
         Err(_) => return Err(AskFault::Memory),
     };
     let request = Request::Usage { login, day: 0 };
-    let mut frame = Vec::new(alloc);
-    encode_request(&request, &mut frame)?;
-    let mut body = Vec::new(alloc);
-    match try_once(alloc, link, &request, frame.as_slice(), &mut body)? {
-        Some(_reply) => Ok(()),
-        None => Err(AskFault::Unavailable),
+    match ask_once(alloc, link, &request) {
+        Ok(_reply) => Ok(()),
+        Err(fault) => Err(fault),
+    }
+}
+
+/// The run of the next full ten minutes, or the last one. Both are milliseconds since 1970.
+fn next_run(now: u64) -> u64
+    requires { IsRun now }
+    ensures run { result ≡ next_run now }
+    ensures in_range { IsRun result }
+{
+    ((now + (STEP - 1)) / STEP * STEP).min(LAST_RUN)
+}
+
+/// What a host is asked about at a time: to give back what its last transaction holds, which no filter comes to, and so is
+/// nothing. A run that began before it is retired if this one is. Asked again within ten minutes it is the same request, so
+/// the ledger keeps one answer.
+fn host_question(alloc: Global, host: &Host, now: u64) -> Result<Request, AllocError>
+    requires host { IsHost host.now }
+    requires now { IsRun now }
+    ensures question { IfOk result (λ request. request ≡ host_question host.now now) }
+    ensures in_range { IfOk result IsRequest }
+{
+    Ok(Request::Release {
+        id: Id {
+            host: host.clone()?,
+            run: next_run(now),
+            number: LAST_ORDINAL,
+        },
+        txn: LAST_ORDINAL,
+        moment: FIRST_MOMENT,
+        login: Login::from_slice(alloc, b"-")?,
+    })
+}
+
+/// What a reply says of a host: its requests are taken, unless the run is retired.
+fn host_verdict(reply: &Reply) -> Result<(), HostFault>
+    ensures { result ≡ host_verdict reply.now }
+{
+    match reply {
+        Reply::Old { id } => Err(HostFault::Retired(id.run)),
+        _ => Ok(()),
+    }
+}
+
+/// Asks the server once whether it takes a host's requests.
+fn ask_host<L: Link>(alloc: Global, link: &mut L, host: &Host, now: u64) -> Result<(), HostFault>
+    requires host { IsHost host.now }
+    requires now { IsRun now }
+    ensures { AsksHost host.now now (L.told link.old) (L.told link.new) result }
+{
+    let request = match host_question(alloc, host, now) {
+        Ok(request) => request,
+        Err(_) => return Err(HostFault::Unanswered(AskFault::Memory)),
+    };
+    match ask_once(alloc, link, &request) {
+        Ok(reply) => host_verdict(&reply),
+        Err(fault) => Err(HostFault::Unanswered(fault)),
     }
 }
 
@@ -37,6 +124,17 @@ fn answers_line(alloc: Global, server: &str) -> Result<String, AllocError>
     line.push_str(server)?;
     line.push_str(" answers\n")?;
     Ok(line)
+}
+
+/// The lines of a server that takes a host's requests.
+fn taken_lines(alloc: Global, server: &str, host: &Host) -> Result<String, AllocError>
+    ensures { IfOk result (λ lines. string_bytes lines ≡ taken_lines server.now host.now) }
+{
+    let mut lines = answers_line(alloc, server)?;
+    lines.push_str("requests of host ")?;
+    lines.push_str(login_text(alloc, host.as_slice())?.as_str())?;
+    lines.push_str(" are taken\n")?;
+    Ok(lines)
 }
 
 /// Asks the server once, and prints on `output` that it answers, or says on `errors` why it doesn't. `server` is how it is
@@ -59,16 +157,48 @@ pub fn run_probe<L: Link, W: Write, E: Write>(
     }
 }
 
-/// Prints on `output` that settings are right, and whether the server answers that they name, or says on `errors` why it
-/// doesn't. The result is the exit status, 0 or 1.
+/// Asks the server once whether it takes the requests of a host's filter that starts now, and prints on `output` that it
+/// answers and takes them, or says on `errors` why that isn't known or that the host's runs are retired. `server` is how it is
+/// named there. The result is the exit status, 0 or 1.
+///
+/// The server's ledger keeps one answer for each ten minutes in which a host is asked about, and is the same otherwise. `host`
+/// has 1 to 64 bytes, and `now` is milliseconds since 1970, 1 to 281,474,976,710,655.
+pub fn run_host_probe<L: Link, W: Write, E: Write>(
+    alloc: Global,
+    link: &mut L,
+    server: &str,
+    host: &Host,
+    now: u64,
+    output: &mut W,
+    errors: &mut E,
+) -> u8
+    requires host { IsHost host.now }
+    requires now { IsRun now }
+    ensures probes { (ended : AnyResult (Unit {0}) AnyHostFault)
+        × AsksHost host.now now (L.told link.old) (L.told link.new) ended
+        × Prints (λ _. taken_lines server.now host.now) (W.contents output.old) (W.contents output.new) ended result }
+    ensures quiet { result ≡ 0 → errors.new ≡ errors.old }
+{
+    match ask_host(alloc, link, host, now) {
+        Ok(()) => tell_line(taken_lines(alloc, server, host), output, errors),
+        Err(fault) => say(errors, &fault),
+    }
+}
+
+/// Prints on `output` that settings are right, and whether the server that they name takes the requests of their host's filter
+/// if it starts now, as [`run_host_probe`] does. The result is the exit status, 0 or 1.
 pub fn run_check<L: Link, W: Write, E: Write>(
     alloc: Global,
     link: &mut L,
     server: &str,
+    host: &Host,
+    now: u64,
     output: &mut W,
     errors: &mut E,
 ) -> u8
-    ensures checks { Checks server.now (L.told link.old) (L.told link.new) (W.contents output.old)
+    requires host { IsHost host.now }
+    requires now { IsRun now }
+    ensures checks { Checks server.now host.now now (L.told link.old) (L.told link.new) (W.contents output.old)
         (W.contents output.new) result }
     ensures quiet { result ≡ 0 → errors.new ≡ errors.old }
 {
@@ -76,5 +206,5 @@ pub fn run_check<L: Link, W: Write, E: Write>(
     if printed != 0 {
         return printed;
     }
-    run_probe(alloc, link, server, output, errors)
+    run_host_probe(alloc, link, server, host, now, output, errors)
 }

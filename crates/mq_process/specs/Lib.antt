@@ -1,4 +1,5 @@
 pub mod Faults
+pub mod Questions
 pub mod Refusals
 pub mod Servers
 pub mod Settings

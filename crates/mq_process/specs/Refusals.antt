@@ -1,12 +1,11 @@
 -- How a subcommand that asks a server ends where a word of it is at fault.
-use Rattle.std.specs.Prelude.{◌≡◌, ◌⊎◌, ℕ, List, [], ◌∷◌, Option, None, Some, IfSome, IsSomeAnd, ⊤}
+use Rattle.std.specs.Prelude.{◌≡◌, ◌⊎◌, ℕ, List, [], ◌∷◌, Option, None, Some, IfSome, IsSomeAnd}
 use Rattle.std.specs.Net.Grammar.{IsSocketText}
 use Rattle.std.specs.declared.net.SocketAddr.{SocketAddr}
 use Rattle.mq_request.specs.Range.{IsHost, IsLogin}
 use Rattle.mq_arguments.specs.declared.LoginArgument.{LoginArgument}
 use Rattle.mq_arguments.specs.declared.LoginArgument.TheVariants.{Reported, Printed}
-use Rattle.mq_arguments.specs.declared.ServerArgument.{ServerArgument}
-use Rattle.mq_arguments.specs.declared.ServerArgument.TheVariants as server
+use Rattle.mq_arguments.specs.declared.ProbeArguments.{ProbeArguments}
 use Rattle.mq_arguments.specs.declared.RetireArguments.{RetireArguments}
 use Rattle.mq_arguments.specs.declared.ReportArguments.{ReportArguments}
 use Rattle.mq_command.specs.Printed.{IsLoginText, IsTextOf}
@@ -44,10 +43,10 @@ pub record OrderRefuses (host : List ℕ) (login : LoginArgument) (servers : Lis
   pub bad_login : IsHost host → ¬ NamesLogin login → EndsBy Login
   pub bad_address : IsHost host → NamesLogin login → HasNoAddress servers → EndsBy Address
 
--- how `status` ends where a word of it is at fault
-abbrev pub StatusRefuses : ServerArgument → (ProcessFault → Type 0) → Type 0
-StatusRefuses (server.Address text) EndsBy = IsNoAddress text.now → EndsBy Address
-StatusRefuses (server.Config file) EndsBy = ⊤
+-- how `status` of addresses ends where a word of it is at fault: the host goes before the addresses
+pub record ProbeRefuses (given : ProbeArguments) (EndsBy : ProcessFault → Type 0) : Type 0 where
+  pub bad_host : IfSome given.host (λ host. ¬ IsHost host.now → EndsBy Host)
+  pub bad_address : IfSome given.host (λ host. IsHost host.now) → HasNoAddress given.servers → EndsBy Address
 
 -- how `retire` ends where a word of it is at fault: the host goes before the address
 pub record RetireRefuses (given : RetireArguments) (EndsBy : ProcessFault → Type 0) : Type 0 where

@@ -24,7 +24,7 @@ pub use asking::{address_of, checked, first_id, link_to, login_of, names_login, 
 pub use clock::{elapsed, run_number};
 pub use fault::ProcessFault;
 pub use moment::{day, moment_or_now};
-pub use probing::{Question, ask_once, probe, probe_text};
+pub use probing::{Question, ask_once, probe};
 pub use refusing::{end_process, refuse};
 pub use servers::{ask_each, ask_until, check_addresses};
 pub use settings::{filter_settings, server_settings};

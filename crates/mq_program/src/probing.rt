@@ -1,22 +1,20 @@
 //! `status`: whether the quota server answers, and what its ledger holds where it doesn't.
-ghost use Rattle.std.specs.Prelude.{◌≡◌, ℕ, Err, IfOk};
+ghost use Rattle.std.specs.Prelude.{◌≡◌, ℕ, IfOk};
 ghost use Rattle.sqlite.specs.Files.{file_state};
 ghost use Rattle.sqlite.specs.Held.{state};
 ghost use Rattle.sqlite.specs.WalFiles.{image_at};
 ghost use Rattle.mq_store.specs.Soundness.{HasKept, IsSound};
 ghost use Rattle.mq_program.specs.Describing.{Describes, DescribesFile};
 ghost use Rattle.mq_program.specs.Opened.{MeansFile, path_in};
-ghost use Rattle.mq_process.specs.Refusals.{StatusRefuses};
 ghost use Rattle.mq_process.specs.Settings.{AreInRange};
-ghost use Rattle.mq_program.specs.declared.fault.ProgramFault.TheVariants.{Process};
 
 use crate::describing::describe_ledger;
 use crate::fault::{ProgramFault, or_memory};
 use crate::store::{ledger_of_settings, let_go, log_cause, path_of};
 use log::sink::Console;
 use log::{Log, Logged};
-use mq_arguments::{ServerArgument, StatusArguments};
-use mq_process::{probe, probe_text, server_settings};
+use mq_arguments::StatusArguments;
+use mq_process::{Question, probe, server_settings};
 use mq_settings::ServerSettings;
 use mq_store::SqlLedger;
 use sqlite::{Alter, FileFrom, FileStore, Start};
@@ -26,8 +24,8 @@ use std::{fs, io};
 /// The exit status where no server answers and none has the ledger's file open.
 const NOT_RUNNING: u8 = 3;
 
-/// `status`: asks the quota server once, and prints that it answers. Where the words name its settings and it doesn't, and
-/// no server has the file of its ledger open, prints what that holds; the status is 3 then.
+/// `status` of settings: asks their quota server once, and prints that it answers. Where it doesn't, and no server has the file
+/// of its ledger open, prints what that holds; the status is 3 then.
 ///
 /// `start` stands for what the file of the settings and its log hold before the call.
 pub fn status<E: Write, S: Start>(
@@ -35,24 +33,9 @@ pub fn status<E: Write, S: Start>(
     given: StatusArguments<'_>,
     start: S,
     errors: &mut E,
-) -> Result<u8, ProgramFault>
-    ensures { StatusRefuses given.entry.server (λ fault. result ≡ Err (Process fault)) }
-{
-    match given.server {
-        ServerArgument::Address(text) => Ok(probe_text(rt, text, errors)?),
-        ServerArgument::Config(file) => status_of_settings(rt, file, start, errors),
-    }
-}
-
-/// Asks the server of the settings in a file once; where it doesn't answer, prints what the file of its ledger holds.
-fn status_of_settings<E: Write, S: Start>(
-    rt: &HostRuntime,
-    file: &str,
-    start: S,
-    errors: &mut E,
 ) -> Result<u8, ProgramFault> {
-    let settings = server_settings(rt, file)?;
-    let status = probe(rt, settings.listen, errors)?;
+    let settings = server_settings(rt, given.config)?;
+    let status = probe(rt, settings.listen, Question::Status, errors)?;
     if status == 0 {
         return Ok(0);
     }

@@ -76,6 +76,8 @@ pub enum Need {
     Unless(&'static str),
     /// It is one of the options of this group, of which at most one is given.
     OneOf(&'static str),
+    /// It may not be given where the option of this name is.
+    Without(&'static str),
 }
 
 /// An option of a subcommand.
@@ -119,7 +121,7 @@ const CONFIG: CommandOption = CommandOption {
 const CHECK: CommandOption = CommandOption {
     name: "check",
     value: "",
-    help: "Check the settings, ask whether the server answers, and end",
+    help: "Check the settings, ask whether the server takes this host's requests, and end",
     takes: Takes::Nothing,
     need: Need::Optional,
     default: None,
@@ -140,6 +142,15 @@ const ITS_SETTINGS: CommandOption = CommandOption {
     help: "Settings of the quota server: its address is asked, and its ledger's file is read if it doesn't answer",
     takes: Takes::Text,
     need: Need::OneOf(ASKED),
+    default: None,
+};
+
+const PROBED_HOST: CommandOption = CommandOption {
+    name: "host",
+    value: "HOST",
+    help: "Mail host: also ask whether the requests of its filter would be taken, if it started now",
+    takes: Takes::Text,
+    need: Need::Without("config"),
     default: None,
 };
 
@@ -409,7 +420,7 @@ pub const SUBCOMMANDS: [Subcommand; 14] = [
     Subcommand {
         name: "status",
         about: "Say whether the quota server answers; with --config also what its ledger's file holds if it doesn't",
-        options: &[ANY_SERVER, ITS_SETTINGS],
+        options: &[ANY_SERVER, PROBED_HOST, ITS_SETTINGS],
         one_of: Some(ASKED),
     },
     Subcommand {

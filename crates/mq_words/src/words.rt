@@ -13,8 +13,8 @@ use clap::{Arg, ArgAction, ArgGroup, ArgMatches, Command, Error, value_parser};
 use mq_arguments::{
     Arguments, AuditArguments, DayArguments, FilterArguments, ForgetArguments, InitArguments,
     LimitArguments, LimitsArguments, LoginArgument, ProbeArguments, ReplayArguments,
-    ReportArguments, ResumeArguments, RetireArguments, ServerArgument, ServerArguments, Servers,
-    StatusArguments, StopArguments,
+    ReportArguments, ResumeArguments, RetireArguments, ServerArguments, Servers, StatusArguments,
+    StopArguments,
 };
 use std::alloc::{AllocError, Global};
 
@@ -150,6 +150,7 @@ fn argument_of<'a>(alloc: Global, option: &CommandOption) -> Result<Arg<'a>, All
         Need::Required => argument.required(true),
         Need::Unless(other) => argument.required_unless_present(other)?,
         Need::OneOf(group) => argument.group(group)?,
+        Need::Without(other) => argument.conflicts_with(other)?,
     };
     let argument = match option.takes {
         Takes::Nothing => return Ok(argument.action(ArgAction::SetTrue)),
@@ -256,11 +257,10 @@ fn status_of<'a>(alloc: Global, found: &ArgMatches<'a>) -> Result<Arguments<'a>,
     ensures { IfOk result IsArguments }
 {
     Ok(match found.get_str("config") {
-        Some(file) => Arguments::Status(StatusArguments {
-            server: ServerArgument::Config(file),
-        }),
+        Some(file) => Arguments::Status(StatusArguments { config: file }),
         None => Arguments::Probe(ProbeArguments {
             servers: servers_of(alloc, found)?,
+            host: found.get_str("host"),
         }),
     })
 }

@@ -3,13 +3,15 @@ import os
 import re
 import stat
 import subprocess
+import time
 
 from ends import (
-    DRIP, IS_THERE, LOCKED, NO_DATABASE, NO_FILE, RESET, SILENCE, TOP, Script, Server, crowded_port, fault, ledger_settings, nobody_there, of_settings,
-    of_store, refusal, soon, toml, unavailable, unreached,
+    DRIP, IS_THERE, LOCKED, NO_DATABASE, NO_FILE, NO_PORT, RESET, SILENCE, TOP, Script, Server, bad_address, crowded_port, fault, ledger_settings, nobody_there,
+    of_settings, of_store, refusal, soon, toml, unavailable, unreached,
 )
 from rows import rows_in
-from wire import BAD, RETRY, frame, limit, number, page_reply, reserve, settle, text
+from smtpd import clock
+from wire import BAD, RETRY, frame, granted, limit, number, old, page_reply, release, reserve, retire, retired, settle, text
 
 ASKED = frame(b"\x05" + text(b"-") + number(0))
 ANSWER = frame(b"\x8b" + text(b"-") + number(0) + number(0) * 2 + number(3))
@@ -23,6 +25,9 @@ def run(world, checks):
     statuses(world, checks)
     statuses_by_script(world, checks)
     statuses_of_a_file(world, checks)
+    hosts(world, checks)
+    hosts_by_script(world, checks)
+    hosts_in_words(world, checks)
     checked_filters(world, checks)
     devices_that_are_full(world, checks)
     monitoring(world, checks)
@@ -30,6 +35,36 @@ def run(world, checks):
 
 def answers(address, before=b""):
     return 0, before + f"quota server {address} answers\n".encode(), ""
+
+
+def takes(address, before=b"", host="mx1"):
+    """What is told of a server that takes a host's requests."""
+    return 0, before + f"quota server {address} answers\nrequests of host {host} are taken\n".encode(), ""
+
+
+def refuses(run, before=b""):
+    return fault(f"requests of this host are refused, run {run} is retired: correct its clock, or give it a new name", before)
+
+
+# a host is asked about by the last number and transaction of a run, that of the next full ten minutes
+LAST, STEP = 2**32 - 1, 600_000
+
+
+def asked_of_host(run, host=b"mx1"):
+    return release(LAST, txn=LAST, login=b"-", host=host, run=run)
+
+
+def run_of(heard):
+    """The run of a question about a host, and whether it is such a question, of a moment that is now."""
+    place = 4 + heard[3]
+    run = int.from_bytes(heard[place:place + 8], "big")
+    return run, heard == asked_of_host(run) and run % STEP == 0 and -1_000 < run - clock() < STEP
+
+
+def wait_past_the_step():
+    """Waits, if a full ten minutes are near: then two questions would have two runs."""
+    while clock() % STEP > STEP - 30_000:
+        time.sleep(1)
 
 
 def inits(world, checks):
@@ -181,18 +216,105 @@ def statuses_of_a_file(world, checks):
     checks.equal("status changes no row of the file", rows_in(path), rows)
 
 
+def hosts(world, checks):
+    """Whether a host's requests are taken: they aren't where a retire is ahead of the clock. Each ten minutes leave one answer."""
+    wait_past_the_step()
+    path = f"{world.folder}/of hosts"
+    with Server(world, words=["--create"], store=path) as server:
+        address, now = server.address, clock()
+        server.ask(reserve(1, host=b"mx1", run=now) + limit(2, 1, 9, host=b"mx1", run=now))
+        words = ["status", "--server", address, "--host"]
+        checks.equal("status of a host that nobody retired", world.run(*words, "mx1"), takes(address))
+        checks.equal("the same again, and of another host", (world.run(*words, "mx1"), world.run(*words, "b")), (takes(address), takes(address, host="b")))
+        # as the restart of smtpd does
+        checks.equal("retire by the clock", world.run("retire", "--server", address, "--host", "b"), (0, b"retired\n", ""))
+        checks.equal("status of a host that was just retired", world.run(*words, "b"), takes(address, host="b"))
+        for day in ("0", "1"):
+            lines = b"      0       1       9 u\n" if day == "1" else b""
+            checks.equal(f"a report of day {day} has nothing of it", world.run("report", "--server", address, "--day", day), (0, lines, ""))
+        checks.equal("a recipient of the host's run still", server.ask(reserve(3, host=b"mx1", run=now)), granted(3, 2, host=b"mx1", run=now))
+        ahead, step = clock() + 50 * 60_000, -(-clock() // STEP) * STEP
+        checks.equal("a retire that is 50 minutes ahead", server.ask(retire(1, host=b"c", run=ahead)), retired(1, host=b"c", run=ahead))
+        checks.equal("a recipient of a filter that starts now", server.ask(reserve(1, host=b"c", run=clock()))[2:3], old(1)[2:3])
+        came = world.run(*words, "c")
+        checks.equal("status of that host", came, refuses(step))
+        check = ["filter", "--config", world.filter_file(address, host="c"), "--check"]
+        checks.equal("filter --check of that host", world.run(*check), refuses(step, SETTINGS_ARE_RIGHT))
+        checks.equal("status of another one", world.run(*words, "mx1"), takes(address))
+        checks.equal("a server that only is asked whether it answers", world.run("status", "--server", address), answers(address))
+        server.process.kill()
+        server.status()
+    rows = rows_in(path)
+    asked = [(host, run, seq) for _, host, run, seq, _, _ in rows["answer"] if seq == LAST]
+    checks.equal("an answer for each host that isn't refused", sorted(asked), [(b"b", step, LAST), (b"mx1", step, LAST)])
+    nothing = [row for row in rows["trans"] if row[2] == LAST]
+    wanted = [(host, step, LAST, b"-", 86_400, 1, 0, 0, 1) for host in (b"b", b"mx1")]
+    checks.equal("a transaction for each, which holds nothing", nothing, wanted)
+    checks.equal("no use of a login, and no limit", (rows["usage"], rows["ceiling"]), ([(b"u", 1, 0, 2)], [(b"u", 1, 9)]))
+    today = int(time.time()) // 86_400
+    config = ledger_settings(world, path)
+    came = world.run("forget", "--config", config, "--before", str(today), "--into", f"{path}.new")
+    checks.equal("forget leaves none of them", (came, [row for row in rows_in(f"{path}.new")["answer"] if row[3] == LAST]), ((0, b"kept answers=3 of 7, limits=1\n", ""), []))
+
+
+def hosts_by_script(world, checks):
+    """What is asked, once, and what each answer says."""
+    def by(kind, more=b"", other=False):
+        return lambda heard: frame(kind + (b"\x01b" if other else heard[3:5 + heard[3] - 1]) + heard[4 + heard[3]:16 + heard[3]] + more)
+
+    for what, answer, wanted in [
+        ("released", by(b"\x84", number(0)), takes), ("closed", by(b"\x87"), takes), ("mismatch", by(b"\x88"), takes), ("conflict", by(b"\x8a"), takes),
+        ("old", by(b"\x90"), refuses), ("old, of another host", by(b"\x90", other=True), None), ("released, of another host", by(b"\x84", number(0), True), None),
+        ("granted", by(b"\x81", number(1)), None), ("too many", by(b"\x89", number(0)), None), ("settled", by(b"\x83", number(1)), None), ("retired", by(b"\x8f"), None),
+        ("what is used", ANSWER, None), ("no memory for it", RETRY, "it can't take the request now"), ("a request that is taken for none", BAD, "it takes the request for none"),
+        ("closed at once", b"", "closed before its reply was whole"), ("a reset", RESET, "Connection reset by peer (os error 104)"),
+    ]:
+        for name, before in (("status", b""), ("filter", SETTINGS_ARE_RIGHT)):
+            with Script([answer, b"", b""]) as server:
+                words = {"status": ["--server", server.address, "--host", "mx1"], "filter": ["--check", "--config", world.filter_file(server.address, tries=3)]}[name]
+                came = world.run(name, *words)
+                address = server.address
+            [heard] = server.heard
+            run, is_right = run_of(heard)
+            # (another reply is one, and so the log has nothing of it)
+            told = {takes: takes(address, before), refuses: refuses(run, before), None: fault("quota service unavailable", before)}.get(wanted) or unavailable(address, wanted, before)
+            checks.equal(f"{name} of a host, {what}: what is told, and whether it was asked", (came, is_right), (told, True))
+    with nobody_there() as address:
+        checks.equal("status of a host, nobody there", world.run("status", "--server", address, "--host", "mx1"), unavailable(address))
+
+
+def hosts_in_words(world, checks):
+    """A host that is none goes before an address that is none, and keeps each server from being asked."""
+    bad = 2, b"", "mailquota: bad host\n"
+    with Script([b""]) as server:
+        for host in ("", "a_b", "a" * 65, "m\u00e4il"):
+            checks.equal(f"status of host {host!r}", world.run("status", "--server", server.address, "--host", host), bad)
+        checks.equal("a bad host and a bad address", world.run("status", "--server", "127.0.0.1", "--host", "a_b"), bad)
+        checks.equal("a bad address", world.run("status", "--server", "127.0.0.1", "--host", "a"), bad_address("127.0.0.1", NO_PORT))
+        came = world.run("status", "--config", world.new_file(""), "--host", "a")
+        checks.holds("status of settings and a host", came[0] == 2 and came[2].startswith("error: "), "status 2, and a line that begins with `error: `", came)
+        checks.equal("what was sent", server.heard, [])
+    longest = "mx-1." + "a" * 59
+    with Server(world) as first, Server(world) as second:
+        came = world.run("status", "--server", first.address, "--server", second.address, "--host", longest)
+        told = [f"server {it.address}:\n".encode() + takes(it.address, host=longest)[1] for it in (first, second)]
+        checks.equal("status of a host at two", came, (0, b"".join(told), ""))
+        ahead = clock() + 50 * 60_000
+        second.ask(retire(1, host=b"a", run=ahead))
+        came = world.run("status", "--server", first.address, "--server", second.address, "--host", "a")
+        printed = f"server {first.address}:\n".encode() + takes(first.address, host="a")[1] + f"server {second.address}:\n".encode()
+        checks.holds("status of a host that one of two refuses", came[:2] == (1, printed) and came[2].endswith(f"not done by server {second.address}\n"), (1, printed), came)
+
+
 def checked_filters(world, checks):
     def check(address, *words, **settings):
         return world.run("filter", "--config", world.filter_file(address, **settings), "--check", *words)
 
     with Server(world) as server:
-        checks.equal("filter --check", check(server.address), answers(server.address, SETTINGS_ARE_RIGHT))
-        checks.equal("filter --check --run 7, with a log of nothing", check(server.address, "--run", "7", log="off"), answers(server.address, SETTINGS_ARE_RIGHT))
+        checks.equal("filter --check", check(server.address), takes(server.address, SETTINGS_ARE_RIGHT))
+        checks.equal("filter --check --run 7, with a log of nothing", check(server.address, "--run", "7", log="off"), takes(server.address, SETTINGS_ARE_RIGHT))
     with nobody_there() as address:
         checks.equal("filter --check, nobody there", check(address), unavailable(address, output=SETTINGS_ARE_RIGHT))
-    with Script([ANSWER, b"", b""]) as server:
-        came = check(server.address, tries=3)
-    checks.equal("filter --check asks once", (came, server.heard), (answers(server.address, SETTINGS_ARE_RIGHT), [ASKED]))
     host = "setting host: bad value"
     for what, settings, said, log in [
         ("a bad host", {"host": "a_b"}, host, f"{host}, it has to be 1 to 64 letters, digits, '.' and '-', in quotes"),
@@ -251,8 +373,13 @@ def monitoring(world, checks):
 
     with Server(world) as server:
         came = of(nagios, server.address)
-        checks.equal("the manual's line for Nagios", (came.returncode, came.stdout), (0, f"quota server {server.address} answers\n"))
+        checks.equal("the manual's line for Nagios", (came.returncode, came.stdout), (0, takes(server.address, host="mx1.example.org")[1].decode()))
         checks.equal("the manual's line for Prometheus", counted(server.address), (0, "", "", "mailquota_up 1\n"))
+        ahead = clock() + 50 * 60_000
+        server.ask(retire(1, host=b"mx1.example.org", run=ahead))
+        came = of(nagios, server.address)
+        checks.holds("the manual's line for Nagios, a host that is retired", came.returncode == 2 and "is retired: correct its clock" in came.stdout, 2, came)
+        checks.equal("the manual's line for Prometheus, a host that is retired", counted(server.address), (0, "", "", "mailquota_up 0\n"))
     with nobody_there() as address:
         came = of(nagios, address)
         checks.equal("the manual's line for Nagios, nobody there", (came.returncode, came.stdout), (2, unavailable(address)[2]))

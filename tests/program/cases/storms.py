@@ -84,7 +84,6 @@ def retires_by_command(world, checks):
     with Storm(world) as it:
         words = ["retire", "--server", it.server.address, "--host", "mx2"]
         came = world.run(*words, "--run", str(clock() + 2 * DAY * 1_000))
-        # (the server asks for another try)
         checks.equal("retire, two days ahead", came, unavailable(it.server.address, "it can't take the request now"))
         lines = it.new_lines()
         checks.holds("retire, two days ahead: a line for each try", len(lines) == 3 and all("not taken" in line[2] for line in lines), "three", lines)

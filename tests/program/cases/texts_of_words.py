@@ -45,7 +45,7 @@ Usage: mailquota filter [OPTIONS] --config <FILE>
 Options:
       --config <FILE>  Settings
       --run <N>        Number of the run; the clock's milliseconds where it isn't given
-      --check          Check the settings, ask whether the server answers, and end
+      --check          Check the settings, ask whether the server takes this host's requests, and end
   -h, --help           Print help
 """),
     (["server", "--help"], """Serve the ledger to filters
@@ -68,10 +68,11 @@ Options:
 """),
     (["status", "--help"], """Say whether the quota server answers; with --config also what its ledger's file holds if it doesn't
 
-Usage: mailquota status <--server <ADDRESS>|--config <FILE>>
+Usage: mailquota status [OPTIONS] <--server <ADDRESS>|--config <FILE>>
 
 Options:
       --server <ADDRESS>  Numeric address and port of the quota server; each is asked where it is given more than once
+      --host <HOST>       Mail host: also ask whether the requests of its filter would be taken, if it started now
       --config <FILE>     Settings of the quota server: its address is asked, and its ledger's file is read if it doesn't answer
   -h, --help              Print help
 """),

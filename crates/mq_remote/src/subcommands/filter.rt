@@ -21,7 +21,7 @@ use std::rt::{Clock, Files};
 use std::time::Duration;
 
 /// Runs the filter until its input ends: the settings first, then the clock. With `check` it reads no input, and only asks
-/// whether the server of its settings answers.
+/// whether the server of its settings takes the requests of its host.
 pub fn filter<R: Files + Clock + Net + Input + Print + Eprint + AllocGlobal, E: Write>(
     rt: &R,
     given: FilterArguments<'_>,
@@ -32,7 +32,8 @@ pub fn filter<R: Files + Clock + Net + Input + Print + Eprint + AllocGlobal, E: 
     let settings = filter_settings(rt, given.config)?;
     if given.check {
         let timeout = u64::from(settings.timeout);
-        let status = ask_once(rt, settings.server, timeout, Question::Check, errors)?;
+        let question = Question::Check(&settings.host, run_number(rt, None)?);
+        let status = ask_once(rt, settings.server, timeout, question, errors)?;
         tell_spans(rt, &settings);
         return Ok(status);
     }

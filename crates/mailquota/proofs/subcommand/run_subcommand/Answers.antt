@@ -1,8 +1,12 @@
-use Rattle.mailquota.proofs.RefusalSteps.{replay_ends, report_ends}
+use Rattle.mailquota.proofs.RefusalSteps.{probe_ends, replay_ends, report_ends}
 use Rattle.mailquota.proofs.subcommand.run_subcommand.Goals as goal
 
 pub returns-in-Replay : goal.returns-in-Replay
 returns-in-Replay g c = replay_ends c.args.given c.in-Replay.given c.replay.result c.end_program.result c.in-Replay.is c.end_program.ensures c.replay.ensures
+
+pub returns-in-Probe : goal.returns-in-Probe
+returns-in-Probe g c =
+    probe_ends c.args.given c.in-Probe.given c.probe_servers.result c.end_process-in-Probe.result c.in-Probe.is c.end_process-in-Probe.ensures c.probe_servers.ensures
 
 pub returns-in-Report : goal.returns-in-Report
 returns-in-Report g c =
