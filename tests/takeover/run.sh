@@ -14,6 +14,8 @@ shift
 . "$here/../smtpd/root.sh"
 make_root "$here/../.." "$program"
 make_logins u01 u02 u03 u04 u05 u06 u07 u08
+# (of `make smtpd`)
+rm -f "$root"/var/lib/mailquota/*
 work=$(mktemp -d "${TMPDIR:-/var/tmp}/mailquota-takeover.XXXXXX")
 trap 'rm -rf "$work"' EXIT
 WORK=$work unshare --mount --net --pid --fork --kill-child --mount-proc python3 "$here/takeover.py" "$@"
