@@ -53,6 +53,11 @@ SERVER = "[WARN  mq_tcp::logged] quota server ADDRESS:"
 UNANSWERED_RESERVE = f"[INFO  mq_client::tries] reserve 1 of transaction 1 {NAMED}: no answer in 3 tries"
 UNANSWERED_RELEASE = f"[INFO  mq_client::tries] release 2 of transaction 1 {NAMED}: no answer in 3 tries, it waits"
 LEFT = "[WARN  mq_client::filter] the input ends, closings without an answer: 1"
+# replies that refuse a request, and what is logged of them
+OTHER_ANSWERS = {
+    "closed": (b"\x87", "the transaction was closed before"), "mismatch": (b"\x88", "the transaction has another login or moment"),
+    "conflict": (b"\x8a", "the number was used by another request"),
+}
 # replies to other requests
 OTHER_REPLIES = {"a reply of another number", "a reply of another host", "a reply of another run", "a reply of another kind"}
 # the status and lines of a filter whose reserve got no reply
@@ -142,7 +147,8 @@ def tries(world, checks):
             timeout=timeout, tries=2, log="info",
         )
         other = what in OTHER_REPLIES
-        told(checks, f"{what}, twice", errors, 1, ["WARN " if other else "INFO ", "mx1", "session 7641df9771b4ed00", "alice", "transaction 1", f"no answer in 2 tries{', but a reply of another kind or number' if other else ''}"])
+        said = "no answer in 2 tries, but a reply of another kind or number" if other else "no answer in 2 tries"
+        told(checks, f"{what}, twice", errors, [of_a_try("reserve", 1, said, "WARN " if other else "INFO ")])
     scripted(world, checks, "a grant and more bytes", INPUT, [GRANTED + b"more"], results=[answer(PROCEED)], frames=[RESERVE], errors="")
     scripted(world, checks, "ten tries, the tenth granted", INPUT, [b""] * 9 + [GRANTED], results=[answer(PROCEED)], frames=[RESERVE] * 10, errors="", tries=10)
     for what, body in [("closed", b"\x87"), ("mismatch", b"\x88"), ("conflict", b"\x8a")]:
@@ -163,13 +169,13 @@ def closings(world, checks):
 
 
 def warnings(world, checks):
-    for what, body in [("closed", b"\x87"), ("mismatch", b"\x88"), ("conflict", b"\x8a")]:
+    for what, (body, said) in OTHER_ANSWERS.items():
         reply = frame(body + identity(2, **MX1))
         errors = scripted(world, checks, f"a settle answered {what}", INPUT + COMMIT, [GRANTED, reply], results=[answer(PROCEED)], frames=[RESERVE, SETTLE])
-        told(checks, f"a settle answered {what}", errors, 1, ["mx1", "alice", "transaction 1"])
+        told(checks, f"a settle answered {what}", errors, [of_a_try("settle", 2, said)])
     reply = frame(b"\x89" + identity(2, **MX1) + number(0))
     errors = scripted(world, checks, "a settle answered too many", INPUT + COMMIT, [GRANTED, reply], results=[answer(PROCEED)], frames=[RESERVE, SETTLE])
-    told(checks, "a settle answered too many", errors, 1, ["mx1", "alice", "transaction 1"])
+    told(checks, "a settle answered too many", errors, [of_a_try("settle", 2, "the transaction holds 0 only, the server's address may have moved")])
     scripted(world, checks, 'a lost reserve with log = "off"', INPUT, [b""] * 3, results=[answer(SERVICE)], frames=[RESERVE] * 3, errors="", log="off")
     errors = scripted(world, checks, 'a lost reserve with log = "error"', INPUT, [b""] * 3, results=[answer(SERVICE)], frames=[RESERVE] * 3, log="error")
     good = re.fullmatch(r"\[ERROR mq_tcp::logged\] quota server 127.0.0.1:\d+: closed before its reply was whole\n", errors)
@@ -196,11 +202,15 @@ def without_address(errors):
     return [re.sub(r"127\.0\.0\.1:\d+", "ADDRESS", line) for line in errors.splitlines()]
 
 
-def told(checks, what, errors, count, words):
-    """So many lines with these words, next to what the link says of the server."""
-    lines = [line for line in errors.splitlines() if not line.startswith("[ERROR mq_tcp::logged] quota server ")]
-    good = len(lines) == count and all(word in line for word in words for line in lines)
-    checks.holds(f"{what}: the log", good, f"{count} lines, each with {', '.join(words)}", lines)
+def of_a_try(kind, number, said, level="WARN "):
+    """The line that says this of a request of alice's transaction."""
+    return f"[{level} mq_client::tries] {kind} {number} of transaction 1 {NAMED}: {said}"
+
+
+def told(checks, what, errors, lines):
+    """These lines, next to what the link says of the server."""
+    came = [line for line in errors.splitlines() if not line.startswith("[ERROR mq_tcp::logged] quota server ")]
+    checks.equal(f"{what}: the log", came, lines)
 
 
 def refusals(world, checks):
@@ -213,10 +223,10 @@ def refusals(world, checks):
             world, checks, f'two full answers of a login with log = "{log}"', INPUT + RCPT, [FULL, second], results=[answer(LIMIT)] * 2,
             frames=[RESERVE, reserve(2, login=b"alice", at=1_576_146_009, **MX1)], errors=REFUSED_BY_LIMIT + more, log=log,
         )
-    for what, body in [("closed", b"\x87"), ("mismatch", b"\x88"), ("conflict", b"\x8a")]:
+    for what, (body, said) in OTHER_ANSWERS.items():
         reply = frame(body + identity(1, **MX1))
         errors = scripted(world, checks, f"a reserve answered {what}", INPUT, [reply], results=[answer(SERVICE)], frames=[RESERVE])
-        told(checks, f"a reserve answered {what}", errors, 1, ["WARN ", "mx1", "alice", "transaction 1"])
+        told(checks, f"a reserve answered {what}", errors, [of_a_try("reserve", 1, said)])
     other = b"0123456789abcdef"
     came = world.filter("127.0.0.1:1", CONFIG + AUTH + RCPT * 3 + of_session(AUTH + RCPT, other) + RCPT + of_session(RCPT, other))
     results = answer(SERVICE) * 3 + answer(SERVICE, session=other) + answer(SERVICE) + answer(SERVICE, session=other)
@@ -312,7 +322,10 @@ def without_a_question(world, checks):
         if result is PROCEED:
             checks.equal(f"{what}: the log", came[2], "")
         else:
-            told(checks, what, came[2], 1, ["WARN ", "7641df9771b4ed00", "recipients are refused"])
+            login = re.search(rb"\|pass\|(\w*)\n|\|pass\n", text)[1] or b""
+            begins = f"[WARN  mq_client::client] session 7641df9771b4ed00 (login {login[:255].decode()}): recipients are refused, "
+            lines = came[2].splitlines()
+            checks.holds(f"{what}: the log", len(lines) == 1 and lines[0].startswith(begins), f"one line, which begins {begins}", lines)
 
 
 def faults(world, checks):

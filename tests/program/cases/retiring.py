@@ -11,7 +11,7 @@ import wire
 from books import Books
 from cases.audits import SOUND, audit, edited
 from cases.edges import answers
-from cases.filters import COMMIT, INPUT, LIMIT, MX1, PROCEED, RELEASE, RESERVE, SERVICE, answer, scripted, told
+from cases.filters import COMMIT, INPUT, LIMIT, MX1, PROCEED, RELEASE, RESERVE, SERVICE, answer, of_a_try, scripted, told
 from cases.rules import CENTRAL_EUROPE
 from ends import IS_THERE, SILENCE, Script, Server, copied, fault, ledger_settings, refusal, unavailable
 from rows import COLUMNS, answers_of, rows_in, same_rows
@@ -303,7 +303,7 @@ def a_retired_filter(world, checks):
         return wire.old(int.from_bytes(heard[15:19], "big"), **MX1)
 
     errors = scripted(world, checks, "a retired filter", INPUT + COMMIT, [is_old] * 2, results=[answer(SERVICE)], frames=[RESERVE, RELEASE])
-    told(checks, "a retired filter", errors, 2, ["WARN ", "mx1", "alice", "transaction 1"])
+    told(checks, "a retired filter", errors, [of_a_try("reserve", 1, "the run is retired"), of_a_try("release", 2, "the run is retired")])
 
 
 def a_host_that_is_restarted(world, checks):
