@@ -2,3 +2,4 @@ pub mod Leaving
 pub mod Maps
 pub mod Standing
 pub mod Turning
+pub mod Choring

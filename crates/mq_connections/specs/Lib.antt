@@ -1,3 +1,5 @@
+pub mod Counting
 pub mod Sessions
 pub mod Turns
+pub mod Waits
 pub mod Wires

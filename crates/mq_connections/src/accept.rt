@@ -1,5 +1,6 @@
 //! The next connection, also after errors that pass.
-ghost use Rattle.std.specs.Prelude.{◌≡◌, ◌*◌, min, IfErr, IsTrue};
+ghost use Rattle.std.specs.Prelude.{◌≡◌, ◌*◌, ◌↔◌, min, IfErr, IfOk, IsTrue, MatchOption, OnErr};
+ghost use Rattle.mq_connections.specs.Counting.{one_less};
 
 use crate::fault::RoomFault;
 use log::{Log, error, warn};
@@ -54,12 +55,33 @@ fn next_pause(pause: u64) -> u64
     }
 }
 
+/// How many connections are accepted still.
+#[derive(Clone, Copy, Debug, PartialEq, Eq)]
+pub enum Connections {
+    /// So many.
+    Count(u32),
+    /// They have no end.
+    Endless,
+}
+
+impl Connections {
+    /// One less.
+    fn one_less(self) -> Connections
+        ensures { result ≡ one_less self }
+    {
+        match self {
+            Connections::Count(count) => Connections::Count(count.saturating_sub(1)),
+            Connections::Endless => Connections::Endless,
+        }
+    }
+}
+
 /// A listener, and what it still has to accept.
 #[derive(Drop)]
 pub struct Acceptor<'a> {
     listener: &'a TcpListener,
     /// How many connections are accepted still.
-    left: u32,
+    left: Connections,
     /// Whether a connection may have come.
     may_have: bool,
     /// The next pause, in milliseconds.
@@ -70,7 +92,9 @@ pub struct Acceptor<'a> {
 
 impl<'a> Acceptor<'a> {
     /// The listener, which doesn't block, accepts so many.
-    pub fn new(listener: &'a TcpListener, connections: u32) -> Acceptor<'a> {
+    pub fn new(listener: &'a TcpListener, connections: Connections) -> Acceptor<'a>
+        ensures { result.left ≡ connections }
+    {
         Acceptor {
             listener,
             left: connections,
@@ -82,19 +106,28 @@ impl<'a> Acceptor<'a> {
 
     /// Whether no further connection is accepted.
     pub fn is_done(&self) -> bool
-        ensures { IsTrue result → self.now.left ≡ 0 }
+        ensures { IsTrue result ↔ (self.now.left ≡ Connections.Count 0) }
     {
-        self.left == 0
+        matches!(self.left, Connections::Count(0))
+    }
+
+    /// How many connections are accepted still.
+    pub fn left(&self) -> Connections
+        ensures { result ≡ self.now.left }
+    {
+        self.left
     }
 
     /// The system says that a connection came.
-    pub fn arrived(&mut self) {
+    pub fn arrived(&mut self)
+        ensures { self.new.left ≡ self.old.left }
+    {
         self.may_have = true;
     }
 
     /// How long to wait for the next attempt, where one is due without the system's word.
     pub fn wait_at(&self, now: Instant) -> Option<Duration> {
-        if self.left == 0 || !self.may_have {
+        if self.is_done() || !self.may_have {
             return None;
         }
         match self.resume {
@@ -116,15 +149,18 @@ impl<'a> Acceptor<'a> {
         clock: &C,
         log: &G,
     ) -> Result<Option<(TcpStream, SocketAddr)>, RoomFault>
-        ensures { IfErr result (λ fault. fault ≡ RoomFault.Accept) }
+        ensures fault { IfErr result (λ fault. fault ≡ RoomFault.Accept) }
+        ensures counts { IfOk result (λ next. MatchOption next (self.new.left ≡ self.old.left)
+            (λ _. self.new.left ≡ one_less self.old.left)) }
+        ensures failed { OnErr result (self.new.left ≡ self.old.left) }
     {
         // (where the clock can't be read, an attempt is made)
-        if self.left == 0 || !self.is_due(clock).unwrap_or(true) {
+        if self.is_done() || !self.is_due(clock).unwrap_or(true) {
             return Ok(None);
         }
         match self.listener.accept() {
             Ok(accepted) => {
-                self.left = self.left.saturating_sub(1);
+                self.left = self.left.one_less();
                 self.pause = FIRST_PAUSE;
                 self.resume = None;
                 Ok(Some(accepted))

@@ -3,6 +3,7 @@ ghost use Rattle.std.specs.Prelude.{◌≡◌, ◌≢◌, ◌+◌, ℕ, List, Op
 ghost use Rattle.mq_ledger.specs.Leaving.{LeavesLedger};
 ghost use Rattle.mq_ledger.specs.declared.ledger.Told.{Told};
 ghost use Rattle.mq_ledger.specs.Legal.{Book};
+ghost use Rattle.mq_server.specs.Delivery.{HasGrown};
 ghost use Rattle.mq_connections.specs.Sessions.{GoesOn, GoesOnOrStops, KeepsGoing, Outside, held};
 ghost use Rattle.mq_connections.specs.Turns.{Closes};
 
@@ -11,7 +12,7 @@ use crate::network::Network;
 use crate::opened::{OpenConnection, give_turns};
 use log::{Log, error, warn};
 use mq_ledger::Ledger;
-use mq_server::laws::{a_life_is_served, more_exchanges};
+use mq_server::laws::{a_life_is_served, more_deliveries, more_exchanges};
 use mq_server::{PIECE, Progress, ServeFault, Served};
 use mq_watch::Hear;
 use std::alloc::Global;
@@ -145,6 +146,7 @@ impl Room {
         ledger: &mut L,
     ) -> Result<(), RoomFault>
         ensures leaves { LeavesLedger L.book L.has_kept L.is_sound L.has_store ledger.old ledger.new }
+        ensures grows { L.has_kept ledger.new → L.is_sound ledger.old → HasGrown (L.book ledger.old) (L.book ledger.new) }
         ensures fault { IfErr result (λ fault. fault ≡ RoomFault.Store) }
         ensures goes { L.has_kept ledger.new → L.is_sound ledger.old → (old : Outside) →
             (let before : Outside = record { book = L.book ledger.old; told = L.told ledger.old; wires = N.wire network.old } in
@@ -152,6 +154,7 @@ impl Room {
             GoesOn old before self.old.last (held self.old.opened) None →
             GoesOnOrStops old after self.new.last (held self.new.opened) RoomFault.Store result) }
     {
+        more_deliveries();
         for number in ready {
             self.serve_one(clock, log, network, *number, timeout, ledger)?;
         }
@@ -169,6 +172,7 @@ impl Room {
         ledger: &mut L,
     ) -> Result<(), RoomFault>
         ensures leaves { LeavesLedger L.book L.has_kept L.is_sound L.has_store ledger.old ledger.new }
+        ensures grows { L.has_kept ledger.new → L.is_sound ledger.old → HasGrown (L.book ledger.old) (L.book ledger.new) }
         ensures fault { IfErr result (λ fault. fault ≡ RoomFault.Store) }
         ensures goes { L.has_kept ledger.new → L.is_sound ledger.old → (old : Outside) →
             (let before : Outside = record { book = L.book ledger.old; told = L.told ledger.old; wires = N.wire network.old } in

@@ -1,18 +1,23 @@
 //! Serving connections until so many were accepted, and have ended.
-ghost use Rattle.std.specs.Prelude.{◌≡◌, ℕ, None, Ok};
+ghost use Rattle.std.specs.Prelude.{◌≡◌, ℕ, None, Ok, option_map};
+ghost use Rattle.std.specs.Duration.{as_nanos};
+ghost use Rattle.mq_chore.specs.Choring.{Fitted};
 ghost use Rattle.mq_ledger.specs.Leaving.{LeavesLedger};
 ghost use Rattle.mq_server.specs.Delivery.{HasGrown};
 ghost use Rattle.mq_connections.specs.Sessions.{EndsServing, GoesOn, GoesOnOrStops, Outside, held};
+ghost use Rattle.mq_connections.specs.Waits.{idle_time, shorter};
 ghost use Rattle.mq_connections.specs.Wires.{unknown};
 
+use crate::accept::Connections;
 use crate::fault::RoomFault;
 use crate::network::Network;
 use crate::room::Room;
 use crate::sockets::{EVENTS, Sockets};
 use log::{Log, error};
 use mio::Events;
+use mq_chore::{Chore, Piece};
 use mq_ledger::Ledger;
-use mq_server::laws::{a_life_is_served, more_exchanges};
+use mq_server::laws::{a_life_is_served, more_deliveries, more_exchanges};
 use mq_watch::Hear;
 use std::alloc::Global;
 use std::io;
@@ -20,21 +25,36 @@ use std::net::{Net, TcpListener};
 use std::rt::Clock;
 use std::time::{Duration, Instant};
 
+/// Why a serving ended well.
+#[derive(Clone, Copy, Debug, PartialEq, Eq)]
+pub enum Ended {
+    /// All connections were accepted, and have ended.
+    Over,
+    /// The chore is done.
+    Chore,
+}
+
 /// Accepts so many connections, and serves whichever has whole frames there, a few at a time; so no peer holds back the
 /// others by what it doesn't send, or doesn't take of its replies. Each end but that of whole frames is logged with the
 /// peer's address. A store that failed stops the serving, and so does a listener that accepts no more. `timeout` is how
 /// long a peer may neither send nor take anything; a whole connection has twice as long.
-pub fn serve_connections<R: Clock + Net, G: Log, L: Ledger + Hear>(
+///
+/// Between the rounds over all that is open it goes on with the chore, first before anything has come. Once that is done
+/// the connections that are open are closed; those that came meanwhile wait at the listener, and `connections` says how
+/// many are to be accepted still.
+pub fn serve_connections<R: Clock + Net, G: Log, L: Ledger + Hear, K: Chore<L>>(
     rt: &R,
     log: &G,
     alloc: Global,
     listener: &TcpListener,
     timeout: Duration,
     ledger: &mut L,
-    connections: u32,
-) -> Result<(), RoomFault>
+    chore: &mut K,
+    connections: &mut Connections,
+) -> Result<Ended, RoomFault>
     // Of any ledger, sound or not.
     ensures leaves { LeavesLedger L.book L.has_kept L.is_sound L.has_store ledger.old ledger.new }
+    ensures over { result ≡ Ok Ended.Over → connections.new ≡ Connections.Count 0 }
 
     // Of a sound one that has kept its premise.
     ensures serves { L.has_kept ledger.new → L.is_sound ledger.old → EndsServing
@@ -42,47 +62,62 @@ pub fn serve_connections<R: Clock + Net, G: Log, L: Ledger + Hear>(
         (record { book = L.book ledger.new; told = L.told ledger.new; wires = unknown }) RoomFault.Store result }
     ensures history { L.has_kept ledger.new → L.is_sound ledger.old →
         HasGrown (L.book ledger.old) (L.book ledger.new) }
+
+    // What the chore did fits the ledger with all that came.
+    ensures fits { L.has_kept ledger.new → L.is_sound ledger.old →
+        Fitted (K.fits chore.old) (L.book ledger.old) → Fitted (K.fits chore.new) (L.book ledger.new) }
+    ensures done { L.has_kept ledger.new → L.is_sound ledger.old → Fitted (K.fits chore.old) (L.book ledger.old) →
+        result ≡ Ok Ended.Chore → K.is_done chore.new (L.book ledger.new) }
 {
     a_life_is_served();
     more_exchanges();
     let events = Events::with_capacity(alloc, EVENTS)?;
-    let mut sockets = match Sockets::new(rt, log, alloc, events, listener, connections) {
+    let mut sockets = match Sockets::new(rt, log, alloc, events, listener, *connections) {
         Ok(sockets) => sockets,
         Err(error) => return Err(no_wait(log, &error)),
     };
-    serve_network(rt, log, alloc, &mut sockets, timeout, ledger)
+    let outcome = serve_network(rt, log, alloc, &mut sockets, timeout, ledger, chore);
+    *connections = sockets.left();
+    outcome
 }
 
-/// Serves the connections of a network until all were accepted and have ended, or it has to stop. A connection is closed
-/// only after its peer was offered the replies that wait. It ends well only where no further connection comes.
-pub fn serve_network<N: Network, C: Clock, G: Log, L: Ledger + Hear>(
+/// Serves the connections of a network until all were accepted and have ended, or the chore is done, or it has to stop. A
+/// connection is closed only after its peer was offered the replies that wait.
+pub fn serve_network<N: Network, C: Clock, G: Log, L: Ledger + Hear, K: Chore<L>>(
     clock: &C,
     log: &G,
     alloc: Global,
     network: &mut N,
     timeout: Duration,
     ledger: &mut L,
-) -> Result<(), RoomFault>
+    chore: &mut K,
+) -> Result<Ended, RoomFault>
     // Of any ledger, sound or not.
     ensures leaves { LeavesLedger L.book L.has_kept L.is_sound L.has_store ledger.old ledger.new }
-    ensures over { result ≡ Ok tt → N.is_over network.new }
+    ensures over { result ≡ Ok Ended.Over → N.is_over network.new }
 
     // Of a sound one that has kept its premise.
     ensures serves { L.has_kept ledger.new → L.is_sound ledger.old → EndsServing
         (record { book = L.book ledger.old; told = L.told ledger.old; wires = N.wire network.old })
         (record { book = L.book ledger.new; told = L.told ledger.new; wires = N.wire network.new }) RoomFault.Store result }
+    ensures fits { L.has_kept ledger.new → L.is_sound ledger.old →
+        Fitted (K.fits chore.old) (L.book ledger.old) → Fitted (K.fits chore.new) (L.book ledger.new) }
+    ensures done { L.has_kept ledger.new → L.is_sound ledger.old → Fitted (K.fits chore.old) (L.book ledger.old) →
+        result ≡ Ok Ended.Chore → K.is_done chore.new (L.book ledger.new) }
 {
     a_life_is_served();
     more_exchanges();
     let mut ready = Vec::with_capacity(alloc, EVENTS)?;
     let mut room = Room::new(alloc);
-    let ended = serve_rounds(clock, log, network, &mut room, &mut ready, timeout, ledger);
+    let ended = serve_rounds(
+        clock, log, network, &mut room, &mut ready, timeout, ledger, chore,
+    );
     room.close_all(network);
     ended
 }
 
 /// Serves the connections of a network, round by round. Where it has to stop, some may be open still.
-fn serve_rounds<N: Network, C: Clock, G: Log, L: Ledger + Hear>(
+fn serve_rounds<N: Network, C: Clock, G: Log, L: Ledger + Hear, K: Chore<L>>(
     clock: &C,
     log: &G,
     network: &mut N,
@@ -90,49 +125,81 @@ fn serve_rounds<N: Network, C: Clock, G: Log, L: Ledger + Hear>(
     ready: &mut Vec<usize>,
     timeout: Duration,
     ledger: &mut L,
-) -> Result<(), RoomFault>
+    chore: &mut K,
+) -> Result<Ended, RoomFault>
     ensures leaves { LeavesLedger L.book L.has_kept L.is_sound L.has_store ledger.old ledger.new }
-    ensures over { result ≡ Ok tt → N.is_over network.new }
+    ensures over { result ≡ Ok Ended.Over → N.is_over network.new }
     ensures goes { L.has_kept ledger.new → L.is_sound ledger.old → (old : Outside) →
         (let before : Outside = record { book = L.book ledger.old; told = L.told ledger.old; wires = N.wire network.old } in
         let after : Outside = record { book = L.book ledger.new; told = L.told ledger.new; wires = N.wire network.new } in
         GoesOn old before room.old.last (held room.old.opened) None →
         GoesOnOrStops old after room.new.last (held room.new.opened) RoomFault.Store result) }
+    ensures fits { L.has_kept ledger.new → L.is_sound ledger.old →
+        Fitted (K.fits chore.old) (L.book ledger.old) → Fitted (K.fits chore.new) (L.book ledger.new) }
+    ensures done { L.has_kept ledger.new → L.is_sound ledger.old → Fitted (K.fits chore.old) (L.book ledger.old) →
+        result ≡ Ok Ended.Chore → K.is_done chore.new (L.book ledger.new) }
 {
+    more_deliveries();
+    // (the chore may have something to do before anything comes)
+    let mut piece = Piece::More;
     for _round in 0..u64::MAX {
         room.accept(clock, log, network, timeout)?;
         // The last connection may just have been given up as memory ran out: then nothing more comes.
         if network.is_done() && room.is_empty() {
-            return Ok(());
+            return Ok(Ended::Over);
         }
-        let now = match wait(clock, room, network, ready) {
+        let now = match wait(clock, room, network, ready, piece) {
             Ok(now) => now,
             Err(error) => return Err(no_wait(log, &error)),
         };
         room.serve(clock, log, network, ready, timeout, ledger)?;
         room.expire(log, network, now);
+        match chore.go_on(ledger) {
+            Piece::Done => return Ok(Ended::Chore),
+            wanted => piece = wanted,
+        }
     }
     // (there are fewer rounds than that)
     Err(RoomFault::Accept)
 }
 
-/// Waits until something comes, or until a connection is late, or a pause is over, and says when that was.
+/// Waits until something comes, or until a connection is late, or a pause is over, or the chore has something to do after
+/// this piece, and says when that was.
 fn wait<N: Network>(
     clock: &impl Clock,
     room: &Room,
     network: &mut N,
     ready: &mut Vec<usize>,
+    piece: Piece,
 ) -> io::Result<Instant>
     ensures { (n : ℕ) → N.wire network.new n ≡ N.wire network.old n }
 {
     let now = Instant::now(clock)?;
-    let wait = match (network.accepts_in(now), room.late_in(now)) {
-        (Some(accept), Some(late)) => Some(accept.min(late)),
-        (accept, late) => accept.or(late),
-    };
+    let wait = first_of(network.accepts_in(now), room.late_in(now));
     ready.clear();
-    network.wait(wait, ready)?;
+    network.wait(first_of(wait, idle_after(piece)), ready)?;
     Instant::now(clock)
+}
+
+/// How long a chore has nothing to do after a piece, where that has an end.
+fn idle_after(piece: Piece) -> Option<Duration>
+    ensures { option_map as_nanos result ≡ idle_time piece }
+{
+    match piece {
+        Piece::More | Piece::Done => Some(Duration::ZERO),
+        Piece::Later(time) => Some(time),
+        Piece::Nothing => None,
+    }
+}
+
+/// The shorter of two times, where there are such.
+fn first_of(one: Option<Duration>, other: Option<Duration>) -> Option<Duration>
+    ensures { option_map as_nanos result ≡ shorter (option_map as_nanos one) (option_map as_nanos other) }
+{
+    match (one, other) {
+        (Some(one), Some(other)) => Some(if one <= other { one } else { other }),
+        (one, other) => one.or(other),
+    }
 }
 
 /// Logs why the system doesn't report connections.

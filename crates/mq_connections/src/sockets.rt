@@ -1,7 +1,8 @@
 //! Connections over TCP.
 ghost use Rattle.std.specs.Prelude.{◌≡◌};
+ghost use Rattle.mq_connections.specs.declared.accept.Connections.TheVariants.{Count};
 
-use crate::accept::Acceptor;
+use crate::accept::{Acceptor, Connections};
 use crate::fault::RoomFault;
 use crate::network::Network;
 use log::{Log, warn};
@@ -41,7 +42,7 @@ impl<'a, C: Clock + Net, G: Log> Sockets<'a, C, G> {
         alloc: Global,
         events: Events,
         listener: &'a TcpListener,
-        connections: u32,
+        connections: Connections,
     ) -> io::Result<Sockets<'a, C, G>> {
         listener.set_nonblocking(true)?;
         let poll = Poll::new(rt)?;
@@ -60,6 +61,13 @@ impl<'a, C: Clock + Net, G: Log> Sockets<'a, C, G> {
 }
 
 impl<C: Clock, G: Log> Sockets<'_, C, G> {
+    /// How many connections are accepted still.
+    pub fn left(&self) -> Connections
+        ensures { result ≡ self.now.acceptor.left }
+    {
+        self.acceptor.left()
+    }
+
     /// Opens a connection that was accepted, and has the system report it.
     fn register(&mut self, number: usize, stream: TcpStream) -> io::Result<()> {
         stream.set_nonblocking(true)?;
@@ -75,7 +83,7 @@ impl<C: Clock, G: Log> Sockets<'_, C, G> {
 }
 
 impl<C: Clock, G: Log> Network for Sockets<'_, C, G> {
-    ghost is_over = { λ sockets. sockets.acceptor.left ≡ 0 };
+    ghost is_over = { λ sockets. sockets.acceptor.left ≡ Count 0 };
 
     fn accept(&mut self, number: usize) -> Result<Option<SocketAddr>, RoomFault> {
         let Some((stream, peer)) = self.acceptor.next(self.clock, self.log)? else {

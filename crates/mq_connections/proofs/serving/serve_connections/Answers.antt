@@ -32,10 +32,10 @@ returns-in-Err-clause-history g c = λ k s.
     nothing_grown o (c.more_exchanges.ensures.none o.book (g.met.L.Ledger.sound_is_legal c.args.ledger.now s))
 
 pub returns-clause-serves : goal.returns-clause-serves
-returns-clause-serves g c = c.serve_network.ensures.serves
+returns-clause-serves g c = c.serve_network-outcome.ensures.serves
 
 pub returns-clause-history : goal.returns-clause-history
 returns-clause-history g c = λ k s.
     let before : Outside = record { book = g.L.Ledger.book c.args.ledger.now; told = g.L.Ledger.told c.args.ledger.now; wires = unknown } in
-    let after : Outside = record { book = g.L.Ledger.book c.serve_network.new.ledger; told = g.L.Ledger.told c.serve_network.new.ledger; wires = unknown } in
-    has_grown before after faults.Store c.serve_network.result (c.serve_network.ensures.serves k s)
+    let after : Outside = record { book = g.L.Ledger.book c.serve_network-outcome.new.ledger; told = g.L.Ledger.told c.serve_network-outcome.new.ledger; wires = unknown } in
+    has_grown before after faults.Store c.serve_network-outcome.result (c.serve_network-outcome.ensures.serves k s)

@@ -9,6 +9,7 @@ use Rattle.mq_connections.proofs.room.Room.serve.Goals as goal
 pub loop-number-init : goal.loop-number-init
 loop-number-init g c = record {
   leaves = left_alone;
+  grows = λ k s. c.more_deliveries.ensures.none (g.L.Ledger.book c.args.ledger.now) (g.met.L.Ledger.sound_is_legal c.args.ledger.now s);
   goes = λ k s old start. start;
 }
 
@@ -17,6 +18,11 @@ loop-number-preserved g c =
     let i = c.loop-number.invariant in
     let e = c.in_ok-serve_one.ensures in record {
       leaves = left_both i.leaves e.leaves;
+      grows = λ k s.
+          let kept = e.leaves.kept k in
+          let sound = i.leaves.sound kept s in
+          c.more_deliveries.ensures.more (g.L.Ledger.book c.args.ledger.now) (g.L.Ledger.book c.loop-number.ledger) (g.L.Ledger.book c.serve_one.new.ledger)
+          (g.met.L.Ledger.sound_is_legal c.loop-number.ledger sound) i.leaves.same_zone i.leaves.same_default (i.grows kept s) (e.grows k sound);
       goes = λ k s old start.
           let after : Outside = record { book = g.L.Ledger.book c.serve_one.new.ledger; told = g.L.Ledger.told c.serve_one.new.ledger; wires = g.N.Network.wire c.serve_one.new.network } in
           goes_on old after c.serve_one.new.self.last (held c.serve_one.new.self.opened) faults.Store _ tt refl (e.goes k (i.leaves.sound (e.leaves.kept k) s) old (i.goes (e.leaves.kept k) s old start));
@@ -36,3 +42,12 @@ returns-clause-goes g c = λ k s old start.
     let room = c.loop-number.self in
     let after : Outside = record { book = g.L.Ledger.book c.loop-number.ledger; told = g.L.Ledger.told c.loop-number.ledger; wires = g.N.Network.wire c.loop-number.network } in
     goes_so old after room.last (held room.opened) faults.Store (Ok tt) (ok_not tt faults.Store) (c.loop-number.invariant.goes k s old start)
+
+pub returns-in_err-serve_one-clause-grows : goal.returns-in_err-serve_one-clause-grows
+returns-in_err-serve_one-clause-grows g c = λ k s.
+    let i = c.loop-number.invariant in
+    let e = c.in_err-serve_one.ensures in
+    let kept = e.leaves.kept k in
+    let sound = i.leaves.sound kept s in
+    c.more_deliveries.ensures.more (g.L.Ledger.book c.args.ledger.now) (g.L.Ledger.book c.loop-number.ledger) (g.L.Ledger.book c.serve_one.new.ledger)
+    (g.met.L.Ledger.sound_is_legal c.loop-number.ledger sound) i.leaves.same_zone i.leaves.same_default (i.grows kept s) (e.grows k sound)

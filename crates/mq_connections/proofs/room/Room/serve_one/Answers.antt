@@ -6,7 +6,8 @@ use Rattle.mq_server.specs.declared.fault.ServeFault.TheVariants as ends
 use Rattle.mq_connections.specs.declared.fault.RoomFault.TheVariants as faults
 use Rattle.mq_connections.specs.Sessions.{Outside, held}
 use Rattle.mq_connections.proofs.Maps.{held_beside, held_here, held_now, same_map}
-use Rattle.mq_connections.proofs.Standing.{TurnOf, closed_turn, goes_last, goes_open, goes_so, goes_stop_last, ok_not, rewired, turn_closed}
+use Rattle.mq_server.specs.Life.{deliveries}
+use Rattle.mq_connections.proofs.Standing.{nothing_grown, TurnOf, closed_turn, goes_last, goes_open, goes_so, goes_stop_last, ok_not, rewired, turn_closed}
 use Rattle.mq_connections.proofs.Turning.{answered_room, answered_works, waits_room, waits_works}
 use Rattle.mq_connections.proofs.room.Room.serve_one.Goals as goal
 
@@ -88,3 +89,17 @@ returns-in-Ended-clause-goes g c = λ k s old start.
     (closed_turn old o after number last p c.in-Some.«open».now.connection offers.now (held was) still faults.Store c.end_of.result c.in-Ended.end start here
     (turn_closed o mid wires number p c.in-Some.«open».now.connection turned.connection turn offers (λ n not. (closes.others n not).1)) c.more_exchanges.ensures.more c.in-Ended.is (λ failed. offers.end ∙ e.store failed)
     c.end_of.ensures.ok c.end_of.ensures.store (λ n not. (closes.others n not).0 ∙ held_beside was now number (Some turned) updates n not) closes.gone offers.offered)
+
+pub returns-in_default-clause-grows : goal.returns-in_default-clause-grows
+returns-in_default-clause-grows g c = λ k s.
+    let o : Outside = record { book = g.L.Ledger.book c.args.ledger.now; told = g.L.Ledger.told c.args.ledger.now; wires = g.N.Network.wire c.args.network.now } in
+    nothing_grown o (c.more_exchanges.ensures.none o.book (g.met.L.Ledger.sound_is_legal c.args.ledger.now s))
+
+pub returns-in-Waits-clause-grows : goal.returns-in-Waits-clause-grows
+returns-in-Waits-clause-grows g c = λ k s. let t = c.give_turns.ensures.turns k s in (deliveries t.exchanges, t.answered.after)
+
+pub returns-in-Answered-clause-grows : goal.returns-in-Answered-clause-grows
+returns-in-Answered-clause-grows g c = λ k s. let t = c.give_turns.ensures.turns k s in (deliveries t.exchanges, t.answered.after)
+
+pub returns-in-Ended-clause-grows : goal.returns-in-Ended-clause-grows
+returns-in-Ended-clause-grows g c = λ k s. let t = c.give_turns.ensures.turns k s in (deliveries t.exchanges, t.answered.after)
