@@ -1,4 +1,5 @@
 //! Connections of a server that are open at once, over peers of the test's own.
+mod choring;
 mod network;
 
 use crate::server_end::asserts::{assert_bytes, assert_that};
@@ -6,7 +7,8 @@ use crate::server_end::fails_once::FailsOnce;
 use crate::server_end::fixtures::bytes_of;
 use crate::server_end::serving::ledger;
 use log::sink::Discard;
-use mq_connections::RoomFault;
+use mq_chore::NoChore;
+use mq_connections::{Ended, RoomFault};
 use mq_ledger::{Ledger, LedgerFault, Zone};
 use mq_request::{Reply, Request};
 use mq_watch::Watched;
@@ -156,6 +158,7 @@ fn peers_of(rt: &impl Abort, alloc: Global, rows: &[Row<'_>]) -> Result<Peers, F
         address: "127.0.0.1:7025".parse()?,
         peers,
         accepted: 0,
+        waits: Vec::new(alloc),
     })
 }
 
@@ -166,7 +169,7 @@ fn check_rows<L: Ledger + Drop>(
     alloc: Global,
     ledger: L,
     rows: &[Row<'_>],
-    end: Result<(), RoomFault>,
+    end: Result<Ended, RoomFault>,
 ) -> Result<(), Fail> {
     let clock = Ticking(Cell::new(0));
     check_rows_by(rt, alloc, &clock, ledger, rows, end)
@@ -179,12 +182,20 @@ fn check_rows_by<L: Ledger + Drop>(
     clock: &Ticking,
     ledger: L,
     rows: &[Row<'_>],
-    end: Result<(), RoomFault>,
+    end: Result<Ended, RoomFault>,
 ) -> Result<(), Fail> {
     let mut network = peers_of(rt, alloc, rows)?;
     let timeout = Duration::from_millis(1_000);
     let mut watched = Watched::new(clock, &Discard, alloc, ledger);
-    let ended = serve_peers(clock, &Discard, alloc, &mut network, timeout, &mut watched);
+    let ended = serve_peers(
+        clock,
+        &Discard,
+        alloc,
+        &mut network,
+        timeout,
+        &mut watched,
+        &mut NoChore,
+    );
     assert_that(rt, ended == end, "how it ends");
     for (peer, row) in network.peers.iter().zip(rows) {
         let wanted = bytes_of(rt, alloc, row.3);
@@ -255,26 +266,32 @@ fn behind_a_slow_request(rt: HostRuntime) -> Result<(), Fail> {
         ledger: ledger(&rt, alloc, 3),
         clock: &clock,
     };
-    check_rows_by(&rt, alloc, &clock, slow, BEHIND_A_SLOW_ONE, Ok(()))
+    check_rows_by(&rt, alloc, &clock, slow, BEHIND_A_SLOW_ONE, Ok(Ended::Over))
 }
 
 #[test]
 fn connections_in_turns(rt: HostRuntime) -> Result<(), Fail> {
     let alloc = rt.alloc();
-    check_rows(&rt, alloc, ledger(&rt, alloc, 3), IN_TURNS, Ok(()))
+    check_rows(&rt, alloc, ledger(&rt, alloc, 3), IN_TURNS, Ok(Ended::Over))
 }
 
 #[test]
 fn replies_that_wait(rt: HostRuntime) -> Result<(), Fail> {
     let alloc = rt.alloc();
-    check_rows(&rt, alloc, ledger(&rt, alloc, 3), REPLIES_WAIT, Ok(()))
+    check_rows(
+        &rt,
+        alloc,
+        ledger(&rt, alloc, 3),
+        REPLIES_WAIT,
+        Ok(Ended::Over),
+    )
 }
 
 #[test]
 fn last_replies_that_wait(rt: HostRuntime) -> Result<(), Fail> {
     let alloc = rt.alloc();
     let rows = LAST_REPLIES_WAIT;
-    check_rows(&rt, alloc, ledger(&rt, alloc, 3), rows, Ok(()))
+    check_rows(&rt, alloc, ledger(&rt, alloc, 3), rows, Ok(Ended::Over))
 }
 
 #[test]

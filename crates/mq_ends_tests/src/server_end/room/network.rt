@@ -1,14 +1,16 @@
 //! Connections in memory, whose peers send and take what a test wants and report what came and went, and a clock that
 //! goes on as it is read.
-ghost use Rattle.std.specs.Prelude.{◌≡◌, ◌≤◌, ◌<◌, [], length, take, vec_len, Some, IfOk, IfSome};
+ghost use Rattle.std.specs.Prelude.{◌≡◌, ◌≤◌, ◌<◌, [], length, take, vec_len, Ok, Some, IfOk, IfSome};
 ghost use Rattle.std.specs.Io.{ReadsAtMost, WritesAtMost};
 ghost use Rattle.std.specs.Io.KnownBytes.{ReadConsumes, WriteAppends};
+ghost use Rattle.mq_chore.specs.Choring.{Fitted};
 ghost use Rattle.mq_connections.specs.Wires.{Leaves};
 ghost use Rattle.mq_connections.specs.Sessions.{EndsServing};
 ghost use Rattle.mq_ends_tests.specs.Peers.{wires_of};
 
 use log::Log;
-use mq_connections::{Network, RoomFault, serve_network};
+use mq_chore::Chore;
+use mq_connections::{Ended, Network, RoomFault, serve_network};
 use mq_ledger::Ledger;
 use mq_watch::Hear;
 use std::alloc::{AllocError, Global};
@@ -201,6 +203,8 @@ pub struct Peers {
     pub address: SocketAddr,
     pub peers: Vec<Peer>,
     pub accepted: usize,
+    /// How long each wait may last, the earliest first.
+    pub waits: Vec<Option<Duration>>,
 }
 
 impl Network for Peers {
@@ -224,7 +228,8 @@ impl Network for Peers {
         None
     }
 
-    fn wait(&mut self, _wait: Option<Duration>, ready: &mut Vec<usize>) -> io::Result<()> {
+    fn wait(&mut self, wait: Option<Duration>, ready: &mut Vec<usize>) -> io::Result<()> {
+        self.waits.push(wait)?;
         add_all(ready, self.accepted)?;
         Ok(())
     }
@@ -271,20 +276,23 @@ fn add_all(ready: &mut Vec<usize>, count: usize) -> Result<(), AllocError> {
     Ok(())
 }
 
-/// Serves the peers to their ends. Of each connection is known what was read of its peer, what was written to it and what
+/// Serves the peers to their ends, or until the chore is done. Of each connection is known what was read of its peer, what was written to it and what
 /// it left, so what is said of the serving is said of these bytes.
-pub fn serve_peers<C: Clock, G: Log, L: Ledger + Hear>(
+pub fn serve_peers<C: Clock, G: Log, L: Ledger + Hear, K: Chore<L>>(
     clock: &C,
     log: &G,
     alloc: Global,
     network: &mut Peers,
     timeout: Duration,
     ledger: &mut L,
-) -> Result<(), RoomFault>
-    ensures { L.has_kept ledger.new → L.is_sound ledger.old → EndsServing
+    chore: &mut K,
+) -> Result<Ended, RoomFault>
+    ensures serves { L.has_kept ledger.new → L.is_sound ledger.old → EndsServing
         (record { book = L.book ledger.old; told = L.told ledger.old; wires = wires_of network.old.peers.items })
         (record { book = L.book ledger.new; told = L.told ledger.new; wires = wires_of network.new.peers.items })
         RoomFault.Store result }
+    ensures done { L.has_kept ledger.new → L.is_sound ledger.old → Fitted (K.fits chore.old) (L.book ledger.old) →
+        result ≡ Ok Ended.Chore → K.is_done chore.new (L.book ledger.new) }
 {
-    serve_network(clock, log, alloc, network, timeout, ledger)
+    serve_network(clock, log, alloc, network, timeout, ledger, chore)
 }
