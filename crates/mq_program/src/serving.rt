@@ -19,8 +19,9 @@ use crate::store::{ledger_of_settings, log_cause, memory_ledger};
 use log::sink::Console;
 use log::{Log, Logged, error, info};
 use mq_arguments::ServerArguments;
+use mq_chore::NoChore;
 use mq_connections::laws::nothing_is_served;
-use mq_connections::serve_connections;
+use mq_connections::{Connections, serve_connections};
 use mq_ledger::Ledger;
 use mq_process::{elapsed, server_settings};
 use mq_rows::VERSION;
@@ -263,7 +264,17 @@ where
     };
     info!(log; "listening on {address} for {connections} connections");
     let timeout = Duration::from_millis(u64::from(settings.timeout));
-    serve_connections(rt, log, alloc, &listener, timeout, ledger, connections)?;
+    let mut left = Connections::Count(connections);
+    let _ended = serve_connections(
+        rt,
+        log,
+        alloc,
+        &listener,
+        timeout,
+        ledger,
+        &mut NoChore,
+        &mut left,
+    )?;
     info!(log; "ending after {connections} connections");
     Ok(0)
 }

@@ -13,18 +13,18 @@ returns-in-Err-clause-serves g c = λ k s.
     ends_unheard o (Err Listen) refl (c.nothing_is_served.ensures o (g.met.L.Ledger.sound_is_legal c.args.ledger.now s))
 
 -- the serving ended by a fault
-pub returns-in_err-serve_connections-clause-serves : goal.returns-in_err-serve_connections-clause-serves
-returns-in_err-serve_connections-clause-serves g c = λ k s.
+pub returns-in_err-_ended-clause-serves : goal.returns-in_err-_ended-clause-serves
+returns-in_err-_ended-clause-serves g c = λ k s.
     let before : Outside = record { book = g.L.Ledger.book c.args.ledger.now; told = g.L.Ledger.told c.args.ledger.now; wires = unknown } in
     let after : Outside = record { book = g.L.Ledger.book c.serve_connections.new.ledger; told = g.L.Ledger.told c.serve_connections.new.ledger; wires = unknown } in
     let q = c.from_residual.result in
     let p = err_from_is_err_and q c.from_residual.ensures.1 in
-    let cause = c.in_err-serve_connections.field-0.0 in
-    ends_faulty before after (Err cause) q cause p.0 refl p.1 p.2 (c.in_err-serve_connections.ensures.serves k s)
+    let cause = c.in_err-_ended.field-0.0 in
+    ends_faulty before after (Err cause) q cause p.0 refl p.1 p.2 (c.in_err-_ended.ensures.serves k s)
 
 -- or well
 pub returns-clause-serves : goal.returns-clause-serves
 returns-clause-serves g c = λ k s.
     let before : Outside = record { book = g.L.Ledger.book c.args.ledger.now; told = g.L.Ledger.told c.args.ledger.now; wires = unknown } in
     let after : Outside = record { book = g.L.Ledger.book c.serve_connections.new.ledger; told = g.L.Ledger.told c.serve_connections.new.ledger; wires = unknown } in
-    ends_well before after (Ok tt) tt 0 refl (c.in_ok-serve_connections.ensures.serves k s)
+    ends_well before after (Ok c.in_ok-_ended._ended) c.in_ok-_ended._ended 0 refl (c.in_ok-_ended.ensures.serves k s)
