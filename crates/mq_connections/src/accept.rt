@@ -1,5 +1,8 @@
 //! The next connection, also after errors that pass.
-ghost use Rattle.std.specs.Prelude.{◌≡◌, ◌*◌, ◌↔◌, min, IfErr, IfOk, IsTrue, MatchOption, OnErr};
+ghost use Rattle.std.specs.Prelude.{◌≡◌, ◌*◌, ◌-◌, ◌↔◌, ◌⊎◌, min, false, None, Some, true, IfErr, IfOk, IfSome, IsTrue, MatchOption, OnErr};
+ghost use Rattle.std.specs.Duration.{as_nanos};
+ghost use Rattle.std.specs.Time.{instant_nanos};
+ghost use Rattle.std.specs.declared.time.Instant.{Instant};
 ghost use Rattle.mq_connections.specs.Counting.{one_less};
 
 use crate::fault::RoomFault;
@@ -93,7 +96,8 @@ pub struct Acceptor<'a> {
 impl<'a> Acceptor<'a> {
     /// The listener, which doesn't block, accepts so many.
     pub fn new(listener: &'a TcpListener, connections: Connections) -> Acceptor<'a>
-        ensures { result.left ≡ connections }
+        ensures left { result.left ≡ connections }
+        ensures at_once { (result.may_have ≡ true) × (result.resume ≡ None) }
     {
         Acceptor {
             listener,
@@ -120,13 +124,19 @@ impl<'a> Acceptor<'a> {
 
     /// The system says that a connection came.
     pub fn arrived(&mut self)
-        ensures { self.new.left ≡ self.old.left }
+        ensures left { self.new.left ≡ self.old.left }
+        ensures noted { self.new.may_have ≡ true }
     {
         self.may_have = true;
     }
 
     /// How long to wait for the next attempt, where one is due without the system's word.
-    pub fn wait_at(&self, now: Instant) -> Option<Duration> {
+    pub fn wait_at(&self, now: Instant) -> Option<Duration>
+        ensures none { (result ≡ None) ↔ ((self.now.left ≡ Connections.Count 0) ⊎ (self.now.may_have ≡ false)) }
+        ensures at_once { self.now.resume ≡ None → IfSome result (λ wait. as_nanos wait ≡ 0) }
+        ensures pause { (until : Instant) → self.now.resume ≡ Some until →
+            IfSome result (λ wait. as_nanos wait ≡ instant_nanos until - instant_nanos now) }
+    {
         if self.is_done() || !self.may_have {
             return None;
         }
@@ -153,6 +163,8 @@ impl<'a> Acceptor<'a> {
         ensures counts { IfOk result (λ next. MatchOption next (self.new.left ≡ self.old.left)
             (λ _. self.new.left ≡ one_less self.old.left)) }
         ensures failed { OnErr result (self.new.left ≡ self.old.left) }
+        // After a connection the next attempt is due at once, and the next pause is the first again.
+        ensures again { IfOk result (λ next. IfSome next (λ _. (self.new.resume ≡ None) × (self.new.pause ≡ 10))) }
     {
         // (where the clock can't be read, an attempt is made)
         if self.is_done() || !self.is_due(clock).unwrap_or(true) {
