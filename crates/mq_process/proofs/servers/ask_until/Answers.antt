@@ -7,8 +7,7 @@ loop-server-init g c = (c.requires.callable, c.requires.addresses, λ last resul
 
 pub loop-server-preserved : goal.loop-server-preserved
 loop-server-preserved g c =
-    let below : c.loop-server.server-index < length c.args.servers.now = c.loop-server-test.true in
-    (
+    let below : c.loop-server.server-index < length c.args.servers.now = c.loop-server-test.true in (
       search of_calls,
       others_have_none _ _ _ c.in-Ok.address below c.in-Ok.ensures c.loop-server.invariant.1,
       λ last result others. c.loop-server.invariant.2 last result
