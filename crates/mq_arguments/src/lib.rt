@@ -15,7 +15,7 @@ mod servers;
 pub use servers::Servers;
 
 /// What `replay` is given.
-#[derive(Clone, Copy, Debug, PartialEq)]
+#[derive(Clone, Copy)]
 pub struct ReplayArguments<'a> {
     /// The limit of a login that has none of its own, 0 to 1,000,000 recipients a day.
     pub default: u32,
@@ -30,14 +30,14 @@ pub struct ReplayArguments<'a> {
 }
 
 /// What `init` is given.
-#[derive(Clone, Copy, Debug, PartialEq)]
+#[derive(Clone, Copy)]
 pub struct InitArguments<'a> {
     /// The file of the server's settings.
     pub config: &'a str,
 }
 
 /// What `filter` is given.
-#[derive(Clone, Copy, Debug, PartialEq)]
+#[derive(Clone, Copy)]
 pub struct FilterArguments<'a> {
     /// The file of settings.
     pub config: &'a str,
@@ -48,7 +48,7 @@ pub struct FilterArguments<'a> {
 }
 
 /// What `server` is given.
-#[derive(Clone, Copy, Debug, PartialEq)]
+#[derive(Clone, Copy)]
 pub struct ServerArguments<'a> {
     /// The file of settings.
     pub config: &'a str,
@@ -59,7 +59,7 @@ pub struct ServerArguments<'a> {
 }
 
 /// What `status` is given where it asks servers by their addresses.
-#[derive(Debug, Drop)]
+#[derive(Drop)]
 pub struct ProbeArguments<'a> {
     /// The servers that are asked.
     pub servers: Servers<'a>,
@@ -68,28 +68,28 @@ pub struct ProbeArguments<'a> {
 }
 
 /// What `status` is given where it asks the server of a file of settings.
-#[derive(Clone, Copy, Debug, PartialEq)]
+#[derive(Clone, Copy)]
 pub struct StatusArguments<'a> {
     /// The file of the server's settings.
     pub config: &'a str,
 }
 
 /// What `audit` is given.
-#[derive(Clone, Copy, Debug, PartialEq)]
+#[derive(Clone, Copy)]
 pub struct AuditArguments<'a> {
     /// The file of the server's settings.
     pub config: &'a str,
 }
 
 /// What `limits` is given.
-#[derive(Clone, Copy, Debug, PartialEq)]
+#[derive(Clone, Copy)]
 pub struct LimitsArguments<'a> {
     /// The file of the server's settings.
     pub config: &'a str,
 }
 
 /// What `forget` is given.
-#[derive(Clone, Copy, Debug, PartialEq)]
+#[derive(Clone, Copy)]
 pub struct ForgetArguments<'a> {
     /// The file of the server's settings.
     pub config: &'a str,
@@ -100,7 +100,7 @@ pub struct ForgetArguments<'a> {
 }
 
 /// How a login is named.
-#[derive(Clone, Copy, Debug, PartialEq)]
+#[derive(Clone, Copy)]
 pub enum LoginArgument<'a> {
     /// As smtpd reports it.
     Reported(&'a str),
@@ -109,7 +109,7 @@ pub enum LoginArgument<'a> {
 }
 
 /// What `limit` is given.
-#[derive(Debug, Drop)]
+#[derive(Drop)]
 pub struct LimitArguments<'a> {
     /// The servers that are asked.
     pub servers: Servers<'a>,
@@ -126,7 +126,7 @@ pub struct LimitArguments<'a> {
 }
 
 /// What `stop` is given.
-#[derive(Debug, Drop)]
+#[derive(Drop)]
 pub struct StopArguments<'a> {
     /// The servers that are asked.
     pub servers: Servers<'a>,
@@ -143,7 +143,7 @@ pub struct StopArguments<'a> {
 }
 
 /// What `resume` is given.
-#[derive(Debug, Drop)]
+#[derive(Drop)]
 pub struct ResumeArguments<'a> {
     /// The servers that are asked.
     pub servers: Servers<'a>,
@@ -158,7 +158,7 @@ pub struct ResumeArguments<'a> {
 }
 
 /// What `day` is given.
-#[derive(Clone, Copy, Debug, PartialEq)]
+#[derive(Clone, Copy)]
 pub struct DayArguments<'a> {
     /// The file of the server's settings.
     pub config: &'a str,
@@ -167,7 +167,7 @@ pub struct DayArguments<'a> {
 }
 
 /// What `retire` is given.
-#[derive(Clone, Copy, Debug, PartialEq)]
+#[derive(Clone, Copy)]
 pub struct RetireArguments<'a> {
     /// The server's numeric address and port.
     pub server: &'a str,
@@ -178,7 +178,7 @@ pub struct RetireArguments<'a> {
 }
 
 /// What `report` is given.
-#[derive(Debug, Drop)]
+#[derive(Drop)]
 pub struct ReportArguments<'a> {
     /// The servers that are asked.
     pub servers: Servers<'a>,
@@ -189,7 +189,7 @@ pub struct ReportArguments<'a> {
 }
 
 /// What the words ask for.
-#[derive(Debug, Drop)]
+#[derive(Drop)]
 pub enum Arguments<'a> {
     Init(InitArguments<'a>),
     Status(StatusArguments<'a>),

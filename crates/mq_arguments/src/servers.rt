@@ -4,7 +4,7 @@ ghost use Rattle.std.specs.Prelude.{◌≡◌, List, ℕ, length, map};
 use std::marker::Model;
 
 /// The servers that a command asks in turn: the numeric address and port of each, as the words give them.
-#[derive(Debug, Drop)]
+#[derive(Drop)]
 pub struct Servers<'a> {
     addresses: Vec<&'a str>,
 }

@@ -9,7 +9,7 @@ use std::alloc::AllocError;
 use std::cmp::Ordering;
 
 /// A login and a ledger day: what is audited as one.
-#[derive(Debug, Drop)]
+#[derive(Drop)]
 pub struct Pair {
     pub login: Login,
     /// The day number since 1970-01-01, or whatever other number the row has.
@@ -68,7 +68,7 @@ impl Clone for Pair {
 }
 
 /// What a row of `usage` has: recipients of a login on a day.
-#[derive(Debug, Drop)]
+#[derive(Drop)]
 pub struct UsageFigures {
     pub pair: Pair,
     /// Recipients of settled transactions.
@@ -78,7 +78,7 @@ pub struct UsageFigures {
 }
 
 /// What a row of `trans` has.
-#[derive(Debug, Drop)]
+#[derive(Drop)]
 pub struct TransactionFigures {
     pub pair: Pair,
     /// When it began: seconds since 1970-01-01T00:00:00Z.
@@ -90,7 +90,7 @@ pub struct TransactionFigures {
 }
 
 /// What a row of `ceiling` has: a limit of a login from a day on.
-#[derive(Debug, Drop)]
+#[derive(Drop)]
 pub struct LimitFigures {
     pub pair: Pair,
     /// Recipients a day.
@@ -98,7 +98,7 @@ pub struct LimitFigures {
 }
 
 /// What an audit finds.
-#[derive(Debug, Drop)]
+#[derive(Drop)]
 pub enum Audit {
     /// Each pair is right.
     Sound {

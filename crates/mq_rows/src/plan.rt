@@ -3,7 +3,7 @@ use crate::record::{AnswerRecord, LimitRecord, RetiredRecord, TransactionRecord,
 use mq_request::{Host, Reply};
 
 /// What becomes of the rows of a table. At most one row changes.
-#[derive(Debug, Drop)]
+#[derive(Drop)]
 pub enum Write<R> {
     /// They stay.
     Keep,
@@ -14,7 +14,7 @@ pub enum Write<R> {
 }
 
 /// What the tables have about a numbered request. What its kind doesn't need is `None`.
-#[derive(Debug, Drop)]
+#[derive(Drop)]
 pub struct Found {
     /// For a reserve, settle or release: the row of its transaction.
     pub transaction: Option<TransactionRecord>,
@@ -33,7 +33,7 @@ pub struct Found {
 }
 
 /// Runs of a host that a retire retires.
-#[derive(Debug, Drop)]
+#[derive(Drop)]
 pub struct Runs {
     pub host: Host,
     /// The first of them.
@@ -43,7 +43,7 @@ pub struct Runs {
 }
 
 /// The reply to a numbered request whose number is new, and what is written with it.
-#[derive(Debug, Drop)]
+#[derive(Drop)]
 pub struct Plan {
     pub reply: Reply,
     /// The row of the answer: one more.

@@ -3,7 +3,7 @@ use mq_request::{Bytes, Host, Id, Login};
 
 /// The one row of `setting`, and with it that of `rule`: what the ledger goes by, and how many
 /// requests it has answered.
-#[derive(Debug, Drop)]
+#[derive(Drop)]
 pub struct SettingRecord {
     /// The version of the tables: [`VERSION`](crate::VERSION), or `older_version` of the ledger's zone.
     pub version: u32,
@@ -18,7 +18,7 @@ pub struct SettingRecord {
 }
 
 /// A row of `answer`: a numbered request and the reply that its number keeps.
-#[derive(Debug, Drop)]
+#[derive(Drop)]
 pub struct AnswerRecord {
     /// The place among all that were answered, from 1 on.
     pub n: u64,
@@ -30,7 +30,7 @@ pub struct AnswerRecord {
 }
 
 /// A row of `trans`: how a transaction stands.
-#[derive(Debug, Drop)]
+#[derive(Drop)]
 pub struct TransactionRecord {
     pub host: Host,
     /// The run of the host's filter, 1 to 281,474,976,710,655.
@@ -51,7 +51,7 @@ pub struct TransactionRecord {
 }
 
 /// A row of `usage`: what a login has used on a day.
-#[derive(Debug, Drop)]
+#[derive(Drop)]
 pub struct UsageRecord {
     pub login: Login,
     /// The ledger day, 0 to 376,200.
@@ -63,7 +63,7 @@ pub struct UsageRecord {
 }
 
 /// A row of `ceiling`: a limit of a login that was set.
-#[derive(Debug, Drop)]
+#[derive(Drop)]
 pub struct LimitRecord {
     pub login: Login,
     /// The ledger day from which it holds, 0 to 376,200.
@@ -73,7 +73,7 @@ pub struct LimitRecord {
 }
 
 /// A row of `retired`, a table of version 3: the floor of a host.
-#[derive(Debug, Drop)]
+#[derive(Drop)]
 pub struct RetiredRecord {
     pub host: Host,
     /// The runs of the host below this one are retired: 1 to 281,474,976,710,655.
