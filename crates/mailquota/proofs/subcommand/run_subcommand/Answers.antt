@@ -6,7 +6,7 @@ returns-in-Replay g c = replay_ends c.args.given c.in-Replay.given c.replay.resu
 
 pub returns-in-Probe : goal.returns-in-Probe
 returns-in-Probe g c =
-    probe_ends c.args.given c.in-Probe.given c.probe_servers.result c.end_process-in-Probe.result c.in-Probe.is c.end_process-in-Probe.ensures c.probe_servers.ensures
+    probe_ends c.args.given c.in-Probe.given c.probe_servers.result c.end_process.result c.in-Probe.is c.end_process.ensures c.probe_servers.ensures
 
 pub returns-in-Report : goal.returns-in-Report
 returns-in-Report g c =
