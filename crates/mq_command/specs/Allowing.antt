@@ -6,14 +6,10 @@ use Rattle.mq_request.specs.Escaped.{escaped}
 use Rattle.mq_request.specs.Range.{IsHost, IsRun, IsLogin}
 use Rattle.mq_request.specs.declared.message.Request.{Request}
 use Rattle.mq_request.specs.declared.message.Request.TheVariants as asks
-use Rattle.mq_request.specs.declared.message.Reply.{Reply}
-use Rattle.mq_request.specs.declared.message.Reply.TheVariants as says
-use Rattle.mq_command.specs.Asking.{Asks, IsAnswered}
 use Rattle.mq_command.specs.Orders.{OrdersFresh}
 use Rattle.mq_command.specs.declared.allow.Setter.{Setter}
-use Rattle.mq_command.specs.declared.ask.AskFault.{AskFault}
 use Rattle.mq_command.specs.declared.order.OrderFault.{OrderFault}
-use Rattle.mq_command.specs.declared.order.OrderFault.TheVariants.{Over, Unanswered}
+use Rattle.mq_command.specs.declared.order.OrderFault.TheVariants.{Over}
 use Rattle.mq_link.specs.declared.link.Told.{Told}
 
 -- host, run and login are in range, so that a limit can carry them

@@ -1,5 +1,5 @@
 -- A login as smtpd reports it, which encodes it by vis(3) with white space, and bell, backspace and carriage return as they are.
-use Rattle.std.specs.Prelude.{ℕ, ◌+◌, ◌/◌, ◌%◌, ◌&&◌, ◌||◌, ◌==◌, ◌++◌, not, nat_le, nat_lt, Bool, true, false, List, [], ◌∷◌}
+use Rattle.std.specs.Prelude.{ℕ, ◌+◌, ◌/◌, ◌%◌, ◌&&◌, ◌||◌, ◌==◌, ◌++◌, not, nat_le, nat_lt, Bool, List, [], ◌∷◌}
 use Rattle.std.specs.Prelude.{Option, None, Some, if◌then◌else◌, map, codes}
 use Rattle.std.specs.List.{flat_map, list_all, list_any}
 use Rattle.mq_request.specs.Escaped.{escaped}

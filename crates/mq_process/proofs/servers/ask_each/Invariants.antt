@@ -1,4 +1,4 @@
-use Rattle.std.proofs.Common.{◌≡◌, ℕ, length, drop, map, ◌==◌}
+use Rattle.std.proofs.Common.{ℕ, length, drop, map, ◌==◌}
 use Rattle.mq_process.specs.Refusals.{HasNoAddress}
 use Rattle.mq_process.specs.Servers.{AsksEach}
 use Rattle.mq_process.proofs.servers.ask_each.Given as goal
