@@ -4,6 +4,8 @@ use Rattle.std.specs.Io.KnownBytes.{Appends}
 use Rattle.std.specs.IoError.{error_kind}
 use Rattle.std.specs.declared.io.ErrorKind.{ErrorKind}
 use Rattle.std.specs.declared.io.ErrorKind.TheVariants as kind
+use Rattle.std.specs.declared.net.SocketAddr.{SocketAddr}
+use Rattle.std.specs.declared.time.Duration.{Duration}
 use Rattle.mq_link.specs.Body.{IsReceived}
 use Rattle.mq_link.specs.declared.body.BodyFault.{BodyFault}
 use Rattle.mq_link.specs.declared.body.BodyFault.TheVariants as body
@@ -30,6 +32,11 @@ trouble_fault (System error) = fault_of (error_kind error)
 trouble_fault Empty = Down
 trouble_fault OutOfMemory = Memory
 trouble_fault Unconnected = Down
+
+-- where connections over TCP lead, and how long each may take to be made
+pub record Route : Type 0 where
+  pub address : SocketAddr
+  pub timeout : Duration
 
 -- what makes the connections of a link, and the connection that is open
 pub record Standing (C S : Type 0) : Type 0 where

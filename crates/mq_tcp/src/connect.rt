@@ -2,6 +2,7 @@
 
 use std::io;
 use std::io::{Read, Write};
+use std::marker::Model;
 use std::net::{Net, OpenStream, SocketAddr, TcpStream};
 use std::time::Duration;
 
@@ -26,7 +27,7 @@ pub trait Connect {
     fn address(&self) -> SocketAddr;
 }
 
-/// Makes connections over TCP.
+/// Makes connections over TCP. Contracts see where they lead.
 #[derive(Drop)]
 pub struct Connector<'a, R> {
     net: &'a R,
@@ -34,9 +35,21 @@ pub struct Connector<'a, R> {
     timeout: Duration,
 }
 
+impl<'a, R> Model for Connector<'a, R> {
+    ghost use Rattle.mq_tcp.specs.Exchange.{Route};
+
+    ghost Value = { Route };
+
+    ghost view = { λ connector. record { address = connector.address; timeout = connector.timeout } };
+}
+
 impl<'a, R: Net> Connector<'a, R> {
+    ghost use Rattle.std.specs.Prelude.{◌≡◌};
+
     /// Connects to this address, in no more than the timeout, which is above 0.
-    pub fn new(net: &'a R, address: SocketAddr, timeout: Duration) -> Connector<'a, R> {
+    pub fn new(net: &'a R, address: SocketAddr, timeout: Duration) -> Connector<'a, R>
+        ensures { result ≡ record { address = address; timeout = timeout } }
+    {
         Connector {
             net,
             address,

@@ -94,7 +94,7 @@ impl<'a, R: Net + Clock> TcpLink<'a, R, Connector<'a, R>> {
         address: SocketAddr,
         timeout: Duration,
     ) -> TcpLink<'a, R, Connector<'a, R>>
-        ensures { result.stream ≡ None }
+        ensures { result ≡ record { connector = record { address = address; timeout = timeout }; stream = None } }
     {
         TcpLink::over(Connector::new(net, address, timeout), net, timeout)
     }
