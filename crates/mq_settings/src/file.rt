@@ -1,5 +1,6 @@
 //! The file of settings.
 ghost use Rattle.std.specs.Prelude.{◌≡◌, ◌≢◌, ◌≤◌, ◌<◌, Err, IfOk, IfSome, length, vec_len};
+ghost use Rattle.mq_settings.specs.Files.{IsText};
 
 use std::alloc::Global;
 use std::fs::File;
@@ -34,7 +35,7 @@ fn fault_of(error: io::Error) -> FileFault
 
 /// All bytes of a source, if they are at most 65,536.
 pub fn read_limited<S: Read + Drop>(alloc: Global, source: S) -> Result<Vec<u8>, FileFault>
-    ensures whole { IfOk result (λ bytes. IfSome (S.remaining source) (λ all. bytes.items ≡ all)) }
+    ensures whole { IfOk result (λ bytes. IsText (S.remaining source) bytes.items) }
     ensures limit { IfOk result (λ bytes. vec_len bytes ≤ 65536) }
     ensures too_large { result ≡ Err FileFault.TooLarge → IfSome (S.remaining source) (λ all. 65536 < length all) }
 {
@@ -47,9 +48,12 @@ pub fn read_limited<S: Read + Drop>(alloc: Global, source: S) -> Result<Vec<u8>,
     }
 }
 
-/// The bytes of a settings file, at most 65,536.
+/// The bytes of a settings file, at most 65,536: all that the file gives which is opened.
 pub fn read_file<R: Files + AllocGlobal>(rt: &R, path: &str) -> Result<Vec<u8>, FileFault>
-    ensures { IfOk result (λ bytes. vec_len bytes ≤ 65536) }
+    ensures whole { IfOk result (λ bytes. (file : R.File) × IsText (R.File.remaining file) bytes.items) }
+    ensures limit { IfOk result (λ bytes. vec_len bytes ≤ 65536) }
+    ensures too_large { result ≡ Err FileFault.TooLarge → (file : R.File)
+        × IfSome (R.File.remaining file) (λ all. 65536 < length all) }
 {
     match File::open(rt, path) {
         Ok(file) => read_limited(rt.alloc(), file),
