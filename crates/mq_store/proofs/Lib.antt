@@ -17,3 +17,4 @@ pub mod Closings
 pub mod Clearings
 pub mod Entering
 pub mod Filling
+pub mod Renewals

@@ -1,5 +1,5 @@
 -- What a new store takes over from an old one.
-use Rattle.std.specs.Prelude.{◌≡◌, ◌+◌, ◌<◌, ℕ, List, [], take, length, Bool, true, false, Option, Some, None}
+use Rattle.std.specs.Prelude.{◌≡◌, ◌+◌, ◌<◌, ℕ, List, [], take, length, Bool, Option, Some, None}
 use Rattle.sqlite.specs.Effect.{Database}
 use Rattle.mq_request.specs.declared.message.Request.{Request}
 use Rattle.mq_request.specs.declared.message.Reply.{Reply}
@@ -8,12 +8,12 @@ use Rattle.mq_ledger.specs.declared.entry.Entry.{Entry}
 use Rattle.mq_ledger.specs.declared.zone.Zone.{Zone}
 use Rattle.mq_ledger.specs.Day.{day_of}
 use Rattle.mq_ledger.specs.History.{Transaction, named}
+use Rattle.mq_ledger.specs.Legal.{IsLegalBook}
 use Rattle.mq_rows.specs.declared.record.TransactionRecord.{TransactionRecord}
 use Rattle.mq_forget.specs.Remembered.{day_named, is_set, stays, remembered}
 use Rattle.mq_forget.specs.Carried.{IsAt}
 use Rattle.mq_store.specs.declared.recall.Answered.{Answered}
 use Rattle.mq_store.specs.declared.carry.Judged.{Judged}
-use Rattle.mq_store.specs.declared.carry.Next.{Next}
 use Rattle.mq_store.specs.Taking.{HasBook, book_of}
 
 -- What is read of the old store, whatever the history is of which its tables are the rows.
@@ -61,53 +61,43 @@ TellsStaying zone D a db told =
     → (reply : Reply) → IsWhereKnown a.reply reply
     → IsTold (day_of zone) D H (record { request = a.request; reply = reply }) told
 
+-- the entry at that place has the request, and it is told whether it stays
+pub record IsJudged (day : ℕ → ℕ) (D : ℕ) (H : List Entry) (place : ℕ) (judged : Judged) : Type 0 where
+  pub reply : Reply
+  pub at : IsAt H place (record { request = judged.request; reply = reply })
+  pub told : IsTold day D H (record { request = judged.request; reply = reply }) judged.is_staying
+
+-- so it is of each history of which the tables are the rows
+abbrev pub IsJudgedAt : Zone → ℕ → ℕ → Database → Judged → Type 0
+IsJudgedAt zone D place db judged =
+    (default : ℕ) (H : List Entry) → HasBook (book_of zone default H) db → IsJudged (day_of zone) D H place judged
+
 -- What is applied again. A scratch store has the rows of a prefix of the old history.
 
--- with as many entries more, the scratch store has the rows of that front
-abbrev pub Follows : Zone → ℕ → ℕ → ℕ → Database → Database → Database → Type 0
-Follows zone default followed place from old new =
-    (H : List Entry) → HasBook (book_of zone default H) from → HasBook (book_of zone default (take followed H)) old
-    → HasBook (book_of zone default (take place H)) new
+-- with the entry at that place, the scratch store has the rows of the front that ends with it
+abbrev pub Follows : Zone → ℕ → ℕ → Database → Database → Database → Type 0
+Follows zone default place from old new =
+    (H : List Entry) → HasBook (book_of zone default H) from → HasBook (book_of zone default (take place H)) old
+    → HasBook (book_of zone default (take (place + 1) H)) new
 
--- the entry at that place has the reply, and the scratch store the rows of the front that ends with it
-abbrev pub RepliesAt : Zone → ℕ → ℕ → ℕ → Request → Database → Database → Database → Reply → Type 0
-RepliesAt zone default followed place r from old new a =
-    (H : List Entry) → HasBook (book_of zone default H) from → HasBook (book_of zone default (take followed H)) old
-    → (reply : Reply) → IsAt H place (record { request = r; reply = reply })
-    → (reply ≡ a) × HasBook (book_of zone default (take (place + 1) H)) new
-
--- it is told of the entry at that place whether it stays, and the scratch store has the rows of the front that it follows
-abbrev pub IsJudgedAt : Zone → ℕ → ℕ → ℕ → ℕ → Answered → Database → Database → Database → Judged → Type 0
-IsJudgedAt zone default D followed place a from old new judged =
-    (H : List Entry) → HasBook (book_of zone default H) from → HasBook (book_of zone default (take followed H)) old
-    → (reply : Reply) → IsWhereKnown a.reply reply → IsAt H place (record { request = a.request; reply = reply })
-    → (stays (day_of zone) D H (record { request = a.request; reply = reply }) ≡ judged.is_staying)
-    × HasBook (book_of zone default (take judged.followed H)) new
+-- so it does with the entry of that request, and tells whether this is a limit that was set
+abbrev pub SetsAgain : Zone → ℕ → Request → Database → Database → Bool → Type 0
+SetsAgain zone default r old new set =
+    (H : List Entry) (place : ℕ) (reply : Reply) → IsLegalBook (book_of zone default H)
+    → IsAt H place (record { request = r; reply = reply }) → HasBook (book_of zone default (take place H)) old
+    → (is_set r reply ≡ set) × HasBook (book_of zone default (take (place + 1) H)) new
 
 -- What is carried over.
 
--- the entry at a place goes, or stays and has that request
-abbrev pub IsNextIn : (ℕ → ℕ) → ℕ → ℕ → List Entry → Option Request → Type 0
-IsNextIn day D place H None = (e : Entry) × IsAt H place e × (stays day D H e ≡ false)
-IsNextIn day D place H (Some r) = (e : Entry) × IsAt H place e × (stays day D H e ≡ true) × (e.request ≡ r)
-
--- so it is, and the scratch store has the rows of the front that it follows
-abbrev pub IsNextOf : Zone → ℕ → ℕ → ℕ → ℕ → Database → Database → Database → Next → Type 0
-IsNextOf zone default D followed place from old new next =
-    (H : List Entry) → HasBook (book_of zone default H) from → HasBook (book_of zone default (take followed H)) old
-    → IsNextIn (day_of zone) D place H next.request × HasBook (book_of zone default (take next.followed H)) new
-
--- where the new tables are the rows of what is remembered of a front, they are those of one with one entry more
-abbrev pub CarriesOne : Zone → ℕ → ℕ → ℕ → List Entry → Database → Database → Type 0
-CarriesOne zone default D place H old new =
-    HasBook (book_of zone default (remembered (day_of zone) D (take place H))) old
+-- where the new tables are the rows of what is remembered of a front, they are those of one with the entry of that request
+-- more, which stays or goes
+abbrev pub CarriesOne : Zone → ℕ → ℕ → Request → Bool → Database → Database → Type 0
+CarriesOne zone default D r staying old new =
+    (H : List Entry) (place : ℕ) (reply : Reply) → IsLegalBook (book_of zone default H)
+    → IsAt H place (record { request = r; reply = reply })
+    → stays (day_of zone) D H (record { request = r; reply = reply }) ≡ staying
+    → HasBook (book_of zone default (remembered (day_of zone) D (take place H))) old
     → HasBook (book_of zone default (remembered (day_of zone) D (take (place + 1) H))) new
-
--- where the new tables are a new ledger's, they are the rows of what is remembered of the first entries
-abbrev pub CarriesFront : Zone → ℕ → ℕ → ℕ → List Entry → Database → Database → Type 0
-CarriesFront zone default D count H old new =
-    HasBook (book_of zone default []) old
-    → HasBook (book_of zone default (remembered (day_of zone) D (take count H))) new
 
 -- where the new tables are a new ledger's, they are the rows of what is remembered of the old history
 abbrev pub Carries : Zone → ℕ → ℕ → Database → Database → Database → Type 0

@@ -10,3 +10,4 @@ pub mod Auditing
 pub mod Carrying
 pub mod Forgetting
 pub mod Limits
+pub mod Renewing

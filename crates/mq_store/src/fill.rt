@@ -11,9 +11,11 @@ ghost use Rattle.mq_store.specs.Forgetting.{MakesBlank, Fills, AreFilled};
 ghost use Rattle.mq_store.specs.Soundness.{HasKept};
 ghost use Rattle.mq_store.specs.Taking.{Stays};
 
-use crate::carry::{Terms, carry_all};
+use crate::carry::Terms;
 use crate::fault::Refused;
 use crate::ledger::new_setting;
+use crate::reached::Reached;
+use crate::slice::go_through;
 use mq_tables::create::make_tables;
 use sqlite::{Alter, Connection, Error, Transaction};
 use std::alloc::Global;
@@ -34,7 +36,7 @@ fn make<S: Alter>(tx: &mut Transaction<'_, S>, terms: &Terms) -> Result<usize, E
     make_tables(tx, &made_with)
 }
 
-/// Takes over what stays of all answers, with a scratch ledger in memory.
+/// Takes over what stays of all answers, in as many steps as that takes, with a scratch ledger in memory.
 fn carry_apart<S: Alter, T: Alter>(
     alloc: Global,
     from: &mut Transaction<'_, S>,
@@ -59,7 +61,18 @@ fn carry_apart<S: Alter, T: Alter>(
     let _settled = memory.is_autocommit();
     let mut scratch = memory.transaction();
     make(&mut scratch, terms)?;
-    carry_all(alloc, from, into, &mut scratch, terms)
+    let nothing = Reached::nothing();
+    let _all = go_through(
+        alloc,
+        from,
+        into,
+        &mut scratch,
+        terms,
+        nothing,
+        None,
+        u64::MAX,
+    )?;
+    Ok(())
 }
 
 /// Makes the tables of the new ledger and takes over what stays.

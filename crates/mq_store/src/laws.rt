@@ -14,12 +14,12 @@ ghost use Rattle.mq_request.specs.Same.{same_id};
 ghost use Rattle.mq_frame.specs.Spelling.{SpellsRequest, SpellsReply};
 ghost use Rattle.mq_ledger.specs.declared.entry.Entry.{Entry as AnyEntry};
 ghost use Rattle.mq_ledger.specs.declared.zone.Zone.{Zone as AnyZone};
-ghost use Rattle.mq_ledger.specs.Answer.{appended, known_by, reply};
+ghost use Rattle.mq_ledger.specs.Answer.{appended, history_of, known_by, reply};
 ghost use Rattle.mq_ledger.specs.Arrivals.{id_of, floor, is_below, is_first};
 ghost use Rattle.mq_ledger.specs.Day.{day_of};
 ghost use Rattle.mq_ledger.specs.History.{requests, Transaction, named};
 ghost use Rattle.mq_ledger.specs.Page.{row};
-ghost use Rattle.mq_ledger.specs.Legal.{Book, IsLegalBook};
+ghost use Rattle.mq_ledger.specs.Legal.{Book, IsLegal, IsLegalBook};
 ghost use Rattle.mq_rows.specs.declared.audited.Audit.{Audit as AnyAudit};
 ghost use Rattle.mq_rows.specs.declared.record.AnswerRecord.{AnswerRecord};
 ghost use Rattle.mq_rows.specs.declared.record.UsageRecord.{UsageRecord};
@@ -41,7 +41,9 @@ ghost use Rattle.mq_tables.specs.Records.{IsOneOf};
 ghost use Rattle.mq_store.specs.Paging.{IsNextRow, IsPageOf, IsBegunIn};
 ghost use Rattle.mq_store.specs.Auditing.{IsAuditIn, IsRightAnswer};
 ghost use Rattle.mq_store.specs.Carrying.{day_by, SpellsWhereKnown, IsAnswered};
+ghost use Rattle.mq_store.specs.Renewing.{HasCarried};
 ghost use Rattle.mq_store.specs.Soundness.{book_in};
+ghost use Rattle.mq_store.specs.declared.reached.Reached.{Reached as AnyReached};
 ghost use Rattle.mq_store.specs.Taking.{HasRows, HasBook, book_of, book_after, IsKnown, IsPlannedOver};
 
 use mq_forget::laws::{fronts_are_legal, next_place_is_carried_over};
@@ -248,4 +250,15 @@ pub(crate) fn entries_are_carried()
         HasBook (book_of zone default (remembered (day_of zone) D (take (place + 1) H))) db }
 {
     next_place_is_carried_over();
+}
+
+/// What was taken over of an old ledger is so of it with further entries, and so after any requests that come to it.
+pub fn arrivals_leave_what_was_taken_over()
+    ensures entries { (zone : AnyZone) (default D : ℕ) (H S : List AnyEntry) (at : AnyReached) (new scratch : Database) →
+        HasCarried zone default D H at new scratch → HasCarried zone default D (H ++ S) at new scratch }
+    ensures arrivals { (zone : AnyZone) (default D : ℕ) (H : List AnyEntry) (came : List AnyRequest) (at : AnyReached)
+        (new scratch : Database) → IsLegal (day_of zone) default H → HasCarried zone default D H at new scratch →
+        HasCarried zone default D (history_of (day_of zone) default (requests H ++ came)) at new scratch }
+{
+    one_more_arrival();
 }

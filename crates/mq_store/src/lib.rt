@@ -3,7 +3,8 @@
 //!
 //! [`SqlLedger`] is a [`Ledger`](mq_ledger::Ledger): `create` makes its tables, `open` checks and audits those that a
 //! store has, `apply` answers a request, and `carry_over` makes a new ledger of what an old one remembers from a day
-//! on. From `mq_program/src/store.rt`:
+//! on. A [`Renewal`] makes that ledger a few answers at a time, while requests come to the old one. From
+//! `mq_program/src/store.rt`:
 //!
 //!     match SqlLedger::open(alloc, connection, settings.zone, settings.default) {
 //!         Ok(ledger) => Ok(ledger),
@@ -30,11 +31,16 @@ mod limits;
 mod listing;
 mod memory;
 mod opening;
+mod reached;
 mod recall;
+mod renewal;
+mod slice;
 mod take;
 mod write;
 
 pub use auditing::RowCounts;
 pub use fault::{OpenFault, OpenRefused, StoreCause};
+pub use laws::arrivals_leave_what_was_taken_over;
 pub use ledger::SqlLedger;
 pub use mq_rows::Audit;
+pub use renewal::Renewal;

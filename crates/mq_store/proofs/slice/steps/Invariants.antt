@@ -1,0 +1,29 @@
+use Rattle.std.proofs.Common.{◌≤◌, ◌+◌}
+use Rattle.std.specs.Prelude.{IsTrue}
+use Rattle.sqlite.specs.Held.{state}
+use Rattle.sqlite.specs.State.{HasCleanDisk}
+use Rattle.sqlite.specs.Steps.{over_memory}
+use Rattle.mq_tables.specs.Inside.{LeavesCommit}
+use Rattle.mq_store.specs.Renewing.{Renews}
+use Rattle.mq_store.specs.Taking.{Stays}
+use Rattle.mq_store.proofs.slice.steps.Given as goal
+
+abbrev pub invariant-loop-step : goal.invariant-loop-step
+invariant-loop-step g l =
+    let old = state g.S.Store l.fn.from.conn.now in
+    let now = state g.S.Store l.from.conn.now in
+    let old_into = state g.T.Store l.fn.into.conn.now in
+    let now_into = state g.T.Store l.into.conn.now in
+    let before = state over_memory l.fn.scratch.conn.now in
+    let after = state over_memory l.scratch.conn.now in
+    record {
+      from_leaves : LeavesCommit g.S.Store l.fn.from l.from;
+      into_leaves : LeavesCommit g.T.Store l.fn.into l.into;
+      scratch_leaves : LeavesCommit over_memory l.fn.scratch l.scratch;
+      stays : HasCleanDisk now → Stays old now;
+      into_inside : HasCleanDisk now_into → IsTrue now_into.in_transaction;
+      inside : IsTrue after.in_transaction;
+      more : l.fn.at.place + l.fn.at.followed + l._step ≤ l.reached.place + l.reached.followed;
+      renews : HasCleanDisk now → HasCleanDisk now_into
+          → Renews l.terms.zone l.terms.default l.terms.day l.fn.at l.reached old.now old_into.now now_into.now before.now after.now;
+    }
