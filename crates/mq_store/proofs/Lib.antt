@@ -18,3 +18,4 @@ pub mod Clearings
 pub mod Entering
 pub mod Filling
 pub mod Renewals
+pub mod Beside

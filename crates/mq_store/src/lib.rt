@@ -11,7 +11,7 @@
 //!         Err(refused) => Err(refused_by(log, path, false, settings, refused)),
 //!     }
 //!
-//! It stands on `mq_request`, `mq_frame`, `mq_ledger`, `mq_forget`, `mq_rows` and `mq_tables`: it knows what a ledger
+//! It stands on `mq_request`, `mq_frame`, `mq_ledger`, `mq_forget`, `mq_chore`, `mq_rows` and `mq_tables`: it knows what a ledger
 //! means, its rows and its statements, and nothing of connections or files. Begin with `specs/Soundness.antt`, when a
 //! store is a sound ledger, and `take.rt`, one request; `write.rt` is where the reply is stored. docs/STORE.md says it
 //! in words.
@@ -34,6 +34,7 @@ mod opening;
 mod reached;
 mod recall;
 mod renewal;
+mod renewing;
 mod slice;
 mod take;
 mod write;
@@ -44,3 +45,4 @@ pub use laws::arrivals_leave_what_was_taken_over;
 pub use ledger::SqlLedger;
 pub use mq_rows::Audit;
 pub use renewal::Renewal;
+pub use renewing::Renewing;
