@@ -14,11 +14,15 @@
 #![tactic(auto)]
 
 #[cfg(test)]
+mod asker;
+#[cfg(test)]
 mod asks;
 #[cfg(test)]
 mod forgetting;
 #[cfg(test)]
 mod program;
+#[cfg(test)]
+mod renewals;
 #[cfg(test)]
 mod store;
 #[cfg(test)]
