@@ -16,6 +16,7 @@ A refused goal may be true and only without an answer. So an edit that adds a wa
 looked at once more (second.py): it fails where its goals are true, and where that can't be told it fails unless it names a case that
 refuses its body.
 """
+import re
 from collections import namedtuple
 
 from copies import Copy, LawCopy, copy_of
@@ -102,7 +103,9 @@ class Rounds:
         self.count += 1
         # (what an edit outside functions spoils isn't known)
         by_contract = [] if any(it.is_outside for it in edits) else [it for it in self.unedited(edits) if it not in only]
-        kept = set(only).union(*(it.touched for it in edits))
+        # (of an impl over one type alone the prover's name isn't that of the text, so it has its body and its proof)
+        over_one_type = {re.sub(r"\+\w+", "", it) for it in self.proved if "+" in it}
+        kept = set(only).union(over_one_type, *(it.touched for it in edits))
         ran = self.crate.check(self.composed(edits, more), only, by_contract, kept)
         self.seconds += ran.seconds
         if ran.status == -9:
