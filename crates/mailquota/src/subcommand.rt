@@ -3,7 +3,7 @@ ghost use Rattle.mq_arguments.specs.Arguments.{IsArguments};
 ghost use Rattle.mailquota.specs.Refusals.{Refuses};
 
 use mq_arguments::Arguments;
-use mq_process::{day, end_process};
+use mq_process::{Dialer, day, end_process};
 use mq_program::{audit, end_program, forget, init, limits, replay, server, status};
 use mq_remote::{end_filter, filter, limit, probe_servers, report, resume, retire, stop};
 use sqlite::Start;
@@ -25,21 +25,24 @@ pub fn run_subcommand<E: Write, S: Start, N: Start>(
     requires { IsArguments given }
     ensures { Refuses given.entry result }
 {
+    let dial = &Dialer::new(rt);
     match given {
         Arguments::Replay(given) => end_program(replay(rt, given, errors), errors),
         Arguments::Init(given) => {
             end_program(init(rt, given, start, &mut io::writer(rt)), errors)
         }
-        Arguments::Filter(given) => end_filter(filter(rt, given, errors), errors),
+        Arguments::Filter(given) => end_filter(filter(rt, dial, given, errors), errors),
         Arguments::Status(given) => end_program(status(rt, given, start, errors), errors),
         Arguments::Probe(given) => end_process(probe_servers(rt, given, errors), errors),
         Arguments::Server(given) => end_program(server(rt, given, start), errors),
-        Arguments::Limit(given) => end_process(limit(rt, given, errors), errors),
-        Arguments::Stop(given) => end_process(stop(rt, given, errors), errors),
-        Arguments::Resume(given) => end_process(resume(rt, given, errors), errors),
-        Arguments::Day(given) => end_process(day(rt, given, errors), errors),
-        Arguments::Retire(given) => end_process(retire(rt, given, errors), errors),
-        Arguments::Report(given) => end_process(report(rt, given, errors), errors),
+        Arguments::Limit(given) => end_process(limit(rt, dial, given, errors), errors),
+        Arguments::Stop(given) => end_process(stop(rt, dial, given, errors), errors),
+        Arguments::Resume(given) => end_process(resume(rt, dial, given, errors), errors),
+        Arguments::Day(given) => {
+            end_process(day(rt, given, &mut io::writer(rt), errors), errors)
+        },
+        Arguments::Retire(given) => end_process(retire(rt, dial, given, errors), errors),
+        Arguments::Report(given) => end_process(report(rt, dial, given, errors), errors),
         Arguments::Limits(given) => {
             end_program(limits(rt, given, start, &mut io::writer(rt)), errors)
         }

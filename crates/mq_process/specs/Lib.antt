@@ -1,4 +1,6 @@
+pub mod Days
 pub mod Faults
+pub mod Links
 pub mod Questions
 pub mod Refusals
 pub mod Servers

@@ -5,6 +5,7 @@ ghost use Rattle.std.specs.Net.Grammar.{IsSocketText};
 ghost use Rattle.mq_request.specs.Range.{IsHost, IsLogin};
 ghost use Rattle.mq_process.specs.Refusals.{HasNoAddress, IsNoAddress, Names, NamesLogin, OrderRefuses};
 
+use crate::dialing::Dial;
 use crate::fault::ProcessFault;
 use crate::servers::check_addresses;
 use log::sink::Console;
@@ -13,12 +14,10 @@ use mq_arguments::LoginArgument;
 use mq_command::{TRIES, is_login_text, login_of_text, note_of};
 use mq_request::{Escaped, Host, Id, Login, is_host, is_login};
 use mq_settings::address_flaw;
-use mq_tcp::{Connector, LoggedLink, TcpLink};
+use mq_tcp::LoggedLink;
 use std::alloc::{AllocError, Global};
 use std::io::Write;
-use std::net::{Net, SocketAddr};
-use std::rt::Clock;
-use std::time::Duration;
+use std::net::SocketAddr;
 
 /// How long it may take to connect, to write a request and to read its reply, in milliseconds.
 pub const TIMEOUT: u64 = 2_000;
@@ -103,13 +102,14 @@ pub fn tell_note<E: Write>(alloc: Global, login: &Login, errors: &mut E) -> Resu
 }
 
 /// A link to the server at this address, with a log of its troubles.
-pub fn link_to<'a, R: Clock + Net, G: Log>(
-    rt: &'a R,
+pub fn link_to<'a, D: Dial, G: Log>(
+    dial: &D,
     address: SocketAddr,
     log: &'a G,
-) -> LoggedLink<'a, TcpLink<'a, R, Connector<'a, R>>, G> {
-    let link = TcpLink::new(rt, address, Duration::from_millis(TIMEOUT));
-    LoggedLink::new(link, log, TRIES)
+) -> LoggedLink<'a, D::Link, G>
+    ensures { D.leads result address TIMEOUT }
+{
+    LoggedLink::new(dial.link(address, TIMEOUT), log, TRIES)
 }
 
 /// The first number of a run.

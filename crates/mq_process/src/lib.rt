@@ -6,12 +6,13 @@
 //!     let servers = given.servers.as_slice();
 //!     checked(rt, given.host, given.login, servers)?;
 //!
-//! It stands on `mq_arguments`, `mq_request`, `mq_ledger`, `mq_settings`, `mq_tcp` and `mq_command`. Begin with `settings.rt` and
+//! It stands on `mq_arguments`, `mq_request`, `mq_ledger`, `mq_settings`, `mq_link`, `mq_tcp` and `mq_command`. Begin with `settings.rt` and
 //! `asking.rt`; `specs/Refusals.antt` says which words are refused, and in which order.
 #![tactic(auto)]
 
 mod asking;
 mod clock;
+mod dialing;
 mod fault;
 mod moment;
 mod probing;
@@ -20,8 +21,11 @@ mod servers;
 mod settings;
 mod today;
 
-pub use asking::{address_of, checked, first_id, link_to, login_of, names_login, tell_note};
+pub use asking::{
+    TIMEOUT, address_of, checked, first_id, link_to, login_of, names_login, tell_note,
+};
 pub use clock::{elapsed, run_number};
+pub use dialing::{Dial, Dialer};
 pub use fault::ProcessFault;
 pub use moment::{day, moment_or_now};
 pub use probing::{Question, ask_once, probe};

@@ -1,6 +1,8 @@
 //! The settings of the filter and of the server, read from their files.
-ghost use Rattle.std.specs.Prelude.{◌≡◌, IfErr, IfOk, List, ℕ};
-ghost use Rattle.mq_process.specs.Settings.{AreInRange, CanAsk, RefusesServer, SpellsFilter, SpellsServer};
+ghost use Rattle.std.specs.Prelude.{◌≡◌, IfErr, IfOk};
+ghost use Rattle.mq_settings.specs.Files.{IsText};
+ghost use Rattle.mq_process.specs.Settings.{AreInRange, CanAsk, IsFileFault, ReadsFilter, ReadsServer, RefusesFilter};
+ghost use Rattle.mq_process.specs.Settings.{RefusesServer, SpellsFilter, SpellsServer};
 
 use crate::fault::ProcessFault;
 use log::sink::Console;
@@ -31,20 +33,45 @@ fn logged_of<R: Eprint>(rt: &R, file: &str, fault: ProcessFault) -> ProcessFault
     fault
 }
 
-/// The filter's settings in a file. Why they can't be used is logged.
+/// All that a file of settings gives. Why it can't be read is logged.
+fn text_of<R: Files + Eprint + AllocGlobal>(rt: &R, file: &str) -> Result<Vec<u8>, ProcessFault>
+    ensures text { IfOk result (λ text. (opened : R.File) × IsText (R.File.remaining opened) text.items) }
+    ensures fault { IfErr result IsFileFault }
+{
+    match read_file(rt, file) {
+        Ok(text) => Ok(text),
+        Err(fault) => Err(logged_of(rt, file, ProcessFault::File(fault))),
+    }
+}
+
+/// The filter's settings that a text spells, which a file of this name has. Why they can't be used is logged.
+fn filter_settings_of<R: Eprint + AllocGlobal>(
+    rt: &R,
+    file: &str,
+    text: &[u8],
+) -> Result<FilterSettings, ProcessFault>
+    ensures settings { IfOk result (SpellsFilter text.now) }
+    ensures in_range { IfOk result CanAsk }
+    ensures refusal { IfErr result (RefusesFilter text.now) }
+{
+    match read_filter_settings(rt.alloc(), text) {
+        Ok(settings) => Ok(settings),
+        Err(fault) => Err(logged_of(rt, file, ProcessFault::Settings(fault))),
+    }
+}
+
+/// The filter's settings in a file: those that all of it spells. Why they can't be used is logged.
 pub fn filter_settings<R: Files + Eprint + AllocGlobal>(
     rt: &R,
     file: &str,
 ) -> Result<FilterSettings, ProcessFault>
-    ensures settings { IfOk result (λ settings. (text : List ℕ) × SpellsFilter text settings) }
+    ensures reads { ReadsFilter R.File.remaining result }
     ensures in_range { IfOk result CanAsk }
 {
-    let text = read_file(rt, file).map_err(|fault| logged_of(rt, file, ProcessFault::File(fault)))?;
-    read_filter_settings(rt.alloc(), text.as_slice()).map_err(|fault| logged_of(
-        rt,
-        file,
-        ProcessFault::Settings(fault),
-    ))
+    match text_of(rt, file) {
+        Ok(text) => filter_settings_of(rt, file, text.as_slice()),
+        Err(fault) => Err(fault),
+    }
 }
 
 /// The server's settings that a text spells, which a file of this name has. Why they can't be used is logged.
@@ -63,14 +90,16 @@ fn server_settings_of<R: Eprint + AllocGlobal>(
     }
 }
 
-/// The server's settings in a file. Why they can't be used is logged.
+/// The server's settings in a file: those that all of it spells. Why they can't be used is logged.
 pub fn server_settings<R: Files + Eprint + AllocGlobal>(
     rt: &R,
     file: &str,
 ) -> Result<ServerSettings, ProcessFault>
-    ensures settings { IfOk result (λ settings. (text : List ℕ) × SpellsServer text settings) }
+    ensures reads { ReadsServer R.File.remaining result }
     ensures in_range { IfOk result AreInRange }
 {
-    let text = read_file(rt, file).map_err(|fault| logged_of(rt, file, ProcessFault::File(fault)))?;
-    server_settings_of(rt, file, text.as_slice())
+    match text_of(rt, file) {
+        Ok(text) => server_settings_of(rt, file, text.as_slice()),
+        Err(fault) => Err(fault),
+    }
 }

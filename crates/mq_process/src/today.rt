@@ -1,7 +1,7 @@
 //! The day from which a login is stopped, which is today unless it is forced.
 ghost use Rattle.std.specs.Prelude.{◌≡◌, ◌/◌, ◌+◌, ◌≤◌, IfOk, IfSome, MatchResult, option_map};
 ghost use Rattle.mq_request.specs.Range.{IsMoment, IsWithin};
-ghost use Rattle.mq_process.specs.Today.{ChoosesDay, today_of, is_today};
+ghost use Rattle.mq_process.specs.Today.{ChoosesBy, ChoosesDay, ChoosesNow, StopsFrom, today_of, is_today};
 
 use crate::fault::ProcessFault;
 use crate::moment::moment_or_now;
@@ -62,6 +62,42 @@ fn chosen_day(zone: Option<&Zone>, moment: u64, given: Option<u32>) -> Result<u3
     }
 }
 
+/// The day that is given, where it can be today by the clock, or else today.
+fn day_by_clock(
+    rt: &impl Clock,
+    zone: Option<&Zone>,
+    given: Option<u32>,
+) -> Result<u32, ProcessFault>
+    requires { IfSome given (IsWithin 0 376199) }
+    ensures chooses { ChoosesNow (option_map (λ z. z.now) zone.entry) given result }
+    ensures in_range { IfOk result (IsWithin 0 376199) }
+{
+    match moment_or_now(rt, None) {
+        Ok(moment) => chosen_day(zone, moment, given),
+        Err(fault) => Err(fault),
+    }
+}
+
+/// The day that is given, where it can be today by the zone of the settings in a file, or in some zone where none is named,
+/// or else today.
+fn day_by_settings<R: Files + Clock + Eprint + AllocGlobal>(
+    rt: &R,
+    given: Option<u32>,
+    config: Option<&str>,
+) -> Result<u32, ProcessFault>
+    requires { IfSome given (IsWithin 0 376199) }
+    ensures chooses { ChoosesBy R.File.remaining config.entry given result }
+    ensures in_range { IfOk result (IsWithin 0 376199) }
+{
+    match config {
+        None => day_by_clock(rt, None, given),
+        Some(file) => match server_settings(rt, file) {
+            Ok(settings) => day_by_clock(rt, Some(&settings.zone), given),
+            Err(fault) => Err(fault),
+        },
+    }
+}
+
 /// The day from which a login is stopped: the one that is given, where it is today by the zone of the settings in a file and
 /// by the clock, or it is forced; or today, where none is given. Where no file is named the day has to be today in some zone.
 ///
@@ -74,14 +110,11 @@ pub fn day_to_stop<R: Files + Clock + Eprint + AllocGlobal>(
     is_forced: bool,
 ) -> Result<u32, ProcessFault>
     requires { IfSome given (IsWithin 0 376199) }
+    ensures stops { StopsFrom R.File.remaining config.entry is_forced given result }
     ensures in_range { IfOk result (IsWithin 0 376199) }
 {
     if is_forced && let Some(day) = given {
         return Ok(day);
     }
-    let Some(file) = config else {
-        return chosen_day(None, moment_or_now(rt, None)?, given);
-    };
-    let settings = server_settings(rt, file)?;
-    chosen_day(Some(&settings.zone), moment_or_now(rt, None)?, given)
+    day_by_settings(rt, given, config)
 }

@@ -1,1 +1,2 @@
+pub mod AskedSteps
 pub mod RefusalSteps

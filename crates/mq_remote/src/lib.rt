@@ -4,7 +4,7 @@
 //! Each checks its words, makes the link to the server, and hands it with its streams to `mq_client` or `mq_command`, which
 //! decide. From `mailquota/src/subcommand.rt`:
 //!
-//!     Arguments::Limit(given) => end_process(limit(rt, given, errors), errors),
+//!     Arguments::Limit(given) => end_process(limit(rt, dial, given, errors), errors),
 //!
 //! It stands on `mq_arguments`, `mq_request`, `mq_stream`, `mq_link`, `mq_client`, `mq_settings`, `mq_tcp`,
 //! `mq_command` and `mq_process`, and knows no store, so that it is proved while the tables of the ledger are. Begin

@@ -1,10 +1,9 @@
 //! The link to the quota server over TCP, a new connection for each exchange, and a link that logs outages.
 //!
 //! [`TcpLink`] is a link over whatever makes its connections ([`Connect`]), the program's [`Connector`] over sockets.
-//! [`LoggedLink`] is any link with a log of its outages. From `mq_remote/src/subcommands/filter.rt`:
+//! [`LoggedLink`] is any link with a log of its outages. From `mq_process/src/asking.rt`:
 //!
-//!     let link = TcpLink::new(rt, server, timeout);
-//!     let mut link = LoggedLink::new(link, &logged, settings.tries);
+//!     LoggedLink::new(dial.link(address, TIMEOUT), log, TRIES)
 //!
 //! It stands on `mq_frame`, `mq_link` and `mq_deadline`: it knows what a link means and which replies answer, and
 //! doesn't know what is asked. Begin with `specs/Exchange.antt`, what an exchange writes and reads, and `tcp.rt`.

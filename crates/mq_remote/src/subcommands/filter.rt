@@ -1,7 +1,8 @@
 //! `filter`: answers smtpd on standard input and output.
-ghost use Rattle.std.specs.Prelude.{IfSome};
+ghost use Rattle.std.specs.Prelude.{◌↔◌, ◌<◌, ◌*◌, ℕ, IfOk, IfSome, IsTrue, List, Option};
 ghost use Rattle.mq_request.specs.Range.{IsRun};
 ghost use Rattle.mq_process.specs.Settings.{CanAsk};
+ghost use Rattle.mq_remote.specs.Filters.{AnswersLines, Begins, FiltersBy, FiltersFile, FiltersNumbered, FiltersRun};
 
 use crate::fault::FilterEnd;
 use log::sink::Console;
@@ -9,40 +10,90 @@ use log::{LevelFilter, Log, Logged, error, info, warn};
 use mq_arguments::FilterArguments;
 use mq_client::{Client, Spans, run_filter};
 use mq_link::Link;
-use mq_process::{ProcessFault, Question, ask_once, filter_settings, run_number};
+use mq_process::{Dial, ProcessFault, Question, ask_once, filter_settings, run_number};
 use mq_request::Escaped;
 use mq_settings::FilterSettings;
 use mq_stream::{FromRead, ToWrite};
-use mq_tcp::{LoggedLink, TcpLink};
+use mq_tcp::LoggedLink;
+use std::alloc::{AllocError, Global};
 use std::io;
 use std::io::Write;
 use std::net::Net;
 use std::rt::{Clock, Files};
-use std::time::Duration;
 
 /// Runs the filter until its input ends: the settings first, then the clock. With `check` it reads no input, and only asks
 /// whether the server of its settings takes the requests of its host.
-pub fn filter<R: Files + Clock + Net + Input + Print + Eprint + AllocGlobal, E: Write>(
+pub fn filter<R: Files + Clock + Net + Input + Print + Eprint + AllocGlobal, D: Dial, E: Write>(
     rt: &R,
+    dial: &D,
     given: FilterArguments<'_>,
     errors: &mut E,
 ) -> Result<u8, FilterEnd>
     requires { IfSome given.run IsRun }
+    ensures { FiltersFile D.leads D.Link.told R.File.remaining given.entry result }
 {
-    let settings = filter_settings(rt, given.config)?;
-    if given.check {
-        let timeout = u64::from(settings.timeout);
-        let question = Question::Check(&settings.host, run_number(rt, None)?);
-        let status = ask_once(rt, settings.server, timeout, question, errors)?;
-        tell_spans(rt, &settings);
-        return Ok(status);
+    match filter_settings(rt, given.config) {
+        Ok(settings) => filter_by(rt, dial, &settings, given.check, given.run, errors),
+        Err(fault) => Err(FilterEnd::Process(fault)),
     }
-    let run = run_number(rt, given.run)?;
-    run_client(rt, &settings, run)
+}
+
+/// Runs the filter by its settings, or only asks whether their server answers.
+fn filter_by<R: Clock + Net + Input + Print + Eprint + AllocGlobal, D: Dial, E: Write>(
+    rt: &R,
+    dial: &D,
+    settings: &FilterSettings,
+    check: bool,
+    run: Option<u64>,
+    errors: &mut E,
+) -> Result<u8, FilterEnd>
+    requires settings { CanAsk settings.now }
+    requires run { IfSome run IsRun }
+    ensures { FiltersBy D.leads D.Link.told check run settings.now result }
+{
+    if check {
+        return check_server(rt, settings, errors);
+    }
+    run_numbered(rt, dial, settings, run)
+}
+
+/// Runs the filter under the run number that is given, or under the clock's.
+fn run_numbered<R: Clock + Input + Print + Eprint + AllocGlobal, D: Dial>(
+    rt: &R,
+    dial: &D,
+    settings: &FilterSettings,
+    given: Option<u64>,
+) -> Result<u8, FilterEnd>
+    requires settings { CanAsk settings.now }
+    requires given { IfSome given IsRun }
+    ensures { FiltersNumbered D.leads D.Link.told given settings.now result }
+{
+    match run_number(rt, given) {
+        Ok(run) => run_client(rt, dial, settings, run),
+        Err(fault) => Err(FilterEnd::Process(fault)),
+    }
+}
+
+/// Asks once whether the server of the settings takes the requests of their host, and prints how long the filter holds back.
+fn check_server<R: Clock + Net + Print + Eprint + AllocGlobal, E: Write>(
+    rt: &R,
+    settings: &FilterSettings,
+    errors: &mut E,
+) -> Result<u8, FilterEnd>
+    requires { CanAsk settings.now }
+{
+    let timeout = u64::from(settings.timeout);
+    let question = Question::Check(&settings.host, run_number(rt, None)?);
+    let status = ask_once(rt, settings.server, timeout, question, errors)?;
+    tell_spans(rt, settings);
+    Ok(status)
 }
 
 /// Whether there is a pause, and one that is over before the tries of one request may be.
-fn is_short(settings: &FilterSettings) -> bool {
+fn is_short(settings: &FilterSettings) -> bool
+    ensures { IsTrue result ↔ ((0 < settings.now.pause)
+        × (settings.now.pause * 1000 < settings.now.tries * settings.now.timeout)) }
+{
     let pause = u64::from(settings.pause) * 1_000;
     let tries = u64::from(settings.tries);
     0 < pause && pause < tries.saturating_mul(u64::from(settings.timeout))
@@ -62,29 +113,39 @@ fn tell_spans<R: Print + Eprint>(rt: &R, settings: &FilterSettings) {
     }
 }
 
+/// The client of a run, as the settings say.
+fn client_of(alloc: Global, settings: &FilterSettings, run: u64) -> Result<Client, AllocError>
+    requires settings { CanAsk settings.now }
+    requires run { IsRun run }
+    ensures { IfOk result (Begins settings.now run) }
+{
+    let client = Client::new(alloc, &settings.host, run, settings.tries)?;
+    Ok(client.with_spans(Spans {
+        pause: u64::from(settings.pause),
+        hold: u64::from(settings.hold),
+    }))
+}
+
 /// Runs the filter under this run number, over a link to the server of the settings.
-fn run_client<R: Clock + Net + Input + Print + Eprint + AllocGlobal>(
+fn run_client<R: Input + Print + Eprint + AllocGlobal, D: Dial>(
     rt: &R,
+    dial: &D,
     settings: &FilterSettings,
     run: u64,
 ) -> Result<u8, FilterEnd>
     requires settings { CanAsk settings.now }
     requires run { IsRun run }
+    ensures { FiltersRun D.leads D.Link.told settings.now run result }
 {
-    let mut client = match Client::new(rt.alloc(), &settings.host, run, settings.tries) {
-        Ok(client) => client.with_spans(Spans {
-            pause: u64::from(settings.pause),
-            hold: u64::from(settings.hold),
-        }),
-        Err(_) => return Err(FilterEnd::Process(ProcessFault::Memory)),
+    let Ok(mut client) = client_of(rt.alloc(), settings, run) else {
+        return Err(FilterEnd::Process(ProcessFault::Memory));
     };
     let logged = Logged::new(rt, settings.log, Console(rt));
     let host = Escaped(settings.host.as_slice());
     let server = settings.server;
     info!(logged; "the filter of host {host} begins its run {run}, with the server {server}");
-    let timeout = Duration::from_millis(u64::from(settings.timeout));
-    let link = TcpLink::new(rt, server, timeout);
-    let mut link = LoggedLink::new(link, &logged, settings.tries);
+    let timeout = u64::from(settings.timeout);
+    let mut link = LoggedLink::new(dial.link(server, timeout), &logged, settings.tries);
     answer_lines(rt, &logged, &mut link, &mut client)
 }
 
@@ -94,7 +155,10 @@ fn answer_lines<R: Input + Print + AllocGlobal, G: Log, K: Link>(
     log: &G,
     link: &mut K,
     client: &mut Client,
-) -> Result<u8, FilterEnd> {
+) -> Result<u8, FilterEnd>
+    ensures { (before after : Option (List ℕ))
+        × AnswersLines client.old client.new result (K.told link.old) (K.told link.new) before after }
+{
     let mut input = FromRead::new(rt.reader());
     let mut output = ToWrite::new(io::writer(rt));
     match run_filter(log, rt.alloc(), &mut input, &mut output, link, client) {

@@ -10,4 +10,4 @@ returns-in-Probe g c =
 
 pub returns-in-Report : goal.returns-in-Report
 returns-in-Report g c =
-    report_ends c.args.given c.in-Report.given c.report.result c.end_process-in-Report.result c.in-Report.is c.end_process-in-Report.ensures c.report.ensures
+    report_ends c.args.given c.in-Report.given c.report.result c.end_process-in-Report.result c.in-Report.is c.end_process-in-Report.ensures c.report.ensures.refuses

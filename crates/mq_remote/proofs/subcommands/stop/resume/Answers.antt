@@ -1,6 +1,14 @@
+use Rattle.mq_remote.proofs.AskedSteps.{those_asked}
 use Rattle.mq_remote.proofs.RefusalSteps.{order_refused}
 use Rattle.mq_remote.proofs.subcommands.stop.resume.Goals as goal
 
-pub returns-in_err-checked : goal.returns-in_err-checked
-returns-in_err-checked g c =
+pub returns-in_err-checked-clause-refuses : goal.returns-in_err-checked-clause-refuses
+returns-in_err-checked-clause-refuses g c =
     order_refused c.args.given.host.now c.args.given.login _ c.args.given.servers c.checked.result c.in_err-checked.field-0.0 _ c.as_slice-servers.ensures c.in_err-checked.was c.from_residual.ensures.1 c.checked.ensures.refuses
+
+pub returns-clause-asks : goal.returns-clause-asks
+returns-clause-asks g c = record {
+  setter = c.in_ok-setter.setter;
+  is_setter = c.in_ok-setter.ensures.setter;
+  asked = those_asked _ _ c.as_slice-servers.ensures c.resume_at_each.ensures;
+}

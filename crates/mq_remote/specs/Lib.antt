@@ -1,0 +1,3 @@
+pub mod Asked
+pub mod Filters
+pub mod Servers
