@@ -72,8 +72,8 @@ install:
 	for file in one-spelling await-server keepalived-check; do \
 		sed -e 's#/usr/local/sbin#$(SBINDIR)#g' contrib/$$file >$(DESTDIR)$(LIBEXECDIR)/$$file && chmod 755 $(DESTDIR)$(LIBEXECDIR)/$$file || exit 1; \
 	done
-	install -m 644 man/mailquota.8 $(DESTDIR)$(MANDIR)/man8/mailquota.8
-	install -m 644 man/mailquota.toml.5 $(DESTDIR)$(MANDIR)/man5/mailquota.toml.5
+	install -m 644 man/*.8 $(DESTDIR)$(MANDIR)/man8
+	install -m 644 man/*.5 $(DESTDIR)$(MANDIR)/man5
 	install -m 644 contrib/filter.toml contrib/server.toml contrib/nftables.conf $(DESTDIR)$(EXAMPLEDIR)
 	for file in smtpd.conf mailquota.service smtpd-restart.conf mailquota-forget.service mailquota-forget.timer keepalived-first.conf keepalived-second.conf; do \
 		sed -e 's#/usr/local/libexec/mailquota#$(LIBEXECDIR)#g' -e 's#/usr/local/sbin#$(SBINDIR)#g' contrib/$$file \

@@ -60,6 +60,10 @@ INSTALLED = {
     "share/examples/mailquota/smtpd-restart.conf": 0o644,
     "share/examples/mailquota/smtpd.conf": 0o644,
     "share/man/man5/mailquota.toml.5": 0o644,
+    "share/man/man8/mailquota-filter.8": 0o644,
+    "share/man/man8/mailquota-forget.8": 0o644,
+    "share/man/man8/mailquota-limit.8": 0o644,
+    "share/man/man8/mailquota-server.8": 0o644,
     "share/man/man8/mailquota.8": 0o644,
 }
 

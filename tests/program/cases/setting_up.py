@@ -16,7 +16,7 @@ from wire import BAD, RETRY, frame, granted, limit, number, old, page_reply, rel
 ASKED = frame(b"\x05" + text(b"-") + number(0))
 ANSWER = frame(b"\x8b" + text(b"-") + number(0) + number(0) * 2 + number(3))
 SETTINGS_ARE_RIGHT = b"settings are right\n"
-MANUAL = f"{TOP}/man/mailquota.8"
+OPERATING = f"{TOP}/docs/OPERATING.md"
 
 
 def run(world, checks):
@@ -354,12 +354,11 @@ def devices_that_are_full(world, checks):
 
 
 def monitoring(world, checks):
-    """The line that the manual has for Nagios and the script for Prometheus, as they stand there but for the paths and the address."""
-    with open(MANUAL, encoding="utf-8") as manual:
-        section = manual.read().partition(".Sh MONITORING\n")[2].partition("\n.Sh ")[0]
-    shown = section.replace("\\(aq", "'")
-    [nagios] = re.findall(r"^command\[mailquota\]=(.*)$", shown, re.MULTILINE)
-    script = shown.partition("#!/bin/sh\n")[2].partition(".Ed")[0]
+    """The line that OPERATING has for Nagios and the script for Prometheus, as they stand there but for the paths and the address."""
+    with open(OPERATING, encoding="utf-8") as page:
+        section = page.read().partition("\n## Monitoring\n")[2].partition("\n## ")[0]
+    [nagios] = re.findall(r"^    command\[mailquota\]=(.*)$", section, re.MULTILINE)
+    script = section.partition("#!/bin/sh\n")[2].partition("\n\n")[0]
 
     def of(line, address):
         for old, new in (("/usr/local/sbin/mailquota", world.program), ("192.0.2.7:7025", address), ("/var/lib/prometheus/node-exporter", world.folder)):
@@ -373,14 +372,14 @@ def monitoring(world, checks):
 
     with Server(world) as server:
         came = of(nagios, server.address)
-        checks.equal("the manual's line for Nagios", (came.returncode, came.stdout), (0, takes(server.address, host="mx1.example.org")[1].decode()))
-        checks.equal("the manual's line for Prometheus", counted(server.address), (0, "", "", "mailquota_up 1\n"))
+        checks.equal("the page's line for Nagios", (came.returncode, came.stdout), (0, takes(server.address, host="mx1.example.org")[1].decode()))
+        checks.equal("the page's line for Prometheus", counted(server.address), (0, "", "", "mailquota_up 1\n"))
         ahead = clock() + 50 * 60_000
         server.ask(retire(1, host=b"mx1.example.org", run=ahead))
         came = of(nagios, server.address)
-        checks.holds("the manual's line for Nagios, a host that is retired", came.returncode == 2 and "is retired: correct its clock" in came.stdout, 2, came)
-        checks.equal("the manual's line for Prometheus, a host that is retired", counted(server.address), (0, "", "", "mailquota_up 0\n"))
+        checks.holds("the page's line for Nagios, a host that is retired", came.returncode == 2 and "is retired: correct its clock" in came.stdout, 2, came)
+        checks.equal("the page's line for Prometheus, a host that is retired", counted(server.address), (0, "", "", "mailquota_up 0\n"))
     with nobody_there() as address:
         came = of(nagios, address)
-        checks.equal("the manual's line for Nagios, nobody there", (came.returncode, came.stdout), (2, unavailable(address)[2]))
-        checks.equal("the manual's line for Prometheus, nobody there", counted(address), (0, "", "", "mailquota_up 0\n"))
+        checks.equal("the page's line for Nagios, nobody there", (came.returncode, came.stdout), (2, unavailable(address)[2]))
+        checks.equal("the page's line for Prometheus, nobody there", counted(address), (0, "", "", "mailquota_up 0\n"))
