@@ -10,6 +10,8 @@ usage: run.py [TREE]
 - What docs/PROOFS.md names under a crate stands in that crate, and the clauses in brackets after a function stand in a contract of such a function.
 - Each crate that has a contract with clauses is one of docs/PROOFS.md's.
 - The lines of prose of the pages below have at most 100 columns.
+- Each command of the program stands in the synopsis of one manual page, with its options and no others, and that page says what each of them does.
+  man/mailquota.8 lists the commands, and the pages have at most 7,000 words.
 - Names of code that were given up stand in no source, definition or proof.
 
 A test of these checks comes first: over small trees with one thing wrong, each has to find it. The last line is 'N passed, M failed', and the status
@@ -46,8 +48,14 @@ NAMES = {
 }
 
 # The pages whose prose is wrapped, and how far.
-WRAPPED = ["README.md", "CONTRIBUTING.md"] + [f"docs/{it}.md" for it in ("ARCHITECTURE", "CLIENT", "DECISIONS", "FRAMES", "GATE", "LEDGER", "LINES", "PROOFS", "STORE")]
+WRAPPED = ["README.md", "CONTRIBUTING.md"] + [f"docs/{it}.md" for it in (
+    "ARCHITECTURE", "CLIENT", "DECISIONS", "FRAMES", "GATE", "INSTALL", "LEDGER", "LINES", "OPERATING", "PROOFS", "STORE")]
 COLUMNS = 100
+
+# The table of the program's commands and their options, the options that clap adds, and how many words the manual has at most, as `wc -w` counts them.
+SUBCOMMANDS = "crates/mq_words/src/subcommands.rt"
+OF_CLAP = {"help", "version"}
+WORDS = 7_000
 
 TOKEN = re.compile(r"""//[^\n]* | "(?:\\.|[^"\\])*" | '(?:\\.[^']*|[^'\\])' | [^/"']+ | .""", re.VERBOSE | re.DOTALL)
 PLACE = re.compile(r"`([a-z_]+/src/[a-z_/]+\.rt)`")
@@ -199,6 +207,51 @@ def columns(tree):
                      if len(line) > COLUMNS and not line.startswith(("|", "    ", "#", "!["))]
 
 
+def commands_of(tree):
+    """The commands with their options, as help prints them, and those of the program itself."""
+    source = read(tree, SUBCOMMANDS)
+    options = dict(re.findall(r'const (\w+): CommandOption = CommandOption \{\s*name: "([\w-]+)"', source))
+    rows = re.findall(r'Subcommand \{\s*name: "([\w-]+)".*?options: &\[([^\]]*)\]', source, re.DOTALL)
+    return {"": OF_CLAP, **{name: {options[it] for it in re.findall(r"\w+", its)} for name, its in rows}}
+
+
+def synopses(page):
+    """Yields the commands of each synopsis of a manual page with its options; the program's own has no command."""
+    for one in re.split(r"^\.Nm\b.*$", section_of(page, "SYNOPSIS"), flags=re.MULTILINE)[1:]:
+        yield re.findall(r"[a-z]+", " ".join(re.findall(r"^\.Cm (.*)$", one, re.MULTILINE))) or [""], options_in(one)
+
+
+def section_of(page, title):
+    return page.partition(f".Sh {title}\n")[2].partition("\n.Sh ")[0]
+
+
+def options_in(text):
+    return {*re.findall(r"\bFl -([\w-]+)", text)}
+
+
+def manual(tree):
+    """Yields of each command what is wrong with it in the manual, and what is wrong with all of its pages."""
+    texts, shown = {it: read(tree, it) for it in files(tree, ["man/*"])}, {}
+    for page, text in texts.items():
+        for commands, options in synopses(text):
+            for command in commands:
+                shown.setdefault(command, {}).setdefault(page, set()).update(options)
+    listed_ = re.findall(r"^\.It Cm (\w+)$", texts.get("man/mailquota.8", ""), re.MULTILINE)
+    for command, options in commands_of(tree).items():
+        its = shown.pop(command, {})
+        wrong = [] if len(its) == 1 else [f"it stands in {len(its)} synopses: {', '.join(its) or 'none'}"]
+        wrong += ["man/mailquota.8 doesn't list it"] if command and command not in listed_ else []
+        for page, found in its.items():
+            told = options_in(texts[page].replace(section_of(texts[page], "SYNOPSIS"), ""))
+            wrong += [f"{page} hasn't --{it} in its synopsis" for it in sorted(options - found)]
+            wrong += [f"{page} has --{it} in its synopsis, which the program doesn't take" for it in sorted(found - options)]
+            wrong += [f"{page} doesn't say what --{it} does" for it in sorted((options & found) - told)]
+        yield f"the manual, {command or 'of all commands'}", wrong
+    words = sum(len(it.split()) for it in texts.values())
+    wrong = [f"the program has no command {it}" for it in shown]
+    yield "the manual", wrong + ([f"its pages have {words} words, and not {WORDS} at most"] if words > WORDS else [])
+
+
 def blank(text):
     """As many lines of nothing."""
     return "\n" * text.count("\n")
@@ -220,7 +273,7 @@ def names(tree):
         yield f"the name {name}", found
 
 
-CHECKS = [pages, listed, drawn, sent_to, carriers, columns, names]
+CHECKS = [pages, listed, drawn, sent_to, carriers, columns, manual, names]
 
 # A tree with nothing wrong, and what each of these changes makes of it: the file, the text there, what takes its place, and the check that finds it.
 TREE = {
@@ -236,6 +289,12 @@ TREE = {
     "crates/mq_high/src/lib.rt": "//! High. From `mq_high/src/lib.rt`:\n//!\n//!     low(1)\n//!\n//! It stands on `mq_low`. Begin with `high.rt`.\n"
                                  "pub fn call(byte: u8) -> u8\n    ensures done { IsDone result }\n{\n    low(1)\n}\n\nstruct Far;\n",
     "crates/mq_high/src/high.rt": "//! What is high.\n",
+    SUBCOMMANDS: '//! The commands.\nconst FAR: CommandOption = CommandOption {\n    name: "far",\n};\nconst OFF: CommandOption = CommandOption {\n'
+                 '    name: "far-off",\n};\npub const SUBCOMMANDS: [Subcommand; 2] = [\n    Subcommand {\n        name: "go",\n        options: &[FAR, OFF],\n'
+                 '    },\n    Subcommand {\n        name: "stay",\n        options: &[],\n    },\n];\n',
+    "man/mailquota.8": ".Sh SYNOPSIS\n.Nm\n.Ar command\n.Fl -help | Fl -version\n.Sh DESCRIPTION\n.Fl -help\n.Fl -version\n.It Cm go\n.It Cm stay\n",
+    "man/mailquota-go.8": ".Sh NAME\n.Nm mailquota-go\n.Sh SYNOPSIS\n.Nm mailquota\n.Cm go\n.Op Fl -far\n.Nm mailquota\n.Cm go\n.Op Fl -far-off\n"
+                          ".Nm mailquota\n.Cm stay\n.Sh DESCRIPTION\n.It Fl -far\nfar\n.It Fl -far-off\nfarther\n",
     "crates/mq_high/specs/Done.antt": "-- done\nIsDone n = n ≡ 1\n",
 }
 WRONG = [
@@ -258,6 +317,14 @@ WRONG = [
     ("docs/PROOFS.md", "specs/Done", "specs/Gone", carriers),
     ("docs/PROOFS.md", "### mq_high", "### mq_higher", carriers),
     ("docs/GATE.md", "A gate.", "A gate, " + "and more " * 12, columns),
+    ("man/mailquota-go.8", ".Op Fl -far\n", "", manual),
+    ("man/mailquota-go.8", ".Op Fl -far\n", ".Op Fl -far\n.Op Fl -near\n", manual),
+    ("man/mailquota-go.8", ".Cm stay", ".Cm leave", manual),
+    ("man/mailquota-go.8", ".It Fl -far\n", "", manual),
+    ("man/mailquota.8", ".Fl -help | Fl -version", ".Fl -help | Fl -version\n.Nm\n.Cm stay", manual),
+    ("man/mailquota.8", ".It Cm stay\n", "", manual),
+    ("man/mailquota.8", ".It Cm go", "word " * 7_000 + "\n.It Cm go", manual),
+    (SUBCOMMANDS, 'name: "far-off"', 'name: "farther"', manual),
     ("crates/mq_low/src/lib.rt", "pub fn low(at: u8)", "pub fn low(seq: u8)", names),
     ("crates/mq_low/src/lib.rt", "pub fn low(at: u8)", "pub fn low(at: u64)", names),
     ("crates/mq_high/specs/Done.antt", "IsDone n = n", "IsDone txn at login = txn", names),
