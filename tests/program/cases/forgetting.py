@@ -564,7 +564,7 @@ PATH={path}
 export PATH
 {does}
 status=$?
-if [ "$(wc -l <{folder}/calls)" = "$(cat {folder}/stop_at)" ]; then kill -9 "$(cat {folder}/pid)"; fi
+if [ "$(wc -l <{folder}/calls)" = "$(cat {folder}/stop_at)" ]; then kill -"$(cat {folder}/by_signal)" "$(cat {folder}/pid)"; fi
 exit $status
 """
 DOES = {
@@ -576,7 +576,7 @@ DOES = {
     setsid sh -c 'sleep "$0"; exec "$@"' "$wait" "$@" & pid=$!; echo $pid >{folder}/unit; wait $pid
     status=$?; if [ "$(cat {folder}/unit 2>/dev/null)" = $pid ]; then rm {folder}/unit; fi; (exit $status)""",
     "systemctl": """case "$1 $2" in
-    "start mailquota") touch {folder}/server ;;
+    "start mailquota") touch {folder}/server; if [ -e {folder}/slow_start ]; then rm {folder}/slow_start; exec sleep 4; fi ;;
     "stop mailquota") rm -f {folder}/server ;;
     stop*) if [ -e {folder}/unit ]; then kill "$(cat {folder}/unit)"; rm {folder}/unit; fi ;;
     show*) echo not-found ;;
@@ -644,9 +644,11 @@ class Night:
     def has(self, name):
         return os.path.exists(f"{self.folder}/{name}")
 
-    def start(self, stop_at=0):
-        """The script, which is killed after so many calls."""
+    def start(self, stop_at=0, number=signal.SIGKILL):
+        """The script, which is sent this signal after so many calls."""
         self.touch("calls")
+        with open(f"{self.folder}/by_signal", "w", encoding="ascii") as file:
+            file.write(str(int(number)))
         with open(f"{self.folder}/stop_at", "w", encoding="ascii") as file:
             file.write(str(stop_at))
         path = f"{self.folder}/bin{os.pathsep}{os.environ['PATH']}"
@@ -660,8 +662,8 @@ class Night:
         with open(f"{self.folder}/calls", encoding="ascii") as calls:
             return process.returncode, calls.read().splitlines(), errors
 
-    def run(self, stop_at=0):
-        return self.end(self.start(stop_at))
+    def run(self, stop_at=0, number=signal.SIGKILL):
+        return self.end(self.start(stop_at, number))
 
     def calls(self, world, day):
         """What a whole run calls that forgets the days before this one."""
@@ -742,6 +744,13 @@ def a_night(world, checks):
         elif rows_of(f"{night.ledger}.old") not in (books.rows(), again.rows()):
             wrong.append((stop_at, "the old one"))
     checks.equal(f"the script, stopped after each of {len(calls)} commands and run again: ledgers that are wrong", wrong, [])
+    wrong, moves = [], [place for place, it in enumerate(calls, 1) if it.startswith(("rm -f", "mv")) and ".old" in it]
+    for stop_at in moves:
+        night = Night(world, f"night-ended{stop_at}", source)
+        status, came, errors = night.run(stop_at, signal.SIGTERM)
+        if status or came != night.calls(world, now - 2) or not night.has("server") or rows_of(night.ledger) != again.rows():
+            wrong.append((calls[stop_at - 1], status, errors, came))
+    checks.equal(f"the script, ended by SIGTERM while the files move: it is done to the end, at each of {len(moves)} commands", (len(moves), wrong), (3, []))
     night = Night(world, "night-full", source)
     night.touch("no_room")
     status, _, _ = night.run()
@@ -757,6 +766,7 @@ def a_night(world, checks):
     wanted = 2, [], "mailquota-forget: DAYS is no number: two\n"
     checks.equal("the script with days that are no number: nothing is called, and the server runs", (night.run(), night.has("server")), (wanted, True))
     an_interrupted_night(world, checks, source, books, again)
+    killed_while_the_server_starts(world, checks, source)
     a_night_of_two_servers(world, checks, source, again)
 
 
@@ -792,6 +802,18 @@ def an_interrupted_night(world, checks, source, books, again):
     status, _, errors = night.run()
     checks.equal("and run again at once: status, the server runs, the first forget doesn't", (status, night.has("server"), runs(unit), errors), (0, True, False, ""))
     checks.equal("and run again at once: the ledger", rows_in(night.ledger, again.rows()), again.rows())
+
+
+def killed_while_the_server_starts(world, checks, source):
+    """What starts the server, which may take long, goes on; it doesn't keep another script from running at once."""
+    night = Night(world, "night-starting", source)
+    night.touch("slow_start")
+    process = night.start()
+    begun = wait_until(lambda: not night.has("slow_start"))
+    process.kill()
+    process.wait(timeout=SECONDS)
+    status, _, errors = night.run()
+    checks.equal("a script that is killed while the server starts, and run again at once: status, and what it says", (begun, status, errors), (True, 0, ""))
 
 
 def a_night_of_two_servers(world, checks, source, again):

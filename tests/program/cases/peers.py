@@ -15,6 +15,7 @@ def run(world, checks):
     requests(world, checks)
     bad_bytes(world, checks)
     slow_and_broken(world, checks)
+    late_behind_one_that_asks(world, checks)
     random_bytes(world, checks)
     ends(world, checks)
 
@@ -173,6 +174,25 @@ def waits_for_nobody(server, checks):
         peer.close()
     good = came == [NOTHING_USED] * 3 and took < LONG / 2_000
     checks.holds("requests behind three stuck peers", good, "their answers, no timeout waited for", (came, f"{took:.2f} s"))
+
+
+def late_behind_one_that_asks(world, checks):
+    """A peer that sends nothing is ended by its own timeout, also where one that came before it asks all the while."""
+    with Server(world, timeout=1_000) as server:
+
+        def ended():
+            with server.connect() as asks, server.connect() as silent:
+                while not select.select([silent], [], [], 0.1)[0]:
+                    try:
+                        asks.sendall(usage())
+                        asks.recv(65_536)
+                    except OSError:
+                        # (its own time is over)
+                        break
+                return read_all(silent)
+
+        came, took = soon(ended, 1.9)
+        checks.holds("a peer that sends nothing, behind one that asks: the server's timeout ends it", came == b"" and 0.99 < took < 1.9, "after 1 s", f"{took:.2f} s")
 
 
 def two_on_one_connection_each(world, checks):

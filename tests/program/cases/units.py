@@ -4,7 +4,7 @@ import re
 import shutil
 import subprocess
 
-from ends import TOP
+from ends import TOP, Server
 
 CONTRIB = f"{TOP}/contrib"
 # The values of a key, in their order: a later one would count in place of an earlier one, or in addition.
@@ -78,6 +78,8 @@ def run(world, checks):
     values_of_units(checks)
     both_retires(checks)
     settings_of_others(checks)
+    filters_of_smtpd(checks)
+    settings_of_a_filter(world, checks)
     verified(world, checks)
     exposed(world, checks)
 
@@ -130,6 +132,30 @@ def settings_of_others(checks):
     checks.equal("the packet filter: its addresses", sets, SETS)
     loads = [line for line in rules.splitlines() if line and line[0] not in "#\t}"]
     checks.equal("the packet filter: what a repeated load does first", loads, ["table inet mailquota", "delete table inet mailquota", "table inet mailquota {"])
+
+
+def filters_of_smtpd(checks):
+    """A login's spelling is refused before it counts; INSTALL shows the same lines."""
+    lines = [line for line in text_of("smtpd.conf").splitlines() if line.startswith(("filter ", "listen "))]
+    wanted = [
+        'filter spelling proc-exec "/usr/local/libexec/mailquota/one-spelling"',
+        'filter quota proc-exec "/usr/local/sbin/mailquota filter --config /etc/mail/mailquota.toml"',
+        "filter limited chain { spelling, quota }",
+        "listen on 192.0.2.1 port 587 tls-require pki mx1.example.org auth <credentials> filter limited",
+    ]
+    checks.equal("contrib/smtpd.conf: its filters, in their order", lines, wanted)
+    with open(f"{TOP}/docs/INSTALL.md", encoding="utf-8") as file:
+        shown = [line[4:] for line in file.read().splitlines() if line.startswith(("    filter ", "    listen "))]
+    checks.equal("the filters of smtpd.conf in INSTALL", shown, wanted)
+
+
+def settings_of_a_filter(world, checks):
+    """The example holds back for a time that helps: `filter --check` has no word against it."""
+    with Server(world) as server:
+        config = world.new_file(text_of("filter.toml").replace("192.0.2.7:7025", server.address))
+        came = world.run("filter", "--config", config, "--check")
+    wanted = f"settings are right\nquota server {server.address} answers\nrequests of host mx1.example.org are taken\npause 10 s, hold 5 s\n"
+    checks.equal("contrib/filter.toml: what filter --check says of it", came, (0, wanted.encode(), ""))
 
 
 def of_systemd(checks, what):

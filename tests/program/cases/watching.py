@@ -26,6 +26,7 @@ def run(world, checks):
     limits_of_all_kinds(world, checks)
     retires(world, checks)
     clocks(world, checks)
+    two_lines_of_a_host(world, checks)
     by_the_zone(world, checks)
     two_peers_by_turns(world, checks)
     random_requests(world, checks)
@@ -234,6 +235,18 @@ def clocks(world, checks):
         checks.equal("three days after, within the hour", it.lines(reserve(5, day + 3)), [])
         checks.equal("three days after, of another host", it.lines(reserve(6, day + 3, host=b"mx2")), [wrong("mx2", day + 3)])
         checks.equal("a settle of long ago", it.lines(wire.settle(7, host=b"mx3")), [])
+
+
+def two_lines_of_a_host(world, checks):
+    """A host whose clock is wrong and that asks under a retired run has a line for each within the hour, whichever comes first."""
+    day = today()
+    wrong = f"reserves for day {day - 3}, and today is day {day}: its clock or the server's is wrong"
+    retired = "asks under run 1, which is retired: its recipients get 451"
+    with Watched(world, default=1_000) as it:
+        checks.equal("a host's clock, before its retired run", it.lines(reserve(1, day - 3)), [(WARN, f"host a {wrong}")])
+        checks.equal("its retired run, within the hour", it.lines(wire.retire(2, run=2), reserve(3, day)), [(WARN, f"host a {retired}")])
+        checks.equal("a host's retired run, before its clock", it.lines(wire.retire(2, run=2, host=b"mx2"), reserve(3, day, host=b"mx2")), [(WARN, f"host mx2 {retired}")])
+        checks.equal("its clock, within the hour", it.lines(reserve(1, day - 3, host=b"mx2", run=2)), [(WARN, f"host mx2 {wrong}")])
 
 
 def by_the_zone(world, checks):
