@@ -448,6 +448,6 @@ REPORTED = ["      8       0      10 below", "      9       0      10 sent", "  
 def near_the_limit(checks):
     """OPERATING's filter of a report lets those through who used nine tenths of their limit, sent or under way."""
     with open(f"{TOP}/docs/OPERATING.md", encoding="utf-8") as file:
-        [command] = re.findall(r"`mailquota report \.\. \\\| (awk [^`]*)`", file.read())
+        [command] = re.findall(r"`mailquota report \.\. \| (awk [^`]*)`", file.read())
     run = subprocess.run(["sh", "-c", command], input="".join(f"{it}\n" for it in REPORTED), capture_output=True, text=True)
     checks.equal("who is near the limit, by OPERATING", (run.stdout.splitlines(), run.stderr), (REPORTED[1:], ""))
