@@ -11,3 +11,4 @@ pub mod Worlds
 pub mod Within
 pub mod Forgetting
 pub mod Ways
+pub mod Others

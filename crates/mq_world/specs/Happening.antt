@@ -14,13 +14,16 @@ use Rattle.mq_ledger.specs.Legal.{Book}
 use Rattle.mq_ledger.specs.Limits.{cap}
 use Rattle.mq_ledger.specs.Sums.{AreDistinct}
 use Rattle.mq_client.specs.Exchanges.{Exchange, decides}
-use Rattle.mq_client.specs.Past.{Source, Step, view}
+use Rattle.mq_client.specs.Past.{Source, Step, drained, view}
+use Rattle.mq_client.specs.Run.{Outside, EndsWith}
+use Rattle.mq_client.specs.declared.filter.Ended.{Ended}
 use Rattle.mq_client.specs.Numbered.{exchanges_in}
 use Rattle.mq_link.specs.declared.link.LinkFault.{LinkFault}
 use Rattle.mq_link.specs.declared.link.Outcome.TheVariants.{Answered, Faulted}
 use Rattle.mq_world.specs.World.{Site, World, IsStart, Next, Reaches, with_run, after_exchange, same_source, source_of}
 use Rattle.mq_client.specs.declared.held.Held.{Held}
 use Rattle.mq_world.specs.Law.{run_of, standing_of, counting, let_by, let_together}
+use Rattle.mq_world.specs.Running.{ran, GoesOnAround, IsNew}
 use Rattle.mq_world.specs.Forgetting.{forgotten, ReachesForgetting}
 use Rattle.mq_world.specs.Together.{Together, ledgers, IsStartTogether, ReachesTogether, cap_of}
 
@@ -191,6 +194,22 @@ pub record PassedOnAForgottenDay (site : Site) (start w : World) : Type 0 where
   pub transactions : List Transaction
   pub distinct : AreDistinct transactions
   pub passes : cap now.ledger.default now.ledger.history login over < let_together now login over transactions
+
+-- A run of a filter, as its contract has it, read its input to the end: one recipient was asked for, which others took
+-- and granted while the exchange was on its way, and that is written. It let one recipient through.
+pub record HasRunToItsEnd (site : Site) (start w : World) : Type 0 where
+  pub transaction : Transaction
+  pub before : Outside
+  pub bytes : List ℕ
+  pub after : Outside
+  pub ended : Ended
+  pub ends : EndsWith before bytes after ended
+  pub is_new : IsNew site start (run_of transaction) before.client
+  pub later : World
+  pub around : GoesOnAround site (run_of transaction) start (exchanges_in (drained ends.group ends.steps)) later
+  pub is_then : w ≡ with_run later (run_of transaction) (ran ends.after_ready (drained ends.group ends.steps) true)
+  pub answers : ended.answers ≡ 1
+  pub is_one : let_by (standing_of w transaction) ≡ 1
 
 -- ---- with two servers
 

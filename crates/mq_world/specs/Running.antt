@@ -1,13 +1,12 @@
 -- A filter run on its way through worlds, as its contract says. Of lines, steps, exchanges and frames the newest
 -- comes first.
-use Rattle.std.specs.Prelude.{◌≡◌, ◌⊎◌, ℕ, List, [], ◌∷◌, ◌++◌, Bool, true, false, map, Option, None, Some}
-use Rattle.std.specs.List.{AllByRecursion}
+use Rattle.std.specs.Prelude.{◌≡◌, ◌⊎◌, List, [], ◌∷◌, Bool, true, false, Option, None, Some}
 use Rattle.mq_line.specs.Grammar.{Meaning}
 use Rattle.mq_client.specs.Exchanges.{Exchange}
 use Rattle.mq_frame.specs.Spelling.{request_frame}
 use Rattle.mq_client.specs.Past.{Source, Action, Step, State, StandsAt}
 use Rattle.mq_client.specs.Run.{Stage, BeforeReady, AfterReady}
-use Rattle.mq_world.specs.World.{Site, Run, World, fresh, begun, MayCome, same_source, Reaches}
+use Rattle.mq_world.specs.World.{Site, Run, World, fresh, begun, with_sent, MayCome, Next}
 
 -- a run that has read these lines, made these steps, and whose input has ended or not
 abbrev pub ran : List Meaning → List Step → Bool → Run
@@ -36,23 +35,19 @@ abbrev pub exchanges_of : Option Step → List Exchange
 exchanges_of None = []
 exchanges_of (Some x) = x.group
 
--- the frames that were sent for exchanges
-abbrev pub frames_of : List Exchange → List (List ℕ)
-frames_of group = map (λ x. request_frame x.request) group
+-- others go on: steps of the world that leave the run s as it is
+pub data OthersGoOn (site : Site) (s : Source) (w : World) : World → Type 0 where
+  NobodyYet : OthersGoOn site s w w
+  OneStep : (mid later : World) → OthersGoOn site s w mid → Next site mid later → later.runs s ≡ mid.runs s
+      → OthersGoOn site s w later
 
--- what each exchange brought may come, where these frames were written
-abbrev pub AllMayCome : List (List ℕ) → List Exchange → Type 0
-AllMayCome written group = AllByRecursion (λ x. MayCome written x.outcome) group
-
--- a world that follows from w while nothing but the run s goes on: it is that run then, and has sent these frames
-pub record GoesOn (site : Site) (w : World) (s : Source) (run : Run) (frames : List (List ℕ)) : Type 0 where
-  pub later : World
-  pub reached : Reaches site w later
-  pub is_run : later.runs s ≡ run
-  pub others : (u : Source) → same_source s u ≡ false → later.runs u ≡ w.runs u
-  pub ledger : later.ledger ≡ w.ledger
-  pub sent : later.sent ≡ frames ++ w.sent
-  pub written : later.written ≡ w.written
+-- What goes on around the run s while it makes these exchanges, its own lines and steps left out: the frame of each
+-- is sent, others go on, what it brings may come by then, and others go on.
+pub data GoesOnAround (site : Site) (s : Source) (w : World) : List Exchange → World → Type 0 where
+  Before : (later : World) → OthersGoOn site s w later → GoesOnAround site s w [] later
+  During : (x : Exchange) (group : List Exchange) (before ended later : World) → GoesOnAround site s w group before
+      → OthersGoOn site s (with_sent before (request_frame x.request)) ended → MayCome ended.written x.outcome
+      → OthersGoOn site s ended later → GoesOnAround site s w (x ∷ group) later
 
 -- a run of the site that has read nothing in w, and whose client is new
 pub record IsNew (site : Site) (w : World) (s : Source) (client : State) : Type 0 where

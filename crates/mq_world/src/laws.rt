@@ -27,10 +27,10 @@ ghost use Rattle.mq_world.specs.World.{MayCome};
 ghost use Rattle.mq_world.specs.Forgetting.{forgotten, ReachesForgetting};
 ghost use Rattle.mq_world.specs.Together.{Together, ledgers, IsStartTogether, ReachesTogether, kept_of, used_of, cap_of};
 ghost use Rattle.mq_world.specs.Happening.{unused, IsReachable, HasLetOneThrough, WasAnsweredAgain, WasTakenTwice};
-ghost use Rattle.mq_world.specs.Happening.{CameLate, HasStopped, WasRetired, WasHeldBack, WentOnThoughForgotten};
+ghost use Rattle.mq_world.specs.Happening.{CameLate, HasStopped, HasRunToItsEnd, WasRetired, WasHeldBack, WentOnThoughForgotten};
 ghost use Rattle.mq_world.specs.Happening.{PassedOnAForgottenDay, IsReachableTogether};
 ghost use Rattle.mq_world.specs.Happening.{WasGrantedByEach, WasSplit, PassedEachLimit};
-ghost use Rattle.mq_world.specs.Running.{ran, step_of, unsent, amid, frames_of, AllMayCome, GoesOn, IsNew, lines_at, IsOrOneMore};
+ghost use Rattle.mq_world.specs.Running.{ran, step_of, unsent, amid, GoesOnAround, IsNew, lines_at, IsOrOneMore};
 ghost use Rattle.mq_world.specs.Law.{standing_of, counting, let_by, let_together, IsPastOf};
 
 use mq_client::{
@@ -187,21 +187,28 @@ pub fn each_run_is_of_a_world()
     ensures bad { (written : List (List ℕ)) → MayCome written (Answered (reply_body Bad)) }
     ensures replies { (written : List (List ℕ)) (which : ℕ) (body : List ℕ) →
         slice_get written which ≡ Some (frame body) → MayCome written (Answered body) }
-    // A run to the end of its input is one of a world, from any world in which what came to it may come.
-    ensures whole { (site : Site) (w : World) (s : Source) (o : Outside) (bytes : List ℕ) (now : Outside) (e : Ended)
+    // A run to the end of its input is one of a world, whatever others do around its exchanges: the world that all
+    // come to is reached, with the run as it is then.
+    ensures whole { (site : Site) (w later : World) (s : Source) (o : Outside) (bytes : List ℕ) (now : Outside) (e : Ended)
         (h : EndsWith o bytes now e) → IsNew site w s o.client →
-        AllMayCome w.written (exchanges_in (drained h.group h.steps)) →
-        GoesOn site w s (ran h.after_ready (drained h.group h.steps) true)
-        (frames_of (exchanges_in (drained h.group h.steps))) }
+        GoesOnAround site s w (exchanges_in (drained h.group h.steps)) later →
+        Reaches site w (with_run later s (ran h.after_ready (drained h.group h.steps) true)) }
     // So is one that stopped, with the line in hand read or not.
-    ensures stopped { (site : Site) (w : World) (s : Source) (o : Outside) (pieces : List (List ℕ))
+    ensures stopped { (site : Site) (w later : World) (s : Source) (o : Outside) (pieces : List (List ℕ))
         (source : Option (List ℕ)) (now : Outside) (read_failed write_failed : Bool) (f : FilterFault)
         (h : StopsAt o pieces source now read_failed write_failed f) → IsNew site w s o.client →
-        AllMayCome w.written (exchanges_in (push h.step h.steps)) →
+        GoesOnAround site s w (exchanges_in (push h.step h.steps)) later →
         (lines : List Meaning) × IsOrOneMore lines (lines_at h.stage)
-        × GoesOn site w s (after_stop (ran lines (push h.step h.steps) false))
-        (frames_of (exchanges_in (push h.step h.steps))) }
+        × Reaches site w (with_run later s (after_stop (ran lines (push h.step h.steps) false))) }
+    // So what a run let through, with all others, is at most the limit.
+    ensures limit { (site : Site) (start w later : World) (s : Source) (o : Outside) (bytes : List ℕ) (now : Outside)
+        (e : Ended) (h : EndsWith o bytes now e) → IsStart site start → Reaches site start w →
+        IsNew site w s o.client → GoesOnAround site s w (exchanges_in (drained h.group h.steps)) later →
+        (l : List ℕ) (d : ℕ) (ts : List Transaction) → AreDistinct ts →
+        let_together (with_run later s (ran h.after_ready (drained h.group h.steps) true)) l d ts
+        ≤ cap later.ledger.default later.ledger.history l d }
 {
+    never_past_the_limit();
     // (each exchange of a step is the next one)
     in_turn();
 }
@@ -215,6 +222,7 @@ pub fn what_may_happen()
     ensures taken_twice { (b : Book) → IsLegalBook (unused b) → 1 ≤ b.default → IsReachable b WasTakenTwice }
     ensures late { (b : Book) → IsLegalBook (unused b) → 1 ≤ b.default → IsReachable b CameLate }
     ensures stopped { (b : Book) → IsLegalBook (unused b) → IsReachable b HasStopped }
+    ensures as_a_run { (b : Book) → IsLegalBook (unused b) → 1 ≤ b.default → IsReachable b HasRunToItsEnd }
     ensures retired { (b : Book) → IsLegalBook (unused b) → 1 ≤ b.default → IsReachable b WasRetired }
     ensures held_back { (b : Book) → IsLegalBook (unused b) → 1 ≤ b.default → IsReachable b WasHeldBack }
     ensures forgotten { (b : Book) (minutes : ℤ) → b.zone ≡ ByOffset minutes → IsLegalBook (unused b) →
@@ -230,6 +238,8 @@ pub fn what_may_happen()
     ensures passed_each { (a b : Book) → IsLegalBook (unused a) → IsLegalBook (unused b) → b.zone ≡ a.zone →
         a.default ≡ 1 → b.default ≡ 1 → IsReachableTogether a b PassedEachLimit }
 {
+    // (a run's contract leads to such a world)
+    each_run_is_of_a_world();
     // (the frames of these worlds are read as the requests that were sent)
     one_spelling();
     // (on which days their moments lie)

@@ -20,8 +20,10 @@ use Rattle.mq_client.specs.declared.fault.FilterFault.{FilterFault}
 use Rattle.mq_client.specs.declared.fault.FilterFault.TheVariants as faults
 use Rattle.mq_client.specs.declared.filter.Ended.{Ended}
 use Rattle.std.specs.Prelude.{◌⊎◌}
-use Rattle.mq_world.specs.World.{Site, Run, World, fresh, IsUp, ReadsOn, begun, after_line, after_end, next_request, with_on_way, after_exchange, after_stop, MayCome, with_run, with_sent, Next, Reads, ReadsEnd, Sends, Ends, Stops, AtOnce, Later}
-use Rattle.mq_world.specs.Running.{ran, step_of, unsent, exchanges_of, IsNew, lines_at, IsOrOneMore, frames_of, AllMayCome, GoesOn}
+use Rattle.mq_world.specs.World.{Site, Run, World, fresh, IsUp, ReadsOn, begun, after_line, after_end, next_request, with_on_way, after_exchange, after_stop, MayCome, with_run, with_sent, Next, Reads, ReadsEnd, Sends, Ends, Stops, Reaches, AtOnce, Later}
+use Rattle.mq_world.specs.Running.{ran, step_of, unsent, exchanges_of, OthersGoOn, NobodyYet, OneStep, GoesOnAround, Before, During, IsNew, lines_at, IsOrOneMore}
+use Rattle.mq_world.proofs.Basics.{none_some}
+use Rattle.mq_world.proofs.Others.{twice, itself, anywhere}
 use Rattle.mq_world.proofs.Worlds.{same_itself}
 use Rattle.mq_world.proofs.laws.each_run_is_of_a_world.Goals as goal
 
@@ -62,16 +64,13 @@ accepted k L OtherLine step text h = h.0
 
 -- ---- one step of the world more
 
-goes_to : (site : Site) (w : World) (s : Source) (r now : Run) (frames : List (List ℕ)) (g : GoesOn site w s r frames) → Next site g.later (with_run g.later s now) → GoesOn site w s now frames
-goes_to site w s r now frames g n = record {
-  later = with_run g.later s now;
-  reached = Later g.later (with_run g.later s now) g.reached n;
-  is_run = rw (same_itself s) refl;
-  others = λ u d. rw d (g.others u d);
-  ledger = g.ledger;
-  sent = g.sent;
-  written = g.written;
-}
+-- the run goes on, and all others stand as they did
+goes_to : (site : Site) (w later : World) (s : Source) (r now : Run) → Reaches site w (with_run later s r) → Next site (with_run later s r) (with_run (with_run later s r) s now) → Reaches site w (with_run later s now)
+goes_to site w later s r now way n = subst (Reaches site w) (twice later s r now) (Later (with_run later s r) (with_run (with_run later s r) s now) way n)
+
+-- the run is where it was put
+stands : (w : World) (s : Source) (r : Run) → (with_run w s r).runs s ≡ r
+stands w s r = rw (same_itself s) refl
 
 is_up : (site : Site) (w : World) (s : Source) (r : Run) → site.is_run s ≡ true → w.runs s ≡ r → r.is_stopped ≡ false → IsUp site w s
 is_up site w s r y e up = record { is_run = y; is_up = ap (λ (x : Run). x.is_stopped) e ∙ up }
@@ -118,51 +117,53 @@ exchange_ends site w s L a b x group P e y is may decision =
 
 -- ---- whole steps
 
-stays : (site : Site) (w : World) (s : Source) (r : Run) → w.runs s ≡ r → GoesOn site w s r []
-stays site w s r is = record { later = w; reached = AtOnce; is_run = is; others = λ u d. refl; ledger = refl; sent = refl; written = refl }
+-- others go on, wherever the run stands
+others_on : (site : Site) (w a : World) (s : Source) (r : Run) (b : World) → OthersGoOn site s a b → Reaches site w (with_run a s r) → Reaches site w (with_run b s r)
+others_on site w a s r b NobodyYet way = way
+others_on site w a s r b (OneStep mid later go step is) way =
+    Later (with_run mid s r) (with_run later s r) (others_on site w a s r mid go way) (anywhere site mid later s r step is)
 
-group_goes : (site : Site) (w : World) (s : Source) (L : List Meaning) (a : Action) (b : Bool) (group : List Exchange) (P : List Step) (e : Bool) (frames : List (List ℕ)) → site.is_run s ≡ true → AllMayCome w.written group
-    → ComeInTurn (tries_in (site.tries s) b) (queue_of s (view s P) (held_for (view s P) a) a) group → GoesOn site w s (ran L (begun b a ∷ P) e) frames → GoesOn site w s (ran L (step_of a b group ∷ P) e) (frames_of group ++ frames)
-group_goes site w s L a b [] P e frames y may turn g = g
-group_goes site w s L a b (x ∷ group) P e frames y may turn g =
-    let h = group_goes site w s L a b group P e frames y may.1 turn.2 g in
-    let r : Run = ran L (step_of a b group ∷ P) e in
-    let sent : World = with_sent (with_run h.later s (with_on_way (Some x.request) r)) (request_frame x.request) in
-    let first : Next site h.later sent = exchange_begins site h.later s L a b group P e x.request y h.is_run turn.0 in
-    let k : GoesOn site w s (with_on_way (Some x.request) r) (request_frame x.request ∷ frames_of group ++ frames) = record {
-      later = sent;
-      reached = Later h.later sent h.reached first;
-      is_run = rw (same_itself s) refl;
-      others = λ u d. rw d (h.others u d);
-      ledger = h.ledger;
-      sent = ap (λ l. request_frame x.request ∷ l) h.sent;
-      written = h.written;
-    } in
-    let may_come : MayCome k.later.written x.outcome = subst (λ l. MayCome l x.outcome) (sym h.written) may.0 in
-    goes_to site w s (with_on_way (Some x.request) r) (ran L (step_of a b (x ∷ group) ∷ P) e) (request_frame x.request ∷ frames_of group ++ frames) k
-    (exchange_ends site k.later s L a b x group P e y k.is_run may_come turn.1)
+-- the run comes to its next exchange, others go on, and it comes to its end
+group_goes : (site : Site) (w mid : World) (s : Source) (L : List Meaning) (a : Action) (b : Bool) (P : List Step) (e : Bool) → site.is_run s ≡ true → (group : List Exchange) (later : World) → GoesOnAround site s mid group later
+    → ComeInTurn (tries_in (site.tries s) b) (queue_of s (view s P) (held_for (view s P) a) a) group → Reaches site w (with_run mid s (ran L (begun b a ∷ P) e)) → Reaches site w (with_run later s (ran L (step_of a b group ∷ P) e))
+group_goes site w mid s L a b P e y group later (Before end go) turn way = others_on site w mid s (ran L (begun b a ∷ P) e) end go way
+group_goes site w mid s L a b P e y group later (During x earlier before ended end around on may after) turn way =
+    let r : Run = ran L (step_of a b earlier ∷ P) e in
+    let sending : Run = with_on_way (Some x.request) r in
+    let there : Reaches site w (with_run before s r) = group_goes site w mid s L a b P e y earlier before around turn.2 way in
+    let first : Next site (with_run before s r) (with_sent (with_run (with_run before s r) s sending) (request_frame x.request)) =
+    exchange_begins site (with_run before s r) s L a b earlier P e x.request y (stands before s r) turn.0 in
+    let sent : Reaches site w (with_run (with_sent before (request_frame x.request)) s sending) =
+    subst (λ v. Reaches site w (with_sent v (request_frame x.request))) (twice before s r sending)
+    (Later (with_run before s r) (with_sent (with_run (with_run before s r) s sending) (request_frame x.request)) there first) in
+    let came : Reaches site w (with_run ended s sending) = others_on site w (with_sent before (request_frame x.request)) s sending ended on sent in
+    let now : Reaches site w (with_run ended s (ran L (step_of a b (x ∷ earlier) ∷ P) e)) =
+    goes_to site w ended s sending (ran L (step_of a b (x ∷ earlier) ∷ P) e) came
+    (exchange_ends site (with_run ended s sending) s L a b x earlier P e y (stands ended s sending) may turn.1) in
+    others_on site w ended s (ran L (step_of a b (x ∷ earlier) ∷ P) e) end after now
 
-line_goes : InTurn → (site : Site) (w : World) (s : Source) (L : List Meaning) (P : List Step) (m : Meaning) (step : Option Step) (text : List ℕ) (k : Holding) (frames : List (List ℕ)) → site.is_run s ≡ true → IsPlayed s (site.tries s) P
-    → IsPlayed s (site.tries s) (push step P) → Takes k L m step text → AllMayCome w.written (exchanges_of step) → GoesOn site w s (ran L P false) frames
-    → GoesOn site w s (ran (m ∷ L) (push step P) false) (frames_of (exchanges_of step) ++ frames)
-line_goes T site w s L P m None text k frames y played also takes may g =
-    goes_to site w s (ran L P false) (ran (m ∷ L) P false) frames g (line_begins site g.later s L P m None text k y g.is_run played takes)
-line_goes T site w s L P m (Some x) text k frames y played also takes may g =
-    let h : GoesOn site w s (ran (m ∷ L) (unsent x ∷ P) false) frames =
-    goes_to site w s (ran L P false) (ran (m ∷ L) (unsent x ∷ P) false) frames g (line_begins site g.later s L P m (Some x) text k y g.is_run played takes) in
-    group_goes site w s (m ∷ L) x.action x.quiet x.group P false frames y may (T s (site.tries s) P x also.0) h
+line_goes : InTurn → (site : Site) (w mid later : World) (s : Source) (L : List Meaning) (P : List Step) (m : Meaning) (step : Option Step) (text : List ℕ) (k : Holding) → site.is_run s ≡ true → IsPlayed s (site.tries s) P
+    → IsPlayed s (site.tries s) (push step P) → Takes k L m step text → GoesOnAround site s mid (exchanges_of step) later → Reaches site w (with_run mid s (ran L P false))
+    → Reaches site w (with_run later s (ran (m ∷ L) (push step P) false))
+line_goes T site w mid later s L P m step text k y played also takes around way =
+    let begun : Reaches site w (with_run mid s (ran (m ∷ L) (push (option_map unsent step) P) false)) =
+    goes_to site w mid s (ran L P false) (ran (m ∷ L) (push (option_map unsent step) P) false) way
+    (line_begins site (with_run mid s (ran L P false)) s L P m step text k y (stands mid s (ran L P false)) played takes) in
+    step_goes T site w mid later s (m ∷ L) P step y also around begun
+  where
+    step_goes : InTurn → (site : Site) (w mid later : World) (s : Source) (L : List Meaning) (P : List Step) (step : Option Step) → site.is_run s ≡ true → IsPlayed s (site.tries s) (push step P)
+        → GoesOnAround site s mid (exchanges_of step) later → Reaches site w (with_run mid s (ran L (push (option_map unsent step) P) false)) → Reaches site w (with_run later s (ran L (push step P) false))
+    step_goes T site w mid later s L P None y also (Before end go) way = others_on site w mid s (ran L P false) end go way
+    step_goes T site w mid later s L P (Some x) y also around way = group_goes site w mid s L x.action x.quiet P false y x.group later around (T s (site.tries s) P x also.0) way
 
-frames_join : (g h : List Exchange) → frames_of (g ++ h) ≡ frames_of g ++ frames_of h
-frames_join [] h = refl
-frames_join (x ∷ g) h = ap (λ l. request_frame x.request ∷ l) (frames_join g h)
+-- what goes on around some exchanges goes on around the first of them, and then around the rest
+abbrev pub Parts : Site → Source → World → (g h : List Exchange) → World → Type 0
+Parts site s w g h later = (mid : World) × GoesOnAround site s w h mid × GoesOnAround site s mid g later
 
-may_first : (written : List (List ℕ)) (g h : List Exchange) → AllMayCome written (g ++ h) → AllMayCome written g
-may_first written [] h may = tt
-may_first written (x ∷ g) h may = (may.0, may_first written g h may.1)
-
-may_second : (written : List (List ℕ)) (g h : List Exchange) → AllMayCome written (g ++ h) → AllMayCome written h
-may_second written [] h may = may
-may_second written (x ∷ g) h may = may_second written g h may.1
+parts : (site : Site) (s : Source) (w later : World) (g h : List Exchange) → GoesOnAround site s w (g ++ h) later → Parts site s w g h later
+parts site s w later [] h around = (later, around, Before later NobodyYet)
+parts site s w later (x ∷ g) h (During y rest before ended end around on may after) =
+    let (mid, first, then) = parts site s w before g h around in (mid, first, During x g before ended end then on may after)
 
 exchanges_push : (step : Option Step) (P : List Step) → exchanges_in (push step P) ≡ exchanges_of step ++ exchanges_in P
 exchanges_push None P = refl
@@ -172,13 +173,6 @@ played_before : (s : Source) (tries : ℕ) (step : Option Step) (P : List Step) 
 played_before s tries None P played = played
 played_before s tries (Some x) P played = played.1
 
-line_more : InTurn → (site : Site) (w : World) (s : Source) (L : List Meaning) (P : List Step) (m : Meaning) (step : Option Step) (text : List ℕ) (k : Holding) → site.is_run s ≡ true → IsPlayed s (site.tries s) (push step P) → Takes k L m step text
-    → AllMayCome w.written (exchanges_in (push step P)) → GoesOn site w s (ran L P false) (frames_of (exchanges_in P)) → GoesOn site w s (ran (m ∷ L) (push step P) false) (frames_of (exchanges_in (push step P)))
-line_more T site w s L P m step text k y played takes may g =
-    let all : AllMayCome w.written (exchanges_of step ++ exchanges_in P) = subst (AllMayCome w.written) (exchanges_push step P) may in
-    let h = line_goes T site w s L P m step text k (frames_of (exchanges_in P)) y (played_before s (site.tries s) step P played) played takes (may_first w.written (exchanges_of step) (exchanges_in P) all) g in
-    subst (GoesOn site w s (ran (m ∷ L) (push step P) false)) (sym (ap frames_of (exchanges_push step P) ∙ frames_join (exchanges_of step) (exchanges_in P))) h
-
 -- an exchange of a played step in its turn
 played_turn : InTurn → (s : Source) (tries : ℕ) (P : List Step) (a : Action) (b : Bool) (later : List Exchange) (x : Exchange) (group : List Exchange) → Plays s tries P (step_of a b (later ++ x ∷ group))
     → (next s (tries_in tries b) (view s P) a group ≡ Some x.request) × IsDecision x.request x.outcome x.decided
@@ -186,32 +180,42 @@ played_turn T s tries P a b later x group plays = turn_of (tries_in tries b) (qu
 
 -- ---- whole runs
 
-lines_go : InTurn → (site : Site) (w : World) (s : Source) (spans : Spans) (L : List Meaning) (steps : List Step) (text : List ℕ) (k : Holding) → site.is_run s ≡ true → w.runs s ≡ fresh → Filters spans L steps text k → IsPlayed s (site.tries s) steps
-    → AllMayCome w.written (exchanges_in steps) → GoesOn site w s (ran L steps false) (frames_of (exchanges_in steps))
-lines_go T site w s spans [] steps text k y is h played may =
-    subst (λ l. GoesOn site w s (ran [] l false) (frames_of (exchanges_in l))) (sym h.0) (stays site w s fresh is)
-lines_go T site w s spans (m ∷ L) steps text k y is (step, before, written, next, held, h, takes, whole, text_is, held_is) played may =
+line_more : InTurn → (site : Site) (w mid later : World) (s : Source) (L : List Meaning) (P : List Step) (m : Meaning) (step : Option Step) (text : List ℕ) (k : Holding) → site.is_run s ≡ true → IsPlayed s (site.tries s) (push step P) → Takes k L m step text
+    → GoesOnAround site s mid (exchanges_of step) later → Reaches site w (with_run mid s (ran L P false)) → Reaches site w (with_run later s (ran (m ∷ L) (push step P) false))
+line_more T site w mid later s L P m step text k y played takes around way =
+    line_goes T site w mid later s L P m step text k y (played_before s (site.tries s) step P played) played takes around way
+
+-- nothing was read, and nothing asked
+none_go : InTurn → (site : Site) (w later : World) (s : Source) (steps : List Step) → w.runs s ≡ fresh → steps ≡ [] → GoesOnAround site s w (exchanges_in steps) later → Reaches site w (with_run later s (ran [] steps false))
+none_go T site w later s [] is none (Before end go) = others_on site w w s fresh end go (subst (Reaches site w) (sym (itself w s fresh is)) AtOnce)
+none_go T site w later s (x ∷ steps) is none around = absurd (cc (none))
+
+lines_go : InTurn → (site : Site) (w later : World) (s : Source) (spans : Spans) (L : List Meaning) (steps : List Step) (text : List ℕ) (k : Holding) → site.is_run s ≡ true → w.runs s ≡ fresh → Filters spans L steps text k → IsPlayed s (site.tries s) steps
+    → GoesOnAround site s w (exchanges_in steps) later → Reaches site w (with_run later s (ran L steps false))
+lines_go T site w later s spans [] steps text k y is h played around = none_go T site w later s steps is h.0 around
+lines_go T site w later s spans (m ∷ L) steps text k y is (step, before, written, next, held, h, takes, whole, text_is, held_is) played around =
     let now : IsPlayed s (site.tries s) (push step before) = subst (IsPlayed s (site.tries s)) whole played in
-    let all : AllMayCome w.written (exchanges_in (push step before)) = subst (λ l. AllMayCome w.written (exchanges_in l)) whole may in
-    let parts : AllMayCome w.written (exchanges_of step ++ exchanges_in before) = subst (AllMayCome w.written) (exchanges_push step before) all in
-    let g = lines_go T site w s spans L before written held y is h (played_before s (site.tries s) step before now) (may_second w.written (exchanges_of step) (exchanges_in before) parts) in
-    subst (λ l. GoesOn site w s (ran (m ∷ L) l false) (frames_of (exchanges_in l))) (sym whole) (line_more T site w s L before m step next (at_line spans m held) y now takes all g)
+    let all : GoesOnAround site s w (exchanges_of step ++ exchanges_in before) later = subst (λ l. GoesOnAround site s w l later) (ap exchanges_in whole ∙ exchanges_push step before) around in
+    let (mid, first, then) = parts site s w later (exchanges_of step) (exchanges_in before) all in
+    let way : Reaches site w (with_run mid s (ran L before false)) = lines_go T site w mid s spans L before written held y is h (played_before s (site.tries s) step before now) first in
+    subst (λ l. Reaches site w (with_run later s (ran (m ∷ L) l false))) (sym whole) (line_more T site w mid later s L before m step next (at_line spans m held) y now takes then way)
 
 -- the input ends, and what waits is sent
-end_goes : InTurn → (site : Site) (w : World) (s : Source) (L : List Meaning) (steps : List Step) (group : List Exchange) → site.is_run s ≡ true → IsPlayed s (site.tries s) (drained group steps)
-    → AllMayCome w.written (exchanges_in (drained group steps)) → GoesOn site w s (ran L steps false) (frames_of (exchanges_in steps)) → GoesOn site w s (ran L (drained group steps) true) (frames_of (exchanges_in (drained group steps)))
-end_goes T site w s L steps group y played may g =
-    let h : GoesOn site w s (ran L (begun false Drain ∷ steps) true) (frames_of (exchanges_in steps)) =
-    goes_to site w s (ran L steps false) (ran L (begun false Drain ∷ steps) true) (frames_of (exchanges_in steps)) g
-    (subst (λ r. Next site g.later (with_run g.later s r)) (ap after_end g.is_run) (ReadsEnd s (reads_on site g.later s L steps y g.is_run played.1))) in
-    let k = group_goes site w s L Drain false group steps true (frames_of (exchanges_in steps)) y (may_first w.written group (exchanges_in steps) may) (T s (site.tries s) steps (step_of Drain false group) played.0) h in
-    subst (GoesOn site w s (ran L (drained group steps) true)) (sym (frames_join group (exchanges_in steps))) k
+end_goes : InTurn → (site : Site) (w mid later : World) (s : Source) (L : List Meaning) (steps : List Step) (group : List Exchange) → site.is_run s ≡ true → IsPlayed s (site.tries s) (drained group steps)
+    → GoesOnAround site s mid group later → Reaches site w (with_run mid s (ran L steps false)) → Reaches site w (with_run later s (ran L (drained group steps) true))
+end_goes T site w mid later s L steps group y played around way =
+    let r : Run = ran L steps false in
+    let end : Next site (with_run mid s r) (with_run (with_run mid s r) s (ran L (begun false Drain ∷ steps) true)) =
+    subst (λ x. Next site (with_run mid s r) (with_run (with_run mid s r) s x)) (ap after_end (stands mid s r)) (ReadsEnd s (reads_on site (with_run mid s r) s L steps y (stands mid s r) played.1)) in
+    group_goes site w mid s L Drain false steps true y group later around (T s (site.tries s) steps (step_of Drain false group) played.0)
+    (goes_to site w mid s r (ran L (begun false Drain ∷ steps) true) way end)
 
 -- the run stops
-stop_goes : (site : Site) (w : World) (s : Source) (L : List Meaning) (P : List Step) (frames : List (List ℕ)) → site.is_run s ≡ true → GoesOn site w s (ran L P false) frames → GoesOn site w s (after_stop (ran L P false)) frames
-stop_goes site w s L P frames y g =
-    goes_to site w s (ran L P false) (after_stop (ran L P false)) frames g
-    (subst (λ r. Next site g.later (with_run g.later s r)) (ap after_stop g.is_run) (Stops s (is_up site g.later s (ran L P false) y g.is_run refl)))
+stop_goes : (site : Site) (w later : World) (s : Source) (L : List Meaning) (P : List Step) → site.is_run s ≡ true → Reaches site w (with_run later s (ran L P false)) → Reaches site w (with_run later s (after_stop (ran L P false)))
+stop_goes site w later s L P y way =
+    let r : Run = ran L P false in
+    goes_to site w later s r (after_stop r) way
+    (subst (λ x. Next site (with_run later s r) (with_run (with_run later s r) s x)) (ap after_stop (stands later s r)) (Stops s (is_up site (with_run later s r) s r y (stands later s r) refl)))
 
 -- ---- ends of a run
 
@@ -225,18 +229,18 @@ all_played site w s old new steps n made =
     let played : IsPlayed old.source old.tries steps = played_alone old.source old.tries steps (made.plays [] n.stands) in
     subst (λ u. IsPlayed u (site.tries s) steps) n.source (subst (λ k. IsPlayed old.source k steps) n.tries played)
 
-whole_goes : InTurn → (site : Site) (w : World) (s : Source) (o : Outside) (bytes : List ℕ) (now : Outside) (e : Ended) (h : EndsWith o bytes now e) → IsNew site w s o.client → AllMayCome w.written (exchanges_in (drained h.group h.steps))
-    → GoesOn site w s (ran h.after_ready (drained h.group h.steps) true) (frames_of (exchanges_in (drained h.group h.steps)))
-whole_goes T site w s o bytes now e h n may =
+whole_goes : InTurn → (site : Site) (w later : World) (s : Source) (o : Outside) (bytes : List ℕ) (now : Outside) (e : Ended) (h : EndsWith o bytes now e) → IsNew site w s o.client → GoesOnAround site s w (exchanges_in (drained h.group h.steps)) later
+    → Reaches site w (with_run later s (ran h.after_ready (drained h.group h.steps) true))
+whole_goes T site w later s o bytes now e h n around =
     let played = all_played site w s o.client now.client (drained h.group h.steps) n h.made in
-    end_goes T site w s h.after_ready h.steps h.group n.is_run played may
-    (lines_go T site w s o.client.spans h.after_ready h.steps h.results h.holding n.is_run n.run h.filters played.1 (may_second w.written h.group (exchanges_in h.steps) may))
+    let (mid, first, then) = parts site s w later h.group (exchanges_in h.steps) around in
+    end_goes T site w mid later s h.after_ready h.steps h.group n.is_run played then
+    (lines_go T site w mid s o.client.spans h.after_ready h.steps h.results h.holding n.is_run n.run h.filters played.1 first)
 
-stage_goes : InTurn → (site : Site) (w : World) (s : Source) (spans : Spans) (stage : Stage) (steps : List Step) (text : List ℕ) (k : Holding) → site.is_run s ≡ true → w.runs s ≡ fresh → HasText spans stage steps text k → IsPlayed s (site.tries s) steps
-    → AllMayCome w.written (exchanges_in steps) → GoesOn site w s (ran (lines_at stage) steps false) (frames_of (exchanges_in steps))
-stage_goes T site w s spans BeforeReady steps text k y is h played may =
-    subst (λ l. GoesOn site w s (ran [] l false) (frames_of (exchanges_in l))) (sym h.0) (stays site w s fresh is)
-stage_goes T site w s spans (AfterReady L) steps text k y is (results, filters, whole) played may = lines_go T site w s spans L steps results k y is filters played may
+stage_goes : InTurn → (site : Site) (w later : World) (s : Source) (spans : Spans) (stage : Stage) (steps : List Step) (text : List ℕ) (k : Holding) → site.is_run s ≡ true → w.runs s ≡ fresh → HasText spans stage steps text k → IsPlayed s (site.tries s) steps
+    → GoesOnAround site s w (exchanges_in steps) later → Reaches site w (with_run later s (ran (lines_at stage) steps false))
+stage_goes T site w later s spans BeforeReady steps text k y is h played around = none_go T site w later s steps is h.0 around
+stage_goes T site w later s spans (AfterReady L) steps text k y is (results, filters, whole) played around = lines_go T site w later s spans L steps results k y is filters played around
 
 -- the line in hand made no step, or the one that it makes
 in_hand : (f : FilterFault) (spans : Spans) (h : Holding) (stage : Stage) (left : List ℕ) (step : Option Step) (next : List ℕ) → IsInHand f spans h stage left step next → (step ≡ None) ⊎ ((line : List ℕ) × Goes spans h stage line step next)
@@ -253,29 +257,37 @@ in_hand faults.Memory spans k stage left step next (inl h) = inl h.0
 in_hand faults.Memory spans k stage left step next (inr (line, first, goes)) = inr (line, goes)
 
 -- a run that stopped after these steps, with these lines or one more
-abbrev pub StopsIn : Site → World → Source → List Meaning → List Step → Type 0
-StopsIn site w s handled steps = (lines : List Meaning) × IsOrOneMore lines handled × GoesOn site w s (after_stop (ran lines steps false)) (frames_of (exchanges_in steps))
+abbrev pub StopsIn : Site → World → World → Source → List Meaning → List Step → Type 0
+StopsIn site w later s handled steps = (lines : List Meaning) × IsOrOneMore lines handled × Reaches site w (with_run later s (after_stop (ran lines steps false)))
 
-none_goes : (site : Site) (w : World) (s : Source) (L : List Meaning) (P : List Step) (step : Option Step) → site.is_run s ≡ true → step ≡ None → GoesOn site w s (ran L P false) (frames_of (exchanges_in P)) → StopsIn site w s L (push step P)
-none_goes site w s L P step y is g =
-    subst (λ o. StopsIn site w s L (push o P)) (sym is) (L, inl refl, stop_goes site w s L P (frames_of (exchanges_in P)) y g)
+none_goes : (site : Site) (w mid later : World) (s : Source) (L : List Meaning) (P : List Step) (step : Option Step) → site.is_run s ≡ true → step ≡ None → GoesOnAround site s mid (exchanges_of step) later → Reaches site w (with_run mid s (ran L P false)) → StopsIn site w later s L (push step P)
+none_goes site w mid later s L P None y is (Before end go) way = (L, inl refl, stop_goes site w end s L P y (others_on site w mid s (ran L P false) end go way))
+none_goes site w mid later s L P (Some x) y is around way = absurd (none_some x (sym is))
 
-hand_goes : InTurn → (site : Site) (w : World) (s : Source) (spans : Spans) (h : Holding) (stage : Stage) (P : List Step) (line : List ℕ) (step : Option Step) (text : List ℕ) → site.is_run s ≡ true → IsPlayed s (site.tries s) (push step P) → AllMayCome w.written (exchanges_in (push step P))
-    → Goes spans h stage line step text → GoesOn site w s (ran (lines_at stage) P false) (frames_of (exchanges_in P)) → StopsIn site w s (lines_at stage) (push step P)
-hand_goes T site w s spans h BeforeReady P line step text y played may goes g = none_goes site w s [] P step y goes.1 g
-hand_goes T site w s spans h (AfterReady L) P line step text y played may (m, reads, takes) g =
-    (m ∷ L, inr (m, refl), stop_goes site w s (m ∷ L) (push step P) (frames_of (exchanges_in (push step P))) y (line_more T site w s L P m step text (at_line spans m h) y played takes may g))
+hand_goes : InTurn → (site : Site) (w mid later : World) (s : Source) (spans : Spans) (h : Holding) (stage : Stage) (P : List Step) (line : List ℕ) (step : Option Step) (text : List ℕ) → site.is_run s ≡ true → IsPlayed s (site.tries s) (push step P)
+    → GoesOnAround site s mid (exchanges_of step) later → Goes spans h stage line step text → Reaches site w (with_run mid s (ran (lines_at stage) P false)) → StopsIn site w later s (lines_at stage) (push step P)
+hand_goes T site w mid later s spans h BeforeReady P line step text y played around goes way = none_goes site w mid later s [] P step y goes.1 around way
+hand_goes T site w mid later s spans h (AfterReady L) P line step text y played around (m, reads, takes) way =
+    (m ∷ L, inr (m, refl), stop_goes site w later s (m ∷ L) (push step P) y (line_more T site w mid later s L P m step text (at_line spans m h) y played takes around way))
 
-stopped_goes : InTurn → (site : Site) (w : World) (s : Source) (o : Outside) (pieces : List (List ℕ)) (source : Option (List ℕ)) (now : Outside) (read_failed write_failed : Bool) (f : FilterFault)
-    (h : StopsAt o pieces source now read_failed write_failed f) → IsNew site w s o.client → AllMayCome w.written (exchanges_in (push h.step h.steps)) → StopsIn site w s (lines_at h.stage) (push h.step h.steps)
-stopped_goes T site w s o pieces source now read_failed write_failed f h n may =
+stopped_goes : InTurn → (site : Site) (w later : World) (s : Source) (o : Outside) (pieces : List (List ℕ)) (source : Option (List ℕ)) (now : Outside) (read_failed write_failed : Bool) (f : FilterFault)
+    (h : StopsAt o pieces source now read_failed write_failed f) → IsNew site w s o.client → GoesOnAround site s w (exchanges_in (push h.step h.steps)) later → StopsIn site w later s (lines_at h.stage) (push h.step h.steps)
+stopped_goes T site w later s o pieces source now read_failed write_failed f h n around =
     let played = all_played site w s o.client now.client (push h.step h.steps) n h.made in
-    let parts : AllMayCome w.written (exchanges_of h.step ++ exchanges_in h.steps) = subst (AllMayCome w.written) (exchanges_push h.step h.steps) may in
-    let g = stage_goes T site w s o.client.spans h.stage h.steps h.text h.holding n.is_run n.run h.has_text (played_before s (site.tries s) h.step h.steps played) (may_second w.written (exchanges_of h.step) (exchanges_in h.steps) parts) in
+    let all : GoesOnAround site s w (exchanges_of h.step ++ exchanges_in h.steps) later = subst (λ l. GoesOnAround site s w l later) (exchanges_push h.step h.steps) around in
+    let (mid, first, then) = parts site s w later (exchanges_of h.step) (exchanges_in h.steps) all in
+    let way = stage_goes T site w mid s o.client.spans h.stage h.steps h.text h.holding n.is_run n.run h.has_text (played_before s (site.tries s) h.step h.steps played) first in
     elim (in_hand f o.client.spans h.holding h.stage h.left h.step (h.front ++ h.rest) h.in_hand) [
-      | inl none ↦ none_goes site w s (lines_at h.stage) h.steps h.step n.is_run none g
-      | inr p ↦ hand_goes T site w s o.client.spans h.holding h.stage h.steps p.0 h.step (h.front ++ h.rest) n.is_run played may p.1 g
+      | inl none ↦ none_goes site w mid later s (lines_at h.stage) h.steps h.step n.is_run none then way
+      | inr p ↦ hand_goes T site w mid later s o.client.spans h.holding h.stage h.steps p.0 h.step (h.front ++ h.rest) n.is_run played then p.1 way
     ]
+
+-- ---- all runs together
+
+-- steps from a start on
+joined : (site : Site) (start v w : World) → Reaches site start v → Reaches site v w → Reaches site start w
+joined site start v w way AtOnce = way
+joined site start v w way (Later y last r n) = Later y last (joined site start v y way r) n
 
 pub returns : goal.returns
 returns c =
@@ -290,4 +302,7 @@ returns c =
       replies = λ written which body is. inr (inr (which, is));
       whole = whole_goes T;
       stopped = stopped_goes T;
+      limit = λ site start w later s o bytes now e h start_is reached n around l d ts distinct.
+          c.never_past_the_limit.ensures.limit site start (with_run later s (ran h.after_ready (drained h.group h.steps) true)) start_is
+          (joined site start w (with_run later s (ran h.after_ready (drained h.group h.steps) true)) reached (whole_goes T site w later s o bytes now e h n around)) l d ts distinct;
     }

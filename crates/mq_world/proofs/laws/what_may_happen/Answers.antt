@@ -1,11 +1,15 @@
 -- A world of two runs, step by step.
-use Rattle.std.proofs.Common.{◌≡◌, ℕ, ◌≤◌, List, [], ◌∷◌, ◌++◌, Bool, true, false, refl, ap, sym, subst, inl, inr, arith, None, Some, if◌then◌else◌}
-use Rattle.std.specs.Prelude.{codes, nat_lt, nat_le, ◌||◌, ◌⊎◌, count_by, ◌<◌, ◌+◌, ◌*◌, ◌==◌, ℤ, pos, ◌≤ℤ◌, ◌<ℤ◌}
+use Rattle.std.proofs.Common.{◌≡◌, ℕ, suc, is_eq, Less, Greater, ◌∙◌, ◌≤◌, List, [], ◌∷◌, ◌++◌, Bool, true, false, refl, ap, sym, subst, inl, inr, arith, None, Some, if◌then◌else◌}
+use Rattle.std.specs.List.{AllByRecursion, list_all}
+use Rattle.std.specs.Prelude.{codes, length, not, ◌≢◌, nat_lt, nat_le, ◌||◌, ◌⊎◌, count_by, ◌<◌, ◌+◌, ◌*◌, ◌==◌, ℤ, pos, ◌≤ℤ◌, ◌<ℤ◌}
 use Rattle.std.proofs.lemmas.Int.{ints}
 use Rattle.mq_request.specs.Same.{same_text}
 use Rattle.std.proofs.lemmas.Bool.Decides.{nat_tests}
 use Rattle.std.proofs.lemmas.List.Elements.{All-from_recursion}
-use Rattle.mq_line.specs.Grammar.{Meaning, ReportLine, FilterLine}
+use Rattle.mq_line.specs.Grammar.{Meaning, ReportLine, FilterLine, IsStamp, Reads as IsRead}
+use Rattle.mq_line.specs.Results.{registration, result_text}
+use Rattle.mq_line.specs.Text.{IsLine, text_of}
+use Rattle.mq_line.specs.declared.results.Decision.TheVariants.{Proceed}
 use Rattle.mq_request.specs.Range.{IsHost, IsHostByte, IsRun, IsId, IsMoment, IsRequest, IsReply}
 use Rattle.mq_frame.specs.Spelling.{request_body, reply_body, SpellsReply, frame, request_frame}
 use Rattle.mq_request.specs.declared.message.Id.{Id}
@@ -19,19 +23,25 @@ use Rattle.mq_ledger.specs.Answer.{reply as ledger_reply}
 use Rattle.mq_ledger.specs.Day.{IsZone, IsOffset, ByOffset, clock, day_of}
 use Rattle.mq_ledger.specs.History.{Transaction, requests, held, settled_in}
 use Rattle.mq_ledger.specs.Legal.{Book, IsLegalBook}
-use Rattle.mq_client.specs.Exchanges.{Exchange, IsTry, decides, NoneYet, SendsUpTo}
-use Rattle.mq_client.specs.Past.{Source, Ask, Close, IsPlayed, id_of, reserve_of}
-use Rattle.mq_client.specs.Numbered.{id_in}
+use Rattle.mq_client.specs.Exchanges.{Exchange, IsTry, decides, NoneYet, Sends as SendsInTurn, SendsAll, SendsUpTo}
+use Rattle.mq_client.specs.Past.{Source, Step, Ask, Close, Drain, Standing, Live, State, StandsAt, MakesAll, Plays, PlaysFrom, IsPlayed, drained, find, held_by, id_of, let_through, opened, answer_of, with_asked, reserve_of, told_steps, view}
+use Rattle.mq_client.specs.Filter.{Filters}
+use Rattle.mq_client.specs.Holding.{nothing_held}
+use Rattle.mq_client.specs.Run.{Outside, IsReady, EndsWith}
+use Rattle.mq_client.specs.declared.filter.Ended.{Ended}
+use Rattle.mq_client.specs.declared.held.Held.{Held}
+use Rattle.mq_client.specs.Numbered.{id_in, exchanges_in}
 use Rattle.mq_track.specs.declared.closing.CloseEnd.TheVariants as ending
 use Rattle.mq_link.specs.declared.link.LinkFault.TheVariants.{TimedOut}
 use Rattle.mq_world.specs.World.{Site, World, fresh, IsStart, after_line, after_end, with_on_way, after_exchange, after_stop, same_source, with_run, with_sent, after_arrival, reply_from, Next, Reads, ReadsEnd, Sends, Ends, Takes, OthersSend, Stops, Reaches, AtOnce, Later, IsOfOthers, IsFrameOfOthers, source_of}
-use Rattle.mq_world.specs.Happening.{unused, times_written, IsReachable, failed, brought, HasLetOneThrough, WasAnsweredAgain, WasTakenTwice, CameLate, HasStopped, WasRetired, WasHeldBack, WentOnThoughForgotten, PassedOnAForgottenDay, IsReachableTogether, WasGrantedByEach, WasSplit, PassedEachLimit}
+use Rattle.mq_world.specs.Happening.{unused, times_written, IsReachable, failed, brought, HasLetOneThrough, WasAnsweredAgain, WasTakenTwice, CameLate, HasStopped, HasRunToItsEnd, WasRetired, WasHeldBack, WentOnThoughForgotten, PassedOnAForgottenDay, IsReachableTogether, WasGrantedByEach, WasSplit, PassedEachLimit}
 use Rattle.mq_ledger.specs.Limits.{cap}
 use Rattle.mq_world.specs.Law.{let_together}
+use Rattle.mq_world.specs.Running.{ran, OthersGoOn, NobodyYet, OneStep, GoesOnAround, Before, During, IsNew}
 use Rattle.mq_world.specs.Forgetting.{forgotten, FromStart, Forgets}
 use Rattle.mq_world.specs.Together.{Together, with_ledger, IsStartTogether, ReachesTogether}
 use Rattle.mq_world.specs.Together as servers
-use Rattle.mq_world.proofs.Basics.{some_is, number_itself}
+use Rattle.mq_world.proofs.Basics.{either, clash, first_so, second_so, some_is, number_is, number_itself}
 use Rattle.mq_world.proofs.Runs.{step}
 use Rattle.mq_world.proofs.Ways.{with_steps, with_steps_together}
 use Rattle.mq_world.proofs.Worlds.{source_is}
@@ -407,6 +417,210 @@ retires_it one b legal le =
       id = id_of here 2;
       came = refl;
       none_waits = refl;
+      is_one = refl;
+    })
+
+-- ---- a run, as its contract has it
+
+-- the client of a new run, which holds nothing back
+abbrev pub new_client : State
+new_client = record { source = here; tries = 3; spans = record { pause = 0; hold = 0 }; held = []; numbers = 0; waiting = [] }
+
+abbrev pub let_one : Held
+let_one = record { login = codes "u"; moment = noon; granted = 1 }
+
+-- the same after it let one recipient through
+abbrev pub later_client : State
+later_client = record { source = here; tries = 3; spans = record { pause = 0; hold = 0 }; held = (1, let_one) ∷ []; numbers = 1; waiting = [] }
+
+abbrev pub asking : Step
+asking = step (Ask 1 noon (codes "u")) false (answered ∷ [])
+
+abbrev pub ending_all : Step
+ending_all = step Drain false []
+
+plays_asking : (P : List Step) → StandsAt new_client P → Plays here 3 P asking
+plays_asking P h =
+    let first : IsTry (request here) answered (Some reply) = record { request_is = refl; decision = (record { bytes = refl; in_range = reply_range }, refl); decided_is = refl } in
+    let new : PlaysFrom here 3 None 0 0 [] (Ask 1 noon (codes "u")) (answered ∷ []) = (Some reply, (first, tt, omega arith)) in
+    let v = view here P in
+    subst (λ l. PlaysFrom here 3 (held_by (v.standing 1)) l v.numbers v.waiting (Ask 1 noon (codes "u")) (answered ∷ [])) h.live
+    (subst (λ n. PlaysFrom here 3 (held_by (v.standing 1)) 0 n v.waiting (Ask 1 noon (codes "u")) (answered ∷ [])) h.numbers
+    (subst (λ q. PlaysFrom here 3 (held_by (v.standing 1)) 0 0 q (Ask 1 noon (codes "u")) (answered ∷ [])) h.waiting
+    (subst (λ o. PlaysFrom here 3 o 0 0 [] (Ask 1 noon (codes "u")) (answered ∷ [])) (h.held 1) new)))
+
+plays_ending : (P : List Step) → StandsAt new_client P → Plays here 3 (asking ∷ P) ending_all
+plays_ending P h = subst (λ q. (left : List Request) × SendsInTurn 3 q [] left) h.waiting ([], SendsAll [] NoneYet)
+
+-- what the later client has of a transaction
+found_at : (txn : ℕ) → find later_client.held txn ≡ (if 1 == txn then Some let_one else None)
+found_at txn = elim (either (1 == txn)) [
+  | inl same ↦ (let is : 1 ≡ txn = number_is 1 txn same in subst (λ x. find later_client.held x ≡ (if 1 == x then Some let_one else None)) is refl)
+  | inr differs ↦ rw (differs, other_way txn differs) (neither (nat_lt txn 1))
+]
+  where
+    neither : (b : Bool) → (if is_eq (if b then Less else Greater) then Some let_one else None) ≡ None
+    neither true = refl
+    neither false = refl
+
+    other_way : (txn : ℕ) → (1 == txn) ≡ false → (txn == 1) ≡ false
+    other_way txn differs = elim (either (txn == 1)) [
+      | inl same ↦ absurd (clash (1 == txn) (subst (λ x. (1 == x) ≡ true) (sym (number_is txn 1 same)) refl) differs)
+      | inr is ↦ is
+    ]
+
+held_later : (b : Bool) (standing : ℕ → Standing) (txn : ℕ) → None ≡ held_by (standing 1) → None ≡ held_by (standing txn)
+    → (if b then Some let_one else None) ≡ held_by (if b then Live (let_through (answer_of (answered ∷ [])) (opened noon (codes "u") (held_by (standing 1)))) else standing txn)
+held_later true standing txn one is = ap (λ o. Some (let_through (answer_of (answered ∷ [])) (opened noon (codes "u") o))) one
+held_later false standing txn one is = is
+
+stands_later : (P : List Step) → StandsAt new_client P → StandsAt later_client (ending_all ∷ asking ∷ P)
+stands_later P h = record {
+  held = λ txn. found_at txn ∙ held_later (1 == txn) (view here P).standing txn (h.held 1) (h.held txn);
+  live = subst (λ o. 1 ≡ length (with_asked 1 o (view here P).live)) (h.held 1) (ap (λ n. suc n) h.live);
+  numbers = ap (λ n. n + 1) h.numbers;
+  waiting = h.waiting;
+}
+
+made : MakesAll new_client later_client (ending_all ∷ asking ∷ [])
+made = record {
+  source = refl;
+  tries = refl;
+  plays = λ P h. (plays_ending P h, (plays_asking P h, tt));
+  stands = stands_later;
+}
+
+-- ---- its lines
+
+abbrev pub ready_text : List ℕ
+ready_text = codes "config|ready"
+
+abbrev pub login_text : List ℕ
+login_text = codes "report|0.7|1700000000.000000|smtp-in|link-auth|s|pass|u"
+
+abbrev pub begin_text : List ℕ
+begin_text = codes "report|0.7|1700000000.000000|smtp-in|tx-begin|s|m"
+
+abbrev pub recipient_text : List ℕ
+recipient_text = codes "filter|0.7|1700000000.000000|smtp-in|rcpt-to|s|t|r"
+
+abbrev pub texts : List (List ℕ)
+texts = ready_text ∷ login_text ∷ begin_text ∷ recipient_text ∷ []
+
+lacks : (bytes : List ℕ) → list_all (λ b. not (b == 10)) bytes ≡ true → AllByRecursion (λ b. b ≢ 10) bytes
+lacks [] e = tt
+lacks (b ∷ bytes) e = (differs b (first_so (not (b == 10)) (list_all (λ b. not (b == 10)) bytes) e), lacks bytes (second_so (not (b == 10)) (list_all (λ b. not (b == 10)) bytes) e))
+  where
+    differs : (b : ℕ) → not (b == 10) ≡ true → b ≢ 10
+    differs b e is = clash (not (b == 10)) e (ap (λ x. not (x == 10)) is)
+
+is_line : (bytes : List ℕ) → list_all (λ b. not (b == 10)) bytes ≡ true → length bytes ≤ 65536 → IsLine bytes
+is_line bytes e short = record { one = All-from_recursion (λ b. b ≢ 10) bytes (lacks bytes e); short = short }
+
+stamp : (names : List (List ℕ)) → AllByRecursion (λ name. name ≢ []) names → IsStamp (codes "0.7") (codes "1700000000.000000") names noon
+stamp names named = record { protocol = refl; moment = refl; named = named }
+
+not_empty : (b : ℕ) (bytes : List ℕ) → (b ∷ bytes) ≢ []
+not_empty b bytes e = cc
+
+reads_login : IsRead login_text login_line
+reads_login = (codes "0.7", codes "1700000000.000000", codes "pass" ∷ codes "u" ∷ [], refl, stamp (codes "smtp-in" ∷ codes "link-auth" ∷ codes "s" ∷ []) (not_empty _ _, (not_empty _ _, (not_empty _ _, tt))), refl)
+
+reads_begin : IsRead begin_text begin_line
+reads_begin = (codes "0.7", codes "1700000000.000000", codes "m" ∷ [], refl, stamp (codes "smtp-in" ∷ codes "tx-begin" ∷ codes "s" ∷ []) (not_empty _ _, (not_empty _ _, (not_empty _ _, tt))), refl)
+
+reads_recipient : IsRead recipient_text recipient_line
+reads_recipient = (codes "0.7", codes "1700000000.000000", codes "r" ∷ [], refl, stamp (codes "smtp-in" ∷ codes "rcpt-to" ∷ codes "s" ∷ codes "t" ∷ []) (not_empty _ _, (not_empty _ _, (not_empty _ _, (not_empty _ _, tt)))), refl)
+
+is_ready : IsReady texts (recipient_line ∷ begin_line ∷ login_line ∷ [])
+is_ready = record {
+  before = [];
+  ready = ready_text;
+  after = login_text ∷ begin_text ∷ recipient_text ∷ [];
+  whole = refl;
+  early = tt;
+  reads_ready = refl;
+  read = (
+    login_text ∷ begin_text ∷ [],
+    recipient_text,
+    refl,
+    reads_recipient,
+    (login_text ∷ [], begin_text, refl, reads_begin, ([], login_text, refl, reads_login, refl)),
+  );
+}
+
+abbrev pub result : List ℕ
+result = result_text (codes "s") (codes "t") Proceed
+
+filters : Filters new_client.spans (recipient_line ∷ begin_line ∷ login_line ∷ []) (asking ∷ []) result nothing_held
+filters =
+    let first : Filters new_client.spans (login_line ∷ []) [] [] nothing_held = (None, [], [], [], nothing_held, (refl, refl, refl), (refl, refl, refl), refl, refl, refl) in
+    let second : Filters new_client.spans (begin_line ∷ login_line ∷ []) [] [] nothing_held = (None, [], [], [], nothing_held, first, (refl, refl, refl), refl, refl, refl) in
+    (Some asking, [], [], result, nothing_held, second, (Proceed, (answered ∷ [], refl, refl), refl), refl, refl, refl)
+
+abbrev pub before_run : Outside
+before_run = record { sink = Some []; told = Some []; client = new_client }
+
+abbrev pub after_run : Outside
+after_run = record { sink = Some (registration ++ result); told = Some (told_steps (ending_all ∷ asking ∷ [])); client = later_client }
+
+ends_so : EndsWith before_run (text_of texts ++ []) after_run (record { answers = 1; left = 0 })
+ends_so = record {
+  lines = texts;
+  after_ready = recipient_line ∷ begin_line ∷ login_line ∷ [];
+  steps = asking ∷ [];
+  results = result;
+  holding = nothing_held;
+  group = [];
+  whole = record { whole = refl; each = (is_line ready_text refl (omega arith), (is_line login_text refl (omega arith), (is_line begin_text refl (omega arith), (is_line recipient_text refl (omega arith), tt)))) };
+  ready = is_ready;
+  filters = filters;
+  written = refl;
+  exchanged = refl;
+  made = made;
+  answers = refl;
+  left = λ P h. ap length h.waiting;
+}
+
+-- its frame is sent, and others take it
+abbrev pub around_run : Book → World
+around_run b = takes (with_sent (start b) (request_frame (request here)))
+
+goes_around : (b : Book) → 1 ≤ b.default → GoesOnAround site here (start b) (answered ∷ []) (around_run b)
+goes_around b le =
+    let sent = with_sent (start b) (request_frame (request here)) in
+    let taken_once : OthersGoOn site here sent (around_run b) =
+    OneStep sent (around_run b) NobodyYet (Takes 0 (request_body (request here)) (request here) refl (record { bytes = refl; in_range = request_range })) refl in
+    During answered [] (start b) (around_run b) (around_run b) (Before (start b) NobodyYet) taken_once
+    (inr (inr (0, ap (λ a. Some (frame (reply_body a))) (first_reply b le)))) NobodyYet
+
+abbrev pub run_ended : Book → World
+run_ended b = with_run (around_run b) here (ran (recipient_line ∷ begin_line ∷ login_line ∷ []) (ending_all ∷ asking ∷ []) true)
+
+is_new : (b : Book) → IsNew site (start b) here new_client
+is_new b = record { is_run = refl; run = refl; source = refl; tries = refl; stands = record { held = λ txn. refl; live = refl; numbers = refl; waiting = refl } }
+
+-- each run is of a world
+abbrev pub WholeRuns : Type 0
+WholeRuns = (site : Site) (w later : World) (s : Source) (o : Outside) (bytes : List ℕ) (now : Outside) (e : Ended) (h : EndsWith o bytes now e) → IsNew site w s o.client
+    → GoesOnAround site s w (exchanges_in (drained h.group h.steps)) later → Reaches site w (with_run later s (ran h.after_ready (drained h.group h.steps) true))
+
+runs_to_its_end : WholeRuns → (b : Book) → IsLegalBook (unused b) → 1 ≤ b.default → IsReachable b HasRunToItsEnd
+unfolding ends_so
+runs_to_its_end whole b legal le =
+    reachable b legal HasRunToItsEnd (run_ended b)
+    (whole site (start b) (around_run b) here before_run (text_of texts ++ []) after_run (record { answers = 1; left = 0 }) ends_so (is_new b) (goes_around b le)) (record {
+      transaction = record { host = codes "a"; run = 1; txn = 1 };
+      before = before_run;
+      bytes = text_of texts ++ [];
+      after = after_run;
+      ended = record { answers = 1; left = 0 };
+      ends = ends_so;
+      is_new = is_new b;
+      later = around_run b;
+      around = goes_around b le;
+      is_then = refl;
+      answers = refl;
       is_one = refl;
     })
 
@@ -908,6 +1122,7 @@ returns c = record {
   taken_twice = takes_twice;
   late = comes_late c.one_spelling.ensures.one_reply;
   stopped = stops;
+  as_a_run = runs_to_its_end c.each_run_is_of_a_world.ensures.whole;
   retired = retires_it c.one_spelling.ensures.one_request_frame;
   held_back = holds_back;
   forgotten = goes_on_at c.day_is_the_floor.ensures;
