@@ -2,7 +2,7 @@
 --
 -- `day` gives the day of a moment. Limits that were set stay, and retires, and each entry that is about D or a later
 -- day: a limit by the day from which it is to hold, all else by the day of its transaction.
-use Rattle.std.specs.Prelude.{◌≡◌, ◌⊎◌, ℕ, List, [], ◌∷◌, filter, Bool, true, false, not, ◌&&◌, ◌||◌, nat_le, Option, Some, None}
+use Rattle.std.specs.Prelude.{◌≡◌, ◌⊎◌, ℕ, List, [], ◌∷◌, filter, Bool, true, false, not, ◌&&◌, ◌||◌, nat_le, Option, Some, None, is_some, is_none}
 use Rattle.mq_request.specs.Same.{same_request}
 use Rattle.mq_request.specs.declared.message.Id.{Id}
 use Rattle.mq_request.specs.declared.message.Request.{Request}
@@ -11,9 +11,9 @@ use Rattle.mq_request.specs.declared.message.Request.TheVariants.{List as ListRe
 use Rattle.mq_request.specs.declared.message.Reply.{Reply}
 use Rattle.mq_request.specs.declared.message.Reply.TheVariants.{LimitSet}
 use Rattle.mq_ledger.specs.declared.entry.Entry.{Entry}
-use Rattle.mq_ledger.specs.Answer.{stored, reply, with_arrival}
+use Rattle.mq_ledger.specs.Answer.{stored, known_by, reply, with_arrival}
 use Rattle.mq_ledger.specs.Arrivals.{id_of, is_below}
-use Rattle.mq_ledger.specs.History.{requests, transaction, named}
+use Rattle.mq_ledger.specs.History.{Transaction, requests, transaction, named}
 
 -- the moment of a reserve, settle or release
 abbrev pub moment_of : Request → ℕ
@@ -77,12 +77,13 @@ AreLater day default D H (r ∷ rs) = (is_later day D H r ≡ true) × AreLater 
 abbrev pub is_past : (ℕ → ℕ) → (default : ℕ) → ℕ → List Entry → Request → Bool
 is_past day default D H r = not (is_about day D H r || is_set r (reply day default H r))
 
--- each arrival is later over both histories, as they come, or past over both
+-- each arrival is later over both histories, as they come, or past over both, or its number is known to both
 abbrev pub AreLaterOrPast : (ℕ → ℕ) → (default : ℕ) → ℕ → (H K : List Entry) → List Request → Type 0
 AreLaterOrPast day default D H K [] = Unit {0}
 AreLaterOrPast day default D H K (r ∷ rs) =
     (((is_later day D H r ≡ true) × (is_later day D K r ≡ true))
-    ⊎ ((is_past day default D H r ≡ true) × (is_past day default D K r ≡ true)))
+    ⊎ (((is_past day default D H r ≡ true) × (is_past day default D K r ≡ true))
+    ⊎ ((known_by H (id_of r) ≡ true) × (known_by K (id_of r) ≡ true))))
     × AreLaterOrPast day default D (with_arrival day default H r) (with_arrival day default K r) rs
 
 -- a reserve, settle or release with a moment before D, or a usage or list of an earlier day
@@ -105,12 +106,48 @@ abbrev pub is_itself_by : List Entry → Request → Option Id → Bool
 is_itself_by H r None = true
 is_itself_by H r (Some id) = is_itself r (stored H id)
 
--- the request is about an earlier day, by its own words and by its transaction, and comes for the first time or again
-abbrev pub is_late : (ℕ → ℕ) → ℕ → List Entry → Request → Bool
-is_late day D H r = (names_earlier day D r && not (is_about day D H r)) && is_itself_by H r (id_of r)
+-- an entry after G, which H begins with, was the first with this number
+abbrev pub is_used_since : (G H : List Entry) → Option Id → Bool
+is_used_since G H None = false
+is_used_since G H (Some id) = is_some (stored H id) && is_none (stored G id)
 
--- each arrival is later or late over the history as it comes
+-- an entry after G was the first of the transaction
+abbrev pub is_heard_since : (G H : List Entry) → Transaction → Bool
+is_heard_since G H t = is_some (named H t) && is_none (named G t)
+
+-- a reserve, settle or release of a transaction that was first heard of after G
+abbrev pub is_of_one_since : (G H : List Entry) → Request → Bool
+is_of_one_since G H (Reserve id txn moment login count) = is_heard_since G H (transaction id txn)
+is_of_one_since G H (Settle id txn moment login count) = is_heard_since G H (transaction id txn)
+is_of_one_since G H (Release id txn moment login) = is_heard_since G H (transaction id txn)
+is_of_one_since G H (Limit id from_day cap login) = false
+is_of_one_since G H (Usage login d) = false
+is_of_one_since G H (ListRequest d after) = false
+is_of_one_since G H (Retire id) = false
+
+-- The request is about an earlier day by its transaction, and by its own words where its transaction was known at the
+-- forgetting, of G. It comes for the first time or again.
+abbrev pub is_late : (ℕ → ℕ) → ℕ → (G H : List Entry) → Request → Bool
+is_late day D G H r = ((names_earlier day D r || is_of_one_since G H r) && not (is_about day D H r))
+    && is_itself_by H r (id_of r)
+
+-- each arrival is later or late, over the history as it comes since the forgetting, of G, or its number was used since
+abbrev pub AreLaterOrLateSince : (ℕ → ℕ) → (default : ℕ) → ℕ → (G H : List Entry) → List Request → Type 0
+AreLaterOrLateSince day default D G H [] = Unit {0}
+AreLaterOrLateSince day default D G H (r ∷ rs) = ((is_later day D H r ≡ true)
+    ⊎ ((is_late day D G H r ≡ true) ⊎ (is_used_since G H (id_of r) ≡ true)))
+    × AreLaterOrLateSince day default D G (with_arrival day default H r) rs
+
+-- so it is since H
 abbrev pub AreLaterOrLate : (ℕ → ℕ) → (default : ℕ) → ℕ → List Entry → List Request → Type 0
-AreLaterOrLate day default D H [] = Unit {0}
-AreLaterOrLate day default D H (r ∷ rs) = ((is_later day D H r ≡ true) ⊎ (is_late day D H r ≡ true))
-    × AreLaterOrLate day default D (with_arrival day default H r) rs
+AreLaterOrLate day default D H A = AreLaterOrLateSince day default D H H A
+
+-- where there is an entry, it stays
+abbrev pub stays_if : (ℕ → ℕ) → ℕ → List Entry → Option Entry → Bool
+stays_if day D H None = true
+stays_if day D H (Some e) = stays day D H e
+
+-- the number of the request, where it has one, isn't that of an entry that is forgotten of H
+abbrev pub is_of_no_forgotten : (ℕ → ℕ) → ℕ → List Entry → Option Id → Bool
+is_of_no_forgotten day D H None = true
+is_of_no_forgotten day D H (Some id) = stays_if day D H (stored H id)

@@ -14,7 +14,7 @@ ghost use Rattle.mq_ledger.specs.Legal.{IsLegal};
 ghost use Rattle.mq_ledger.specs.Limits.{cap};
 ghost use Rattle.mq_ledger.specs.Page.{page, has_reserve};
 ghost use Rattle.mq_forget.specs.Remembered.{moment_of, stays, remembered, is_later, AreLater, is_past, AreLaterOrPast};
-ghost use Rattle.mq_forget.specs.Remembered.{AreLaterOrLate};
+ghost use Rattle.mq_forget.specs.Remembered.{is_about, AreLaterOrLate, is_of_no_forgotten};
 ghost use Rattle.mq_forget.specs.Carried.{IsAt};
 ghost use Rattle.mq_forget.specs.Kept.{AreAlike, Keeps};
 
@@ -153,8 +153,8 @@ pub fn later_requests_are_answered_alike()
 }
 
 /// What is asked about earlier days touches none from D on: two histories of which the same is
-/// remembered stay so while each arrival is later over both or past over both, and later ones get the
-/// same replies. One of the two may be what is remembered of the other.
+/// remembered stay so while each arrival is later over both, past over both or known to both, and later
+/// ones get the same replies. One of the two may be what is remembered of the other.
 pub fn past_requests_touch_no_later_day()
     ensures past { (day : ℕ → ℕ) (default D : ℕ) (H : List AnyEntry) (r : AnyRequest) →
         is_past day default D H r ≡ true →
@@ -179,8 +179,9 @@ pub fn past_requests_touch_no_later_day()
 }
 
 /// The same, by what the whole history says alone: where each arrival is a later one, or a request of an
-/// earlier day that comes for the first time or again as it was, later ones get the same replies from
-/// what is remembered as from the whole.
+/// earlier day that comes for the first time or again as it was, or has a number that was first used
+/// since, later ones get the same replies from what is remembered as from the whole. So does any that is
+/// about D or a later day and doesn't have the number of a forgotten entry.
 pub fn late_requests_touch_no_later_day()
     ensures each { (day : ℕ → ℕ) (default D : ℕ) (H : List AnyEntry) (A : List AnyRequest) →
         IsLegal day default H → All IsRequest A → AreLaterOrLate day default D H A →
@@ -188,6 +189,12 @@ pub fn late_requests_touch_no_later_day()
     ensures reply { (day : ℕ → ℕ) (default D : ℕ) (H : List AnyEntry) (A : List AnyRequest) (r : AnyRequest) →
         IsLegal day default H → All IsRequest A → AreLaterOrLate day default D H A →
         is_later day D (history_of day default (requests H ++ A)) r ≡ true →
+        reply day default (history_of day default (requests (remembered day D H) ++ A)) r
+        ≡ reply day default (history_of day default (requests H ++ A)) r }
+    ensures about { (day : ℕ → ℕ) (default D : ℕ) (H : List AnyEntry) (A : List AnyRequest) (r : AnyRequest) →
+        IsLegal day default H → All IsRequest A → AreLaterOrLate day default D H A →
+        is_about day D (history_of day default (requests H ++ A)) r ≡ true →
+        is_of_no_forgotten day D H (id_of r) ≡ true →
         reply day default (history_of day default (requests (remembered day D H) ++ A)) r
         ≡ reply day default (history_of day default (requests H ++ A)) r }
 {

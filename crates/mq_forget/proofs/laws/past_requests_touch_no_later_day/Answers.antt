@@ -29,6 +29,11 @@ unknown_reply day default H r id new =
     let none : stored H id ≡ None = not_some (stored H id) parts.1 in
     rw above (ap (reply_by day default H r id) none)
 
+-- its number is known
+unchanged : (day : ℕ → ℕ) (default : ℕ) (H : List Entry) (r : Request) (o : Option Id) → known_by H o ≡ true → with_arrival_by day default H r o ≡ H
+unchanged day default H r None e = absurd (let bad : false ≡ true = e in cc bad)
+unchanged day default H r (Some id) e = rw e refl
+
 -- an entry that goes leaves all as it is
 goes : (day : ℕ → ℕ) (D : ℕ) (H : List Entry) (e : Entry) → stays day D H e ≡ false → remembered day D (H ++ e ∷ []) ≡ remembered day D H
 goes day D H e off = one_more day D H e ∙ ap (λ b. remembered day D H ++ (if b then e ∷ [] else [])) off ∙ append-nil (remembered day D H)
@@ -56,10 +61,11 @@ all_join P (x ∷ xs) ys all more = (all.0, all_join P xs ys all.1 more)
 module _ (day : ℕ → ℕ) (default : ℕ) (laws : Builds day default) (D : ℕ)
     (one : (H : List Entry) (r : Request) → IsLegal day default H → is_later day D H r ≡ true → (reply day default (remembered day D H) r ≡ reply day default H r) × (with_arrival day default (remembered day D H) r ≡ remembered day D (with_arrival day default H r))) where
   one_alike : (H K : List Entry) (r : Request) → IsLegal day default H → IsLegal day default K → remembered day D K ≡ remembered day D H
-      → ((is_later day D H r ≡ true) × (is_later day D K r ≡ true)) ⊎ ((is_past day default D H r ≡ true) × (is_past day default D K r ≡ true))
+      → ((is_later day D H r ≡ true) × (is_later day D K r ≡ true)) ⊎ (((is_past day default D H r ≡ true) × (is_past day default D K r ≡ true)) ⊎ ((known_by H (id_of r) ≡ true) × (known_by K (id_of r) ≡ true)))
       → remembered day D (with_arrival day default K r) ≡ remembered day D (with_arrival day default H r)
   one_alike H K r legal_H legal_K same (inl late) = sym (one K r legal_K late.1).1 ∙ ap (λ x. with_arrival day default x r) same ∙ (one H r legal_H late.0).1
-  one_alike H K r legal_H legal_K same (inr gone) = past day default D K r gone.1 ∙ same ∙ sym (past day default D H r gone.0)
+  one_alike H K r legal_H legal_K same (inr (inr known)) = ap (remembered day D) (unchanged day default K r (id_of r) known.1) ∙ same ∙ sym (ap (remembered day D) (unchanged day default H r (id_of r) known.0))
+  one_alike H K r legal_H legal_K same (inr (inl gone)) = past day default D K r gone.1 ∙ same ∙ sym (past day default D H r gone.0)
 
   alike_by : (A B : List Request) → AllByRecursion IsRequest A → AllByRecursion IsRequest B → (rs : List Request) → AllByRecursion IsRequest rs → AreLaterOrPast day default D (history_of day default A) (history_of day default B) rs
       → remembered day D (history_of day default B) ≡ remembered day D (history_of day default A) → remembered day D (history_of day default (B ++ rs)) ≡ remembered day D (history_of day default (A ++ rs))
